@@ -1,0 +1,11 @@
+//! Containers that contracts see as what they hold: [`Items`] as a list and [`Boxed`] as a value.
+//!
+//! A tree built of them has no pointer and no capacity in its value, so a contract can say that a
+//! copy equals its original, or that a result equals a tree that a definition names.
+#![tactic(auto)]
+
+mod boxed;
+mod items;
+
+pub use boxed::Boxed;
+pub use items::Items;
