@@ -1,0 +1,21 @@
+//! The trees of the packet language and of packets, with their sizes, copies and equalities.
+#![tactic(auto)]
+
+mod bytes;
+mod ids;
+mod limit;
+mod memory;
+mod name;
+mod text;
+mod tree;
+
+pub use bytes::Bytes;
+pub use ids::{Dev, Family, Host};
+pub use limit::Limit;
+pub use memory::NoMemory;
+pub use name::{Name, Names};
+pub use text::{Text, Texts};
+pub use tree::{
+    Chunk, Clause, Clauses, Draft, Exn, Expr, Exprs, Fun, Funs, Op, Packet, Param, Params, Place, Places, Program, Svc, Svcs, Ty, Tys,
+    Value, Values,
+};

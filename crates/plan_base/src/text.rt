@@ -1,0 +1,91 @@
+ghost use Rattle.std.specs.Prelude.{◌≡◌, [], ◌∷◌, ◌++◌, ◌<◌, length, get_or, OnOk, OnErr};
+
+use plan_items::Items;
+use std::alloc::{AllocError, Global};
+use std::marker::Model;
+
+/// A text, which contracts see as the list of its UTF-8 bytes.
+#[derive(Debug, Drop)]
+pub struct Text {
+    all: Vec<u8>,
+}
+
+impl Model for Text {
+    ghost use Rattle.std.specs.Prelude.{List, ℕ};
+    ghost use Rattle.std.specs.Coded.{coded_list, coded_ℕ};
+
+    ghost Value = { List ℕ };
+
+    ghost coded = { coded_list coded_ℕ };
+
+    ghost view = { λ b. b.all.items };
+}
+
+impl Text {
+    /// The empty text. Takes no memory before the first `add`.
+    pub fn new(alloc: Global) -> Text
+        ensures { result ≡ [] }
+    {
+        Text {
+            all: Vec::new(alloc),
+        }
+    }
+
+    /// The bytes of `v`, taken as they are.
+    pub fn of(v: Vec<u8>) -> Text
+        ensures { result ≡ v.items }
+    {
+        Text { all: v }
+    }
+
+    /// The vector of these bytes, given back.
+    pub fn into_vec(self) -> Vec<u8>
+        ensures { result.items ≡ self }
+    {
+        let Text { all } = self;
+        all
+    }
+
+    /// The number of bytes.
+    pub fn len(&self) -> usize
+        ensures { result ≡ length self.now }
+    {
+        self.all.len()
+    }
+
+    /// The byte at place `i`, from 0. Condition: `i` is below the length.
+    pub fn at(&self, i: usize) -> u8
+        requires { i < length self.now }
+        ensures { result ≡ get_or self.now i 0 }
+    {
+        self.all[i]
+    }
+
+    /// All bytes, lent.
+    pub fn as_slice(&self) -> &[u8]
+        ensures { result.now ≡ self.now }
+    {
+        self.all.as_slice()
+    }
+
+    /// Adds `byte` at the end. Where memory is refused, the bytes stay.
+    pub fn add(&mut self, byte: u8) -> Result<(), AllocError>
+        ensures ok { OnOk result (self.new ≡ self.old ++ byte ∷ []) }
+        ensures err { OnErr result (self.new ≡ self.old) }
+    {
+        self.all.push(byte)?;
+        Ok(())
+    }
+
+    /// Adds `more` at the end. Where memory is refused, the bytes stay.
+    pub fn add_all(&mut self, more: &[u8]) -> Result<(), AllocError>
+        ensures ok { OnOk result (self.new ≡ self.old ++ more.now) }
+        ensures err { OnErr result (self.new ≡ self.old) }
+    {
+        self.all.extend_from_slice(more)?;
+        Ok(())
+    }
+}
+
+/// A list of texts.
+pub type Texts = Items<Text>;
