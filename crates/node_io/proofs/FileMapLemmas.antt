@@ -82,9 +82,9 @@ pushed-here : (name : List ℕ) (fs : FileMap) (bytes : List ℕ) → file_at fs
 pushed-here name [] bytes h = rw (same_name name) refl
 pushed-here name (f ∷ fs) bytes h = pushed_step (is_named name f) f.1 bytes (file_at fs name) (file_at (fs ++ (name, bytes) ∷ []) name) (pushed-here name fs bytes) h
   where
-  pushed_step : (b : Bool) (x bytes : List ℕ) (old new : Option (List ℕ)) → (old ≡ None → new ≡ Some bytes) → cond b (Some x) old ≡ None → cond b (Some x) new ≡ Some bytes
-  pushed_step true x bytes old new ih h = cc
-  pushed_step false x bytes old new ih h = ih h
+    pushed_step : (b : Bool) (x bytes : List ℕ) (old new : Option (List ℕ)) → (old ≡ None → new ≡ Some bytes) → cond b (Some x) old ≡ None → cond b (Some x) new ≡ Some bytes
+    pushed_step true x bytes old new ih h = cc
+    pushed_step false x bytes old new ih h = ih h
 
 pushed-others : (name other : List ℕ) (fs : FileMap) (bytes : List ℕ) → other ≢ name → file_at (fs ++ (name, bytes) ∷ []) other ≡ file_at fs other
 pushed-others name other [] bytes differs = rw (other_name name name other (same_name name) differs) refl

@@ -13,7 +13,7 @@ left_after bytes from rest at count inside fits is =
     let behind : drop count (drop at bytes) ≡ drop (at + count) bytes = drop-drop count at bytes in
     sym (ap (λ x. x ++ drop (at + count) bytes) front ∙ ap (λ x. take count (drop at bytes) ++ x) (sym behind) ∙ take-append-drop count (drop at bytes))
   where
-  take_again : (n : ℕ) (xs : List ℕ) → take n (take n xs) ≡ take n xs
-  take_again zero xs = refl
-  take_again (suc n) [] = refl
-  take_again (suc n) (x ∷ xs) = ap (λ r. x ∷ r) (take_again n xs)
+    take_again : (n : ℕ) (xs : List ℕ) → take n (take n xs) ≡ take n xs
+    take_again zero xs = refl
+    take_again (suc n) [] = refl
+    take_again (suc n) (x ∷ xs) = ap (λ r. x ∷ r) (take_again n xs)

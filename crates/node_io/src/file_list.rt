@@ -1,4 +1,4 @@
-ghost use Rattle.std.specs.Prelude.{◌≡◌, ℕ, [], ◌∷◌, ◌++◌, ◌<◌, length, slice_get, IsTrue, OnOk, OnErr, position};
+ghost use Rattle.std.specs.Prelude.{◌≡◌, ℕ, [], ◌∷◌, ◌++◌, ◌<◌, length, slice_get, ◌↔◌, IsTrue, OnOk, OnErr, position};
 ghost use Rattle.std.specs.Option.{option_copied};
 ghost use Rattle.node_io.specs.FileMaps.{file_at, contents, is_named, ChangesOnly};
 
@@ -39,6 +39,13 @@ impl FileList {
         ensures { result ≡ length self.now }
     {
         self.all.len()
+    }
+
+    /// Whether there is no file.
+    pub fn is_empty(&self) -> bool
+        ensures { IsTrue result ↔ (self.now ≡ []) }
+    {
+        self.all.is_empty()
     }
 
     /// The file at place `i`, from 0, with its name. Condition: `i` is below the length.
@@ -92,7 +99,12 @@ impl FileList {
 
     /// Adds `piece` at the end of the file `name`, which is begun where it is missing. Where memory
     /// is refused, the files stay.
-    pub(crate) fn extend(&mut self, alloc: Global, name: &[u8], piece: &[u8]) -> Result<(), NoMemory>
+    pub(crate) fn extend(
+        &mut self,
+        alloc: Global,
+        name: &[u8],
+        piece: &[u8],
+    ) -> Result<(), NoMemory>
         ensures ok { OnOk result (ChangesOnly self.old self.new name.now (contents self.old name.now ++ piece.now)) }
         ensures err { OnErr result (self.new ≡ self.old) }
     {

@@ -17,6 +17,8 @@ mod outside;
 mod read;
 mod reading;
 mod spawner;
+#[cfg(test)]
+mod tests;
 mod text;
 mod write;
 

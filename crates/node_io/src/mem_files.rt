@@ -4,10 +4,10 @@ ghost use Rattle.node_io.specs.Pieces.{PushCount, PullTakes};
 ghost use Rattle.node_io.specs.FileMaps.{file_at, contents, ChangesOnly, Names, HasDistinctNames};
 ghost use Rattle.node_io.specs.Memory.{IsDueCall, LacksMemory, CountsCall};
 
+use crate::counts::{is_due, raise};
 use crate::file_list::FileList;
 use crate::outside::{Calls, Failed, Files};
 use crate::reading::Reading;
-use crate::counts::{is_due, raise};
 use crate::text::{add_name, text_of};
 use plan_base::{NoMemory, Text, Texts};
 use std::alloc::Global;
@@ -36,7 +36,7 @@ impl MemFiles {
         requires { HasDistinctNames files }
         ensures { IfOk result
             (λ f. (f.files ≡ files) × (f.asked ≡ []) × (f.made ≡ []) × (f.fails ≡ fails) × (f.calls ≡ 0)
-                × (f.refused ≡ 0) × (f.read_faults ≡ 0) × (f.write_faults ≡ 0)) }
+            × (f.refused ≡ 0) × (f.read_faults ≡ 0) × (f.write_faults ≡ 0)) }
     {
         Ok(MemFiles {
             alloc,
@@ -63,7 +63,13 @@ impl MemFiles {
 
 // Adds `name` to the names asked, and opens the file for reading unless the call is due to fail or
 // the file is missing.
-fn open(alloc: Global, asked: &mut Texts, files: &FileList, name: &[u8], due: bool) -> Result<Option<Reading>, NoMemory>
+fn open(
+    alloc: Global,
+    asked: &mut Texts,
+    files: &FileList,
+    name: &[u8],
+    due: bool,
+) -> Result<Option<Reading>, NoMemory>
     ensures found { IfOk result
         (λ r. MatchOption r (IsTrue due ⊎ (file_at files.now name.now ≡ None)) (λ left. file_at files.now name.now ≡ Some left)) }
     ensures due { IsTrue due → IfOk result (λ r. r ≡ None) }
@@ -84,7 +90,13 @@ fn open(alloc: Global, asked: &mut Texts, files: &FileList, name: &[u8], due: bo
 }
 
 // Adds `name` to the names made, and makes that file empty unless the call is due to fail.
-fn make(alloc: Global, made: &mut Texts, files: &mut FileList, name: &[u8], due: bool) -> Result<Option<Text>, NoMemory>
+fn make(
+    alloc: Global,
+    made: &mut Texts,
+    files: &mut FileList,
+    name: &[u8],
+    due: bool,
+) -> Result<Option<Text>, NoMemory>
     ensures found { IfOk result
         (λ r. MatchOption r (IsTrue due × (files.new ≡ files.old)) (λ target. (target ≡ name.now) × ChangesOnly files.old files.new name.now [])) }
     ensures due { IsTrue due → IfOk result (λ r. r ≡ None) }
@@ -137,7 +149,13 @@ impl Files for MemFiles {
         raise(&mut self.calls);
         let due = is_due(self.fails.as_slice(), self.calls);
         self.reading = None;
-        match open(self.alloc, &mut self.asked, &self.files, name.as_bytes(), due) {
+        match open(
+            self.alloc,
+            &mut self.asked,
+            &self.files,
+            name.as_bytes(),
+            due,
+        ) {
             Ok(Some(reading)) => {
                 self.reading = Some(reading);
                 Ok(())
@@ -194,7 +212,13 @@ impl Files for MemFiles {
         raise(&mut self.calls);
         let due = is_due(self.fails.as_slice(), self.calls);
         self.writing = None;
-        match make(self.alloc, &mut self.made, &mut self.files, name.as_bytes(), due) {
+        match make(
+            self.alloc,
+            &mut self.made,
+            &mut self.files,
+            name.as_bytes(),
+            due,
+        ) {
             Ok(Some(target)) => {
                 self.writing = Some(target);
                 Ok(())
@@ -216,7 +240,7 @@ impl Files for MemFiles {
         ensures count { PushCount result piece.now }
         ensures grown { IfOk result
             (λ n. ChangesOnly self.old.files self.new.files (unwrap_or self.old.writing [])
-                (contents self.old.files (unwrap_or self.old.writing []) ++ take n piece.now)) }
+            (contents self.old.files (unwrap_or self.old.writing []) ++ take n piece.now)) }
         ensures stays { OnErr result (self.new.files ≡ self.old.files) }
         ensures kept { (unwrap_or self.new.writing [] ≡ unwrap_or self.old.writing [])
             × (self.new.asked ≡ self.old.asked)

@@ -29,7 +29,7 @@ impl MemLink {
     pub fn new(alloc: Global, script: Arrivals, fails: Calls) -> Result<MemLink, NoMemory>
         ensures { IfOk result
             (λ l. (l.script ≡ script) × (l.taken ≡ 0) × (l.sent ≡ []) × (l.binds ≡ []) × (l.peers ≡ []) × (l.fails ≡ fails)
-                × (l.calls ≡ 0) × (l.faults ≡ 0)) }
+            × (l.calls ≡ 0) × (l.faults ≡ 0)) }
     {
         Ok(MemLink {
             alloc,
@@ -78,7 +78,13 @@ fn hear(arrival: &Arrival, peers: &Peers, buf: &mut [u8]) -> Got
 }
 
 // Adds the bind to the binds asked, and answers a copy of its peers unless the call is due to fail.
-fn note_bind(alloc: Global, binds: &mut Items<(u16, Peers)>, port: u16, peers: &Peers, due: bool) -> Result<Option<Peers>, AllocError>
+fn note_bind(
+    alloc: Global,
+    binds: &mut Items<(u16, Peers)>,
+    port: u16,
+    peers: &Peers,
+    due: bool,
+) -> Result<Option<Peers>, AllocError>
     ensures { IfOk result (λ r. IfSome r (λ copy. copy ≡ peers.now)) }
 {
     let asked = Items::from_slice(alloc, peers.as_slice())?;

@@ -3,8 +3,8 @@ ghost use Rattle.node_io.specs.Causes.{HasCause};
 ghost use Rattle.node_io.specs.Pieces.{PushCount, PushAppends};
 ghost use Rattle.node_io.specs.Memory.{room_of, IsDuePush, IsFull, LacksRoom, CountsPush};
 
-use crate::outside::{Calls, Failed, Sink};
 use crate::counts::{is_due, raise};
+use crate::outside::{Calls, Failed, Sink};
 use plan_base::{Bytes, NoMemory};
 use std::alloc::Global;
 

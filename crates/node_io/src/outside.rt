@@ -95,13 +95,13 @@ pub trait Files {
         ensures count { PushCount result piece.now }
         ensures grown { IsTrue tells
             → IfOk result
-                (λ n. ChangesOnly (files self.old) (files self.new) (target self.old)
-                    (contents (files self.old) (target self.old) ++ take n piece.now)) }
+            (λ n. ChangesOnly (files self.old) (files self.new) (target self.old)
+            (contents (files self.old) (target self.old) ++ take n piece.now)) }
         ensures stays { IsTrue tells → OnErr result (files self.new ≡ files self.old) }
         ensures kept { IsTrue tells
             → (target self.new ≡ target self.old)
-                × (asked self.new ≡ asked self.old)
-                × (made self.new ≡ made self.old) }
+            × (asked self.new ≡ asked self.old)
+            × (made self.new ≡ made self.old) }
         ensures cause { HasCause (write_faults self.old) (write_faults self.new) result }
         ensures same { (read_faults self.new ≡ read_faults self.old)
             × (reading self.new ≡ reading self.old)

@@ -90,7 +90,12 @@ fn read_rest<F: Files>(files: &mut F, limit: usize, bytes: &mut Bytes) -> Result
 /// The bytes of the file `name`, which may be at most `limit`; the reading stops after `limit` and
 /// one byte more. Answers `TooLong` for a longer file, and `Fault` only where the count of faults of
 /// reading rose.
-pub fn read_whole<F: Files>(alloc: Global, files: &mut F, name: &str, limit: usize) -> Result<Bytes, ReadError>
+pub fn read_whole<F: Files>(
+    alloc: Global,
+    files: &mut F,
+    name: &str,
+    limit: usize,
+) -> Result<Bytes, ReadError>
     requires { limit < 2 ^ 62 }
     ensures whole { IsTrue F.tells → IfOk result (λ bytes. file_at (F.files files.old) name.now ≡ Some bytes) }
     ensures within { IfOk result (λ bytes. length bytes ≤ limit) }

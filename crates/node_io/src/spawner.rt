@@ -66,7 +66,7 @@ impl MemSpawner {
     pub fn new(alloc: Global, statuses: Statuses, fails: Calls) -> Result<MemSpawner, NoMemory>
         ensures { IfOk result
             (λ s. (s.statuses ≡ statuses) × (s.starts ≡ []) × (s.started ≡ 0) × (s.open.items ≡ []) × (s.fails ≡ fails)
-                × (s.calls ≡ 0) × (s.faults ≡ 0)) }
+            × (s.calls ≡ 0) × (s.faults ≡ 0)) }
     {
         Ok(MemSpawner {
             alloc,
@@ -102,6 +102,12 @@ fn open_next(open: &mut Vec<Child>, started: &mut u32) -> Option<Child>
     Some(child)
 }
 
+fn forget(open: &mut Vec<Child>, child: Child)
+    ensures { open.new.items ≡ filter (is_other child) open.old.items }
+{
+    open.retain(|other| other.0 != child.0);
+}
+
 impl Spawner for MemSpawner {
     ghost faults = { λ s. s.faults };
 
@@ -131,7 +137,7 @@ impl Spawner for MemSpawner {
 
     fn wait(&mut self, child: Child) -> Result<u8, Failed> {
         raise(&mut self.calls);
-        self.open.retain(|other| other.0 != child.0);
+        forget(&mut self.open, child);
         let due = is_due(self.fails.as_slice(), self.calls);
         match self.statuses.get(child.0 as usize) {
             Some(status) if !due => Ok(*status),
