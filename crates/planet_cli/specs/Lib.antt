@@ -1,0 +1,6 @@
+pub mod Requests
+pub mod Commands
+pub mod Refusals
+pub mod Outcomes
+pub mod Notes
+pub mod Schedules
