@@ -1,5 +1,5 @@
 -- The notes: one line for each cause but Done.
-use Rattle.std.specs.Prelude.{ℕ, ◌≡◌, ◌≢◌, List, [], ◌∷◌, ◌++◌}
+use Rattle.std.specs.Prelude.{ℕ, ◌≡◌, ◌≢◌, List, [], ◌++◌}
 use Rattle.std.specs.Fmt.{decimal}
 use lib.Chars.{codes}
 use Rattle.node_io.specs.Pieces.{AppendsFront}
@@ -22,22 +22,22 @@ reason_text TooMany = codes "TooMany"
 reason_text BadArgument = codes "BadArgument"
 reason_text NotYet = codes "NotYet"
 
--- the note of a refusal, without its line feed
+-- the note of a refusal
 abbrev pub refusal_text : Refusal → List ℕ
-refusal_text (Line n reason) = codes "planet: line " ++ (decimal n ++ (codes ": " ++ reason_text reason))
-refusal_text TooLong = codes "planet: TooLong"
+refusal_text (Line n reason) = codes "planet: line " ++ (decimal n ++ (codes ": " ++ (reason_text reason ++ codes "\n")))
+refusal_text TooLong = codes "planet: TooLong\n"
 
 -- the note of a cause
 abbrev pub note_text : Cause → List ℕ
 note_text Done = []
 note_text Usage = codes "planet: usage: check FILE | show FILE | replay FILE | node FILE TURNS | inject FILE | fleet FILE | grow SEED N\n"
-note_text (Refused r) = refusal_text r ++ 10 ∷ []
+note_text (Refused r) = refusal_text r
 note_text ReadFault = codes "planet: read fault\n"
 note_text WriteFault = codes "planet: write fault\n"
 note_text LinkFault = codes "planet: link fault\n"
 note_text SpawnFault = codes "planet: spawn fault\n"
 note_text NoMemory = codes "planet: no memory\n"
-note_text (NodesFailed h s) = codes "planet: node @" ++ (decimal h.0 ++ (codes " failed with " ++ (decimal s ++ 10 ∷ [])))
+note_text (NodesFailed h s) = codes "planet: node @" ++ (decimal h.0 ++ (codes " failed with " ++ (decimal s ++ codes "\n")))
 
 -- the note of the given cause was written; or a fault of the notes left a front of the note of another cause
 pub data Noted (old new : List ℕ) (given : Cause) (unwritten : Type 0) : Type 0 where
