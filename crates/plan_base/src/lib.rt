@@ -2,6 +2,7 @@
 #![tactic(auto)]
 
 mod bytes;
+mod depths;
 mod ids;
 mod limit;
 mod memory;
@@ -11,6 +12,7 @@ mod text;
 mod tree;
 
 pub use bytes::Bytes;
+pub use depths::{chunk_nesting, nesting};
 pub use ids::{Dev, Family, Host};
 pub use limit::Limit;
 pub use memory::NoMemory;
