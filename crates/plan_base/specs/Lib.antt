@@ -1,2 +1,5 @@
 pub mod Sizes
 pub mod Trees
+pub mod Typing
+pub mod TypingNames
+pub mod TypingOrder
