@@ -3,3 +3,4 @@ pub mod Trees
 pub mod Typing
 pub mod TypingNames
 pub mod TypingOrder
+pub mod TypingFills

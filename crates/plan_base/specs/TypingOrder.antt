@@ -324,15 +324,35 @@ module _ (code : Program) where
   bodies_from done [] = pure done
   bodies_from done (d ∷ ds) = checked 64 (length done) d.params (Some d.result) d.body >>= (λ r. bodies_from (done ++ record d { body = r.0 } ∷ []) ds)
 
--- declarations from number `at` on whose names must be new and no primitive's, beside those taken
-unfoldable pub services_from : ℕ → List Name → List Svc → Option TypeFault
-services_from at taken [] = None
-services_from at taken (d ∷ ds) = if is_prim d.name || has_name taken d.name then Some (TwiceNamed (Decl at)) else services_from (next at) (taken ++ d.name ∷ []) ds
+-- what comes after an answer
+abbrev pub then_by : {A B : Type 0} → Result A TypeFault → (A → Result B TypeFault) → Result B TypeFault
+then_by (Ok a) k = k a
+then_by (Err f) k = Err f
 
-unfoldable pub exceptions_from : ℕ → List Name → List Name → Option TypeFault
-exceptions_from at taken [] = None
-exceptions_from at taken (n ∷ ns) = if has_name taken n then Some (TwiceNamed (Decl at)) else exceptions_from (next at) (taken ++ n ∷ []) ns
+-- Services from the first, by the number of the next declaration: each has a new name that no primitive has. The answer is
+-- the number after them.
+unfoldable pub services_from : List Name → List Svc → ℕ → Result ℕ TypeFault
+services_from taken [] at = Ok at
+services_from taken (d ∷ ds) at = if is_prim d.name || has_name taken d.name then Err (TwiceNamed (Decl at)) else services_from (taken ++ d.name ∷ []) ds (next at)
 
-unfoldable pub functions_from : ℕ → List Name → List Fun → Option TypeFault
-functions_from at taken [] = None
-functions_from at taken (d ∷ ds) = if is_prim d.name || has_name taken d.name || not (are_new [] (param_names d.params)) then Some (TwiceNamed (Decl at)) else functions_from (next at) (taken ++ d.name ∷ []) ds
+-- exceptions likewise, beside the built-in ones
+unfoldable pub exceptions_from : List Name → List Name → ℕ → Result ℕ TypeFault
+exceptions_from taken [] at = Ok at
+exceptions_from taken (n ∷ ns) at = if has_name taken n then Err (TwiceNamed (Decl at)) else exceptions_from (taken ++ n ∷ []) ns (next at)
+
+-- functions likewise, beside the services; their parameters have different names
+unfoldable pub functions_from : List Name → List Fun → ℕ → Result ℕ TypeFault
+functions_from taken [] at = Ok at
+functions_from taken (d ∷ ds) at = if is_prim d.name || has_name taken d.name || not (are_new [] (param_names d.params)) then Err (TwiceNamed (Decl at)) else functions_from (taken ++ d.name ∷ []) ds (next at)
+
+-- all declarations, in the order of the tree
+unfoldable pub declarations : Program → Result ℕ TypeFault
+declarations code = then_by (services_from [] code.svcs 0) (λ n. then_by (exceptions_from built_in code.exns n) (λ m. functions_from (map (λ d. d.name) code.svcs) code.funs m))
+
+-- last, the size of the marshalled code
+unfoldable pub sized : Program → Result Program TypeFault
+sized code = if nat_le (code_size code) 16000 then Ok code else Err CodeTooLarge
+
+-- the program with its types filled in, or the first refusal
+unfoldable pub annotated : Program → Result Program TypeFault
+annotated code = then_by (declarations code) (λ _. then_by (bodies_from code [] code.funs 0) (λ r. sized (record code { funs = r.0 })))
