@@ -2,7 +2,6 @@
 use Rattle.std.specs.Prelude.{◌≡◌, ◌≢◌, ℕ, ◌+◌, ◌-◌, Bool, true, false, not, ◌&&◌, ◌||◌, if◌then◌else◌, ◌==◌, nat_lt, nat_le, ℤ, pos, negsuc, ◌+ℤ◌, ◌-ℤ◌, ◌*ℤ◌, int_lt, int_le, int_div, int_rem, List, [], ◌∷◌, ◌++◌, length, take, drop, slice_get, codes, decimal, Option, Some, None}
 use Rattle.std.specs.Ordering.{is_lt, nat_cmp}
 use Rattle.std.specs.Cmp.Lexicographic.{slice_cmp}
-use Rattle.std.specs.Str.{bytes_eq}
 use Rattle.plan_base.specs.declared.ids.Host.{Host}
 use Rattle.plan_base.specs.declared.tree.Exn.{Exn}
 use Rattle.plan_base.specs.declared.tree.Ty.{Ty}
@@ -12,8 +11,8 @@ use Rattle.plan_base.specs.declared.tree.Chunk.{Chunk}
 use Rattle.plan_base.specs.declared.tree.Value.{Value, out-Value}
 use Rattle.plan_base.specs.declared.tree.Value.TheVariants as value
 use Rattle.plan_base.specs.declared.tree.Value.TheOpen.{Value-F}
-use Rattle.value_rules.specs.declared.prim.Prim.{Prim}
-use Rattle.value_rules.specs.declared.prim.Prim.TheVariants as prim
+use Rattle.plan_base.specs.declared.prim.Prim.{Prim}
+use Rattle.plan_base.specs.declared.prim.Prim.TheVariants as prim
 use Rattle.value_rules.specs.Same.{same_value}
 use Rattle.plan_base.specs.Sizes.{weight}
 
@@ -191,20 +190,3 @@ primitive_by p _ = unfit
 -- what the primitive gives of its arguments
 unfoldable pub primitive : Prim → List Value → Given
 primitive = primitive_by
-
--- ---- their names
-
--- the names of the primitives
-abbrev pub primitives : List (List ℕ × Prim)
-primitives =
-    (codes "hd", prim.Hd) ∷ (codes "tl", prim.Tl) ∷ (codes "length", prim.Length) ∷ (codes "intToString", prim.IntToString) ∷
-    (codes "hostToString", prim.HostToString) ∷ (codes "stringToBlob", prim.StringToBlob) ∷ (codes "blobLength", prim.BlobLength) ∷
-    (codes "blobPart", prim.BlobPart) ∷ []
-
-abbrev pub named_among : List (List ℕ × Prim) → List ℕ → Option Prim
-named_among [] name = None
-named_among (p ∷ ps) name = if bytes_eq p.0 name then Some p.1 else named_among ps name
-
--- the primitive of that name
-unfoldable pub primitive_named : List ℕ → Option Prim
-primitive_named = named_among primitives
