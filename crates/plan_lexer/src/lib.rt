@@ -2,6 +2,12 @@
 #![tactic(auto)]
 
 mod fault;
+mod gap;
+mod hexed;
+mod item;
+mod numeral;
+mod quoted;
+mod text;
 mod token;
 
 pub use fault::LexFault;

@@ -1,0 +1,6 @@
+pub mod Faults
+pub mod Numerals
+pub mod CharItems
+pub mod Quoted
+pub mod Hexed
+pub mod Gaps
