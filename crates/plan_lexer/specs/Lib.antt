@@ -4,3 +4,4 @@ pub mod CharItems
 pub mod Quoted
 pub mod Hexed
 pub mod Gaps
+pub mod Tables

@@ -7,6 +7,7 @@ mod hexed;
 mod item;
 mod numeral;
 mod quoted;
+mod tables;
 mod text;
 mod token;
 
