@@ -1,0 +1,8 @@
+//! Files of lines: schedules.
+#![tactic(auto)]
+
+mod fault;
+mod schedule;
+
+pub use fault::{LineFault, LineReason};
+pub use schedule::{HostSpec, HostSpecs, Links, Schedule, Topology, WorldEvent, WorldEvents};
