@@ -2,7 +2,9 @@
 #![tactic(auto)]
 
 mod fault;
+mod numbers;
 mod schedule;
+mod words;
 
 pub use fault::{LineFault, LineReason};
 pub use schedule::{HostSpec, HostSpecs, Links, Schedule, Topology, WorldEvent, WorldEvents};
