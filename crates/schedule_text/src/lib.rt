@@ -3,6 +3,8 @@
 
 mod fault;
 mod numbers;
+mod parts;
+mod reading;
 mod schedule;
 mod words;
 
