@@ -1,0 +1,5 @@
+pub mod Walk
+pub mod Even
+pub mod Steady
+pub mod Longer
+pub mod Within
