@@ -2,6 +2,7 @@
 #![tactic(auto)]
 
 mod bytes;
+mod copies;
 mod depths;
 mod ids;
 mod limit;
@@ -12,6 +13,7 @@ mod text;
 mod tree;
 
 pub use bytes::Bytes;
+pub use copies::{copy_clauses, copy_exprs, copy_funs, copy_names, copy_params, copy_places, copy_svcs, copy_types, copy_values};
 pub use depths::{chunk_nesting, nesting};
 pub use ids::{Dev, Family, Host};
 pub use limit::Limit;
