@@ -9,6 +9,7 @@ mod limit;
 mod memory;
 mod name;
 mod prim;
+mod same;
 mod sizes;
 mod text;
 mod tree;

@@ -1,4 +1,5 @@
 ghost use Rattle.std.specs.Prelude.{◌≡◌, [], ◌∷◌, ◌++◌, ◌<◌, length, get_or, IfOk, OnOk, OnErr};
+ghost use Rattle.std.specs.Str.{IsUtf8};
 
 use crate::NoMemory;
 use plan_items::Items;
@@ -67,6 +68,15 @@ impl Text {
         ensures { result.now ≡ self.now }
     {
         self.all.as_slice()
+    }
+
+    /// The text, lent. Condition: its bytes are valid UTF-8. Takes no memory.
+    pub fn as_str(&self) -> &str
+        requires { IsUtf8 self.now }
+        ensures { result.now ≡ self.now }
+    {
+        // Safety: the condition is that of the call.
+        unsafe { str::from_utf8_unchecked(self.all.as_slice()) }
     }
 
     /// The same text.
