@@ -39,7 +39,7 @@ unfolding has_types
 has_types_out e =
     fold_out-Expr Bool Bool (typed_expr_level (λ b. b) (λ b. b)) (typed_clause_level (λ b. b)) e
     ∙ typed_expr_step has_types (fold-Clause Bool Bool (typed_expr_level (λ b. b) (λ b. b)) (typed_clause_level (λ b. b))) (λ c. has_types c.body)
-        (λ c. fold_out-Clause Bool Bool (typed_expr_level (λ b. b) (λ b. b)) (typed_clause_level (λ b. b)) c) (out-Expr e)
+    (λ c. fold_out-Clause Bool Bool (typed_expr_level (λ b. b) (λ b. b)) (typed_clause_level (λ b. b)) c) (out-Expr e)
 
 typed_value_step : (f : Value → Bool) (g h : Chunk → Bool) → ((c : Chunk) → g c ≡ h c) → (x : Value-F Value Chunk) → typed_value_level (λ b. b) (λ b. b) (map-Value Value Chunk Bool Bool f g x) ≡ typed_value_level f h x
 typed_value_step f g h e (Value-F.Chunk c) = e c

@@ -179,11 +179,16 @@ fn same_expr(e: &Expr, other: &Expr) -> bool
             _ => false,
         },
         Expr::If(c, a, b) => match other {
-            Expr::If(c2, a2, b2) => same_expr(c.get(), c2.get()) && same_expr(a.get(), a2.get()) && same_expr(b.get(), b2.get()),
+            Expr::If(c2, a2, b2) => same_expr(c.get(), c2.get())
+                && same_expr(a.get(), a2.get())
+                && same_expr(b.get(), b2.get()),
             _ => false,
         },
         Expr::Let(x, t, a, b) => match other {
-            Expr::Let(y, t2, a2, b2) => x.is(y) && t.is(t2) && same_expr(a.get(), a2.get()) && same_expr(b.get(), b2.get()),
+            Expr::Let(y, t2, a2, b2) => x.is(y)
+                && t.is(t2)
+                && same_expr(a.get(), a2.get())
+                && same_expr(b.get(), b2.get()),
             _ => false,
         },
         Expr::Then(a, b) => match other {
@@ -203,7 +208,9 @@ fn same_expr(e: &Expr, other: &Expr) -> bool
             _ => false,
         },
         Expr::Binary(op, a, b) => match other {
-            Expr::Binary(op2, a2, b2) => *op == *op2 && same_expr(a.get(), a2.get()) && same_expr(b.get(), b2.get()),
+            Expr::Binary(op2, a2, b2) => *op == *op2
+                && same_expr(a.get(), a2.get())
+                && same_expr(b.get(), b2.get()),
             _ => false,
         },
         Expr::Part(i, a) => match other {
@@ -215,15 +222,20 @@ fn same_expr(e: &Expr, other: &Expr) -> bool
             _ => false,
         },
         Expr::Try(a, cs) => match other {
-            Expr::Try(a2, cs2) => same_expr(a.get(), a2.get()) && same_clauses(cs.as_slice(), cs2.as_slice()),
+            Expr::Try(a2, cs2) => same_expr(a.get(), a2.get())
+                && same_clauses(cs.as_slice(), cs2.as_slice()),
             _ => false,
         },
         Expr::Foldl(f, a, l) => match other {
-            Expr::Foldl(g, a2, l2) => f.is(g) && same_expr(a.get(), a2.get()) && same_expr(l.get(), l2.get()),
+            Expr::Foldl(g, a2, l2) => f.is(g)
+                && same_expr(a.get(), a2.get())
+                && same_expr(l.get(), l2.get()),
             _ => false,
         },
         Expr::Foldr(f, a, l) => match other {
-            Expr::Foldr(g, a2, l2) => f.is(g) && same_expr(a.get(), a2.get()) && same_expr(l.get(), l2.get()),
+            Expr::Foldr(g, a2, l2) => f.is(g)
+                && same_expr(a.get(), a2.get())
+                && same_expr(l.get(), l2.get()),
             _ => false,
         },
         Expr::ChunkOf(f, es) => match other {
@@ -235,11 +247,17 @@ fn same_expr(e: &Expr, other: &Expr) -> bool
             _ => false,
         },
         Expr::OnRemote(c, h, n, r) => match other {
-            Expr::OnRemote(c2, h2, n2, r2) => same_expr(c.get(), c2.get()) && same_expr(h.get(), h2.get()) && same_expr(n.get(), n2.get()) && r.is(r2),
+            Expr::OnRemote(c2, h2, n2, r2) => same_expr(c.get(), c2.get())
+                && same_expr(h.get(), h2.get())
+                && same_expr(n.get(), n2.get())
+                && r.is(r2),
             _ => false,
         },
         Expr::OnNeighbor(c, h, n, d) => match other {
-            Expr::OnNeighbor(c2, h2, n2, d2) => same_expr(c.get(), c2.get()) && same_expr(h.get(), h2.get()) && same_expr(n.get(), n2.get()) && same_expr(d.get(), d2.get()),
+            Expr::OnNeighbor(c2, h2, n2, d2) => same_expr(c.get(), c2.get())
+                && same_expr(h.get(), h2.get())
+                && same_expr(n.get(), n2.get())
+                && same_expr(d.get(), d2.get()),
             _ => false,
         },
     }
@@ -297,7 +315,9 @@ impl Svc {
     pub fn is(&self, other: &Svc) -> bool
         ensures { IsTrue result ↔ (self.now ≡ other.now) }
     {
-        self.name.is(&other.name) && same_types(self.params.as_slice(), other.params.as_slice()) && self.result.is(&other.result)
+        self.name.is(&other.name)
+            && same_types(self.params.as_slice(), other.params.as_slice())
+            && self.result.is(&other.result)
     }
 }
 
