@@ -1,0 +1,4 @@
+pub mod SameTypes
+pub mod Steps
+pub mod Layers
+pub mod Right
