@@ -1,6 +1,6 @@
 -- What each size of a tree is, by the tree's outermost level.
-use Rattle.std.proofs.Common.{◌≡◌, ℕ, ◌+◌, refl, ap, ◌∙◌, List, max}
-use Rattle.std.proofs.lemmas.List.Sums.{sum-map}
+use Rattle.std.proofs.Common.{◌≡◌, ℕ, ◌+◌, ◌<◌, refl, ap, ◌∙◌, List, max, length, take, get_or}
+use Rattle.std.proofs.lemmas.List.Sums.{sum-map, fold_more}
 use Rattle.std.proofs.lemmas.List.Folds.{fold-map}
 use Rattle.std.specs.Prelude.{map}
 use Rattle.std.specs.List.{sum_by}
@@ -9,7 +9,7 @@ use Rattle.plan_base.specs.declared.tree.Expr.{Expr, Expr-F, out-Expr, map-Expr,
 use Rattle.plan_base.specs.declared.tree.Clause.{Clause, fold-Clause, fold_out-Clause}
 use Rattle.plan_base.specs.declared.tree.Value.{Value, Value-F, out-Value, map-Value, fold_out-Value}
 use Rattle.plan_base.specs.declared.tree.Chunk.{Chunk, fold-Chunk, fold_out-Chunk}
-use Rattle.plan_base.specs.Sizes.{largest_by, name_size, type_size_level, type_size, expr_size_level, expr_size, clause_size_level, clause_size, catch_size, code_size, weight_level, weight, chunk_weight_level, chunk_weight, type_depth_level, type_depth, expr_depth_level, expr_depth, clause_depth_level, clause_depth, expr_nodes_level, expr_nodes, clause_nodes_level, clause_nodes, nesting_level, nesting, chunk_nesting_level, chunk_nesting, value_depth_level, value_depth}
+use Rattle.plan_base.specs.Sizes.{largest_by, name_size, type_size_level, type_size, expr_size_level, expr_size, clause_size_level, clause_size, code_size, weight_level, weight, chunk_weight_level, chunk_weight, type_depth_level, type_depth, expr_depth_level, expr_depth, clause_depth_level, clause_depth, expr_nodes_level, expr_nodes, clause_nodes_level, clause_nodes, nesting_level, nesting, chunk_nesting_level, chunk_nesting, value_depth_level, value_depth}
 
 pub largest_by-map : {X : Type 0} (f : X → ℕ) (xs : List X) → largest_by (λ n. n) (map f xs) ≡ largest_by f xs
 largest_by-map f xs = fold-map (λ m n. max m n) f 0 xs
@@ -138,3 +138,7 @@ value_depth_out v =
 
 -- all sizes by their outermost level
 pub ruleset sizes = (type_size_out, expr_size_out, weight_out, chunk_weight_is, type_depth_out, expr_depth_out, expr_nodes_out, nesting_out, chunk_nesting_is, value_depth_out)
+
+-- the greatest number, one item on
+pub largest_by_more : {X : Type 0} (f : X → ℕ) (xs : List X) (i : ℕ) (d : X) → i < length xs → largest_by f (take (i + 1) xs) ≡ max (largest_by f (take i xs)) (f (get_or xs i d))
+largest_by_more f xs i d h = fold_more (λ m x. max m (f x)) 0 xs i d h

@@ -4,3 +4,4 @@ pub mod Typing
 pub mod TypingNames
 pub mod TypingOrder
 pub mod TypingFills
+pub mod Words

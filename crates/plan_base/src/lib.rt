@@ -2,6 +2,7 @@
 #![tactic(auto)]
 
 mod bytes;
+mod depths;
 mod ids;
 mod limit;
 mod memory;
@@ -13,11 +14,13 @@ mod tree;
 mod type_fault;
 
 pub use bytes::Bytes;
+pub use depths::{chunk_nesting, nesting};
 pub use ids::{Dev, Family, Host};
 pub use limit::Limit;
 pub use memory::NoMemory;
 pub use name::{Name, Names};
 pub use prim::Prim;
+pub use name::{is_name, is_reserved, Name, NameFault, Names};
 pub use sizes::{chunk_weight, code_size, type_size, weight};
 pub use text::{Text, Texts};
 pub use tree::{
