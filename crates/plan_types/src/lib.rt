@@ -2,11 +2,5 @@
 //! so does a chunk, so that nothing above tests it again.
 #![tactic(auto)]
 
-mod body;
-mod call;
-mod checker;
-mod form;
 mod names;
-mod operation;
-mod settle;
 mod state;

@@ -169,3 +169,136 @@ module _ (code : Program) (seen : ℕ) where
             (λ r h. known_yields (Right c want d) (part_in i r.1) (fault.WrongShape (place.Node at)) (λ t. settled at want (x.Part i r.0) t)
                 (λ t p. let w = part_tuple i r.1 t p in
                     settled_right at c want d (x.Part i r.0) t (λ s. B.part i a r.0 w.0 o (subst (λ u. Becomes code seen c None a r.0 u) w.1 h) w.2 refl s)))
+
+    -- a list whose length is tested is a single item's
+    abbrev OneRight : Ctx → Expr → Name → Prim → ℕ → Option Ty → Expr → Type 0
+    OneRight c d f p at want e = Unit {0}
+
+    of_items_right : (c : Ctx) (at : ℕ) (want : Option Ty) (d : Expr) (f : Name) (p : Prim) (ds : List Expr) → out-Expr d ≡ Expr-F.Call f ds → prim_of f ≡ Some p → Yields (Right c want d) (order.of_items code seen run c at want f p ds)
+    unfolding order.of_items
+    of_items_right c at want d f p ds o q =
+        if_yields (Right c want d) (length ds == 1) (order.parts code seen run c None ds >>= (λ r. or_refuse (given_of p r.1) (fault.WrongShape (place.Node at)) >>= (λ t. settled at want (x.Call f r.0) t))) (refuse (fault.Arity (place.Node at)))
+            (λ w. then_yields (AllRight c None ds) (Right c want d) (order.parts code seen run c None ds) (λ r. or_refuse (given_of p r.1) (fault.WrongShape (place.Node at)) >>= (λ t. settled at want (x.Call f r.0) t)) (all_right ds c None)
+                (λ r h. known_yields (Right c want d) (given_of p r.1) (fault.WrongShape (place.Node at)) (λ t. settled at want (x.Call f r.0) t)
+                    (λ t g. settled_right at c want d (x.Call f r.0) t (λ s. one_item c want d f p ds r.0 r.1 t o q h g s))))
+            (λ w n. tt)
+
+    primitive_right : (c : Ctx) (at : ℕ) (want : Option Ty) (d : Expr) (f : Name) (p : Prim) (ds : List Expr) → out-Expr d ≡ Expr-F.Call f ds → prim_of f ≡ Some p → Yields (Right c want d) (order.primitive code seen run c at want f p ds)
+    unfolding order.primitive
+    primitive_right c at want d f p ds o q = go (takes p) refl
+      where
+        go : (k : Option (List Ty)) → takes p ≡ k → Yields (Right c want d) (order.primitive_by code seen run c at want f p ds k)
+        go (Some ts) e = applied_right c at want d f ds ts (makes p) (λ es b s. B.primitive f ds es p ts o q e b refl refl s)
+        go None e = of_items_right c at want d f p ds o q
+
+    function_right : (c : Ctx) (at : ℕ) (want : Option Ty) (d : Expr) (f : Name) (ds : List Expr) → out-Expr d ≡ Expr-F.Call f ds → prim_of f ≡ None → service_of f code.svcs ≡ None → Yields (Right c want d) (order.function code seen run c at want f ds)
+    unfolding order.function
+    function_right c at want d f ds o q v =
+        known_yields (Right c want d) (earlier code seen f) (not_earlier code f at) (λ g. order.applied code seen run c at want f ds (param_types g.params) g.result)
+            (λ g e. applied_right c at want d f ds (param_types g.params) g.result (λ es b s. B.call f ds es g o q v e b refl refl s))
+
+    call_right : (c : Ctx) (at : ℕ) (want : Option Ty) (d : Expr) (f : Name) (ds : List Expr) → out-Expr d ≡ Expr-F.Call f ds → Yields (Right c want d) (order.call code seen run c at want f ds)
+    unfolding order.call
+    call_right c at want d f ds o = prims (prim_of f) refl
+      where
+        services : prim_of f ≡ None → (k : Option Svc) → service_of f code.svcs ≡ k → Yields (Right c want d) (order.service_or code seen run c at want f ds k)
+        services q (Some v) e = applied_right c at want d f ds v.params v.result (λ es b s. B.serving f ds es v o q e b refl refl s)
+        services q None e = function_right c at want d f ds o q e
+        prims : (k : Option Prim) → prim_of f ≡ k → Yields (Right c want d) (order.primitive_or code seen run c at want f ds k)
+        prims (Some p) e = primitive_right c at want d f p ds o e
+        prims None e = services e (service_of f code.svcs) refl
+
+    choice_right : (c : Ctx) (want : Option Ty) (d a b k : Expr) → out-Expr d ≡ Expr-F.If a b k → Yields (Right c want d) (order.choice code seen run c want a b k)
+    unfolding order.choice
+    choice_right c want d a b k o =
+        then_yields (λ e. Becomes code seen c (Some ty.Bool) a e ty.Bool) (Right c want d) (order.wanting code seen run c ty.Bool a) (λ test. run c want b >>= (λ r. order.wanting code seen run c r.1 k >>= (λ other. pure (x.If test r.0 other, r.1)))) (wanting_right c ty.Bool a)
+            (λ test p. then_yields (Right c want b) (Right c want d) (run c want b) (λ r. order.wanting code seen run c r.1 k >>= (λ other. pure (x.If test r.0 other, r.1))) (ok c want b)
+                (λ r q. then_yields (λ e. Becomes code seen c (Some r.1) k e r.1) (Right c want d) (order.wanting code seen run c r.1 k) (λ other. pure (x.If test r.0 other, r.1)) (wanting_right c r.1 k)
+                    (λ other s n. B.choice a b k test r.0 other o p q s refl)))
+
+    binder_right : (c : Ctx) (want : Option Ty) (d : Expr) (v : Name) (u : Ty) (a b : Expr) → out-Expr d ≡ Expr-F.Let v u a b → Yields (Right c want d) (order.binder code seen run c want v u a b)
+    unfolding order.binder
+    binder_right c want d v u a b o =
+        then_yields (λ e. Becomes code seen c (Some u) a e u) (Right c want d) (order.wanting code seen run c u a) (λ bound. run (c ++ binds v u ∷ []) want b >>= (λ r. pure (x.Let v u bound r.0, r.1))) (wanting_right c u a)
+            (λ bound p. then_yields (Right (c ++ binds v u ∷ []) want b) (Right c want d) (run (c ++ binds v u ∷ []) want b) (λ r. pure (x.Let v u bound r.0, r.1)) (ok (c ++ binds v u ∷ []) want b)
+                (λ r q n. B.binder v u a b bound r.0 o p q refl))
+
+    sequence_right : (c : Ctx) (want : Option Ty) (d a b : Expr) → out-Expr d ≡ Expr-F.Then a b → Yields (Right c want d) (order.sequence code seen run c want a b)
+    unfolding order.sequence
+    sequence_right c want d a b o =
+        then_yields (λ e. Becomes code seen c (Some ty.Unit) a e ty.Unit) (Right c want d) (order.wanting code seen run c ty.Unit a) (λ first. run c want b >>= (λ r. pure (x.Then first r.0, r.1))) (wanting_right c ty.Unit a)
+            (λ first p. then_yields (Right c want b) (Right c want d) (run c want b) (λ r. pure (x.Then first r.0, r.1)) (ok c want b)
+                (λ r q n. B.sequence a b first r.0 o p q refl))
+
+    -- two parts of which types are wanted, and then an answer of one's own
+    two_right : (c : Ctx) (at : ℕ) (want : Option Ty) (d a b : Expr) (u v t : Ty) (whole : Expr → Expr → Expr)
+        → ((p q : Expr) → Becomes code seen c (Some u) a p u → Becomes code seen c (Some v) b q v → Suits want t → Becomes code seen c want d (whole p q) t)
+        → Yields (Right c want d) (order.wanting code seen run c u a >>= (λ p. order.wanting code seen run c v b >>= (λ q. settled at want (whole p q) t)))
+    two_right c at want d a b u v t whole f =
+        then_yields (λ e. Becomes code seen c (Some u) a e u) (Right c want d) (order.wanting code seen run c u a) (λ p. order.wanting code seen run c v b >>= (λ q. settled at want (whole p q) t)) (wanting_right c u a)
+            (λ p h. then_yields (λ e. Becomes code seen c (Some v) b e v) (Right c want d) (order.wanting code seen run c v b) (λ q. settled at want (whole p q) t) (wanting_right c v b)
+                (λ q k. settled_right at c want d (whole p q) t (λ s. f p q h k s)))
+
+    both_right : (c : Ctx) (at : ℕ) (want : Option Ty) (d a b : Expr) → out-Expr d ≡ Expr-F.And a b → Yields (Right c want d) (order.both code seen run c at want a b)
+    unfolding order.both
+    both_right c at want d a b o = two_right c at want d a b ty.Bool ty.Bool ty.Bool (λ p q. x.And p q) (λ p q h k s. B.both a b p q o h k refl refl s)
+
+    either_right : (c : Ctx) (at : ℕ) (want : Option Ty) (d a b : Expr) → out-Expr d ≡ Expr-F.Or a b → Yields (Right c want d) (order.either code seen run c at want a b)
+    unfolding order.either
+    either_right c at want d a b o = two_right c at want d a b ty.Bool ty.Bool ty.Bool (λ p q. x.Or p q) (λ p q h k s. B.either a b p q o h k refl refl s)
+
+    negation_right : (c : Ctx) (at : ℕ) (want : Option Ty) (d a : Expr) → out-Expr d ≡ Expr-F.Not a → Yields (Right c want d) (order.negation code seen run c at want a)
+    unfolding order.negation
+    negation_right c at want d a o =
+        then_yields (λ e. Becomes code seen c (Some ty.Bool) a e ty.Bool) (Right c want d) (order.wanting code seen run c ty.Bool a) (λ p. settled at want (x.Not p) ty.Bool) (wanting_right c ty.Bool a)
+            (λ p h. settled_right at c want d (x.Not p) ty.Bool (λ s. B.negation a p o h refl refl s))
+
+    calculation_right : (c : Ctx) (at : ℕ) (want : Option Ty) (d : Expr) (v : Op) (a b : Expr) → out-Expr d ≡ Expr-F.Binary v a b → kind_of v ≡ arithmetic → Yields (Right c want d) (order.calculation code seen run c at want v a b)
+    unfolding order.calculation
+    calculation_right c at want d v a b o g = two_right c at want d a b ty.Int ty.Int ty.Int (λ p q. x.Binary v p q) (λ p q h k s. B.calculation v a b p q o g h k refl refl s)
+
+    -- the right operand, of which the left one's type is wanted, and then an answer of one's own
+    second_right : (c : Ctx) (at : ℕ) (want : Option Ty) (d b : Expr) (v t : Ty) (whole : Expr → Expr)
+        → ((q : Expr) → Becomes code seen c (Some v) b q v → Suits want t → Becomes code seen c want d (whole q) t)
+        → Yields (Right c want d) (order.wanting code seen run c v b >>= (λ q. settled at want (whole q) t))
+    second_right c at want d b v t whole f =
+        then_yields (λ e. Becomes code seen c (Some v) b e v) (Right c want d) (order.wanting code seen run c v b) (λ q. settled at want (whole q) t) (wanting_right c v b)
+            (λ q k. settled_right at c want d (whole q) t (λ s. f q k s))
+
+    join_right : (c : Ctx) (at : ℕ) (want : Option Ty) (d : Expr) (v : Op) (a b : Expr) → out-Expr d ≡ Expr-F.Binary v a b → kind_of v ≡ joining → Yields (Right c want d) (order.join code seen run c at want v a b)
+    unfolding order.join
+    join_right c at want d v a b o g =
+        then_yields (Right c None a) (Right c want d) (run c None a) (λ r. if is_joined r.1 then order.wanting code seen run c r.1 b >>= (λ q. settled at want (x.Binary v r.0 q) r.1) else refuse (fault.WrongShape (place.Node at))) (ok c None a)
+            (λ r h. if_yields (Right c want d) (is_joined r.1) (order.wanting code seen run c r.1 b >>= (λ q. settled at want (x.Binary v r.0 q) r.1)) (refuse (fault.WrongShape (place.Node at)))
+                (λ j. second_right c at want d b r.1 r.1 (λ q. x.Binary v r.0 q) (λ q k s. B.join v a b r.0 q o g h j k refl s)) (λ j n. tt))
+
+    comparison_right : (c : Ctx) (at : ℕ) (want : Option Ty) (d : Expr) (v : Op) (a b : Expr) → out-Expr d ≡ Expr-F.Binary v a b → kind_of v ≡ equality → Yields (Right c want d) (order.comparison code seen run c at want v a b)
+    unfolding order.comparison
+    comparison_right c at want d v a b o g =
+        then_yields (Right c None a) (Right c want d) (run c None a) (λ r. order.wanting code seen run c r.1 b >>= (λ q. settled at want (x.Binary v r.0 q) ty.Bool)) (ok c None a)
+            (λ r h. second_right c at want d b r.1 ty.Bool (λ q. x.Binary v r.0 q) (λ q k s. B.comparison v a b r.0 q r.1 o g h k refl refl s))
+
+    order_right : (c : Ctx) (at : ℕ) (want : Option Ty) (d : Expr) (v : Op) (a b : Expr) → out-Expr d ≡ Expr-F.Binary v a b → kind_of v ≡ ordering → Yields (Right c want d) (order.order code seen run c at want v a b)
+    unfolding order.order
+    order_right c at want d v a b o g =
+        then_yields (Right c None a) (Right c want d) (run c None a) (λ r. if is_ordered r.1 then order.wanting code seen run c r.1 b >>= (λ q. settled at want (x.Binary v r.0 q) ty.Bool) else refuse (fault.WrongShape (place.Node at))) (ok c None a)
+            (λ r h. if_yields (Right c want d) (is_ordered r.1) (order.wanting code seen run c r.1 b >>= (λ q. settled at want (x.Binary v r.0 q) ty.Bool)) (refuse (fault.WrongShape (place.Node at)))
+                (λ j. second_right c at want d b r.1 ty.Bool (λ q. x.Binary v r.0 q) (λ q k s. B.order v a b r.0 q r.1 o g h j k refl refl s)) (λ j n. tt))
+
+    prefix_right : (c : Ctx) (at : ℕ) (want : Option Ty) (d : Expr) (v : Op) (a b : Expr) → out-Expr d ≡ Expr-F.Binary v a b → kind_of v ≡ listing → Yields (Right c want d) (order.prefix code seen run c at want v a b)
+    unfolding order.prefix
+    prefix_right c at want d v a b o g =
+        then_yields (Right c (option_and_then items_of want) a) (Right c want d) (run c (option_and_then items_of want) a) (λ r. order.wanting code seen run c (ty.List r.1) b >>= (λ q. shallow at want (x.Binary v r.0 q) (ty.List r.1))) (ok c (option_and_then items_of want) a)
+            (λ r h. then_yields (λ e. Becomes code seen c (Some (ty.List r.1)) b e (ty.List r.1)) (Right c want d) (order.wanting code seen run c (ty.List r.1) b) (λ q. shallow at want (x.Binary v r.0 q) (ty.List r.1)) (wanting_right c (ty.List r.1) b)
+                (λ q k. shallow_right at c want d (x.Binary v r.0 q) (ty.List r.1) (λ w s. B.prefix v a b r.0 q r.1 o g h k refl w refl s)))
+
+    operation_right : (c : Ctx) (at : ℕ) (want : Option Ty) (d : Expr) (v : Op) (a b : Expr) → out-Expr d ≡ Expr-F.Binary v a b → Yields (Right c want d) (order.operation code seen run c at want v a b)
+    unfolding order.operation
+    operation_right c at want d v a b o = go (kind_of v) refl
+      where
+        go : (k : OpKind) → kind_of v ≡ k → Yields (Right c want d) (order.operation_by code seen run c at want v a b k)
+        go arithmetic g = calculation_right c at want d v a b o g
+        go joining g = join_right c at want d v a b o g
+        go equality g = comparison_right c at want d v a b o g
+        go ordering g = order_right c at want d v a b o g
+        go listing g = prefix_right c at want d v a b o g
