@@ -2,5 +2,8 @@
 //! so does a chunk, so that nothing above tests it again.
 #![tactic(auto)]
 
+mod checker;
 mod names;
+mod same;
+mod settle;
 mod state;

@@ -2,3 +2,4 @@ pub mod SameTypes
 pub mod Steps
 pub mod Layers
 pub mod Right
+pub mod Follows

@@ -1,5 +1,5 @@
 -- What the checking answers is what the draft becomes by the rules.
-use Rattle.std.proofs.Common.{◌≡◌, ℕ, zero, suc, ◌+◌, ◌<◌, ◌≤◌, ◌∙◌, sym, ap, refl, subst, Bool, true, false, not, List, [], ◌∷◌, ◌++◌, append_assoc, add-one, length, take, drop, Option, Some, None, arith, rules}
+use Rattle.std.proofs.Common.{◌≡◌, ℕ, zero, suc, ◌+◌, ◌<◌, ◌≤◌, ◌∙◌, sym, ap, refl, subst, Bool, true, false, not, ◌||◌, List, [], ◌∷◌, ◌++◌, append_assoc, add-one, length, take, drop, Option, Some, None, arith, rules}
 use Rattle.std.specs.Prelude.{Result, Ok, Err, if◌then◌else◌, option_and_then, slice_get, ◌==◌, nat_le}
 use Rattle.std.specs.List.{list_any}
 use Rattle.std.proofs.lemmas.List.{length-append, append-nil}
@@ -16,6 +16,7 @@ use Rattle.plan_base.specs.declared.tree.Expr.{Expr, Expr-F, out-Expr}
 use Rattle.plan_base.specs.declared.tree.Expr as x
 use Rattle.plan_base.specs.declared.tree.Clause.{Clause}
 use Rattle.plan_base.specs.declared.tree.Svc.{Svc}
+use Rattle.plan_base.specs.declared.tree.Param.{Param}
 use Rattle.plan_base.specs.declared.tree.Fun.{Fun}
 use Rattle.plan_base.specs.declared.tree.Program.{Program}
 use Rattle.plan_base.specs.declared.type_fault.TypeFault.{TypeFault}
@@ -33,7 +34,7 @@ use Rattle.plan_base.specs.TypingFills.{PartsBecome as P}
 use Rattle.plan_base.specs.TypingFills.{ClausesBecome as C}
 use Rattle.typing_laws.proofs.SameTypes.{same_type_true}
 use Rattle.typing_laws.proofs.Steps.{Holds, Yields, then_yields, pure_yields, refuse_yields, if_yields, known_yields}
-use Rattle.typing_laws.proofs.Layers.{part_tuple, given_list}
+use Rattle.typing_laws.proofs.Layers.{part_tuple, given_list, items_list, and_then_some}
 
 pub wanted_suits : {want : Option Ty} {t : Ty} → want ≡ Some t → Suits want t
 wanted_suits {t = t} e = subst (λ o. Suits o t) (sym e) refl
@@ -92,6 +93,10 @@ parts_wanted {i = i} ws (P.and_part {ts = ts} b bs) h =
     let rest = parts_wanted ws bs (omega arith) in
     rw (e, rest, add-one) (sym r.2)
 
+abbrev pair_list : Option (Ty × Ty) → List Ty
+pair_list None = []
+pair_list (Some p) = p.0 ∷ p.1 ∷ []
+
 module _ (code : Program) (seen : ℕ) where
   abbrev pub Right : Ctx → Option Ty → Expr → Found → Type 0
   Right c want d r = Becomes code seen c want d r.0 r.1
@@ -108,6 +113,31 @@ module _ (code : Program) (seen : ℕ) where
   pub map_holds : {A : Type 0} (Q R : A → Type 0) → ((a : A) → Q a → R a) → (r : Result (A × ℕ) TypeFault) → Holds Q r → Holds R r
   map_holds Q R f (Ok r) h = f r.0 h
   map_holds Q R f (Err e) h = tt
+
+  -- what one argument of any list type becomes
+  one_item : (c : Ctx) (want : Option Ty) (d : Expr) (f : Name) (p : Prim) (ds es : List Expr) (ts : List Ty) (t : Ty) → out-Expr d ≡ Expr-F.Call f ds → prim_of f ≡ Some p → PartsBecome code seen c None 0 ds es ts → given_of p ts ≡ Some t → Suits want t → Becomes code seen c want d (x.Call f es) t
+  one_item c want d f p ds es ts t o q P.no_parts g s = absurd (cc)
+  one_item c want d f p ds es ts t o q (P.and_part {d = a} {e = e} {t = u} b P.no_parts) g s =
+      let w = given_list p u t g in
+      B.of_items f a e p w.0 o q (subst (λ v. Becomes code seen c None a e v) w.1 b) w.2 refl s
+  one_item c want d f p ds es ts t o q (P.and_part b (P.and_part b' bs)) g s = absurd (cc)
+
+  -- clauses that each catch a known exception or any
+  known_first : (k : Clause) (ks : List Clause) → list_any (λ k. not (may_catch code k.name)) (k ∷ ks) ≡ false → (may_catch code k.name ≡ true) × (list_any (λ k. not (may_catch code k.name)) ks ≡ false)
+  known_first k ks h = go (may_catch code k.name) h
+    where
+      go : (b : Bool) → (not b || list_any (λ k. not (may_catch code k.name)) ks) ≡ false → (b ≡ true) × (list_any (λ k. not (may_catch code k.name)) ks ≡ false)
+      go true e = (refl, e)
+      go false e = absurd (cc)
+
+  pair_types : (g : Fun) (p : Ty × Ty) → pair_of g.params ≡ Some p → param_types g.params ≡ p.0 ∷ p.1 ∷ []
+  pair_types g p h = go g.params h
+    where
+      go : (ps : List Param) → pair_of ps ≡ Some p → param_types ps ≡ p.0 ∷ p.1 ∷ []
+      go [] e = absurd (cc)
+      go (a ∷ []) e = absurd (cc)
+      go (a ∷ b ∷ []) e = ap (λ (o : Option (Ty × Ty)). pair_list o) e
+      go (a ∷ b ∷ k ∷ ks) e = absurd (cc)
 
   module _ (run : Ctx → Option Ty → Expr → Checking Found) (ok : (c : Ctx) (want : Option Ty) (d : Expr) → Yields (Right c want d) (run c want d)) where
     wanting_right : (c : Ctx) (t : Ty) (d : Expr) → Yields (λ e. Becomes code seen c (Some t) d e t) (order.wanting code seen run c t d)
@@ -169,10 +199,6 @@ module _ (code : Program) (seen : ℕ) where
             (λ r h. known_yields (Right c want d) (part_in i r.1) (fault.WrongShape (place.Node at)) (λ t. settled at want (x.Part i r.0) t)
                 (λ t p. let w = part_tuple i r.1 t p in
                     settled_right at c want d (x.Part i r.0) t (λ s. B.part i a r.0 w.0 o (subst (λ u. Becomes code seen c None a r.0 u) w.1 h) w.2 refl s)))
-
-    -- a list whose length is tested is a single item's
-    abbrev OneRight : Ctx → Expr → Name → Prim → ℕ → Option Ty → Expr → Type 0
-    OneRight c d f p at want e = Unit {0}
 
     of_items_right : (c : Ctx) (at : ℕ) (want : Option Ty) (d : Expr) (f : Name) (p : Prim) (ds : List Expr) → out-Expr d ≡ Expr-F.Call f ds → prim_of f ≡ Some p → Yields (Right c want d) (order.of_items code seen run c at want f p ds)
     unfolding order.of_items
@@ -302,3 +328,134 @@ module _ (code : Program) (seen : ℕ) where
         go equality g = comparison_right c at want d v a b o g
         go ordering g = order_right c at want d v a b o g
         go listing g = prefix_right c at want d v a b o g
+
+    empty_right : (c : Ctx) (at : ℕ) (want : Option Ty) (d : Expr) (u : Option Ty) → out-Expr d ≡ Expr-F.Nil u → Yields (Right c want d) (order.empty at want d u)
+    unfolding order.empty
+    empty_right c at want d (Some u) o = shallow_right at c want d d (ty.List u) (λ w s. B.empty u o refl w refl s)
+    empty_right c at want d None o =
+        known_yields (Right c want d) (option_and_then items_of want) (fault.NeedsType (place.Node at)) (λ u. shallow at want (x.Nil (Some u)) (ty.List u))
+            (λ u e. shallow_right at c want d (x.Nil (Some u)) (ty.List u) (λ w s. let k = and_then_some items_of want u e in B.empty_filled u o refl w refl (k.1 ∙ ap Some (items_list k.0 u k.2))))
+
+    raising_right : (c : Ctx) (at : ℕ) (want : Option Ty) (d : Expr) (v : Name) (t : Option Ty) → out-Expr d ≡ Expr-F.Raise v t → Yields (Right c want d) (order.raising code at want d v t)
+    unfolding order.raising
+    raising_right c at want d v (Some t) o =
+        if_yields (Right c want d) (is_exception code v) (shallow at want d t) (refuse (fault.UnknownName (place.Node at)))
+            (λ k. shallow_right at c want d d t (λ w s. B.raising v o k w refl s)) (λ k n. tt)
+    raising_right c at want d v None o =
+        if_yields (Right c want d) (is_exception code v) (or_refuse want (fault.NeedsType (place.Node at)) >>= (λ t. shallow at want (x.Raise v (Some t)) t)) (refuse (fault.UnknownName (place.Node at)))
+            (λ k. known_yields (Right c want d) want (fault.NeedsType (place.Node at)) (λ t. shallow at want (x.Raise v (Some t)) t)
+                (λ t e. shallow_right at c want d (x.Raise v (Some t)) t (λ w s. B.raising_filled v o k w refl e)))
+            (λ k n. tt)
+
+    abbrev ClausesRight : Ctx → Ty → List Clause → List Clause → List Clause → Type 0
+    ClausesRight c t done ks r = (hs : List Clause) × (r ≡ done ++ hs) × ClausesBecome code seen c t ks hs
+
+    clauses_right : (ks done : List Clause) (c : Ctx) (t : Ty) → list_any (λ k. not (may_catch code k.name)) ks ≡ false → Yields (ClausesRight c t done ks) (order.clauses_from code seen run done c t ks)
+    unfolding order.clauses_from
+    clauses_right [] done c t h = pure_yields (ClausesRight c t done []) done ([], sym (append-nil done), C.no_clauses)
+    clauses_right (k ∷ ks) done c t h =
+        let w = known_first k ks h in
+        then_yields (λ e. Becomes code seen c (Some t) k.body e t) (ClausesRight c t done (k ∷ ks)) (order.wanting code seen run c t k.body) (λ b. order.clauses_from code seen run (done ++ record { name = k.name; body = b } ∷ []) c t ks) (wanting_right c t k.body)
+            (λ b p n. map_holds (ClausesRight c t (done ++ record { name = k.name; body = b } ∷ []) ks) (ClausesRight c t done (k ∷ ks))
+                (λ a q. (record { name = k.name; body = b } ∷ q.0, q.1 ∙ append_assoc done (record { name = k.name; body = b } ∷ []) q.0, C.and_clause w.0 p refl q.2))
+                (order.clauses_from code seen run (done ++ record { name = k.name; body = b } ∷ []) c t ks n)
+                (clauses_right ks (done ++ record { name = k.name; body = b } ∷ []) c t w.1 n))
+
+    handling_right : (c : Ctx) (at : ℕ) (want : Option Ty) (d a : Expr) (ks : List Clause) → out-Expr d ≡ Expr-F.Try a ks → Yields (Right c want d) (order.handling code seen run c at want a ks)
+    unfolding order.handling
+    handling_right c at want d a ks o =
+        if_yields (Right c want d) (list_any (λ k. not (may_catch code k.name)) ks) (refuse (fault.UnknownName (place.Node at))) (run c want a >>= (λ r. order.clauses_from code seen run [] c r.1 ks >>= (λ handlers. pure (x.Try r.0 handlers, r.1))))
+            (λ h n. tt)
+            (λ h. then_yields (Right c want a) (Right c want d) (run c want a) (λ r. order.clauses_from code seen run [] c r.1 ks >>= (λ handlers. pure (x.Try r.0 handlers, r.1))) (ok c want a)
+                (λ r p. then_yields (ClausesRight c r.1 [] ks) (Right c want d) (order.clauses_from code seen run [] c r.1 ks) (λ handlers. pure (x.Try r.0 handlers, r.1)) (clauses_right ks [] c r.1 h)
+                    (λ hs q n. B.handling a r.0 ks hs o p (subst (λ z. ClausesBecome code seen c r.1 ks z) (sym q.1) q.2) refl)))
+
+    abbrev FoldRight : Name → Ty × Ty × Ty → Type 0
+    FoldRight f p = (g : Fun) × (earlier code seen f ≡ Some g) × (param_types g.params ≡ p.0 ∷ p.1 ∷ []) × (g.result ≡ p.2)
+
+    folding_right : (at : ℕ) (f : Name) → Yields (FoldRight f) (order.folding code seen run at f)
+    unfolding order.folding
+    folding_right at f =
+        known_yields (FoldRight f) (earlier code seen f) (not_earlier code f at) (λ g. or_refuse (pair_of g.params) (fault.Arity (place.Node at)) >>= (λ p. pure (p.0, p.1, g.result)))
+            (λ g e. known_yields (FoldRight f) (pair_of g.params) (fault.Arity (place.Node at)) (λ p. pure (p.0, p.1, g.result))
+                (λ p q n. (g, e, pair_types g p q, refl)))
+
+    fold_left_right : (c : Ctx) (at : ℕ) (want : Option Ty) (d : Expr) (f : Name) (a l : Expr) → out-Expr d ≡ Expr-F.Foldl f a l → Yields (Right c want d) (order.fold_left code seen run c at want f a l)
+    unfolding order.fold_left
+    fold_left_right c at want d f a l o =
+        then_yields (FoldRight f) (Right c want d) (order.folding code seen run at f) (λ g. order.wanting code seen run c g.0 a >>= (λ start. order.wanting code seen run c (ty.List g.1) l >>= (λ items. if same_type g.2 g.0 then settled at want (x.Foldl f start items) g.0 else refuse (fault.WrongShape (place.Node at))))) (folding_right at f)
+            (λ g w. then_yields (λ e. Becomes code seen c (Some g.0) a e g.0) (Right c want d) (order.wanting code seen run c g.0 a) (λ start. order.wanting code seen run c (ty.List g.1) l >>= (λ items. if same_type g.2 g.0 then settled at want (x.Foldl f start items) g.0 else refuse (fault.WrongShape (place.Node at)))) (wanting_right c g.0 a)
+                (λ start p. then_yields (λ e. Becomes code seen c (Some (ty.List g.1)) l e (ty.List g.1)) (Right c want d) (order.wanting code seen run c (ty.List g.1) l) (λ items. if same_type g.2 g.0 then settled at want (x.Foldl f start items) g.0 else refuse (fault.WrongShape (place.Node at))) (wanting_right c (ty.List g.1) l)
+                    (λ items q. if_yields (Right c want d) (same_type g.2 g.0) (settled at want (x.Foldl f start items) g.0) (refuse (fault.WrongShape (place.Node at)))
+                        (λ e. settled_right at c want d (x.Foldl f start items) g.0 (λ s. B.fold_left f a l start items w.0 g.1 o w.1 w.2 (w.3 ∙ same_type_true g.2 g.0 e) p q refl s)) (λ e n. tt))))
+
+    fold_right_right : (c : Ctx) (at : ℕ) (want : Option Ty) (d : Expr) (f : Name) (a l : Expr) → out-Expr d ≡ Expr-F.Foldr f a l → Yields (Right c want d) (order.fold_right code seen run c at want f a l)
+    unfolding order.fold_right
+    fold_right_right c at want d f a l o =
+        then_yields (FoldRight f) (Right c want d) (order.folding code seen run at f) (λ g. order.wanting code seen run c g.1 a >>= (λ start. order.wanting code seen run c (ty.List g.0) l >>= (λ items. if same_type g.2 g.1 then settled at want (x.Foldr f start items) g.1 else refuse (fault.WrongShape (place.Node at))))) (folding_right at f)
+            (λ g w. then_yields (λ e. Becomes code seen c (Some g.1) a e g.1) (Right c want d) (order.wanting code seen run c g.1 a) (λ start. order.wanting code seen run c (ty.List g.0) l >>= (λ items. if same_type g.2 g.1 then settled at want (x.Foldr f start items) g.1 else refuse (fault.WrongShape (place.Node at)))) (wanting_right c g.1 a)
+                (λ start p. then_yields (λ e. Becomes code seen c (Some (ty.List g.0)) l e (ty.List g.0)) (Right c want d) (order.wanting code seen run c (ty.List g.0) l) (λ items. if same_type g.2 g.1 then settled at want (x.Foldr f start items) g.1 else refuse (fault.WrongShape (place.Node at))) (wanting_right c (ty.List g.0) l)
+                    (λ items q. if_yields (Right c want d) (same_type g.2 g.1) (settled at want (x.Foldr f start items) g.1) (refuse (fault.WrongShape (place.Node at)))
+                        (λ e. settled_right at c want d (x.Foldr f start items) g.1 (λ s. B.fold_right f a l start items w.0 g.0 o w.1 w.2 (w.3 ∙ same_type_true g.2 g.1 e) p q refl s)) (λ e n. tt))))
+
+    packing_right : (c : Ctx) (at : ℕ) (want : Option Ty) (d : Expr) (f : Name) (ds : List Expr) → out-Expr d ≡ Expr-F.ChunkOf f ds → Yields (Right c want d) (order.packing code seen run c at want f ds)
+    unfolding order.packing
+    packing_right c at want d f ds o =
+        known_yields (Right c want d) (fun_of code f) (fault.UnknownName (place.Node at)) (λ g. order.arguments code seen run c at (param_types g.params) ds >>= (λ given. settled at want (x.ChunkOf f given) ty.Chunk))
+            (λ g e. then_yields (λ es. PartsBecome code seen c (Some (param_types g.params)) 0 ds es (param_types g.params)) (Right c want d) (order.arguments code seen run c at (param_types g.params) ds) (λ given. settled at want (x.ChunkOf f given) ty.Chunk) (arguments_right c at (param_types g.params) ds)
+                (λ es b. settled_right at c want d (x.ChunkOf f es) ty.Chunk (λ s. B.packing f ds es g o e b refl refl s)))
+
+    evaluation_right : (c : Ctx) (at : ℕ) (want : Option Ty) (d a : Expr) → out-Expr d ≡ Expr-F.Eval a → Yields (Right c want d) (order.evaluation code seen run c at want a)
+    unfolding order.evaluation
+    evaluation_right c at want d a o =
+        then_yields (λ e. Becomes code seen c (Some ty.Chunk) a e ty.Chunk) (Right c want d) (order.wanting code seen run c ty.Chunk a) (λ p. settled at want (x.Eval p) ty.Unit) (wanting_right c ty.Chunk a)
+            (λ p h. settled_right at c want d (x.Eval p) ty.Unit (λ s. B.evaluation a p o h refl refl s))
+
+    remote_right : (c : Ctx) (at : ℕ) (want : Option Ty) (d a h n : Expr) (r : Name) → out-Expr d ≡ Expr-F.OnRemote a h n r → Yields (Right c want d) (order.remote code seen run c at want a h n r)
+    unfolding order.remote
+    remote_right c at want d a h n r o =
+        then_yields (λ e. Becomes code seen c (Some ty.Chunk) a e ty.Chunk) (Right c want d) (order.wanting code seen run c ty.Chunk a) (λ p. order.wanting code seen run c ty.Host h >>= (λ q. order.wanting code seen run c ty.Int n >>= (λ s. settled at want (x.OnRemote p q s r) ty.Unit))) (wanting_right c ty.Chunk a)
+            (λ p i. two_right c at want d h n ty.Host ty.Int ty.Unit (λ q s. x.OnRemote p q s r) (λ q s j k w. B.remote a h n p q s r o i j k refl refl w))
+
+    neighbour_right : (c : Ctx) (at : ℕ) (want : Option Ty) (d a h n v : Expr) → out-Expr d ≡ Expr-F.OnNeighbor a h n v → Yields (Right c want d) (order.neighbour code seen run c at want a h n v)
+    unfolding order.neighbour
+    neighbour_right c at want d a h n v o =
+        then_yields (λ e. Becomes code seen c (Some ty.Chunk) a e ty.Chunk) (Right c want d) (order.wanting code seen run c ty.Chunk a) (λ p. order.wanting code seen run c ty.Host h >>= (λ q. order.wanting code seen run c ty.Int n >>= (λ s. order.wanting code seen run c ty.Dev v >>= (λ u. settled at want (x.OnNeighbor p q s u) ty.Unit)))) (wanting_right c ty.Chunk a)
+            (λ p i. then_yields (λ e. Becomes code seen c (Some ty.Host) h e ty.Host) (Right c want d) (order.wanting code seen run c ty.Host h) (λ q. order.wanting code seen run c ty.Int n >>= (λ s. order.wanting code seen run c ty.Dev v >>= (λ u. settled at want (x.OnNeighbor p q s u) ty.Unit))) (wanting_right c ty.Host h)
+                (λ q j. two_right c at want d n v ty.Int ty.Dev ty.Unit (λ s u. x.OnNeighbor p q s u) (λ s u k m w. B.neighbour a h n v p q s u o i j k m refl refl w)))
+
+    opened_right : (c : Ctx) (at : ℕ) (want : Option Ty) (d : Expr) (l : ExprLayer) → out-Expr d ≡ l → Yields (Right c want d) (order.opened code seen run c at want d l)
+    opened_right c at want d Expr-F.Unit o = settled_right at c want d d ty.Unit (λ s. B.literal (ap literal_type o) refl s)
+    opened_right c at want d (Expr-F.Bool b) o = settled_right at c want d d ty.Bool (λ s. B.literal (ap literal_type o) refl s)
+    opened_right c at want d (Expr-F.Int n) o = settled_right at c want d d ty.Int (λ s. B.literal (ap literal_type o) refl s)
+    opened_right c at want d (Expr-F.Char n) o = settled_right at c want d d ty.Char (λ s. B.literal (ap literal_type o) refl s)
+    opened_right c at want d (Expr-F.Str w) o = settled_right at c want d d ty.Str (λ s. B.literal (ap literal_type o) refl s)
+    opened_right c at want d (Expr-F.Blob b) o = settled_right at c want d d ty.Blob (λ s. B.literal (ap literal_type o) refl s)
+    opened_right c at want d (Expr-F.Host h) o = settled_right at c want d d ty.Host (λ s. B.literal (ap literal_type o) refl s)
+    opened_right c at want d (Expr-F.Dev v) o = settled_right at c want d d ty.Dev (λ s. B.literal (ap literal_type o) refl s)
+    opened_right c at want d (Expr-F.Nil u) o = empty_right c at want d u o
+    opened_right c at want d (Expr-F.Var v) o = variable_right c at want d v o
+    opened_right c at want d (Expr-F.Tuple es) o = tuple_right c at want d es o
+    opened_right c at want d (Expr-F.Call f es) o = call_right c at want d f es o
+    opened_right c at want d (Expr-F.If a b k) o = choice_right c want d a b k o
+    opened_right c at want d (Expr-F.Let v u a b) o = binder_right c want d v u a b o
+    opened_right c at want d (Expr-F.Then a b) o = sequence_right c want d a b o
+    opened_right c at want d (Expr-F.And a b) o = both_right c at want d a b o
+    opened_right c at want d (Expr-F.Or a b) o = either_right c at want d a b o
+    opened_right c at want d (Expr-F.Not a) o = negation_right c at want d a o
+    opened_right c at want d (Expr-F.Binary v a b) o = operation_right c at want d v a b o
+    opened_right c at want d (Expr-F.Part i a) o = part_right c at want d i a o
+    opened_right c at want d (Expr-F.Raise v t) o = raising_right c at want d v t o
+    opened_right c at want d (Expr-F.Try a ks) o = handling_right c at want d a ks o
+    opened_right c at want d (Expr-F.Foldl f a l) o = fold_left_right c at want d f a l o
+    opened_right c at want d (Expr-F.Foldr f a l) o = fold_right_right c at want d f a l o
+    opened_right c at want d (Expr-F.ChunkOf f es) o = packing_right c at want d f es o
+    opened_right c at want d (Expr-F.Eval a) o = evaluation_right c at want d a o
+    opened_right c at want d (Expr-F.OnRemote a h n r) o = remote_right c at want d a h n r o
+    opened_right c at want d (Expr-F.OnNeighbor a h n v) o = neighbour_right c at want d a h n v o
+
+-- what the checking answers is what the draft becomes
+pub checked_right : (code : Program) (depth seen : ℕ) (c : Ctx) (want : Option Ty) (d : Expr) → Yields (Right code seen c want d) (order.checked code depth seen c want d)
+unfolding order.checked order.expression
+checked_right code zero seen c want d = λ n. tt
+checked_right code (suc depth) seen c want d = λ n. opened_right code seen (order.checked code depth seen) (checked_right code depth seen) c n want d (out-Expr d) refl (order.next n)
