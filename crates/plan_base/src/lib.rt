@@ -21,7 +21,6 @@ pub use depths::{chunk_nesting, nesting};
 pub use ids::{Dev, Family, Host};
 pub use limit::Limit;
 pub use memory::NoMemory;
-pub use prim::Prim;
 pub use name::{is_name, is_reserved, Name, NameFault, Names};
 pub use prim::Prim;
 pub use sizes::{chunk_weight, code_size, type_size, weight};
