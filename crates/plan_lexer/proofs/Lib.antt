@@ -4,3 +4,5 @@ pub mod ScanLemmas
 pub mod WordLemmas
 pub mod ItemLemmas
 pub mod ReadLemmas
+pub mod SpellLemmas
+pub mod TableLemmas

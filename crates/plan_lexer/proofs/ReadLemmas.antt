@@ -15,11 +15,11 @@ use Rattle.plan_lexer.proofs.QuotedLemmas.{string_closes, string_goes}
 use Rattle.plan_lexer.specs.declared.item.Item.TheVariants.{Closes, Open, Wrong, Code}
 use Rattle.plan_lexer.specs.declared.fault.LexFault.{LexFault}
 
-drop_front : (front rest : List ℕ) → drop (length front) (front ++ rest) ≡ rest
+pub drop_front : (front rest : List ℕ) → drop (length front) (front ++ rest) ≡ rest
 drop_front [] rest = refl
 drop_front (b ∷ front) rest = drop_front front rest
 
-get_behind : (front rest : List ℕ) → get_or (front ++ rest) (length front) 0 ≡ get_or rest 0 0
+pub get_behind : (front rest : List ℕ) → get_or (front ++ rest) (length front) 0 ≡ get_or rest 0 0
 get_behind [] rest = refl
 get_behind (b ∷ front) rest = get_behind front rest
 
@@ -37,13 +37,13 @@ quote_closes : (quote : ℕ) (rest : List ℕ) → quote ≢ 10 → item_at quot
 unfolding item_at
 quote_closes quote rest line = grind (arith, nat_tests)
 
-string_reads : (items bytes : List ℕ) → SpellsItems 34 items bytes → (start at : ℕ) (rest : List ℕ) → string_from start at 0 (items ++ 34 ∷ rest) ≡ Ok (bytes, at + length items + 1)
+pub string_reads : (items bytes : List ℕ) → SpellsItems 34 items bytes → (start at : ℕ) (rest : List ℕ) → string_from start at 0 (items ++ 34 ∷ rest) ≡ Ok (bytes, at + length items + 1)
 string_reads _ _ no_items start at rest = string_closes start at (34 ∷ rest) (quote_closes 34 rest (omega arith)) ∙ ap (λ n. Ok ([], n)) (omega arith)
 string_reads _ _ (an_item front more c bytes item others) start at rest =
     rw append_assoc (string_goes start at (front ++ (more ++ 34 ∷ rest)) c (length front) (item_reads 34 front c (more ++ 34 ∷ rest) (omega arith) (omega arith) item) (item_some 34 front c item)
     ∙ rw (drop_front front (more ++ 34 ∷ rest)) (ap (with_front (encode c)) (string_reads more bytes others start (at + length front) rest) ∙ ap (λ n. Ok (encode c ++ bytes, n)) (rw length-append (omega arith))))
 
-char_reads : (item : List ℕ) (c : ℕ) → SpellsItem 39 item c → (start : ℕ) (rest : List ℕ) → char_at start (item ++ 39 ∷ rest) ≡ Ok (c, start + length item + 2)
+pub char_reads : (item : List ℕ) (c : ℕ) → SpellsItem 39 item c → (start : ℕ) (rest : List ℕ) → char_at start (item ++ 39 ∷ rest) ≡ Ok (c, start + length item + 2)
 unfolding char_at char_by
 char_reads item c h start rest = rw (item_reads 39 item c (39 ∷ rest) (omega arith) (omega arith) h, get_behind item (39 ∷ rest)) refl
 
@@ -53,29 +53,29 @@ blob_pair : (start at h l high low : ℕ) (rest : List ℕ) → hex_value h ≡ 
 unfolding hex_value
 blob_pair start at h l high low rest e f = grind (arith, nat_tests)
 
-blob_reads : (pairs bytes : List ℕ) → SpellsPairs pairs bytes → (start at : ℕ) (rest : List ℕ) → blob_from start at None (pairs ++ 34 ∷ rest) ≡ Ok (bytes, at + length pairs + 1)
+pub blob_reads : (pairs bytes : List ℕ) → SpellsPairs pairs bytes → (start at : ℕ) (rest : List ℕ) → blob_from start at None (pairs ++ 34 ∷ rest) ≡ Ok (bytes, at + length pairs + 1)
 blob_reads _ _ no_pairs start at rest = ap (λ n. Ok ([], n)) (omega arith)
 blob_reads _ _ (a_pair h l high low more bytes e f others) start at rest =
     blob_pair start at h l high low (more ++ 34 ∷ rest) e f ∙ ap (with_front ((16 * high + low) ∷ [])) (blob_reads more bytes others start (at + 1 + 1) rest) ∙ ap (λ n. Ok ((16 * high + low) ∷ bytes, n)) (omega arith)
 
 -- the items that pass and then none
-and_left : (a b : Bool) → (a && b) ≡ true → a ≡ true
+pub and_left : (a b : Bool) → (a && b) ≡ true → a ≡ true
 and_left true b e = refl
 and_left false b e = e
 
-and_right : (a b : Bool) → (a && b) ≡ true → b ≡ true
+pub and_right : (a b : Bool) → (a && b) ≡ true → b ≡ true
 and_right true b e = e
 and_right false b e = absurd (false_true e)
   where
     false_true : false ≡ true → ⊥
     false_true e = cc
 
-front_len : (p : ℕ → Bool) (front rest : List ℕ) → list_all p front ≡ true → p (get_or rest 0 0) ≡ false → prefix_len p (front ++ rest) ≡ length front
+pub front_len : (p : ℕ → Bool) (front rest : List ℕ) → list_all p front ≡ true → p (get_or rest 0 0) ≡ false → prefix_len p (front ++ rest) ≡ length front
 front_len p [] [] a b = refl
 front_len p [] (r ∷ rest) a b = rw b refl
 front_len p (f ∷ front) rest a b = rw (and_left (p f) (list_all p front) a) (rw one-add (ap suc (front_len p front rest (and_right (p f) (list_all p front) a) b)))
 
-take_front : (front rest : List ℕ) → take (length front) (front ++ rest) ≡ front
+pub take_front : (front rest : List ℕ) → take (length front) (front ++ rest) ≡ front
 take_front [] rest = refl
 take_front (b ∷ front) rest = ap (λ bs. b ∷ bs) (take_front front rest)
 
@@ -83,10 +83,10 @@ take_front (b ∷ front) rest = ap (λ bs. b ∷ bs) (take_front front rest)
 digits_read : (ds rest : List ℕ) → IsDigits ds → is_ascii_digit (get_or rest 0 0) ≡ false → digits_len (ds ++ rest) ≡ length ds
 digits_read ds rest h other = front_len is_ascii_digit ds rest h.all other
 
-number_reads : (at most : ℕ) (ds rest : List ℕ) → IsDigits ds → is_ascii_digit (get_or rest 0 0) ≡ false → number_of ds ≤ most → number_at at most (ds ++ rest) ≡ Ok (number_of ds, length ds)
+pub number_reads : (at most : ℕ) (ds rest : List ℕ) → IsDigits ds → is_ascii_digit (get_or rest 0 0) ≡ false → number_of ds ≤ most → number_at at most (ds ++ rest) ≡ Ok (number_of ds, length ds)
 unfolding number_at
 number_reads at most ds rest h other small = rw (digits_read ds rest h other, take_front ds rest) (grind (arith, nat_tests))
 
-number_behind_reads : (at most : ℕ) (ds rest : List ℕ) → IsDigits ds → is_ascii_digit (get_or rest 0 0) ≡ false → number_of ds ≤ most → number_behind at most (ds ++ rest) ≡ Ok (number_of ds, length ds)
+pub number_behind_reads : (at most : ℕ) (ds rest : List ℕ) → IsDigits ds → is_ascii_digit (get_or rest 0 0) ≡ false → number_of ds ≤ most → number_behind at most (ds ++ rest) ≡ Ok (number_of ds, length ds)
 unfolding number_behind
 number_behind_reads at most ds rest h other small = let e = number_reads at most ds rest h other small in let l = digits_read ds rest h other in let s = h.some in grind (arith, nat_tests)

@@ -56,10 +56,10 @@ or_more false false false w e = absurd (false_true e)
     false_true : false ≡ true → ⊥
     false_true e = cc
 
-and_both : (x y : Bool) → x ≡ true → y ≡ true → (x && y) ≡ true
+pub and_both : (x y : Bool) → x ≡ true → y ≡ true → (x && y) ≡ true
 and_both x y p q = rw (p, q) refl
 
-letter_of_word : (b : ℕ) → is_ascii_alphabetic b ≡ true → is_word_byte b ≡ true
+pub letter_of_word : (b : ℕ) → is_ascii_alphabetic b ≡ true → is_word_byte b ≡ true
 letter_of_word b e = or_more (is_in_range 48 57 b) (is_in_range 65 90 b) (is_in_range 97 122 b) (b == 95) e
 
 -- the bytes of words that a text begins with, after a letter, are a word

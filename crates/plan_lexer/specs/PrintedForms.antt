@@ -1,15 +1,7 @@
--- The printed form of numbers, strings, chars, blobs, hosts and devices.
-use Rattle.std.specs.Prelude.{ℕ, zero, suc, ◌+◌, ◌-◌, ◌/◌, ◌%◌, Bool, ◌||◌, List, [], ◌∷◌, ◌++◌, ℤ, pos, negsuc, encode_utf8, nat_lt, ◌==◌, if◌then◌else◌}
+-- The printed form of numbers, strings, chars, blobs, hosts and devices. `decimal` has no leading zeros.
+use Rattle.std.specs.Prelude.{ℕ, ◌+◌, ◌/◌, ◌%◌, ◌||◌, List, [], ◌∷◌, ◌++◌, ℤ, pos, negsuc, encode_utf8, nat_lt, ◌==◌, if◌then◌else◌}
+use Rattle.std.specs.Fmt.{decimal}
 use Rattle.std.specs.List.{flat_map}
-
--- the decimal digits of a number, the last ones first asked for: at most `fuel` digits in front of the last
-abbrev pub digits_by : ℕ → ℕ → List ℕ
-digits_by zero n = (48 + n % 10) ∷ []
-digits_by (suc fuel) n = if nat_lt n 10 then (48 + n) ∷ [] else digits_by fuel (n / 10) ++ (48 + n % 10) ∷ []
-
--- the decimal digits of a number below 10^20, without leading zeros
-unfoldable pub decimal : ℕ → List ℕ
-decimal n = digits_by 19 n
 
 -- a number with its sign
 unfoldable pub int_text : ℤ → List ℕ

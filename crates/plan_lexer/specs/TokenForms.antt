@@ -1,11 +1,11 @@
 -- What a token of each kind is, apart from how one is found in a text.
-use Rattle.std.specs.Prelude.{◌≡◌, ◌≢◌, ℕ, ◌+◌, ◌*◌, ◌^◌, ◌<◌, ◌≤◌, ◌⊎◌, true, List, [], ◌∷◌, ◌++◌, length, take, Some, pos, neg_ℤ, IsTrue, encode_utf8}
+use Rattle.std.specs.Prelude.{◌≡◌, ◌≢◌, ℕ, ◌+◌, ◌*◌, ◌^◌, ◌<◌, ◌≤◌, ◌⊎◌, true, false, List, [], ◌∷◌, ◌++◌, length, get_or, Some, pos, neg_ℤ, IsTrue, encode_utf8}
 use Rattle.std.specs.Char.{IsScalar, is_ascii_digit}
 use Rattle.std.specs.List.{list_all}
-use Rattle.plan_base.specs.Words.{is_word, IsName}
+use Rattle.plan_base.specs.Words.{is_word_byte, is_word, IsName}
 use Rattle.plan_lexer.specs.CharItems.{escaped, hex_value}
 use Rattle.plan_lexer.specs.Numerals.{number_of}
-use Rattle.plan_lexer.specs.Tables.{key_text, symbol_text}
+use Rattle.plan_lexer.specs.Tables.{key_text, symbol_text, symbol_at}
 use Rattle.plan_lexer.specs.declared.token.Key.{Key}
 use Rattle.plan_lexer.specs.declared.token.Symbol.{Symbol}
 use Rattle.plan_lexer.specs.declared.token.TokenKind.{TokenKind}
@@ -67,3 +67,16 @@ pub record IsLongest (text front : List ℕ) (k : TokenKind) : Type 0 where
   pub front_of : (rest : List ℕ) × (text ≡ front ++ rest)
   pub spells : Spells k front
   pub longest : (longer more : List ℕ) → text ≡ longer ++ more → HasForm longer → length longer ≤ length front
+
+-- what may follow a token without being taken for more of it
+abbrev pub EndsBefore : TokenKind → List ℕ → Type 0
+EndsBefore (kind.Word w) rest = is_word_byte (get_or rest 0 0) ≡ false
+EndsBefore (kind.Key k) rest = is_word_byte (get_or rest 0 0) ≡ false
+EndsBefore (kind.Int z) rest = is_ascii_digit (get_or rest 0 0) ≡ false
+EndsBefore (kind.Host n) rest = is_ascii_digit (get_or rest 0 0) ≡ false
+EndsBefore (kind.Dev n) rest = is_ascii_digit (get_or rest 0 0) ≡ false
+EndsBefore (kind.Part n) rest = is_ascii_digit (get_or rest 0 0) ≡ false
+EndsBefore (kind.Char c) rest = Unit {0}
+EndsBefore (kind.Str bytes) rest = Unit {0}
+EndsBefore (kind.Blob bytes) rest = Unit {0}
+EndsBefore (kind.Symbol s) rest = symbol_at (symbol_text s ++ rest) ≡ Some s
