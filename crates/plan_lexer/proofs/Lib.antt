@@ -6,3 +6,5 @@ pub mod ItemLemmas
 pub mod ReadLemmas
 pub mod SpellLemmas
 pub mod TableLemmas
+pub mod PrintLemmas
+pub mod LongestLemmas

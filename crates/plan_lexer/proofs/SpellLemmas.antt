@@ -22,18 +22,18 @@ use Rattle.plan_lexer.specs.declared.token.TokenKind.{TokenKind}
 use Rattle.plan_lexer.specs.declared.token.TokenKind.TheVariants as kind
 
 -- which reading the first byte asks for
-first_word : (at : ℕ) (text : List ℕ) → is_ascii_alphabetic (get_or text 0 0) ≡ true → token_at at text ≡ word_at at text
+pub first_word : (at : ℕ) (text : List ℕ) → is_ascii_alphabetic (get_or text 0 0) ≡ true → token_at at text ≡ word_at at text
 unfolding token_at
 first_word at text e = rw e refl
 
-first_digit : (at : ℕ) (text : List ℕ) → is_ascii_alphabetic (get_or text 0 0) ≡ false → is_ascii_digit (get_or text 0 0) ≡ true → token_at at text ≡ int_at at text
+pub first_digit : (at : ℕ) (text : List ℕ) → is_ascii_alphabetic (get_or text 0 0) ≡ false → is_ascii_digit (get_or text 0 0) ≡ true → token_at at text ≡ int_at at text
 unfolding token_at
 first_digit at text e f = rw (e, f) refl
 
-digit_no_letter : (b : ℕ) → is_ascii_digit b ≡ true → is_ascii_alphabetic b ≡ false
+pub digit_no_letter : (b : ℕ) → is_ascii_digit b ≡ true → is_ascii_alphabetic b ≡ false
 digit_no_letter b e = grind (arith, nat_tests)
 
-digits_first : (ds rest : List ℕ) → IsDigits ds → is_ascii_digit (get_or (ds ++ rest) 0 0) ≡ true
+pub digits_first : (ds rest : List ℕ) → IsDigits ds → is_ascii_digit (get_or (ds ++ rest) 0 0) ≡ true
 digits_first [] rest h = absurd (omega (arith, h.some))
 digits_first (d ∷ ds) rest h = and_left (is_ascii_digit d) (list_all is_ascii_digit ds) h.all
 
@@ -55,7 +55,7 @@ reads_dev : (at : ℕ) (ds rest : List ℕ) → IsDigits ds → number_of ds < 2
 unfolding token_at signed_at dev_at
 reads_dev at ds rest h small other = rw (number_behind_reads at 0xffff_ffff ds rest h other (omega arith)) (ap (λ n. Ok (kind.Dev (number_of ds), n)) (omega arith))
 
-digit_no_quote : (b : ℕ) → is_ascii_digit b ≡ true → b ≢ 34
+pub digit_no_quote : (b : ℕ) → is_ascii_digit b ≡ true → b ≢ 34
 digit_no_quote b e = grind (arith, nat_tests)
 
 reads_part : (at : ℕ) (ds rest : List ℕ) → IsDigits ds → 1 ≤ number_of ds → number_of ds ≤ 8 → is_ascii_digit (get_or rest 0 0) ≡ false → token_at at (35 ∷ ds ++ rest) ≡ Ok (kind.Part (number_of ds), at + suc (length ds))
@@ -72,21 +72,21 @@ string_of : (at : ℕ) (items bytes rest : List ℕ) → SpellsItems 34 items by
 unfolding token_at string_at
 string_of at items bytes rest h = rw (string_reads items bytes h at (at + 1) rest) refl
 
-reads_string : (at : ℕ) (items bytes rest : List ℕ) → SpellsItems 34 items bytes → token_at at ((34 ∷ items ++ 34 ∷ []) ++ rest) ≡ Ok (kind.Str bytes, at + length (34 ∷ items ++ 34 ∷ []))
+pub reads_string : (at : ℕ) (items bytes rest : List ℕ) → SpellsItems 34 items bytes → token_at at ((34 ∷ items ++ 34 ∷ []) ++ rest) ≡ Ok (kind.Str bytes, at + length (34 ∷ items ++ 34 ∷ []))
 reads_string at items bytes rest h = ap (λ bs. token_at at (34 ∷ bs)) (append_assoc items (34 ∷ []) rest) ∙ string_of at items bytes rest h ∙ ap (λ n. Ok (kind.Str bytes, n)) (quoted_length at items)
 
 char_of : (at : ℕ) (item : List ℕ) (c : ℕ) (rest : List ℕ) → SpellsItem 39 item c → token_at at (39 ∷ (item ++ 39 ∷ rest)) ≡ Ok (kind.Char c, at + length item + 2)
 unfolding token_at
 char_of at item c rest h = rw (char_reads item c h at rest) refl
 
-reads_char : (at : ℕ) (item : List ℕ) (c : ℕ) (rest : List ℕ) → SpellsItem 39 item c → token_at at ((39 ∷ item ++ 39 ∷ []) ++ rest) ≡ Ok (kind.Char c, at + length (39 ∷ item ++ 39 ∷ []))
+pub reads_char : (at : ℕ) (item : List ℕ) (c : ℕ) (rest : List ℕ) → SpellsItem 39 item c → token_at at ((39 ∷ item ++ 39 ∷ []) ++ rest) ≡ Ok (kind.Char c, at + length (39 ∷ item ++ 39 ∷ []))
 reads_char at item c rest h = ap (λ bs. token_at at (39 ∷ bs)) (append_assoc item (39 ∷ []) rest) ∙ char_of at item c rest h ∙ ap (λ n. Ok (kind.Char c, n)) (simp length-append (omega arith))
 
 blob_of : (at : ℕ) (pairs bytes rest : List ℕ) → SpellsPairs pairs bytes → token_at at (35 ∷ 34 ∷ (pairs ++ 34 ∷ rest)) ≡ Ok (kind.Blob bytes, at + 2 + length pairs + 1)
 unfolding token_at signed_at hash_at blob_at
 blob_of at pairs bytes rest h = rw (blob_reads pairs bytes h at (at + 2) rest) refl
 
-reads_blob : (at : ℕ) (pairs bytes rest : List ℕ) → SpellsPairs pairs bytes → token_at at ((35 ∷ 34 ∷ pairs ++ 34 ∷ []) ++ rest) ≡ Ok (kind.Blob bytes, at + length (35 ∷ 34 ∷ pairs ++ 34 ∷ []))
+pub reads_blob : (at : ℕ) (pairs bytes rest : List ℕ) → SpellsPairs pairs bytes → token_at at ((35 ∷ 34 ∷ pairs ++ 34 ∷ []) ++ rest) ≡ Ok (kind.Blob bytes, at + length (35 ∷ 34 ∷ pairs ++ 34 ∷ []))
 reads_blob at pairs bytes rest h = ap (λ bs. token_at at (35 ∷ 34 ∷ bs)) (append_assoc pairs (34 ∷ []) rest) ∙ blob_of at pairs bytes rest h ∙ ap (λ n. Ok (kind.Blob bytes, n)) (simp length-append (omega arith))
 
 -- words
@@ -98,14 +98,14 @@ is_name_short : (w : List ℕ) → IsName w → length w ≤ 32
 unfolding is_name
 is_name_short w h = let e = and_left (nat_le (length w) 32) (not (is_reserved w)) (and_right (is_word w) (nat_le (length w) 32 && not (is_reserved w)) h) in grind (arith, nat_tests)
 
-word_first : (w rest : List ℕ) → is_word w ≡ true → is_ascii_alphabetic (get_or (w ++ rest) 0 0) ≡ true
+pub word_first : (w rest : List ℕ) → is_word w ≡ true → is_ascii_alphabetic (get_or (w ++ rest) 0 0) ≡ true
 word_first [] rest h = absurd (none_word h)
   where
     none_word : is_word [] ≡ true → ⊥
     none_word e = let f = is_word_none [] (omega arith) in cc
 word_first (b ∷ bs) rest h = and_left (is_ascii_alphabetic b) (list_all is_word_byte bs) (sym (is_word_cons b bs) ∙ h)
 
-word_bytes : (w : List ℕ) → is_word w ≡ true → list_all is_word_byte w ≡ true
+pub word_bytes : (w : List ℕ) → is_word w ≡ true → list_all is_word_byte w ≡ true
 word_bytes [] h = refl
 word_bytes (b ∷ bs) h =
     let e = sym (is_word_cons b bs) ∙ h in

@@ -1,11 +1,13 @@
 -- What a token of each kind is, apart from how one is found in a text.
-use Rattle.std.specs.Prelude.{◌≡◌, ◌≢◌, ℕ, ◌+◌, ◌*◌, ◌^◌, ◌<◌, ◌≤◌, ◌⊎◌, true, false, List, [], ◌∷◌, ◌++◌, length, get_or, Some, pos, neg_ℤ, IsTrue, encode_utf8}
+use Rattle.std.specs.Prelude.{◌≡◌, ◌≢◌, ℕ, ◌+◌, ◌*◌, ◌^◌, ◌<◌, ◌≤◌, ◌⊎◌, true, false, List, [], ◌∷◌, ◌++◌, length, get_or, Some, Result, Ok, Err, pos, neg_ℤ, IsTrue, encode_utf8}
 use Rattle.std.specs.Char.{IsScalar, is_ascii_digit}
 use Rattle.std.specs.List.{list_all}
 use Rattle.plan_base.specs.Words.{is_word_byte, is_word, IsName}
 use Rattle.plan_lexer.specs.CharItems.{escaped, hex_value}
 use Rattle.plan_lexer.specs.Numerals.{number_of}
 use Rattle.plan_lexer.specs.Tables.{key_text, symbol_text, symbol_at}
+use Rattle.plan_lexer.specs.declared.fault.LexFault.{LexFault}
+use Rattle.plan_lexer.specs.declared.fault.LexFault.TheVariants.{LongName, NumberTooLarge}
 use Rattle.plan_lexer.specs.declared.token.Key.{Key}
 use Rattle.plan_lexer.specs.declared.token.Symbol.{Symbol}
 use Rattle.plan_lexer.specs.declared.token.TokenKind.{TokenKind}
@@ -62,11 +64,18 @@ pub data HasForm : List ℕ → Type 0 where
   a_blob : (pairs bytes : List ℕ) → SpellsPairs pairs bytes → HasForm (35 ∷ 34 ∷ pairs ++ 34 ∷ [])
   a_symbol : (s : Symbol) → HasForm (symbol_text s)
 
--- the token of this kind is the longest front of the text that has the form of one
-pub record IsLongest (text front : List ℕ) (k : TokenKind) : Type 0 where
-  pub front_of : (rest : List ℕ) × (text ≡ front ++ rest)
+-- a reading at a place took so many bytes at least, or was refused for the length of a word or the size of a number
+abbrev pub TakesAtLeast : ℕ → ℕ → Result (TokenKind × ℕ) LexFault → Type 0
+TakesAtLeast at len (Ok read) = at + len ≤ read.1
+TakesAtLeast at len (Err e) = (e ≡ LongName at) ⊎ (e ≡ NumberTooLarge at)
+
+-- the token of a text at a place ends here: it is a front of the text that spells this kind
+pub record IsFront (text : List ℕ) (at : ℕ) (k : TokenKind) (next : ℕ) : Type 0 where
+  pub front : List ℕ
+  pub rest : List ℕ
+  pub splits : text ≡ front ++ rest
   pub spells : Spells k front
-  pub longest : (longer more : List ℕ) → text ≡ longer ++ more → HasForm longer → length longer ≤ length front
+  pub place : next ≡ at + length front
 
 -- what may follow a token without being taken for more of it
 abbrev pub EndsBefore : TokenKind → List ℕ → Type 0

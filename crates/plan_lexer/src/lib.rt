@@ -5,6 +5,7 @@ mod fault;
 mod gap;
 mod hexed;
 mod item;
+mod laws;
 mod lexing;
 mod numeral;
 mod quoted;
@@ -18,5 +19,6 @@ mod word;
 mod tests;
 
 pub use fault::LexFault;
+pub use laws::{one_answer, printed_tokens, spelled_tokens};
 pub use lexing::lex;
 pub use token::{Key, Symbol, Token, TokenKind, Tokens};
