@@ -1,11 +1,17 @@
 //! Files of lines: schedules.
 #![tactic(auto)]
 
+mod events;
 mod fault;
+mod keyword;
+mod network;
 mod numbers;
+mod package;
 mod parts;
 mod reading;
+mod scan;
 mod schedule;
+mod small_program;
 mod words;
 
 pub use fault::{LineFault, LineReason};
