@@ -3,6 +3,8 @@ use Rattle.std.proofs.Common.{◌≡◌, ℕ, zero, suc, ◌+◌, ◌-◌, ◌<�
 use Rattle.plan_base.specs.declared.tree.Expr.{Expr, Expr-F, out-Expr, map-Expr, fold_out-Expr}
 use Rattle.plan_base.specs.declared.tree.Clause.{Clause, fold-Clause}
 use Rattle.plan_base.specs.declared.tree.Fun.{Fun}
+use lib.Chars.{codes}
+use Rattle.plan_base.specs.Words.{is_name, is_word, is_reserved, IsName}
 use Rattle.schedule_text.specs.declared.fault.LineReason.{LineReason}
 use Rattle.schedule_text.specs.declared.fault.LineReason.TheVariants.{NotYet}
 use Rattle.schedule_text.specs.declared.fault.Stop.{Stop}
@@ -41,6 +43,7 @@ funs_stops (suc n) declared funs text stops.NoMemory lt h = tt
 funs_stops (suc n) declared funs text (stops.Reason r) lt h = rw h refl
 
 calls_step : (funs : List Fun) (f : Expr → Bool) (g : Clause → Bool) (x : Expr-F Expr Clause) → calls_level {X = Bool} {Y = Bool} (λ b. b) funs (map-Expr Expr Clause Bool Bool f g x) ≡ calls_level f funs x
+calls_step funs f g (Expr-F.Then a b) = refl
 calls_step funs f g _ = refl
 
 pub calls_out : (funs : List Fun) (e : Expr) → are_calls_known funs e ≡ calls_level (are_calls_known funs) funs (out-Expr e)
@@ -48,3 +51,7 @@ unfolding are_calls_known
 calls_out funs e =
     fold_out-Expr Bool Bool (calls_level (λ b. b) funs) (λ _. true) e
     ∙ calls_step funs (are_calls_known funs) (fold-Clause Bool Bool (calls_level (λ b. b) funs) (λ _. true)) (out-Expr e)
+
+pub print_is_name : IsName (codes "print")
+unfolding is_name is_word is_reserved
+print_is_name = refl

@@ -6,7 +6,7 @@ use Rattle.std.specs.Str.{bytes_eq}
 use Rattle.plan_base.specs.declared.ids.Host.{Host}
 use Rattle.plan_base.specs.declared.ids.Dev.{Dev}
 use Rattle.plan_base.specs.declared.name.Name.{Name}
-use Rattle.plan_base.specs.Names.{is_name}
+use Rattle.plan_base.specs.Words.{is_name}
 use Rattle.plan_base.specs.declared.tree.Fun.{Fun}
 use Rattle.schedule_text.specs.declared.fault.LineReason.{LineReason}
 use Rattle.schedule_text.specs.declared.fault.LineReason.TheVariants.{BadWord, UnknownHost, UnknownProgram, TwiceNamed, BadArgument}

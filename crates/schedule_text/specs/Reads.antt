@@ -85,3 +85,8 @@ LeavesBoth (Err e) new rest read = Fails e read
 abbrev pub Tells : {X Y : Type 0} → (X → Y) → Result X LineReason → Result Y LineReason → Type 0
 Tells view (Ok x) read = read ≡ Ok (view x)
 Tells view (Err e) read = read ≡ Err e
+
+-- a stop at its line
+abbrev pub fault_at : ℕ → Stop → LineFault
+fault_at number (stops.Reason r) = faults.Line number r
+fault_at number stops.NoMemory = faults.NoMemory

@@ -219,12 +219,28 @@ abbrev pub staying : Stage → Result Reading LineReason → Result (Stage × Re
 staying stage (Ok s) = Ok (stage, s)
 staying stage (Err e) = Err e
 
+-- the header
+abbrev pub header_step : ℕ → List ℕ → Result Stage LineFault
+header_step number line = if bytes_eq line (codes "planet schedule 1") then Ok stages.Network else Err (faults.Line number BadHeader)
+
+-- a line of the network
+abbrev pub network_step : ℕ → List ℕ → Reading → Result (Stage × Reading) LineFault
+network_step number line s = if is_skipped line then Ok (stages.Network, s) else at_line number (network_line number (words line) s)
+
+-- a line of a program, or the line that ends it
+abbrev pub program_step : List ℕ → OpenProgram → Reading → Result (Stage × Reading) LineFault
+program_step line begun s = if bytes_eq line (codes "end program") then at_line begun.line (staying stages.Network (close_program begun s)) else Ok (stages.Inside (with_line begun line), s)
+
+-- an event
+abbrev pub event_step : ℕ → List ℕ → Reading → Result (Stage × Reading) LineFault
+event_step number line s = if is_skipped line then Ok (stages.Events, s) else at_line number (staying stages.Events (event_line (words line) s))
+
 -- what a line adds to what the lines above it said
 unfoldable pub step : ℕ → List ℕ → Stage → Reading → Result (Stage × Reading) LineFault
-step number line stages.Header s = at_line number (allowed (bytes_eq line (codes "planet schedule 1")) BadHeader >>= λ _. Ok (stages.Network, s))
-step number line stages.Network s = if is_skipped line then Ok (stages.Network, s) else at_line number (network_line number (words line) s)
-step number line (stages.Inside begun) s = if bytes_eq line (codes "end program") then at_line begun.line (staying stages.Network (close_program begun s)) else Ok (stages.Inside (with_line begun line), s)
-step number line stages.Events s = if is_skipped line then Ok (stages.Events, s) else at_line number (staying stages.Events (event_line (words line) s))
+step number line stages.Header s = and_then (header_step number line) (λ stage. Ok (stage, s))
+step number line stages.Network s = network_step number line s
+step number line (stages.Inside begun) s = program_step line begun s
+step number line stages.Events s = event_step number line s
 
 abbrev pub schedule_of_reading : Reading → Schedule
 schedule_of_reading s = record { topology = record { hosts = s.hosts; links = s.links }; events = s.events }

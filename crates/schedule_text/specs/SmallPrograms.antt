@@ -151,6 +151,10 @@ goal_at text = do
   d ← marked_at 37 b
   Ok (h.0, n.0, d.0, d.1)
 
+-- the send of a chunk to a host with a bound, by a device
+abbrev pub send_expr : Expr → ℕ → ℕ → ℕ → Expr
+send_expr chunk host bound dev = expr.OnNeighbor chunk (expr.Host (host_of host)) (expr.Int (pos bound)) (expr.Dev (dev_of dev))
+
 -- `OnNeighbor(|NAME|(), @H, N, %D)` behind its first word
 unfoldable pub send_at : List ℕ → Piece Expr
 send_at text = do
@@ -159,7 +163,7 @@ send_at text = do
   b ← symbol_at 44 chunk.1
   g ← goal_at b
   rest ← symbol_at 41 g.3
-  Ok (expr.OnNeighbor chunk.0 (expr.Host (host_of g.0)) (expr.Int (pos g.1)) (expr.Dev (dev_of g.2)), rest)
+  Ok (send_expr chunk.0 g.0 g.1 g.2, rest)
 
 -- a statement behind its first word
 abbrev pub statement_behind : Bool → List ℕ → List ℕ → Piece Expr

@@ -8,6 +8,7 @@ mod network;
 mod numbers;
 mod package;
 mod parts;
+mod read;
 mod reading;
 mod scan;
 mod schedule;
@@ -15,4 +16,8 @@ mod small_program;
 mod words;
 
 pub use fault::{LineFault, LineReason};
+pub use read::read_schedule;
 pub use schedule::{HostSpec, HostSpecs, Links, Schedule, Topology, WorldEvent, WorldEvents};
+
+#[cfg(test)]
+mod tests;

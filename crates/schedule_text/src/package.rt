@@ -65,6 +65,7 @@ fn one_package(words: &mut Words<'_>, seen: &mut Items<Package>) -> Result<(), S
     Ok(())
 }
 
+#[tactic(auto, using(crate::proofs::PackageLists::packages_next, crate::proofs::PackageLists::packages_shorter, crate::proofs::PackageLists::packages_stop, crate::proofs::PackageLists::packages_done))]
 /// `without PACKAGE` until the line ends. Reasons: `BadWord`, `TwiceNamed`.
 pub fn packages(alloc: Global, words: &mut Words<'_>) -> Result<Items<Package>, Stop>
     ensures { Gives (λ ps. ps) result (packages_at [] words.old) }

@@ -1,16 +1,17 @@
-ghost use Rattle.std.specs.Prelude.{◌≡◌, IfOk, IfErr};
+ghost use Rattle.std.specs.Prelude.{◌≡◌, IfOk};
 ghost use Rattle.std.specs.List.{list_any, list_all};
 ghost use Rattle.std.specs.Str.{bytes_eq};
 ghost use lib.Chars.{codes};
-ghost use Rattle.schedule_text.specs.Parts.{has_name};
+ghost use Rattle.plan_base.specs.declared.tree.Expr.TheVariants as expr;
+ghost use Rattle.schedule_text.specs.Parts.{has_name, host_of, dev_of};
 ghost use Rattle.schedule_text.specs.Reads.{Gives, Leaves, Tells};
-ghost use Rattle.schedule_text.specs.SmallPrograms.{taken_names, own_name_at, print_at, chunk_at, goal_at, send_at, statement_behind, statement_at, body_at, fun_at, funs_at, print_svc, svc_at, svcs_behind, svcs_at, are_calls_known, is_declared, small_program};
+ghost use Rattle.schedule_text.specs.SmallPrograms.{taken_names, own_name_at, print_at, chunk_at, goal_at, send_expr, send_at, statement_behind, statement_at, body_at, fun_at, funs_at, print_svc, svc_at, svcs_behind, svcs_at, are_calls_known, is_declared, small_program};
 
 use crate::fault::{LineReason, Stop};
 use crate::parts::name_of;
 use crate::scan::{first, key, marked, number_of_digits, quoted, small_word, symbol, trim};
 use crate::words::{allow, is};
-use plan_base::{Dev, Expr, Exprs, Fun, Funs, Host, Name, Program, Svc, Svcs, Text, Ty};
+use plan_base::{Dev, Expr, Exprs, Fun, Funs, Host, Name, NoMemory, Program, Svc, Svcs, Text, Ty};
 use plan_items::{Boxed, Items};
 use std::alloc::Global;
 
@@ -66,11 +67,11 @@ fn print(alloc: Global, declared: bool, text: &[u8]) -> Result<(Expr, &[u8]), St
 }
 
 /// The name `print`.
-fn print_name(alloc: Global) -> Result<Name, Stop>
-    ensures is { IfOk result (λ n. n ≡ codes "print") }
-    ensures memory { IfErr result (λ e. e ≡ Stop.NoMemory) }
+#[tactic(auto, using(crate::proofs::SmallLaws::print_is_name))]
+fn print_name(alloc: Global) -> Result<Name, NoMemory>
+    ensures { IfOk result (λ n. n ≡ codes "print") }
 {
-    name_of(alloc, b"print", LineReason::NotYet)
+    Name::of(alloc, b"print")
 }
 
 /// `|NAME|()` as an expression.
@@ -100,6 +101,25 @@ fn goal(text: &[u8]) -> Result<(u32, u32, u32, &[u8]), LineReason>
     Ok((host, bound, dev, rest))
 }
 
+/// A host and a device as expressions.
+fn end_of(alloc: Global, host: u32, dev: u32) -> Result<(Boxed<Expr>, Boxed<Expr>), NoMemory>
+    ensures { IfOk result (λ x. (x.0 ≡ expr.Host (host_of host)) × (x.1 ≡ expr.Dev (dev_of dev))) }
+{
+    let host = Boxed::new(alloc, Expr::Host(Host(host)))?;
+    let dev = Boxed::new(alloc, Expr::Dev(Dev(dev)))?;
+    Ok((host, dev))
+}
+
+/// The send of a chunk.
+fn send_of(alloc: Global, chunk: Expr, host: u32, bound: u32, dev: u32) -> Result<Expr, NoMemory>
+    ensures { IfOk result (λ e. e ≡ send_expr chunk host bound dev) }
+{
+    let (host, dev) = end_of(alloc, host, dev)?;
+    let chunk = Boxed::new(alloc, chunk)?;
+    let bound = Boxed::new(alloc, Expr::Int(i64::from(bound)))?;
+    Ok(Expr::OnNeighbor(chunk, host, bound, dev))
+}
+
 /// `(|NAME|(), @H, N, %D)` as a send.
 #[tactic(auto, unfolding(crate::specs::SmallPrograms::send_at))]
 fn send(alloc: Global, text: &[u8]) -> Result<(Expr, &[u8]), Stop>
@@ -110,11 +130,8 @@ fn send(alloc: Global, text: &[u8]) -> Result<(Expr, &[u8]), Stop>
     let rest = symbol(b',', rest)?;
     let (host, bound, dev, rest) = goal(rest)?;
     let rest = symbol(b')', rest)?;
-    let chunk = Boxed::new(alloc, chunk)?;
-    let host = Boxed::new(alloc, Expr::Host(Host(host)))?;
-    let bound = Boxed::new(alloc, Expr::Int(i64::from(bound)))?;
-    let dev = Boxed::new(alloc, Expr::Dev(Dev(dev)))?;
-    Ok((Expr::OnNeighbor(chunk, host, bound, dev), rest))
+    let send = send_of(alloc, chunk, host, bound, dev)?;
+    Ok((send, rest))
 }
 
 /// A statement behind its first word.
