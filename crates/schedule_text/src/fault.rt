@@ -43,3 +43,32 @@ impl From<AllocError> for LineFault {
         LineFault::NoMemory
     }
 }
+
+/// Why the reading of a line stopped.
+#[derive(Debug, Drop)]
+pub enum Stop {
+    /// The line is outside the format for this reason.
+    Reason(LineReason),
+    /// Memory was refused.
+    NoMemory,
+}
+
+impl From<AllocError> for Stop {
+    ghost use Rattle.schedule_text.specs.declared.fault.Stop.TheVariants.{NoMemory};
+
+    ghost from_gives = { λ _ e. e ≡ NoMemory };
+
+    fn from(_refused: AllocError) -> Stop {
+        Stop::NoMemory
+    }
+}
+
+impl From<LineReason> for Stop {
+    ghost use Rattle.schedule_text.specs.declared.fault.Stop.TheVariants.{Reason};
+
+    ghost from_gives = { λ r e. e ≡ Reason r };
+
+    fn from(reason: LineReason) -> Stop {
+        Stop::Reason(reason)
+    }
+}
