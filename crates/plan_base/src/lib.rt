@@ -2,6 +2,7 @@
 #![tactic(auto)]
 
 mod bytes;
+mod copies;
 mod depths;
 mod ids;
 mod limit;
@@ -14,6 +15,7 @@ mod tree;
 mod type_fault;
 
 pub use bytes::Bytes;
+pub use copies::{copy_clauses, copy_exprs, copy_funs, copy_names, copy_params, copy_places, copy_svcs, copy_types, copy_values};
 pub use depths::{chunk_nesting, nesting};
 pub use ids::{Dev, Family, Host};
 pub use limit::Limit;

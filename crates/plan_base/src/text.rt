@@ -1,5 +1,6 @@
-ghost use Rattle.std.specs.Prelude.{◌≡◌, [], ◌∷◌, ◌++◌, ◌<◌, length, get_or, OnOk, OnErr};
+ghost use Rattle.std.specs.Prelude.{◌≡◌, [], ◌∷◌, ◌++◌, ◌<◌, length, get_or, IfOk, OnOk, OnErr};
 
+use crate::NoMemory;
 use plan_items::Items;
 use std::alloc::{AllocError, Global};
 use std::marker::Model;
@@ -66,6 +67,14 @@ impl Text {
         ensures { result.now ≡ self.now }
     {
         self.all.as_slice()
+    }
+
+    /// The same text.
+    pub fn copy(&self, alloc: Global) -> Result<Text, NoMemory>
+        ensures { IfOk result (λ b. b ≡ self.now) }
+    {
+        let all = Vec::from_slice(alloc, self.all.as_slice())?;
+        Ok(Text { all })
     }
 
     /// Adds `byte` at the end. Where memory is refused, the bytes stay.
