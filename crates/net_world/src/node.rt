@@ -1,13 +1,13 @@
 ghost use Rattle.std.specs.Prelude.{◌≡◌, IfOk, OnErr, [], ◌∷◌, position, slice_get, IsTrue};
 ghost use Rattle.std.specs.Str.{bytes_eq};
-ghost use Rattle.world_laws.specs.SmallVisit.{is_host, default_route};
+ghost use Rattle.world_laws.specs.SmallVisit.{is_host, default_route as route_name};
 ghost use Rattle.world_laws.specs.Node as spec;
 ghost use Rattle.world_laws.specs.World.{no_queues};
 ghost use Rattle.net_world.specs.Queued.{has_first, TakesFirst};
 ghost use Rattle.net_world.specs.Stands.{node_state, IsStep};
 
 use crate::sends::{send_one, visit_acts};
-use crate::small_visit::name_of;
+use crate::small_visit::default_route;
 use link_queue::Queue;
 use plan_base::{Chunk, Dev, Family, Host, Name, NoMemory, Packet};
 use plan_items::Items;
@@ -65,7 +65,7 @@ fn route_to(links: &[(Host, Dev)], host: Host) -> Option<Dev>
 
 /// Whether a name is that of the one routing function.
 fn is_default_route(name: &Name) -> bool
-    ensures { result ≡ bytes_eq name.now default_route }
+    ensures { result ≡ bytes_eq name.now route_name }
 {
     name.as_slice() == b"defaultRoute".as_slice()
 }
@@ -138,7 +138,7 @@ impl Node {
             family,
             dest: self.here,
             bound,
-            route: name_of(alloc, b"defaultRoute")?,
+            route: default_route(alloc)?,
             chunk: chunk.copy(alloc)?,
         };
         let first = Act::Injected(family, bound);

@@ -1,4 +1,4 @@
-ghost use Rattle.std.specs.Prelude.{◌≡◌, ◌<◌, [], IfOk, position};
+ghost use Rattle.std.specs.Prelude.{◌≡◌, ◌<◌, [], IfOk, position, codes};
 ghost use Rattle.std.specs.List.{list_any};
 ghost use Rattle.std.specs.Str.{bytes_eq};
 ghost use Rattle.world_laws.specs.declared.visits.Outcome.TheVariants as outcome;
@@ -6,7 +6,7 @@ ghost use Rattle.plan_base.specs.declared.tree.Expr.{out-Expr};
 ghost use Rattle.world_laws.specs.SmallVisit as spec;
 ghost use Rattle.net_world.specs.Meets.{Meets};
 
-use plan_base::{Chunk, Dev, Exn, Expr, Host, Name, NameFault, NoMemory, Packet, Text, Value};
+use plan_base::{Chunk, Dev, Exn, Expr, Host, Name, NoMemory, Packet, Text, Value};
 use plan_items::Items;
 use std::alloc::{AllocError, Global};
 use world_laws::{Doing, Note, Outcome, Sent, Visit};
@@ -45,14 +45,37 @@ impl From<NoMemory> for Stop {
     }
 }
 
-/// The name of these bytes, which are a word.
-pub fn name_of(alloc: Global, bytes: &[u8]) -> Result<Name, NoMemory>
-    ensures { IfOk result (λ n. n ≡ bytes.now) }
+/// The name of the one routing function.
+#[tactic(
+    auto,
+    unfolding(plan_base::specs::Words::is_name, plan_base::specs::Words::is_word, plan_base::specs::Words::is_reserved)
+)]
+pub fn default_route(alloc: Global) -> Result<Name, NoMemory>
+    ensures { IfOk result (λ n. n ≡ spec.default_route) }
 {
-    match Name::read(alloc, bytes) {
-        Ok(name) => Ok(name),
-        Err(_) => Err(NoMemory),
-    }
+    Name::of(alloc, b"defaultRoute")
+}
+
+/// The exception of a bound that can't be paid.
+#[tactic(
+    auto,
+    unfolding(plan_base::specs::Words::is_name, plan_base::specs::Words::is_word, plan_base::specs::Words::is_reserved)
+)]
+fn no_bound(alloc: Global) -> Result<Exn, NoMemory>
+    ensures { IfOk result (λ x. x.0 ≡ codes "NoBound") }
+{
+    Ok(Exn(Name::of(alloc, b"NoBound")?))
+}
+
+/// The exception of a host that is no neighbour.
+#[tactic(
+    auto,
+    unfolding(plan_base::specs::Words::is_name, plan_base::specs::Words::is_word, plan_base::specs::Words::is_reserved)
+)]
+fn not_neighbor(alloc: Global) -> Result<Exn, NoMemory>
+    ensures { IfOk result (λ x. x.0 ≡ codes "NotNeighbor") }
+{
+    Ok(Exn(Name::of(alloc, b"NotNeighbor")?))
 }
 
 /// Whether a link leads to `host` over `dev`.
@@ -77,13 +100,6 @@ fn paid_of(bound: i64) -> u64
     if bound > 0 { bound.unsigned_abs() } else { 0 }
 }
 
-/// Stops a visit with the exception of this name.
-fn raise(alloc: Global, name: &[u8]) -> Result<Exn, NoMemory>
-    ensures { IfOk result (λ x. x.0 ≡ name.now) }
-{
-    Ok(Exn(name_of(alloc, name)?))
-}
-
 /// The packet of a send: the whole program with another entry.
 fn sent_packet(
     alloc: Global,
@@ -94,7 +110,7 @@ fn sent_packet(
 ) -> Result<Packet, NoMemory>
     ensures { IfOk result (λ p. p ≡ spec.sent_packet packet.now entry.now host bound) }
 {
-    let route = name_of(alloc, b"defaultRoute")?;
+    let route = default_route(alloc)?;
     let code = packet.chunk.code.copy(alloc)?;
     let entry = entry.copy(alloc)?;
     let args = Items::new(alloc);
@@ -124,10 +140,10 @@ fn send(
 {
     let paid = paid_of(bound);
     if paid == 0 || u64::from(doing.purse) < paid {
-        return Err(Stop::Raised(raise(alloc, b"NoBound")?));
+        return Err(Stop::Raised(no_bound(alloc)?));
     }
     if !is_neighbour(here, links, host, dev) {
-        return Err(Stop::Raised(raise(alloc, b"NotNeighbor")?));
+        return Err(Stop::Raised(not_neighbor(alloc)?));
     }
     let paid = paid as u32;
     let packet = sent_packet(alloc, packet, entry, host, paid)?;

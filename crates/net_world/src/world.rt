@@ -1,4 +1,4 @@
-ghost use Rattle.std.specs.Prelude.{◌≡◌, ◌<◌, ◌-◌, ◌^◌, ◌∷◌, ◌++◌, [], length, position, IfOk, OnErr, OnSome, None, map};
+ghost use Rattle.std.specs.Prelude.{◌≡◌, ◌<◌, ◌-◌, ◌^◌, ◌∷◌, ◌++◌, ◌+◌, [], length, position, IfOk, OnOk, OnSome, None, map};
 ghost use Rattle.world_laws.specs.World as spec;
 ghost use Rattle.world_laws.specs.Node.{inject_step, arrive_step, take_step};
 ghost use Rattle.world_laws.specs.Counts.{event_fits, IsSound};
@@ -61,6 +61,7 @@ fn off_lines(alloc: Global, number: u32, host: Host, acts: ActList) -> Result<Li
 }
 
 /// The place of a host's node.
+#[tactic(auto, using(crate::proofs::StateLaws::place_in_states))]
 fn node_place(nodes: &[Node], host: Host) -> Option<usize>
     ensures place { result ≡ spec.place_of (states nodes.now) host }
     ensures within { OnSome result (λ at. at < length nodes.now) }
@@ -286,7 +287,7 @@ impl World {
 
     fn act(&mut self, alloc: Global, event: &WorldEvent) -> Result<Lines, NoMemory>
         requires { self.old.next < 2 ^ 32 - 1 }
-        ensures { IfOk result (λ lines. IsHappened (spec.acted (world_state self.old) event.now) lines (world_state self.new)) }
+        ensures ok { IfOk result (λ lines. IsHappened (spec.acted (world_state self.old) event.now) lines (world_state self.new)) }
         ensures made { self.new.made ≡ self.old.made }
     {
         match event {
@@ -304,7 +305,8 @@ impl World {
         requires fits { event_fits event.now }
         requires few { (world_state self.old).made < 2 ^ 32 - 2 }
         ensures ok { IfOk result (λ lines. IsHappened (spec.happens (world_state self.old) event.now) lines (world_state self.new)) }
-        ensures sound { IfOk result (λ _. IsSound (world_state self.new)) }
+        ensures sound { OnOk result (IsSound (world_state self.new)) }
+        ensures made { OnOk result ((world_state self.new).made ≡ (world_state self.old).made + 1) }
     {
         let lines = self.act(alloc, event)?;
         self.made += 1;
