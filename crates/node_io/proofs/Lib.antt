@@ -1,3 +1,4 @@
 pub mod FileMapLemmas
 pub mod PieceLemmas
 pub mod Fronts
+pub mod ChildLemmas

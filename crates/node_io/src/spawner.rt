@@ -1,4 +1,4 @@
-ghost use Rattle.std.specs.Prelude.{◌≡◌, ◌++◌, ◌∷◌, ℕ, Bool, List, [], true, drop, filter, Contains, IfOk, MatchOption, MatchResult};
+ghost use Rattle.std.specs.Prelude.{◌≡◌, ◌++◌, ◌∷◌, ℕ, Bool, List, [], true, drop, filter, Contains, IfOk, IfSome, MatchOption, MatchResult};
 ghost use Rattle.node_io.specs.Causes.{HasCause};
 ghost use Rattle.node_io.specs.Children.{is_other};
 ghost use Rattle.node_io.specs.declared.spawner.Child.{Child};
@@ -37,6 +37,7 @@ pub trait Spawner {
         ensures children { MatchResult result
             (λ child. children self.new ≡ children self.old ++ child ∷ [])
             (λ _. children self.new ≡ children self.old) }
+        ensures started { IfOk result (Contains (children self.new)) }
         ensures cause { HasCause (faults self.old) (faults self.new) result };
 
     /// Waits for a child and answers its exit status. A child that ended without one is a fault.
@@ -90,8 +91,10 @@ fn note_start(alloc: Global, starts: &mut Items<Texts>, words: &Texts) -> Result
 }
 
 // Opens the next child, unless memory is refused or there are no more numbers.
+#[tactic(auto, using(crate::proofs::ChildLemmas::last_is_there))]
 fn open_next(open: &mut Vec<Child>, started: &mut u32) -> Option<Child>
-    ensures { MatchOption result
+    ensures started { IfSome result (Contains open.new.items) }
+    ensures items { MatchOption result
         (open.new.items ≡ open.old.items)
         (λ child. open.new.items ≡ open.old.items ++ child ∷ []) }
 {
