@@ -2,3 +2,4 @@ pub mod FileMapLemmas
 pub mod PieceLemmas
 pub mod Fronts
 pub mod ChildLemmas
+pub mod FileWrites

@@ -54,7 +54,10 @@ fn note_of(alloc: Global, cause: &Cause) -> Result<String, AllocError>
         Cause::LinkFault => String::from_str(alloc, "planet: link fault\n"),
         Cause::SpawnFault => String::from_str(alloc, "planet: spawn fault\n"),
         Cause::NoMemory => String::from_str(alloc, "planet: no memory\n"),
-        Cause::NodesFailed(host, status) => format!(in alloc; "planet: node @{} failed with {status}\n", host.0),
+        Cause::NodesFailed(host, status) => format!(in alloc;
+            "planet: node @{} failed with {status}\n",
+            host.0
+        ),
     }
 }
 

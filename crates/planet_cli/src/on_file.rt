@@ -12,7 +12,12 @@ use node_io::{Files, ReadError, Sink, read_whole};
 use std::alloc::Global;
 
 /// Reads the file `name` and writes the output of the command `R`.
-pub fn on_file<R: FileCommand, F: Files, K: Sink>(alloc: Global, files: &mut F, name: &str, out: &mut K) -> Cause
+pub fn on_file<R: FileCommand, F: Files, K: Sink>(
+    alloc: Global,
+    files: &mut F,
+    name: &str,
+    out: &mut K,
+) -> Cause
     ensures kind { IsFileCause result }
     ensures refused { IsTrue F.tells
         → IfRefused result (λ r. outcome_at R.limit R.rule R.text (file_at (F.files files.old) name.now) ≡ refused r) }
@@ -31,11 +36,11 @@ pub fn on_file<R: FileCommand, F: Files, K: Sink>(alloc: Global, files: &mut F, 
         → IsTrue K.tells
         → result ≡ Cause.Done
         → K.taken out.new
-            ≡ K.taken out.old ++ output_of (outcome_at R.limit R.rule R.text (file_at (F.files files.old) name.now)) }
+        ≡ K.taken out.old ++ output_of (outcome_at R.limit R.rule R.text (file_at (F.files files.old) name.now)) }
     ensures front { IsTrue F.tells
         → IsTrue K.tells
         → AppendsFront (K.taken out.old) (K.taken out.new)
-            (output_of (outcome_at R.limit R.rule R.text (file_at (F.files files.old) name.now))) }
+        (output_of (outcome_at R.limit R.rule R.text (file_at (F.files files.old) name.now))) }
     ensures complete { IsTrue F.tells
         → IsWhole (outcome_at R.limit R.rule R.text (file_at (F.files files.old) name.now))
         → ¬ (Rose (F.read_faults files.old) (F.read_faults files.new))

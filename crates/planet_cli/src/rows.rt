@@ -273,4 +273,3 @@ end\n";
 pub const UNKNOWN_HEADER: &[u8] = b"planet schedule 9\n";
 
 pub const EMPTY_FILE: &[u8] = b"";
-

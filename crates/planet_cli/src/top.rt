@@ -56,7 +56,7 @@ pub fn planet<F: Files, K: Sink, N: Sink, L: Link, C: Clock, P: Spawner>(
     ensures read_fault { result.cause ≡ Cause.ReadFault → Rose (F.read_faults files.old) (F.read_faults files.new) }
     ensures write_fault { result.cause ≡ Cause.WriteFault
         → Rose (K.faults out.old) (K.faults out.new)
-            ⊎ (Rose (F.write_faults files.old) (F.write_faults files.new) ⊎ Rose (N.faults notes.old) (N.faults notes.new)) }
+        ⊎ (Rose (F.write_faults files.old) (F.write_faults files.new) ⊎ Rose (N.faults notes.old) (N.faults notes.new)) }
     ensures link_fault { result.cause ≡ Cause.LinkFault → Rose (L.faults link.old) (L.faults link.new) }
     ensures spawn_fault { result.cause ≡ Cause.SpawnFault → Rose (P.faults spawn.old) (P.faults spawn.new) }
     ensures nodes_failed { IfNodesFailed result.cause (λ _ _. ⊥) }
