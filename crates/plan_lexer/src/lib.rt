@@ -1,0 +1,19 @@
+//! The tokens of program texts: each is the longest front of what is left that is a token.
+#![tactic(auto)]
+
+mod fault;
+mod gap;
+mod hexed;
+mod item;
+mod lexing;
+mod numeral;
+mod quoted;
+mod scan;
+mod tables;
+mod text;
+mod token;
+mod word;
+
+pub use fault::LexFault;
+pub use lexing::lex;
+pub use token::{Key, Symbol, Token, TokenKind, Tokens};
