@@ -5,3 +5,4 @@ pub mod Outcomes
 pub mod Files
 pub mod Notes
 pub mod Schedules
+pub mod Replays

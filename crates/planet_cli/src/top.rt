@@ -6,6 +6,10 @@ ghost use Rattle.planet_cli.specs.Outcomes.{refused, outcome_of, output_of, IsWh
 ghost use Rattle.planet_cli.specs.Refusals.{IfRefused, IfNodesFailed, Gives, code_of};
 ghost use Rattle.planet_cli.specs.Notes.{Noted};
 ghost use Rattle.planet_cli.specs.Files.{AsksFor};
+ghost use Rattle.planet_cli.specs.Replays.{IsReplayOf, KeepsLedger};
+ghost use Rattle.schedule_text.specs.declared.schedule.Schedule.{Schedule};
+ghost use Rattle.world_laws.specs.World.{opening};
+ghost use Rattle.world_laws.specs.Texts.{run_text};
 ghost use Rattle.planet_cli.specs.declared.status.Refusal.{Refusal};
 
 use crate::note::settle;
@@ -77,6 +81,15 @@ pub fn planet<F: Files, K: Sink, N: Sink, L: Link, C: Clock, P: Spawner>(
         → (result.cause ≡ Cause.Done) ⊎ (result.cause ≡ Cause.NoMemory) }
     ensures note { IsTrue N.tells
         → Noted (N.taken notes.old) (N.taken notes.new) result.cause (Rose (N.faults notes.old) (N.faults notes.new)) }
+    // The headline: a replay that is done wrote the trace and the ledger of the written meaning of
+    // its schedule, whose counts are in balance after every event.
+    ensures replayed { IsTrue F.tells
+        → IsTrue K.tells
+        → (s : Schedule)
+        → IsReplayOf words.now (F.files files.old) s
+        → result.cause ≡ Cause.Done
+        → K.taken out.new ≡ K.taken out.old ++ run_text s.events (opening s.topology) }
+    ensures ledger { IsTrue F.tells → (s : Schedule) → IsReplayOf words.now (F.files files.old) s → KeepsLedger s }
     ensures asked { IsTrue F.tells → AsksFor (request_of words.now) (F.asked files.old) (F.asked files.new) }
     ensures made { IsTrue F.tells → F.made files.new ≡ F.made files.old }
     ensures files { IsTrue F.tells → F.files files.new ≡ F.files files.old }
