@@ -1,8 +1,8 @@
 ghost use Rattle.std.specs.Prelude.{◌≡◌, IfOk};
 
 use crate::{
-    Chunk, Clause, Clauses, Draft, Exn, Expr, Exprs, Fun, Funs, Name, Names, NoMemory, Packet, Param, Params, Places, Program, Svc, Svcs,
-    Ty, Tys, Value, Values,
+    Chunk, Clause, Clauses, Draft, Exn, Expr, Exprs, Fun, Funs, Name, Names, NoMemory, Packet,
+    Param, Params, Places, Program, Svc, Svcs, Ty, Tys, Value, Values,
 };
 use plan_items::{Boxed, Items};
 use std::alloc::Global;
@@ -104,25 +104,62 @@ fn copy_expr(alloc: Global, e: &Expr) -> Result<Expr, NoMemory>
         Expr::Var(x) => Ok(Expr::Var(x.copy(alloc)?)),
         Expr::Tuple(es) => Ok(Expr::Tuple(copy_exprs(alloc, es.as_slice())?)),
         Expr::Call(f, es) => Ok(Expr::Call(f.copy(alloc)?, copy_exprs(alloc, es.as_slice())?)),
-        Expr::If(c, a, b) => Ok(Expr::If(copy_boxed(alloc, c)?, copy_boxed(alloc, a)?, copy_boxed(alloc, b)?)),
-        Expr::Let(x, t, a, b) => Ok(Expr::Let(x.copy(alloc)?, t.copy(alloc)?, copy_boxed(alloc, a)?, copy_boxed(alloc, b)?)),
+        Expr::If(c, a, b) => Ok(Expr::If(
+            copy_boxed(alloc, c)?,
+            copy_boxed(alloc, a)?,
+            copy_boxed(alloc, b)?,
+        )),
+        Expr::Let(x, t, a, b) => Ok(Expr::Let(
+            x.copy(alloc)?,
+            t.copy(alloc)?,
+            copy_boxed(alloc, a)?,
+            copy_boxed(alloc, b)?,
+        )),
         Expr::Then(a, b) => Ok(Expr::Then(copy_boxed(alloc, a)?, copy_boxed(alloc, b)?)),
         Expr::And(a, b) => Ok(Expr::And(copy_boxed(alloc, a)?, copy_boxed(alloc, b)?)),
         Expr::Or(a, b) => Ok(Expr::Or(copy_boxed(alloc, a)?, copy_boxed(alloc, b)?)),
         Expr::Not(a) => Ok(Expr::Not(copy_boxed(alloc, a)?)),
-        Expr::Binary(op, a, b) => Ok(Expr::Binary(*op, copy_boxed(alloc, a)?, copy_boxed(alloc, b)?)),
+        Expr::Binary(op, a, b) => Ok(Expr::Binary(
+            *op,
+            copy_boxed(alloc, a)?,
+            copy_boxed(alloc, b)?,
+        )),
         Expr::Part(i, a) => Ok(Expr::Part(*i, copy_boxed(alloc, a)?)),
         Expr::Raise(x, t) => Ok(Expr::Raise(x.copy(alloc)?, copy_option_type(alloc, t)?)),
-        Expr::Try(a, clauses) => Ok(Expr::Try(copy_boxed(alloc, a)?, copy_clauses(alloc, clauses.as_slice())?)),
-        Expr::Foldl(f, a, l) => Ok(Expr::Foldl(f.copy(alloc)?, copy_boxed(alloc, a)?, copy_boxed(alloc, l)?)),
-        Expr::Foldr(f, a, l) => Ok(Expr::Foldr(f.copy(alloc)?, copy_boxed(alloc, a)?, copy_boxed(alloc, l)?)),
-        Expr::ChunkOf(f, es) => Ok(Expr::ChunkOf(f.copy(alloc)?, copy_exprs(alloc, es.as_slice())?)),
+        Expr::Try(a, clauses) => Ok(Expr::Try(
+            copy_boxed(alloc, a)?,
+            copy_clauses(alloc, clauses.as_slice())?,
+        )),
+        Expr::Foldl(f, a, l) => Ok(Expr::Foldl(
+            f.copy(alloc)?,
+            copy_boxed(alloc, a)?,
+            copy_boxed(alloc, l)?,
+        )),
+        Expr::Foldr(f, a, l) => Ok(Expr::Foldr(
+            f.copy(alloc)?,
+            copy_boxed(alloc, a)?,
+            copy_boxed(alloc, l)?,
+        )),
+        Expr::ChunkOf(f, es) => Ok(Expr::ChunkOf(
+            f.copy(alloc)?,
+            copy_exprs(alloc, es.as_slice())?,
+        )),
         Expr::Eval(c) => Ok(Expr::Eval(copy_boxed(alloc, c)?)),
         Expr::OnRemote(c, h, n, r) => {
-            Ok(Expr::OnRemote(copy_boxed(alloc, c)?, copy_boxed(alloc, h)?, copy_boxed(alloc, n)?, r.copy(alloc)?))
+            Ok(Expr::OnRemote(
+                copy_boxed(alloc, c)?,
+                copy_boxed(alloc, h)?,
+                copy_boxed(alloc, n)?,
+                r.copy(alloc)?,
+            ))
         }
         Expr::OnNeighbor(c, h, n, d) => {
-            Ok(Expr::OnNeighbor(copy_boxed(alloc, c)?, copy_boxed(alloc, h)?, copy_boxed(alloc, n)?, copy_boxed(alloc, d)?))
+            Ok(Expr::OnNeighbor(
+                copy_boxed(alloc, c)?,
+                copy_boxed(alloc, h)?,
+                copy_boxed(alloc, n)?,
+                copy_boxed(alloc, d)?,
+            ))
         }
     }
 }
@@ -307,7 +344,10 @@ fn copy_value(alloc: Global, v: &Value) -> Result<Value, NoMemory>
         Value::Host(h) => Ok(Value::Host(*h)),
         Value::Dev(d) => Ok(Value::Dev(*d)),
         Value::Chunk(c) => Ok(Value::Chunk(Boxed::new(alloc, copy_chunk(alloc, c.get())?)?)),
-        Value::List(t, items) => Ok(Value::List(t.copy(alloc)?, copy_values(alloc, items.as_slice())?)),
+        Value::List(t, items) => Ok(Value::List(
+            t.copy(alloc)?,
+            copy_values(alloc, items.as_slice())?,
+        )),
         Value::Tuple(parts) => Ok(Value::Tuple(copy_values(alloc, parts.as_slice())?)),
     }
 }
