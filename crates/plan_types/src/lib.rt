@@ -2,8 +2,12 @@
 //! so does a chunk, so that nothing above tests it again.
 #![tactic(auto)]
 
+mod body;
+mod call;
 mod checker;
+mod form;
 mod names;
+mod operation;
 mod same;
 mod settle;
 mod state;
