@@ -27,7 +27,7 @@ len_utf8_some : (c : ℕ) → 0 < length (encode c)
 len_utf8_some c = rw (length-encode c) (omega (arith, len_utf8_bounds c))
 
 -- an item takes a byte at least
-item_some : (quote : ℕ) (front : List ℕ) (c : ℕ) → SpellsItem quote front c → 0 < length front
+pub item_some : (quote : ℕ) (front : List ℕ) (c : ℕ) → SpellsItem quote front c → 0 < length front
 item_some quote _ _ (plain c low high slash apart) = omega arith
 item_some quote _ _ (wide c low s) = len_utf8_some c
 item_some quote _ _ (letter l c e) = omega arith

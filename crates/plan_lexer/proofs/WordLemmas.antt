@@ -43,7 +43,7 @@ all_by : (p : ℕ → Bool) (b : ℕ) (more : List ℕ) (n : ℕ) (t : Bool) →
 all_by p b more n true e h = rw one-add (rw e h)
 all_by p b more n false e h = refl
 
-all_front : (p : ℕ → Bool) (text : List ℕ) → list_all p (take (prefix_len p text) text) ≡ true
+pub all_front : (p : ℕ → Bool) (text : List ℕ) → list_all p (take (prefix_len p text) text) ≡ true
 all_front p [] = refl
 all_front p (b ∷ more) = all_by p b more (prefix_len p more) (p b) refl (all_front p more)
 
@@ -70,7 +70,7 @@ is_word_front [] h = absurd (false_true h)
     false_true e = cc
 is_word_front (b ∷ more) h = ap is_word (front_cons is_word_byte b more (letter_of_word b h)) ∙ is_word_cons b (take (word_len more) more) ∙ and_both _ _ h (all_front is_word_byte more)
 
-some_front : (p : ℕ → Bool) (b : ℕ) (more : List ℕ) → p b ≡ true → 0 < prefix_len p (b ∷ more)
+pub some_front : (p : ℕ → Bool) (b : ℕ) (more : List ℕ) → p b ≡ true → 0 < prefix_len p (b ∷ more)
 some_front p b more e = rw e (omega arith)
 
 pub word_len_some : (text : List ℕ) → IsTrue (is_ascii_alphabetic (get_or text 0 0)) → 0 < word_len text
