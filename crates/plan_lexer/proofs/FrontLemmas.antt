@@ -1,11 +1,11 @@
 -- A token that is read is a front of the text that spells it.
-use Rattle.std.proofs.Common.{◌≡◌, ◌≢◌, ℕ, zero, suc, ◌+◌, ◌-◌, ◌*◌, ◌^◌, ◌<◌, ◌≤◌, Bool, true, false, cond, ◌&&◌, List, [], ◌∷◌, ◌++◌, length, get_or, drop, take, Option, Some, None, Result, Ok, Err, pos, neg_ℤ, refl, sym, ap, ◌∙◌, subst, arith, rules, append_assoc, length-append, one-add, IsTrue, nat_lt, ◌==◌, ◌⊎◌, inl, inr, nat_eq}
+use Rattle.std.proofs.Common.{◌≡◌, ℕ, ◌+◌, ◌<◌, ◌≤◌, Bool, true, false, cond, List, [], ◌∷◌, ◌++◌, length, get_or, drop, take, Option, Some, None, Result, Ok, Err, pos, neg_ℤ, refl, sym, ap, ◌∙◌, subst, arith, append_assoc, length-append, IsTrue, nat_lt, ◌==◌, nat_eq}
 use Rattle.std.proofs.lemmas.Bool.Decides.{nat_tests}
 use Rattle.std.proofs.lemmas.List.{take-append-drop}
 use Rattle.std.proofs.lemmas.List.Folds.{length-prefix_len}
 use Rattle.std.proofs.lemmas.Slice.Eq.{bytes_eq-Decides}
 use Rattle.std.specs.Char.{is_ascii_digit, is_ascii_alphabetic}
-use Rattle.std.specs.List.{list_all, prefix_len, find, starts_with}
+use Rattle.std.specs.List.{find, starts_with}
 use Rattle.std.specs.Str.{bytes_eq}
 use Rattle.plan_base.specs.Words.{is_word_byte, is_word}
 use Rattle.plan_lexer.specs.Faults.{◌>>=◌}
@@ -16,8 +16,8 @@ use Rattle.plan_lexer.specs.Tables.{key_text, key_of, keys, symbol_text, symbol_
 use Rattle.plan_lexer.specs.WordTokens.{word_len, word_kind, word_at, kind_by}
 use Rattle.plan_lexer.specs.Scanning.{int_at, negative_at, host_at, dev_at, part_at, hash_at, symbol_by, signed_at, token_at}
 use Rattle.plan_lexer.specs.TokenForms.{IsDigits, Spells, name, key, int, negative, host, dev, part, char, string, blob, symbol, IsFront}
-use Rattle.plan_lexer.proofs.SoundLemmas.{IsClosed, string_sound, blob_sound, IsChar, char_sound, starts_by, not_ok, ok_eq}
-use Rattle.plan_lexer.proofs.WordLemmas.{IsName_from_key, is_word_front, word_len_some, all_front, some_front}
+use Rattle.plan_lexer.proofs.SoundLemmas.{string_sound, blob_sound, char_sound, starts_by, not_ok, ok_eq}
+use Rattle.plan_lexer.proofs.WordLemmas.{IsName_from_key, is_word_front, all_front, some_front}
 use Rattle.plan_lexer.specs.declared.fault.LexFault.{LexFault}
 use Rattle.plan_lexer.specs.declared.fault.LexFault.TheVariants.{BadChar, NumberTooLarge, LongName}
 use Rattle.plan_lexer.specs.declared.token.Key.{Key}
@@ -61,8 +61,11 @@ word_by at text read h false f e =
     let short : length (take (word_len text) text) ≤ 32 = grind (arith, nat_tests) in
     let r : TokenKind × ℕ = (word_kind (take (word_len text) text), at + word_len text) in
     subst (λ x. IsFront text at x.0 x.1) (ok_eq r read (Ok r) refl e) (record {
-      front = take (word_len text) text; rest = drop (word_len text) text; splits = sym (take-append-drop (word_len text) text);
-      spells = word_spells (take (word_len text) text) (is_word_front text h) short; place = omega (arith, len)
+      front = take (word_len text) text;
+      rest = drop (word_len text) text;
+      splits = sym (take-append-drop (word_len text) text);
+      spells = word_spells (take (word_len text) text) (is_word_front text h) short;
+      place = omega (arith, len);
     })
 
 word_sound : (at : ℕ) (text : List ℕ) (read : TokenKind × ℕ) → IsTrue (is_ascii_alphabetic (get_or text 0 0)) → word_at at text ≡ Ok read → IsFront text at read.0 read.1
@@ -103,9 +106,11 @@ behind_sign : (sign : ℕ) (text : List ℕ) (at n : ℕ) (k : TokenKind) → 0 
 behind_sign sign text at n k some is len spells =
     let l = length-prefix_len is_ascii_digit (drop 1 text) in
     record {
-      front = sign ∷ take (digits_len (drop 1 text)) (drop 1 text); rest = drop (digits_len (drop 1 text)) (drop 1 text);
+      front = sign ∷ take (digits_len (drop 1 text)) (drop 1 text);
+      rest = drop (digits_len (drop 1 text)) (drop 1 text);
       splits = starts_by sign text some is ∙ ap (λ bs. sign ∷ bs) (sym (take-append-drop (digits_len (drop 1 text)) (drop 1 text)));
-      spells = spells; place = omega (arith, l, len)
+      spells = spells;
+      place = omega (arith, l, len);
     }
 
 -- a reading that gave this
@@ -121,9 +126,11 @@ int_sound at text read some e =
     let b = bind_ok (number_at at 0x7fff_ffff_ffff_ffff text) (λ n. Ok (kind.Int (pos n.0), at + n.1)) read e in
     let n = number_sound at 0x7fff_ffff_ffff_ffff text b.0 b.1 in
     by_read text at (kind.Int (pos b.0.0)) (at + b.0.1) read b.2 (record {
-      front = take (digits_len text) text; rest = drop (digits_len text) text; splits = sym (take-append-drop (digits_len text) text);
+      front = take (digits_len text) text;
+      rest = drop (digits_len text) text;
+      splits = sym (take-append-drop (digits_len text) text);
       spells = subst (λ v. Spells (kind.Int (pos v)) (take (digits_len text) text)) (sym n.value) (int (take (digits_len text) text) (digits_front text some) (omega (arith, n.value, n.small)));
-      place = omega (arith, n.len, length-prefix_len is_ascii_digit text)
+      place = omega (arith, n.len, length-prefix_len is_ascii_digit text);
     })
 
 negative_sound : (at : ℕ) (text : List ℕ) (read : TokenKind × ℕ) → get_or text 0 0 ≡ 126 → negative_at at (drop 1 text) ≡ Ok read → IsFront text at read.0 read.1
@@ -132,8 +139,8 @@ negative_sound at text read is e =
     let b = bind_ok (number_behind at 0x8000_0000_0000_0000 (drop 1 text)) (λ n. Ok (kind.Int (neg_ℤ (pos n.0)), at + 1 + n.1)) read e in
     let n = behind_sound at 0x8000_0000_0000_0000 (drop 1 text) b.0 b.1 in
     by_read text at (kind.Int (neg_ℤ (pos b.0.0))) (at + 1 + b.0.1) read b.2 (behind_sign 126 text at b.0.1 (kind.Int (neg_ℤ (pos b.0.0))) (omega arith) is n.1.len
-      (subst (λ v. Spells (kind.Int (neg_ℤ (pos v))) (126 ∷ take (digits_len (drop 1 text)) (drop 1 text))) (sym n.1.value)
-        (negative (take (digits_len (drop 1 text)) (drop 1 text)) (digits_front (drop 1 text) n.0) (omega (arith, n.1.value, n.1.small)))))
+    (subst (λ v. Spells (kind.Int (neg_ℤ (pos v))) (126 ∷ take (digits_len (drop 1 text)) (drop 1 text))) (sym n.1.value)
+    (negative (take (digits_len (drop 1 text)) (drop 1 text)) (digits_front (drop 1 text) n.0) (omega (arith, n.1.value, n.1.small)))))
 
 host_sound : (at : ℕ) (text : List ℕ) (read : TokenKind × ℕ) → get_or text 0 0 ≡ 64 → host_at at (drop 1 text) ≡ Ok read → IsFront text at read.0 read.1
 unfolding host_at
@@ -141,8 +148,8 @@ host_sound at text read is e =
     let b = bind_ok (number_behind at 0xffff_ffff (drop 1 text)) (λ n. Ok (kind.Host n.0, at + 1 + n.1)) read e in
     let n = behind_sound at 0xffff_ffff (drop 1 text) b.0 b.1 in
     by_read text at (kind.Host b.0.0) (at + 1 + b.0.1) read b.2 (behind_sign 64 text at b.0.1 (kind.Host b.0.0) (omega arith) is n.1.len
-      (subst (λ v. Spells (kind.Host v) (64 ∷ take (digits_len (drop 1 text)) (drop 1 text))) (sym n.1.value)
-        (host (take (digits_len (drop 1 text)) (drop 1 text)) (digits_front (drop 1 text) n.0) (omega (arith, n.1.value, n.1.small)))))
+    (subst (λ v. Spells (kind.Host v) (64 ∷ take (digits_len (drop 1 text)) (drop 1 text))) (sym n.1.value)
+    (host (take (digits_len (drop 1 text)) (drop 1 text)) (digits_front (drop 1 text) n.0) (omega (arith, n.1.value, n.1.small)))))
 
 dev_sound : (at : ℕ) (text : List ℕ) (read : TokenKind × ℕ) → get_or text 0 0 ≡ 37 → dev_at at (drop 1 text) ≡ Ok read → IsFront text at read.0 read.1
 unfolding dev_at
@@ -150,8 +157,8 @@ dev_sound at text read is e =
     let b = bind_ok (number_behind at 0xffff_ffff (drop 1 text)) (λ n. Ok (kind.Dev n.0, at + 1 + n.1)) read e in
     let n = behind_sound at 0xffff_ffff (drop 1 text) b.0 b.1 in
     by_read text at (kind.Dev b.0.0) (at + 1 + b.0.1) read b.2 (behind_sign 37 text at b.0.1 (kind.Dev b.0.0) (omega arith) is n.1.len
-      (subst (λ v. Spells (kind.Dev v) (37 ∷ take (digits_len (drop 1 text)) (drop 1 text))) (sym n.1.value)
-        (dev (take (digits_len (drop 1 text)) (drop 1 text)) (digits_front (drop 1 text) n.0) (omega (arith, n.1.value, n.1.small)))))
+    (subst (λ v. Spells (kind.Dev v) (37 ∷ take (digits_len (drop 1 text)) (drop 1 text))) (sym n.1.value)
+    (dev (take (digits_len (drop 1 text)) (drop 1 text)) (digits_front (drop 1 text) n.0) (omega (arith, n.1.value, n.1.small)))))
 
 part_by : (at : ℕ) (text : List ℕ) (v : ℕ × ℕ) (read : TokenKind × ℕ) → get_or text 0 0 ≡ 35 → 0 < digits_len (drop 1 text) → IsNumber 8 (drop 1 text) v
     → (z : Bool) → (v.0 == 0) ≡ z → cond z (Err (NumberTooLarge at)) (gave (kind.Part v.0, at + 1 + v.1)) ≡ Ok read → IsFront text at read.0 read.1
@@ -159,8 +166,8 @@ part_by at text v read is some n true f e = absurd (not_ok (NumberTooLarge at) r
 part_by at text v read is some n false f e =
     let one : 1 ≤ v.0 = grind (arith, nat_tests) in
     by_read text at (kind.Part v.0) (at + 1 + v.1) read e (behind_sign 35 text at v.1 (kind.Part v.0) (omega arith) is n.len
-      (subst (λ m. Spells (kind.Part m) (35 ∷ take (digits_len (drop 1 text)) (drop 1 text))) (sym n.value)
-        (part (take (digits_len (drop 1 text)) (drop 1 text)) (digits_front (drop 1 text) some) (omega (arith, n.value)) (omega (arith, n.value, n.small)))))
+    (subst (λ m. Spells (kind.Part m) (35 ∷ take (digits_len (drop 1 text)) (drop 1 text))) (sym n.value)
+    (part (take (digits_len (drop 1 text)) (drop 1 text)) (digits_front (drop 1 text) some) (omega (arith, n.value)) (omega (arith, n.value, n.small)))))
 
 part_sound : (at : ℕ) (text : List ℕ) (read : TokenKind × ℕ) → get_or text 0 0 ≡ 35 → part_at at (drop 1 text) ≡ Ok read → IsFront text at read.0 read.1
 unfolding part_at
@@ -176,9 +183,11 @@ blob_front at text read is quote e =
     let b = bind_ok (blob_at at (drop 1 (drop 1 text))) (λ b. gave (kind.Blob b.0, b.1)) read e in
     let c = blob_sound at (length (drop 1 (drop 1 text))) (at + 2) (drop 1 (drop 1 text)) b.0 (omega arith) b.1 in
     by_read text at (kind.Blob b.0.0) b.0.1 read b.2 (record {
-      front = 35 ∷ 34 ∷ c.inside ++ 34 ∷ []; rest = c.rest;
+      front = 35 ∷ 34 ∷ c.inside ++ 34 ∷ [];
+      rest = c.rest;
       splits = starts_by 35 text (omega arith) is ∙ ap (λ bs. 35 ∷ bs) (starts_by 34 (drop 1 text) (omega arith) quote ∙ ap (λ bs. 34 ∷ bs) (c.splits ∙ sym (append_assoc c.inside (34 ∷ []) c.rest)));
-      spells = blob c.inside b.0.0 c.spells; place = c.place ∙ simp length-append (omega arith)
+      spells = blob c.inside b.0.0 c.spells;
+      place = c.place ∙ simp length-append (omega arith);
     })
 
 hash_sound : (at : ℕ) (text : List ℕ) (read : TokenKind × ℕ) → get_or text 0 0 ≡ 35 → hash_at at (drop 1 text) ≡ Ok read → IsFront text at read.0 read.1
@@ -195,9 +204,11 @@ string_front at text read is e =
     let b = bind_ok (string_at at (drop 1 text)) (λ s. gave (kind.Str s.0, s.1)) read e in
     let c = string_sound at (length (drop 1 text)) (at + 1) (drop 1 text) b.0 (omega arith) b.1 in
     by_read text at (kind.Str b.0.0) b.0.1 read b.2 (record {
-      front = 34 ∷ c.inside ++ 34 ∷ []; rest = c.rest;
+      front = 34 ∷ c.inside ++ 34 ∷ [];
+      rest = c.rest;
       splits = starts_by 34 text (omega arith) is ∙ ap (λ bs. 34 ∷ bs) (c.splits ∙ sym (append_assoc c.inside (34 ∷ []) c.rest));
-      spells = string c.inside b.0.0 c.spells; place = c.place ∙ simp length-append (omega arith)
+      spells = string c.inside b.0.0 c.spells;
+      place = c.place ∙ simp length-append (omega arith);
     })
 
 char_front : (at : ℕ) (text : List ℕ) (read : TokenKind × ℕ) → get_or text 0 0 ≡ 39 → (char_at at (drop 1 text) >>= λ c. gave (kind.Char c.0, c.1)) ≡ Ok read → IsFront text at read.0 read.1
@@ -205,9 +216,11 @@ char_front at text read is e =
     let b = bind_ok (char_at at (drop 1 text)) (λ c. gave (kind.Char c.0, c.1)) read e in
     let c = char_sound at (drop 1 text) b.0 b.1 in
     by_read text at (kind.Char b.0.0) b.0.1 read b.2 (record {
-      front = 39 ∷ c.item ++ 39 ∷ []; rest = c.rest;
+      front = 39 ∷ c.item ++ 39 ∷ [];
+      rest = c.rest;
       splits = starts_by 39 text (omega arith) is ∙ ap (λ bs. 39 ∷ bs) (c.splits ∙ sym (append_assoc c.item (39 ∷ []) c.rest));
-      spells = char c.item b.0.0 c.spells; place = c.place ∙ simp length-append (omega arith)
+      spells = char c.item b.0.0 c.spells;
+      place = c.place ∙ simp length-append (omega arith);
     })
 
 -- symbols
@@ -218,10 +231,12 @@ symbol_found text s e = (bytes_eq-Decides (symbol_text s) (take (length (symbol_
 symbol_front : (at : ℕ) (text : List ℕ) (read : TokenKind × ℕ) → (o : Option Symbol) → symbol_at text ≡ o → symbol_by at o ≡ Ok read → IsFront text at read.0 read.1
 symbol_front at text read None f e = absurd (not_ok (BadChar at) read e)
 symbol_front at text read (Some s) f e = by_read text at (kind.Symbol s) (at + length (symbol_text s)) read e (record {
-      front = symbol_text s; rest = drop (length (symbol_text s)) text;
-      splits = sym (take-append-drop (length (symbol_text s)) text) ∙ ap (λ bs. bs ++ drop (length (symbol_text s)) text) (sym (symbol_found text s f));
-      spells = symbol s; place = refl
-    })
+  front = symbol_text s;
+  rest = drop (length (symbol_text s)) text;
+  splits = sym (take-append-drop (length (symbol_text s)) text) ∙ ap (λ bs. bs ++ drop (length (symbol_text s)) text) (sym (symbol_found text s f));
+  spells = symbol s;
+  place = refl;
+})
 
 is_byte : (text : List ℕ) (b : ℕ) → (get_or text 0 0 == b) ≡ true → get_or text 0 0 ≡ b
 is_byte text b e = grind (arith, nat_tests)

@@ -11,3 +11,4 @@ pub mod LongestLemmas
 pub mod SoundItems
 pub mod SoundLemmas
 pub mod FrontLemmas
+pub mod LawLemmas

@@ -1,10 +1,9 @@
 -- From an item that is read to the bytes that spell it.
-use Rattle.std.proofs.Common.{◌≡◌, ◌≢◌, ℕ, zero, suc, ◌+◌, ◌-◌, ◌*◌, ◌/◌, ◌%◌, ◌^◌, ◌<◌, ◌≤◌, Bool, true, false, cond, List, [], ◌∷◌, ◌++◌, length, get_or, drop, take, Option, Some, None, refl, sym, ap, ◌∙◌, subst, arith, rules, ltb, nat_lt, ◌==◌}
+use Rattle.std.proofs.Common.{◌≡◌, ◌≢◌, ℕ, ◌+◌, ◌*◌, ◌<◌, ◌≤◌, Bool, true, false, cond, List, [], ◌∷◌, ◌++◌, length, Option, Some, None, refl, sym, ap, ◌∙◌, subst, arith, nat_lt, ◌==◌}
 use Rattle.std.proofs.lemmas.Bool.Decides.{nat_tests}
 use lib.Utf8.{scalar, encode}
 use Rattle.plan_lexer.specs.CharItems.{continuation, shortest, two_bytes, three_bytes, four_bytes, wide_at, hex_value, escaped, hex_escape, escape_at, code_at, item_at, item_from}
 use Rattle.plan_lexer.specs.TokenForms.{SpellsItem, plain, wide, letter, digits}
-use Rattle.plan_lexer.specs.declared.item.Item.{Item}
 use Rattle.plan_lexer.specs.declared.item.Item.TheVariants.{Closes, Open, Wrong, Code}
 
 two_sound : (a b : ℕ) (rest : List ℕ) (c n : ℕ) → 192 ≤ a → a < 224 → two_bytes (a ∷ b ∷ rest) ≡ Some (c, n) → (encode c ≡ a ∷ b ∷ []) × (n ≡ 2) × (128 ≤ c) × (scalar c ≡ true)

@@ -1,10 +1,10 @@
 -- From a token that is read to the bytes that spell it.
-use Rattle.std.proofs.Common.{◌≡◌, ◌≢◌, ℕ, zero, suc, ◌+◌, ◌-◌, ◌*◌, ◌^◌, ◌<◌, ◌≤◌, Bool, true, false, cond, ◌&&◌, List, [], ◌∷◌, ◌++◌, length, get_or, drop, take, Option, Some, None, Result, Ok, Err, pos, neg_ℤ, refl, sym, ap, ◌∙◌, subst, arith, rules, append_assoc, length-append, one-add, IsTrue, nat_lt, ◌==◌, ◌⊎◌, inl, inr}
+use Rattle.std.proofs.Common.{◌≡◌, ℕ, zero, suc, ◌+◌, ◌*◌, ◌<◌, ◌≤◌, Bool, true, false, cond, List, [], ◌∷◌, ◌++◌, length, get_or, drop, Option, Some, None, Result, Ok, Err, refl, sym, ap, ◌∙◌, subst, arith, append_assoc, length-append, ◌==◌}
 use Rattle.std.proofs.lemmas.Bool.Decides.{nat_tests}
 use lib.Utf8.{encode}
 use Rattle.plan_lexer.specs.CharItems.{item_at, hex_value, item_from, code_at}
-use Rattle.plan_lexer.specs.Quoted.{with_front, string_from, string_at, char_at, char_by}
-use Rattle.plan_lexer.specs.Hexed.{blob_from, blob_at, blob_by, blob_end}
+use Rattle.plan_lexer.specs.Quoted.{with_front, string_from, char_at, char_by}
+use Rattle.plan_lexer.specs.Hexed.{blob_from, blob_by, blob_end}
 use Rattle.plan_lexer.specs.TokenForms.{SpellsItem, SpellsItems, no_items, an_item, SpellsPairs, no_pairs, a_pair}
 use Rattle.plan_lexer.proofs.SoundItems.{IsFrontItem, item_front, item_cons}
 use Rattle.plan_lexer.proofs.ReadLemmas.{drop_front, get_behind, item_some}
@@ -77,10 +77,11 @@ module _ (start : ℕ) where
       let g = with_front_ok (encode c) (string_from start (at + n) 0 (drop n text)) read (sym (string_goes start at text c n is (omega (arith, f.len, some))) ∙ e) in
       let h = ih (at + n) f.rest g.0 (omega (arith, ap length f.splits ∙ length-append f.front f.rest, some)) (subst (λ bs. string_from start (at + n) 0 bs ≡ Ok g.0) left g.1) in
       subst (λ r. IsClosed (SpellsItems 34) text at r) g.2 (record {
-        inside = f.front ++ h.inside; rest = h.rest;
+        inside = f.front ++ h.inside;
+        rest = h.rest;
         splits = f.splits ∙ ap (λ bs. f.front ++ bs) h.splits ∙ sym (append_assoc f.front h.inside (34 ∷ h.rest));
         spells = an_item f.front h.inside c g.0.0 f.spells h.spells;
-        place = h.place ∙ omega (arith, f.len, length-append f.front h.inside)
+        place = h.place ∙ omega (arith, f.len, length-append f.front h.inside);
       })
 
   pub string_sound : (fuel at : ℕ) (text : List ℕ) (read : List ℕ × ℕ) → length text ≤ fuel → string_from start at 0 text ≡ Ok read → IsClosed (SpellsItems 34) text at read
@@ -102,8 +103,11 @@ module _ (start : ℕ) where
           let b = with_front_ok ((16 * high + low) ∷ []) (blob_from start (at + 1 + 1) None more) read g in
           let r = ih (at + 1 + 1) more b.0 (omega arith) b.1 in
           subst (λ x. IsClosed SpellsPairs (h ∷ l ∷ more) at x) b.2 (record {
-            inside = h ∷ l ∷ r.inside; rest = r.rest; splits = ap (λ bs. h ∷ l ∷ bs) r.splits;
-            spells = a_pair h l high low r.inside b.0.0 is f r.spells; place = r.place ∙ omega arith
+            inside = h ∷ l ∷ r.inside;
+            rest = r.rest;
+            splits = ap (λ bs. h ∷ l ∷ bs) r.splits;
+            spells = a_pair h l high low r.inside b.0.0 is f r.spells;
+            place = r.place ∙ omega arith;
           })
 
   blob_step : (fuel : ℕ) → ((at : ℕ) (text : List ℕ) (read : List ℕ × ℕ) → length text ≤ fuel → blob_from start at None text ≡ Ok read → IsClosed SpellsPairs text at read)
@@ -117,7 +121,7 @@ module _ (start : ℕ) where
       by_tests false true d x f g =
           let is : h ≡ 34 = grind (arith, nat_tests) in
           subst (λ r. IsClosed SpellsPairs (h ∷ more) at r) (ok_same ([], at + 1) read (Ok ([], at + 1)) refl g)
-            (record { inside = []; rest = more; splits = ap (λ b. b ∷ more) is; spells = no_pairs; place = omega arith })
+          (record { inside = []; rest = more; splits = ap (λ b. b ∷ more) is; spells = no_pairs; place = omega arith })
       by_tests false false d None f g = absurd (not_ok (BadChar at) read g)
       by_tests false false d (Some high) f g = blob_half fuel ih at h high f more read (omega arith) g
 
@@ -146,7 +150,11 @@ char_by_quote start c n text read f true d e =
     let at_rest : get_or f.rest 0 0 ≡ 39 = sym (get_behind f.front f.rest) ∙ ap (λ bs. get_or bs (length f.front) 0) (sym f.splits) ∙ ap (λ m. get_or text m 0) (sym f.len) ∙ is in
     let whole = starts_by 39 f.rest (omega arith) at_rest in
     subst (λ r. IsChar text start r) (ok_eq (c, start + n + 2) read (Ok (c, start + n + 2)) refl e) (record {
-      item = f.front; rest = drop 1 f.rest; splits = f.splits ∙ ap (λ bs. f.front ++ bs) whole; spells = f.spells; place = omega (arith, f.len)
+      item = f.front;
+      rest = drop 1 f.rest;
+      splits = f.splits ∙ ap (λ bs. f.front ++ bs) whole;
+      spells = f.spells;
+      place = omega (arith, f.len);
     })
 
 char_step : (start : ℕ) (text : List ℕ) (read : ℕ × ℕ) → (it : Item) → item_at 39 text ≡ it → char_by start text it ≡ Ok read → IsChar text start read

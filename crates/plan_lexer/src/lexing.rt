@@ -28,7 +28,12 @@ pub fn lex(alloc: Global, text: &[u8]) -> Result<Tokens, LexFault>
 }
 
 /// Adds the token that a move gave, if it gave one.
-fn add_move(tokens: &mut Tokens, start: u32, kind: Option<TokenKind>, stop: u32) -> Result<(), AllocError>
+fn add_move(
+    tokens: &mut Tokens,
+    start: u32,
+    kind: Option<TokenKind>,
+    stop: u32,
+) -> Result<(), AllocError>
     ensures ok { OnOk result (tokens.new ≡ with_move tokens.old start kind stop) }
 {
     match kind {

@@ -1,5 +1,4 @@
 use Rattle.std.proofs.Common.{rules, arith, length-drop}
-use Rattle.std.proofs.lemmas.Grind.{common_steps}
 use Rattle.std.proofs.lemmas.Bool.Decides.{nat_tests}
 use Rattle.plan_lexer.proofs.ScanLemmas.{begins, moved, refused, whole, Toks-unique, fault_by, only_by}
 use Rattle.plan_lexer.proofs.lexing.lex.Goals as goal
@@ -10,8 +9,8 @@ moves-init c = record { sofar = begins c.args.text.now _ c.new-tokens.ensures; p
 pub moves-preserved : goal.moves-preserved
 moves-preserved c = record {
   sofar = moved c.args.text.now c.moves.tokens c.moves.at c.moves.rest.now c.in_ok-kind.kind c.in_ok-kind.next _ _ c.moves.invariant.sofar (grind (arith, nat_tests))
-    c.in_ok-kind.ensures.value c.in_ok-add_move.ensures.ok c.after-rest.ensures;
-  place = rw (c.after-rest.ensures, length-drop) (omega (arith, c.in_ok-kind.ensures.within.0, c.in_ok-kind.ensures.within.1))
+      c.in_ok-kind.ensures.value c.in_ok-add_move.ensures.ok c.after-rest.ensures;
+  place = rw (c.after-rest.ensures, length-drop) (omega (arith, c.in_ok-kind.ensures.within.0, c.in_ok-kind.ensures.within.1));
 }
 
 pub returns-clause-found : goal.returns-clause-found
