@@ -7,7 +7,7 @@ use Rattle.plan_lexer.specs.Faults.{◌>>=◌}
 use Rattle.plan_lexer.specs.Gaps.{gap_at}
 use Rattle.plan_lexer.specs.Tables.{key_text}
 use Rattle.plan_lexer.specs.Scanning.{token_at, move_at, rest_at, ends, skips, takes, here, past, IsAnswered}
-use Rattle.plan_lexer.specs.TokenForms.{Spells, name, key, int, negative, host, dev, part, char, string, blob, symbol, HasForm, TakesAtLeast}
+use Rattle.plan_lexer.specs.TokenForms.{IsFront, Spells, name, key, int, negative, host, dev, part, char, string, blob, symbol, HasForm, TakesAtLeast}
 use Rattle.plan_lexer.proofs.LongestLemmas.{form_least, symbol_some}
 use Rattle.plan_lexer.proofs.FrontLemmas.{token_sound}
 use Rattle.plan_lexer.proofs.SoundLemmas.{not_ok}
@@ -36,7 +36,7 @@ word_some [] h = absurd (false_word (is_word_none [] (omega arith)) h)
     false_word e h = cc
 word_some (b ∷ bs) h = omega arith
 
-spells_some : (k : TokenKind) (front : List ℕ) → Spells k front → 0 < length front
+pub spells_some : (k : TokenKind) (front : List ℕ) → Spells k front → 0 < length front
 spells_some _ _ (name w h) = word_some w (is_name_word w h)
 spells_some _ _ (key k) = word_some (key_text k) (is_word-key k)
 spells_some _ _ (int ds h small) = h.some
@@ -77,7 +77,7 @@ gap_moves at text (Ok next) move stop h = by_test (nat_lt at next) refl h
     by_test false f g = token_moves at text (token_at at text) refl move stop g
 
 -- each move goes on
-move_goes : (at : ℕ) (text : List ℕ) (move : Option TokenKind) (stop : ℕ) → move_at at text ≡ moved_to move stop → at < stop
+pub move_goes : (at : ℕ) (text : List ℕ) (move : Option TokenKind) (stop : ℕ) → move_at at text ≡ moved_to move stop → at < stop
 unfolding move_at
 move_goes at text move stop e = gap_moves at text (gap_at at text) move stop e
 
@@ -101,3 +101,40 @@ answered_in (suc fuel) at (b ∷ more) small = answer_step fuel (answered_in fue
 -- each text has its tokens or a refusal
 pub answered : (at : ℕ) (text : List ℕ) → IsAnswered at text
 answered at text = answered_in (length text) at text (omega arith)
+
+-- a token that was read
+abbrev read_as : TokenKind → ℕ → Result (TokenKind × ℕ) LexFault
+read_as k next = Ok (k, next)
+
+kind_of : Result (Option TokenKind × ℕ) LexFault → Option TokenKind
+kind_of (Ok x) = x.0
+kind_of (Err d) = None
+
+stop_of : Result (Option TokenKind × ℕ) LexFault → ℕ
+stop_of (Ok x) = x.1
+stop_of (Err d) = 0
+
+gap_token : (next : ℕ) (k : TokenKind) (stop : ℕ) → moved_to None next ≡ moved_to (Some k) stop → ⊥
+unfolding kind_of
+gap_token next k stop e = let f : None ≡ Some k = ap kind_of e in cc
+
+some_kind : (r : Result (TokenKind × ℕ) LexFault) (k : TokenKind) (stop : ℕ) → (r >>= λ t. moved_to (Some t.0) t.1) ≡ moved_to (Some k) stop → r ≡ read_as k stop
+unfolding kind_of stop_of
+some_kind (Err d) k stop e = absurd (not_ok d _ e)
+some_kind (Ok t) k stop e =
+    let f : Some t.0 ≡ Some k = ap kind_of e in let g : t.0 ≡ k = cc in
+    ap (λ v. read_as v t.1) g ∙ ap (λ n. read_as k n) (ap stop_of e)
+
+-- a token that a move gives was read
+token_by : (at : ℕ) (text : List ℕ) (g : Result ℕ LexFault) (k : TokenKind) (stop : ℕ)
+    → (g >>= λ next. cond (nat_lt at next) (moved_to None next) (token_at at text >>= λ t. moved_to (Some t.0) t.1)) ≡ moved_to (Some k) stop → token_at at text ≡ read_as k stop
+token_by at text (Err d) k stop e = absurd (not_ok d _ e)
+token_by at text (Ok next) k stop e = by_test (nat_lt at next) e
+  where
+    by_test : (t : Bool) → cond t (moved_to None next) (token_at at text >>= λ t. moved_to (Some t.0) t.1) ≡ moved_to (Some k) stop → token_at at text ≡ read_as k stop
+    by_test true f = absurd (gap_token next k stop f)
+    by_test false f = some_kind (token_at at text) k stop f
+
+pub token_front : (at : ℕ) (text : List ℕ) (k : TokenKind) (next : ℕ) → move_at at text ≡ moved_to (Some k) next → IsFront text at k next
+unfolding move_at
+token_front at text k next e = token_sound at text k next (token_by at text (gap_at at text) k next e)

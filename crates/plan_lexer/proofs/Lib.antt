@@ -12,3 +12,4 @@ pub mod SoundItems
 pub mod SoundLemmas
 pub mod FrontLemmas
 pub mod LawLemmas
+pub mod RuleLemmas

@@ -65,7 +65,7 @@ Toks-move _ _ _ (ends at) some m p = absurd (omega arith)
 Toks-move _ _ _ (skips at text ts next s q h) some m p = follows_same at text ts (None, next) m q p h
 Toks-move _ _ _ (takes at text ts k next s q h) some m p = follows_same at text (record { kind = k; start = at; stop = next } ∷ ts) (Some k, next) m q p (ts, refl, h)
 
-Toks-nil : (at : ℕ) (text : List ℕ) (ts : List Token) → length text ≡ 0 → Toks at text ts → ts ≡ []
+pub Toks-nil : (at : ℕ) (text : List ℕ) (ts : List Token) → length text ≡ 0 → Toks at text ts → ts ≡ []
 Toks-nil _ _ _ is (ends at) = refl
 Toks-nil _ _ _ is (skips at text ts next some m h) = absurd (omega arith)
 Toks-nil _ _ _ is (takes at text ts k next some m h) = absurd (omega arith)

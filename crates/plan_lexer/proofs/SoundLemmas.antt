@@ -60,6 +60,24 @@ with_front_ok : (front : List ℕ) (r : Result (List ℕ × ℕ) LexFault) (read
 with_front_ok front (Ok x) read e = (x, refl, ok_same (front ++ x.0, x.1) read (Ok (front ++ x.0, x.1)) refl e)
 with_front_ok front (Err d) read e = absurd (not_ok d read e)
 
+-- an item before what is closed
+closed_more : (at : ℕ) (text : List ℕ) (c n : ℕ) (f : IsFrontItem 34 text c n) (bytes : List ℕ) (stop : ℕ)
+    → IsClosed (SpellsItems 34) f.rest (at + n) (bytes, stop) → IsClosed (SpellsItems 34) text at (encode c ++ bytes, stop)
+closed_more at text c n f bytes stop h = record {
+  inside = f.front ++ h.inside;
+  rest = h.rest;
+  splits = f.splits ∙ ap (λ bs. f.front ++ bs) h.splits ∙ sym (append_assoc f.front h.inside (34 ∷ h.rest));
+  spells = an_item f.front h.inside c bytes f.spells h.spells;
+  place = h.place ∙ omega (arith, f.len, length-append f.front h.inside);
+}
+
+-- the text behind an item
+behind_item : (text : List ℕ) (c n : ℕ) (f : IsFrontItem 34 text c n) → drop n text ≡ f.rest
+behind_item text c n f = ap (λ m. drop m text) f.len ∙ ap (drop (length f.front)) f.splits ∙ drop_front f.front f.rest
+
+shorter_behind : (text : List ℕ) (c n fuel : ℕ) (f : IsFrontItem 34 text c n) → length text ≤ fuel + 1 → length f.rest ≤ fuel
+shorter_behind text c n fuel f small = omega (arith, ap length f.splits ∙ length-append f.front f.rest, item_some 34 f.front c f.spells)
+
 -- one item more, or the end
 module _ (start : ℕ) where
   string_step : (fuel : ℕ) → ((at : ℕ) (text : List ℕ) (read : List ℕ × ℕ) → length text ≤ fuel → string_from start at 0 text ≡ Ok read → IsClosed (SpellsItems 34) text at read)
@@ -72,17 +90,9 @@ module _ (start : ℕ) where
   string_step fuel ih at text read small e Wrong is = absurd (not_ok (BadChar at) read (sym (string_wrong start at text is) ∙ e))
   string_step fuel ih at text read small e (Code c n) is =
       let f = item_front 34 text c n is in
-      let some = item_some 34 f.front c f.spells in
-      let left : drop n text ≡ f.rest = ap (λ m. drop m text) f.len ∙ ap (drop (length f.front)) f.splits ∙ drop_front f.front f.rest in
-      let g = with_front_ok (encode c) (string_from start (at + n) 0 (drop n text)) read (sym (string_goes start at text c n is (omega (arith, f.len, some))) ∙ e) in
-      let h = ih (at + n) f.rest g.0 (omega (arith, ap length f.splits ∙ length-append f.front f.rest, some)) (subst (λ bs. string_from start (at + n) 0 bs ≡ Ok g.0) left g.1) in
-      subst (λ r. IsClosed (SpellsItems 34) text at r) g.2 (record {
-        inside = f.front ++ h.inside;
-        rest = h.rest;
-        splits = f.splits ∙ ap (λ bs. f.front ++ bs) h.splits ∙ sym (append_assoc f.front h.inside (34 ∷ h.rest));
-        spells = an_item f.front h.inside c g.0.0 f.spells h.spells;
-        place = h.place ∙ omega (arith, f.len, length-append f.front h.inside);
-      })
+      let g = with_front_ok (encode c) (string_from start (at + n) 0 (drop n text)) read (sym (string_goes start at text c n is (omega (arith, f.len, item_some 34 f.front c f.spells))) ∙ e) in
+      let h = ih (at + n) f.rest g.0 (shorter_behind text c n fuel f small) (subst (λ bs. string_from start (at + n) 0 bs ≡ Ok g.0) (behind_item text c n f) g.1) in
+      subst (λ r. IsClosed (SpellsItems 34) text at r) g.2 (closed_more at text c n f g.0.0 g.0.1 h)
 
   pub string_sound : (fuel at : ℕ) (text : List ℕ) (read : List ℕ × ℕ) → length text ≤ fuel → string_from start at 0 text ≡ Ok read → IsClosed (SpellsItems 34) text at read
   string_sound zero at [] read small e = absurd (not_ok (OpenString start) read e)

@@ -1,6 +1,7 @@
 use Rattle.std.proofs.Common.{rules, arith, length-drop}
 use Rattle.std.proofs.lemmas.Bool.Decides.{nat_tests}
 use Rattle.plan_lexer.proofs.ScanLemmas.{begins, moved, refused, whole, Toks-unique, fault_by, only_by}
+use Rattle.plan_lexer.proofs.RuleLemmas.{tokens_rules}
 use Rattle.plan_lexer.proofs.lexing.lex.Goals as goal
 
 pub moves-init : goal.moves-init
@@ -26,3 +27,6 @@ returns-in_err-kind-clause-fault c = fault_by c.from_residual.result c.in_err-ki
 pub returns-in_err-kind-clause-only : goal.returns-in_err-kind-clause-only
 returns-in_err-kind-clause-only c = only_by c.from_residual.result c.in_err-kind.field-0.0 c.args.text.now c.from_residual.ensures.1
     (refused c.args.text.now c.moves.tokens c.moves.at c.moves.rest.now c.in_err-kind.field-0.0 c.moves.invariant.sofar (grind (arith, nat_tests)) c.in_err-kind.ensures.value)
+
+pub returns-clause-kept : goal.returns-clause-kept
+returns-clause-kept c = tokens_rules c.args.text.now c.moves.tokens (omega arith) (whole c.args.text.now c.moves.tokens c.moves.at c.moves.rest.now c.moves.invariant.sofar (grind (arith, nat_tests)))
