@@ -1,3 +1,9 @@
+pub mod Limits
 pub mod Sizes
 pub mod Trees
+pub mod WellFormed
 pub mod Words
+pub mod Typing
+pub mod TypingNames
+pub mod TypingOrder
+pub mod TypingFills

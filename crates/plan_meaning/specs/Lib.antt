@@ -1,0 +1,5 @@
+pub mod State
+pub mod Run
+pub mod Meaning
+pub mod Visit
+pub mod Safe
