@@ -7,8 +7,8 @@ use Rattle.planet_cli.specs.declared.status.Cause.{Cause}
 use Rattle.planet_cli.specs.declared.status.Cause.TheVariants.{Done, Usage, Refused, ReadFault, WriteFault, LinkFault, SpawnFault, NoMemory, NodesFailed}
 use Rattle.planet_cli.specs.declared.status.Refusal.{Refusal}
 use Rattle.planet_cli.specs.declared.status.Refusal.TheVariants.{Line, TooLong}
-use Rattle.planet_cli.specs.declared.stand_in.LineReason.{LineReason}
-use Rattle.planet_cli.specs.declared.stand_in.LineReason.TheVariants.{BadHeader, BadWord, BadNumber, UnknownHost, UnknownProgram, TwiceNamed, TooMany, BadArgument, NotYet}
+use Rattle.schedule_text.specs.declared.fault.LineReason.{LineReason}
+use Rattle.schedule_text.specs.declared.fault.LineReason.TheVariants.{BadHeader, BadWord, BadNumber, UnknownHost, UnknownProgram, TwiceNamed, TooMany, BadArgument, NotYet}
 
 -- the name of a reason
 abbrev pub reason_text : LineReason → List ℕ

@@ -4,7 +4,7 @@ use Rattle.std.specs.Str.{bytes_eq}
 use lib.Chars.{codes}
 use Rattle.planet_cli.specs.declared.status.Refusal.{Refusal}
 use Rattle.planet_cli.specs.declared.status.Refusal.TheVariants.{Line}
-use Rattle.planet_cli.specs.declared.stand_in.LineReason.TheVariants.{BadHeader}
+use Rattle.schedule_text.specs.declared.fault.LineReason.TheVariants.{BadHeader}
 
 -- the most bytes of a schedule
 abbrev pub schedule_limit : ℕ

@@ -9,7 +9,6 @@ mod replay;
 #[cfg(test)]
 mod rows;
 mod run;
-mod stand_in;
 mod status;
 #[cfg(test)]
 mod tests;

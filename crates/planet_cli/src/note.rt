@@ -4,9 +4,9 @@ ghost use Rattle.node_io.specs.Causes.{Rose};
 ghost use Rattle.planet_cli.specs.Notes.{reason_text, refusal_text, note_text, Noted};
 ghost use Rattle.planet_cli.specs.Refusals.{Gives};
 
-use crate::stand_in::LineReason;
 use crate::status::{Cause, Refusal};
 use node_io::{Sink, put_all};
+use schedule_text::LineReason;
 use std::alloc::{AllocError, Global};
 
 fn reason_name(reason: &LineReason) -> &'static str

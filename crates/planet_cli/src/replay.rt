@@ -1,9 +1,9 @@
 ghost use Rattle.planet_cli.specs.Schedules.{schedule_limit, schedule_refusal, schedule_output};
 
 use crate::command::{FileCommand, Stop};
-use crate::stand_in::LineReason;
 use crate::status::Refusal;
 use node_io::{Sink, put_all};
+use schedule_text::LineReason;
 use std::alloc::Global;
 
 /// The most bytes of a schedule.

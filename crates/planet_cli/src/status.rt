@@ -1,5 +1,5 @@
-use crate::stand_in::LineReason;
 use plan_base::Host;
+use schedule_text::LineReason;
 
 /// How a call of the product ended.
 #[derive(Debug, Drop)]
