@@ -1,0 +1,186 @@
+use crate::{SpellFault, get_chunk, get_program, get_type, get_value, put_chunk, put_program, put_type, put_value};
+use plan_base::Limit;
+use std::alloc::Global;
+use std::process::Abort;
+use std::test::Fail;
+use wire_bytes::{Cursor, Out};
+
+const F: &[u8] = b"\x00\x00\x01\x01\x66\x00\x00\x20";
+
+fn type_fault(rt: &impl Abort, alloc: Global, bytes: &[u8]) -> Option<SpellFault> {
+    assert!(rt; bytes.len() < 4000000);
+    get_type(alloc, &mut Cursor::over(bytes)).err()
+}
+
+fn value_fault(rt: &impl Abort, alloc: Global, bytes: &[u8]) -> Option<SpellFault> {
+    assert!(rt; bytes.len() < 4000000);
+    get_value(alloc, &mut Cursor::over(bytes)).err()
+}
+
+fn program_fault(rt: &impl Abort, alloc: Global, bytes: &[u8]) -> Option<SpellFault> {
+    assert!(rt; bytes.len() < 4000000);
+    get_program(alloc, &mut Cursor::over(bytes)).err()
+}
+
+// The fault of `fun f() : unit = ` an expression with these bytes.
+fn body_fault(rt: &impl Abort, alloc: Global, body: &[u8]) -> Result<Option<SpellFault>, Fail> {
+    let mut bytes = Vec::from_slice(alloc, b"\x00\x00\x01\x01\x66\x00\x00".as_slice())?;
+    bytes.extend_from_slice(body)?;
+    Ok(program_fault(rt, alloc, bytes.as_slice()))
+}
+
+// Each tag of a type with its parts, and each refusal with its place.
+#[test]
+fn types(rt: HostRuntime) {
+    for tag in [0u8, 1, 2, 3, 4, 5, 6, 7, 8] {
+        assert_eq!(rt; type_fault(&rt, rt.alloc(), &[tag]), None);
+    }
+    for (bytes, fault) in [
+        (b"\x09\x00".as_slice(), None),
+        (b"\x0a\x02\x00\x01", None),
+        (b"\x0a\x08\x00\x00\x00\x00\x00\x00\x00\x00", None),
+        (b"\x09\x09\x09\x09\x09\x09\x09\x00", None),
+        (b"", Some(SpellFault::Truncated(0))),
+        (b"\x09", Some(SpellFault::Truncated(1))),
+        (b"\x0a\x02\x00", Some(SpellFault::Truncated(3))),
+        (b"\x0b", Some(SpellFault::BadTag(0))),
+        (b"\x0a\x01\x00", Some(SpellFault::BadTag(1))),
+        (b"\x0a\x09\x00", Some(SpellFault::OverLimit(Limit::Parts, 1))),
+        (b"\x09\x09\x09\x09\x09\x09\x09\x09\x00", Some(SpellFault::OverLimit(Limit::OfType, 8))),
+        (b"\x09\x09\x09\x09\x09\x09\x09\x09\x0b", Some(SpellFault::BadTag(8))),
+    ] {
+        assert_eq!(rt; type_fault(&rt, rt.alloc(), bytes), fault);
+    }
+}
+
+// Each tag of a value with its fields, and each refusal with its place.
+#[test]
+fn values(rt: HostRuntime) {
+    for (bytes, fault) in [
+        (b"\x10".as_slice(), None),
+        (b"\x11\x01", None),
+        (b"\x12\xff\xff\xff\xff\xff\xff\xff\xff", None),
+        (b"\x13\x00\x00\x00\x61", None),
+        (b"\x14\x00\x02\xc3\xa9", None),
+        (b"\x15\x00\x01\xff", None),
+        (b"\x16\x00\x00\x00\x01", None),
+        (b"\x17\x00\x00\x00\x01", None),
+        (b"\x18\x00\x00\x01\x01\x66\x00\x00\x20\x01\x66\x00", None),
+        (b"\x19\x00\x00\x00", None),
+        (b"\x19\x01\x00\x02\x11\x00\x11\x01", None),
+        (b"\x1a\x02\x10\x10", None),
+        (b"\x0f", Some(SpellFault::BadTag(0))),
+        (b"\x1b", Some(SpellFault::BadTag(0))),
+        (b"\x11\x02", Some(SpellFault::BadTag(1))),
+        (b"\x12\x00", Some(SpellFault::Truncated(1))),
+        (b"\x13\x00\x00\xd8\x00", Some(SpellFault::BadUtf8(1))),
+        (b"\x13\x00\x11\x00\x00", Some(SpellFault::BadUtf8(1))),
+        (b"\x14\x00\x01\xff", Some(SpellFault::BadUtf8(3))),
+        (b"\x14\x00\x02\xc3", Some(SpellFault::Truncated(3))),
+        (b"\x1a\x01\x10", Some(SpellFault::BadTag(1))),
+        (b"\x1a\x09\x10", Some(SpellFault::OverLimit(Limit::Parts, 1))),
+        (b"\x19\x09\x09\x09\x09\x09\x09\x09\x00\x00\x00", Some(SpellFault::OverLimit(Limit::OfType, 8))),
+        (b"\x18\x00\x00\x01\x01\x66\x00\x00\x20\x00", Some(SpellFault::BadName(9))),
+        (b"\x18\x00\x00\x01\x01\x66\x00\x00\x20\x02\x69\x66\x00", Some(SpellFault::BadName(9))),
+        (b"\x18\x00\x00\x01\x01\x66\x00\x00\x20\x01\x66\x09", Some(SpellFault::OverLimit(Limit::Arguments, 11))),
+    ] {
+        assert_eq!(rt; value_fault(&rt, rt.alloc(), bytes), fault);
+    }
+}
+
+// Each tag of an expression with its fields, and the refusals inside one.
+#[test]
+fn expressions(rt: HostRuntime) -> Result<(), Fail> {
+    for (body, fault) in [
+        (b"\x20".as_slice(), None),
+        (b"\x21\x00", None),
+        (b"\x22\x00\x00\x00\x00\x00\x00\x00\x01", None),
+        (b"\x23\x00\x00\x00\x61", None),
+        (b"\x24\x00\x01\x61", None),
+        (b"\x25\x00\x00", None),
+        (b"\x26\x00\x00\x00\x01", None),
+        (b"\x27\x00\x00\x00\x01", None),
+        (b"\x28\x02", None),
+        (b"\x29\x01\x78", None),
+        (b"\x2a\x02\x20\x20", None),
+        (b"\x2b\x01\x78\x01\x20", None),
+        (b"\x2c\x20\x20\x20", None),
+        (b"\x2d\x01\x78\x02\x20\x20", None),
+        (b"\x2e\x20\x20", None),
+        (b"\x2f\x20\x20", None),
+        (b"\x30\x20\x20", None),
+        (b"\x31\x20", None),
+        (b"\x32\x0c\x20\x20", None),
+        (b"\x33\x08\x20", None),
+        (b"\x34\x01\x58\x00", None),
+        (b"\x35\x20\x02\x01\x01\x58\x20\x00\x20", None),
+        (b"\x36\x01\x66\x20\x20", None),
+        (b"\x37\x01\x66\x20\x20", None),
+        (b"\x38\x01\x66\x00", None),
+        (b"\x39\x20", None),
+        (b"\x3a\x20\x20\x20\x01\x72", None),
+        (b"\x3b\x20\x20\x20\x20", None),
+        (b"\x1f", Some(SpellFault::BadTag(7))),
+        (b"\x3c", Some(SpellFault::BadTag(7))),
+        (b"\x32\x0d\x20\x20", Some(SpellFault::BadTag(8))),
+        (b"\x33\x00\x20", Some(SpellFault::BadTag(8))),
+        (b"\x33\x09\x20", Some(SpellFault::OverLimit(Limit::Parts, 8))),
+        (b"\x35\x20\x00", Some(SpellFault::BadTag(9))),
+        (b"\x35\x20\x09", Some(SpellFault::OverLimit(Limit::Clauses, 9))),
+        (b"\x35\x20\x02\x00\x20\x00\x20", Some(SpellFault::BadTag(10))),
+        (b"\x35\x20\x01\x02\x20", Some(SpellFault::BadTag(10))),
+        (b"\x2b\x01\x78\x09", Some(SpellFault::OverLimit(Limit::Arguments, 10))),
+        (b"\x28\x09\x09\x09\x09\x09\x09\x09\x00", Some(SpellFault::OverLimit(Limit::OfType, 15))),
+        (b"\x2c\x20\x20", Some(SpellFault::Truncated(10))),
+    ] {
+        assert_eq!(rt; body_fault(&rt, rt.alloc(), body)?, fault);
+    }
+    Ok(())
+}
+
+// A sequence of `not` is refused at the 65th level.
+#[test]
+fn depth_of_expressions(rt: HostRuntime) -> Result<(), Fail> {
+    for (count, fault) in [(63u8, None), (64, Some(SpellFault::OverLimit(Limit::Depth, 71)))] {
+        let mut body = Vec::new(rt.alloc());
+        for _i in 0..count {
+            body.push(0x31)?;
+        }
+        body.push(0x20)?;
+        assert_eq!(rt; body_fault(&rt, rt.alloc(), body.as_slice())?, fault);
+    }
+    Ok(())
+}
+
+// The counts of a program at their limits and past them.
+#[test]
+fn counts_of_programs(rt: HostRuntime) {
+    for (bytes, fault) in [
+        (F, None),
+        (b"\x01\x01\x67\x01\x02\x00\x01\x01\x58\x01\x01\x66\x01\x01\x78\x02\x00\x20".as_slice(), None),
+        (b"\x41", Some(SpellFault::OverLimit(Limit::Services, 0))),
+        (b"\x00\x41", Some(SpellFault::OverLimit(Limit::Exceptions, 1))),
+        (b"\x00\x00\x41", Some(SpellFault::OverLimit(Limit::Functions, 2))),
+        (b"\x00\x00\x00", Some(SpellFault::BadTag(2))),
+        (b"\x00\x00\x01\x01\x66\x09", Some(SpellFault::OverLimit(Limit::Parameters, 5))),
+        (b"\x01\x01\x67\x09", Some(SpellFault::OverLimit(Limit::Parameters, 3))),
+        (b"\x00\x01\x21\x61", Some(SpellFault::BadName(2))),
+        (b"\x00\x01\x02\x61", Some(SpellFault::Truncated(3))),
+        (b"\x00\x01\x01\x31", Some(SpellFault::BadName(2))),
+    ] {
+        assert_eq!(rt; program_fault(&rt, rt.alloc(), bytes), fault);
+    }
+}
+
+// What is written after being read is the bytes that were read, and what follows is left.
+#[test]
+fn written_as_read(rt: HostRuntime) -> Result<(), Fail> {
+    let bytes = b"\x0a\x02\x09\x02\x08\xff";
+    let mut c = Cursor::over(bytes);
+    let t = get_type(rt.alloc(), &mut c).or(Err("type"))?;
+    assert_eq!(rt; c.at(), 5);
+    let mut out = Out::with_room(rt.alloc(), 5)?;
+    put_type(&t, &mut out);
+    assert_eq!(rt; out.into_vec().as_slice(), &bytes[..5]);
+    Ok(())
+}
