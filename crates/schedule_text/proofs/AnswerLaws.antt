@@ -69,7 +69,7 @@ either_placed high true a b h k = h
 either_placed high false a b h k = k
 
 then_placed : {A B : Type 0} (high : ℕ) (r : Result A LineFault) (f : A → Result B LineFault) → OnFault high r → ((x : A) → OnFault high (f x)) → OnFault high (and_then r f)
-then_placed high (Ok x) f h k = k x
+then_placed high (Ok x) f h k e q = k x e q
 then_placed {A} {B} high (Err d) f h k e q = h e (ap failed (err_is {B = B} d e q))
 
 step_placed : (number : ℕ) (line : List ℕ) (stage : Stage) (s : Reading) → 1 ≤ number → Begun number stage → OnFault number (step number line stage s)
@@ -115,11 +115,11 @@ line_begun number ws s low =
     rest_begun kind number w.1 s low))
 
 staying_begun : (number : ℕ) (stage : Stage) (r : Result Reading LineReason) → Begun number stage → IfRead (BegunBoth number) (staying stage r)
-staying_begun number stage (Ok s) b = done_keeps (BegunBoth number) (stage, s) b
+staying_begun number stage (Ok s) b y e = done_keeps (BegunBoth number) (stage, s) b y e
 staying_begun number stage (Err r) b y e = absurd cc
 
 header_begun : (t : Bool) (number : ℕ) (s : Reading) → IfStep (BegunBoth number) (and_then (cond t (Ok stages.Network) (Err (faults.Line number BadHeader))) (λ stage. Ok (stage, s)))
-header_begun true number s = step_done (BegunBoth number) (stages.Network, s) tt
+header_begun true number s y e = step_done (BegunBoth number) (stages.Network, s) tt y e
 header_begun false number s y e = absurd cc
 
 step_begun : (number : ℕ) (line : List ℕ) (stage : Stage) (s : Reading) → 1 ≤ number → Begun number stage → IfStep (BegunBoth number) (step number line stage s)
@@ -139,14 +139,14 @@ finish_placed number (stages.Inside begun) s low = fault_here {B = Schedule} num
 finish_placed number stages.Events s low = fault_done number (schedule_of_reading s)
 
 stopped_placed : (number more : ℕ) (r : Result (Stage × Reading) LineFault) (f : Stage × Reading → Result Schedule LineFault) → number ≤ more → OnFault number r → ((x : Stage × Reading) → r ≡ Ok x → OnFault more (f x)) → OnFault more (and_then r f)
-stopped_placed number more (Ok x) f le h k = k x refl
+stopped_placed number more (Ok x) f le h k e q = k x refl e q
 stopped_placed number more (Err d) f le h k e q = placed_to number more e le (h e (ap failed (err_is {B = Schedule} d e q)))
 
 read_placed : (ls : List (List ℕ)) (number : ℕ) (stage : Stage) (s : Reading) → 1 ≤ number → Begun number stage → OnFault (number + length ls) (read_on number ls stage s)
-read_placed [] number stage s low b e h = placed_to number (number + length []) e (omega arith) (finish_placed number stage s low e h)
-read_placed (line ∷ ls) number stage s low b =
+read_placed [] number stage s low b e h = placed_to number (number + length {A = List ℕ} []) e (omega arith) (finish_placed number stage s low e h)
+read_placed (line ∷ ls) number stage s low b e h =
     stopped_placed number (number + length (line ∷ ls)) (step number line stage s) _ (omega arith) (step_placed number line stage s low b)
-    (λ next hn e h. placed_to (number + 1 + length ls) (number + length (line ∷ ls)) e (omega arith) (read_placed ls (number + 1) next.0 next.1 (omega (arith, low)) (begun_later number next.0 (step_begun number line stage s low b next hn)) e h))
+    (λ next hn d q. placed_to (number + 1 + length ls) (number + length (line ∷ ls)) d (omega arith) (read_placed ls (number + 1) next.0 next.1 (omega (arith, low)) (begun_later number next.0 (step_begun number line stage s low b next hn)) d q)) e h
 
 bytes_placed : (bytes : List ℕ) → OnFault (1 + length (lines bytes)) (schedule_of bytes)
 unfolding schedule_of

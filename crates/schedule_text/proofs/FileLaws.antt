@@ -14,10 +14,10 @@ use Rattle.schedule_text.specs.Schedules.{step, finish, read_on, nothing_read, s
 use Rattle.schedule_text.proofs.RuleLaws.{schedule_keeps}
 
 -- a line that is inside the format
-pub file_more : (number : ℕ) (rest line more : List ℕ) (stage : Stage) (reading : Reading) (x : Stage × Reading) (total : Result Schedule LineFault)
-    → lines rest ≡ line ∷ lines more → step number line stage reading ≡ Ok x → read_on number (lines rest) stage reading ≡ total → read_on (number + 1) (lines more) x.0 x.1 ≡ total
-file_more number rest line more stage reading x total split is so_far =
-    let one : read_on number (lines rest) stage reading ≡ read_on (number + 1) (lines more) x.0 x.1 = rw (split, is) refl in
+pub file_more : (number : ℕ) (rest line more : List ℕ) (stage next : Stage) (reading left : Reading) (total : Result Schedule LineFault)
+    → lines rest ≡ line ∷ lines more → step number line stage reading ≡ Ok (next, left) → read_on number (lines rest) stage reading ≡ total → read_on (number + 1) (lines more) next left ≡ total
+file_more number rest line more stage next reading left total split is so_far =
+    let one : read_on number (lines rest) stage reading ≡ read_on (number + 1) (lines more) next left = rw (split, is) refl in
     sym one ∙ so_far
 
 -- a line that is outside
@@ -53,7 +53,7 @@ is_found (Ok s) total e = e
 is_found (Err e) total h = tt
 
 pub is_only : (r : Result Schedule LineFault) (total : Result Schedule LineFault) → FileGives same r total → (s : Schedule) → total ≡ Ok s → MatchResult r (λ t. t ≡ s) (λ e. e ≡ faults.NoMemory)
-is_only (Ok t) total h s e = let both : Ok {E = LineFault} t ≡ Ok s = sym h ∙ e in cc
+is_only (Ok t) total h s e = let both = sym h ∙ e in cc
 is_only (Err faults.NoMemory) total h s e = refl
 is_only (Err (faults.Line n r)) total h s e = absurd (let both = sym h ∙ e in cc)
 

@@ -334,11 +334,11 @@ step_then P (Ok x) f h y e = h x refl y e
 step_then P (Err r) f h y e = absurd cc
 
 pub at_line_keeps : {B : Type 0} (P : B → Type 0) (number : ℕ) (r : Result B LineReason) → IfRead P r → IfStep P (at_line number r)
-at_line_keeps P number (Ok x) h = step_done P x (h x refl)
+at_line_keeps P number (Ok x) h y e = step_done P x (h x refl) y e
 at_line_keeps P number (Err r) h y e = absurd cc
 
 staying_keeps : (stage : Stage) (r : Result Reading LineReason) → IfRead Keeps r → IfRead KeepsBoth (staying stage r)
-staying_keeps stage (Ok s) h = done_keeps KeepsBoth (stage, s) (h s refl)
+staying_keeps stage (Ok s) h y e = done_keeps KeepsBoth (stage, s) (h s refl) y e
 staying_keeps stage (Err r) h y e = absurd cc
 
 pub either_keeps : {B : Type 0} (P : B → Type 0) (t : Bool) (a b : Result B LineFault) → IfStep P a → IfStep P b → IfStep P (cond t a b)
@@ -362,7 +362,7 @@ finish_keeps : (number : ℕ) (stage : Stage) (s : Reading) → Keeps s → IfSt
 finish_keeps number stages.Header s k y e = absurd cc
 finish_keeps number stages.Network s k y e = absurd cc
 finish_keeps number (stages.Inside begun) s k y e = absurd cc
-finish_keeps number stages.Events s k = step_done KeepsRules (schedule_of_reading s) (whole_keeps s k)
+finish_keeps number stages.Events s k y e = step_done KeepsRules (schedule_of_reading s) (whole_keeps s k) y e
 
 read_keeps : (ls : List (List ℕ)) (number : ℕ) (stage : Stage) (s : Reading) → Keeps s → IfStep KeepsRules (read_on number ls stage s)
 read_keeps [] number stage s k = finish_keeps number stage s k

@@ -172,7 +172,7 @@ fn statement(alloc: Global, declared: bool, text: &[u8]) -> Result<(Expr, &[u8])
 }
 
 /// 1 to `most` statements joined by `;`, and what stands behind them.
-#[tactic(auto, using(crate::proofs::SmallLaws::body_none, crate::proofs::SmallLaws::body_goes, crate::proofs::SmallLaws::body_stops))]
+#[tactic(auto, using(crate::proofs::SmallLaws::body_none, crate::proofs::SmallLaws::body_done, crate::proofs::SmallLaws::body_more, crate::proofs::SmallLaws::body_more_stops, crate::proofs::SmallLaws::body_stops))]
 fn body(alloc: Global, most: u32, declared: bool, text: &[u8]) -> Result<(Expr, &[u8]), Stop>
     ensures { Gives (λ x. (x.0, x.1.now)) result (body_at most declared text.now) }
 {
@@ -240,7 +240,7 @@ fn function<'a>(
 }
 
 /// 1 to `most` functions more, up to the end of the text.
-#[tactic(auto, using(crate::proofs::SmallLaws::funs_none, crate::proofs::SmallLaws::funs_goes, crate::proofs::SmallLaws::funs_stops))]
+#[tactic(auto, using(crate::proofs::SmallLaws::funs_none, crate::proofs::SmallLaws::funs_done, crate::proofs::SmallLaws::funs_goes, crate::proofs::SmallLaws::funs_stops))]
 fn functions(
     alloc: Global,
     most: u32,
