@@ -20,12 +20,12 @@ pub struct Checked {
 
 impl Model for Checked {
     ghost use Rattle.plan_base.specs.declared.tree.Program.{Program};
-    ghost use Rattle.plan_base.specs.contracts.tree.Program as program;
+    ghost use Rattle.plan_base.specs.contracts.tree.Program as whole;
     ghost use Rattle.plan_base.specs.Typing.{Typed};
 
     ghost Value = { Program };
 
-    ghost coded = { program.the_row.coded };
+    ghost coded = { whole.the_row.coded };
 
     ghost view = { λ k. k.program };
 
