@@ -61,13 +61,11 @@ fn raising(alloc: Global, scope: &Scope<'_>, at: u32, node: u32, want: Option<&T
     if let Some(ty) = ty {
         return shallow(alloc, at, node, want, e.copy(alloc)?, ty.copy(alloc)?);
     }
-    match want {
-        Some(ty) => {
-            let whole = Expr::Raise(name.copy(alloc)?, Some(ty.copy(alloc)?));
-            shallow(alloc, at, node, want, whole, ty.copy(alloc)?)
-        }
-        None => Err(TypeFault::NeedsType(Place::Node(at))),
-    }
+    let Some(ty) = want else {
+        return Err(TypeFault::NeedsType(Place::Node(at)));
+    };
+    let whole = Expr::Raise(name.copy(alloc)?, Some(ty.copy(alloc)?));
+    shallow(alloc, at, node, want, whole, ty.copy(alloc)?)
 }
 
 impl<F: Fn(Global, usize, &Scope<'_>, &mut State, Option<&Ty>, &Expr) -> Result<(Expr, Ty), TypeFault>> Checker<F> {

@@ -4,10 +4,16 @@
 
 mod body;
 mod call;
+
 mod checker;
 mod form;
 mod names;
 mod operation;
+mod program;
 mod same;
 mod settle;
 mod state;
+mod typed;
+
+pub use typed::{annotate, check, Checked};
+pub use plan_base::TypeFault;

@@ -122,6 +122,7 @@ pub fn service_of<'a>(name: &Name, svcs: &'a [Svc]) -> Option<&'a Svc>
 }
 
 /// The type of the innermost binding of that name.
+#[tactic(auto, using(crate::proofs::Loops::binding_more))]
 pub fn binding<'a>(name: &Name, ctx: &'a [Param]) -> Option<&'a Ty>
     ensures { option_copied result ≡ spec.binding name.now ctx.now }
 {

@@ -20,12 +20,12 @@ pub struct Checked {
 
 impl Model for Checked {
     ghost use Rattle.plan_base.specs.declared.tree.Program.{Program};
-    ghost use Rattle.plan_base.specs.contracts.tree.Program as program;
+    ghost use Rattle.plan_base.specs.contracts.tree.Program as whole;
     ghost use Rattle.plan_base.specs.Typing.{Typed};
 
     ghost Value = { Program };
 
-    ghost coded = { program.the_row.coded };
+    ghost coded = { whole.the_row.coded };
 
     ghost view = { λ k. k.program };
 
@@ -50,28 +50,28 @@ impl Checked {
     }
 }
 
-/// Checks a draft: the types of `[]` and `raise` that are missing are taken from the wanted types.
-/// Condition: the draft's program is well formed. Else the first refusal in the order of checking.
+/// Checks a draft: the types of `[]` and `raise` that are missing are taken from the wanted types. Else
+/// the first refusal in the order of checking. An expression deeper than 64, which no well-formed draft
+/// has, is refused as too large.
+#[tactic(auto, using(crate::proofs::Answered::found_by, crate::proofs::Answered::only_by))]
 pub fn annotate(alloc: Global, draft: Draft) -> Result<Checked, TypeFault>
-    requires { IsWellFormedProgram draft.program }
     ensures found { IfOk result (λ k. Fills draft.program k × Typed k) }
-    ensures only { (p : Code) → Fills draft.program p → Typed p → MatchResult result (λ k. k ≡ p) (λ f. f ≡ TypeFault.NoMemory) }
+    ensures only { IsWellFormedProgram draft.program → (p : Code) → Fills draft.program p → Typed p → MatchResult result (λ k. k ≡ p) (λ f. f ≡ TypeFault.NoMemory) }
     ensures fault { IfErr result (λ f. f ≢ TypeFault.NoMemory → answer draft.program ≡ Err f) }
 {
     let program = annotated(alloc, &draft.program)?;
     Ok(Checked { program })
 }
 
-/// Checks a program. Conditions: it is well formed, and no type of `[]` or `raise` is missing. Else the
-/// first refusal in the order of checking, which is no `NeedsType`.
+/// Checks a program, which is answered as it is where no type of `[]` or `raise` is missing in it. Else
+/// the first refusal in the order of checking.
+#[tactic(auto, using(crate::proofs::Answered::found_by, crate::proofs::Answered::same_by, crate::proofs::Answered::typed_by))]
 pub fn check(alloc: Global, program: Program) -> Result<Checked, TypeFault>
-    requires formed { IsWellFormedProgram program }
-    requires full { ProgramHasTypes program }
-    ensures found { IfOk result (λ k. k ≡ program) }
-    ensures typed { IfOk result Typed }
-    ensures only { Typed program → MatchResult result (λ k. k ≡ program) (λ f. f ≡ TypeFault.NoMemory) }
+    ensures found { IfOk result (λ k. Fills program k × Typed k) }
+    ensures same { ProgramHasTypes program → IfOk result (λ k. k ≡ program) }
+    ensures only { IsWellFormedProgram program → Typed program → MatchResult result (λ k. k ≡ program) (λ f. f ≡ TypeFault.NoMemory) }
     ensures fault { IfErr result (λ f. f ≢ TypeFault.NoMemory → answer program ≡ Err f) }
 {
-    let _filled = annotated(alloc, &program)?;
-    Ok(Checked { program })
+    let filled = annotated(alloc, &program)?;
+    Ok(Checked { program: filled })
 }
