@@ -53,7 +53,7 @@ fn types(rt: HostRuntime) {
     }
 }
 
-// Each tag of a value with its fields, and each refusal with its place.
+// The tags of values with their fields.
 #[test]
 fn values(rt: HostRuntime) {
     for (bytes, fault) in [
@@ -69,7 +69,16 @@ fn values(rt: HostRuntime) {
         (b"\x19\x00\x00\x00", None),
         (b"\x19\x01\x00\x02\x11\x00\x11\x01", None),
         (b"\x1a\x02\x10\x10", None),
-        (b"\x0f", Some(SpellFault::BadTag(0))),
+    ] {
+        assert_eq!(rt; value_fault(&rt, rt.alloc(), bytes), fault);
+    }
+}
+
+// The refusals inside a value.
+#[test]
+fn refused_values(rt: HostRuntime) {
+    for (bytes, fault) in [
+        (b"\x0f".as_slice(), Some(SpellFault::BadTag(0))),
         (b"\x1b", Some(SpellFault::BadTag(0))),
         (b"\x11\x02", Some(SpellFault::BadTag(1))),
         (b"\x12\x00", Some(SpellFault::Truncated(1))),
@@ -88,9 +97,9 @@ fn values(rt: HostRuntime) {
     }
 }
 
-// Each tag of an expression with its fields, and the refusals inside one.
+// The tags of expressions without parts.
 #[test]
-fn expressions(rt: HostRuntime) -> Result<(), Fail> {
+fn simple_expressions(rt: HostRuntime) -> Result<(), Fail> {
     for (body, fault) in [
         (b"\x20".as_slice(), None),
         (b"\x21\x00", None),
@@ -102,7 +111,17 @@ fn expressions(rt: HostRuntime) -> Result<(), Fail> {
         (b"\x27\x00\x00\x00\x01", None),
         (b"\x28\x02", None),
         (b"\x29\x01\x78", None),
-        (b"\x2a\x02\x20\x20", None),
+    ] {
+        assert_eq!(rt; body_fault(&rt, rt.alloc(), body)?, fault);
+    }
+    Ok(())
+}
+
+// The tags of expressions with parts.
+#[test]
+fn expressions_with_parts(rt: HostRuntime) -> Result<(), Fail> {
+    for (body, fault) in [
+        (b"\x2a\x02\x20\x20".as_slice(), None),
         (b"\x2b\x01\x78\x01\x20", None),
         (b"\x2c\x20\x20\x20", None),
         (b"\x2d\x01\x78\x02\x20\x20", None),
@@ -112,7 +131,17 @@ fn expressions(rt: HostRuntime) -> Result<(), Fail> {
         (b"\x31\x20", None),
         (b"\x32\x0c\x20\x20", None),
         (b"\x33\x08\x20", None),
-        (b"\x34\x01\x58\x00", None),
+    ] {
+        assert_eq!(rt; body_fault(&rt, rt.alloc(), body)?, fault);
+    }
+    Ok(())
+}
+
+// The other tags of expressions.
+#[test]
+fn other_expressions(rt: HostRuntime) -> Result<(), Fail> {
+    for (body, fault) in [
+        (b"\x34\x01\x58\x00".as_slice(), None),
         (b"\x35\x20\x02\x01\x01\x58\x20\x00\x20", None),
         (b"\x36\x01\x66\x20\x20", None),
         (b"\x37\x01\x66\x20\x20", None),
@@ -120,7 +149,17 @@ fn expressions(rt: HostRuntime) -> Result<(), Fail> {
         (b"\x39\x20", None),
         (b"\x3a\x20\x20\x20\x01\x72", None),
         (b"\x3b\x20\x20\x20\x20", None),
-        (b"\x1f", Some(SpellFault::BadTag(7))),
+    ] {
+        assert_eq!(rt; body_fault(&rt, rt.alloc(), body)?, fault);
+    }
+    Ok(())
+}
+
+// The refusals inside an expression.
+#[test]
+fn refused_expressions(rt: HostRuntime) -> Result<(), Fail> {
+    for (body, fault) in [
+        (b"\x1f".as_slice(), Some(SpellFault::BadTag(7))),
         (b"\x3c", Some(SpellFault::BadTag(7))),
         (b"\x32\x0d\x20\x20", Some(SpellFault::BadTag(8))),
         (b"\x33\x00\x20", Some(SpellFault::BadTag(8))),
