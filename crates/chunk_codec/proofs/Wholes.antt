@@ -38,7 +38,7 @@ module _ {A : Type 0} (p : Part A) (l : Lawful p) (no_nodes : (x : A) → p.node
     where
       by_case : (e ≡ NoMemory) ⊎ (p.read s ≡ Err e) → e ≡ NoMemory
       by_case (inl m) = m
-      by_case (inr r) = let q : Err e ≡ Ok (y, from_front u) = sym r ∙ ap p.read starts ∙ only_by p l no_nodes f u y h in cc
+      by_case (inr r) = let q : ◌≡◌ {A = Result (A × Scan) SpellFault} (Err e) (Ok (y, from_front u)) = sym r ∙ ap p.read starts ∙ only_by p l no_nodes f u y h in cc
 
   pub fault_at_err : (e : SpellFault) → Fails e (p.read s) → (e ≡ NoMemory) ⊎ FirstFaultAt e p.item f
   fault_at_err e k = by_case (fails_is e (p.read s) k)

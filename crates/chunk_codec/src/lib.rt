@@ -5,19 +5,15 @@
 mod exprs;
 mod laws;
 mod programs;
-mod put_fields;
-mod put_trees;
 mod read;
 mod source;
 mod tags;
 mod types;
 mod values;
-mod write;
 
 pub use chunk_spelling::SpellFault;
 pub use laws::{chunk_laws, program_laws, type_laws, value_laws};
 pub use read::{get_chunk, get_program, get_type, get_value};
-pub use write::{put_chunk, put_program, put_type, put_value};
 
 #[cfg(test)]
 mod tests;

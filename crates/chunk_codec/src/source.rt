@@ -7,7 +7,7 @@ ghost use Rattle.chunk_spelling.specs.Programs.{counting};
 ghost use Rattle.chunk_spelling.specs.Values.{value_tag_at, may_open};
 ghost use Rattle.chunk_codec.specs.Reading.{Gives, Lends};
 
-use crate::tags::{is_scalar, is_text, item_of, can_stand, limit_passed};
+use crate::tags::{is_char, is_text, item_of, can_stand, limit_passed};
 use chunk_spelling::{EXPR_TAGS, ExprTag, OPERATORS, SpellFault, TYPE_TAGS, TypeTag, VALUE_TAGS, ValueTag};
 use plan_base::{Bytes, Limit, Name, NameFault, Op, Text};
 use std::alloc::Global;
@@ -131,7 +131,8 @@ impl<'a> Source<'a> {
     {
         let at = self.place();
         let byte = self.byte()?;
-        match item_of(0, &[false, true], byte) {
+        let flags = [false, true];
+        match item_of(0, &flags, byte) {
             None => Err(SpellFault::BadTag(at)),
             Some(flag) => Ok(flag),
         }
@@ -157,7 +158,7 @@ impl<'a> Source<'a> {
     {
         let at = self.place();
         let code = self.word()?;
-        if is_scalar(code) { Ok(code) } else { Err(SpellFault::BadUtf8(at)) }
+        if is_char(code) { Ok(code) } else { Err(SpellFault::BadUtf8(at)) }
     }
 
     /// The next text, behind its length.

@@ -1,6 +1,6 @@
 ghost use Rattle.std.specs.Prelude.{◌≡◌};
 ghost use Rattle.std.specs.Str.{is_utf8};
-ghost use Rattle.chunk_spelling.specs.Scan.{tag_of, scalar};
+ghost use Rattle.chunk_spelling.specs.Scan.{tag_of, is_scalar};
 ghost use Rattle.chunk_spelling.specs.Values.{may_open, opening_limit, light};
 
 use chunk_spelling::ValueTag;
@@ -17,17 +17,25 @@ pub fn item_of<T: Copy>(base: u8, items: &[T], number: u8) -> Option<T>
 }
 
 /// Whether a number is a Unicode scalar.
-pub fn is_scalar(code: u32) -> bool
-    ensures { result ≡ scalar code }
+#[tactic(auto, using(crate::proofs::Texts::not_true))]
+pub fn is_char(code: u32) -> bool
+    ensures { result ≡ is_scalar code }
 {
-    char::from_u32(code).is_some()
+    match char::from_u32(code) {
+        None => false,
+        Some(_) => true,
+    }
 }
 
 /// Whether bytes are UTF-8.
+#[tactic(auto, using(crate::proofs::Texts::text_true, crate::proofs::Texts::text_false))]
 pub fn is_text(bytes: &[u8]) -> bool
     ensures { result ≡ is_utf8 bytes.now }
 {
-    std::str::from_utf8(bytes).is_ok()
+    match std::str::from_utf8(bytes) {
+        Ok(_) => true,
+        Err(_) => false,
+    }
 }
 
 /// Whether a value of that form may stand where `nest` chunks and `room` levels may still be opened.

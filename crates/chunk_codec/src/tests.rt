@@ -1,9 +1,9 @@
-use crate::{SpellFault, get_chunk, get_program, get_type, get_value, put_chunk, put_program, put_type, put_value};
+use crate::{SpellFault, get_chunk, get_program, get_type, get_value};
 use plan_base::Limit;
 use std::alloc::Global;
 use std::process::Abort;
 use std::test::Fail;
-use wire_bytes::{Cursor, Out};
+use wire_bytes::Cursor;
 
 const F: &[u8] = b"\x00\x00\x01\x01\x66\x00\x00\x20";
 
@@ -53,7 +53,7 @@ fn types(rt: HostRuntime) {
     }
 }
 
-// Each tag of a value with its fields, and each refusal with its place.
+// The tags of values with their fields.
 #[test]
 fn values(rt: HostRuntime) {
     for (bytes, fault) in [
@@ -69,7 +69,16 @@ fn values(rt: HostRuntime) {
         (b"\x19\x00\x00\x00", None),
         (b"\x19\x01\x00\x02\x11\x00\x11\x01", None),
         (b"\x1a\x02\x10\x10", None),
-        (b"\x0f", Some(SpellFault::BadTag(0))),
+    ] {
+        assert_eq!(rt; value_fault(&rt, rt.alloc(), bytes), fault);
+    }
+}
+
+// The refusals inside a value.
+#[test]
+fn refused_values(rt: HostRuntime) {
+    for (bytes, fault) in [
+        (b"\x0f".as_slice(), Some(SpellFault::BadTag(0))),
         (b"\x1b", Some(SpellFault::BadTag(0))),
         (b"\x11\x02", Some(SpellFault::BadTag(1))),
         (b"\x12\x00", Some(SpellFault::Truncated(1))),
@@ -88,9 +97,9 @@ fn values(rt: HostRuntime) {
     }
 }
 
-// Each tag of an expression with its fields, and the refusals inside one.
+// The tags of expressions without parts.
 #[test]
-fn expressions(rt: HostRuntime) -> Result<(), Fail> {
+fn simple_expressions(rt: HostRuntime) -> Result<(), Fail> {
     for (body, fault) in [
         (b"\x20".as_slice(), None),
         (b"\x21\x00", None),
@@ -102,7 +111,17 @@ fn expressions(rt: HostRuntime) -> Result<(), Fail> {
         (b"\x27\x00\x00\x00\x01", None),
         (b"\x28\x02", None),
         (b"\x29\x01\x78", None),
-        (b"\x2a\x02\x20\x20", None),
+    ] {
+        assert_eq!(rt; body_fault(&rt, rt.alloc(), body)?, fault);
+    }
+    Ok(())
+}
+
+// The tags of expressions with parts.
+#[test]
+fn expressions_with_parts(rt: HostRuntime) -> Result<(), Fail> {
+    for (body, fault) in [
+        (b"\x2a\x02\x20\x20".as_slice(), None),
         (b"\x2b\x01\x78\x01\x20", None),
         (b"\x2c\x20\x20\x20", None),
         (b"\x2d\x01\x78\x02\x20\x20", None),
@@ -112,7 +131,17 @@ fn expressions(rt: HostRuntime) -> Result<(), Fail> {
         (b"\x31\x20", None),
         (b"\x32\x0c\x20\x20", None),
         (b"\x33\x08\x20", None),
-        (b"\x34\x01\x58\x00", None),
+    ] {
+        assert_eq!(rt; body_fault(&rt, rt.alloc(), body)?, fault);
+    }
+    Ok(())
+}
+
+// The other tags of expressions.
+#[test]
+fn other_expressions(rt: HostRuntime) -> Result<(), Fail> {
+    for (body, fault) in [
+        (b"\x34\x01\x58\x00".as_slice(), None),
         (b"\x35\x20\x02\x01\x01\x58\x20\x00\x20", None),
         (b"\x36\x01\x66\x20\x20", None),
         (b"\x37\x01\x66\x20\x20", None),
@@ -120,7 +149,17 @@ fn expressions(rt: HostRuntime) -> Result<(), Fail> {
         (b"\x39\x20", None),
         (b"\x3a\x20\x20\x20\x01\x72", None),
         (b"\x3b\x20\x20\x20\x20", None),
-        (b"\x1f", Some(SpellFault::BadTag(7))),
+    ] {
+        assert_eq!(rt; body_fault(&rt, rt.alloc(), body)?, fault);
+    }
+    Ok(())
+}
+
+// The refusals inside an expression.
+#[test]
+fn refused_expressions(rt: HostRuntime) -> Result<(), Fail> {
+    for (body, fault) in [
+        (b"\x1f".as_slice(), Some(SpellFault::BadTag(7))),
         (b"\x3c", Some(SpellFault::BadTag(7))),
         (b"\x32\x0d\x20\x20", Some(SpellFault::BadTag(8))),
         (b"\x33\x00\x20", Some(SpellFault::BadTag(8))),
@@ -172,15 +211,87 @@ fn counts_of_programs(rt: HostRuntime) {
     }
 }
 
-// What is written after being read is the bytes that were read, and what follows is left.
+fn chunk_fault(rt: &impl Abort, alloc: Global, bytes: &[u8]) -> Option<SpellFault> {
+    assert!(rt; bytes.len() < 4000000);
+    get_chunk(alloc, &mut Cursor::over(bytes)).err()
+}
+
+// The chunk of one function that answers unit is read with its bytes, and what follows is left.
 #[test]
-fn written_as_read(rt: HostRuntime) -> Result<(), Fail> {
-    let bytes = b"\x0a\x02\x09\x02\x08\xff";
+fn chunk_vector(rt: HostRuntime) {
+    let bytes = b"\x00\x00\x01\x01\x66\x00\x00\x20\x01\x66\x00\xff";
     let mut c = Cursor::over(bytes);
-    let t = get_type(rt.alloc(), &mut c).or(Err("type"))?;
-    assert_eq!(rt; c.at(), 5);
-    let mut out = Out::with_room(rt.alloc(), 5)?;
-    put_type(&t, &mut out);
-    assert_eq!(rt; out.into_vec().as_slice(), &bytes[..5]);
+    assert!(rt; get_chunk(rt.alloc(), &mut c).is_ok());
+    assert_eq!(rt; c.at(), 11);
+    assert_eq!(rt; chunk_fault(&rt, rt.alloc(), &bytes[..10]), Some(SpellFault::Truncated(10)));
+}
+
+// A program takes 16,000 bytes, and a chunk with its tag weighs 16,384; one byte more is refused.
+#[test]
+fn sizes(rt: HostRuntime) -> Result<(), Fail> {
+    for (length, fault) in [(15990u16, None), (15991, Some(SpellFault::OverLimit(Limit::Code, 0)))] {
+        let mut bytes = Vec::from_slice(rt.alloc(), b"\x00\x00\x01\x01\x66\x00\x04\x24".as_slice())?;
+        bytes.extend_from_slice(&length.to_be_bytes())?;
+        for _i in 0..length {
+            bytes.push(0x61)?;
+        }
+        assert_eq!(rt; program_fault(&rt, rt.alloc(), bytes.as_slice()), fault);
+    }
+    for (length, fault) in [(16369u16, None), (16370, Some(SpellFault::OverLimit(Limit::Weight, 0)))] {
+        let mut bytes = Vec::from_slice(rt.alloc(), F)?;
+        bytes.extend_from_slice(b"\x01\x66\x01\x14".as_slice())?;
+        bytes.extend_from_slice(&length.to_be_bytes())?;
+        for _i in 0..length {
+            bytes.push(0x61)?;
+        }
+        assert_eq!(rt; chunk_fault(&rt, rt.alloc(), bytes.as_slice()), fault);
+    }
+    Ok(())
+}
+
+// Four chunks stand inside each other; the tag of a fifth is refused.
+#[test]
+fn nesting(rt: HostRuntime) -> Result<(), Fail> {
+    for (count, fault) in [(3u8, None), (4, Some(SpellFault::OverLimit(Limit::Nesting, 48)))] {
+        let mut bytes = Vec::from_slice(rt.alloc(), b"\x18".as_slice())?;
+        for _i in 0..count {
+            bytes.extend_from_slice(F)?;
+            bytes.extend_from_slice(b"\x01\x66\x01\x18".as_slice())?;
+        }
+        bytes.extend_from_slice(F)?;
+        bytes.extend_from_slice(b"\x01\x66\x00".as_slice())?;
+        assert_eq!(rt; value_fault(&rt, rt.alloc(), bytes.as_slice()), fault);
+    }
+    Ok(())
+}
+
+// 56 functions of 73 expressions are read; in a 57th the ninth expression is the 4,097th of the program.
+#[test]
+fn nodes(rt: HostRuntime) -> Result<(), Fail> {
+    for (count, fault) in [(56u8, None), (57, Some(SpellFault::OverLimit(Limit::Nodes, 4833)))] {
+        let mut bytes = Vec::from_slice(rt.alloc(), b"\x00\x00".as_slice())?;
+        bytes.push(count)?;
+        for _i in 0..count {
+            bytes.extend_from_slice(b"\x01\x66\x00\x00\x2a\x08".as_slice())?;
+            for _k in 0..8u8 {
+                bytes.extend_from_slice(b"\x2a\x08\x20\x20\x20\x20\x20\x20\x20\x20".as_slice())?;
+            }
+        }
+        assert_eq!(rt; program_fault(&rt, rt.alloc(), bytes.as_slice()), fault);
+    }
+    Ok(())
+}
+
+// Lists stand inside each other to depth 8; the tag of a ninth is refused.
+#[test]
+fn depth_of_values(rt: HostRuntime) -> Result<(), Fail> {
+    for (count, fault) in [(7u8, None), (8, Some(SpellFault::OverLimit(Limit::Depth, 32)))] {
+        let mut bytes = Vec::new(rt.alloc());
+        for _i in 0..count {
+            bytes.extend_from_slice(b"\x19\x00\x00\x01".as_slice())?;
+        }
+        bytes.extend_from_slice(b"\x19\x00\x00\x00".as_slice())?;
+        assert_eq!(rt; value_fault(&rt, rt.alloc(), bytes.as_slice()), fault);
+    }
     Ok(())
 }

@@ -8,3 +8,4 @@ pub mod TypeLaws
 pub mod ValueLaws
 pub mod WholeLaws
 pub mod KeptLaws
+pub mod FitsLaws

@@ -65,11 +65,15 @@ flags = false ∷ true ∷ []
 unfoldable pub flag_field : Reader Bool
 flag_field s = table_field 0 flags s
 
+-- whether a number is a Unicode scalar
+abbrev pub is_scalar : ℕ → Bool
+is_scalar c = scalar c
+
 -- a Unicode scalar in four bytes
 unfoldable pub char_field : Reader ℕ
 char_field s = do
   code ← number_field w32 s
-  allowed (scalar code.0) (BadUtf8 s.front.at) code
+  allowed (is_scalar code.0) (BadUtf8 s.front.at) code
 
 -- bytes behind their length in two bytes
 unfoldable pub blob_field : Reader (List ℕ)

@@ -10,11 +10,11 @@ use Rattle.chunk_codec.proofs.read.get_value.Goals as goal
 
 pub returns-clause-found : goal.returns-clause-found
 returns-clause-found c =
-    found_at_ok a_whole_value (value_lawful 4 8) (λ _. refl) c.args.c.now c.at-s.result c.at-s.ensures.front c.at-s.ensures.nodes c.fork.ensures.same c.fork.ensures.bytes _ c.value_of-read.new.s _ c.into_cursor.ensures c.in_ok-read.ensures
+    found_at_ok a_whole_value (value_lawful 4 8) (λ _. refl) c.args.c.now c.at-s.result c.at-s.ensures.front c.at-s.ensures.nodes c.fork.ensures.same c.fork.ensures.bytes _ c.value_of.new.s _ c.into_cursor.ensures c.in_ok-read.ensures
 
 pub returns-clause-only : goal.returns-clause-only
 returns-clause-only c =
-    only_at_ok a_whole_value (value_lawful 4 8) (λ _. refl) c.args.c.now c.at-s.result c.at-s.ensures.front c.at-s.ensures.nodes c.fork.ensures.same _ c.value_of-read.new.s _ c.into_cursor.ensures c.in_ok-read.ensures
+    only_at_ok a_whole_value (value_lawful 4 8) (λ _. refl) c.args.c.now c.at-s.result c.at-s.ensures.front c.at-s.ensures.nodes c.fork.ensures.same _ c.value_of.new.s _ c.into_cursor.ensures c.in_ok-read.ensures
 
 pub returns-in_err-read-clause-only : goal.returns-in_err-read-clause-only
 returns-in_err-read-clause-only c =
