@@ -7,7 +7,6 @@ use chunk_spelling::{SpellFault, TypeTag};
 use plan_base::{Limit, Ty, Tys};
 use plan_items::{Boxed, Items};
 use std::alloc::Global;
-use wire_bytes::Cursor;
 
 /// A type whose parts may open `room` levels, its own counted.
 #[cycle(types)]
@@ -58,12 +57,4 @@ pub fn types_of(alloc: Global, s: &mut Source<'_>, room: u32, count: u8) -> Resu
         types.add(t)?;
     }
     Ok(types)
-}
-
-/// Reads a type.
-pub fn get_type(alloc: Global, c: &mut Cursor<'_>) -> Result<Ty, SpellFault> {
-    let mut s = Source::at(c.fork());
-    let t = type_of(alloc, &mut s, 8)?;
-    *c = s.into_cursor();
-    Ok(t)
 }

@@ -8,3 +8,8 @@ pub mod SpellLemmas
 pub mod TableLemmas
 pub mod PrintLemmas
 pub mod LongestLemmas
+pub mod SoundItems
+pub mod SoundLemmas
+pub mod FrontLemmas
+pub mod LawLemmas
+pub mod RuleLemmas

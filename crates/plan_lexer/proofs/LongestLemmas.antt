@@ -1,15 +1,15 @@
 -- A reading takes every front of the text that has the form of a token.
-use Rattle.std.proofs.Common.{◌≡◌, ◌≢◌, ℕ, zero, suc, ◌+◌, ◌-◌, ◌*◌, ◌^◌, ◌<◌, ◌≤◌, Bool, true, false, cond, ◌&&◌, List, [], ◌∷◌, ◌++◌, length, get_or, drop, take, Option, Some, None, Result, Ok, Err, pos, neg_ℤ, refl, sym, ap, ◌∙◌, subst, arith, rules, append_assoc, length-append, one-add, IsTrue, nat_lt, ◌==◌, ◌⊎◌, inl, inr}
+use Rattle.std.proofs.Common.{◌≡◌, ℕ, suc, ◌+◌, ◌<◌, ◌≤◌, Bool, true, false, cond, List, [], ◌∷◌, ◌++◌, length, get_or, take, Option, Some, None, Result, Ok, Err, pos, neg_ℤ, refl, sym, subst, arith, nat_lt, ◌==◌, inl, inr}
 use Rattle.std.proofs.lemmas.Bool.Decides.{nat_tests}
-use Rattle.std.specs.Char.{is_ascii_digit, is_ascii_alphabetic}
-use Rattle.std.specs.List.{list_all, prefix_len, find}
+use Rattle.std.specs.Char.{is_ascii_digit}
+use Rattle.std.specs.List.{list_all, prefix_len}
 use Rattle.plan_base.specs.Words.{is_word_byte, is_word}
 use Rattle.plan_lexer.specs.Faults.{◌>>=◌}
 use Rattle.plan_lexer.specs.Numerals.{digits_len, number_of, number_at, number_behind}
-use Rattle.plan_lexer.specs.Tables.{symbol_text, symbol_at, symbols}
+use Rattle.plan_lexer.specs.Tables.{symbol_text, symbol_at}
 use Rattle.plan_lexer.specs.WordTokens.{word_len, word_kind, word_at}
 use Rattle.plan_lexer.specs.Scanning.{int_at, negative_at, host_at, dev_at, part_at, hash_at, symbol_by, signed_at, token_at}
-use Rattle.plan_lexer.specs.TokenForms.{IsDigits, SpellsItem, SpellsItems, SpellsPairs, IsSign, HasForm, a_word, a_number, a_signed, a_char, a_string, a_blob, a_symbol, TakesAtLeast}
+use Rattle.plan_lexer.specs.TokenForms.{IsDigits, IsSign, HasForm, a_word, a_number, a_signed, a_char, a_string, a_blob, a_symbol, TakesAtLeast}
 use Rattle.plan_lexer.proofs.ReadLemmas.{and_left, and_right}
 use Rattle.plan_lexer.proofs.SpellLemmas.{first_word, first_digit, digit_no_letter, digits_first, digit_no_quote, word_first, word_bytes, reads_string, reads_char, reads_blob}
 use Rattle.plan_lexer.proofs.TableLemmas.{symbol_first}
@@ -78,7 +78,7 @@ unfolding int_at
 number_form at ds rest h =
     let d = digits_first ds rest h in
     same_reading at (length ds) (token_at at (ds ++ rest)) (int_at at (ds ++ rest)) (first_digit at (ds ++ rest) (digit_no_letter (get_or (ds ++ rest) 0 0) d) d)
-      (number_least at 0x7fff_ffff_ffff_ffff (length ds) at (ds ++ rest) (λ n. kind.Int (pos n)) (omega (arith, digits_within ds rest h)))
+    (number_least at 0x7fff_ffff_ffff_ffff (length ds) at (ds ++ rest) (λ n. kind.Int (pos n)) (omega (arith, digits_within ds rest h)))
 
 module _ (at : ℕ) (ds rest : List ℕ) (h : IsDigits ds) where
   within : length ds ≤ digits_len (ds ++ rest)
@@ -113,7 +113,7 @@ module _ (at : ℕ) (ds rest : List ℕ) (h : IsDigits ds) where
   signed_form sign (inr (inr (inl e))) = rw e dev_form
   signed_form sign (inr (inr (inr e))) = rw e part_form
 
-symbol_some : (s : Symbol) → 1 ≤ length (symbol_text s)
+pub symbol_some : (s : Symbol) → 1 ≤ length (symbol_text s)
 unfolding symbol_text
 symbol_some symbol.ParenOpen = omega arith
 symbol_some symbol.ParenClose = omega arith

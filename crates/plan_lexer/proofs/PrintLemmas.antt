@@ -1,5 +1,5 @@
 -- Each printed form spells its token.
-use Rattle.std.proofs.Common.{◌≡◌, ◌≢◌, ℕ, zero, suc, ◌+◌, ◌-◌, ◌*◌, ◌/◌, ◌%◌, ◌^◌, ◌<◌, ◌≤◌, Bool, true, false, cond, ◌&&◌, ◌||◌, List, [], ◌∷◌, ◌++◌, length, get_or, Option, Some, None, ℤ, pos, negsuc, neg_ℤ, refl, sym, ap, ◌∙◌, subst, arith, rules, append-nil, append_assoc, length-append, add-one, FitsSigned, w64, eqb, ltb, ◌==◌, nat_lt, nat_le, IsTrue, nat_eq}
+use Rattle.std.proofs.Common.{◌≡◌, ◌≢◌, ℕ, suc, ◌+◌, ◌-◌, ◌*◌, ◌/◌, ◌%◌, ◌^◌, ◌<◌, ◌≤◌, Bool, true, false, cond, ◌||◌, List, [], ◌∷◌, ◌++◌, get_or, Some, ℤ, pos, negsuc, neg_ℤ, refl, sym, ap, ◌∙◌, subst, arith, append-nil, length-append, add-one, FitsSigned, w64, ltb, ◌==◌, nat_lt, nat_le}
 use Rattle.std.proofs.lemmas.Bool.Decides.{nat_tests}
 use Rattle.std.proofs.lemmas.Fmt.{decimal_by_steps}
 use Rattle.std.proofs.lemmas.Str.{encode_ascii}
@@ -12,10 +12,9 @@ use lib.Utf8.{encode, encodes, scalar, scalars}
 use Rattle.plan_lexer.specs.CharItems.{hex_value, escaped}
 use Rattle.plan_lexer.specs.Numerals.{number_from, number_of}
 use Rattle.plan_lexer.specs.PrintedForms.{int_text, host_text, dev_text, part_text, hex_digit, hex_pair, byte_text, string_text, char_text, blob_text}
-use Rattle.plan_lexer.specs.TokenForms.{IsDigits, SpellsItem, plain, wide, letter, digits, SpellsItems, no_items, an_item, SpellsPairs, no_pairs, a_pair, Spells, name, key, int, negative, host, dev, part, char, string, blob, symbol}
+use Rattle.plan_lexer.specs.TokenForms.{IsDigits, SpellsItem, plain, wide, letter, digits, SpellsItems, no_items, an_item, SpellsPairs, no_pairs, a_pair, Spells, int, negative, host, dev, part, char, string, blob}
 use Rattle.plan_lexer.proofs.ReadLemmas.{and_left, and_right}
 use Rattle.plan_lexer.proofs.WordLemmas.{and_both}
-use Rattle.plan_lexer.specs.declared.token.TokenKind.{TokenKind}
 use Rattle.plan_lexer.specs.declared.token.TokenKind.TheVariants as kind
 
 number_from-append : (v : ℕ) (xs ys : List ℕ) → number_from v (xs ++ ys) ≡ number_from (number_from v xs) ys
@@ -39,7 +38,7 @@ by_digits n small = decimal_by_steps IsNumeral
     (λ d h. record { are = record { some = omega arith; all = one_digit d h }; value = omega arith })
     (λ m ds h r. record {
       are = record { some = simp length-append (omega (arith, r.are.some)); all = list_all-append is_ascii_digit ds ((48 + m % 10) ∷ []) r.are.all (one_digit (m % 10) (omega arith)) };
-      value = number_from-append 0 ds ((48 + m % 10) ∷ []) ∙ omega (arith, r.value)
+      value = number_from-append 0 ds ((48 + m % 10) ∷ []) ∙ omega (arith, r.value);
     }) n small
 
 spells_pos : (n : ℕ) → n < 2 ^ 63 → Spells (kind.Int (pos n)) (decimal n)
@@ -75,7 +74,7 @@ spells_pairs [] h = no_pairs
 spells_pairs (b ∷ bytes) h =
     let small : b < 256 = h 0 in
     subst (λ x. SpellsPairs (hex_digit (b / 16) ∷ hex_digit (b % 16) ∷ flat_map hex_pair bytes) (x ∷ bytes)) (omega arith)
-      (a_pair (hex_digit (b / 16)) (hex_digit (b % 16)) (b / 16) (b % 16) (flat_map hex_pair bytes) bytes (hex_value-digit (b / 16) (omega arith)) (hex_value-digit (b % 16) (omega arith)) (spells_pairs bytes (λ i. h (suc i))))
+    (a_pair (hex_digit (b / 16)) (hex_digit (b % 16)) (b / 16) (b % 16) (flat_map hex_pair bytes) bytes (hex_value-digit (b / 16) (omega arith)) (hex_value-digit (b % 16) (omega arith)) (spells_pairs bytes (λ i. h (suc i))))
 
 pub spells_blob : (bytes : List ℕ) → ((i : ℕ) → get_or bytes i 0 < 256) → Spells (kind.Blob bytes) (blob_text bytes)
 unfolding blob_text
@@ -96,7 +95,7 @@ escape_quote quote e b h = grind (arith, nat_tests)
 spells_control : (quote b : ℕ) → b < 128 → SpellsItem quote (92 ∷ 120 ∷ hex_pair b) b
 spells_control quote b small =
     subst (λ x. SpellsItem quote (92 ∷ 120 ∷ hex_pair b) x) (omega arith)
-      (digits (hex_digit (b / 16)) (hex_digit (b % 16)) (b / 16) (b % 16) (hex_value-digit (b / 16) (omega arith)) (hex_value-digit (b % 16) (omega arith)) (omega arith))
+    (digits (hex_digit (b / 16)) (hex_digit (b % 16)) (b / 16) (b % 16) (hex_value-digit (b / 16) (omega arith)) (hex_value-digit (b % 16) (omega arith)) (omega arith))
 
 spells_letter : (quote l b c : ℕ) → b ≡ c → escaped l ≡ Some c → SpellsItem quote (92 ∷ l ∷ []) b
 spells_letter quote l b c e h = subst (λ x. SpellsItem quote (92 ∷ l ∷ []) x) (sym e) (letter l c h)
@@ -115,10 +114,13 @@ module _ (quote : ℕ) (own : escaped quote ≡ Some quote) where
     where
       at_least : (b : ℕ) → (nat_lt b 32 || (b == 127)) ≡ false → 32 ≤ b
       at_least b i = grind (arith, nat_tests)
+
       at_most : (b : ℕ) → (nat_lt b 32 || (b == 127)) ≡ false → b < 128 → b < 127
       at_most b i s = grind (arith, nat_tests)
+
       no_slash : (b : ℕ) → ((b == quote) || (b == 92)) ≡ false → b ≢ 92
       no_slash b e = grind (arith, nat_tests)
+
       no_quote : (b : ℕ) → ((b == quote) || (b == 92)) ≡ false → b ≢ quote
       no_quote b e = grind (arith, nat_tests)
 
@@ -156,7 +158,7 @@ spells_codes : (cs : List ℕ) → scalars cs ≡ true → SpellsItems 34 (flat_
 spells_codes [] h = no_items
 spells_codes (c ∷ cs) h =
     rw (flat_map-append (byte_text 34) (encode c) (encodes cs))
-      (an_item (flat_map (byte_text 34) (encode c)) (flat_map (byte_text 34) (encodes cs)) c (encodes cs) (spells_code 34 quote_own c (and_left (scalar c) (scalars cs) h) (omega arith)) (spells_codes cs (and_right (scalar c) (scalars cs) h)))
+    (an_item (flat_map (byte_text 34) (encode c)) (flat_map (byte_text 34) (encodes cs)) c (encodes cs) (spells_code 34 quote_own c (and_left (scalar c) (scalars cs) h) (omega arith)) (spells_codes cs (and_right (scalar c) (scalars cs) h)))
 
 pub spells_string : (bytes : List ℕ) → IsUtf8 bytes → Spells (kind.Str bytes) (string_text bytes)
 unfolding string_text

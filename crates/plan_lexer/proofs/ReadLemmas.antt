@@ -1,19 +1,18 @@
 -- What spells a token is read as that token.
-use Rattle.std.proofs.Common.{◌≡◌, ◌≢◌, ℕ, zero, suc, ◌+◌, ◌-◌, ◌*◌, ◌/◌, ◌%◌, ◌^◌, ◌<◌, ◌≤◌, Bool, true, false, cond, ◌&&◌, List, [], ◌∷◌, ◌++◌, length, get_or, drop, take, Option, Some, None, Result, Ok, Err, refl, sym, ap, ◌∙◌, arith, rules, add_assoc, append_assoc, length-append, one-add, add-one, IsTrue}
+use Rattle.std.proofs.Common.{◌≡◌, ◌≢◌, ℕ, suc, ◌+◌, ◌*◌, ◌<◌, ◌≤◌, Bool, true, false, ◌&&◌, List, [], ◌∷◌, ◌++◌, length, get_or, drop, take, Some, None, Ok, refl, ap, ◌∙◌, arith, append_assoc, length-append, one-add}
 use Rattle.std.proofs.lemmas.Bool.Decides.{nat_tests}
 use Rattle.std.proofs.lemmas.Str.{length-encode, len_utf8_bounds}
 use Rattle.std.specs.Char.{is_ascii_digit}
 use Rattle.std.specs.List.{list_all, prefix_len}
 use lib.Utf8.{encode}
 use Rattle.plan_lexer.specs.CharItems.{item_at, hex_value}
-use Rattle.plan_lexer.specs.Quoted.{with_front, string_from, string_at, char_at, char_by}
-use Rattle.plan_lexer.specs.Hexed.{blob_from, blob_at}
+use Rattle.plan_lexer.specs.Quoted.{with_front, string_from, char_at, char_by}
+use Rattle.plan_lexer.specs.Hexed.{blob_from}
 use Rattle.plan_lexer.specs.Numerals.{digits_len, number_of, number_at, number_behind}
 use Rattle.plan_lexer.specs.TokenForms.{IsDigits, SpellsItem, plain, wide, letter, digits, SpellsItems, no_items, an_item, SpellsPairs, no_pairs, a_pair}
 use Rattle.plan_lexer.proofs.ItemLemmas.{item_reads}
 use Rattle.plan_lexer.proofs.QuotedLemmas.{string_closes, string_goes}
-use Rattle.plan_lexer.specs.declared.item.Item.TheVariants.{Closes, Open, Wrong, Code}
-use Rattle.plan_lexer.specs.declared.fault.LexFault.{LexFault}
+use Rattle.plan_lexer.specs.declared.item.Item.TheVariants.{Closes}
 
 pub drop_front : (front rest : List ℕ) → drop (length front) (front ++ rest) ≡ rest
 drop_front [] rest = refl
@@ -27,7 +26,7 @@ len_utf8_some : (c : ℕ) → 0 < length (encode c)
 len_utf8_some c = rw (length-encode c) (omega (arith, len_utf8_bounds c))
 
 -- an item takes a byte at least
-item_some : (quote : ℕ) (front : List ℕ) (c : ℕ) → SpellsItem quote front c → 0 < length front
+pub item_some : (quote : ℕ) (front : List ℕ) (c : ℕ) → SpellsItem quote front c → 0 < length front
 item_some quote _ _ (plain c low high slash apart) = omega arith
 item_some quote _ _ (wide c low s) = len_utf8_some c
 item_some quote _ _ (letter l c e) = omega arith

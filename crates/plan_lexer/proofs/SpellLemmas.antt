@@ -1,16 +1,15 @@
 -- What spells a token is read as that token, whatever its kind.
-use Rattle.std.proofs.Common.{◌≡◌, ◌≢◌, ℕ, zero, suc, ◌+◌, ◌-◌, ◌*◌, ◌/◌, ◌%◌, ◌^◌, ◌<◌, ◌≤◌, Bool, true, false, cond, ◌&&◌, List, [], ◌∷◌, ◌++◌, length, get_or, drop, take, not, nat_le, Option, Some, None, Result, Ok, Err, pos, negsuc, neg_ℤ, refl, sym, ap, ◌∙◌, arith, rules, add_assoc, append_assoc, length-append, one-add, add-one, IsTrue, ◌⊎◌, inl, inr}
+use Rattle.std.proofs.Common.{◌≡◌, ◌≢◌, ℕ, suc, ◌+◌, ◌^◌, ◌<◌, ◌≤◌, Bool, true, false, ◌&&◌, List, [], ◌∷◌, ◌++◌, length, get_or, not, nat_le, Some, Ok, pos, neg_ℤ, refl, sym, ap, ◌∙◌, arith, append_assoc, length-append}
 use Rattle.std.proofs.lemmas.Bool.Decides.{nat_tests}
 use Rattle.std.specs.Char.{is_ascii_digit, is_ascii_alphabetic}
-use Rattle.std.specs.List.{list_all, prefix_len}
+use Rattle.std.specs.List.{list_all}
 use Rattle.plan_base.specs.Words.{is_word_byte, is_word, is_name, IsName, is_reserved}
 use Rattle.plan_base.proofs.WordLaws.{is_word_cons, is_word_none}
-use Rattle.plan_lexer.specs.Faults.{◌>>=◌}
-use Rattle.plan_lexer.specs.Quoted.{string_at, char_at}
+use Rattle.plan_lexer.specs.Quoted.{string_at}
 use Rattle.plan_lexer.specs.Hexed.{blob_at}
-use Rattle.plan_lexer.specs.Numerals.{digits_len, number_of, number_at, number_behind}
-use Rattle.plan_lexer.specs.Tables.{key_text, key_of, symbol_text, symbol_at}
-use Rattle.plan_lexer.specs.WordTokens.{word_len, word_kind, word_at, kind_by}
+use Rattle.plan_lexer.specs.Numerals.{number_of}
+use Rattle.plan_lexer.specs.Tables.{key_text, symbol_text, symbol_at}
+use Rattle.plan_lexer.specs.WordTokens.{word_kind, word_at, kind_by}
 use Rattle.plan_lexer.specs.Scanning.{int_at, negative_at, host_at, dev_at, part_at, hash_at, symbol_by, signed_at, token_at}
 use Rattle.plan_lexer.specs.TokenForms.{IsDigits, SpellsItem, SpellsItems, SpellsPairs, Spells, name, key, int, negative, host, dev, part, char, string, blob, symbol, EndsBefore}
 use Rattle.plan_lexer.proofs.TableLemmas.{key_of-text, is_word-key, short_key, symbol_first, key_of-none}
@@ -90,7 +89,7 @@ pub reads_blob : (at : ℕ) (pairs bytes rest : List ℕ) → SpellsPairs pairs 
 reads_blob at pairs bytes rest h = ap (λ bs. token_at at (35 ∷ 34 ∷ bs)) (append_assoc pairs (34 ∷ []) rest) ∙ blob_of at pairs bytes rest h ∙ ap (λ n. Ok (kind.Blob bytes, n)) (simp length-append (omega arith))
 
 -- words
-is_name_word : (w : List ℕ) → IsName w → is_word w ≡ true
+pub is_name_word : (w : List ℕ) → IsName w → is_word w ≡ true
 unfolding is_name
 is_name_word w h = and_left (is_word w) (nat_le (length w) 32 && not (is_reserved w)) h
 

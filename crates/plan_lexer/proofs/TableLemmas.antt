@@ -1,8 +1,7 @@
 -- On the tables of reserved words and symbols.
-use Rattle.std.proofs.Common.{◌≡◌, ℕ, ◌+◌, ◌<◌, ◌≤◌, Bool, true, false, cond, ◌||◌, List, [], ◌∷◌, ◌++◌, length, get_or, Option, Some, None, Ok, map, refl, sym, ap, ◌∙◌, arith}
+use Rattle.std.proofs.Common.{◌≡◌, ℕ, ◌≤◌, Bool, true, false, cond, ◌||◌, List, [], ◌∷◌, ◌++◌, length, Option, Some, None, map, refl, arith}
 use Rattle.std.specs.List.{list_any, find}
 use Rattle.std.specs.Str.{bytes_eq}
-use Rattle.std.specs.Char.{is_ascii_digit, is_ascii_alphabetic}
 use Rattle.plan_base.specs.Words.{is_word, is_reserved, reserved}
 use Rattle.plan_lexer.specs.Tables.{key_text, key_of, keys, symbol_text, symbol_at}
 use Rattle.plan_lexer.specs.Scanning.{token_at, signed_at, symbol_by}
@@ -10,7 +9,6 @@ use Rattle.plan_lexer.specs.declared.token.Key.{Key}
 use Rattle.plan_lexer.specs.declared.token.Key.TheVariants as key
 use Rattle.plan_lexer.specs.declared.token.Symbol.{Symbol}
 use Rattle.plan_lexer.specs.declared.token.Symbol.TheVariants as symbol
-use Rattle.plan_lexer.specs.declared.token.TokenKind.TheVariants as kind
 
 pub key_of-text : (k : Key) → key_of (key_text k) ≡ Some k
 unfolding key_of key_text

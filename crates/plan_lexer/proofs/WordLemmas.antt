@@ -1,7 +1,7 @@
 -- On words: which are names, and which a text begins with.
-use Rattle.std.proofs.Common.{◌≡◌, ◌==◌, ℕ, suc, ◌+◌, ◌<◌, ◌≤◌, Bool, true, false, ◌&&◌, ◌||◌, cond, List, [], ◌∷◌, length, get_or, take, drop, Option, Some, None, map, refl, sym, ap, ◌∙◌, arith, rules, IsTrue, one-add}
+use Rattle.std.proofs.Common.{◌≡◌, ◌==◌, ℕ, ◌+◌, ◌<◌, ◌≤◌, Bool, true, false, ◌&&◌, ◌||◌, cond, List, [], ◌∷◌, length, get_or, take, Option, Some, None, map, refl, ap, ◌∙◌, arith, IsTrue, one-add}
 use Rattle.std.proofs.lemmas.Grind.{common_steps}
-use Rattle.std.specs.Char.{is_ascii_alphabetic, is_ascii_alphanumeric}
+use Rattle.std.specs.Char.{is_ascii_alphabetic}
 use Rattle.std.specs.List.{prefix_len, list_all, list_any, find}
 use Rattle.std.specs.Int.{is_in_range}
 use Rattle.std.specs.Str.{bytes_eq}
@@ -43,7 +43,7 @@ all_by : (p : ℕ → Bool) (b : ℕ) (more : List ℕ) (n : ℕ) (t : Bool) →
 all_by p b more n true e h = rw one-add (rw e h)
 all_by p b more n false e h = refl
 
-all_front : (p : ℕ → Bool) (text : List ℕ) → list_all p (take (prefix_len p text) text) ≡ true
+pub all_front : (p : ℕ → Bool) (text : List ℕ) → list_all p (take (prefix_len p text) text) ≡ true
 all_front p [] = refl
 all_front p (b ∷ more) = all_by p b more (prefix_len p more) (p b) refl (all_front p more)
 
@@ -70,7 +70,7 @@ is_word_front [] h = absurd (false_true h)
     false_true e = cc
 is_word_front (b ∷ more) h = ap is_word (front_cons is_word_byte b more (letter_of_word b h)) ∙ is_word_cons b (take (word_len more) more) ∙ and_both _ _ h (all_front is_word_byte more)
 
-some_front : (p : ℕ → Bool) (b : ℕ) (more : List ℕ) → p b ≡ true → 0 < prefix_len p (b ∷ more)
+pub some_front : (p : ℕ → Bool) (b : ℕ) (more : List ℕ) → p b ≡ true → 0 < prefix_len p (b ∷ more)
 some_front p b more e = rw e (omega arith)
 
 pub word_len_some : (text : List ℕ) → IsTrue (is_ascii_alphabetic (get_or text 0 0)) → 0 < word_len text

@@ -9,3 +9,4 @@ pub mod WordTokens
 pub mod Scanning
 pub mod TokenForms
 pub mod PrintedForms
+pub mod TokenRules

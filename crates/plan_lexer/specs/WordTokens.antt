@@ -1,5 +1,5 @@
 -- Words.
-use Rattle.std.specs.Prelude.{ℕ, ◌+◌, List, length, take, Option, Some, None, Result, Ok, Err, nat_lt, if◌then◌else◌}
+use Rattle.std.specs.Prelude.{ℕ, ◌+◌, List, take, Option, Some, None, Result, Ok, Err, nat_lt, if◌then◌else◌}
 use Rattle.std.specs.List.{prefix_len}
 use Rattle.plan_base.specs.Words.{is_word_byte}
 use Rattle.plan_lexer.specs.Tables.{key_of}

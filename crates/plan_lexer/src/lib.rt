@@ -11,14 +11,13 @@ mod numeral;
 mod quoted;
 mod scan;
 mod tables;
+#[cfg(test)]
+mod tests;
 mod text;
 mod token;
 mod word;
 
-#[cfg(test)]
-mod tests;
-
 pub use fault::LexFault;
-pub use laws::{one_answer, printed_tokens, spelled_tokens};
+pub use laws::{longest_tokens, one_answer, printed_tokens, spelled_tokens};
 pub use lexing::lex;
 pub use token::{Key, Symbol, Token, TokenKind, Tokens};

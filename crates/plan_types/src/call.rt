@@ -1,6 +1,6 @@
 //! The rules of calls, folds and chunk literals.
 
-ghost use Rattle.std.specs.Prelude.{◌≡◌, ◌≤◌, length, IfOk};
+ghost use Rattle.std.specs.Prelude.{◌≡◌, IfOk};
 ghost use Rattle.std.specs.Option.{option_copied};
 ghost use Rattle.plan_base.specs.TypingOrder as spec;
 ghost use Rattle.plan_base.specs.TypingNames as names;
@@ -155,8 +155,7 @@ impl<F: Fn(Global, usize, &Scope<'_>, &mut State, Option<&Ty>, &Expr) -> Result<
     /// A function of the program, which must be an earlier one.
     #[tactic(auto, unfolding(plan_base::specs::TypingOrder::function))]
     fn function(&self, scope: &Scope<'_>, state: &mut State, at: u32, want: Option<&Ty>, f: &Name, es: &Exprs) -> Result<(Expr, Ty), TypeFault>
-        requires runs { Nests self.now.depth (F.pre self.now.run) (F.post self.now.run) }
-        requires within { scope.now.seen ≤ length scope.now.code.now.funs }
+        requires { Nests self.now.depth (F.pre self.now.run) (F.post self.now.run) }
         ensures meets { Meets (spec.function scope.now.code.now scope.now.seen (below scope.now self.now.depth) state.old.ctx at (option_copied want.entry) f.now es.now state.old.node) result state.new.node }
         ensures keeps { state.new.ctx ≡ state.old.ctx }
     {
@@ -171,8 +170,7 @@ impl<F: Fn(Global, usize, &Scope<'_>, &mut State, Option<&Ty>, &Expr) -> Result<
     /// A call of a primitive, a service or a function.
     #[tactic(auto, unfolding(plan_base::specs::TypingOrder::call))]
     pub fn call(&self, scope: &Scope<'_>, state: &mut State, at: u32, want: Option<&Ty>, f: &Name, es: &Exprs) -> Result<(Expr, Ty), TypeFault>
-        requires runs { Nests self.now.depth (F.pre self.now.run) (F.post self.now.run) }
-        requires within { scope.now.seen ≤ length scope.now.code.now.funs }
+        requires { Nests self.now.depth (F.pre self.now.run) (F.post self.now.run) }
         ensures meets { Meets (spec.call scope.now.code.now scope.now.seen (below scope.now self.now.depth) state.old.ctx at (option_copied want.entry) f.now es.now state.old.node) result state.new.node }
         ensures keeps { state.new.ctx ≡ state.old.ctx }
     {
@@ -188,7 +186,6 @@ impl<F: Fn(Global, usize, &Scope<'_>, &mut State, Option<&Ty>, &Expr) -> Result<
     /// The types of an earlier function with two parameters, and the type that it gives.
     #[tactic(auto, unfolding(plan_base::specs::TypingOrder::folding))]
     fn folding(&self, scope: &Scope<'_>, node: u32, at: u32, f: &Name) -> Result<(Ty, Ty, Ty), TypeFault>
-        requires { scope.now.seen ≤ length scope.now.code.now.funs }
         ensures { Meets (spec.folding scope.now.code.now scope.now.seen (below scope.now self.now.depth) at f.now node) result node }
     {
         let fun = match earlier(scope.code, scope.seen, f) {
@@ -204,8 +201,7 @@ impl<F: Fn(Global, usize, &Scope<'_>, &mut State, Option<&Ty>, &Expr) -> Result<
     /// `foldl`.
     #[tactic(auto, unfolding(plan_base::specs::TypingOrder::fold_left))]
     pub fn fold_left(&self, scope: &Scope<'_>, state: &mut State, at: u32, want: Option<&Ty>, f: &Name, a: &Expr, l: &Expr) -> Result<(Expr, Ty), TypeFault>
-        requires runs { Nests self.now.depth (F.pre self.now.run) (F.post self.now.run) }
-        requires within { scope.now.seen ≤ length scope.now.code.now.funs }
+        requires { Nests self.now.depth (F.pre self.now.run) (F.post self.now.run) }
         ensures meets { Meets (spec.fold_left scope.now.code.now scope.now.seen (below scope.now self.now.depth) state.old.ctx at (option_copied want.entry) f.now a.now l.now state.old.node) result state.new.node }
         ensures keeps { state.new.ctx ≡ state.old.ctx }
     {
@@ -223,8 +219,7 @@ impl<F: Fn(Global, usize, &Scope<'_>, &mut State, Option<&Ty>, &Expr) -> Result<
     /// `foldr`.
     #[tactic(auto, unfolding(plan_base::specs::TypingOrder::fold_right))]
     pub fn fold_right(&self, scope: &Scope<'_>, state: &mut State, at: u32, want: Option<&Ty>, f: &Name, a: &Expr, l: &Expr) -> Result<(Expr, Ty), TypeFault>
-        requires runs { Nests self.now.depth (F.pre self.now.run) (F.post self.now.run) }
-        requires within { scope.now.seen ≤ length scope.now.code.now.funs }
+        requires { Nests self.now.depth (F.pre self.now.run) (F.post self.now.run) }
         ensures meets { Meets (spec.fold_right scope.now.code.now scope.now.seen (below scope.now self.now.depth) state.old.ctx at (option_copied want.entry) f.now a.now l.now state.old.node) result state.new.node }
         ensures keeps { state.new.ctx ≡ state.old.ctx }
     {

@@ -1,6 +1,6 @@
 //! How names are found: primitives, exceptions, functions, services and bindings.
 
-ghost use Rattle.std.specs.Prelude.{◌≡◌, ◌≤◌, length, map, take, not, option_and_then, slice_get};
+ghost use Rattle.std.specs.Prelude.{◌≡◌, not};
 ghost use Rattle.std.specs.Str.{bytes_eq};
 ghost use Rattle.std.specs.List.{list_any};
 ghost use Rattle.std.specs.Option.{option_copied};
@@ -108,10 +108,10 @@ pub fn fun_of<'a>(code: &'a Program, name: &Name) -> Option<&'a Fun>
 
 /// The function of that name among the first `seen`.
 pub fn earlier<'a>(code: &'a Program, seen: usize, name: &Name) -> Option<&'a Fun>
-    requires { seen ≤ length code.now.funs }
     ensures { option_copied result ≡ order.earlier code.now seen name.now }
 {
-    code.funs.get(place_of(name, &code.funs.as_slice()[..seen])?)
+    let at = code.funs.as_slice().iter().take(seen).position(|f| same_name(&f.name, name))?;
+    code.funs.get(at)
 }
 
 /// The first declared service of that name.
@@ -122,6 +122,7 @@ pub fn service_of<'a>(name: &Name, svcs: &'a [Svc]) -> Option<&'a Svc>
 }
 
 /// The type of the innermost binding of that name.
+#[tactic(auto, using(crate::proofs::Loops::binding_more))]
 pub fn binding<'a>(name: &Name, ctx: &'a [Param]) -> Option<&'a Ty>
     ensures { option_copied result ≡ spec.binding name.now ctx.now }
 {

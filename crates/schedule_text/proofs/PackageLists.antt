@@ -38,25 +38,31 @@ no_word : (seen : List Package) (x : List Package × List (List ℕ)) → packag
 unfolding package_at
 no_word seen x e = cc
 
--- behind a package come the others
-pub packages_next : (seen : List Package) (ws : List (List ℕ)) (x : List Package × List (List ℕ)) → package_at seen ws ≡ Ok x → packages_at seen ws ≡ packages_at x.0 x.1
+next_is : (seen : List Package) (ws : List (List ℕ)) (x : List Package × List (List ℕ)) → package_at seen ws ≡ Ok x → packages_at seen ws ≡ packages_at x.0 x.1
 unfolding packages_at
-packages_next seen [] x e = absurd (no_word seen x e)
-packages_next seen (w ∷ []) x e = absurd (let f = lone_word seen w (Ok x) e in cc)
-packages_next seen (w ∷ p ∷ ws) x e = rw e (ap (λ (r : List (List ℕ)). packages_at x.0 r) (rest_is seen w p ws x e))
+next_is seen [] x e = absurd (no_word seen x e)
+next_is seen (w ∷ []) x e = absurd (let f = lone_word seen w (Ok x) e in cc)
+next_is seen (w ∷ p ∷ ws) x e = rw e (ap (λ (r : List (List ℕ)). packages_at x.0 r) (rest_is seen w p ws x e))
+
+-- behind a package come the others
+pub packages_next : (seen next : List Package) (ws rest : List (List ℕ)) (total : Result (List Package) LineReason) → package_at seen ws ≡ Ok (next, rest) → packages_at seen ws ≡ total → packages_at next rest ≡ total
+packages_next seen next ws rest total e so_far = sym (next_is seen ws (next, rest) e) ∙ so_far
+
+shorter_is : (seen : List Package) (ws : List (List ℕ)) (x : List Package × List (List ℕ)) → package_at seen ws ≡ Ok x → length x.1 < length ws
+shorter_is seen [] x e = absurd (no_word seen x e)
+shorter_is seen (w ∷ []) x e = absurd (let f = lone_word seen w (Ok x) e in cc)
+shorter_is seen (w ∷ p ∷ ws) x e = omega (arith, ap (λ (r : List (List ℕ)). length r) (rest_is seen w p ws x e))
 
 -- a package takes words
-pub packages_shorter : (seen : List Package) (ws : List (List ℕ)) (x : List Package × List (List ℕ)) → package_at seen ws ≡ Ok x → length x.1 < length ws
-packages_shorter seen [] x e = absurd (no_word seen x e)
-packages_shorter seen (w ∷ []) x e = absurd (let f = lone_word seen w (Ok x) e in cc)
-packages_shorter seen (w ∷ p ∷ ws) x e = omega (arith, ap (λ (r : List (List ℕ)). length r) (rest_is seen w p ws x e))
+pub packages_shorter : (seen next : List Package) (ws rest : List (List ℕ)) → package_at seen ws ≡ Ok (next, rest) → length rest < length ws
+packages_shorter seen next ws rest e = shorter_is seen ws (next, rest) e
 
 -- a package that is refused
 pub packages_stop : (seen : List Package) (ws : List (List ℕ)) (e : Stop) → has_word ws ≡ true → Fails e (package_at seen ws) → Fails e (packages_at seen ws)
 unfolding packages_at
 packages_stop seen ws stops.NoMemory h f = tt
 packages_stop seen [] (stops.Reason r) h f = absurd cc
-packages_stop seen (w ∷ []) (stops.Reason r) h f = lone_word seen w (Err r) f ∙ refl
+packages_stop seen (w ∷ []) (stops.Reason r) h f = let h = lone_word seen w (Err r) f in cc
 packages_stop seen (w ∷ p ∷ ws) (stops.Reason r) h f = rw f refl
 
 -- no package more

@@ -7,3 +7,5 @@ pub mod Built
 pub mod SmallPrograms
 pub mod Schedules
 pub mod Leaving
+pub mod Rules
+pub mod Answers

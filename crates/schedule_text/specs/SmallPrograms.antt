@@ -84,13 +84,12 @@ key_at key text = do
 abbrev pub taken_names : List (List ℕ)
 taken_names = codes "hd" ∷ codes "tl" ∷ codes "length" ∷ codes "intToString" ∷ codes "hostToString" ∷ codes "stringToBlob" ∷ codes "blobLength" ∷ codes "blobPart" ∷ codes "print" ∷ []
 
--- the name of a function
-unfoldable pub own_name_at : List ℕ → Piece Name
+-- a word that may be the name of a function
+unfoldable pub own_name_at : List ℕ → Piece (List ℕ)
 own_name_at text = do
   w ← small_word_at text
   _ ← allowed (not (list_any (bytes_eq w.0) taken_names)) NotYet
-  name ← named_word w.0 NotYet
-  Ok (name, w.1)
+  Ok w
 
 -- a reason that stands for what isn't built
 abbrev pub unbuilt : {A : Type 0} → Result A LineReason → Result A LineReason
@@ -122,6 +121,10 @@ quoted_at text = do
   behind ← first_is 34 (past kinds.Plain rest)
   Ok (front kinds.Plain rest, behind)
 
+-- the call of `print` with a text
+abbrev pub print_expr : List ℕ → Expr
+print_expr text = expr.Call (codes "print") (expr.Str text ∷ [])
+
 -- `print("..")`, where `print` is declared, behind its first word
 unfoldable pub print_at : Bool → List ℕ → Piece Expr
 print_at declared text = do
@@ -129,17 +132,17 @@ print_at declared text = do
   a ← symbol_at 40 text
   s ← quoted_at a
   rest ← symbol_at 41 s.1
-  Ok (expr.Call (codes "print") (expr.Str s.0 ∷ []), rest)
+  Ok (print_expr s.0, rest)
 
 -- `|NAME|()`
-unfoldable pub chunk_at : List ℕ → Piece Expr
+unfoldable pub chunk_at : List ℕ → Piece (List ℕ)
 chunk_at text = do
   a ← symbol_at 124 text
   name ← own_name_at a
   b ← symbol_at 124 name.1
   c ← symbol_at 40 b
   rest ← symbol_at 41 c
-  Ok (expr.ChunkOf name.0 [], rest)
+  Ok (name.0, rest)
 
 -- `@H, N, %D`
 unfoldable pub goal_at : List ℕ → Result (ℕ × ℕ × ℕ × List ℕ) LineReason
@@ -151,9 +154,14 @@ goal_at text = do
   d ← marked_at 37 b
   Ok (h.0, n.0, d.0, d.1)
 
--- the send of a chunk to a host with a bound, by a device
-abbrev pub send_expr : Expr → ℕ → ℕ → ℕ → Expr
-send_expr chunk host bound dev = expr.OnNeighbor chunk (expr.Host (host_of host)) (expr.Int (pos bound)) (expr.Dev (dev_of dev))
+-- the send of a function's chunk to a host with a bound, by a device
+abbrev pub send_expr : Name → ℕ → ℕ → ℕ → Expr
+send_expr name host bound dev = expr.OnNeighbor (expr.ChunkOf name []) (expr.Host (host_of host)) (expr.Int (pos bound)) (expr.Dev (dev_of dev))
+
+unfoldable pub send_of : List ℕ → ℕ → ℕ → ℕ → Result Expr LineReason
+send_of word host bound dev = do
+  name ← named_word word NotYet
+  Ok (send_expr name host bound dev)
 
 -- `OnNeighbor(|NAME|(), @H, N, %D)` behind its first word
 unfoldable pub send_at : List ℕ → Piece Expr
@@ -163,7 +171,8 @@ send_at text = do
   b ← symbol_at 44 chunk.1
   g ← goal_at b
   rest ← symbol_at 41 g.3
-  Ok (send_expr chunk.0 g.0 g.1 g.2, rest)
+  e ← send_of chunk.0 g.0 g.1 g.2
+  Ok (e, rest)
 
 -- a statement behind its first word
 abbrev pub statement_behind : Bool → List ℕ → List ℕ → Piece Expr
@@ -185,19 +194,29 @@ unfoldable pub body_at : ℕ → Bool → List ℕ → Piece Expr
 body_at zero declared text = Err NotYet
 body_at (suc most) declared text = statement_at declared text >>= λ s. followed (body_at most declared) s.0 s.1 (symbol_at 59 s.1)
 
+-- `() : unit =`
+unfoldable pub head_at : List ℕ → Result (List ℕ) LineReason
+head_at text = do
+  b ← symbol_at 40 text
+  c ← symbol_at 41 b
+  d ← symbol_at 58 c
+  e ← key_at (codes "unit") d
+  symbol_at 61 e
+
+-- a function without parameters that gives nothing
+abbrev pub fun_with : Name → Expr → Fun
+fun_with name body = record { name = name; params = []; result = ty.Unit; body = body }
+
 -- `fun NAME() : unit = BODY` with a new name
 unfoldable pub fun_at : Bool → List Fun → List ℕ → Piece Fun
 fun_at declared funs text = do
   a ← key_at (codes "fun") text
   name ← own_name_at a
   _ ← allowed (not (list_any (has_name name.0) funs)) NotYet
-  b ← symbol_at 40 name.1
-  c ← symbol_at 41 b
-  d ← symbol_at 58 c
-  e ← key_at (codes "unit") d
-  g ← symbol_at 61 e
-  body ← body_at 32 declared g
-  Ok (record { name = name.0; params = []; result = ty.Unit; body = body.0 }, body.1)
+  rest ← head_at name.1
+  own ← named_word name.0 NotYet
+  body ← body_at 32 declared rest
+  Ok (fun_with own body.0, body.1)
 
 -- functions up to the end of the text, or those read
 abbrev pub ended : (List Fun → List ℕ → Result (List Fun) LineReason) → List Fun → List ℕ → Result (List Fun) LineReason

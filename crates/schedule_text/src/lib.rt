@@ -4,6 +4,7 @@
 mod events;
 mod fault;
 mod keyword;
+mod law;
 mod network;
 mod numbers;
 mod package;
@@ -16,6 +17,7 @@ mod small_program;
 mod words;
 
 pub use fault::{LineFault, LineReason};
+pub use law::one_answer;
 pub use read::read_schedule;
 pub use schedule::{HostSpec, HostSpecs, Links, Schedule, Topology, WorldEvent, WorldEvents};
 

@@ -2,6 +2,7 @@ ghost use Rattle.std.specs.Prelude.{◌≡◌, ◌≤◌, ◌⊎◌, length, Ok,
 ghost use Rattle.schedule_text.specs.declared.schedule.Schedule.{Schedule};
 ghost use Rattle.schedule_text.specs.Leaving.{LeavesStep};
 ghost use Rattle.schedule_text.specs.Reads.{FileGives, fault_at};
+ghost use Rattle.schedule_text.specs.Rules.{KeepsRules};
 ghost use Rattle.schedule_text.specs.Schedules.{is_skipped, with_line, header_step, network_step, program_step, event_step, step, finish, schedule_of, nothing_read};
 
 use crate::events::read_event;
@@ -165,6 +166,7 @@ fn start(alloc: Global) -> Reading
     }
 }
 
+#[tactic(auto, using(crate::proofs::FileLaws::file_begin, crate::proofs::FileLaws::file_more, crate::proofs::FileLaws::file_stop, crate::proofs::FileLaws::file_end, crate::proofs::FileLaws::gives_same))]
 /// All lines.
 fn read_lines(alloc: Global, bytes: &[u8]) -> Result<Schedule, LineFault>
     requires { length bytes.now ≤ 4194304 }
@@ -182,6 +184,7 @@ fn read_lines(alloc: Global, bytes: &[u8]) -> Result<Schedule, LineFault>
     end_file(number, stage, reading)
 }
 
+#[tactic(auto, using(crate::proofs::FileLaws::is_found, crate::proofs::FileLaws::is_only, crate::proofs::FileLaws::is_fault, crate::proofs::FileLaws::is_keeping))]
 /// The schedule that a file is. Condition: at most 4,194,304 bytes.
 ///
 /// The fault is the first line outside the format with its reason, or `NoMemory`.
@@ -193,6 +196,8 @@ pub fn read_schedule(alloc: Global, bytes: &[u8]) -> Result<Schedule, LineFault>
     ensures only { (s : Schedule) → schedule_of bytes.now ≡ Ok s → MatchResult result (λ t. t ≡ s) (λ e. e ≡ LineFault.NoMemory) }
     // A refusal is the file's first one, unless memory is refused.
     ensures fault { IfErr result (λ e. (e ≡ LineFault.NoMemory) ⊎ (schedule_of bytes.now ≡ Err e)) }
+    // A schedule keeps the rules.
+    ensures rules { IfOk result KeepsRules }
 {
     read_lines(alloc, bytes)
 }

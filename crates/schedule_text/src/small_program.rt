@@ -1,11 +1,11 @@
-ghost use Rattle.std.specs.Prelude.{◌≡◌, IfOk};
+ghost use Rattle.std.specs.Prelude.{◌≡◌, ◌∷◌, [], IfOk};
 ghost use Rattle.std.specs.List.{list_any, list_all};
 ghost use Rattle.std.specs.Str.{bytes_eq};
 ghost use lib.Chars.{codes};
 ghost use Rattle.plan_base.specs.declared.tree.Expr.TheVariants as expr;
 ghost use Rattle.schedule_text.specs.Parts.{has_name, host_of, dev_of};
 ghost use Rattle.schedule_text.specs.Reads.{Gives, Leaves, Tells};
-ghost use Rattle.schedule_text.specs.SmallPrograms.{taken_names, own_name_at, print_at, chunk_at, goal_at, send_expr, send_at, statement_behind, statement_at, body_at, fun_at, funs_at, print_svc, svc_at, svcs_behind, svcs_at, are_calls_known, is_declared, small_program};
+ghost use Rattle.schedule_text.specs.SmallPrograms.{taken_names, own_name_at, print_at, chunk_at, goal_at, print_expr, send_of, send_at, statement_behind, statement_at, body_at, head_at, fun_at, funs_at, print_svc, svc_at, svcs_behind, svcs_at, are_calls_known, is_declared, small_program};
 
 use crate::fault::{LineReason, Stop};
 use crate::parts::name_of;
@@ -40,15 +40,33 @@ fn is_taken(name: &[u8]) -> bool
     }
 }
 
-/// The name of a function, and what stands behind it.
+/// A word that may be the name of a function, and what stands behind it.
 #[tactic(auto, unfolding(crate::specs::SmallPrograms::own_name_at))]
-fn own_name(alloc: Global, text: &[u8]) -> Result<(Name, &[u8]), Stop>
-    ensures { Gives (λ x. (x.0, x.1.now)) result (own_name_at text.now) }
+fn own_name(text: &[u8]) -> Result<(&[u8], &[u8]), LineReason>
+    ensures { Tells (λ x. (x.0.now, x.1.now)) result (own_name_at text.now) }
 {
     let (word, rest) = small_word(text)?;
     allow(!is_taken(word), LineReason::NotYet)?;
-    let name = name_of(alloc, word, LineReason::NotYet)?;
-    Ok((name, rest))
+    Ok((word, rest))
+}
+
+/// The name `print`.
+#[tactic(auto, using(crate::proofs::SmallLaws::print_is_name))]
+fn print_name(alloc: Global) -> Result<Name, NoMemory>
+    ensures { IfOk result (λ n. n ≡ codes "print") }
+{
+    Name::of(alloc, b"print")
+}
+
+/// The call of `print` with a text.
+fn print_of(alloc: Global, text: &[u8]) -> Result<Expr, NoMemory>
+    ensures { IfOk result (λ e. e ≡ print_expr text.now) }
+{
+    let text = Text::of(Vec::from_slice(alloc, text)?);
+    let mut args: Exprs = Items::new(alloc);
+    args.add(Expr::Str(text))?;
+    let name = print_name(alloc)?;
+    Ok(Expr::Call(name, args))
 }
 
 /// `("..")`, where `print` is declared.
@@ -60,32 +78,21 @@ fn print(alloc: Global, declared: bool, text: &[u8]) -> Result<(Expr, &[u8]), St
     let rest = symbol(b'(', text)?;
     let (plain, rest) = quoted(rest)?;
     let rest = symbol(b')', rest)?;
-    let mut args: Exprs = Items::new(alloc);
-    args.add(Expr::Str(Text::of(Vec::from_slice(alloc, plain)?)))?;
-    let name = print_name(alloc)?;
-    Ok((Expr::Call(name, args), rest))
+    let call = print_of(alloc, plain)?;
+    Ok((call, rest))
 }
 
-/// The name `print`.
-#[tactic(auto, using(crate::proofs::SmallLaws::print_is_name))]
-fn print_name(alloc: Global) -> Result<Name, NoMemory>
-    ensures { IfOk result (λ n. n ≡ codes "print") }
-{
-    Name::of(alloc, b"print")
-}
-
-/// `|NAME|()` as an expression.
+/// The name in `|NAME|()`, and what stands behind.
 #[tactic(auto, unfolding(crate::specs::SmallPrograms::chunk_at))]
-fn chunk(alloc: Global, text: &[u8]) -> Result<(Expr, &[u8]), Stop>
-    ensures { Gives (λ x. (x.0, x.1.now)) result (chunk_at text.now) }
+fn chunk(text: &[u8]) -> Result<(&[u8], &[u8]), LineReason>
+    ensures { Tells (λ x. (x.0.now, x.1.now)) result (chunk_at text.now) }
 {
     let rest = symbol(b'|', text)?;
-    let (name, rest) = own_name(alloc, rest)?;
+    let (name, rest) = own_name(rest)?;
     let rest = symbol(b'|', rest)?;
     let rest = symbol(b'(', rest)?;
     let rest = symbol(b')', rest)?;
-    let args = Items::new(alloc);
-    Ok((Expr::ChunkOf(name, args), rest))
+    Ok((name, rest))
 }
 
 /// `@H, N, %D`: a host, a bound, a device, and what stands behind them.
@@ -110,13 +117,16 @@ fn end_of(alloc: Global, host: u32, dev: u32) -> Result<(Boxed<Expr>, Boxed<Expr
     Ok((host, dev))
 }
 
-/// The send of a chunk.
-fn send_of(alloc: Global, chunk: Expr, host: u32, bound: u32, dev: u32) -> Result<Expr, NoMemory>
-    ensures { IfOk result (λ e. e ≡ send_expr chunk host bound dev) }
+/// The send of a function's chunk.
+#[tactic(auto, unfolding(crate::specs::SmallPrograms::send_of))]
+fn make_send(alloc: Global, name: &[u8], host: u32, bound: u32, dev: u32) -> Result<Expr, Stop>
+    ensures { Gives (λ e. e) result (send_of name.now host bound dev) }
 {
-    let (host, dev) = end_of(alloc, host, dev)?;
-    let chunk = Boxed::new(alloc, chunk)?;
+    let name = name_of(alloc, name, LineReason::NotYet)?;
+    let args = Items::new(alloc);
+    let chunk = Boxed::new(alloc, Expr::ChunkOf(name, args))?;
     let bound = Boxed::new(alloc, Expr::Int(i64::from(bound)))?;
+    let (host, dev) = end_of(alloc, host, dev)?;
     Ok(Expr::OnNeighbor(chunk, host, bound, dev))
 }
 
@@ -126,11 +136,11 @@ fn send(alloc: Global, text: &[u8]) -> Result<(Expr, &[u8]), Stop>
     ensures { Gives (λ x. (x.0, x.1.now)) result (send_at text.now) }
 {
     let rest = symbol(b'(', text)?;
-    let (chunk, rest) = chunk(alloc, rest)?;
+    let (name, rest) = chunk(rest)?;
     let rest = symbol(b',', rest)?;
     let (host, bound, dev, rest) = goal(rest)?;
     let rest = symbol(b')', rest)?;
-    let send = send_of(alloc, chunk, host, bound, dev)?;
+    let send = make_send(alloc, name, host, bound, dev)?;
     Ok((send, rest))
 }
 
@@ -162,7 +172,7 @@ fn statement(alloc: Global, declared: bool, text: &[u8]) -> Result<(Expr, &[u8])
 }
 
 /// 1 to `most` statements joined by `;`, and what stands behind them.
-#[tactic(auto, using(crate::proofs::SmallLaws::body_none, crate::proofs::SmallLaws::body_goes, crate::proofs::SmallLaws::body_stops))]
+#[tactic(auto, using(crate::proofs::SmallLaws::body_none, crate::proofs::SmallLaws::body_done, crate::proofs::SmallLaws::body_more, crate::proofs::SmallLaws::body_more_stops, crate::proofs::SmallLaws::body_stops))]
 fn body(alloc: Global, most: u32, declared: bool, text: &[u8]) -> Result<(Expr, &[u8]), Stop>
     ensures { Gives (λ x. (x.0, x.1.now)) result (body_at most declared text.now) }
 {
@@ -188,6 +198,18 @@ fn has_function(funs: &[Fun], name: &[u8]) -> bool
     funs.iter().any(|f| is(f.name.as_slice(), name))
 }
 
+/// What stands behind `() : unit =`.
+#[tactic(auto, unfolding(crate::specs::SmallPrograms::head_at))]
+fn head(text: &[u8]) -> Result<&[u8], LineReason>
+    ensures { Tells (λ x. x.now) result (head_at text.now) }
+{
+    let rest = symbol(b'(', text)?;
+    let rest = symbol(b')', rest)?;
+    let rest = symbol(b':', rest)?;
+    let rest = key(b"unit", rest)?;
+    symbol(b'=', rest)
+}
+
 /// `fun NAME() : unit = BODY` with a name that no function in `funs` has.
 #[tactic(auto, unfolding(crate::specs::SmallPrograms::fun_at))]
 fn function<'a>(
@@ -199,20 +221,18 @@ fn function<'a>(
     ensures { Gives (λ x. (x.0, x.1.now)) result (fun_at declared funs.now text.now) }
 {
     let rest = key(b"fun", text)?;
-    let (name, rest) = own_name(alloc, rest)?;
-    allow(!has_function(funs, name.as_slice()), LineReason::NotYet)?;
-    let rest = symbol(b'(', rest)?;
-    let rest = symbol(b')', rest)?;
-    let rest = symbol(b':', rest)?;
-    let rest = key(b"unit", rest)?;
-    let rest = symbol(b'=', rest)?;
+    let (name, rest) = own_name(rest)?;
+    allow(!has_function(funs, name), LineReason::NotYet)?;
+    let rest = head(rest)?;
+    let name = name_of(alloc, name, LineReason::NotYet)?;
     let (body, rest) = body(alloc, 32, declared, rest)?;
     let params = Items::new(alloc);
+    let result = Ty::Unit;
     Ok((
         Fun {
             name,
             params,
-            result: Ty::Unit,
+            result,
             body,
         },
         rest,
@@ -220,7 +240,7 @@ fn function<'a>(
 }
 
 /// 1 to `most` functions more, up to the end of the text.
-#[tactic(auto, using(crate::proofs::SmallLaws::funs_none, crate::proofs::SmallLaws::funs_goes, crate::proofs::SmallLaws::funs_stops))]
+#[tactic(auto, using(crate::proofs::SmallLaws::funs_none, crate::proofs::SmallLaws::funs_done, crate::proofs::SmallLaws::funs_goes, crate::proofs::SmallLaws::funs_stops))]
 fn functions(
     alloc: Global,
     most: u32,
@@ -242,6 +262,22 @@ fn functions(
     functions(alloc, most - 1, declared, funs, rest)
 }
 
+/// The declaration of `print`, alone.
+fn print_svcs(alloc: Global) -> Result<Svcs, NoMemory>
+    ensures { IfOk result (λ s. s ≡ print_svc ∷ []) }
+{
+    let name = print_name(alloc)?;
+    let mut params = Items::new(alloc);
+    params.add(Ty::Str)?;
+    let mut svcs = Items::new(alloc);
+    svcs.add(Svc {
+        name,
+        params,
+        result: Ty::Unit,
+    })?;
+    Ok(svcs)
+}
+
 /// `svc print : (string) -> unit` behind its first word.
 #[tactic(auto, unfolding(crate::specs::SmallPrograms::svc_at))]
 fn print_service(alloc: Global, text: &[u8]) -> Result<(Svcs, &[u8]), Stop>
@@ -255,15 +291,7 @@ fn print_service(alloc: Global, text: &[u8]) -> Result<(Svcs, &[u8]), Stop>
     let rest = symbol(b'-', rest)?;
     let rest = first(b'>', rest)?;
     let rest = key(b"unit", rest)?;
-    let name = print_name(alloc)?;
-    let mut params = Items::new(alloc);
-    params.add(Ty::Str)?;
-    let mut svcs = Items::new(alloc);
-    svcs.add(Svc {
-        name,
-        params,
-        result: Ty::Unit,
-    })?;
+    let svcs = print_svcs(alloc)?;
     Ok((svcs, rest))
 }
 

@@ -1,5 +1,11 @@
 pub mod SameTypes
 pub mod Steps
 pub mod Layers
+pub mod Heads
 pub mod Right
 pub mod Follows
+pub mod Reaches
+pub mod Itself
+pub mod Full
+pub mod Programs
+pub mod Depths

@@ -2,6 +2,7 @@
 use Rattle.std.proofs.Common.{◌≡◌, ℕ, zero, suc, ◌+◌, ◌<◌, ◌≤◌, ◌∙◌, sym, ap, refl, subst, Bool, true, false, ◌&&◌, max, List, [], ◌∷◌, map, arith, rules}
 use Rattle.std.proofs.lemmas.Grind.{common_steps}
 use Rattle.std.specs.List.{fold}
+use Rattle.std.specs.Prelude.{IsTrue, ◌↔◌}
 use Rattle.plan_base.specs.declared.tree.Ty.{Ty, Ty-F, out-Ty, roll-Ty, roll-out-Ty, map-Ty, fold_out-Ty}
 use Rattle.plan_base.specs.declared.tree.Ty as ty
 use Rattle.plan_base.specs.Trees.{TyLayer}
@@ -87,3 +88,12 @@ same_type_itself t = same_itself (type_depth t) t (omega arith)
 
 pub same_type_of : (t u : Ty) → t ≡ u → same_type t u ≡ true
 same_type_of t u e = rw (← e) (same_type_itself t)
+
+-- an answer that is true exactly where the types are equal is the test's
+pub same_decided : (r : Bool) (t u : Ty) → IsTrue r ↔ (t ≡ u) → r ≡ same_type t u
+same_decided true t u h = sym (same_type_of t u (h.0 refl))
+same_decided false t u h = go (same_type t u) refl
+  where
+    go : (b : Bool) → same_type t u ≡ b → false ≡ b
+    go true e = let w : false ≡ true = h.1 (same_type_true t u e) in absurd (cc)
+    go false e = refl
