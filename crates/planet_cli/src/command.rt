@@ -6,9 +6,8 @@ ghost use Rattle.planet_cli.specs.Refusals.{IfStoppedRefused};
 ghost use Rattle.planet_cli.specs.declared.status.Refusal.{Refusal};
 
 use crate::status::Refusal;
-use node_io::{Failed, Sink};
-use plan_base::NoMemory;
-use std::alloc::{AllocError, Global};
+use node_io::Sink;
+use std::alloc::Global;
 
 /// Why a command stopped before its output was whole.
 #[derive(Debug, Drop)]
@@ -19,28 +18,6 @@ pub enum Stop {
     WriteFault,
     /// Memory was refused.
     NoMemory,
-}
-
-impl From<Failed> for Stop {
-    ghost use Rattle.std.specs.Prelude.{◌≡◌};
-    ghost use Rattle.planet_cli.specs.declared.command.Stop.TheVariants.{WriteFault};
-
-    ghost from_gives = { λ _ e. e ≡ WriteFault };
-
-    fn from(_failed: Failed) -> Stop {
-        Stop::WriteFault
-    }
-}
-
-impl From<AllocError> for Stop {
-    ghost use Rattle.std.specs.Prelude.{◌≡◌};
-    ghost use Rattle.planet_cli.specs.declared.command.Stop.TheVariants.{NoMemory};
-
-    ghost from_gives = { λ _ e. e ≡ NoMemory };
-
-    fn from(_refused: AllocError) -> Stop {
-        Stop::NoMemory
-    }
 }
 
 /// A command that reads one file and writes one text.
