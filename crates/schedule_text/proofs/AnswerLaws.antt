@@ -20,7 +20,7 @@ use Rattle.schedule_text.specs.Lines.{lines, words}
 use Rattle.schedule_text.specs.Reads.{and_then, word_at, end_at, allowed}
 use Rattle.schedule_text.specs.Parts.{is_called, named_word}
 use Rattle.schedule_text.specs.Schedules.{network_word, host_line, link_line, opened, program_line, close_program, network_rest, network_line, event_line, is_skipped, at_line, with_line, staying, header_step, step, schedule_of_reading, finish, read_on, nothing_read, schedule_of}
-use Rattle.schedule_text.proofs.RuleLaws.{IfRead, then_keeps, done_keeps, IfStep, step_done, step_is, at_line_keeps, either_keeps}
+use Rattle.schedule_text.proofs.RuleLaws.{IfRead, then_keeps, done_keeps, IfStep, step_done, step_none, step_is, at_line_keeps, either_keeps}
 
 -- a stage's program began at a line up to one
 abbrev Begun : ℕ → Stage → Type 0
@@ -68,15 +68,9 @@ either_placed : {B : Type 0} (high : ℕ) (t : Bool) (a b : Result B LineFault) 
 either_placed high true a b h k = h
 either_placed high false a b h k = k
 
-then_placed : {A B : Type 0} (high : ℕ) (r : Result A LineFault) (f : A → Result B LineFault) → OnFault high r → ((x : A) → OnFault high (f x)) → OnFault high (and_then r f)
-then_placed high (Ok x) f h k e q = k x e q
-then_placed {A} {B} high (Err d) f h k e q = h e (ap failed (err_is {B = B} d e q))
-
 step_placed : (number : ℕ) (line : List ℕ) (stage : Stage) (s : Reading) → 1 ≤ number → Begun number stage → OnFault number (step number line stage s)
 unfolding step
-step_placed number line stages.Header s low b =
-    then_placed number (header_step number line) _ (either_placed number (bytes_eq line (codes "planet schedule 1")) _ _ (fault_done number stages.Network) (fault_here {B = Stage} number number BadHeader low (omega arith)))
-    (λ stage. fault_done number (stage, s))
+step_placed number line stages.Header s low b = either_placed number (bytes_eq line (codes "planet schedule 1")) _ _ (fault_done number (stages.Network, s)) (fault_here {B = Stage × Reading} number number BadHeader low (omega arith))
 step_placed number line stages.Network s low b = either_placed number (is_skipped line) _ _ (fault_done number (stages.Network, s)) (at_line_placed number number (network_line number (words line) s) low (omega arith))
 step_placed number line (stages.Inside begun) s low b =
     either_placed number (bytes_eq line (codes "end program")) _ _
@@ -118,13 +112,9 @@ staying_begun : (number : ℕ) (stage : Stage) (r : Result Reading LineReason) �
 staying_begun number stage (Ok s) b y e = done_keeps (BegunBoth number) (stage, s) b y e
 staying_begun number stage (Err r) b y e = absurd cc
 
-header_begun : (t : Bool) (number : ℕ) (s : Reading) → IfStep (BegunBoth number) (and_then (cond t (Ok stages.Network) (Err (faults.Line number BadHeader))) (λ stage. Ok (stage, s)))
-header_begun true number s y e = step_done (BegunBoth number) (stages.Network, s) tt y e
-header_begun false number s y e = absurd cc
-
 step_begun : (number : ℕ) (line : List ℕ) (stage : Stage) (s : Reading) → 1 ≤ number → Begun number stage → IfStep (BegunBoth number) (step number line stage s)
 unfolding step
-step_begun number line stages.Header s low b = header_begun (bytes_eq line (codes "planet schedule 1")) number s
+step_begun number line stages.Header s low b = either_keeps (BegunBoth number) (bytes_eq line (codes "planet schedule 1")) _ _ (step_done (BegunBoth number) (stages.Network, s) tt) (step_none (BegunBoth number) (faults.Line number BadHeader))
 step_begun number line stages.Network s low b = either_keeps (BegunBoth number) (is_skipped line) _ _ (step_done (BegunBoth number) (stages.Network, s) tt) (at_line_keeps (BegunBoth number) number (network_line number (words line) s) (line_begun number (words line) s low))
 step_begun number line (stages.Inside begun) s low b =
     either_keeps (BegunBoth number) (bytes_eq line (codes "end program")) _ _
@@ -143,6 +133,7 @@ stopped_placed number more (Ok x) f le h k e q = k x refl e q
 stopped_placed number more (Err d) f le h k e q = placed_to number more e le (h e (ap failed (err_is {B = Schedule} d e q)))
 
 read_placed : (ls : List (List ℕ)) (number : ℕ) (stage : Stage) (s : Reading) → 1 ≤ number → Begun number stage → OnFault (number + length ls) (read_on number ls stage s)
+unfolding read_on
 read_placed [] number stage s low b e h = placed_to number (number + length {A = List ℕ} []) e (omega arith) (finish_placed number stage s low e h)
 read_placed (line ∷ ls) number stage s low b e h =
     stopped_placed number (number + length (line ∷ ls)) (step number line stage s) _ (omega arith) (step_placed number line stage s low b)

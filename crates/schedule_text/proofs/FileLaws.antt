@@ -16,6 +16,7 @@ use Rattle.schedule_text.proofs.RuleLaws.{schedule_keeps}
 -- a line that is inside the format
 pub file_more : (number : ℕ) (rest line more : List ℕ) (stage next : Stage) (reading left : Reading) (total : Result Schedule LineFault)
     → lines rest ≡ line ∷ lines more → step number line stage reading ≡ Ok (next, left) → read_on number (lines rest) stage reading ≡ total → read_on (number + 1) (lines more) next left ≡ total
+unfolding read_on
 file_more number rest line more stage next reading left total split is so_far =
     let one : read_on number (lines rest) stage reading ≡ read_on (number + 1) (lines more) next left = rw (split, is) refl in
     sym one ∙ so_far
@@ -23,6 +24,7 @@ file_more number rest line more stage next reading left total split is so_far =
 -- a line that is outside
 pub file_stop : (number : ℕ) (rest line more : List ℕ) (stage : Stage) (reading : Reading) (e : LineFault) (total : Result Schedule LineFault)
     → lines rest ≡ line ∷ lines more → FileFails e (step number line stage reading) → read_on number (lines rest) stage reading ≡ total → FileFails e total
+unfolding read_on
 file_stop number rest line more stage reading faults.NoMemory total split is so_far = tt
 file_stop number rest line more stage reading (faults.Line n r) total split is so_far =
     let one : read_on number (lines rest) stage reading ≡ Err (faults.Line n r) = rw (split, is) refl in
@@ -31,14 +33,15 @@ file_stop number rest line more stage reading (faults.Line n r) total split is s
 -- the end of the file
 pub file_end : (number : ℕ) (rest : List ℕ) (stage : Stage) (reading : Reading) (total : Result Schedule LineFault)
     → lines rest ≡ [] → read_on number (lines rest) stage reading ≡ total → total ≡ finish number stage reading
+unfolding read_on
 file_end number rest stage reading total split so_far =
     let one : read_on number (lines rest) stage reading ≡ finish number stage reading = rw split refl in
     sym so_far ∙ one
 
 -- the first line
-pub file_begin : (bytes : List ℕ) → read_on 1 (lines bytes) stages.Header nothing_read ≡ schedule_of bytes
+pub file_begin : (bytes : List ℕ) (reading : Reading) → reading ≡ nothing_read → read_on 1 (lines bytes) stages.Header reading ≡ schedule_of bytes
 unfolding schedule_of
-file_begin bytes = refl
+file_begin bytes reading e = rw e refl
 
 abbrev same : Schedule → Schedule
 same s = s
@@ -47,6 +50,10 @@ pub gives_same : (r : Result Schedule LineFault) (total : Result Schedule LineFa
 gives_same (Ok s) total e = sym e
 gives_same (Err faults.NoMemory) total e = tt
 gives_same (Err (faults.Line n r)) total e = sym e
+
+pub file_done : (number : ℕ) (rest : List ℕ) (stage : Stage) (reading : Reading) (total r : Result Schedule LineFault)
+    → lines rest ≡ [] → read_on number (lines rest) stage reading ≡ total → r ≡ finish number stage reading → FileGives same r total
+file_done number rest stage reading total r split so_far e = gives_same r total (e ∙ sym (file_end number rest stage reading total split so_far))
 
 pub is_found : (r : Result Schedule LineFault) (total : Result Schedule LineFault) → FileGives same r total → IfOk r (λ s. total ≡ Ok s)
 is_found (Ok s) total e = e

@@ -10,7 +10,7 @@ use Rattle.std.proofs.lemmas.List.Folds.{list_any-append}
 use Rattle.std.proofs.lemmas.List.Elements.{All-nil, All-push, All-weaker}
 use Rattle.plan_base.specs.Sizes.{chunk_weight}
 use Rattle.schedule_text.specs.declared.fault.LineReason.{LineReason}
-use Rattle.schedule_text.specs.declared.fault.LineReason.TheVariants.{BadWord, BadNumber, UnknownHost, TwiceNamed, TooMany, BadArgument, NotYet}
+use Rattle.schedule_text.specs.declared.fault.LineReason.TheVariants.{BadHeader, BadWord, BadNumber, UnknownHost, TwiceNamed, TooMany, BadArgument, NotYet}
 use Rattle.schedule_text.specs.declared.fault.LineFault.{LineFault}
 use Rattle.schedule_text.specs.declared.fault.LineFault.TheVariants as faults
 use Rattle.schedule_text.specs.declared.keyword.NetworkWord.{NetworkWord}
@@ -329,6 +329,9 @@ step_is x y e = cc
 pub step_done : {B : Type 0} (P : B → Type 0) (x : B) → P x → IfStep P (Ok x)
 step_done P x p y e = subst P (step_is x y e) p
 
+pub step_none : {B : Type 0} (P : B → Type 0) (d : LineFault) → IfStep {B = B} P (Err d)
+step_none P d y e = absurd cc
+
 pub step_then : {A B : Type 0} (P : B → Type 0) (r : Result A LineFault) (f : A → Result B LineFault) → ((x : A) → r ≡ Ok x → IfStep P (f x)) → IfStep P (and_then r f)
 step_then P (Ok x) f h y e = h x refl y e
 step_then P (Err r) f h y e = absurd cc
@@ -347,7 +350,7 @@ either_keeps P false a b h k = k
 
 step_keeps : (number : ℕ) (line : List ℕ) (stage : Stage) (s : Reading) → Keeps s → IfStep KeepsBoth (step number line stage s)
 unfolding step
-step_keeps number line stages.Header s k = step_then KeepsBoth (header_step number line) _ (λ stage hs. step_done KeepsBoth (stage, s) k)
+step_keeps number line stages.Header s k = either_keeps KeepsBoth (bytes_eq line (codes "planet schedule 1")) _ _ (step_done KeepsBoth (stages.Network, s) k) (step_none KeepsBoth (faults.Line number BadHeader))
 step_keeps number line stages.Network s k = either_keeps KeepsBoth (is_skipped line) _ _ (step_done KeepsBoth (stages.Network, s) k) (at_line_keeps KeepsBoth number (network_line number (words line) s) (network_keeps number (words line) s k))
 step_keeps number line (stages.Inside begun) s k =
     either_keeps KeepsBoth (bytes_eq line (codes "end program")) _ _
@@ -365,6 +368,7 @@ finish_keeps number (stages.Inside begun) s k y e = absurd cc
 finish_keeps number stages.Events s k y e = step_done KeepsRules (schedule_of_reading s) (whole_keeps s k) y e
 
 read_keeps : (ls : List (List ℕ)) (number : ℕ) (stage : Stage) (s : Reading) → Keeps s → IfStep KeepsRules (read_on number ls stage s)
+unfolding read_on
 read_keeps [] number stage s k = finish_keeps number stage s k
 read_keeps (line ∷ ls) number stage s k = step_then KeepsRules (step number line stage s) _ (λ next hn. read_keeps ls (number + 1) next.0 next.1 (step_keeps number line stage s k next hn))
 

@@ -220,8 +220,8 @@ staying stage (Ok s) = Ok (stage, s)
 staying stage (Err e) = Err e
 
 -- the header
-abbrev pub header_step : ℕ → List ℕ → Result Stage LineFault
-header_step number line = if bytes_eq line (codes "planet schedule 1") then Ok stages.Network else Err (faults.Line number BadHeader)
+abbrev pub header_step : ℕ → List ℕ → Reading → Result (Stage × Reading) LineFault
+header_step number line s = if bytes_eq line (codes "planet schedule 1") then Ok (stages.Network, s) else Err (faults.Line number BadHeader)
 
 -- a line of the network
 abbrev pub network_step : ℕ → List ℕ → Reading → Result (Stage × Reading) LineFault
@@ -237,7 +237,7 @@ event_step number line s = if is_skipped line then Ok (stages.Events, s) else at
 
 -- what a line adds to what the lines above it said
 unfoldable pub step : ℕ → List ℕ → Stage → Reading → Result (Stage × Reading) LineFault
-step number line stages.Header s = and_then (header_step number line) (λ stage. Ok (stage, s))
+step number line stages.Header s = header_step number line s
 step number line stages.Network s = network_step number line s
 step number line (stages.Inside begun) s = program_step line begun s
 step number line stages.Events s = event_step number line s
@@ -252,7 +252,7 @@ finish number stages.Events s = Ok (schedule_of_reading s)
 finish number _ s = Err (faults.Line number BadWord)
 
 -- what the lines from the one with a number on say, behind what those above it said
-abbrev pub read_on : ℕ → List (List ℕ) → Stage → Reading → Result Schedule LineFault
+unfoldable pub read_on : ℕ → List (List ℕ) → Stage → Reading → Result Schedule LineFault
 read_on number [] stage s = finish number stage s
 read_on number (line ∷ more) stage s = and_then (step number line stage s) (λ next. read_on (number + 1) more next.0 next.1)
 

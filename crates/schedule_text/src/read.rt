@@ -35,8 +35,8 @@ fn stopped_at(number: u32, stop: Stop) -> LineFault
 }
 
 /// The header.
-fn read_header(number: u32, line: &[u8]) -> Result<Stage, LineFault>
-    ensures { result ≡ header_step number line.now }
+fn read_header(number: u32, line: &[u8], reading: &Reading) -> Result<Stage, LineFault>
+    ensures { LeavesStep result reading.now (header_step number line.now reading.now) }
 {
     if is(line, b"planet schedule 1") {
         Ok(Stage::Network)
@@ -125,7 +125,7 @@ fn read_line(
     ensures { LeavesStep result reading.new (step number line.now stage reading.old) }
 {
     match stage {
-        Stage::Header => read_header(number, line),
+        Stage::Header => read_header(number, line, reading),
         Stage::Network => network_step(alloc, number, line, reading),
         Stage::Inside(begun) => program_step(alloc, line, begun, reading),
         Stage::Events => event_step(alloc, number, line, reading),
@@ -166,7 +166,7 @@ fn start(alloc: Global) -> Reading
     }
 }
 
-#[tactic(auto, using(crate::proofs::FileLaws::file_begin, crate::proofs::FileLaws::file_more, crate::proofs::FileLaws::file_stop, crate::proofs::FileLaws::file_end, crate::proofs::FileLaws::gives_same))]
+#[tactic(auto, using(crate::proofs::FileLaws::file_begin, crate::proofs::FileLaws::file_more, crate::proofs::FileLaws::file_stop, crate::proofs::FileLaws::file_done))]
 /// All lines.
 fn read_lines(alloc: Global, bytes: &[u8]) -> Result<Schedule, LineFault>
     requires { length bytes.now ≤ 4194304 }

@@ -346,6 +346,16 @@ fn all_calls_known(funs: &[Fun]) -> bool
     funs.iter().all(|f| calls_known(funs, &f.body))
 }
 
+/// Whether `print` is declared.
+fn declares(svcs: &[Svc]) -> bool
+    ensures { result ≡ is_declared svcs.now }
+{
+    match svcs {
+        [] => false,
+        [_, ..] => true,
+    }
+}
+
 /// The small program that a text is. The reason is `NotYet` where it is none.
 #[tactic(auto, unfolding(crate::specs::SmallPrograms::small_program))]
 pub fn read_small(alloc: Global, text: &[u8]) -> Result<Program, Stop>
@@ -354,7 +364,7 @@ pub fn read_small(alloc: Global, text: &[u8]) -> Result<Program, Stop>
     allow(text.len() <= 4_096, LineReason::NotYet)?;
     let (svcs, rest) = services(alloc, text)?;
     let mut funs = Items::new(alloc);
-    functions(alloc, 16, !svcs.is_empty(), &mut funs, rest)?;
+    functions(alloc, 16, declares(svcs.as_slice()), &mut funs, rest)?;
     allow(all_calls_known(funs.as_slice()), LineReason::NotYet)?;
     let exns = Items::new(alloc);
     Ok(Program { svcs, exns, funs })
