@@ -1,5 +1,6 @@
 -- The rows of some families, and of one more.
-use Rattle.std.proofs.Common.{◌≡◌, List, [], ◌∷◌, ◌++◌, refl, ◌∙◌, ap}
+use Rattle.std.proofs.Common.{◌≡◌, ℕ, ◌+◌, ◌<◌, List, [], ◌∷◌, ◌++◌, length, take, get_or, refl, ◌∙◌, ap}
+use Rattle.std.proofs.lemmas.Grind.{take_at_read}
 use Rattle.std.proofs.lemmas.List.Concat.{flat_map-append}
 use Rattle.std.proofs.lemmas.List.{append-nil}
 use Rattle.plan_base.specs.declared.ids.Family.{Family}
@@ -14,3 +15,8 @@ rows_none history w = refl
 pub rows_more : (history : List Entry) (w : WorldState) (fs : List Family) (f : Family) → rows_text history w (fs ++ f ∷ []) ≡ rows_text history w fs ++ row_text history w f
 unfolding rows_text
 rows_more history w fs f = flat_map-append (row_text history w) fs (f ∷ []) ∙ ap (λ r. rows_text history w fs ++ r) (append-nil (row_text history w f))
+
+-- the rows of some families and of the next one
+pub rows_step : (history : List Entry) (w : WorldState) (fs : List Family) (i : ℕ) (d : Family) → i < length fs
+    → rows_text history w (take (i + 1) fs) ≡ rows_text history w (take i fs) ++ row_text history w (get_or fs i d)
+rows_step history w fs i d h = ap (rows_text history w) (take_at_read fs i d h).1 ∙ rows_more history w (take i fs) (get_or fs i d)

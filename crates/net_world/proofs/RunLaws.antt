@@ -1,10 +1,10 @@
 -- Runs of one event more, and fronts of what they write.
-use Rattle.std.proofs.Common.{◌≡◌, ℕ, zero, suc, ◌+◌, ◌-◌, ◌<◌, ◌≤◌, List, [], ◌∷◌, ◌++◌, length, take, drop, get_or, refl, sym, ap, ◌∙◌, append_assoc, arith, length-append}
+use Rattle.std.proofs.Common.{◌≡◌, ℕ, zero, suc, ◌+◌, ◌-◌, ◌<◌, ◌≤◌, List, [], ◌∷◌, ◌++◌, length, take, drop, get_or, refl, sym, ap, ◌∙◌, append_assoc, arith, subst}
 use Rattle.std.specs.Prelude.{min, codes}
 use Rattle.std.specs.List.{flat_map}
 use Rattle.std.proofs.lemmas.List.Concat.{flat_map-append}
 use Rattle.std.proofs.lemmas.List.{append-nil, take-append-le, take_min, take-append-drop, take_all}
-use Rattle.std.proofs.Math.Seq.{take-append-add, take-append_seam}
+use Rattle.std.proofs.Math.Seq.{take-append-add, take-append_seam, take-length}
 use Rattle.std.proofs.lemmas.Grind.{take_at_read}
 use Rattle.schedule_text.specs.declared.schedule.Topology.{Topology}
 use Rattle.schedule_text.specs.declared.schedule.WorldEvent.{WorldEvent}
@@ -13,9 +13,11 @@ use Rattle.plan_base.specs.declared.ids.Family.{Family}
 use Rattle.world_laws.specs.declared.lines.Entry.{Entry}
 use Rattle.world_laws.specs.World.{WorldState, happens, entries, world_after, history_of, opening}
 use Rattle.world_laws.specs.Texts.{entry_text, entries_text, trace_text, ledger_text, run_text}
-use Rattle.world_laws.specs.Counts.{granted, hops, evals, left, live, Balanced, IsBounded, EventsFit, HostsDiffer}
+use Rattle.world_laws.specs.Counts.{granted, hops, evals, left, live, Balanced, IsBounded, IsSound, event_fits, EventsFit, HostsDiffer}
 use Rattle.world_laws.proofs.WorldBalance.{opening_balances}
 use Rattle.world_laws.proofs.Injecting.{opening_once_given}
+use Rattle.world_laws.proofs.Fitting.{opening_sound, run_sound}
+use Rattle.std.proofs.lemmas.List.Elements.{All-take}
 use Rattle.net_world.specs.Running.{IsAfterEvent, IsAfterEvents}
 
 pub entries_text-append : (xs ys : List Entry) → entries_text (xs ++ ys) ≡ entries_text xs ++ entries_text ys
@@ -37,24 +39,26 @@ unfolding history_of world_after
 history_of-append [] fs w = refl
 history_of-append (x ∷ es) fs w = ap (λ h. entries w x ++ h) (history_of-append es fs (happens w x).world) ∙ sym (append_assoc (entries w x) (history_of es (happens w x).world) (history_of fs (world_after es (happens w x).world)))
 
--- after one more of some events
-pub events_more : (w : WorldState) (es : List WorldEvent) (i : ℕ) (d : WorldEvent) (now new : WorldState) (before after : List Entry) → i < length es
-    → IsAfterEvents w (take i es) now before → IsAfterEvent now before (get_or es i d) new after → IsAfterEvents w (take (i + 1) es) new after
-events_more w es i d now new before after h a b =
-    let e : take (i + 1) es ≡ take i es ++ get_or es i d ∷ [] = (take_at_read es i d h).1 in
-    record {
-      world = b.world ∙ ap (λ x. (happens x (get_or es i d)).world) a.world ∙ sym (world_after-push (take i es) (get_or es i d) w) ∙ ap (λ x. world_after x w) (sym e);
-      entries_of = b.history ∙ ap (λ x. x ++ entries now (get_or es i d)) a.entries_of ∙ ap (λ x. history_of (take i es) w ++ entries x (get_or es i d)) a.world
-        ∙ sym (history_of-push (take i es) (get_or es i d) w) ∙ ap (λ x. history_of x w) (sym e) }
+module _ (w : WorldState) (es : List WorldEvent) (i : ℕ) (e : WorldEvent) (within : i < length es) (is : e ≡ get_or es i e) where
+  next_events : take (i + 1) es ≡ take i es ++ e ∷ []
+  next_events = (take_at_read es i e within).1 ∙ ap (λ x. take i es ++ x ∷ []) (sym is)
 
--- the text of one more of some events
-pub text_more : (w : WorldState) (es : List WorldEvent) (i : ℕ) (d : WorldEvent) (now : WorldState) → i < length es → now ≡ world_after (take i es) w
-    → entries_text (history_of (take (i + 1) es) w) ≡ entries_text (history_of (take i es) w) ++ entries_text (entries now (get_or es i d))
-text_more w es i d now h a =
-    let e : take (i + 1) es ≡ take i es ++ get_or es i d ∷ [] = (take_at_read es i d h).1 in
-    ap (λ x. entries_text (history_of x w)) e ∙ ap entries_text (history_of-push (take i es) (get_or es i d) w)
-    ∙ entries_text-append (history_of (take i es) w) (entries (world_after (take i es) w) (get_or es i d))
-    ∙ ap (λ x. entries_text (history_of (take i es) w) ++ entries_text (entries x (get_or es i d))) (sym a)
+  -- after one more of some events
+  pub events_more : (now new : WorldState) (before after : List Entry) → IsAfterEvents w (take i es) now before → IsAfterEvent now before e new after → IsAfterEvents w (take (i + 1) es) new after
+  events_more now new before after a b = record {
+    world = b.world ∙ ap (λ x. (happens x e).world) a.world ∙ sym (world_after-push (take i es) e w) ∙ ap (λ x. world_after x w) (sym next_events);
+    entries_of = b.history ∙ ap (λ x. x ++ entries now e) a.entries_of ∙ ap (λ x. history_of (take i es) w ++ entries x e) a.world
+        ∙ sym (history_of-push (take i es) e w) ∙ ap (λ x. history_of x w) (sym next_events);
+  }
+
+  -- the text of one more of some events
+  text_more : (now : WorldState) → now ≡ world_after (take i es) w → entries_text (history_of (take (i + 1) es) w) ≡ entries_text (history_of (take i es) w) ++ entries_text (entries now e)
+  text_more now a = ap (λ x. entries_text (history_of x w)) next_events ∙ ap entries_text (history_of-push (take i es) e w)
+      ∙ entries_text-append (history_of (take i es) w) (entries (world_after (take i es) w) e) ∙ ap (λ x. entries_text (history_of (take i es) w) ++ entries_text (entries x e)) (sym a)
+
+  pub written_more : (now : WorldState) (old mid new : List ℕ) → now ≡ world_after (take i es) w → mid ≡ old ++ entries_text (history_of (take i es) w) → new ≡ mid ++ entries_text (entries now e)
+      → new ≡ old ++ entries_text (history_of (take (i + 1) es) w)
+  written_more now old mid new a m n = n ∙ ap (λ x. x ++ entries_text (entries now e)) m ∙ append_assoc old (entries_text (history_of (take i es) w)) (entries_text (entries now e)) ∙ ap (λ x. old ++ x) (sym (text_more now a))
 
 take-within : {X : Type 0} (xs ys : List X) (n : ℕ) → take (min n (length xs)) (xs ++ ys) ≡ take n xs
 take-within xs ys n = take-append-le (min n (length xs)) xs ys (omega arith) ∙ take_min n xs
@@ -66,7 +70,8 @@ front_within old mid new done piece rest whole a b f =
     record {
       count = length done + n;
       is = f.is ∙ ap (λ x. x ++ take f.count piece) a ∙ append_assoc old done (take f.count piece)
-        ∙ ap (λ x. old ++ x) (ap (λ x. done ++ x) (sym (take-within piece rest f.count)) ∙ sym (take-append-add done (piece ++ rest) n) ∙ ap (take (length done + n)) (sym b)) }
+          ∙ ap (λ x. old ++ x) (ap (λ x. done ++ x) (sym (take-within piece rest f.count)) ∙ sym (take-append-add done (piece ++ rest) n) ∙ ap (take (length done + n)) (sym b));
+    }
 
 -- nothing more was written
 pub front_so_far : (old mid done rest whole : List ℕ) → mid ≡ old ++ done → whole ≡ done ++ rest → AppendsFront old mid whole
@@ -92,20 +97,78 @@ text_none w es = refl
 pub events_all : (w : WorldState) (es : List WorldEvent) (i : ℕ) (now : WorldState) (history : List Entry) → length es ≤ i → IsAfterEvents w (take i es) now history → IsAfterEvents w es now history
 events_all w es i now history h a = let e : take i es ≡ es = take_all i es h in rw e at a
 
--- the text of some events, of one more, and of the rest
-text_split : (w : WorldState) (es : List WorldEvent) (i : ℕ) (d : WorldEvent) (now : WorldState) → i < length es → now ≡ world_after (take i es) w
-    → entries_text (history_of es w) ≡ entries_text (history_of (take i es) w) ++ (entries_text (entries now (get_or es i d)) ++ entries_text (history_of (drop (i + 1) es) (world_after (take (i + 1) es) w)))
-text_split w es i d now h a =
-    ap (λ x. entries_text (history_of x w)) (sym (take-append-drop (i + 1) es))
-    ∙ ap entries_text (history_of-append (take (i + 1) es) (drop (i + 1) es) w)
-    ∙ entries_text-append (history_of (take (i + 1) es) w) (history_of (drop (i + 1) es) (world_after (take (i + 1) es) w))
-    ∙ ap (λ x. x ++ entries_text (history_of (drop (i + 1) es) (world_after (take (i + 1) es) w))) (text_more w es i d now h a)
-    ∙ append_assoc (entries_text (history_of (take i es) w)) (entries_text (entries now (get_or es i d))) (entries_text (history_of (drop (i + 1) es) (world_after (take (i + 1) es) w)))
+module _ (w : WorldState) (es : List WorldEvent) (i : ℕ) (e : WorldEvent) (within : i < length es) (is : e ≡ get_or es i e) where
+  -- the text of some events, of one more, and of the rest
+  text_split : (now : WorldState) → now ≡ world_after (take i es) w
+      → entries_text (history_of es w) ≡ entries_text (history_of (take i es) w) ++ (entries_text (entries now e) ++ entries_text (history_of (drop (i + 1) es) (world_after (take (i + 1) es) w)))
+  text_split now a =
+      ap (λ x. entries_text (history_of x w)) (sym (take-append-drop (i + 1) es))
+      ∙ ap entries_text (history_of-append (take (i + 1) es) (drop (i + 1) es) w)
+      ∙ entries_text-append (history_of (take (i + 1) es) w) (history_of (drop (i + 1) es) (world_after (take (i + 1) es) w))
+      ∙ ap (λ x. x ++ entries_text (history_of (drop (i + 1) es) (world_after (take (i + 1) es) w))) (text_more w es i e within is now a)
+      ∙ append_assoc (entries_text (history_of (take i es) w)) (entries_text (entries now e)) (entries_text (history_of (drop (i + 1) es) (world_after (take (i + 1) es) w)))
 
--- a front of an event's text behind that of the events before it
-pub front_event : (w : WorldState) (es : List WorldEvent) (i : ℕ) (d : WorldEvent) (now : WorldState) (old mid new : List ℕ) → i < length es → now ≡ world_after (take i es) w
-    → mid ≡ old ++ entries_text (history_of (take i es) w) → AppendsFront mid new (entries_text (entries now (get_or es i d))) → AppendsFront old new (entries_text (history_of es w))
-front_event w es i d now old mid new h a m f = front_within old mid new _ _ _ _ m (text_split w es i d now h a) f
+  -- a front of an event's text behind that of the events before it
+  pub front_event : (now : WorldState) (old mid new : List ℕ) → now ≡ world_after (take i es) w
+      → mid ≡ old ++ entries_text (history_of (take i es) w) → AppendsFront mid new (entries_text (entries now e)) → AppendsFront old new (entries_text (history_of es w))
+  front_event now old mid new a m f = front_within old mid new (entries_text (history_of (take i es) w)) (entries_text (entries now e))
+      (entries_text (history_of (drop (i + 1) es) (world_after (take (i + 1) es) w))) (entries_text (history_of es w)) m (text_split now a) f
+
+-- the text of all events, once all were made
+pub text_all : (w : WorldState) (es : List WorldEvent) (i : ℕ) (old new : List ℕ) → length es ≤ i → new ≡ old ++ entries_text (history_of (take i es) w) → new ≡ old ++ entries_text (history_of es w)
+text_all w es i old new h e = e ∙ ap (λ x. old ++ entries_text (history_of x w)) (take_all i es h)
+
+-- the whole is a front of itself
+pub front_all : (old new all : List ℕ) → new ≡ old ++ all → AppendsFront old new all
+front_all old new all e = record { count = length all; is = e ∙ ap (λ x. old ++ x) (sym (take-length all)) }
+
+-- nothing is a front
+pub front_none : (old all : List ℕ) → AppendsFront old old all
+front_none old all = record { count = 0; is = sym (append-nil old) }
+
+-- what is known of the families after all events
+pub after_law : (w : WorldState) (es : List WorldEvent) (now : WorldState) (history : List Entry) → IsAfterEvents w es now history
+    → ((f : Family) → Balanced f (history_of es w) (world_after es w)) → (f : Family) → Balanced f history now
+after_law w es now history a law f = let b = law f in rw (sym a.entries_of, sym a.world) at b
+
+pub after_small : (w : WorldState) (es : List WorldEvent) (now : WorldState) (history : List Entry) → IsAfterEvents w es now history
+    → ((f : Family) → granted f (history_of es w) ≤ 65535) → (f : Family) → granted f history ≤ 65535
+after_small w es now history a small f = let b = small f in rw (sym a.entries_of) at b
+
+-- the ledger after all events
+pub after_ledger : (w : WorldState) (es : List WorldEvent) (now : WorldState) (history : List Entry) → IsAfterEvents w es now history
+    → ledger_text history now ≡ ledger_text (history_of es w) (world_after es w)
+after_ledger w es now history a = ap (λ h. ledger_text h now) a.entries_of ∙ ap (ledger_text (history_of es w)) a.world
+
+pub opening_made : (t : Topology) → (opening t).made ≡ 0
+unfolding opening
+opening_made t = refl
+
+-- what is known of a network that begins as the opening
+pub start_sound : (w : WorldState) (t : Topology) → w ≡ opening t → IsSound w
+start_sound w t e = let P : WorldState → Type 0 = λ x. IsSound x in subst P (sym e) (opening_sound t)
+
+pub start_made : (w : WorldState) (t : Topology) → w ≡ opening t → w.made ≡ 0
+start_made w t e = ap (λ (x : WorldState). x.made) e ∙ opening_made t
+
+pub start_law : (w : WorldState) (t : Topology) (es : List WorldEvent) → w ≡ opening t → (f : Family) → Balanced f (history_of es w) (world_after es w)
+start_law w t es e f = let P : WorldState → Type 0 = λ x. Balanced f (history_of es x) (world_after es x) in subst P (sym e) (opening_balances f t es)
+
+pub start_small : (w : WorldState) (t : Topology) (es : List WorldEvent) → HostsDiffer t.hosts → EventsFit es → w ≡ opening t → (f : Family) → granted f (history_of es w) ≤ 65535
+start_small w t es d b e f = let P : WorldState → Type 0 = λ x. granted f (history_of es x) ≤ 65535 in subst P (sym e) (opening_once_given f t es d b).1
+
+pub start_front : (w : WorldState) (t : Topology) (es : List WorldEvent) (old new : List ℕ) → w ≡ opening t → AppendsFront old new (run_text es w) → AppendsFront old new (run_text es (opening t))
+start_front w t es old new e f = let P : WorldState → Type 0 = λ x. AppendsFront old new (run_text es x) in subst P e f
+
+pub start_whole : (w : WorldState) (t : Topology) (es : List WorldEvent) (old new : List ℕ) → w ≡ opening t → new ≡ old ++ run_text es w → new ≡ old ++ run_text es (opening t)
+start_whole w t es old new e n = n ∙ ap (λ x. old ++ run_text es x) e
+
+-- after every prefix of the events
+pub prefix_bounded : (t : Topology) (es : List WorldEvent) → HostsDiffer t.hosts → EventsFit es → (k : ℕ) (f : Family) → IsBounded f (history_of (take k es) (opening t)) (world_after (take k es) (opening t))
+prefix_bounded t es d b k f = opening_bounded f t (take k es) d (All-take event_fits k es b)
+
+pub prefix_sound : (t : Topology) (es : List WorldEvent) → EventsFit es → (k : ℕ) → IsSound (world_after (take k es) (opening t))
+prefix_sound t es b k = run_sound (take k es) (opening t) (All-take event_fits k es b) (opening_sound t)
 
 abbrev header : List ℕ
 header = codes "planet trace 1\n"

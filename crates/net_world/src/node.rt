@@ -75,7 +75,7 @@ fn open_queues(alloc: Global) -> Result<Vec<Queue<Packet>>, NoMemory>
     ensures { IfOk result (λ queues. queues.items ≡ no_queues) }
 {
     let mut queues = Items::new(alloc);
-    for _dev in 0..DEVICES {
+    while queues.len() < DEVICES {
         queues.add(Queue::with_room(alloc)?)?;
     }
     Ok(queues.into_vec())

@@ -14,7 +14,7 @@ use crate::world::World;
 use node_io::{Failed, Sink, put_all};
 use plan_base::{Bytes, NoMemory};
 use plan_items::Items;
-use schedule_text::{Schedule, Topology, WorldEvent};
+use schedule_text::{Schedule, WorldEvent};
 use std::alloc::{AllocError, Global};
 use world_laws::{Entries, Entry, Lines};
 
@@ -70,7 +70,12 @@ fn number_lines(alloc: Global, event: u32, lines: Lines) -> Result<Entries, Allo
 
 /// Makes an event, keeps its lines, and gives their text.
 #[tactic(auto, unfolding(world_laws::specs::World::entries))]
-fn make_event(alloc: Global, world: &mut World, history: &mut Entries, event: &WorldEvent) -> Result<Bytes, NoMemory>
+fn make_event(
+    alloc: Global,
+    world: &mut World,
+    history: &mut Entries,
+    event: &WorldEvent,
+) -> Result<Bytes, NoMemory>
     requires sound { IsSound (world_state world.old) }
     requires fits { event_fits event.now }
     requires few { (world_state world.old).made < 2 ^ 32 - 2 }
@@ -147,14 +152,22 @@ fn ledger_bytes(alloc: Global, history: &[Entry], world: &World) -> Result<Bytes
     Ok(text)
 }
 
-/// Writes the trace and the ledger of events in a network at its beginning.
-fn write_run<K: Sink>(alloc: Global, world: &mut World, t: &Topology, events: &[WorldEvent], out: &mut K) -> Result<(), RunFault>
-    requires start { world_state world.old ≡ spec.opening t.now }
-    requires hosts { HostsDiffer t.now.hosts }
+/// Writes the trace and the ledger of events. Conditions: nothing happened in the network yet, each
+/// family stays in balance, and its injections have at most 65,535.
+fn write_run<K: Sink>(
+    alloc: Global,
+    world: &mut World,
+    events: &[WorldEvent],
+    out: &mut K,
+) -> Result<(), RunFault>
+    requires sound { IsSound (world_state world.old) }
+    requires made { (world_state world.old).made ≡ 0 }
     requires fits { EventsFit events.now }
     requires few { length events.now ≤ 50000 }
-    ensures whole { IsTrue K.tells → OnOk result (K.taken out.new ≡ K.taken out.old ++ run_text events.now (spec.opening t.now)) }
-    ensures front { IsTrue K.tells → AppendsFront (K.taken out.old) (K.taken out.new) (run_text events.now (spec.opening t.now)) }
+    requires law { (f : FamilyOf) → Balanced f (spec.history_of events.now (world_state world.old)) (spec.world_after events.now (world_state world.old)) }
+    requires small { (f : FamilyOf) → granted f (spec.history_of events.now (world_state world.old)) ≤ 65535 }
+    ensures whole { IsTrue K.tells → OnOk result (K.taken out.new ≡ K.taken out.old ++ run_text events.now (world_state world.old)) }
+    ensures front { IsTrue K.tells → AppendsFront (K.taken out.old) (K.taken out.new) (run_text events.now (world_state world.old)) }
     ensures write { IsErrOf result RunFault.WriteFault → Rose (K.faults out.old) (K.faults out.new) }
     ensures later { K.faults out.old ≤ K.faults out.new }
 {
@@ -163,6 +176,21 @@ fn write_run<K: Sink>(alloc: Global, world: &mut World, t: &Topology, events: &[
     run_events(alloc, world, &mut history, events, out)?;
     let text = ledger_bytes(alloc, history.as_slice(), world)?;
     put_all(out, text.as_slice())?;
+    Ok(())
+}
+
+/// Runs a schedule and writes its trace and its ledger.
+fn run_schedule<K: Sink>(alloc: Global, schedule: &Schedule, out: &mut K) -> Result<(), RunFault>
+    requires hosts { HostsDiffer schedule.now.topology.hosts }
+    requires few { length schedule.now.events ≤ 50000 }
+    requires fits { EventsFit schedule.now.events }
+    ensures whole { IsTrue K.tells → OnOk result (K.taken out.new ≡ K.taken out.old ++ run_text schedule.now.events (spec.opening schedule.now.topology)) }
+    ensures front { IsTrue K.tells → AppendsFront (K.taken out.old) (K.taken out.new) (run_text schedule.now.events (spec.opening schedule.now.topology)) }
+    ensures write { IsErrOf result RunFault.WriteFault → Rose (K.faults out.old) (K.faults out.new) }
+    ensures later { K.faults out.old ≤ K.faults out.new }
+{
+    let mut world = World::new(alloc, &schedule.topology)?;
+    write_run(alloc, &mut world, schedule.events.as_slice(), out)?;
     Ok(())
 }
 
@@ -180,7 +208,5 @@ pub fn run<K: Sink>(alloc: Global, schedule: &Schedule, out: &mut K) -> Result<(
     ensures bounded { (k : ℕ) (f : FamilyOf) → IsBounded f (spec.history_of (take k schedule.now.events) (spec.opening schedule.now.topology)) (spec.world_after (take k schedule.now.events) (spec.opening schedule.now.topology)) }
     ensures sound { (k : ℕ) → IsSound (spec.world_after (take k schedule.now.events) (spec.opening schedule.now.topology)) }
 {
-    let mut world = World::new(alloc, &schedule.topology)?;
-    write_run(alloc, &mut world, &schedule.topology, schedule.events.as_slice(), out)?;
-    Ok(())
+    run_schedule(alloc, schedule, out)
 }

@@ -1,4 +1,4 @@
-ghost use Rattle.std.specs.Prelude.{◌≡◌, ◌<◌, ◌-◌, ◌^◌, ◌∷◌, ◌++◌, ◌+◌, [], length, position, IfOk, OnOk, OnSome, None, map};
+ghost use Rattle.std.specs.Prelude.{◌≡◌, ◌<◌, ◌-◌, ◌^◌, ◌∷◌, ◌++◌, ◌+◌, [], length, position, IfOk, OnOk, IfSome, None, map};
 ghost use Rattle.world_laws.specs.World as spec;
 ghost use Rattle.world_laws.specs.Node.{inject_step, arrive_step, take_step};
 ghost use Rattle.world_laws.specs.Counts.{event_fits, IsSound};
@@ -64,7 +64,7 @@ fn off_lines(alloc: Global, number: u32, host: Host, acts: ActList) -> Result<Li
 #[tactic(auto, using(crate::proofs::StateLaws::place_in_states))]
 fn node_place(nodes: &[Node], host: Host) -> Option<usize>
     ensures place { result ≡ spec.place_of (states nodes.now) host }
-    ensures within { OnSome result (λ at. at < length nodes.now) }
+    ensures within { IfSome result (λ at. at < length nodes.now) }
 {
     nodes.iter().position(|node| node.here.0 == host.0)
 }
@@ -143,9 +143,19 @@ fn take_at(alloc: Global, nodes: &mut [Node], at: usize, dev: Dev) -> Result<Act
 /// The place of a frame number on the wire.
 fn wire_place(wire: &[Wired], number: u32) -> Option<usize>
     ensures place { result ≡ spec.wire_place wire.now number }
-    ensures within { OnSome result (λ at. at < length wire.now) }
+    ensures within { IfSome result (λ at. at < length wire.now) }
 {
     wire.iter().position(|x| x.number == number)
+}
+
+/// Adds the neighbour on a device, where there is one.
+fn add_neighbour(neighbours: &mut Neighbours, links: &[(Host, Dev, Host, Dev)], host: Host, dev: Dev) -> Result<(), NoMemory>
+    ensures { OnOk result (neighbours.new ≡ neighbours.old ++ spec.neighbour_at dev (spec.peer_of links.now host dev)) }
+{
+    if let Some(far) = peer_of(links, host, dev) {
+        neighbours.add((far.host, dev))?;
+    }
+    Ok(())
 }
 
 /// The neighbours of a host, by device.
@@ -155,10 +165,7 @@ fn neighbours_of(alloc: Global, links: &[(Host, Dev, Host, Dev)], host: Host) ->
 {
     let mut neighbours = Items::new(alloc);
     for before in 0..LINK_DEVICES {
-        let dev = Dev(before + 1);
-        if let Some(far) = peer_of(links, host, dev) {
-            neighbours.add((far.host, dev))?;
-        }
+        add_neighbour(&mut neighbours, links, host, Dev(before + 1))?;
     }
     Ok(neighbours)
 }
@@ -278,10 +285,10 @@ impl World {
         let Some(place) = wire_place(self.wire.as_slice(), number) else {
             return nothing(alloc);
         };
-        let x = self.wire.remove(place);
+        let lost = self.wire.remove(place);
         let mut lines = Items::new(alloc);
-        lines.add(Line::Off(x.number))?;
-        lines.add(Line::Lost(What::Packet(x.packet.family, x.packet.bound)))?;
+        lines.add(Line::Off(lost.number))?;
+        lines.add(Line::Lost(What::Packet(lost.packet.family, lost.packet.bound)))?;
         Ok(lines)
     }
 
