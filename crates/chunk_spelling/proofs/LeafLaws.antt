@@ -9,13 +9,20 @@ use Rattle.wire_bytes.specs.Fields.{IsBytes}
 use Rattle.read_laws.specs.Reading.{◌>>=◌}
 use Rattle.read_laws.proofs.Binds.{ok_inj, some_inj, bind_ok, bind_is}
 use Rattle.read_laws.proofs.Agendas.{one_step}
-use Rattle.chunk_spelling.specs.Items.{a_flag, an_int, a_word, a_char, a_text, a_blob}
-use Rattle.chunk_spelling.specs.Scan.{Scan, number_field, int_field, bytes_field, flag_field, char_field, text_field, blob_field, table_field, tag_of, bool_of, known, allowed}
-use Rattle.chunk_spelling.specs.Fields.{flag_byte, flag_part, int_part, word_part, char_part, text_part, blob_part}
+use Rattle.chunk_spelling.specs.Items.{a_flag, an_int, a_word, a_char, a_text, a_blob, a_name, an_operator, a_part_number}
+use Rattle.chunk_spelling.specs.Scan.{Scan, number_field, int_field, bytes_field, flag_field, char_field, text_field, blob_field, table_field, tag_of, flags, known, allowed, name_field, operator_field, count_field}
+use Rattle.chunk_spelling.specs.Fields.{flag_byte, flag_part, int_part, word_part, char_part, text_part, blob_part, name_part, op_byte, op_part, part_number_part}
 use Rattle.chunk_spelling.specs.Steps.{step}
 use Rattle.chunk_spelling.proofs.Took.{Took, Took-bytes, Took-then, Took-first, Took-second, Took-as, between}
 use Rattle.chunk_spelling.proofs.FieldLaws.{byte_takes, byte_again, number_takes, number_again, wide16, wide32, int_takes, int_again, bytes_takes, bytes_again, known_ok, known_is, allowed_ok, allowed_is}
-use Rattle.chunk_spelling.proofs.PartLaws.{Lawful, Taken}
+use Rattle.chunk_spelling.proofs.PartLaws.{Lawful, Taken, count_takes, count_again}
+use Rattle.chunk_spelling.specs.declared.tags.TheConstants.{OPERATORS}
+use Rattle.plan_base.specs.declared.limit.Limit.{Limit}
+use Rattle.plan_base.specs.declared.tree.Op.{Op}
+use Rattle.plan_base.specs.Words.{is_word, is_reserved, is_name}
+use Rattle.std.specs.Prelude.{nat_le, ◌&&◌, not}
+use Rattle.std.proofs.lemmas.Bool.{leb-true, le-leb}
+use Rattle.chunk_spelling.specs.declared.fault.SpellFault.TheVariants.{BadName}
 
 -- ---- tables
 
@@ -58,26 +65,18 @@ table_again base tags byte table f g t took = bind_is _ (byte_again f g (byte t)
 
 -- ---- the fields that are parts
 
-flag_is : (n : ℕ) (b : Bool) → bool_of n ≡ Some b → n ≡ flag_byte b
-flag_is zero b e = ap flag_byte (some_inj e)
-flag_is (suc zero) b e = ap flag_byte (some_inj e)
-flag_is (suc (suc n)) b e = cc
-
-flag_of : (b : Bool) → bool_of (flag_byte b) ≡ Some b
-flag_of true = refl
+flag_of : (b : Bool) → tag_of 0 flags (flag_byte b) ≡ Some b
 flag_of false = refl
+flag_of true = refl
+
+pub flag_table : Table 0 flags flag_byte
+flag_table = record { numbered = (refl, (refl, tt)); all = flag_of }
 
 pub flag_lawful : Lawful flag_part
 unfolding flag_field
 flag_lawful = record {
-  takes = λ f g x h k e.
-    let b = bind_ok (number_field w8 f) _ _ e in
-    let q = known_ok _ _ _ _ _ b.then_read in
-    let t = byte_takes f b.first.1 b.first.0 h b.read in
-    let P : Scan → Type 0 = λ s. Took f (flag_byte x ∷ []) 0 s in
-    let took : Took f (flag_byte x ∷ []) 0 g = subst P q.1 (Took-as (ap (λ n. n ∷ []) (flag_is b.first.0 x q.0)) refl t.0) in
-    record { took = took; fits = tt; within = omega (arith, took.count) };
-  again = λ f g x h t k. bind_is _ (byte_again f g (flag_byte x) t) (known_is _ _ g x (flag_of x));
+  takes = λ f g x h k e. let t = table_takes 0 flags flag_byte flag_table f g x h e in record { took = t; fits = tt; within = omega (arith, t.count) };
+  again = λ f g x h t k. table_again 0 flags flag_byte flag_table f g x t;
   goes = λ more f. one_step step a_flag more f (λ _. more) (flag_field f) refl;
 }
 
@@ -153,4 +152,84 @@ text_lawful = record {
     bind_is _ (number_again w16 wide16 f m (length x) h.1 (Took-first f g bs x 0 0 u))
     (bind_is _ (bytes_again m g x (Took-second f g bs x 0 0 u)) (allowed_is _ _ (x, g) (is_utf8-from_IsUtf8 x h.0)));
   goes = λ more f. one_step step a_text more f (λ _. more) (text_field f) refl;
+}
+
+both_true : (b c : Bool) → (b && c) ≡ true → (b ≡ true) × (c ≡ true)
+both_true true c h = (refl, h)
+both_true false c h = cc
+
+word_long : (w : List ℕ) → is_word w ≡ true → 1 ≤ length w
+unfolding is_word
+word_long [] h = cc
+word_long (b ∷ bs) h = omega arith
+
+name_long : (w : List ℕ) → is_name w ≡ true → (1 ≤ length w) × (length w ≤ 32)
+unfolding is_name
+name_long w h =
+    let a = both_true (is_word w) _ h in
+    let b = both_true (nat_le (length w) 32) _ a.1 in
+    (word_long w a.0, leb-true (length w) 32 b.0)
+
+pub name_lawful : Lawful name_part
+unfolding name_field
+name_lawful = record {
+  takes = λ f g x h k e.
+    let b = bind_ok (number_field w8 f) _ _ e in
+    let c = bind_ok (allowed (nat_le 1 b.first.0) (BadName f.front.at) b.first) _ _ b.then_read in
+    let d = bind_ok (allowed (nat_le c.first.0 32) (BadName f.front.at) c.first) _ _ c.then_read in
+    let r = bind_ok (bytes_field d.first.0 d.first.1) _ _ d.then_read in
+    let low = allowed_ok _ _ b.first c.first c.read in
+    let high = allowed_ok _ _ c.first d.first d.read in
+    let word = allowed_ok _ _ r.first (x, g) r.then_read in
+    let one = byte_takes f b.first.1 b.first.0 h b.read in
+    let P : ℕ × Scan → Type 0 = λ q. Took f (q.0 ∷ []) 0 q.1 in
+    let start : P d.first = subst P (low.1 ∙ high.1) one.0 in
+    let t = bytes_takes d.first.0 d.first.1 r.first.1 r.first.0 r.read in
+    let both : Took f (length r.first.0 ∷ r.first.0) 0 r.first.1 = Took-as (ap (λ n. n ∷ r.first.0) (sym t.1)) refl (Took-then start t.0) in
+    let Q : List ℕ × Scan → Type 0 = λ q. Took f (length q.0 ∷ q.0) 0 q.1 × (is_name q.0 ≡ true) in
+    let u : Q (x, g) = subst Q word.1 (both, word.0) in
+    record { took = u.0; fits = u.1; within = omega (arith, u.0.count) };
+  again = λ f g x fits t k.
+    let long = name_long x fits in
+    let bs = length x ∷ [] in
+    let u : Took f (bs ++ x) (0 + 0) g = t in
+    let m = between f bs x 0 g in
+    bind_is _ (byte_again f m (length x) (Took-first f g bs x 0 0 u))
+    (bind_is _ (allowed_is _ _ (length x, m) (le-leb 1 (length x) long.0))
+    (bind_is _ (allowed_is _ _ (length x, m) (le-leb (length x) 32 long.1))
+    (bind_is _ (bytes_again m g x (Took-second f g bs x 0 0 u)) (allowed_is _ _ (x, g) fits))));
+  goes = λ more f. one_step step a_name more f (λ _. more) (name_field f) refl;
+}
+
+op_table_all : (o : Op) → tag_of 0 OPERATORS (op_byte o) ≡ Some o
+op_table_all Op.Add = refl
+op_table_all Op.Sub = refl
+op_table_all Op.Mul = refl
+op_table_all Op.Div = refl
+op_table_all Op.Mod = refl
+op_table_all Op.Cat = refl
+op_table_all Op.Eq = refl
+op_table_all Op.Ne = refl
+op_table_all Op.Lt = refl
+op_table_all Op.Le = refl
+op_table_all Op.Gt = refl
+op_table_all Op.Ge = refl
+op_table_all Op.Cons = refl
+
+op_table : Table 0 OPERATORS op_byte
+op_table = record { numbered = (refl, (refl, (refl, (refl, (refl, (refl, (refl, (refl, (refl, (refl, (refl, (refl, (refl, tt))))))))))))); all = op_table_all }
+
+pub op_lawful : Lawful op_part
+unfolding operator_field
+op_lawful = record {
+  takes = λ f g x h k e. let t = table_takes 0 OPERATORS op_byte op_table f g x h e in record { took = t; fits = tt; within = omega (arith, t.count) };
+  again = λ f g x h t k. table_again 0 OPERATORS op_byte op_table f g x t;
+  goes = λ more f. one_step step an_operator more f (λ _. more) (operator_field f) refl;
+}
+
+pub part_number_lawful : Lawful part_number_part
+part_number_lawful = record {
+  takes = λ f g x h k e. let t = count_takes Limit.Parts 1 8 f g x h e in record { took = t.0; fits = (t.1, t.2); within = omega (arith, t.0.count) };
+  again = λ f g x h t k. count_again Limit.Parts 1 8 f g x h.0 h.1 t;
+  goes = λ more f. one_step step a_part_number more f (λ _. more) (count_field Limit.Parts 1 8 f) refl;
 }

@@ -1,5 +1,11 @@
-pub mod Took
 pub mod FieldLaws
-pub mod PartLaws
+pub mod ExprLaws
 pub mod LeafLaws
+pub mod PartLaws
+pub mod ProgramLaws
+pub mod Took
 pub mod TypeLaws
+pub mod ValueLaws
+pub mod WholeLaws
+pub mod KeptLaws
+pub mod FitsLaws

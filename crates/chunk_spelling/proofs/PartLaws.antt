@@ -14,7 +14,7 @@ use Rattle.chunk_spelling.specs.declared.fault.SpellFault.{SpellFault}
 use Rattle.chunk_spelling.specs.declared.fault.SpellFault.TheVariants.{BadTag, OverLimit}
 use Rattle.chunk_spelling.specs.Items.{Item, counted, listed}
 use Rattle.chunk_spelling.specs.Scan.{Scan, Reader, number_field, count_field, allowed}
-use Rattle.chunk_spelling.specs.Parts.{Part, Parts, done, ◌&◌, Held, reads, bytes_of_parts, AllFit, nodes_of_parts, items_of_parts, EachFits, counted_at, several, listed_at, list_of, FormFits, tagged_at, formed}
+use Rattle.chunk_spelling.specs.Parts.{Part, Parts, done, ◌&◌, Held, reads, bytes_of_parts, AllFit, nodes_of_parts, items_of_parts, EachFits, counted_at, several, listed_at, list_of, FormFits, tagged_at, formed, joined}
 use Rattle.chunk_spelling.specs.Steps.{step}
 use Rattle.chunk_spelling.proofs.Took.{Took, Took-bytes, Took-none, Took-then, Took-first, Took-second, Took-as, between, scan_is}
 use Rattle.chunk_spelling.proofs.FieldLaws.{byte_takes, byte_again, number_takes, number_again, wide16, allowed_ok, allowed_is}
@@ -264,3 +264,30 @@ list_lawful p l = record {
     (one_step step (listed p.item) more f (λ n. times n p.item more) (number_field w16 f) refl)
     (λ x _. many_goes step p.item p.read l.goes x.0 more x.1);
 }
+
+-- ---- constructs without a tag
+
+-- a step that reads nothing
+pub opens : {B : Type 0} (i : Item) (more mid : List Item) (f m : Scan) (r : Scan → Result (B × Scan) SpellFault)
+  → step i more f ≡ Ok (mid, m) → Goes step mid m (λ _. more) (r m) → Goes step (i ∷ more) f (λ _. more) (r m)
+opens {B} i more mid f m r e k =
+    let none : Result (Unit {0} × Scan) SpellFault = Ok (tt, m) in
+    chain step {A = Unit {0}} {B = B} (i ∷ more) f (λ _. mid) (λ _. more) none (λ x. r x.1) (one_step step i more f (λ _. mid) none e)
+    (λ x h. let same : m ≡ x.1 = ap (λ q. q.1) (ok_inj h) in let P : Scan → Type 0 = λ s. Goes step mid s (λ _. more) (r s) in subst P same k)
+
+module _ {A : Type 0} (i : Item) (forms : Parts) (build : Held forms → A) (parts : A → Held forms) (bytes : A → List ℕ) (nodes : A → ℕ)
+    (lawful : AllLawful forms) (back : (xs : Held forms) → parts (build xs) ≡ xs) (same : (x : A) → build (parts x) ≡ x)
+    (bytes_is : (x : A) → bytes x ≡ bytes_of_parts forms (parts x)) (nodes_is : (x : A) → nodes x ≡ nodes_of_parts forms (parts x))
+    (steps : (more : List Item) (f : Scan) → step i more f ≡ Ok (items_of_parts forms more, f)) where
+  pub joined_lawful : Lawful (joined i forms build parts bytes nodes)
+  joined_lawful = record {
+    takes = λ f g x h k e.
+      let r = reads_takes forms lawful build f g x h k e in
+      let own : parts x ≡ r.held = ap parts r.is ∙ back r.held in
+      let P : Held forms → Type 0 = λ xs. Took f (bytes_of_parts forms xs) (nodes_of_parts forms xs) g × AllFit forms xs in
+      let q : P (parts x) = subst P (sym own) (r.all.took, r.all.fit) in
+      record { took = Took-as (sym (bytes_is x)) (sym (nodes_is x)) q.0; fits = q.1; within = r.all.within };
+    again = λ f g x fits t k.
+      reads_again forms lawful build f g (parts x) fits (Took-as (bytes_is x) (nodes_is x) t) k ∙ (λ j. Ok (same x j, g));
+    goes = λ more f. opens i more (items_of_parts forms more) f f (reads forms build) (steps more f) (reads_go forms lawful build more f);
+  }

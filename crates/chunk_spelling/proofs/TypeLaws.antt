@@ -15,15 +15,15 @@ use Rattle.chunk_spelling.specs.declared.tags.TheConstants.{TYPE_TAGS}
 use Rattle.chunk_spelling.specs.Items.{Item, a_type}
 use Rattle.chunk_spelling.specs.Steps.{step}
 use Rattle.chunk_spelling.specs.Scan.{Scan, table_field, tag_of}
-use Rattle.chunk_spelling.specs.Parts.{Part, Parts, Held, items_of_parts, bytes_of_parts, FormFits}
-use Rattle.chunk_spelling.specs.Types.{type_bytes, type_bytes_level, type_tag_at, type_forms, type_of_parts, type_parts, no_type, type_within, type_part}
+use Rattle.chunk_spelling.specs.Parts.{Part, Core, Parts, Held, items_of_parts, bytes_of_parts, FormFits}
+use Rattle.chunk_spelling.specs.Types.{type_bytes, type_bytes_level, type_tag_at, type_forms, type_of_parts, type_parts, no_type, type_from, type_within, type_core, type_part}
 use Rattle.chunk_spelling.proofs.Took.{Took, Took-as}
 use Rattle.std.proofs.lemmas.Bool.{ltb-true, lt-ltb}
 use Rattle.chunk_spelling.proofs.FieldLaws.{allowed_ok, allowed_is}
 use Rattle.chunk_spelling.proofs.LeafLaws.{Table, table_takes, table_again}
 use Rattle.chunk_spelling.proofs.PartLaws.{Lawful, Taken, AllLawful, Tag, FormIs, several_lawful, formed_lawful}
 
-flat_map-map : {X : Type 0} (f : X → List ℕ) (xs : List X) → flat_map (λ bs. bs) (map f xs) ≡ flat_map f xs
+pub flat_map-map : {X : Type 0} (f : X → List ℕ) (xs : List X) → flat_map (λ bs. bs) (map f xs) ≡ flat_map f xs
 flat_map-map f [] = refl
 flat_map-map f (x ∷ xs) = ap (λ bs. f x ++ bs) (flat_map-map f xs)
 
@@ -81,56 +81,45 @@ type_tag room = record {
   again = λ f g t a took k. bind_is _ (table_again 0 TYPE_TAGS type_byte type_table f g t took) (allowed_is _ _ (t, g) (lt-ltb 0 room a));
 }
 
-module _ (room : ℕ) (inner : Part Ty) (bytes : (t : Ty) → inner.bytes t ≡ type_bytes t) (nodes : (t : Ty) → inner.nodes t ≡ 0) where
-  same_bytes : (ts : List Ty) → flat_map type_bytes ts ≡ flat_map inner.bytes ts
-  same_bytes [] = refl
-  same_bytes (t ∷ ts) = λ i. sym (bytes t) i ++ same_bytes ts i
+pub no_sum : {X : Type 0} (f : X → ℕ) → ((x : X) → f x ≡ 0) → (xs : List X) → sum_by f xs ≡ 0
+no_sum f e [] = refl
+no_sum f e (x ∷ xs) = sum_by-cons f x xs ∙ (let a = e x in let b = no_sum f e xs in omega (arith, a, b))
 
-  no_nodes : (ts : List Ty) → sum_by inner.nodes ts ≡ 0
-  no_nodes [] = refl
-  no_nodes (t ∷ ts) = sum_by-cons inner.nodes t ts ∙ (let a = nodes t in let b = no_nodes ts in omega (arith, a, b))
+module _ (room below : ℕ) (core : Core Ty) where
+  abbrev deeper : Part Ty
+  deeper = type_from below core
 
-  level_is : (x : Ty-F Ty) → FormIs type_byte 0 (type_forms inner) (type_of_parts inner) (type_parts inner x) (roll-Ty x) (type_bytes_level type_bytes x) 0
+  level_is : (x : Ty-F Ty) → FormIs type_byte 0 (type_forms deeper) (type_of_parts deeper) (type_parts deeper x) (roll-Ty x) (type_bytes_level type_bytes x) 0
   unfolding roll-Ty roll
-  level_is (Ty-F.List t) = (sym (ty.rolls-List t), (λ i. 9 ∷ (sym (bytes t) ∙ sym (append-nil (inner.bytes t))) i), (let a = nodes t in omega (arith, a)))
-  level_is (Ty-F.Tuple ts) = (sym (ty.rolls-Tuple ts), (λ i. 10 ∷ length ts ∷ (same_bytes ts ∙ sym (append-nil (flat_map inner.bytes ts))) i), (let a = no_nodes ts in omega (arith, a)))
+  level_is (Ty-F.List t) = (sym (ty.rolls-List t), (λ i. 9 ∷ sym (append-nil (type_bytes t)) i), omega arith)
+  level_is (Ty-F.Tuple ts) = (sym (ty.rolls-Tuple ts), (λ i. 10 ∷ sym (append-nil (length ts ∷ flat_map type_bytes ts)) i), (let a = no_sum deeper.nodes (λ _. refl) ts in omega (arith, a)))
   level_is _ = (refl, refl, refl)
 
-  type_is_form : (t : Ty) → FormIs type_byte 0 (type_forms inner) (type_of_parts inner) (type_parts inner (out-Ty t)) t (type_bytes t) 0
-  type_is_form t =
-      let P : Ty → Type 0 = λ y. FormIs type_byte 0 (type_forms inner) (type_of_parts inner) (type_parts inner (out-Ty t)) y (type_bytes_level type_bytes (out-Ty t)) 0 in
-      let Q : List ℕ → Type 0 = λ bs. FormIs type_byte 0 (type_forms inner) (type_of_parts inner) (type_parts inner (out-Ty t)) t bs 0 in
+  is_form : (t : Ty) → FormIs type_byte 0 (type_forms deeper) (type_of_parts deeper) (type_parts deeper (out-Ty t)) t (type_bytes t) 0
+  is_form t =
+      let P : Ty → Type 0 = λ y. FormIs type_byte 0 (type_forms deeper) (type_of_parts deeper) (type_parts deeper (out-Ty t)) y (type_bytes_level type_bytes (out-Ty t)) 0 in
+      let Q : List ℕ → Type 0 = λ bs. FormIs type_byte 0 (type_forms deeper) (type_of_parts deeper) (type_parts deeper (out-Ty t)) t bs 0 in
       subst Q (sym (type_bytes_out t)) (subst P (roll-out-Ty t) (level_is (out-Ty t)))
 
-  type_form_is : (tag : TypeTag) (xs : Held (type_forms inner tag)) → type_parts inner (out-Ty (type_of_parts inner tag xs)) ≡ Some (tag, xs)
+  form_is : (tag : TypeTag) (xs : Held (type_forms deeper tag)) → type_parts deeper (out-Ty (type_of_parts deeper tag xs)) ≡ Some (tag, xs)
   unfolding out-Ty out
-  type_form_is TypeTag.List xs = ap (type_parts inner) (ty.outs-List xs.0)
-  type_form_is TypeTag.Tuple xs = ap (type_parts inner) (ty.outs-Tuple xs.0)
-  type_form_is _ xs = refl
+  form_is TypeTag.List xs = ap (type_parts deeper) (ty.outs-List xs.0)
+  form_is TypeTag.Tuple xs = ap (type_parts deeper) (ty.outs-Tuple xs.0)
+  form_is _ xs = refl
 
-  pub type_within_lawful : (0 < room → Lawful inner) → ((more : List Item) (f : Scan) → step (a_type room) more f ≡ (type_tag_at room f >>= λ t. Ok (items_of_parts (type_forms inner t.0) more, t.1)))
-    → Lawful (type_within room inner)
-  type_within_lawful l steps =
-      formed_lawful (a_type room) (type_tag_at room) (λ _. 0 < room) type_byte 0 (type_forms inner) (type_of_parts inner) (λ t. type_parts inner (out-Ty t)) type_bytes (λ _. 0)
-      (type_tag room) (λ tag allowed. forms_lawful tag (l allowed)) type_is_form type_form_is steps
-    where
-      forms_lawful : (tag : TypeTag) → Lawful inner → AllLawful (type_forms inner tag)
-      forms_lawful TypeTag.List k = (k, tt)
-      forms_lawful TypeTag.Tuple k = (several_lawful Limit.Parts 2 8 inner k, tt)
-      forms_lawful _ k = tt
+  all_lawful : (tag : TypeTag) → Lawful deeper → AllLawful (type_forms deeper tag)
+  all_lawful TypeTag.List k = (k, tt)
+  all_lawful TypeTag.Tuple k = (several_lawful Limit.Parts 2 8 deeper k, tt)
+  all_lawful _ k = tt
 
-pub type_part_bytes : (room : ℕ) (t : Ty) → (type_part room).bytes t ≡ type_bytes t
-unfolding type_part
-type_part_bytes zero t = refl
-type_part_bytes (suc room) t = refl
-
-pub type_part_nodes : (room : ℕ) (t : Ty) → (type_part room).nodes t ≡ 0
-unfolding type_part
-type_part_nodes zero t = refl
-type_part_nodes (suc room) t = refl
+  within_lawful : (0 < room → Lawful deeper) → ((more : List Item) (f : Scan) → step (a_type room) more f ≡ (type_tag_at room f >>= λ t. Ok (items_of_parts (type_forms deeper t.0) more, t.1)))
+    → Lawful (type_from room (type_within room deeper))
+  within_lawful l steps =
+      formed_lawful (a_type room) (type_tag_at room) (λ _. 0 < room) type_byte 0 (type_forms deeper) (type_of_parts deeper) (λ t. type_parts deeper (out-Ty t)) type_bytes (λ _. 0)
+      (type_tag room) (λ tag allowed. all_lawful tag (l allowed)) is_form form_is steps
 
 -- a type is read exactly where it is spelled, else its first fault is the answer
 pub type_lawful : (room : ℕ) → Lawful (type_part room)
-unfolding type_part
-type_lawful zero = type_within_lawful 0 no_type (λ _. refl) (λ _. refl) (λ a. absurd (omega (arith, a))) (λ more f. refl)
-type_lawful (suc room) = type_within_lawful (suc room) (type_part room) (type_part_bytes room) (type_part_nodes room) (λ _. type_lawful room) (λ more f. refl)
+unfolding type_core
+type_lawful zero = within_lawful 0 0 no_type (λ a. absurd (omega (arith, a))) (λ more f. refl)
+type_lawful (suc room) = within_lawful (suc room) room (type_core room) (λ _. type_lawful room) (λ more f. refl)

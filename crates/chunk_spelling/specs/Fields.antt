@@ -3,8 +3,11 @@ use Rattle.std.specs.Prelude.{◌≡◌, ℕ, ◌+◌, ◌≤◌, ◌<◌, ◌^�
 use Rattle.std.specs.Char.{IsScalar}
 use Rattle.std.specs.Str.{IsUtf8}
 use Rattle.std.specs.Int.{w16, w32, w64, to_be_bytes, cast_unsigned}
-use Rattle.chunk_spelling.specs.Items.{a_flag, an_int, a_word, a_char, a_text, a_blob, a_type}
-use Rattle.chunk_spelling.specs.Scan.{number_field, int_field, flag_field, char_field, text_field, blob_field}
+use Rattle.plan_base.specs.Words.{IsName}
+use Rattle.plan_base.specs.declared.limit.Limit.{Limit}
+use Rattle.plan_base.specs.declared.tree.Op.{Op}
+use Rattle.chunk_spelling.specs.Items.{a_flag, an_int, a_word, a_char, a_text, a_blob, a_name, an_operator, a_part_number}
+use Rattle.chunk_spelling.specs.Scan.{number_field, int_field, flag_field, char_field, text_field, blob_field, name_field, operator_field, count_field}
 use Rattle.chunk_spelling.specs.Parts.{Part}
 
 -- the byte of a truth value
@@ -33,3 +36,33 @@ text_part = record { item = a_text; read = text_field; bytes = sized; Fits = λ 
 
 abbrev pub blob_part : Part (List ℕ)
 blob_part = record { item = a_blob; read = blob_field; bytes = sized; Fits = λ bs. length bs < 2 ^ 16; nodes = λ _. 0 }
+
+-- a length in one byte, and the bytes
+abbrev pub name_bytes : List ℕ → List ℕ
+name_bytes n = length n ∷ n
+
+abbrev pub name_part : Part (List ℕ)
+name_part = record { item = a_name; read = name_field; bytes = name_bytes; Fits = IsName; nodes = λ _. 0 }
+
+-- the number of each operator
+abbrev pub op_byte : Op → ℕ
+op_byte Op.Add = 0
+op_byte Op.Sub = 1
+op_byte Op.Mul = 2
+op_byte Op.Div = 3
+op_byte Op.Mod = 4
+op_byte Op.Cat = 5
+op_byte Op.Eq = 6
+op_byte Op.Ne = 7
+op_byte Op.Lt = 8
+op_byte Op.Le = 9
+op_byte Op.Gt = 10
+op_byte Op.Ge = 11
+op_byte Op.Cons = 12
+
+abbrev pub op_part : Part Op
+op_part = record { item = an_operator; read = operator_field; bytes = λ o. op_byte o ∷ []; Fits = λ _. Unit {0}; nodes = λ _. 0 }
+
+-- the number of a part, from 1 to 8
+abbrev pub part_number_part : Part ℕ
+part_number_part = record { item = a_part_number; read = count_field Limit.Parts 1 8; bytes = λ i. i ∷ []; Fits = λ i. (1 ≤ i) × (i ≤ 8); nodes = λ _. 0 }

@@ -16,7 +16,7 @@ pub data Item : Type 0 where
   a_type : ℕ → Item
   an_expr : ℕ → Item
   -- the clauses of a `try`, with their count
-  clauses : ℕ → Item
+  several_clauses : ℕ → Item
   -- one clause, and whether it is the last
   a_clause : Bool → ℕ → Item
   a_parameter : Item
@@ -27,8 +27,8 @@ pub data Item : Type 0 where
   code_end : ℕ → ℕ → Item
   a_value : ℕ → ℕ → Item
   a_chunk : ℕ → Item
-  -- the judgement of an outermost chunk's bytes, by where it began
-  weight_end : ℕ → Item
+  -- the judgement of a chunk's bytes, by its nest and where it began
+  weight_end : ℕ → ℕ → Item
   -- a count in one byte within its limits, and so many items
   counted : Limit → ℕ → ℕ → Item → Item
   -- a count in two bytes, and so many items

@@ -1,6 +1,11 @@
-pub mod Items
-pub mod Parts
-pub mod Scan
-pub mod Types
-pub mod Steps
+pub mod Exprs
 pub mod Fields
+pub mod Items
+pub mod Kept
+pub mod Parts
+pub mod Programs
+pub mod Scan
+pub mod Spelling
+pub mod Steps
+pub mod Types
+pub mod Values

@@ -16,6 +16,11 @@ pub record Part (A : Type 0) : Type 1 where
   pub Fits : A → Type 0
   pub nodes : A → ℕ
 
+-- how a part that contains parts of its kind is read, and what may be spelled
+pub record Core (A : Type 0) : Type 1 where
+  pub read : Reader A
+  pub Fits : A → Type 0
+
 infixr 20 ◌&◌
 
 pub data Parts : Type 1 where
@@ -102,5 +107,15 @@ formed i tag Allowed forms build parts bytes nodes = record {
   read = tagged_at tag forms build;
   bytes = bytes;
   Fits = λ x. FormFits Allowed forms (parts x);
+  nodes = nodes;
+}
+
+-- a construct without a tag
+abbrev pub joined : {A : Type 0} → Item → (forms : Parts) → (Held forms → A) → (A → Held forms) → (A → List ℕ) → (A → ℕ) → Part A
+joined i forms build parts bytes nodes = record {
+  item = i;
+  read = reads forms build;
+  bytes = bytes;
+  Fits = λ x. AllFit forms (parts x);
   nodes = nodes;
 }

@@ -3,6 +3,7 @@ use Rattle.std.specs.Prelude.{◌≡◌, ℕ, zero, suc, ◌+◌, ◌-◌, ◌<�
 use Rattle.std.specs.Int.{Width, w8, w16, w32, w64}
 use Rattle.std.specs.Str.{is_utf8}
 use lib.Utf8.{scalar}
+use Rattle.plan_base.specs.Words.{is_name}
 use Rattle.wire_bytes.specs.Fields.{Front, bytes_at, number_at, int_at}
 use Rattle.read_laws.specs.Reading.{◌>>=◌, many}
 use Rattle.plan_base.specs.declared.limit.Limit.{Limit}
@@ -58,21 +59,21 @@ table_field base tags s = do
   known (tag_of base tags byte.0) s.front.at byte.1
 
 -- a truth value: 0 or 1
-abbrev pub bool_of : ℕ → Option Bool
-bool_of zero = Some false
-bool_of (suc zero) = Some true
-bool_of _ = None
+abbrev pub flags : List Bool
+flags = false ∷ true ∷ []
 
 unfoldable pub flag_field : Reader Bool
-flag_field s = do
-  byte ← number_field w8 s
-  known (bool_of byte.0) s.front.at byte.1
+flag_field s = table_field 0 flags s
+
+-- whether a number is a Unicode scalar
+abbrev pub is_scalar : ℕ → Bool
+is_scalar c = scalar c
 
 -- a Unicode scalar in four bytes
 unfoldable pub char_field : Reader ℕ
 char_field s = do
   code ← number_field w32 s
-  allowed (scalar code.0) (BadUtf8 s.front.at) code
+  allowed (is_scalar code.0) (BadUtf8 s.front.at) code
 
 -- bytes behind their length in two bytes
 unfoldable pub blob_field : Reader (List ℕ)
@@ -93,3 +94,16 @@ count_field limit least most s = do
   count ← number_field w8 s
   enough ← allowed (nat_le least count.0) (BadTag s.front.at) count
   allowed (nat_le enough.0 most) (OverLimit limit s.front.at) enough
+
+-- a name: its length, at least 1 and at most 32, and its bytes, which are a word that isn't reserved
+unfoldable pub name_field : Reader (List ℕ)
+name_field s = do
+  size ← number_field w8 s
+  longer ← allowed (nat_le 1 size.0) (BadName s.front.at) size
+  fits ← allowed (nat_le longer.0 32) (BadName s.front.at) longer
+  name ← bytes_field fits.0 fits.1
+  allowed (is_name name.0) (BadName s.front.at) name
+
+-- an operator by its number
+unfoldable pub operator_field : Reader Op
+operator_field s = table_field 0 OPERATORS s

@@ -11,7 +11,7 @@ use Rattle.chunk_spelling.specs.declared.tags.TypeTag.{TypeTag}
 use Rattle.chunk_spelling.specs.declared.tags.TheConstants.{TYPE_TAGS}
 use Rattle.chunk_spelling.specs.Items.{a_type}
 use Rattle.chunk_spelling.specs.Scan.{Scan, Reader, table_field, allowed}
-use Rattle.chunk_spelling.specs.Parts.{Part, Parts, done, ◌&◌, Held, several, formed}
+use Rattle.chunk_spelling.specs.Parts.{Part, Core, Parts, done, ◌&◌, Held, FormFits, several, tagged_at}
 
 -- a type's bytes, by those of its parts
 abbrev pub type_bytes_level : {X : Type 0} → (X → List ℕ) → Ty-F X → List ℕ
@@ -69,21 +69,31 @@ type_parts inner Ty-F.Chunk = Some (TypeTag.Chunk, tt)
 type_parts inner (Ty-F.List t) = Some (TypeTag.List, (t, tt))
 type_parts inner (Ty-F.Tuple ts) = Some (TypeTag.Tuple, (ts, tt))
 
--- no type may stand there
-abbrev pub no_type : Part Ty
-no_type = record { item = a_type 0; read = λ s. Err (OverLimit Limit.OfType s.front.at); bytes = type_bytes; Fits = λ _. ⊥; nodes = λ _. 0 }
+-- a part that is a type
+abbrev pub type_from : ℕ → Core Ty → Part Ty
+type_from room core = record { item = a_type room; read = core.read; bytes = type_bytes; Fits = core.Fits; nodes = λ _. 0 }
 
--- a type at its tag, with so many levels to open, by the parts one level deeper
-abbrev pub type_within : ℕ → Part Ty → Part Ty
-type_within room inner =
-    formed (a_type room) (type_tag_at room) (λ _. 0 < room) (type_forms inner) (type_of_parts inner) (λ t. type_parts inner (out-Ty t)) type_bytes (λ _. 0)
+-- a type at its tag, with room levels to open, by the parts one level deeper
+abbrev pub type_within : ℕ → Part Ty → Core Ty
+type_within room inner = record {
+  read = tagged_at (type_tag_at room) (type_forms inner) (type_of_parts inner);
+  Fits = λ t. FormFits (λ _. 0 < room) (type_forms inner) (type_parts inner (out-Ty t));
+}
+
+-- no type may stand there
+abbrev pub no_type : Core Ty
+no_type = record { read = λ s. Err (OverLimit Limit.OfType s.front.at); Fits = λ _. ⊥ }
+
+-- the types of depth at most room
+unfoldable pub type_core : ℕ → Core Ty
+type_core zero = type_within 0 (type_from 0 no_type)
+type_core (suc room) = type_within (suc room) (type_from room (type_core room))
 
 -- a type of depth at most room
-unfoldable pub type_part : ℕ → Part Ty
-type_part zero = type_within 0 no_type
-type_part (suc room) = type_within (suc room) (type_part room)
+abbrev pub type_part : ℕ → Part Ty
+type_part room = type_from room (type_core room)
 
 -- the parts of a type one level deeper
 abbrev pub type_inner : ℕ → Part Ty
-type_inner zero = no_type
+type_inner zero = type_from 0 no_type
 type_inner (suc room) = type_part room

@@ -1,15 +1,15 @@
 -- What the rules of well-formed trees are, by a tree's outermost level.
-use Rattle.std.proofs.Common.{◌≡◌, ℕ, ◌+◌, ◌-◌, Bool, true, false, ◌&&◌, refl, ap, sym, ◌∙◌, List, [], ◌∷◌, length, take}
+use Rattle.std.proofs.Common.{◌≡◌, ◌-◌, Bool, ◌&&◌, refl, ap, sym, ◌∙◌, List, [], ◌∷◌, length, take}
 use Rattle.std.proofs.lemmas.List.{length-map, take-map}
-use Rattle.std.specs.Prelude.{map, nat_le, is_some, Some, None}
+use Rattle.std.specs.Prelude.{map, nat_le, is_some}
 use Rattle.std.specs.List.{list_all}
 use Rattle.plan_base.specs.declared.tree.Ty.{Ty, Ty-F, out-Ty, map-Ty, fold_out-Ty}
-use Rattle.plan_base.specs.declared.tree.Expr.{Expr, Expr-F, out-Expr, roll-Expr, roll-out-Expr, map-Expr, fold_out-Expr, para-Expr, para-roll-Expr}
-use Rattle.plan_base.specs.declared.tree.Clause.{Clause, Clause-F, out-Clause, roll-Clause, roll-out-Clause, fold-Clause, fold_out-Clause, para-Clause, para-roll-Clause}
-use Rattle.plan_base.specs.declared.tree.Value.{Value, Value-F, out-Value, roll-Value, roll-out-Value, map-Value, fold_out-Value, para-Value, para-roll-Value}
-use Rattle.plan_base.specs.declared.tree.Chunk.{Chunk, Chunk-F, out-Chunk, roll-Chunk, roll-out-Chunk, fold-Chunk, fold_out-Chunk, para-Chunk, para-roll-Chunk}
+use Rattle.plan_base.specs.declared.tree.Expr.{Expr, Expr-F, out-Expr, roll-out-Expr, map-Expr, fold_out-Expr, para-roll-Expr}
+use Rattle.plan_base.specs.declared.tree.Clause.{Clause, out-Clause, roll-out-Clause, fold-Clause, fold_out-Clause, para-Clause, para-roll-Clause}
+use Rattle.plan_base.specs.declared.tree.Value.{Value, Value-F, out-Value, roll-out-Value, map-Value, fold_out-Value, para-roll-Value}
+use Rattle.plan_base.specs.declared.tree.Chunk.{Chunk, out-Chunk, roll-out-Chunk, fold-Chunk, fold_out-Chunk, para-Chunk, para-roll-Chunk}
 use Rattle.plan_base.specs.Sizes.{value_depth, type_depth}
-use Rattle.plan_base.specs.WellFormed.{has_from_to, formed_type_level, formed_type, names_all_but_last, formed_expr_level, formed_expr, formed_value_level, formed_chunk_level, formed_value, formed_chunk, well_formed_type, well_formed_program, typed_expr_level, typed_clause_level, has_types, typed_value_level, typed_chunk_level, value_has_types, chunk_has_types, program_has_types}
+use Rattle.plan_base.specs.WellFormed.{formed_type_level, formed_type, formed_expr_level, formed_expr, formed_value_level, formed_chunk_level, formed_value, formed_chunk, well_formed_program, typed_expr_level, typed_clause_level, has_types, typed_value_level, typed_chunk_level, value_has_types, chunk_has_types, program_has_types}
 
 list_all-map : {X Y : Type 0} (p : Y → Bool) (f : X → Y) (xs : List X) → list_all p (map f xs) ≡ list_all (λ x. p (f x)) xs
 list_all-map p f [] = refl

@@ -1,5 +1,5 @@
 -- The typing rules, one for each form: what type an expression has, which programs are typed, and which values have a type.
-use Rattle.std.specs.Prelude.{◌≡◌, ℕ, ℤ, ◌≤◌, ◌+◌, ◌++◌, Bool, true, false, IsTrue, List, [], ◌∷◌, map, take, slice_get, Option, Some, None}
+use Rattle.std.specs.Prelude.{◌≡◌, ℕ, ℤ, ◌≤◌, ◌+◌, ◌++◌, Bool, true, List, [], ◌∷◌, map, take, slice_get, Option, Some, None}
 use Rattle.plan_base.specs.declared.name.Name.{Name}
 use Rattle.plan_base.specs.declared.text.Text.{Text}
 use Rattle.plan_base.specs.declared.bytes.Bytes.{Bytes}
@@ -19,7 +19,7 @@ use Rattle.plan_base.specs.declared.tree.Value.{Value, Value-F, out-Value}
 use Rattle.plan_base.specs.declared.tree.Chunk.{Chunk}
 use Rattle.plan_base.specs.Trees.{ExprLayer}
 use Rattle.plan_base.specs.Sizes.{type_depth, code_size, weight, nesting, chunk_weight, chunk_nesting}
-use Rattle.plan_base.specs.TypingNames.{place_of, service_of, binds, binding, param_types, prim_of, of_list, takes, makes, built_in, is_exception, may_catch, OpKind, arithmetic, joining, equality, ordering, listing, kind_of, is_joined, is_ordered, part_of, are_new, are_callable}
+use Rattle.plan_base.specs.TypingNames.{place_of, service_of, binds, binding, param_types, prim_of, of_list, takes, makes, built_in, is_exception, may_catch, arithmetic, joining, equality, ordering, listing, kind_of, is_joined, is_ordered, part_of, are_new, are_callable}
 
 -- the parameters and bindings that an expression sees, the innermost last
 abbrev pub Ctx : Type 0

@@ -1,5 +1,5 @@
 -- How the types of `[]` and `raise` that are missing in a draft are taken from the wanted types, and nothing else changes.
-use Rattle.std.specs.Prelude.{◌≡◌, ℕ, ◌+◌, ◌++◌, Bool, true, false, List, [], ◌∷◌, take, length, slice_get, Option, Some, None, option_and_then}
+use Rattle.std.specs.Prelude.{◌≡◌, ℕ, ◌+◌, ◌++◌, true, List, [], ◌∷◌, length, slice_get, Option, Some, None, option_and_then}
 use Rattle.plan_base.specs.declared.name.Name.{Name}
 use Rattle.plan_base.specs.declared.prim.Prim.{Prim}
 use Rattle.plan_base.specs.declared.tree.Op.{Op}
@@ -12,7 +12,7 @@ use Rattle.plan_base.specs.declared.tree.Svc.{Svc}
 use Rattle.plan_base.specs.declared.tree.Fun.{Fun}
 use Rattle.plan_base.specs.declared.tree.Program.{Program}
 use Rattle.plan_base.specs.Typing.{Ctx, literal_type, IsShallow}
-use Rattle.plan_base.specs.TypingNames.{place_of, service_of, binds, binding, param_types, prim_of, of_list, takes, makes, is_exception, may_catch, arithmetic, joining, equality, ordering, listing, kind_of, is_joined, is_ordered, part_of}
+use Rattle.plan_base.specs.TypingNames.{service_of, binds, binding, param_types, prim_of, of_list, takes, makes, is_exception, may_catch, arithmetic, joining, equality, ordering, listing, kind_of, is_joined, is_ordered, part_of}
 use Rattle.plan_base.specs.TypingOrder.{items_of, parts_of, want_at, fun_of, earlier}
 
 -- a type that is as wanted, where one is wanted

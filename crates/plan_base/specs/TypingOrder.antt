@@ -1,8 +1,7 @@
 -- The checking of a program in its order: the conditions of each form one after the other, so that the first that fails is
 -- the answer, with its place. On the way the types of `[]` and `raise` that are missing are taken from the wanted types.
-use Rattle.std.specs.Prelude.{◌≡◌, ℕ, zero, suc, ◌+◌, ◌==◌, ◌++◌, min, Bool, true, false, not, ◌&&◌, ◌||◌, if◌then◌else◌, List, [], ◌∷◌, map, take, length, slice_get, Option, Some, None, is_some, option_and_then, Result, Ok, Err, nat_le}
+use Rattle.std.specs.Prelude.{ℕ, zero, suc, ◌+◌, ◌==◌, ◌++◌, min, Bool, true, false, not, ◌&&◌, ◌||◌, if◌then◌else◌, List, [], ◌∷◌, map, take, length, slice_get, Option, Some, None, is_some, option_and_then, Result, Ok, Err, nat_le}
 use Rattle.std.specs.List.{list_any}
-use Rattle.std.specs.Str.{bytes_eq}
 use Rattle.plan_base.specs.declared.name.Name.{Name}
 use Rattle.plan_base.specs.declared.prim.Prim.{Prim}
 use Rattle.plan_base.specs.declared.tree.Op.{Op}
@@ -15,7 +14,6 @@ use Rattle.plan_base.specs.declared.tree.Param.{Param}
 use Rattle.plan_base.specs.declared.tree.Svc.{Svc}
 use Rattle.plan_base.specs.declared.tree.Fun.{Fun}
 use Rattle.plan_base.specs.declared.tree.Program.{Program}
-use Rattle.plan_base.specs.declared.tree.Place.{Place}
 use Rattle.plan_base.specs.declared.tree.Place.TheVariants.{Decl, Node}
 use Rattle.plan_base.specs.declared.type_fault.TypeFault.{TypeFault}
 use Rattle.plan_base.specs.declared.type_fault.TypeFault.TheVariants.{UnknownName, NotEarlier, Mismatch, Arity, NeedsType, WrongShape, TwiceNamed, TypeTooDeep, CodeTooLarge}

@@ -1,18 +1,17 @@
 -- Which trees keep the counts, depths and forms of the language, and in which no type is missing.
-use Rattle.std.specs.Prelude.{ℕ, ◌-◌, Bool, true, false, ◌&&◌, List, length, take, nat_le, IsTrue, Option, Some, None, is_some}
+use Rattle.std.specs.Prelude.{ℕ, ◌-◌, Bool, true, ◌&&◌, List, length, take, nat_le, IsTrue, Option, Some, None, is_some}
 use Rattle.std.specs.List.{list_all}
 use Rattle.std.specs.Str.{is_utf8}
 use lib.Utf8.{scalar}
 use Rattle.plan_base.specs.declared.tree.Ty.{Ty, Ty-F, fold-Ty}
 use Rattle.plan_base.specs.declared.tree.Expr.{Expr, Expr-F, fold-Expr, para-Expr}
-use Rattle.plan_base.specs.declared.tree.Clause.{Clause, Clause-F}
+use Rattle.plan_base.specs.declared.tree.Clause.{Clause-F}
 use Rattle.plan_base.specs.declared.tree.Svc.{Svc}
-use Rattle.plan_base.specs.declared.tree.Param.{Param}
 use Rattle.plan_base.specs.declared.tree.Fun.{Fun}
 use Rattle.plan_base.specs.declared.tree.Program.{Program}
 use Rattle.plan_base.specs.declared.tree.Value.{Value, Value-F, fold-Value, para-Value}
 use Rattle.plan_base.specs.declared.tree.Chunk.{Chunk, Chunk-F}
-use Rattle.plan_base.specs.Sizes.{type_depth, expr_depth, expr_nodes, program_nodes, value_depth, nesting}
+use Rattle.plan_base.specs.Sizes.{type_depth, expr_depth, program_nodes, value_depth, nesting}
 
 -- whether a list has from `least` to `most` items
 abbrev pub has_from_to : {X : Type 0} → ℕ → ℕ → List X → Bool

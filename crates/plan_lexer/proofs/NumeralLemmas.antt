@@ -1,6 +1,6 @@
 -- On the number that digits spell.
-use Rattle.std.proofs.Common.{◌≡◌, ℕ, ◌+◌, ◌-◌, ◌*◌, ◌/◌, ◌<◌, ◌≤◌, List, [], ◌∷◌, length, get_or, drop, refl, sym, ap, ◌∙◌, arith, drop-cons, add-one}
-use Rattle.plan_lexer.specs.Numerals.{number_from, number_of}
+use Rattle.std.proofs.Common.{ℕ, ◌+◌, ◌-◌, ◌*◌, ◌/◌, ◌<◌, ◌≤◌, List, [], ◌∷◌, length, get_or, drop, arith, drop-cons, add-one}
+use Rattle.plan_lexer.specs.Numerals.{number_from}
 
 -- more digits never make a number smaller
 pub number_from_le : (v : ℕ) (ds : List ℕ) → v ≤ number_from v ds

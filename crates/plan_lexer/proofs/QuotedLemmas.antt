@@ -1,9 +1,8 @@
 -- On the reading of strings, item by item.
-use Rattle.std.proofs.Common.{◌≡◌, ℕ, zero, suc, ◌+◌, ◌-◌, ◌<◌, ◌≤◌, List, [], ◌∷◌, ◌++◌, length, drop, Result, Ok, Err, refl, sym, ap, ◌∙◌, arith, add-zero, add-one, add-suc, append_assoc}
+use Rattle.std.proofs.Common.{◌≡◌, ℕ, zero, suc, ◌+◌, ◌<◌, List, [], ◌∷◌, ◌++◌, drop, Result, Ok, Err, refl, sym, ap, ◌∙◌, arith, add-zero, append_assoc}
 use Rattle.std.specs.Char.{encode_utf8}
 use Rattle.plan_lexer.specs.CharItems.{item_at}
 use Rattle.plan_lexer.specs.Quoted.{with_front, string_from, string_by}
-use Rattle.plan_lexer.specs.declared.item.Item.{Item}
 use Rattle.plan_lexer.specs.declared.item.Item.TheVariants.{Closes, Open, Wrong, Code}
 use Rattle.plan_lexer.specs.declared.fault.LexFault.{LexFault}
 use Rattle.plan_lexer.specs.declared.fault.LexFault.TheVariants.{BadChar, OpenString}

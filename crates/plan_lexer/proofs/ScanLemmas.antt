@@ -1,5 +1,5 @@
 -- On the tokens of a text and its first refusal.
-use Rattle.std.proofs.Common.{◌≡◌, ℕ, ◌+◌, ◌-◌, ◌<◌, ◌≤◌, List, [], ◌∷◌, ◌++◌, length, drop, Option, Some, None, Result, Ok, Err, refl, sym, ap, ◌∙◌, arith, append_assoc, append-nil, subst, ◌⊎◌, inl, inr, IsErrAnd, IfErr, MatchResult}
+use Rattle.std.proofs.Common.{◌≡◌, ℕ, ◌<◌, List, [], ◌∷◌, ◌++◌, length, Option, Some, None, Result, Ok, Err, refl, sym, ap, ◌∙◌, arith, append_assoc, append-nil, subst, ◌⊎◌, inl, inr, IsErrAnd, IfErr, MatchResult}
 use Rattle.plan_lexer.specs.Faults.{Fails}
 use Rattle.plan_lexer.specs.Scanning.{Toks, ends, skips, takes, Refuses, here, past, move_at, rest_at, with_move}
 use Rattle.plan_lexer.specs.declared.token.Token.{Token}
@@ -19,11 +19,11 @@ by_move : (text : List ℕ) (found : List Token) (at : ℕ) (rest : List ℕ) (m
     → move_at at rest ≡ Ok (move, next) → SoFar text (with_move found at move next) next (rest_at at rest next)
 by_move text found at rest None next sofar some is = record {
   ok = λ ts h. sofar.ok ts (skips at rest ts next some is h);
-  err = λ e h. sofar.err e (past at rest None next some is h)
+  err = λ e h. sofar.err e (past at rest None next some is h);
 }
 by_move text found at rest (Some k) next sofar some is = record {
   ok = λ ts h. rw append_assoc (sofar.ok (record { kind = k; start = at; stop = next } ∷ ts) (takes at rest ts k next some is h));
-  err = λ e h. sofar.err e (past at rest (Some k) next some is h)
+  err = λ e h. sofar.err e (past at rest (Some k) next some is h);
 }
 
 pub moved : (text : List ℕ) (found : List Token) (at : ℕ) (rest : List ℕ) (move : Option TokenKind) (next : ℕ) (more : List Token) (left : List ℕ)
@@ -65,7 +65,7 @@ Toks-move _ _ _ (ends at) some m p = absurd (omega arith)
 Toks-move _ _ _ (skips at text ts next s q h) some m p = follows_same at text ts (None, next) m q p h
 Toks-move _ _ _ (takes at text ts k next s q h) some m p = follows_same at text (record { kind = k; start = at; stop = next } ∷ ts) (Some k, next) m q p (ts, refl, h)
 
-Toks-nil : (at : ℕ) (text : List ℕ) (ts : List Token) → length text ≡ 0 → Toks at text ts → ts ≡ []
+pub Toks-nil : (at : ℕ) (text : List ℕ) (ts : List Token) → length text ≡ 0 → Toks at text ts → ts ≡ []
 Toks-nil _ _ _ is (ends at) = refl
 Toks-nil _ _ _ is (skips at text ts next some m h) = absurd (omega arith)
 Toks-nil _ _ _ is (takes at text ts k next some m h) = absurd (omega arith)

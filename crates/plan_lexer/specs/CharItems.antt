@@ -1,5 +1,5 @@
 -- The items between the quotes of strings and chars.
-use Rattle.std.specs.Prelude.{◌≡◌, ◌<◌, ◌≤◌, ℕ, ◌+◌, ◌-◌, ◌*◌, Bool, ◌&&◌, List, length, get_or, Option, Some, None, nat_lt, nat_le, ◌==◌, if◌then◌else◌}
+use Rattle.std.specs.Prelude.{◌<◌, ◌≤◌, ℕ, ◌+◌, ◌-◌, ◌*◌, List, length, get_or, Option, Some, None, nat_lt, ◌==◌, if◌then◌else◌}
 use lib.Utf8.{scalar}
 use Rattle.plan_lexer.specs.declared.item.Item.{Item}
 use Rattle.plan_lexer.specs.declared.item.Item.TheVariants.{Closes, Open, Wrong, Code}

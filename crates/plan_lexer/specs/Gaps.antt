@@ -1,5 +1,5 @@
 -- What stands between tokens: blanks and comments.
-use Rattle.std.specs.Prelude.{◌≡◌, ℕ, zero, suc, ◌+◌, ◌-◌, Bool, ◌||◌, ◌&&◌, List, [], ◌∷◌, get_or, drop, Result, Ok, Err, ◌==◌, false, if◌then◌else◌}
+use Rattle.std.specs.Prelude.{ℕ, ◌+◌, ◌-◌, Bool, ◌||◌, ◌&&◌, List, [], ◌∷◌, get_or, drop, Result, Ok, Err, ◌==◌, false, if◌then◌else◌}
 use Rattle.plan_lexer.specs.declared.gap.Before.{Before}
 use Rattle.plan_lexer.specs.declared.gap.Before.TheVariants.{Paren, Star, Other}
 use Rattle.plan_lexer.specs.declared.fault.LexFault.{LexFault}

@@ -1,5 +1,5 @@
 -- Blobs.
-use Rattle.std.specs.Prelude.{◌≡◌, ℕ, ◌+◌, ◌*◌, List, [], ◌∷◌, Option, Some, None, Result, Ok, Err, ◌==◌, if◌then◌else◌}
+use Rattle.std.specs.Prelude.{ℕ, ◌+◌, ◌*◌, List, [], ◌∷◌, Option, Some, None, Result, Ok, Err, ◌==◌, if◌then◌else◌}
 use Rattle.plan_lexer.specs.CharItems.{hex_value}
 use Rattle.plan_lexer.specs.Quoted.{with_front}
 use Rattle.plan_lexer.specs.declared.fault.LexFault.{LexFault}

@@ -1,6 +1,5 @@
 -- Strings and chars.
-use Rattle.std.specs.Prelude.{◌≡◌, ℕ, zero, suc, ◌+◌, ◌-◌, List, [], ◌∷◌, ◌++◌, length, get_or, drop, Result, Ok, Err, encode_utf8, ◌==◌, if◌then◌else◌}
-use Rattle.plan_lexer.specs.Faults.{◌>>=◌}
+use Rattle.std.specs.Prelude.{ℕ, zero, suc, ◌+◌, ◌-◌, List, [], ◌∷◌, ◌++◌, get_or, Result, Ok, Err, encode_utf8, ◌==◌, if◌then◌else◌}
 use Rattle.plan_lexer.specs.CharItems.{item_at}
 use Rattle.plan_lexer.specs.declared.item.Item.{Item}
 use Rattle.plan_lexer.specs.declared.item.Item.TheVariants.{Closes, Open, Wrong, Code}

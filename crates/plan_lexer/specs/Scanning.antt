@@ -1,5 +1,5 @@
 -- The tokens of a text, from the left.
-use Rattle.std.specs.Prelude.{◌≡◌, ℕ, zero, ◌+◌, ◌-◌, ◌^◌, ◌<◌, List, [], ◌∷◌, ◌++◌, length, get_or, drop, Option, Some, None, Result, Ok, Err, pos, neg_ℤ, nat_lt, ◌==◌, if◌then◌else◌}
+use Rattle.std.specs.Prelude.{◌≡◌, ℕ, ◌+◌, ◌-◌, ◌<◌, List, [], ◌∷◌, ◌++◌, length, get_or, drop, Option, Some, None, Result, Ok, Err, pos, neg_ℤ, nat_lt, ◌==◌, ◌⊎◌, if◌then◌else◌}
 use Rattle.std.specs.Char.{is_ascii_digit, is_ascii_alphabetic}
 use Rattle.plan_lexer.specs.Faults.{◌>>=◌}
 use Rattle.plan_lexer.specs.Numerals.{number_at, number_behind}
@@ -98,3 +98,7 @@ pub data Refuses (e : LexFault) : ℕ → List ℕ → Type 0 where
   here : (at : ℕ) (text : List ℕ) → 0 < length text → move_at at text ≡ Err e → Refuses e at text
   past : (at : ℕ) (text : List ℕ) (move : Option TokenKind) (next : ℕ) → 0 < length text → move_at at text ≡ Ok (move, next)
       → Refuses e next (rest_at at text next) → Refuses e at text
+
+-- a text has its tokens or its first refusal
+abbrev pub IsAnswered : ℕ → List ℕ → Type 0
+IsAnswered at text = ((ts : List Token) × Toks at text ts) ⊎ ((e : LexFault) × Refuses e at text)

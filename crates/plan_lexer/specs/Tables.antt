@@ -1,5 +1,5 @@
 -- The spellings of reserved words and symbols.
-use Rattle.std.specs.Prelude.{ℕ, Bool, List, [], ◌∷◌, length, Option, Some, None, codes, nat_eq, if◌then◌else◌, find}
+use Rattle.std.specs.Prelude.{ℕ, List, [], ◌∷◌, Option, codes, nat_eq, find}
 use Rattle.std.specs.Str.{bytes_eq}
 use Rattle.std.specs.List.{starts_with}
 use Rattle.plan_lexer.specs.declared.token.Key.{Key}

@@ -1,5 +1,6 @@
 ghost use Rattle.std.specs.Prelude.{◌≡◌, ℕ, ◌≤◌, ◌⊎◌, List, length, IfOk, IfErr, OnOk, MatchResult};
 ghost use Rattle.plan_lexer.specs.Scanning.{Toks, Refuses, with_move};
+ghost use Rattle.plan_lexer.specs.TokenRules.{AreTokens};
 ghost use Rattle.plan_lexer.specs.declared.token.Token.{Token};
 
 use crate::scan::move_at;
@@ -13,6 +14,7 @@ pub fn lex(alloc: Global, text: &[u8]) -> Result<Tokens, LexFault>
     requires { length text.now ≤ 65536 }
     ensures found { IfOk result (Toks 0 text.now) }
     ensures only { (ts : List Token) → Toks 0 text.now ts → MatchResult result (λ us. us ≡ ts) (λ e. e ≡ LexFault.NoMemory) }
+    ensures kept { IfOk result (AreTokens 0 (length text.now)) }
     ensures fault { IfErr result (λ e. (e ≡ LexFault.NoMemory) ⊎ Refuses e 0 text.now) }
 {
     let mut tokens = Tokens::new(alloc);
@@ -28,7 +30,12 @@ pub fn lex(alloc: Global, text: &[u8]) -> Result<Tokens, LexFault>
 }
 
 /// Adds the token that a move gave, if it gave one.
-fn add_move(tokens: &mut Tokens, start: u32, kind: Option<TokenKind>, stop: u32) -> Result<(), AllocError>
+fn add_move(
+    tokens: &mut Tokens,
+    start: u32,
+    kind: Option<TokenKind>,
+    stop: u32,
+) -> Result<(), AllocError>
     ensures ok { OnOk result (tokens.new ≡ with_move tokens.old start kind stop) }
 {
     match kind {

@@ -5,15 +5,19 @@ mod fault;
 mod gap;
 mod hexed;
 mod item;
+mod laws;
 mod lexing;
 mod numeral;
 mod quoted;
 mod scan;
 mod tables;
+#[cfg(test)]
+mod tests;
 mod text;
 mod token;
 mod word;
 
 pub use fault::LexFault;
+pub use laws::{longest_tokens, one_answer, printed_tokens, spelled_tokens};
 pub use lexing::lex;
 pub use token::{Key, Symbol, Token, TokenKind, Tokens};

@@ -31,7 +31,11 @@ fn negated(number: u64) -> i64
     requires { number ≤ 0x8000_0000_0000_0000 }
     ensures { result ≡ neg_ℤ (pos number) }
 {
-    if number == 0x8000_0000_0000_0000 { i64::MIN } else { -(number as i64) }
+    if number == 0x8000_0000_0000_0000 {
+        i64::MIN
+    } else {
+        -(number as i64)
+    }
 }
 
 /// The negative number whose sign stands at `at`, before the text.
@@ -155,7 +159,11 @@ fn token_at(alloc: Global, at: u32, text: &[u8]) -> Result<(TokenKind, u32), Lex
 
 /// The gap or the token that a text at `at` begins with, and the place behind it.
 #[tactic(auto, unfolding(crate::specs::Scanning::move_at))]
-pub(crate) fn move_at(alloc: Global, at: u32, text: &[u8]) -> Result<(Option<TokenKind>, u32), LexFault>
+pub(crate) fn move_at(
+    alloc: Global,
+    at: u32,
+    text: &[u8],
+) -> Result<(Option<TokenKind>, u32), LexFault>
     requires some { 0 < length text.now }
     requires short { at + length text.now < 2 ^ 31 }
     ensures value { Gives (λ read. read) result (move_at at text.now) }

@@ -162,5 +162,8 @@ pub(crate) fn symbol_at(text: &[u8]) -> Option<Symbol>
     ensures value { result ≡ symbol_at text.now }
     ensures within { IfSome result (λ s. length (symbol_text s) ≤ length text.now) }
 {
-    SYMBOLS.iter().copied().find(|symbol| text.starts_with(symbol.text()))
+    SYMBOLS
+        .iter()
+        .copied()
+        .find(|symbol| text.starts_with(symbol.text()))
 }

@@ -1,4 +1,11 @@
 pub mod Lines
 pub mod Reads
 pub mod Numbers
+pub mod Packages
 pub mod Parts
+pub mod Built
+pub mod SmallPrograms
+pub mod Schedules
+pub mod Leaving
+pub mod Rules
+pub mod Answers

@@ -7,5 +7,5 @@ abbrev pub invariant-loop-byte : goal.invariant-loop-byte
 invariant-loop-byte l = record {
   same : with_front l.bytes (blob_from l.start l.at l.half (drop l.byte-index l.text)) ≡ blob_from l.start (l.start + 2) None l.text;
   place : l.at ≡ l.start + 2 + l.byte-index;
-  small : IfSome l.half (λ high. high < 16)
+  small : IfSome l.half (λ high. high < 16);
 }

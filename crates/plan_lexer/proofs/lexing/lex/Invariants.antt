@@ -5,7 +5,7 @@ use Rattle.plan_lexer.proofs.lexing.lex.Given as goal
 abbrev pub invariant-moves : goal.invariant-moves
 invariant-moves l = record {
   sofar : SoFar l.text l.tokens l.at l.rest;
-  place : l.at + length l.rest ≡ length l.text
+  place : l.at + length l.rest ≡ length l.text;
 }
 
 abbrev pub decreases-moves : goal.decreases-moves

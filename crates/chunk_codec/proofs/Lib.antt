@@ -1,0 +1,6 @@
+pub mod ExprSteps
+pub mod Loops
+pub mod Texts
+pub mod TypeSteps
+pub mod ValueSteps
+pub mod Wholes

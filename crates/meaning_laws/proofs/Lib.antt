@@ -1,0 +1,9 @@
+pub mod Shapes
+pub mod Rules
+pub mod Right
+pub mod Sound
+pub mod Walk
+pub mod Even
+pub mod Steady
+pub mod Longer
+pub mod Within

@@ -1,0 +1,66 @@
+-- A replay that is done wrote the run of its schedule, and that run is in balance.
+use Rattle.std.proofs.Common.{◌≡◌, ℕ, Bool, true, false, cond, nat_lt, ◌⊎◌, inl, inr, List, length, take, Option, Some, None, Result, Ok, refl, sym, ap, ◌∙◌, subst}
+use Rattle.std.specs.List.{All}
+use Rattle.std.proofs.lemmas.List.Elements.{All-take}
+use Rattle.node_io.specs.FileMaps.{FileMap}
+use Rattle.schedule_text.specs.declared.schedule.Schedule.{Schedule}
+use Rattle.schedule_text.specs.Schedules.{schedule_of}
+use Rattle.schedule_text.proofs.RuleLaws.{schedule_keeps}
+use Rattle.world_laws.specs.World.{opening}
+use Rattle.world_laws.specs.Texts.{run_text}
+use Rattle.world_laws.specs.Counts.{event_fits}
+use Rattle.world_laws.proofs.WorldBalance.{opening_balances}
+use Rattle.world_laws.proofs.Fitting.{run_sound, opening_sound}
+use Rattle.net_world.proofs.RunLaws.{opening_bounded}
+use Rattle.planet_cli.specs.declared.status.Cause.{Cause}
+use Rattle.planet_cli.specs.declared.status.Cause.TheVariants.{Done, WriteFault}
+use Rattle.planet_cli.specs.declared.status.Cause.TheVariants as causes
+use Rattle.planet_cli.specs.declared.status.Refusal.{Refusal}
+use Rattle.planet_cli.specs.declared.status.Refusal.TheVariants.{TooLong}
+use Rattle.planet_cli.specs.Refusals.{Gives}
+use Rattle.planet_cli.specs.Outcomes.{Outcome, refused, whole, ruled, judged, outcome_at, answered, outcome_of, output_of, IsWhole}
+use Rattle.planet_cli.specs.Schedules.{schedule_limit, schedule_refusal, schedule_output, output_in}
+use Rattle.planet_cli.specs.Replays.{IsReplayOf, KeepsLedger}
+use Rattle.planet_cli.proofs.RuleLemmas.{hosts_differ, events_fit}
+
+-- a call is done only where its work was done
+pub done_found : (found given : Cause) (X : Type 0) → Gives found given X → given ≡ Done → found ≡ Done
+done_found found given X gives done = elim gives [
+  | inl same ↦ sym same ∙ done
+  | inr other ↦ elim other [ inl memory ↦ absurd (cc) | inr unwritten ↦ absurd (no_fault given unwritten.0 done) ]
+]
+  where
+    no_fault : (c : Cause) → c ≡ WriteFault → c ≡ Done → ⊥
+    no_fault c e d = cc
+
+whole_text : (t : Bool) (rule : Option Refusal) (text : List ℕ) → IsWhole (cond t (refused TooLong) (ruled rule text)) → output_of (cond t (refused TooLong) (ruled rule text)) ≡ text
+whole_text true rule text h = absurd h
+whole_text false None text h = refl
+whole_text false (Some r) text h = absurd h
+
+asked_outcome : (words : List (List ℕ)) (files : FileMap) (s : Schedule) (r : IsReplayOf words files s) → outcome_of words files ≡ judged schedule_limit schedule_refusal schedule_output r.bytes
+asked_outcome words files s r =
+    ap (λ q. answered q files) r.asked ∙ ap (λ o. outcome_at schedule_limit schedule_refusal schedule_output o) r.there
+
+output_said : (bytes : List ℕ) (s : Schedule) → schedule_of bytes ≡ Ok s → schedule_output bytes ≡ run_text s.events (opening s.topology)
+unfolding schedule_output
+output_said bytes s e = ap output_in e
+
+-- the whole output of a replay is the run of its schedule
+pub replay_output : (words : List (List ℕ)) (files : FileMap) (s : Schedule) → IsReplayOf words files s → IsWhole (outcome_of words files)
+    → output_of (outcome_of words files) ≡ run_text s.events (opening s.topology)
+replay_output words files s r h =
+    let e = asked_outcome words files s r in
+    let P : Outcome → Type 0 = λ o. IsWhole o in
+    ap output_of e ∙ whole_text (nat_lt schedule_limit (length r.bytes)) (schedule_refusal r.bytes) (schedule_output r.bytes) (subst P e h) ∙ output_said r.bytes s r.says
+
+-- the run of a schedule that a file says is in balance at every moment
+pub replay_ledger : (words : List (List ℕ)) (files : FileMap) (s : Schedule) → IsReplayOf words files s → KeepsLedger s
+replay_ledger words files s r =
+    let keeps = schedule_keeps r.bytes s r.says in
+    let fits = events_fit s keeps in
+    record {
+      balance = λ k f. opening_balances f s.topology (take k s.events);
+      bounded = λ k f. opening_bounded f s.topology (take k s.events) (hosts_differ s keeps) (All-take event_fits k s.events fits);
+      sound = λ k. run_sound (take k s.events) (opening s.topology) (All-take event_fits k s.events fits) (opening_sound s.topology);
+    }

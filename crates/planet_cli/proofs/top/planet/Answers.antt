@@ -1,0 +1,12 @@
+use Rattle.std.proofs.Common.{ℕ, List, ◌++◌, ap, ◌∙◌}
+use Rattle.planet_cli.proofs.Headline.{done_found, replay_output, replay_ledger}
+use Rattle.planet_cli.proofs.top.planet.Goals as goal
+
+pub returns-clause-replayed : goal.returns-clause-replayed
+returns-clause-replayed g c =
+    λ files_tell out_tells s replays done.
+    let found = done_found _ _ _ c.settle-cause.ensures.gives done in
+    c.run-found.ensures.whole files_tell out_tells found ∙ ap (λ text. g.K.Sink.taken c.args.out.now ++ text) (replay_output _ _ s replays (c.run-found.ensures.accepted files_tell found))
+
+pub returns-clause-ledger : goal.returns-clause-ledger
+returns-clause-ledger g c = λ files_tell s replays. replay_ledger _ _ s replays
