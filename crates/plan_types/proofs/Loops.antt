@@ -1,5 +1,5 @@
 -- What one more item does to what a loop has found so far.
-use Rattle.std.proofs.Common.{◌≡◌, ℕ, ◌+◌, ◌<◌, ◌∙◌, sym, ap, refl, Bool, true, false, ◌||◌, List, [], ◌∷◌, ◌++◌, take, length, get_or, Option, Some, None, suc}
+use Rattle.std.proofs.Common.{◌≡◌, ℕ, ◌+◌, ◌-◌, ◌<◌, ◌∙◌, sym, ap, refl, Bool, true, false, ◌||◌, List, [], ◌∷◌, ◌++◌, take, length, get_or, Option, Some, None, suc, arith}
 use Rattle.std.specs.Prelude.{if◌then◌else◌}
 use Rattle.std.specs.Option.{option_or}
 use Rattle.std.specs.List.{list_any}
@@ -30,3 +30,7 @@ has_name-append (x ∷ xs) ys n = ap (λ b. bytes_eq x n || b) (has_name-append 
     go : (b : Bool) → (b || (has_name xs n || has_name ys n)) ≡ ((b || has_name xs n) || has_name ys n)
     go true = refl
     go false = refl
+
+-- a depth above 0 is one more than the one below it
+pub deeper : {X : Type 0} (f : ℕ → X) (n : ℕ) → 0 < n → f n ≡ f (suc (n - 1))
+deeper f n some = let e : n ≡ suc (n - 1) = omega arith in ap f e

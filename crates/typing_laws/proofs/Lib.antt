@@ -8,4 +8,4 @@ pub mod Reaches
 pub mod Itself
 pub mod Full
 pub mod Programs
-pub mod Depths
+pub mod Unique
