@@ -1,4 +1,4 @@
-ghost use Rattle.std.specs.Prelude.{◌≡◌, ◌++◌, ◌^◌, ◌<◌, ◌≤◌, List, ℕ, Option, Some, None, length, IsTrue, OnOk, IfErr, IsErrOf};
+ghost use Rattle.std.specs.Prelude.{◌≡◌, ◌++◌, ◌^◌, ◌<◌, ◌≤◌, List, ℕ, Option, Some, None, length, IsTrue, OnOk, IsErrOf};
 ghost use Rattle.node_io.specs.Causes.{Rose};
 ghost use Rattle.node_io.specs.Pieces.{AppendsFront};
 ghost use Rattle.planet_cli.specs.Outcomes.{ruled, output_of};

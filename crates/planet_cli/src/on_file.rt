@@ -1,8 +1,8 @@
-ghost use Rattle.std.specs.Prelude.{◌≡◌, ◌++◌, ◌≤◌, ◌⊎◌, List, ℕ, IsTrue};
+ghost use Rattle.std.specs.Prelude.{◌≡◌, ◌++◌, ◌≤◌, ◌⊎◌, IsTrue};
 ghost use Rattle.node_io.specs.Causes.{Rose};
 ghost use Rattle.node_io.specs.FileMaps.{file_at, MayName};
 ghost use Rattle.node_io.specs.Pieces.{AppendsFront};
-ghost use Rattle.planet_cli.specs.Outcomes.{refused, judged, outcome_at, output_of, IsWhole};
+ghost use Rattle.planet_cli.specs.Outcomes.{refused, outcome_at, output_of, IsWhole};
 ghost use Rattle.planet_cli.specs.Refusals.{IfRefused, IsFileCause};
 ghost use Rattle.planet_cli.specs.declared.status.Refusal.{Refusal};
 
