@@ -1,5 +1,6 @@
 pub mod ExprSteps
 pub mod Loops
+pub mod TagSteps
 pub mod Texts
 pub mod TypeSteps
 pub mod ValueSteps

@@ -42,6 +42,7 @@ pub fn put_ty(t: &Ty, out: &mut Out)
 
 /// Puts types one after another.
 #[cycle(put_types)]
+#[tactic(auto, using(crate::proofs::Puts::item_kept, crate::proofs::Puts::item_room))]
 pub fn put_types(types: &[Ty], out: &mut Out)
     requires kept { IsTrue (list_all type_kept types.now) }
     requires room { length (flat_map type_bytes types.now) ≤ out.old.room }
@@ -208,6 +209,7 @@ pub fn put_expr(e: &Expr, out: &mut Out)
 
 /// Puts expressions one after another.
 #[cycle(put_exprs)]
+#[tactic(auto, using(crate::proofs::Puts::item_kept, crate::proofs::Puts::item_room))]
 fn put_exprs(exprs: &[Expr], out: &mut Out)
     requires kept { IsTrue (list_all expr_kept exprs.now) }
     requires room { length (flat_map expr_bytes exprs.now) ≤ out.old.room }
@@ -239,6 +241,7 @@ fn put_clause(c: &Clause, out: &mut Out)
 
 /// Puts clauses one after another.
 #[cycle(put_exprs)]
+#[tactic(auto, using(crate::proofs::Puts::item_kept, crate::proofs::Puts::item_room))]
 fn put_clauses(clauses: &[Clause], out: &mut Out)
     requires kept { IsTrue (list_all clause_kept clauses.now) }
     requires room { length (flat_map clause_bytes clauses.now) ≤ out.old.room }

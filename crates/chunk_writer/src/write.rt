@@ -178,6 +178,7 @@ pub fn put_value(v: &Value, out: &mut Out)
 
 /// Puts values one after another.
 #[cycle(put_values)]
+#[tactic(auto, using(crate::proofs::Puts::item_kept, crate::proofs::Puts::item_room))]
 fn put_values(values: &[Value], out: &mut Out)
     requires kept { IsTrue (list_all value_kept values.now) }
     requires room { length (flat_map value_bytes values.now) ≤ out.old.room }

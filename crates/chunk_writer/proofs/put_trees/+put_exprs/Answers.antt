@@ -1,17 +1,11 @@
 use Rattle.std.proofs.Common.{◌≡◌, true}
 use Rattle.chunk_spelling.specs.Exprs.{expr_bytes, clause_bytes}
 use Rattle.chunk_spelling.specs.Kept.{expr_kept, clause_kept}
-use Rattle.chunk_writer.proofs.Puts.{written_none, item_kept, item_room, written_more, written_bytes, written_room}
+use Rattle.chunk_writer.proofs.Puts.{written_none, written_more, written_bytes, written_room}
 use Rattle.chunk_writer.proofs.put_trees.+put_exprs.Goals as goal
 
 pub put_exprs-loop-e-init : goal.put_exprs-loop-e-init
 put_exprs-loop-e-init t c = written_none expr_bytes expr_kept c.args.exprs.now c.args.out.now.bytes c.args.out.now.room c.requires.kept
-
-pub put_exprs-put_expr-requires-clause-kept : goal.put_exprs-put_expr-requires-clause-kept
-put_exprs-put_expr-requires-clause-kept t c = item_kept expr_bytes expr_kept c.args.exprs.now c.loop-e.e-index c.e-item.result c.loop-e-test.true c.e-item.is c.loop-e.invariant
-
-pub put_exprs-put_expr-requires-clause-room : goal.put_exprs-put_expr-requires-clause-room
-put_exprs-put_expr-requires-clause-room t c = item_room expr_bytes expr_kept c.args.exprs.now c.loop-e.e-index c.e-item.result c.loop-e-test.true c.e-item.is c.requires.room c.loop-e.invariant
 
 pub put_exprs-loop-e-preserved : goal.put_exprs-loop-e-preserved
 put_exprs-loop-e-preserved t c = written_more expr_bytes expr_kept c.args.exprs.now c.loop-e.e-index c.e-item.result c.loop-e-test.true c.e-item.is c.loop-e.invariant c.put_expr.ensures.bytes c.put_expr.ensures.room
@@ -24,12 +18,6 @@ put_exprs-returns t c = record {
 
 pub put_clauses-loop-c-init : goal.put_clauses-loop-c-init
 put_clauses-loop-c-init t c = written_none clause_bytes clause_kept c.args.clauses.now c.args.out.now.bytes c.args.out.now.room c.requires.kept
-
-pub put_clauses-put_clause-requires-clause-kept : goal.put_clauses-put_clause-requires-clause-kept
-put_clauses-put_clause-requires-clause-kept t c = item_kept clause_bytes clause_kept c.args.clauses.now c.loop-c.c-index c.c-item.result c.loop-c-test.true c.c-item.is c.loop-c.invariant
-
-pub put_clauses-put_clause-requires-clause-room : goal.put_clauses-put_clause-requires-clause-room
-put_clauses-put_clause-requires-clause-room t c = item_room clause_bytes clause_kept c.args.clauses.now c.loop-c.c-index c.c-item.result c.loop-c-test.true c.c-item.is c.requires.room c.loop-c.invariant
 
 pub put_clauses-loop-c-preserved : goal.put_clauses-loop-c-preserved
 put_clauses-loop-c-preserved t c = written_more clause_bytes clause_kept c.args.clauses.now c.loop-c.c-index c.c-item.result c.loop-c-test.true c.c-item.is c.loop-c.invariant c.put_clause.ensures.bytes c.put_clause.ensures.room
