@@ -126,6 +126,10 @@ front_all old new all e = record { count = length all; is = e ∙ ap (λ x. old 
 pub front_none : (old all : List ℕ) → AppendsFront old old all
 front_none old all = record { count = 0; is = sym (append-nil old) }
 
+-- the same history, lent
+pub after_slice : (w : WorldState) (es : List WorldEvent) (now : WorldState) (history lent : List Entry) → lent ≡ history → IsAfterEvents w es now history → IsAfterEvents w es now lent
+after_slice w es now history lent e a = record { world = a.world; entries_of = e ∙ a.entries_of }
+
 -- what is known of the families after all events
 pub after_law : (w : WorldState) (es : List WorldEvent) (now : WorldState) (history : List Entry) → IsAfterEvents w es now history
     → ((f : Family) → Balanced f (history_of es w) (world_after es w)) → (f : Family) → Balanced f history now

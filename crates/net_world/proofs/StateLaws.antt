@@ -86,10 +86,6 @@ steps_at step old new at acts before after here set done = record {
   after = ap states set ∙ states_set old at after ∙ ap (slice_set (states old) at) done.node;
 }
 
--- a place within the list has the item that is read there
-pub at_place : {X : Type 0} (xs : List X) (i : ℕ) (x : X) → i < length xs → x ≡ get_or xs i x → slice_get xs i ≡ Some x
-at_place xs i x h e = slice_get-get_or xs i x h ∙ ap Some (sym e)
-
 -- the place of a host's node
 pub place_in_states : (nodes : List Node) (h : Host) → place_of (states nodes) h ≡ position (λ n. is_host n.here h) nodes
 place_in_states nodes h = states_position (λ node. is_host node.here h) nodes
@@ -118,16 +114,16 @@ if_ok P Q (Ok x) f h = f x h
 if_ok P Q (Err e) f h = h
 
 -- a step of the node at a place, where it finds memory
-pub stepped_at : (step : NodeState → Step) (nodes : List Node) (at : ℕ) (before after : Node) (r : Result Acts NoMemory) → at < length nodes → before ≡ get_or nodes at before
-    → IfOk r (λ acts. IsStep (step (node_state before)) acts (node_state after)) → IfOk r (λ acts. StepsAt step (states nodes) at acts (states (slice_set nodes at after)))
-stepped_at step nodes at before after r h e = if_ok (λ acts. IsStep (step (node_state before)) acts (node_state after)) (λ acts. StepsAt step (states nodes) at acts (states (slice_set nodes at after))) r
-    (λ acts done. steps_at step nodes (slice_set nodes at after) at acts before after (at_place nodes at before h e) refl done)
+pub stepped_at : (step : NodeState → Step) (nodes : List Node) (at : ℕ) (d after : Node) (r : Result Acts NoMemory) → at < length nodes
+    → IfOk r (λ acts. IsStep (step (node_state (get_or nodes at d))) acts (node_state after)) → IfOk r (λ acts. StepsAt step (states nodes) at acts (states (slice_set nodes at after)))
+stepped_at step nodes at d after r h = if_ok (λ acts. IsStep (step (node_state (get_or nodes at d))) acts (node_state after)) (λ acts. StepsAt step (states nodes) at acts (states (slice_set nodes at after))) r
+    (λ acts done. steps_at step nodes (slice_set nodes at after) at acts (get_or nodes at d) after (slice_get-get_or nodes at d h) refl done)
 
 -- a take that finds nothing leaves all nodes as they were
-pub unchanged_at : (d : Dev) (nodes : List Node) (at : ℕ) (before after : Node) (r : Result Acts NoMemory) → at < length nodes → before ≡ get_or nodes at before
-    → IfOk r (λ acts. IsStep (take_step (node_state before) d) acts (node_state after)) → IfOk r (λ acts. acts.frame ≡ None → states (slice_set nodes at after) ≡ states nodes)
-unchanged_at d nodes at before after r h e = if_ok (λ acts. IsStep (take_step (node_state before) d) acts (node_state after)) (λ acts. acts.frame ≡ None → states (slice_set nodes at after) ≡ states nodes) r
-    (λ acts done none. nothing_taken d (states nodes) (states (slice_set nodes at after)) at acts (steps_at (λ node. take_step node d) nodes (slice_set nodes at after) at acts before after (at_place nodes at before h e) refl done) none)
+pub unchanged_at : (dev : Dev) (nodes : List Node) (at : ℕ) (d after : Node) (r : Result Acts NoMemory) → at < length nodes
+    → IfOk r (λ acts. IsStep (take_step (node_state (get_or nodes at d)) dev) acts (node_state after)) → IfOk r (λ acts. acts.frame ≡ None → states (slice_set nodes at after) ≡ states nodes)
+unchanged_at dev nodes at d after r h = if_ok (λ acts. IsStep (take_step (node_state (get_or nodes at d)) dev) acts (node_state after)) (λ acts. acts.frame ≡ None → states (slice_set nodes at after) ≡ states nodes) r
+    (λ acts done none. nothing_taken dev (states nodes) (states (slice_set nodes at after)) at acts (steps_at (λ node. take_step node dev) nodes (slice_set nodes at after) at acts (get_or nodes at d) after (slice_get-get_or nodes at d h) refl done) none)
 
 -- the nodes of some hosts, and of one more
 pub nodes_step : (links : Cables) (hosts : List HostSpec) (i : ℕ) (d : HostSpec) (nodes : List Node) (node : Node) (new : List Node) → i < length hosts → new ≡ nodes ++ node ∷ []

@@ -1,4 +1,5 @@
 ghost use Rattle.std.specs.Prelude.{◌≡◌, ◌<◌, ◌-◌, ◌^◌, ◌∷◌, ◌++◌, ◌+◌, [], length, position, IfOk, OnOk, IfSome, None, map};
+ghost use Rattle.world_laws.specs.SmallVisit.{is_host};
 ghost use Rattle.world_laws.specs.World as spec;
 ghost use Rattle.world_laws.specs.Node.{inject_step, arrive_step, take_step};
 ghost use Rattle.world_laws.specs.Counts.{event_fits, IsSound};
@@ -60,13 +61,20 @@ fn off_lines(alloc: Global, number: u32, host: Host, acts: ActList) -> Result<Li
     Ok(lines)
 }
 
+/// The place of a host's node in a list of nodes.
+fn host_place(nodes: &[Node], host: Host) -> Option<usize>
+    ensures place { result ≡ position (λ n. is_host n.here host) nodes.now }
+    ensures within { IfSome result (λ at. at < length nodes.now) }
+{
+    nodes.iter().position(|node| node.here.0 == host.0)
+}
+
 /// The place of a host's node.
-#[tactic(auto, using(crate::proofs::StateLaws::place_in_states))]
 fn node_place(nodes: &[Node], host: Host) -> Option<usize>
     ensures place { result ≡ spec.place_of (states nodes.now) host }
     ensures within { IfSome result (λ at. at < length nodes.now) }
 {
-    nodes.iter().position(|node| node.here.0 == host.0)
+    host_place(nodes, host)
 }
 
 /// Whether this is one end of a link.
@@ -200,7 +208,8 @@ impl World {
         unfolding(world_laws::specs::World::injects, world_laws::specs::World::inject_place, world_laws::specs::World::inject_at)
     )]
     fn inject(&mut self, alloc: Global, host: Host, chunk: &Chunk, bound: u32) -> Result<Lines, NoMemory>
-        ensures { IfOk result (λ lines. IsHappened (spec.injects (world_state self.old) host chunk.now bound) lines (world_state self.new)) }
+        ensures ok { IfOk result (λ lines. IsHappened (spec.injects (world_state self.old) host chunk.now bound) lines (world_state self.new)) }
+        ensures made { self.new.made ≡ self.old.made }
     {
         let Some(at) = node_place(self.nodes.as_slice(), host) else {
             return nothing(alloc);
@@ -221,7 +230,8 @@ impl World {
     )]
     fn send(&mut self, alloc: Global, host: Host, dev: Dev) -> Result<Lines, NoMemory>
         requires { self.old.next < 2 ^ 32 - 1 }
-        ensures { IfOk result (λ lines. IsHappened (spec.sends (world_state self.old) host dev) lines (world_state self.new)) }
+        ensures ok { IfOk result (λ lines. IsHappened (spec.sends (world_state self.old) host dev) lines (world_state self.new)) }
+        ensures made { self.new.made ≡ self.old.made }
     {
         let Some(at) = node_place(self.nodes.as_slice(), host) else {
             return nothing(alloc);
@@ -261,7 +271,8 @@ impl World {
         )
     )]
     fn deliver(&mut self, alloc: Global, number: u32) -> Result<Lines, NoMemory>
-        ensures { IfOk result (λ lines. IsHappened (spec.delivers (world_state self.old) number) lines (world_state self.new)) }
+        ensures ok { IfOk result (λ lines. IsHappened (spec.delivers (world_state self.old) number) lines (world_state self.new)) }
+        ensures made { self.new.made ≡ self.old.made }
     {
         let Some(place) = wire_place(self.wire.as_slice(), number) else {
             return nothing(alloc);
@@ -280,7 +291,8 @@ impl World {
         unfolding(world_laws::specs::World::loses, world_laws::specs::World::lose_place, world_laws::specs::World::lose_frame)
     )]
     fn lose(&mut self, alloc: Global, number: u32) -> Result<Lines, NoMemory>
-        ensures { IfOk result (λ lines. IsHappened (spec.loses (world_state self.old) number) lines (world_state self.new)) }
+        ensures ok { IfOk result (λ lines. IsHappened (spec.loses (world_state self.old) number) lines (world_state self.new)) }
+        ensures made { self.new.made ≡ self.old.made }
     {
         let Some(place) = wire_place(self.wire.as_slice(), number) else {
             return nothing(alloc);

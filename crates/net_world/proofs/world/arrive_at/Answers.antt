@@ -3,4 +3,4 @@ use Rattle.net_world.proofs.StateLaws.{stepped_at}
 use Rattle.net_world.proofs.world.arrive_at.Goals as goal
 
 pub returns : goal.returns
-returns c = stepped_at (λ node. arrive_step node c.args.dev c.args.packet.now) c.args.nodes.now c.args.at c.index-nodes-at.result c.arrive.new.self c.arrive.result c.requires c.index-nodes-at.is c.arrive.ensures.ok
+returns c = stepped_at (λ node. arrive_step node c.args.dev c.args.packet.now) c.args.nodes.now c.args.at c.index-nodes-at.result c.arrive.new.self c.arrive.result c.requires c.arrive.ensures.ok

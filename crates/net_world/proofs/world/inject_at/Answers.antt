@@ -3,4 +3,4 @@ use Rattle.net_world.proofs.StateLaws.{stepped_at}
 use Rattle.net_world.proofs.world.inject_at.Goals as goal
 
 pub returns : goal.returns
-returns c = stepped_at (λ node. inject_step node c.args.chunk.now c.args.bound) c.args.nodes.now c.args.at c.index-nodes-at.result c.inject.new.self c.inject.result c.requires c.index-nodes-at.is c.inject.ensures.ok
+returns c = stepped_at (λ node. inject_step node c.args.chunk.now c.args.bound) c.args.nodes.now c.args.at c.index-nodes-at.result c.inject.new.self c.inject.result c.requires c.inject.ensures.ok
