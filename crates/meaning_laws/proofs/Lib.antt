@@ -7,3 +7,4 @@ pub mod Even
 pub mod Steady
 pub mod Longer
 pub mod Within
+pub mod Deep

@@ -112,7 +112,7 @@ module _ (k : ℕ) where
   unfolding send_neighbour is_next
   neighbours c h n d s e =
       choose (is_paid n s.ctx.purse) (λ t. if is_next s d h then sent d c h (bound_of n) default_route t else raise not_neighbour t) (raise no_bound) s
-        (choose (is_next s d h) (sent d c h (bound_of n) default_route) (raise not_neighbour) s refl refl) refl
+      (choose (is_next s d h) (sent d c h (bound_of n) default_route) (raise not_neighbour) s refl refl) refl
 
   serve_longer : (s : VisitState) (a : Answer) → answered a (more k s) ≡ after_more k (answered a s)
   serve_longer s (Gives v told) = refl

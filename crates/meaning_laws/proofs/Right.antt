@@ -133,7 +133,7 @@ weighed_at : (t : Ty) (v : Value) (b : Bool) → is_too_large v ≡ b → Mild t
 weighed_at t v true e h = raise_yields (Good t) too_large
 weighed_at t v false e h =
     let small = is_small v e in
-    then_yields (λ _. Unit {0}) (Good t) (spend (weight v)) (λ _. pure v) (spend_yields (weight v)) (λ _ _. pure_yields (Good t) v (record { typed = h small; formed = tt; small = small }))
+    then_yields (λ _. Unit {0}) (Good t) (spend (weight v)) (λ _. pure v) (spend_yields (weight v)) (λ _ _. pure_yields (Good t) v (record { typed = h small; small = small }))
 
 pub weighed_yields : (t : Ty) (v : Value) → Mild t v → Yields (Good t) (weighed v)
 unfolding weighed
@@ -177,8 +177,8 @@ pub neighbour_yields : (k : Chunk) (h : Host) (n : ℤ) (d : Dev) → IsTypedChu
 unfolding send_neighbour
 neighbour_yields k h n d t s g =
     choose (λ _. Unit {0}) (is_paid n s.ctx.purse) _ _
-      (choose (λ _. Unit {0}) (is_next s d h) _ _ (sent_right d k h (bound_of n) default_route t s g) (record { safe = tt; holds = (raised not_neighbour, g) }))
-      (record { safe = tt; holds = (raised no_bound, g) })
+    (choose (λ _. Unit {0}) (is_next s d h) _ _ (sent_right d k h (bound_of n) default_route t s g) (record { safe = tt; holds = (raised not_neighbour, g) }))
+    (record { safe = tt; holds = (raised no_bound, g) })
 
 noted_good : (o : Option Note) (notes : List Note) → IsGoodOptionNote o → AreGoodNotes notes → AreGoodNotes (noted o notes)
 noted_good None notes h k = k

@@ -135,10 +135,10 @@ out_type t u e = sym (roll-out-Ty t) ∙ ap roll-Ty e ∙ roll-out-Ty u
 joined_at : (t : Ty) (l : Ty-F Ty) (j k : ValueLayer) → out-Ty t ≡ l → is_joined_at l ≡ true → Shape l j → Shape l k → Fits t (joined j k)
 joined_at t Ty-F.Str j k o e (a, d) (b, f) =
     subst (λ x. Fits t (joined x k)) (sym d) (subst (λ x. Fits t (joined (Value-F.Str a) x)) (sym f)
-      (limited_fits t _ (str (a ++ b) (value.outs-Str (a ++ b)) (out_type t ty.Str (o ∙ sym ty.outs-Str)))))
+    (limited_fits t _ (str (a ++ b) (value.outs-Str (a ++ b)) (out_type t ty.Str (o ∙ sym ty.outs-Str)))))
 joined_at t Ty-F.Blob j k o e (a, d) (b, f) =
     subst (λ x. Fits t (joined x k)) (sym d) (subst (λ x. Fits t (joined (Value-F.Blob a) x)) (sym f)
-      (limited_fits t _ (blob (a ++ b) (value.outs-Blob (a ++ b)) (out_type t ty.Blob (o ∙ sym ty.outs-Blob)))))
+    (limited_fits t _ (blob (a ++ b) (value.outs-Blob (a ++ b)) (out_type t ty.Blob (o ∙ sym ty.outs-Blob)))))
 joined_at t Ty-F.Int j k o e h i = cc
 joined_at t Ty-F.Char j k o e h i = cc
 joined_at t Ty-F.Unit j k o e h i = cc
@@ -258,7 +258,7 @@ blob_length l (n, d) = subst (λ x. Fits ty.Int (of_one prim.BlobLength x)) (sym
 part_of_blob : (j k l : ValueLayer) → Shape Ty-F.Blob j → Shape Ty-F.Int k → Shape Ty-F.Int l → Fits ty.Blob (of_three prim.BlobPart j k l)
 part_of_blob j k l (b, d) (i, e) (n, f) =
     subst (λ x. Fits ty.Blob (of_three prim.BlobPart x k l)) (sym d) (subst (λ x. Fits ty.Blob (of_three prim.BlobPart (Value-F.Blob b) x l)) (sym e)
-      (subst (λ x. Fits ty.Blob (of_three prim.BlobPart (Value-F.Blob b) (Value-F.Int i) x)) (sym f) (blob_part_at b i n)))
+    (subst (λ x. Fits ty.Blob (of_three prim.BlobPart (Value-F.Blob b) (Value-F.Int i) x)) (sym f) (blob_part_at b i n)))
 
 -- one or three values of the types
 abbrev One : (Ty → Value → Type 0) → Ty → List Value → Type 0

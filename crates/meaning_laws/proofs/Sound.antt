@@ -83,7 +83,7 @@ good_all no_values w n = tt
 good_all (and_value {v} {vs} h k) w n =
     let a = sum_bounds weight 0 16384 v vs w in
     let b = largest_bounds nesting 0 4 v vs n in
-    (record { typed = h; formed = tt; small = record { weight = a.0; nesting = b.0 } }, good_all k a.1 b.1)
+    (record { typed = h; small = record { weight = a.0; nesting = b.0 } }, good_all k a.1 b.1)
 
 typed_all : (ts : List Ty) (vs : List Value) → AreGoodValues ts vs → HaveTypes vs ts
 typed_all [] [] h = no_values
@@ -100,7 +100,7 @@ good_items no_items w n = tt
 good_items (and_item {v = v} {vs = vs} h k) w n =
     let a = sum_bounds weight 0 16384 v vs w in
     let b = largest_bounds nesting 0 4 v vs n in
-    (record { typed = h; formed = tt; small = record { weight = a.0; nesting = b.0 } }, good_items k a.1 b.1)
+    (record { typed = h; small = record { weight = a.0; nesting = b.0 } }, good_items k a.1 b.1)
 
 list_weight : (v : Value) (u : Ty) (vs : List Value) → out-Value v ≡ Value-F.List u vs → weight v ≤ 16384 → sum_by weight vs ≤ 16384
 list_weight v u vs e h = let k = weight_out v ∙ ap (λ l. weight_level weight chunk_weight l) e in omega arith
@@ -179,7 +179,7 @@ found : (x : Name) (c : List Param) (env : Env) → HasEnv c env → Agrees (bin
 found x [] [] h = tt
 found x (p ∷ c) (b ∷ env) h =
     or_agrees (binding x c) _ (value_of x env) _ (found x c env h.2)
-      (subst (λ n. Agrees (if bytes_eq p.name x then Some p.ty else None) (if bytes_eq n x then Some b.value else None)) h.0 (if_agrees (bytes_eq p.name x) p.ty b.value h.1))
+    (subst (λ n. Agrees (if bytes_eq p.name x then Some p.ty else None) (if bytes_eq n x then Some b.value else None)) h.0 (if_agrees (bytes_eq p.name x) p.ty b.value h.1))
 found x [] (b ∷ env) h = absurd h
 found x (p ∷ c) [] h = absurd h
 
@@ -197,7 +197,6 @@ at_type t u p e h = subst (λ x. Yields (Mild x) p) (sym e) h
 -- ---- the forms
 
 module _ (r : Runs) (runs : (code : Program) (seen : ℕ) (c : List Param) (env : Env) (e : Expr) (t : Ty) → Typed code → HasTy code seen c e t → HasEnv c env → Yields (Good t) (r code seen env e)) where
-
   -- behind the values that are done
   abbrev Behind : List Value → List Ty → List Value → Type 0
   Behind done ts vs = (ws : List Value) × (vs ≡ done ++ ws) × AreGoodValues ts ws
@@ -209,8 +208,8 @@ module _ (r : Runs) (runs : (code : Program) (seen : ℕ) (c : List Param) (env 
   values_from code seen c env (e ∷ es) [] d k h done = elim k [ ]
   values_from code seen c env (e ∷ es) (t ∷ ts) d (and_part k l) h done =
       then_yields (Good t) (Behind done (t ∷ ts)) _ _ (runs code seen c env e t d k h) (λ v g.
-        mild (Behind (done ++ v ∷ []) ts) (Behind done (t ∷ ts)) (λ vs b. (v ∷ b.0, b.1 ∙ append_assoc done (v ∷ []) b.0, (g, b.2))) _
-          (values_from code seen c env es ts d l h (done ++ v ∷ [])))
+      mild (Behind (done ++ v ∷ []) ts) (Behind done (t ∷ ts)) (λ vs b. (v ∷ b.0, b.1 ∙ append_assoc done (v ∷ []) b.0, (g, b.2))) _
+      (values_from code seen c env es ts d l h (done ++ v ∷ [])))
 
   values_good : (code : Program) (seen : ℕ) (c : List Param) (env : Env) (es : List Expr) (ts : List Ty) → Typed code → HaveTys code seen c es ts → HasEnv c env
       → Yields (AreGoodValues ts) (values r code seen env es)
@@ -224,7 +223,7 @@ module _ (r : Runs) (runs : (code : Program) (seen : ℕ) (c : List Param) (env 
   entered_good code at d args t g k =
       let b = bound_good [] [] d.params args tt k in
       known_then (Good d.result) (slice_get code.funs at) d _ g (known_then (Good d.result) (bound_behind [] d.params args) b.0 _ b.1
-        (runs code at d.params b.0 d.body d.result t (t.bodies at d g) b.2))
+      (runs code at d.params b.0 d.body d.result t (t.bodies at d g) b.2))
 
   applied_at_good : (code : Program) (o : Option ℕ) (at : ℕ) (d : Fun) (args : List Value) → Typed code → o ≡ Some at → slice_get code.funs at ≡ Some d
       → AreGoodValues (param_types d.params) args → Yields (Good d.result) (applied_at r code o args)
@@ -239,7 +238,7 @@ module _ (r : Runs) (runs : (code : Program) (seen : ℕ) (c : List Param) (env 
   unfolding visited
   visited_by k (within at d t p g h n w) Q f =
       mild (Good d.result) Q (λ v x. f v d.result x) _
-        (applied_at_good k.code (place_of k.entry k.code.funs) at d k.args t p g (good_all h (args_weight k w) (args_nesting k n)))
+      (applied_at_good k.code (place_of k.entry k.code.funs) at d k.args t p g (good_all h (args_weight k w) (args_nesting k n)))
 
   pub visited_good : (k : Chunk) (at : ℕ) (d : Fun) → IsTypedChunk k → place_of k.entry k.code.funs ≡ Some at → slice_get k.code.funs at ≡ Some d → Yields (Good d.result) (visited r k)
   unfolding visited
@@ -247,7 +246,7 @@ module _ (r : Runs) (runs : (code : Program) (seen : ℕ) (c : List Param) (env 
       let same_place : at' ≡ at = let x : Some at' ≡ Some at = sym p ∙ e in cc in
       let same_fun : d' ≡ d = let x : Some d' ≡ Some d = sym g ∙ ap (λ i. slice_get k.code.funs i) same_place ∙ l in cc in
       subst (λ f. Yields (Good f.result) (applied_at r k.code (place_of k.entry k.code.funs) k.args)) same_fun
-        (applied_at_good k.code (place_of k.entry k.code.funs) at' d' k.args t p g (good_all h (args_weight k w) (args_nesting k n)))
+      (applied_at_good k.code (place_of k.entry k.code.funs) at' d' k.args t p g (good_all h (args_weight k w) (args_nesting k n)))
 
   by_prim : (code : Program) (seen : ℕ) (f : Name) (p : Prim) (vs : List Value) (t : Ty) → prim_of f ≡ Some p → given.Fits t (rules.primitive p vs) → Yields (Mild t) (called r code seen f vs)
   unfolding called
@@ -257,28 +256,28 @@ module _ (r : Runs) (runs : (code : Program) (seen : ℕ) (c : List Param) (env 
   unfolding called
   by_service code seen f d vs e g h =
       subst (λ o. Yields (Good d.result) (called_by r o code seen f vs)) (sym e)
-        (subst (λ o. Yields (Good d.result) (served_or r o code seen f vs)) (sym g) (serve_yields d vs h))
+      (subst (λ o. Yields (Good d.result) (served_or r o code seen f vs)) (sym g) (serve_yields d vs h))
 
   by_function : (code : Program) (seen : ℕ) (f : Name) (at : ℕ) (d : Fun) (vs : List Value) → Typed code → prim_of f ≡ None → service_of f code.svcs ≡ None → place_of f (take seen code.funs) ≡ Some at
       → slice_get code.funs at ≡ Some d → AreGoodValues (param_types d.params) vs → Yields (Good d.result) (called r code seen f vs)
   unfolding called
   by_function code seen f at d vs t e g p l h =
       subst (λ o. Yields (Good d.result) (called_by r o code seen f vs)) (sym e)
-        (subst (λ o. Yields (Good d.result) (served_or r o code seen f vs)) (sym g) (applied_good code seen f at d vs t p l h))
+      (subst (λ o. Yields (Good d.result) (served_or r o code seen f vs)) (sym g) (applied_good code seen f at d vs t p l h))
 
   along_left : (code : Program) (seen : ℕ) (f : Name) (at : ℕ) (d : Fun) (t u : Ty) → Typed code → place_of f (take seen code.funs) ≡ Some at → slice_get code.funs at ≡ Some d
       → param_types d.params ≡ t ∷ u ∷ [] → d.result ≡ t → (acc : Value) (xs : List Value) → Good t acc → AllGood u xs → Yields (Good t) (left_along r code seen f acc xs)
   along_left code seen f at d t u y p l e q acc [] g h = pure_yields (Good t) acc g
   along_left code seen f at d t u y p l e q acc (x ∷ xs) g h =
       then_yields (Good d.result) (Good t) _ _ (applied_good code seen f at d (acc ∷ x ∷ []) y p l (subst (λ ts. AreGoodValues ts (acc ∷ x ∷ [])) (sym e) (g, (h.0, tt))))
-        (λ v k. along_left code seen f at d t u y p l e q v xs (subst (λ z. Good z v) q k) h.1)
+      (λ v k. along_left code seen f at d t u y p l e q v xs (subst (λ z. Good z v) q k) h.1)
 
   along_right : (code : Program) (seen : ℕ) (f : Name) (at : ℕ) (d : Fun) (t u : Ty) → Typed code → place_of f (take seen code.funs) ≡ Some at → slice_get code.funs at ≡ Some d
       → param_types d.params ≡ u ∷ t ∷ [] → d.result ≡ t → (acc : Value) (xs : List Value) → Good t acc → AllGood u xs → Yields (Good t) (right_along r code seen f acc xs)
   along_right code seen f at d t u y p l e q acc [] g h = pure_yields (Good t) acc g
   along_right code seen f at d t u y p l e q acc (x ∷ xs) g h =
       then_yields (Good d.result) (Good t) _ _ (applied_good code seen f at d (x ∷ acc ∷ []) y p l (subst (λ ts. AreGoodValues ts (x ∷ acc ∷ [])) (sym e) (h.0, (g, tt))))
-        (λ v k. along_right code seen f at d t u y p l e q v xs (subst (λ z. Good z v) q k) h.1)
+      (λ v k. along_right code seen f at d t u y p l e q v xs (subst (λ z. Good z v) q k) h.1)
 
   handled_good : (code : Program) (seen : ℕ) (c : List Param) (env : Env) (ks : List Clause) (t : Ty) → Typed code → ClausesHaveTy code seen c ks t → HasEnv c env → (x : Exn)
       → Yields (Mild t) (handled r code seen env ks x)
@@ -316,34 +315,34 @@ module _ (r : Runs) (runs : (code : Program) (seen : ℕ) (c : List Param) (env 
     unfolding m.choice
     choice_good t a b d i j k =
         then_yields (Good ty.Bool) (Mild t) _ _ (runs code seen c env a ty.Bool y i h) (λ v g.
-          known_then (Mild t) (as_bool v) (truth v g.typed).0 _ (truth v g.typed).1
-            (cond_yields (Mild t) (truth v g.typed).0 _ _ (good_mild t (runs code seen c env b t y j h)) (good_mild t (runs code seen c env d t y k h))))
+        known_then (Mild t) (as_bool v) (truth v g.typed).0 _ (truth v g.typed).1
+        (cond_yields (Mild t) (truth v g.typed).0 _ _ (good_mild t (runs code seen c env b t y j h)) (good_mild t (runs code seen c env d t y k h))))
 
     both_good : (a b : Expr) → HasTy code seen c a ty.Bool → HasTy code seen c b ty.Bool → Yields (Mild ty.Bool) (m.conjunction r code seen env a b)
     unfolding m.conjunction
     both_good a b i j =
         then_yields (Good ty.Bool) (Mild ty.Bool) _ _ (runs code seen c env a ty.Bool y i h) (λ v g.
-          known_then (Mild ty.Bool) (as_bool v) (truth v g.typed).0 _ (truth v g.typed).1
-            (cond_yields (Mild ty.Bool) (truth v g.typed).0 _ _ (good_mild ty.Bool (runs code seen c env b ty.Bool y j h)) (just_bool false)))
+        known_then (Mild ty.Bool) (as_bool v) (truth v g.typed).0 _ (truth v g.typed).1
+        (cond_yields (Mild ty.Bool) (truth v g.typed).0 _ _ (good_mild ty.Bool (runs code seen c env b ty.Bool y j h)) (just_bool false)))
 
     either_good : (a b : Expr) → HasTy code seen c a ty.Bool → HasTy code seen c b ty.Bool → Yields (Mild ty.Bool) (m.disjunction r code seen env a b)
     unfolding m.disjunction
     either_good a b i j =
         then_yields (Good ty.Bool) (Mild ty.Bool) _ _ (runs code seen c env a ty.Bool y i h) (λ v g.
-          known_then (Mild ty.Bool) (as_bool v) (truth v g.typed).0 _ (truth v g.typed).1
-            (cond_yields (Mild ty.Bool) (truth v g.typed).0 _ _ (just_bool true) (good_mild ty.Bool (runs code seen c env b ty.Bool y j h))))
+        known_then (Mild ty.Bool) (as_bool v) (truth v g.typed).0 _ (truth v g.typed).1
+        (cond_yields (Mild ty.Bool) (truth v g.typed).0 _ _ (just_bool true) (good_mild ty.Bool (runs code seen c env b ty.Bool y j h))))
 
     negation_good : (a : Expr) → HasTy code seen c a ty.Bool → Yields (Mild ty.Bool) (m.negation r code seen env a)
     unfolding m.negation
     negation_good a i =
         then_yields (Good ty.Bool) (Mild ty.Bool) _ _ (runs code seen c env a ty.Bool y i h) (λ v g.
-          known_then (Mild ty.Bool) (as_bool v) (truth v g.typed).0 _ (truth v g.typed).1 (just_bool (not (truth v g.typed).0)))
+        known_then (Mild ty.Bool) (as_bool v) (truth v g.typed).0 _ (truth v g.typed).1 (just_bool (not (truth v g.typed).0)))
 
     binder_good : (t u : Ty) (x : Name) (a b : Expr) → HasTy code seen c a u → HasTy code seen (c ++ record { name = x; ty = u } ∷ []) b t → Yields (Mild t) (m.binding r code seen env x a b)
     unfolding m.binding
     binder_good t u x a b i j =
         then_yields (Good u) (Mild t) _ _ (runs code seen c env a u y i h) (λ v g.
-          good_mild t (runs code seen _ _ b t y j (env_behind c env (record { name = x; ty = u }) v h g)))
+        good_mild t (runs code seen _ _ b t y j (env_behind c env (record { name = x; ty = u }) v h g)))
 
     sequence_good : (t : Ty) (a b : Expr) → HasTy code seen c a ty.Unit → HasTy code seen c b t → Yields (Mild t) (m.sequence r code seen env a b)
     unfolding m.sequence
@@ -354,7 +353,7 @@ module _ (r : Runs) (runs : (code : Program) (seen : ℕ) (c : List Param) (env 
     unfolding m.operation
     operation_good t u w o a b i j k =
         then_yields (Good u) (Mild t) _ _ (runs code seen c env a u y i h) (λ p g. then_yields (Good w) (Mild t) _ _ (runs code seen c env b w y j h) (λ q f.
-          given_yields t _ (k p q g.typed f.typed)))
+        given_yields t _ (k p q g.typed f.typed)))
 
     selection_good : (t : Ty) (i : ℕ) (a : Expr) (ts : List Ty) → HasTy code seen c a (ty.Tuple ts) → part_of i ts ≡ Some t → Yields (Mild t) (m.selection r code seen env i a)
     unfolding m.selection
@@ -364,7 +363,7 @@ module _ (r : Runs) (runs : (code : Program) (seen : ℕ) (c : List Param) (env 
     unfolding m.tuple
     tuple_good es ts i =
         then_yields (AreGoodValues ts) (Mild (ty.Tuple ts)) _ _ (values_good code seen c env es ts y i h) (λ vs g.
-          pure_yields (Mild (ty.Tuple ts)) (value.Tuple vs) (λ _. typing.tuple vs ts (value.outs-Tuple vs) refl (typed_all ts vs g)))
+        pure_yields (Mild (ty.Tuple ts)) (value.Tuple vs) (λ _. typing.tuple vs ts (value.outs-Tuple vs) refl (typed_all ts vs g)))
 
     call_good : (t : Ty) (f : Name) (es : List Expr) (ts : List Ty) → HaveTys code seen c es ts → ((vs : List Value) → AreGoodValues ts vs → Yields (Mild t) (called r code seen f vs)) → Yields (Mild t) (m.call r code seen env f es)
     unfolding m.call
@@ -374,7 +373,7 @@ module _ (r : Runs) (runs : (code : Program) (seen : ℕ) (c : List Param) (env 
     unfolding m.packed
     packed_good f es at d p g i =
         then_yields (AreGoodValues (param_types d.params)) (Mild ty.Chunk) _ _ (values_good code seen c env es _ y i h) (λ vs k.
-          pure_yields (Mild ty.Chunk) _ (made_chunk (record { code = code; entry = f; args = vs }) at d y p g (typed_all _ vs k)))
+        pure_yields (Mild ty.Chunk) _ (made_chunk (record { code = code; entry = f; args = vs }) at d y p g (typed_all _ vs k)))
 
     attempt_good : (t : Ty) (a : Expr) (ks : List Clause) → HasTy code seen c a t → ClausesHaveTy code seen c ks t → Yields (Mild t) (m.attempt r code seen env a ks)
     unfolding m.attempt
@@ -385,39 +384,39 @@ module _ (r : Runs) (runs : (code : Program) (seen : ℕ) (c : List Param) (env 
     unfolding m.fold_left
     fold_left_good t u f a l at d p g e q i j =
         then_yields (Good t) (Mild t) _ _ (runs code seen c env a t y i h) (λ acc k. then_yields (Good (ty.List u)) (Mild t) _ _ (runs code seen c env l (ty.List u) y j h) (λ v w.
-          known_then (Mild t) (as_items v) (items u v w).0 _ (items u v w).1 (good_mild t (along_left code seen f at d t u y p g e q acc (items u v w).0 k (items u v w).2))))
+        known_then (Mild t) (as_items v) (items u v w).0 _ (items u v w).1 (good_mild t (along_left code seen f at d t u y p g e q acc (items u v w).0 k (items u v w).2))))
 
     fold_right_good : (t u : Ty) (f : Name) (a l : Expr) (at : ℕ) (d : Fun) → place_of f (take seen code.funs) ≡ Some at → slice_get code.funs at ≡ Some d → param_types d.params ≡ u ∷ t ∷ [] → d.result ≡ t
         → HasTy code seen c a t → HasTy code seen c l (ty.List u) → Yields (Mild t) (m.fold_right r code seen env f a l)
     unfolding m.fold_right
     fold_right_good t u f a l at d p g e q i j =
         then_yields (Good t) (Mild t) _ _ (runs code seen c env a t y i h) (λ acc k. then_yields (Good (ty.List u)) (Mild t) _ _ (runs code seen c env l (ty.List u) y j h) (λ v w.
-          known_then (Mild t) (as_items v) (items u v w).0 _ (items u v w).1
-            (good_mild t (along_right code seen f at d t u y p g e q acc (reverse (items u v w).0) k (all_reversed u (items u v w).0 (items u v w).2)))))
+        known_then (Mild t) (as_items v) (items u v w).0 _ (items u v w).1
+        (good_mild t (along_right code seen f at d t u y p g e q acc (reverse (items u v w).0) k (all_reversed u (items u v w).0 (items u v w).2)))))
 
     evaluation_good : (a : Expr) → HasTy code seen c a ty.Chunk → Yields (Mild ty.Unit) (m.evaluation r code seen env a)
     unfolding m.evaluation
     evaluation_good a i =
         then_yields (Good ty.Chunk) (Mild ty.Unit) _ _ (runs code seen c env a ty.Chunk y i h) (λ v g. let k = a_chunk v g.typed in
-          known_then (Mild ty.Unit) (as_chunk v) k.0 _ k.1 (then_yields Any (Mild ty.Unit) _ _ pay_yields (λ _ _.
-            then_yields {A = Value} (λ _. Unit {0}) (Mild ty.Unit) _ _ (visited_by k.0 k.2 (λ _. Unit {0}) (λ _ _ _. tt)) (λ _ _. just_unit))))
+        known_then (Mild ty.Unit) (as_chunk v) k.0 _ k.1 (then_yields Any (Mild ty.Unit) _ _ pay_yields (λ _ _.
+        then_yields {A = Value} (λ _. Unit {0}) (Mild ty.Unit) _ _ (visited_by k.0 k.2 (λ _. Unit {0}) (λ _ _ _. tt)) (λ _ _. just_unit))))
 
     remote_good : (a b n : Expr) (route : Name) → HasTy code seen c a ty.Chunk → HasTy code seen c b ty.Host → HasTy code seen c n ty.Int → Yields (Mild ty.Unit) (m.remote r code seen env a b n route)
     unfolding m.remote
     remote_good a b n route i j k =
         then_yields (Good ty.Chunk) (Mild ty.Unit) _ _ (runs code seen c env a ty.Chunk y i h) (λ v g. let ch = a_chunk v g.typed in
-          known_then (Mild ty.Unit) (as_chunk v) ch.0 _ ch.1 (then_yields (Good ty.Host) (Mild ty.Unit) _ _ (runs code seen c env b ty.Host y j h) (λ w g2. let ho = a_host w g2.typed in
-            known_then (Mild ty.Unit) (as_host w) ho.0 _ ho.1 (then_yields (Good ty.Int) (Mild ty.Unit) _ _ (runs code seen c env n ty.Int y k h) (λ u g3. let nu = number u g3.typed in
-              known_then (Mild ty.Unit) (as_int u) nu.0 _ nu.1 (then_yields Any (Mild ty.Unit) _ _ (remote_yields ch.0 ho.0 nu.0 route ch.2) (λ _ _. just_unit)))))))
+        known_then (Mild ty.Unit) (as_chunk v) ch.0 _ ch.1 (then_yields (Good ty.Host) (Mild ty.Unit) _ _ (runs code seen c env b ty.Host y j h) (λ w g2. let ho = a_host w g2.typed in
+        known_then (Mild ty.Unit) (as_host w) ho.0 _ ho.1 (then_yields (Good ty.Int) (Mild ty.Unit) _ _ (runs code seen c env n ty.Int y k h) (λ u g3. let nu = number u g3.typed in
+        known_then (Mild ty.Unit) (as_int u) nu.0 _ nu.1 (then_yields Any (Mild ty.Unit) _ _ (remote_yields ch.0 ho.0 nu.0 route ch.2) (λ _ _. just_unit)))))))
 
     neighbour_good : (a b n d : Expr) → HasTy code seen c a ty.Chunk → HasTy code seen c b ty.Host → HasTy code seen c n ty.Int → HasTy code seen c d ty.Dev → Yields (Mild ty.Unit) (m.neighbour r code seen env a b n d)
     unfolding m.neighbour
     neighbour_good a b n d i j k l =
         then_yields (Good ty.Chunk) (Mild ty.Unit) _ _ (runs code seen c env a ty.Chunk y i h) (λ v g. let ch = a_chunk v g.typed in
-          known_then (Mild ty.Unit) (as_chunk v) ch.0 _ ch.1 (then_yields (Good ty.Host) (Mild ty.Unit) _ _ (runs code seen c env b ty.Host y j h) (λ w g2. let ho = a_host w g2.typed in
-            known_then (Mild ty.Unit) (as_host w) ho.0 _ ho.1 (then_yields (Good ty.Int) (Mild ty.Unit) _ _ (runs code seen c env n ty.Int y k h) (λ u g3. let nu = number u g3.typed in
-              known_then (Mild ty.Unit) (as_int u) nu.0 _ nu.1 (then_yields (Good ty.Dev) (Mild ty.Unit) _ _ (runs code seen c env d ty.Dev y l h) (λ x g4. let de = a_dev x g4.typed in
-                known_then (Mild ty.Unit) (as_dev x) de.0 _ de.1 (then_yields Any (Mild ty.Unit) _ _ (neighbour_yields ch.0 ho.0 nu.0 de.0 ch.2) (λ _ _. just_unit)))))))))
+        known_then (Mild ty.Unit) (as_chunk v) ch.0 _ ch.1 (then_yields (Good ty.Host) (Mild ty.Unit) _ _ (runs code seen c env b ty.Host y j h) (λ w g2. let ho = a_host w g2.typed in
+        known_then (Mild ty.Unit) (as_host w) ho.0 _ ho.1 (then_yields (Good ty.Int) (Mild ty.Unit) _ _ (runs code seen c env n ty.Int y k h) (λ u g3. let nu = number u g3.typed in
+        known_then (Mild ty.Unit) (as_int u) nu.0 _ nu.1 (then_yields (Good ty.Dev) (Mild ty.Unit) _ _ (runs code seen c env d ty.Dev y l h) (λ x g4. let de = a_dev x g4.typed in
+        known_then (Mild ty.Unit) (as_dev x) de.0 _ de.1 (then_yields Any (Mild ty.Unit) _ _ (neighbour_yields ch.0 ho.0 nu.0 de.0 ch.2) (λ _ _. just_unit)))))))))
 
     opened_literal : (e : Expr) (t : Ty) → literal_type (out-Expr e) ≡ Some t → Yields (Mild t) (opened r code seen env e)
     unfolding opened

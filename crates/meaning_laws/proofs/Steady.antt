@@ -82,7 +82,7 @@ neighbours : (k : Chunk) (h : Host) (n : ℤ) (d : Dev) → Steady (Unit {0}) (s
 unfolding send_neighbour
 neighbours k h n d s =
     choose s (is_paid n s.ctx.purse) (if is_next s d h then sent d k h (bound_of n) default_route s else quiet (stopped (Raised not_neighbour) s)) (quiet (stopped (Raised no_bound) s))
-      (choose s (is_next s d h) (sent d k h (bound_of n) default_route s) (quiet (stopped (Raised not_neighbour) s)) (sent_steady s d k h (bound_of n) default_route) (same_steady s)) (same_steady s)
+    (choose s (is_next s d h) (sent d k h (bound_of n) default_route s) (quiet (stopped (Raised not_neighbour) s)) (sent_steady s d k h (bound_of n) default_route) (same_steady s)) (same_steady s)
 
 serves : (d : Svc) (args : List Value) → Steady Value (serve d args) (serve d args)
 unfolding serve

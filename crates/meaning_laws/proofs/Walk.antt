@@ -175,7 +175,7 @@ module _ (Rel : (A : Type 0) → Run A → Run A → Type 0) (K : Kept Rel) wher
     unfolding evaluation
     evaluation_kept code seen env a =
         K.binds _ _ _ _ _ _ (runs code seen env a) (λ v. K.binds _ _ _ _ _ _ (known_kept _ (as_chunk v)) (λ k. K.binds _ _ _ _ _ _ K.pays (λ _.
-          K.binds _ _ _ _ _ _ (visited_kept k) (λ _. K.gives Value _))))
+        K.binds _ _ _ _ _ _ (visited_kept k) (λ _. K.gives Value _))))
 
     remote_kept : (code : Program) (seen : ℕ) (env : Env) (a h n : Expr) (route : Name) → Rel Value (remote r code seen env a h n route) (remote r' code seen env a h n route)
     unfolding remote

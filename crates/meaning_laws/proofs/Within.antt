@@ -97,7 +97,7 @@ module _ (w : ℕ) where
   unfolding send_neighbour
   neighbours k h n d s l =
       itself s _ (choose s (is_paid n s.ctx.purse) (if is_next s d h then sent d k h (bound_of n) default_route s else quiet (stopped (Raised not_neighbour) s)) (quiet (stopped (Raised no_bound) s))
-        (choose s (is_next s d h) (sent d k h (bound_of n) default_route s) (quiet (stopped (Raised not_neighbour) s)) (same_work s.work) (same_work s.work)) (same_work s.work))
+      (choose s (is_next s d h) (sent d k h (bound_of n) default_route s) (quiet (stopped (Raised not_neighbour) s)) (same_work s.work) (same_work s.work)) (same_work s.work))
 
   served_falls : (s t : VisitState) → t.work ≤ s.work → (a : Answer) → (left_by (answered a t)).work ≤ s.work
   served_falls s t h (Gives v told) = h

@@ -1,7 +1,7 @@
 //! Laws of the meaning. Each is the contract of a function without a body, so that a contract or a proof can name it.
 #![tactic(auto)]
 
-ghost use Rattle.std.specs.Prelude.{◌≡◌, ℕ, List, Some, slice_get};
+ghost use Rattle.std.specs.Prelude.{◌≡◌, ◌<◌, ℕ, List, Some, slice_get};
 ghost use Rattle.plan_base.specs.declared.tree.Expr.{Expr};
 ghost use Rattle.plan_base.specs.declared.tree.Program.{Program};
 ghost use Rattle.plan_base.specs.declared.tree.Chunk.{Chunk};
@@ -12,7 +12,7 @@ ghost use Rattle.plan_base.specs.Typing.{Typed, HasTy, IsTypedChunk};
 ghost use Rattle.plan_base.specs.TypingNames.{place_of};
 ghost use Rattle.service_api.specs.Services.{IsGoodValue};
 ghost use Rattle.plan_meaning.specs.State.{VisitState};
-ghost use Rattle.plan_meaning.specs.Meaning.{Env, node, meaning, visited};
+ghost use Rattle.plan_meaning.specs.Meaning.{Env, node, run_to, meaning, visited};
 ghost use Rattle.plan_meaning.specs.Safe.{HasEnv, Yields};
 ghost use Rattle.meaning_laws.specs.Laws.{IsBalanced, IsSteady, IsLonger, left_by};
 
@@ -20,29 +20,30 @@ ghost use Rattle.meaning_laws.specs.Laws.{IsBalanced, IsSteady, IsLonger, left_b
 /// off is no part of it.
 pub fn fixed()
     ensures { (code : Program) (seen : ℕ) (env : Env) (e : Expr) (s : VisitState) → meaning code seen env e s ≡ node meaning code seen env e s }
-{
-}
+{}
+
+/// A visit may be cut off at any depth above its work.
+pub fn depth()
+    ensures { (n : ℕ) (k : Chunk) (s : VisitState) → s.work < n → visited (run_to n) k s ≡ visited meaning k s }
+{}
 
 /// Purse, evals paid and the bounds of the packets sent keep their sum, in each expression and each visit, however it ends.
 pub fn balance()
     ensures parts { (code : Program) (seen : ℕ) (env : Env) (e : Expr) (s : VisitState) → IsBalanced (meaning code seen env e) s }
     ensures visits { (k : Chunk) (s : VisitState) → IsBalanced (visited meaning k) s }
-{
-}
+{}
 
 /// The surroundings but for the purse, the family, the offer of the services and the rows at `begin` stay.
 pub fn steadiness()
     ensures parts { (code : Program) (seen : ℕ) (env : Env) (e : Expr) (s : VisitState) → IsSteady s (left_by (meaning code seen env e s).after) }
     ensures visits { (k : Chunk) (s : VisitState) → IsSteady s (left_by (visited meaning k s).after) }
-{
-}
+{}
 
 /// Where an allowance of work isn't spent, a greater one gives the same with so much more work left.
 pub fn allowance()
     ensures parts { (code : Program) (seen : ℕ) (env : Env) (e : Expr) (s : VisitState) → IsLonger (meaning code seen env e) s }
     ensures visits { (k : Chunk) (s : VisitState) → IsLonger (visited meaning k) s }
-{
-}
+{}
 
 /// From a good state a typed expression never is without a case, its value has its type and keeps the limits, services
 /// are asked only with arguments of the declared types that keep the limits, and what is in the outbox, the notes and the
@@ -50,5 +51,4 @@ pub fn allowance()
 pub fn soundness()
     ensures parts { (code : Program) (seen : ℕ) (c : List Param) (env : Env) (e : Expr) (t : Ty) → Typed code → HasTy code seen c e t → HasEnv c env → Yields (IsGoodValue t) (meaning code seen env e) }
     ensures visits { (k : Chunk) (at : ℕ) (d : Fun) → IsTypedChunk k → place_of k.entry k.code.funs ≡ Some at → slice_get k.code.funs at ≡ Some d → Yields (IsGoodValue d.result) (visited meaning k) }
-{
-}
+{}

@@ -6,9 +6,7 @@ use Rattle.plan_base.specs.declared.tree.Svc.{Svc}
 use Rattle.plan_base.specs.declared.tree.Ty.{Ty}
 use Rattle.plan_base.specs.declared.tree.Value.{Value}
 use Rattle.plan_base.specs.declared.tree.Chunk.{Chunk}
-
 use Rattle.plan_base.specs.Typing.{IsTypedChunk}
-
 use Rattle.service_api.specs.declared.answer.Note.{Note}
 use Rattle.service_api.specs.Services.{IsGoodValue, AreGoodValues, IsGoodNote, IsGood}
 use Rattle.plan_meaning.specs.declared.binding.Binding.{Binding}
@@ -55,4 +53,3 @@ abbrev pub HasEnv : List Param → List Binding → Type 0
 HasEnv [] [] = Unit {0}
 HasEnv (p ∷ ps) (b ∷ bs) = (p.name ≡ b.name) × IsGoodValue p.ty b.value × HasEnv ps bs
 HasEnv _ _ = ⊥
-

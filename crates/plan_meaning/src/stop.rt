@@ -1,8 +1,8 @@
-use plan_base::{Exn, NoMemory};
-use std::alloc::AllocError;
-
 ghost use Rattle.std.specs.Prelude.{◌≡◌};
 ghost use Rattle.plan_meaning.specs.declared.stop.Stop.TheVariants as stop;
+
+use plan_base::{Exn, NoMemory};
+use std::alloc::AllocError;
 
 /// Why an evaluation gave no value.
 #[derive(Debug, Drop)]

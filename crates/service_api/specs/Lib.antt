@@ -1,5 +1,6 @@
-pub mod Formed
 pub mod Routes
 pub mod Schemes
 pub mod Services
 pub mod Prints
+pub mod PrintsGood
+pub mod PrintsLaws

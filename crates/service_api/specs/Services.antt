@@ -13,7 +13,6 @@ use Rattle.service_api.specs.declared.answer.Answer.TheVariants.{Gives, Raises}
 use Rattle.service_api.specs.declared.ctx.Ctx.{Ctx}
 use Rattle.service_api.specs.declared.scheme.Scheme.{Scheme}
 use Rattle.plan_base.specs.Typing.{HasType}
-use Rattle.service_api.specs.Formed.{IsWellFormedValue}
 
 -- ---- the state: a table's rows and its next key
 
@@ -94,10 +93,9 @@ pub record IsSmall (v : Value) : Type 0 where
   pub weight : weight v ≤ 16384
   pub nesting : nesting v ≤ 4
 
--- a value of that type that is whole and small
+-- a value of that type within the limits
 pub record IsGoodValue (t : Ty) (v : Value) : Type 0 where
   pub typed : HasType v t
-  pub formed : IsWellFormedValue v
   pub small : IsSmall v
 
 -- each value is good, at the type at its place

@@ -1,9 +1,9 @@
+ghost use Rattle.std.specs.Prelude.{◌≡◌, IfOk};
+
 use crate::router::Router;
 use plan_base::{Dev, Host, NoMemory};
 use plan_items::Items;
 use std::alloc::Global;
-
-ghost use Rattle.std.specs.Prelude.{◌≡◌, IfOk};
 
 /// The neighbours of a node, each with the device that leads to it, by device.
 pub type Neighbours = Items<(Host, Dev)>;

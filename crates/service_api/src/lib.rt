@@ -4,6 +4,7 @@
 
 mod answer;
 mod ctx;
+mod matching;
 mod package;
 mod prints;
 mod router;
@@ -12,6 +13,7 @@ mod services;
 
 pub use answer::{Answer, Note, Notes};
 pub use ctx::{Ctx, Neighbours};
+pub use matching::instance;
 pub use package::{PackageName, Packages};
 pub use prints::Prints;
 pub use router::{Hop, RouteRow, RouteRows, Router};

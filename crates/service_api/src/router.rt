@@ -1,11 +1,11 @@
+ghost use Rattle.std.specs.Prelude.{◌≡◌, IfOk};
+ghost use Rattle.std.specs.Str.{bytes_eq};
+ghost use Rattle.service_api.specs.Routes as spec;
+
 use plan_base::{Dev, Host, Name, NoMemory};
 use plan_items::Items;
 use std::alloc::Global;
 use std::marker::Model;
-
-ghost use Rattle.std.specs.Prelude.{◌≡◌, IfOk};
-ghost use Rattle.std.specs.Str.{bytes_eq};
-ghost use Rattle.service_api.specs.Routes as spec;
 
 /// A route to a host.
 #[derive(Debug, Clone, Copy)]

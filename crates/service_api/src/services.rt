@@ -1,11 +1,11 @@
+ghost use Rattle.std.specs.Prelude.{◌≡◌, ◌≤◌, length, IfOk, OnOk, OnErr, IsSome, IsTrue, None};
+ghost use Rattle.service_api.specs.Services.{Standing, Answers, AreGoodValues, begun_now, made_ready, kept, abandoned, expired, IsGood};
+
 use crate::answer::Answer;
 use crate::ctx::Ctx;
 use crate::scheme::Scheme;
 use plan_base::{Name, NoMemory, Svc, Values};
 use std::alloc::Global;
-
-ghost use Rattle.std.specs.Prelude.{◌≡◌, ◌≤◌, length, IfOk, OnOk, OnErr, IsSome, IsTrue, None};
-ghost use Rattle.service_api.specs.Services.{Standing, Answers, AreGoodValues, begun_now, made_ready, kept, abandoned, expired, IsGood};
 
 /// The services of a node.
 ///
@@ -20,7 +20,13 @@ pub trait Services {
 
     /// Calls the service. Conditions: a `begin` is open; the arguments have the declared types and keep the
     /// limits; the context has at most 8 neighbours. After `NoMemory` the caller abandons.
-    fn call(&mut self, alloc: Global, svc: &Svc, args: &Values, ctx: &Ctx) -> Result<Answer, NoMemory>
+    fn call(
+        &mut self,
+        alloc: Global,
+        svc: &Svc,
+        args: &Values,
+        ctx: &Ctx,
+    ) -> Result<Answer, NoMemory>
         requires open { IsSome (stands self.old).begun }
         requires good { AreGoodValues svc.now.params args.now }
         requires near { length ctx.now.neighbours ≤ 8 }
