@@ -1,6 +1,5 @@
 -- What a draft becomes has its type by the typing rules.
-use Rattle.std.proofs.Common.{◌≡◌, ℕ, ◌∙◌, sym, ap, subst, List, [], ◌∷◌, Option, Some, None}
-use Rattle.std.specs.Prelude.{take, slice_get}
+use Rattle.std.proofs.Common.{ℕ, ◌∙◌, sym, ap, subst, List, [], ◌∷◌, Option, Some}
 use Rattle.plan_base.specs.declared.tree.Ty.{Ty}
 use Rattle.plan_base.specs.declared.tree.Expr.{Expr, out-Expr}
 use Rattle.plan_base.specs.declared.tree.Expr.TheVariants as v

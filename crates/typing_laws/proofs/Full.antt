@@ -1,5 +1,5 @@
 -- Where no type is missing in a draft, nothing is filled in: it becomes itself or nothing.
-use Rattle.std.proofs.Common.{◌≡◌, ℕ, ◌∙◌, sym, ap, refl, Bool, true, false, ◌&&◌, List, [], ◌∷◌, Option, Some, None}
+use Rattle.std.proofs.Common.{◌≡◌, ℕ, ◌∙◌, sym, ap, refl, true, ◌&&◌, List, [], ◌∷◌, Option, None}
 use Rattle.std.specs.List.{list_all}
 use Rattle.plan_base.specs.declared.tree.Ty.{Ty}
 use Rattle.plan_base.specs.declared.tree.Expr.{Expr, Expr-F, out-Expr}

@@ -1,22 +1,18 @@
 -- A typed expression, as a draft in which no type is missing, becomes itself.
-use Rattle.std.proofs.Common.{◌≡◌, ℕ, zero, suc, ◌+◌, ◌<◌, ◌≤◌, ◌∙◌, sym, ap, refl, subst, Bool, true, false, List, [], ◌∷◌, take, length, Option, Some, None, arith, zero-add, add-zero}
-use Rattle.std.specs.Prelude.{map, slice_get, option_and_then, if◌then◌else◌, ◌==◌}
+use Rattle.std.proofs.Common.{◌≡◌, ℕ, suc, ◌+◌, ◌∙◌, sym, ap, refl, subst, Bool, List, [], ◌∷◌, length, Option, Some, None, arith, zero-add, add-zero}
+use Rattle.std.specs.Prelude.{map, slice_get, option_and_then, if◌then◌else◌}
 use Rattle.std.proofs.lemmas.Bool.{eq-eqb}
-use Rattle.plan_base.specs.declared.name.Name.{Name}
 use Rattle.plan_base.specs.declared.tree.Ty.{Ty, Ty-F, out-Ty}
 use Rattle.plan_base.specs.declared.tree.Ty as ty
 use Rattle.plan_base.specs.declared.tree.Ty.TheVariants as made
 use Rattle.plan_base.specs.declared.tree.Expr.{Expr, Expr-F, out-Expr, roll-Expr, roll-out-Expr}
-use Rattle.plan_base.specs.declared.tree.Expr as x
 use Rattle.plan_base.specs.declared.tree.Expr.TheVariants as v
 use Rattle.plan_base.specs.declared.tree.Clause.{Clause}
-use Rattle.plan_base.specs.declared.tree.Fun.{Fun}
 use Rattle.plan_base.specs.declared.tree.Program.{Program}
 use Rattle.plan_base.specs.Trees.{ExprLayer}
 use Rattle.plan_base.specs.Typing.{Ctx, HasTy, HaveTys, ClausesHaveTy}
 use Rattle.plan_base.specs.Typing.{HasTy as T, HaveTys as M, ClausesHaveTy as K}
-use Rattle.plan_base.specs.TypingNames.{place_of}
-use Rattle.plan_base.specs.TypingOrder.{items_of_layer, items_of, parts_of_layer, parts_of, want_at, earlier, fun_of}
+use Rattle.plan_base.specs.TypingOrder.{items_of_layer, items_of, parts_of_layer, parts_of, want_at}
 use Rattle.plan_base.specs.TypingFills.{Suits, Becomes, PartsBecome, ClausesBecome}
 use Rattle.plan_base.specs.TypingFills.{Becomes as B, PartsBecome as P, ClausesBecome as C}
 use Rattle.typing_laws.proofs.Right.{wanted_suits}
@@ -78,7 +74,7 @@ module _ (code : Program) (seen : ℕ) where
     parts_itself M.no_parts wants i f = P.no_parts
     parts_itself (M.and_part {t = t} h hs) wants i f =
         P.and_part (itself h (subst (λ j. Suits (want_at wants j) t) (add-zero i) (f 0 t refl)))
-            (parts_itself hs wants (i + 1) (λ k u e. let q : i + suc k ≡ i + 1 + k = omega arith in subst (λ j. Suits (want_at wants j) u) q (f (suc k) u e)))
+        (parts_itself hs wants (i + 1) (λ k u e. let q : i + suc k ≡ i + 1 + k = omega arith in subst (λ j. Suits (want_at wants j) u) q (f (suc k) u e)))
 
     clauses_itself : {c : Ctx} {ks : List Clause} {t : Ty} → ClausesHaveTy code seen c ks t → ClausesBecome code seen c t ks ks
     clauses_itself K.no_clauses = C.no_clauses

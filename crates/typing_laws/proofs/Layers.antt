@@ -1,13 +1,13 @@
 -- A type or an expression from its outermost level, and what the questions about a type's level say of the type.
-use Rattle.std.proofs.Common.{◌≡◌, ℕ, ◌∙◌, sym, ap, refl, Bool, true, false, List, [], ◌∷◌, Option, Some, None}
-use Rattle.std.specs.Prelude.{option_and_then, length, ◌==◌, if◌then◌else◌}
+use Rattle.std.proofs.Common.{◌≡◌, ℕ, ◌∙◌, sym, ap, refl, List, [], ◌∷◌, Option, Some, None}
+use Rattle.std.specs.Prelude.{option_and_then}
 use Rattle.plan_base.specs.declared.prim.Prim.{Prim}
 use Rattle.plan_base.specs.declared.tree.Ty.{Ty, Ty-F, out-Ty, roll-Ty, roll-out-Ty}
 use Rattle.plan_base.specs.declared.tree.Ty as ty
 use Rattle.plan_base.specs.declared.tree.Ty.TheVariants as made
 use Rattle.plan_base.specs.Trees.{TyLayer}
 use Rattle.plan_base.specs.TypingNames.{of_list, part_of}
-use Rattle.plan_base.specs.TypingOrder.{items_of_layer, items_of, parts_of_layer, parts_of, part_in_layer, part_in, given_of}
+use Rattle.plan_base.specs.TypingOrder.{items_of_layer, items_of, part_in_layer, part_in, given_of}
 
 pub is_list : (t u : Ty) → out-Ty t ≡ Ty-F.List u → t ≡ ty.List u
 is_list t u h = sym (roll-out-Ty t) ∙ (ap roll-Ty h ∙ made.rolls-List u)

@@ -1,12 +1,10 @@
 -- The checking of a whole program, and what the rules say of it.
-use Rattle.std.proofs.Common.{◌≡◌, ℕ, zero, suc, ◌+◌, ◌<◌, ◌≤◌, ◌∙◌, sym, ap, refl, subst, Bool, true, false, not, ◌&&◌, ◌||◌, List, [], ◌∷◌, ◌++◌, append_assoc, length, Option, Some, None, arith, add-zero}
-use Rattle.std.specs.Prelude.{Result, Ok, Err, if◌then◌else◌, map, slice_get, nat_le, IsTrue}
+use Rattle.std.proofs.Common.{◌≡◌, ℕ, zero, suc, ◌+◌, ◌≤◌, ◌∙◌, sym, ap, refl, subst, Bool, true, false, not, ◌&&◌, ◌||◌, List, [], ◌∷◌, ◌++◌, append_assoc, length, Some, arith, add-zero}
+use Rattle.std.specs.Prelude.{Result, Ok, Err, if◌then◌else◌, map, slice_get, nat_le}
 use Rattle.std.specs.List.{list_all}
 use Rattle.std.proofs.lemmas.List.{length-append, append-nil}
 use Rattle.std.proofs.lemmas.Bool.{leb-true, le-leb}
 use Rattle.plan_base.specs.declared.name.Name.{Name}
-use Rattle.plan_base.specs.declared.tree.Ty.{Ty}
-use Rattle.plan_base.specs.declared.tree.Expr.{Expr}
 use Rattle.plan_base.specs.declared.tree.Svc.{Svc}
 use Rattle.plan_base.specs.declared.tree.Fun.{Fun}
 use Rattle.plan_base.specs.declared.tree.Program.{Program}
@@ -15,9 +13,9 @@ use Rattle.plan_base.specs.declared.type_fault.TypeFault.{TypeFault}
 use Rattle.plan_base.specs.declared.type_fault.TypeFault.TheVariants as fault
 use Rattle.plan_base.specs.Sizes.{code_size, expr_depth, program_nodes}
 use Rattle.plan_base.specs.WellFormed.{has_from_to, formed_expr, well_formed_type, well_formed_expr, well_formed_svc, well_formed_fun, well_formed_program, has_types, program_has_types, IsWellFormedProgram, ProgramHasTypes}
-use Rattle.plan_base.specs.Typing.{HasTy, HasOwnNames, Typed, called_names, param_names}
+use Rattle.plan_base.specs.Typing.{HasTy, HasOwnNames, Typed, param_names}
 use Rattle.plan_base.specs.TypingNames.{has_name, is_prim, built_in, are_new, are_callable}
-use Rattle.plan_base.specs.TypingOrder.{Checking, Found, pure, after, ◌>>=◌, next, then_by, checked, bodies_from, services_from, exceptions_from, functions_from, declarations, sized, annotated}
+use Rattle.plan_base.specs.TypingOrder.{next, then_by, checked, bodies_from, services_from, exceptions_from, functions_from, declarations, sized, annotated}
 use Rattle.plan_base.specs.TypingFills.{Becomes, FunFills, Fills}
 use Rattle.typing_laws.proofs.SameTypes.{and_left, and_right, and_both}
 use Rattle.typing_laws.proofs.Steps.{Holds, Yields, then_yields, pure_yields}
@@ -131,9 +129,11 @@ declared_reach code h =
     let calls = sym (callable-append [] (map (λ d. d.name) code.svcs) (map (λ d. d.name) code.funs)) ∙ h.calls in
     let s = services_reach [] code.svcs 0 (and_left _ _ calls) in
     let e = exceptions_reach built_in code.exns s.0 h.exns in
-    let f = functions_reach (map (λ d. d.name) code.svcs) code.funs e.0 (and_right _ _ calls) h.params in
-    (f.0, then_is (services_from [] code.svcs 0) (λ n. then_by (exceptions_from built_in code.exns n) (λ m. functions_from (map (λ d. d.name) code.svcs) code.funs m)) s.0 (Ok f.0) s.1
-        (then_is (exceptions_from built_in code.exns s.0) (λ m. functions_from (map (λ d. d.name) code.svcs) code.funs m) e.0 (Ok f.0) e.1 f.1))
+    let f = functions_reach (map (λ d. d.name) code.svcs) code.funs e.0 (and_right _ _ calls) h.params in (
+      f.0,
+      then_is (services_from [] code.svcs 0) (λ n. then_by (exceptions_from built_in code.exns n) (λ m. functions_from (map (λ d. d.name) code.svcs) code.funs m)) s.0 (Ok f.0) s.1
+          (then_is (exceptions_from built_in code.exns s.0) (λ m. functions_from (map (λ d. d.name) code.svcs) code.funs m) e.0 (Ok f.0) e.1 f.1),
+    )
 
 -- ---- bodies
 
@@ -151,21 +151,24 @@ module _ (code : Program) where
   bodies_right [] done = pure_yields (BodiesRight done []) done ([], sym (append-nil done), no_bodies)
   bodies_right (d ∷ ds) done =
       then_yields (Right code (length done) d.params (Some d.result) d.body) (BodiesRight done (d ∷ ds)) (checked code 64 (length done) d.params (Some d.result) d.body) (λ r. bodies_from code (done ++ record d { body = r.0 } ∷ []) ds)
-          (checked_right code 64 (length done) d.params (Some d.result) d.body)
-          (λ r h n. map_holds code 0 (BodiesRight (done ++ record d { body = r.0 } ∷ []) ds) (BodiesRight done (d ∷ ds))
-              (λ a p. (record d { body = r.0 } ∷ p.0, p.1 ∙ append_assoc done (record d { body = r.0 } ∷ []) p.0,
-                  and_body (record { body = subst (λ u. Becomes code (length done) d.params (Some d.result) d.body r.0 u) (sym (becomes_suits h)) h; rest = refl }) (subst (λ i. BodiesFill code i ds p.0) (length-append done (record d { body = r.0 } ∷ [])) p.2)))
-              (bodies_from code (done ++ record d { body = r.0 } ∷ []) ds n) (bodies_right ds (done ++ record d { body = r.0 } ∷ []) n))
+      (checked_right code 64 (length done) d.params (Some d.result) d.body)
+      (λ r h n. map_holds code 0 (BodiesRight (done ++ record d { body = r.0 } ∷ []) ds) (BodiesRight done (d ∷ ds))
+      (λ a p. (
+        record d { body = r.0 } ∷ p.0,
+        p.1 ∙ append_assoc done (record d { body = r.0 } ∷ []) p.0,
+        and_body (record { body = subst (λ u. Becomes code (length done) d.params (Some d.result) d.body r.0 u) (sym (becomes_suits h)) h; rest = refl }) (subst (λ i. BodiesFill code i ds p.0) (length-append done (record d { body = r.0 } ∷ [])) p.2),
+      ))
+      (bodies_from code (done ++ record d { body = r.0 } ∷ []) ds n) (bodies_right ds (done ++ record d { body = r.0 } ∷ []) n))
 
   bodies_reach : {k : ℕ} {ds gs : List Fun} → BodiesFill code k ds gs → ((i : ℕ) (d : Fun) → slice_get ds i ≡ Some d → expr_depth d.body ≤ 64) → (done : List Fun) → length done ≡ k → (n : ℕ) → Reaches (bodies_from code done ds) (done ++ gs) n
   unfolding bodies_from
   bodies_reach no_bodies w done q n = (n, rw append-nil refl)
   bodies_reach {k = k} (and_body {d = d} {g = g} {ds = ds} {gs = gs} b bs) w done q n =
       then_reaches (checked code 64 (length done) d.params (Some d.result) d.body) (λ r. bodies_from code (done ++ record d { body = r.0 } ∷ []) ds) (g.body, d.result) (done ++ g ∷ gs) n
-          (checked_reaches code 64 (length done) (subst (λ i. Becomes code i d.params (Some d.result) d.body g.body d.result) (sym q) b.body) (w 0 d refl) n)
-          (λ m. subst (λ z. Reaches (bodies_from code (done ++ z ∷ []) ds) (done ++ g ∷ gs) m) b.rest
-              (subst (λ z. Reaches (bodies_from code (done ++ g ∷ []) ds) z m) (append_assoc done (g ∷ []) gs)
-                  (bodies_reach bs (λ i e h. w (suc i) e h) (done ++ g ∷ []) (length-append done (g ∷ []) ∙ ap (λ j. j + 1) q) m)))
+      (checked_reaches code 64 (length done) (subst (λ i. Becomes code i d.params (Some d.result) d.body g.body d.result) (sym q) b.body) (w 0 d refl) n)
+      (λ m. subst (λ z. Reaches (bodies_from code (done ++ z ∷ []) ds) (done ++ g ∷ gs) m) b.rest
+      (subst (λ z. Reaches (bodies_from code (done ++ g ∷ []) ds) z m) (append_assoc done (g ∷ []) gs)
+      (bodies_reach bs (λ i e h. w (suc i) e h) (done ++ g ∷ []) (length-append done (g ∷ []) ∙ ap (λ j. j + 1) q) m)))
 
   bodies_alike : {k : ℕ} {ds gs : List Fun} → BodiesFill code k ds gs → AlikeFuns ds gs
   bodies_alike no_bodies = no_funs
@@ -184,12 +187,12 @@ module _ (code : Program) where
   bodies_of k (d ∷ ds) [] e f = absurd (omega arith)
   bodies_of k (d ∷ ds) (g ∷ gs) e f =
       and_body (subst (λ j. FunFills code j d g) (add-zero k) (f 0 d g refl refl))
-          (bodies_of (k + 1) ds gs (omega arith) (λ i a b p q. let r : k + suc i ≡ k + 1 + i = omega arith in subst (λ j. FunFills code j a b) r (f (suc i) a b p q)))
+      (bodies_of (k + 1) ds gs (omega arith) (λ i a b p q. let r : k + suc i ≡ k + 1 + i = omega arith in subst (λ j. FunFills code j a b) r (f (suc i) a b p q)))
 
   fun_typed : (whole : Program) → SameHeads code whole → (k : ℕ) (d g : Fun) → FunFills code k d g → HasTy whole k g.params g.body g.result
   fun_typed whole s k d g h =
       subst (λ ps. HasTy whole k ps g.body g.result) (sym (ap (λ f. f.params) h.rest))
-          (subst (λ r. HasTy whole k d.params g.body r) (sym (ap (λ f. f.result) h.rest)) (becomes_typed code whole s k h.body))
+      (subst (λ r. HasTy whole k d.params g.body r) (sym (ap (λ f. f.result) h.rest)) (becomes_typed code whole s k h.body))
 
   typed_at : (whole : Program) → SameHeads code whole → {k : ℕ} {ds gs : List Fun} → BodiesFill code k ds gs → (i : ℕ) (g : Fun) → slice_get gs i ≡ Some g → HasTy whole (k + i) g.params g.body g.result
   typed_at whole s no_bodies i g q = absurd (cc)
@@ -208,7 +211,9 @@ zero_plus i = omega arith
 
 filled_by : (draft : Program) (gs : List Fun) → BodiesFill draft 0 draft.funs gs → Fills draft (record draft { funs = gs })
 filled_by draft gs b = record {
-  svcs = refl; exns = refl; count = alike_length (bodies_alike draft b);
+  svcs = refl;
+  exns = refl;
+  count = alike_length (bodies_alike draft b);
   funs = λ k d g p q. subst (λ j. FunFills draft j d g) (zero_plus k) (fill_at draft b k d g p q);
 }
 
@@ -249,13 +254,15 @@ annotated_complete draft p w f t =
     let r = bodies_reach draft bodies w [] refl 0 in
     let whole : p ≡ record draft { funs = p.funs } = λ i. record { svcs = f.svcs i; exns = f.exns i; funs = p.funs } in
     then_is (declarations draft) (λ _. then_by (bodies_from draft [] draft.funs 0) (λ r. sized (record draft { funs = r.0 }))) names.0 (Ok p) names.1
-        (then_is (bodies_from draft [] draft.funs 0) (λ r. sized (record draft { funs = r.0 })) (p.funs, r.0) (Ok p) r.1
-            (subst (λ z. sized z ≡ Ok p) whole (subst (λ (b : Bool). (if b then Ok p else Err fault.CodeTooLarge) ≡ Ok p) (sym (le-leb (code_size p) 16000 t.small)) refl)))
+    (then_is (bodies_from draft [] draft.funs 0) (λ r. sized (record draft { funs = r.0 })) (p.funs, r.0) (Ok p) r.1
+    (subst (λ z. sized z ≡ Ok p) whole (subst (λ (b : Bool). (if b then Ok p else Err fault.CodeTooLarge) ≡ Ok p) (sym (le-leb (code_size p) 16000 t.small)) refl)))
 
 -- A typed program fills itself in.
 pub fills_itself : (p : Program) → Typed p → Fills p p
 fills_itself p t = record {
-  svcs = refl; exns = refl; count = refl;
+  svcs = refl;
+  exns = refl;
+  count = refl;
   funs = λ k d g a b. let e : d ≡ g = cc in subst (λ z. FunFills p k d z) e (record { body = itself p k (t.bodies k d a) refl; rest = refl });
 }
 

@@ -1,6 +1,6 @@
 -- What the rules make of a draft, the checking answers.
-use Rattle.std.proofs.Common.{◌≡◌, ℕ, zero, suc, ◌+◌, ◌<◌, ◌≤◌, ◌∙◌, sym, ap, refl, subst, Bool, true, false, not, ◌||◌, max, List, [], ◌∷◌, ◌++◌, append_assoc, add-one, length, take, drop, Option, Some, None, arith, rules}
-use Rattle.std.specs.Prelude.{Result, Ok, Err, if◌then◌else◌, option_and_then, slice_get, ◌==◌, nat_le}
+use Rattle.std.proofs.Common.{◌≡◌, ℕ, zero, suc, ◌+◌, ◌≤◌, ◌∙◌, sym, ap, refl, subst, Bool, true, false, not, max, List, [], ◌∷◌, ◌++◌, append_assoc, length, Option, Some, None, arith}
+use Rattle.std.specs.Prelude.{Ok, if◌then◌else◌, option_and_then, ◌==◌, nat_le}
 use Rattle.std.specs.List.{list_any, fold}
 use Rattle.std.proofs.lemmas.List.{length-append, append-nil}
 use Rattle.std.proofs.lemmas.Bool.{le-leb, eq-eqb}
@@ -24,7 +24,7 @@ use Rattle.plan_base.specs.Trees.{ExprLayer}
 use Rattle.plan_base.specs.Sizes.{type_depth, expr_depth, expr_depth_level, clause_depth}
 use Rattle.plan_base.proofs.SizeLaws.{expr_depth_out}
 use Rattle.plan_base.specs.Typing.{Ctx, literal_type, IsShallow}
-use Rattle.plan_base.specs.TypingNames.{place_of, service_of, binds, binding, param_types, prim_of, of_list, takes, makes, is_exception, may_catch, OpKind, arithmetic, joining, equality, ordering, listing, kind_of, is_joined, is_ordered, part_of}
+use Rattle.plan_base.specs.TypingNames.{service_of, binds, binding, param_types, prim_of, of_list, takes, makes, is_exception, may_catch, OpKind, arithmetic, joining, equality, ordering, listing, kind_of, is_joined, is_ordered, part_of}
 use Rattle.plan_base.specs.TypingOrder.{Checking, Found, pure, refuse, after, ◌>>=◌, or_refuse, same_type, items_of, parts_of, part_in, want_at, given_of, pair_of, fun_of, earlier, not_earlier, settled, shallow}
 use Rattle.plan_base.specs.TypingOrder as order
 use Rattle.plan_base.specs.TypingFills.{Suits, Becomes, PartsBecome, ClausesBecome}
@@ -92,16 +92,16 @@ module _ (code : Program) (seen depth : ℕ) (run : Ctx → Option Ty → Expr �
   parts_reach {c = c} {wants = wants} {i = i} (P.and_part {d = d} {e = e} {ds = ds} {es = es} {t = t} {ts = ts} b bs) a h done types q n =
       let low = fold_above expr_depth (max a (expr_depth d)) ds in
       then_reaches (run c (want_at wants (length types)) d) (λ r. order.parts_from code seen run (done ++ r.0 ∷ []) (types ++ r.1 ∷ []) c wants ds) (e, t) (done ++ e ∷ es, types ++ t ∷ ts) n
-          (subst (λ j. Reaches (run c (want_at wants j) d) (e, t) n) (sym q) (go _ _ _ _ _ b (omega arith) n))
-          (λ k. subst (λ z. Reaches (order.parts_from code seen run (done ++ e ∷ []) (types ++ t ∷ []) c wants ds) (z, types ++ t ∷ ts) k) (append_assoc done (e ∷ []) es)
-              (subst (λ z. Reaches (order.parts_from code seen run (done ++ e ∷ []) (types ++ t ∷ []) c wants ds) ((done ++ e ∷ []) ++ es, z) k) (append_assoc types (t ∷ []) ts)
-                  (parts_reach bs (max a (expr_depth d)) h (done ++ e ∷ []) (types ++ t ∷ []) (length-append types (t ∷ []) ∙ ap (λ j. j + 1) q) k)))
+      (subst (λ j. Reaches (run c (want_at wants j) d) (e, t) n) (sym q) (go _ _ _ _ _ b (omega arith) n))
+      (λ k. subst (λ z. Reaches (order.parts_from code seen run (done ++ e ∷ []) (types ++ t ∷ []) c wants ds) (z, types ++ t ∷ ts) k) (append_assoc done (e ∷ []) es)
+      (subst (λ z. Reaches (order.parts_from code seen run (done ++ e ∷ []) (types ++ t ∷ []) c wants ds) ((done ++ e ∷ []) ++ es, z) k) (append_assoc types (t ∷ []) ts)
+      (parts_reach bs (max a (expr_depth d)) h (done ++ e ∷ []) (types ++ t ∷ []) (length-append types (t ∷ []) ∙ ap (λ j. j + 1) q) k)))
 
   arguments_reach : {c : Ctx} {ws : List Ty} {ds es : List Expr} → (at : ℕ) → PartsBecome code seen c (Some ws) 0 ds es ws → fold (λ m d. max m (expr_depth d)) 0 ds ≤ depth → (n : ℕ) → Reaches (order.arguments code seen run c at ws ds) es n
   unfolding order.arguments
   arguments_reach {c = c} {ws = ws} {ds = ds} {es = es} at b h n =
       if_reaches (length ds == length ws) (order.parts code seen run c (Some ws) ds >>= (λ r. pure r.0)) (refuse (fault.Arity (place.Node at))) es n (eq-eqb (length ds) (length ws) (parts_count b))
-          (then_reaches (order.parts code seen run c (Some ws) ds) (λ r. pure r.0) (es, ws) es n (parts_reach b 0 h [] [] refl n) (λ k. (k, refl)))
+      (then_reaches (order.parts code seen run c (Some ws) ds) (λ r. pure r.0) (es, ws) es n (parts_reach b 0 h [] [] refl n) (λ k. (k, refl)))
 
   applied_reaches : {c : Ctx} {ws : List Ty} {ds es : List Expr} → (at : ℕ) (want : Option Ty) (f : Name) (t : Ty) → PartsBecome code seen c (Some ws) 0 ds es ws → fold (λ m d. max m (expr_depth d)) 0 ds ≤ depth → Suits want t → (n : ℕ) → Reaches (order.applied code seen run c at want f ds ws t) (x.Call f es, t) n
   unfolding order.applied
@@ -114,10 +114,10 @@ module _ (code : Program) (seen depth : ℕ) (run : Ctx → Option Ty → Expr �
   clauses_reach {c = c} {t = t} (C.and_clause {k = k} {k' = j} {ks = ks} {ks' = hs} m b p bs) a h done n =
       let low = fold_above clause_depth (max a (clause_depth k)) ks in
       then_reaches (order.wanting code seen run c t k.body) (λ b. order.clauses_from code seen run (done ++ record { name = k.name; body = b } ∷ []) c t ks) j.body (done ++ j ∷ hs) n
-          (wanting_reaches b (omega arith) n)
-          (λ i. subst (λ z. Reaches (order.clauses_from code seen run (done ++ record { name = z; body = j.body } ∷ []) c t ks) (done ++ j ∷ hs) i) p
-              (subst (λ z. Reaches (order.clauses_from code seen run (done ++ j ∷ []) c t ks) z i) (append_assoc done (j ∷ []) hs)
-                  (clauses_reach bs (max a (clause_depth k)) h (done ++ j ∷ []) i)))
+      (wanting_reaches b (omega arith) n)
+      (λ i. subst (λ z. Reaches (order.clauses_from code seen run (done ++ record { name = z; body = j.body } ∷ []) c t ks) (done ++ j ∷ hs) i) p
+      (subst (λ z. Reaches (order.clauses_from code seen run (done ++ j ∷ []) c t ks) z i) (append_assoc done (j ∷ []) hs)
+      (clauses_reach bs (max a (clause_depth k)) h (done ++ j ∷ []) i)))
 
   tuple_reaches : (c : Ctx) (want : Option Ty) (ds es : List Expr) (ts : List Ty) (at : ℕ) → PartsBecome code seen c (option_and_then (parts_of (length ds)) want) 0 ds es ts → fold (λ m d. max m (expr_depth d)) 0 ds ≤ depth → IsShallow (ty.Tuple ts) → Suits want (ty.Tuple ts) → (n : ℕ) → Reaches (order.tuple code seen run c at want ds) (x.Tuple es, ty.Tuple ts) n
   unfolding order.tuple
@@ -128,32 +128,32 @@ module _ (code : Program) (seen depth : ℕ) (run : Ctx → Option Ty → Expr �
   unfolding order.part
   part_reaches c want a e ts t at i b h q s n =
       then_reaches (run c None a) (λ r. or_refuse (part_in i r.1) (fault.WrongShape (place.Node at)) >>= (λ t. settled at want (x.Part i r.0) t)) (e, ty.Tuple ts) (x.Part i e, t) n (go _ _ _ _ _ b h n)
-          (λ k. known_reaches (part_in i (ty.Tuple ts)) (fault.WrongShape (place.Node at)) (λ t. settled at want (x.Part i e) t) t (x.Part i e, t) k (ap (order.part_in_layer i) (made.outs-Tuple ts) ∙ q) (settled_reaches at k want (x.Part i e) t s))
+      (λ k. known_reaches (part_in i (ty.Tuple ts)) (fault.WrongShape (place.Node at)) (λ t. settled at want (x.Part i e) t) t (x.Part i e, t) k (ap (order.part_in_layer i) (made.outs-Tuple ts) ∙ q) (settled_reaches at k want (x.Part i e) t s))
 
   of_items_reaches : (c : Ctx) (want : Option Ty) (a e : Expr) (u t : Ty) (at : ℕ) (f : Name) (p : Prim) → Becomes code seen c None a e (ty.List u) → expr_depth a ≤ depth → of_list p u ≡ Some t → Suits want t → (n : ℕ) → Reaches (order.of_items code seen run c at want f p (a ∷ [])) (x.Call f (e ∷ []), t) n
   unfolding order.of_items
   of_items_reaches c want a e u t at f p b h q s n =
       then_reaches (order.parts code seen run c None (a ∷ [])) (λ r. or_refuse (given_of p r.1) (fault.WrongShape (place.Node at)) >>= (λ t. settled at want (x.Call f r.0) t)) (e ∷ [], ty.List u ∷ []) (x.Call f (e ∷ []), t) n (parts_reach {wants = None} {i = 0} (P.and_part b P.no_parts) 0 (omega arith) [] [] refl n)
-          (λ k. known_reaches (given_of p (ty.List u ∷ [])) (fault.WrongShape (place.Node at)) (λ t. settled at want (x.Call f (e ∷ [])) t) t (x.Call f (e ∷ []), t) k (ap (λ l. option_and_then (of_list p) (order.items_of_layer l)) (made.outs-List u) ∙ q) (settled_reaches at k want (x.Call f (e ∷ [])) t s))
+      (λ k. known_reaches (given_of p (ty.List u ∷ [])) (fault.WrongShape (place.Node at)) (λ t. settled at want (x.Call f (e ∷ [])) t) t (x.Call f (e ∷ []), t) k (ap (λ l. option_and_then (of_list p) (order.items_of_layer l)) (made.outs-List u) ∙ q) (settled_reaches at k want (x.Call f (e ∷ [])) t s))
 
   choice_reaches : {c : Ctx} {want : Option Ty} {p a b p' a' b' : Expr} {t : Ty} → Becomes code seen c (Some ty.Bool) p p' ty.Bool → Becomes code seen c want a a' t → Becomes code seen c (Some t) b b' t → expr_depth p ≤ depth → expr_depth a ≤ depth → expr_depth b ≤ depth → (n : ℕ) → Reaches (order.choice code seen run c want p a b) (x.If p' a' b', t) n
   unfolding order.choice
   choice_reaches {c = c} {want = want} {p = p} {a = a} {b = b} {p' = p'} {a' = a'} {b' = b'} {t = t} i j k u v w n =
       then_reaches (order.wanting code seen run c ty.Bool p) (λ test. run c want a >>= (λ r. order.wanting code seen run c r.1 b >>= (λ other. pure (x.If test r.0 other, r.1)))) p' (x.If p' a' b', t) n (wanting_reaches i u n)
-          (λ n1. then_reaches (run c want a) (λ r. order.wanting code seen run c r.1 b >>= (λ other. pure (x.If p' r.0 other, r.1))) (a', t) (x.If p' a' b', t) n1 (go _ _ _ _ _ j v n1)
-              (λ n2. then_reaches (order.wanting code seen run c t b) (λ other. pure (x.If p' a' other, t)) b' (x.If p' a' b', t) n2 (wanting_reaches k w n2) (λ n3. (n3, refl))))
+      (λ n1. then_reaches (run c want a) (λ r. order.wanting code seen run c r.1 b >>= (λ other. pure (x.If p' r.0 other, r.1))) (a', t) (x.If p' a' b', t) n1 (go _ _ _ _ _ j v n1)
+      (λ n2. then_reaches (order.wanting code seen run c t b) (λ other. pure (x.If p' a' other, t)) b' (x.If p' a' b', t) n2 (wanting_reaches k w n2) (λ n3. (n3, refl))))
 
   binder_reaches : {c : Ctx} {want : Option Ty} {a b a' b' : Expr} {t : Ty} (v : Name) (u : Ty) → Becomes code seen c (Some u) a a' u → Becomes code seen (c ++ binds v u ∷ []) want b b' t → expr_depth a ≤ depth → expr_depth b ≤ depth → (n : ℕ) → Reaches (order.binder code seen run c want v u a b) (x.Let v u a' b', t) n
   unfolding order.binder
   binder_reaches {c = c} {want = want} {a = a} {b = b} {a' = a'} {b' = b'} {t = t} v u i j p q n =
       then_reaches (order.wanting code seen run c u a) (λ bound. run (c ++ binds v u ∷ []) want b >>= (λ r. pure (x.Let v u bound r.0, r.1))) a' (x.Let v u a' b', t) n (wanting_reaches i p n)
-          (λ n1. then_reaches (run (c ++ binds v u ∷ []) want b) (λ r. pure (x.Let v u a' r.0, r.1)) (b', t) (x.Let v u a' b', t) n1 (go _ _ _ _ _ j q n1) (λ n2. (n2, refl)))
+      (λ n1. then_reaches (run (c ++ binds v u ∷ []) want b) (λ r. pure (x.Let v u a' r.0, r.1)) (b', t) (x.Let v u a' b', t) n1 (go _ _ _ _ _ j q n1) (λ n2. (n2, refl)))
 
   sequence_reaches : {c : Ctx} {want : Option Ty} {a b a' b' : Expr} {t : Ty} → Becomes code seen c (Some ty.Unit) a a' ty.Unit → Becomes code seen c want b b' t → expr_depth a ≤ depth → expr_depth b ≤ depth → (n : ℕ) → Reaches (order.sequence code seen run c want a b) (x.Then a' b', t) n
   unfolding order.sequence
   sequence_reaches {c = c} {want = want} {a = a} {b = b} {a' = a'} {b' = b'} {t = t} i j p q n =
       then_reaches (order.wanting code seen run c ty.Unit a) (λ first. run c want b >>= (λ r. pure (x.Then first r.0, r.1))) a' (x.Then a' b', t) n (wanting_reaches i p n)
-          (λ n1. then_reaches (run c want b) (λ r. pure (x.Then a' r.0, r.1)) (b', t) (x.Then a' b', t) n1 (go _ _ _ _ _ j q n1) (λ n2. (n2, refl)))
+      (λ n1. then_reaches (run c want b) (λ r. pure (x.Then a' r.0, r.1)) (b', t) (x.Then a' b', t) n1 (go _ _ _ _ _ j q n1) (λ n2. (n2, refl)))
 
   -- the last part, of which a type is wanted, and the answer that ends the form
   last_reaches : (c : Ctx) (want : Option Ty) (b b' : Expr) (v : Ty) (at : ℕ) (t : Ty) (whole : Expr → Expr) → Becomes code seen c (Some v) b b' v → expr_depth b ≤ depth → Suits want t → (n : ℕ) → Reaches (order.wanting code seen run c v b >>= (λ q. settled at want (whole q) t)) (whole b', t) n
@@ -189,14 +189,14 @@ module _ (code : Program) (seen depth : ℕ) (run : Ctx → Option Ty → Expr �
   unfolding order.neighbour
   neighbour_reaches c want a h m d a' h' m' d' at i j k l u v w y s n =
       then_reaches (order.wanting code seen run c ty.Chunk a) (λ p. order.wanting code seen run c ty.Host h >>= (λ q. order.wanting code seen run c ty.Int m >>= (λ s. order.wanting code seen run c ty.Dev d >>= (λ t. settled at want (x.OnNeighbor p q s t) ty.Unit)))) a' (x.OnNeighbor a' h' m' d', ty.Unit) n (wanting_reaches i u n)
-          (λ n1. then_reaches (order.wanting code seen run c ty.Host h) (λ q. order.wanting code seen run c ty.Int m >>= (λ s. order.wanting code seen run c ty.Dev d >>= (λ t. settled at want (x.OnNeighbor a' q s t) ty.Unit))) h' (x.OnNeighbor a' h' m' d', ty.Unit) n1 (wanting_reaches j v n1) (λ n2. two_reach _ _ _ _ _ _ _ _ at ty.Unit (λ s t. x.OnNeighbor a' h' s t) k l w y s n2))
+      (λ n1. then_reaches (order.wanting code seen run c ty.Host h) (λ q. order.wanting code seen run c ty.Int m >>= (λ s. order.wanting code seen run c ty.Dev d >>= (λ t. settled at want (x.OnNeighbor a' q s t) ty.Unit))) h' (x.OnNeighbor a' h' m' d', ty.Unit) n1 (wanting_reaches j v n1) (λ n2. two_reach _ _ _ _ _ _ _ _ at ty.Unit (λ s t. x.OnNeighbor a' h' s t) k l w y s n2))
 
   handling_reaches : {c : Ctx} {want : Option Ty} {a a' : Expr} {t : Ty} {ks hs : List Clause} (at : ℕ) → Becomes code seen c want a a' t → ClausesBecome code seen c t ks hs → expr_depth a ≤ depth → fold (λ m k. max m (clause_depth k)) 0 ks ≤ depth → (n : ℕ) → Reaches (order.handling code seen run c at want a ks) (x.Try a' hs, t) n
   unfolding order.handling
   handling_reaches {c = c} {want = want} {a = a} {a' = a'} {t = t} {ks = ks} {hs = hs} at i j u v n =
       else_reaches (list_any (λ k. not (may_catch code k.name)) ks) (refuse (fault.UnknownName (place.Node at))) (run c want a >>= (λ r. order.clauses_from code seen run [] c r.1 ks >>= (λ handlers. pure (x.Try r.0 handlers, r.1)))) (x.Try a' hs, t) n (none_unknown j)
-          (then_reaches (run c want a) (λ r. order.clauses_from code seen run [] c r.1 ks >>= (λ handlers. pure (x.Try r.0 handlers, r.1))) (a', t) (x.Try a' hs, t) n (go _ _ _ _ _ i u n)
-              (λ n1. then_reaches (order.clauses_from code seen run [] c t ks) (λ handlers. pure (x.Try a' handlers, t)) hs (x.Try a' hs, t) n1 (clauses_reach j 0 v [] n1) (λ n2. (n2, refl))))
+      (then_reaches (run c want a) (λ r. order.clauses_from code seen run [] c r.1 ks >>= (λ handlers. pure (x.Try r.0 handlers, r.1))) (a', t) (x.Try a' hs, t) n (go _ _ _ _ _ i u n)
+      (λ n1. then_reaches (order.clauses_from code seen run [] c t ks) (λ handlers. pure (x.Try a' handlers, t)) hs (x.Try a' hs, t) n1 (clauses_reach j 0 v [] n1) (λ n2. (n2, refl))))
 
   calculation_reaches : (c : Ctx) (want : Option Ty) (a b a' b' : Expr) (at : ℕ) (o : Op) → Becomes code seen c (Some ty.Int) a a' ty.Int → Becomes code seen c (Some ty.Int) b b' ty.Int → expr_depth a ≤ depth → expr_depth b ≤ depth → Suits want ty.Int → (n : ℕ) → Reaches (order.calculation code seen run c at want o a b) (x.Binary o a' b', ty.Int) n
   unfolding order.calculation
@@ -206,7 +206,7 @@ module _ (code : Program) (seen depth : ℕ) (run : Ctx → Option Ty → Expr �
   unfolding order.join
   join_reaches c want a b a' b' t at o i w j u v s n =
       then_reaches (run c None a) (λ r. if is_joined r.1 then order.wanting code seen run c r.1 b >>= (λ q. settled at want (x.Binary o r.0 q) r.1) else refuse (fault.WrongShape (place.Node at))) (a', t) (x.Binary o a' b', t) n (go _ _ _ _ _ i u n)
-          (λ k. if_reaches (is_joined t) (order.wanting code seen run c t b >>= (λ q. settled at want (x.Binary o a' q) t)) (refuse (fault.WrongShape (place.Node at))) (x.Binary o a' b', t) k w (last_reaches _ _ _ _ _ at t (λ q. x.Binary o a' q) j v s k))
+      (λ k. if_reaches (is_joined t) (order.wanting code seen run c t b >>= (λ q. settled at want (x.Binary o a' q) t)) (refuse (fault.WrongShape (place.Node at))) (x.Binary o a' b', t) k w (last_reaches _ _ _ _ _ at t (λ q. x.Binary o a' q) j v s k))
 
   comparison_reaches : (c : Ctx) (want : Option Ty) (a b a' b' : Expr) (t : Ty) (at : ℕ) (o : Op) → Becomes code seen c None a a' t → Becomes code seen c (Some t) b b' t → expr_depth a ≤ depth → expr_depth b ≤ depth → Suits want ty.Bool → (n : ℕ) → Reaches (order.comparison code seen run c at want o a b) (x.Binary o a' b', ty.Bool) n
   unfolding order.comparison
@@ -217,47 +217,48 @@ module _ (code : Program) (seen depth : ℕ) (run : Ctx → Option Ty → Expr �
   unfolding order.order
   order_reaches c want a b a' b' t at o i w j u v s n =
       then_reaches (run c None a) (λ r. if is_ordered r.1 then order.wanting code seen run c r.1 b >>= (λ q. settled at want (x.Binary o r.0 q) ty.Bool) else refuse (fault.WrongShape (place.Node at))) (a', t) (x.Binary o a' b', ty.Bool) n (go _ _ _ _ _ i u n)
-          (λ k. if_reaches (is_ordered t) (order.wanting code seen run c t b >>= (λ q. settled at want (x.Binary o a' q) ty.Bool)) (refuse (fault.WrongShape (place.Node at))) (x.Binary o a' b', ty.Bool) k w (last_reaches _ _ _ _ _ at ty.Bool (λ q. x.Binary o a' q) j v s k))
+      (λ k. if_reaches (is_ordered t) (order.wanting code seen run c t b >>= (λ q. settled at want (x.Binary o a' q) ty.Bool)) (refuse (fault.WrongShape (place.Node at))) (x.Binary o a' b', ty.Bool) k w (last_reaches _ _ _ _ _ at ty.Bool (λ q. x.Binary o a' q) j v s k))
 
   prefix_reaches : (c : Ctx) (want : Option Ty) (a b a' b' : Expr) (u : Ty) (at : ℕ) (o : Op) → Becomes code seen c (option_and_then items_of want) a a' u → Becomes code seen c (Some (ty.List u)) b b' (ty.List u) → expr_depth a ≤ depth → expr_depth b ≤ depth → IsShallow (ty.List u) → Suits want (ty.List u) → (n : ℕ) → Reaches (order.prefix code seen run c at want o a b) (x.Binary o a' b', ty.List u) n
   unfolding order.prefix
   prefix_reaches c want a b a' b' u at o i j p q w s n =
       then_reaches (run c (option_and_then items_of want) a) (λ r. order.wanting code seen run c (ty.List r.1) b >>= (λ q. shallow at want (x.Binary o r.0 q) (ty.List r.1))) (a', u) (x.Binary o a' b', ty.List u) n (go _ _ _ _ _ i p n)
-          (λ n1. then_reaches (order.wanting code seen run c (ty.List u) b) (λ q. shallow at want (x.Binary o a' q) (ty.List u)) b' (x.Binary o a' b', ty.List u) n1 (wanting_reaches j q n1) (λ n2. shallow_reaches at n2 want (x.Binary o a' b') (ty.List u) w s))
+      (λ n1. then_reaches (order.wanting code seen run c (ty.List u) b) (λ q. shallow at want (x.Binary o a' q) (ty.List u)) b' (x.Binary o a' b', ty.List u) n1 (wanting_reaches j q n1) (λ n2. shallow_reaches at n2 want (x.Binary o a' b') (ty.List u) w s))
 
   folding_reaches : (at : ℕ) (f : Name) (g : Fun) (t u : Ty) → earlier code seen f ≡ Some g → param_types g.params ≡ t ∷ u ∷ [] → (n : ℕ) → Reaches (order.folding code seen run at f) (t, u, g.result) n
   unfolding order.folding
   folding_reaches at f g t u e p n =
       known_reaches (earlier code seen f) (not_earlier code f at) (λ g. or_refuse (pair_of g.params) (fault.Arity (place.Node at)) >>= (λ p. pure (p.0, p.1, g.result))) g (t, u, g.result) n e
-          (known_reaches (pair_of g.params) (fault.Arity (place.Node at)) (λ p. pure (p.0, p.1, g.result)) (t, u) (t, u, g.result) n (pair_params g.params t u p) (n, refl))
+      (known_reaches (pair_of g.params) (fault.Arity (place.Node at)) (λ p. pure (p.0, p.1, g.result)) (t, u) (t, u, g.result) n (pair_params g.params t u p) (n, refl))
 
   fold_left_reaches : (c : Ctx) (want : Option Ty) (a l a' l' : Expr) (t u : Ty) (at : ℕ) (f : Name) (g : Fun) → earlier code seen f ≡ Some g → param_types g.params ≡ t ∷ u ∷ [] → g.result ≡ t → Becomes code seen c (Some t) a a' t → Becomes code seen c (Some (ty.List u)) l l' (ty.List u) → expr_depth a ≤ depth → expr_depth l ≤ depth → Suits want t → (n : ℕ) → Reaches (order.fold_left code seen run c at want f a l) (x.Foldl f a' l', t) n
   unfolding order.fold_left
   fold_left_reaches c want a l a' l' t u at f g e p r i j v w s n =
       then_reaches (order.folding code seen run at f) (λ d. order.wanting code seen run c d.0 a >>= (λ start. order.wanting code seen run c (ty.List d.1) l >>= (λ items. if same_type d.2 d.0 then settled at want (x.Foldl f start items) d.0 else refuse (fault.WrongShape (place.Node at))))) (t, u, g.result) (x.Foldl f a' l', t) n (folding_reaches at f g t u e p n)
-          (λ n1. then_reaches (order.wanting code seen run c t a) (λ start. order.wanting code seen run c (ty.List u) l >>= (λ items. if same_type g.result t then settled at want (x.Foldl f start items) t else refuse (fault.WrongShape (place.Node at)))) a' (x.Foldl f a' l', t) n1 (wanting_reaches i v n1)
-              (λ n2. then_reaches (order.wanting code seen run c (ty.List u) l) (λ items. if same_type g.result t then settled at want (x.Foldl f a' items) t else refuse (fault.WrongShape (place.Node at))) l' (x.Foldl f a' l', t) n2 (wanting_reaches j w n2)
-                  (λ n3. if_reaches (same_type g.result t) (settled at want (x.Foldl f a' l') t) (refuse (fault.WrongShape (place.Node at))) (x.Foldl f a' l', t) n3 (same_type_of g.result t r) (settled_reaches at n3 want (x.Foldl f a' l') t s))))
+      (λ n1. then_reaches (order.wanting code seen run c t a) (λ start. order.wanting code seen run c (ty.List u) l >>= (λ items. if same_type g.result t then settled at want (x.Foldl f start items) t else refuse (fault.WrongShape (place.Node at)))) a' (x.Foldl f a' l', t) n1 (wanting_reaches i v n1)
+      (λ n2. then_reaches (order.wanting code seen run c (ty.List u) l) (λ items. if same_type g.result t then settled at want (x.Foldl f a' items) t else refuse (fault.WrongShape (place.Node at))) l' (x.Foldl f a' l', t) n2 (wanting_reaches j w n2)
+      (λ n3. if_reaches (same_type g.result t) (settled at want (x.Foldl f a' l') t) (refuse (fault.WrongShape (place.Node at))) (x.Foldl f a' l', t) n3 (same_type_of g.result t r) (settled_reaches at n3 want (x.Foldl f a' l') t s))))
 
   fold_right_reaches : (c : Ctx) (want : Option Ty) (a l a' l' : Expr) (t u : Ty) (at : ℕ) (f : Name) (g : Fun) → earlier code seen f ≡ Some g → param_types g.params ≡ u ∷ t ∷ [] → g.result ≡ t → Becomes code seen c (Some t) a a' t → Becomes code seen c (Some (ty.List u)) l l' (ty.List u) → expr_depth a ≤ depth → expr_depth l ≤ depth → Suits want t → (n : ℕ) → Reaches (order.fold_right code seen run c at want f a l) (x.Foldr f a' l', t) n
   unfolding order.fold_right
   fold_right_reaches c want a l a' l' t u at f g e p r i j v w s n =
       then_reaches (order.folding code seen run at f) (λ d. order.wanting code seen run c d.1 a >>= (λ start. order.wanting code seen run c (ty.List d.0) l >>= (λ items. if same_type d.2 d.1 then settled at want (x.Foldr f start items) d.1 else refuse (fault.WrongShape (place.Node at))))) (u, t, g.result) (x.Foldr f a' l', t) n (folding_reaches at f g u t e p n)
-          (λ n1. then_reaches (order.wanting code seen run c t a) (λ start. order.wanting code seen run c (ty.List u) l >>= (λ items. if same_type g.result t then settled at want (x.Foldr f start items) t else refuse (fault.WrongShape (place.Node at)))) a' (x.Foldr f a' l', t) n1 (wanting_reaches i v n1)
-              (λ n2. then_reaches (order.wanting code seen run c (ty.List u) l) (λ items. if same_type g.result t then settled at want (x.Foldr f a' items) t else refuse (fault.WrongShape (place.Node at))) l' (x.Foldr f a' l', t) n2 (wanting_reaches j w n2)
-                  (λ n3. if_reaches (same_type g.result t) (settled at want (x.Foldr f a' l') t) (refuse (fault.WrongShape (place.Node at))) (x.Foldr f a' l', t) n3 (same_type_of g.result t r) (settled_reaches at n3 want (x.Foldr f a' l') t s))))
+      (λ n1. then_reaches (order.wanting code seen run c t a) (λ start. order.wanting code seen run c (ty.List u) l >>= (λ items. if same_type g.result t then settled at want (x.Foldr f start items) t else refuse (fault.WrongShape (place.Node at)))) a' (x.Foldr f a' l', t) n1 (wanting_reaches i v n1)
+      (λ n2. then_reaches (order.wanting code seen run c (ty.List u) l) (λ items. if same_type g.result t then settled at want (x.Foldr f a' items) t else refuse (fault.WrongShape (place.Node at))) l' (x.Foldr f a' l', t) n2 (wanting_reaches j w n2)
+      (λ n3. if_reaches (same_type g.result t) (settled at want (x.Foldr f a' l') t) (refuse (fault.WrongShape (place.Node at))) (x.Foldr f a' l', t) n3 (same_type_of g.result t r) (settled_reaches at n3 want (x.Foldr f a' l') t s))))
 
   packing_reaches : (c : Ctx) (want : Option Ty) (ds es : List Expr) (at : ℕ) (f : Name) (g : Fun) → fun_of code f ≡ Some g → PartsBecome code seen c (Some (param_types g.params)) 0 ds es (param_types g.params) → fold (λ m d. max m (expr_depth d)) 0 ds ≤ depth → Suits want ty.Chunk → (n : ℕ) → Reaches (order.packing code seen run c at want f ds) (x.ChunkOf f es, ty.Chunk) n
   unfolding order.packing
   packing_reaches c want ds es at f g e b h s n =
       known_reaches (fun_of code f) (fault.UnknownName (place.Node at)) (λ g. order.arguments code seen run c at (param_types g.params) ds >>= (λ given. settled at want (x.ChunkOf f given) ty.Chunk)) g (x.ChunkOf f es, ty.Chunk) n e
-          (then_reaches (order.arguments code seen run c at (param_types g.params) ds) (λ given. settled at want (x.ChunkOf f given) ty.Chunk) es (x.ChunkOf f es, ty.Chunk) n (arguments_reach at b h n) (λ k. settled_reaches at k want (x.ChunkOf f es) ty.Chunk s))
+      (then_reaches (order.arguments code seen run c at (param_types g.params) ds) (λ given. settled at want (x.ChunkOf f given) ty.Chunk) es (x.ChunkOf f es, ty.Chunk) n (arguments_reach at b h n) (λ k. settled_reaches at k want (x.ChunkOf f es) ty.Chunk s))
 
   literal_reaches : (c : Ctx) (want : Option Ty) (d : Expr) (t : Ty) (at : ℕ) (l : ExprLayer) → literal_type l ≡ Some t → Suits want t → (n : ℕ) → Reaches (order.opened code seen run c at want d l) (d, t) n
   literal_reaches c want d t at l h s n = by_layer l h
     where
       as_type : (u : Ty) → Some u ≡ Some t → Reaches (settled at want d u) (d, t) n
       as_type u e = let q : u ≡ t = cc in subst (λ z. Reaches (settled at want d z) (d, t) n) (sym q) (settled_reaches at n want d t s)
+
       by_layer : (l : ExprLayer) → literal_type l ≡ Some t → Reaches (order.opened code seen run c at want d l) (d, t) n
       by_layer Expr-F.Unit e = as_type ty.Unit e
       by_layer (Expr-F.Bool b) e = as_type ty.Bool e
@@ -277,7 +278,7 @@ module _ (code : Program) (seen depth : ℕ) (run : Ctx → Option Ty → Expr �
   unfolding order.empty
   empty_filled_reaches want d at u w e n =
       known_reaches (option_and_then items_of want) (fault.NeedsType (place.Node at)) (λ u. shallow at want (x.Nil (Some u)) (ty.List u)) u (x.Nil (Some u), ty.List u) n
-          (ap (option_and_then items_of) e ∙ ap order.items_of_layer (made.outs-List u)) (shallow_reaches at n want (x.Nil (Some u)) (ty.List u) w (wanted_suits e))
+      (ap (option_and_then items_of) e ∙ ap order.items_of_layer (made.outs-List u)) (shallow_reaches at n want (x.Nil (Some u)) (ty.List u) w (wanted_suits e))
 
   raising_reaches : (want : Option Ty) (d : Expr) (at : ℕ) (v : Name) (t : Ty) → is_exception code v ≡ true → IsShallow t → Suits want t → (n : ℕ) → Reaches (order.raising code at want d v (Some t)) (d, t) n
   unfolding order.raising
@@ -287,7 +288,7 @@ module _ (code : Program) (seen depth : ℕ) (run : Ctx → Option Ty → Expr �
   unfolding order.raising
   raising_filled_reaches want d at v t k w e n =
       if_reaches (is_exception code v) (or_refuse want (fault.NeedsType (place.Node at)) >>= (λ t. shallow at want (x.Raise v (Some t)) t)) (refuse (fault.UnknownName (place.Node at))) (x.Raise v (Some t), t) n k
-          (known_reaches want (fault.NeedsType (place.Node at)) (λ t. shallow at want (x.Raise v (Some t)) t) t (x.Raise v (Some t), t) n e (shallow_reaches at n want (x.Raise v (Some t)) t w (wanted_suits e)))
+      (known_reaches want (fault.NeedsType (place.Node at)) (λ t. shallow at want (x.Raise v (Some t)) t) t (x.Raise v (Some t), t) n e (shallow_reaches at n want (x.Raise v (Some t)) t w (wanted_suits e)))
 
   variable_reaches : (c : Ctx) (want : Option Ty) (d : Expr) (t : Ty) (at : ℕ) (v : Name) → binding v c ≡ Some t → Suits want t → (n : ℕ) → Reaches (order.variable c at want d v) (d, t) n
   unfolding order.variable
@@ -324,8 +325,8 @@ module _ (code : Program) (seen depth : ℕ) (run : Ctx → Option Ty → Expr �
   at_level : (c : Ctx) (want : Option Ty) (d e e0 : Expr) (t t0 : Ty) (at n : ℕ) (l : ExprLayer) → out-Expr d ≡ l → e ≡ e0 → t ≡ t0 → Reaches (order.opened code seen run c at want d l) (e0, t0) n → Reaches (order.opened code seen run c at want d (out-Expr d)) (e, t) n
   at_level c want d e e0 t t0 at n l o p q r =
       subst (λ z. Reaches (order.opened code seen run c at want d z) (e, t) n) (sym o)
-          (subst (λ z. Reaches (order.opened code seen run c at want d l) (z, t) n) (sym p)
-              (subst (λ z. Reaches (order.opened code seen run c at want d l) (e0, z) n) (sym q) r))
+      (subst (λ z. Reaches (order.opened code seen run c at want d l) (z, t) n) (sym p)
+      (subst (λ z. Reaches (order.opened code seen run c at want d l) (e0, z) n) (sym q) r))
 
   as_wanted : (want : Option Ty) (t t0 : Ty) → t ≡ t0 → Suits want t → Suits want t0
   as_wanted want _ _ q s = subst (λ z. Suits want z) q s

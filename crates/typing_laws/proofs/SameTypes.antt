@@ -1,12 +1,10 @@
 -- The test whether two types are the same is right.
-use Rattle.std.proofs.Common.{◌≡◌, ℕ, zero, suc, ◌+◌, ◌<◌, ◌≤◌, ◌∙◌, sym, ap, refl, subst, Bool, true, false, ◌&&◌, max, List, [], ◌∷◌, map, arith, rules}
-use Rattle.std.proofs.lemmas.Grind.{common_steps}
+use Rattle.std.proofs.Common.{◌≡◌, ℕ, zero, suc, ◌≤◌, ◌∙◌, sym, ap, refl, Bool, true, false, ◌&&◌, max, List, [], ◌∷◌, map, arith}
 use Rattle.std.specs.List.{fold}
 use Rattle.std.specs.Prelude.{IsTrue, ◌↔◌}
 use Rattle.plan_base.specs.declared.tree.Ty.{Ty, Ty-F, out-Ty, roll-Ty, roll-out-Ty, map-Ty, fold_out-Ty}
-use Rattle.plan_base.specs.declared.tree.Ty as ty
 use Rattle.plan_base.specs.Trees.{TyLayer}
-use Rattle.plan_base.specs.Sizes.{type_depth, type_depth_level, largest_by}
+use Rattle.plan_base.specs.Sizes.{type_depth, type_depth_level}
 use Rattle.plan_base.proofs.SizeLaws.{type_depth_out}
 use Rattle.plan_base.specs.TypingOrder.{same_all, same_layer, same_type}
 

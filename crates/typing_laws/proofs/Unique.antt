@@ -1,5 +1,8 @@
 -- An expression has at most one type.
-use Rattle.std.proofs.Common.{◌≡◌, ℕ, ◌≤◌, arith, None}
+use Rattle.std.proofs.Common.{◌≡◌, ◌∙◌, sym, ap, ℕ, arith, None}
+use Rattle.std.specs.Prelude.{Result, Ok, Err}
+use Rattle.plan_base.specs.declared.type_fault.TypeFault.{TypeFault}
+use Rattle.plan_base.specs.TypingOrder.{Found}
 use Rattle.plan_base.specs.declared.tree.Ty.{Ty}
 use Rattle.plan_base.specs.declared.tree.Expr.{Expr}
 use Rattle.plan_base.specs.declared.tree.Program.{Program}
@@ -8,10 +11,13 @@ use Rattle.plan_base.specs.Typing.{Ctx, HasTy}
 use Rattle.typing_laws.proofs.Reaches.{checked_reaches}
 use Rattle.typing_laws.proofs.Itself.{itself}
 
+type_in : Ty → Result (Found × ℕ) TypeFault → Ty
+type_in d (Ok r) = r.0.1
+type_in d (Err f) = d
+
 pub one_type : (code : Program) (seen : ℕ) (c : Ctx) (e : Expr) (t u : Ty) → HasTy code seen c e t → HasTy code seen c e u → t ≡ u
+unfolding type_in
 one_type code seen c e t u h k =
     let a = checked_reaches code (expr_depth e) seen (itself code seen h {want = None} tt) (omega arith) 0 in
     let b = checked_reaches code (expr_depth e) seen (itself code seen k {want = None} tt) (omega arith) 0 in
-    let p = a.1 in
-    let q = b.1 in
-    cc
+    sym (ap (type_in t) a.1) ∙ ap (type_in t) b.1
