@@ -31,7 +31,11 @@ pub enum Count {
 fn only(f: Family, g: Family, n: u32) -> u32
     ensures { result ≡ spec.only f g n }
 {
-    if f.source.0 == g.source.0 && f.serial == g.serial { n } else { 0 }
+    if f.source.0 == g.source.0 && f.serial == g.serial {
+        n
+    } else {
+        0
+    }
 }
 
 /// What an act counts.
@@ -106,7 +110,9 @@ fn row_of(history: &[Entry], f: Family, _world: &World) -> Row
 fn is_among(families: &[Family], f: Family) -> bool
     ensures { result ≡ list_any (spec.is_family f) families.now }
 {
-    families.iter().any(|g| f.source.0 == g.source.0 && f.serial == g.serial)
+    families
+        .iter()
+        .any(|g| f.source.0 == g.source.0 && f.serial == g.serial)
 }
 
 /// Adds the family of an injection where it is new.
@@ -136,7 +142,13 @@ fn families_of(alloc: Global, history: &[Entry]) -> Result<Items<Family>, AllocE
 
 /// A row of a ledger.
 #[tactic(auto, unfolding(world_laws::specs::Texts::row_text))]
-fn put_family_row(alloc: Global, out: &mut Bytes, history: &[Entry], world: &World, f: Family) -> Result<(), AllocError>
+fn put_family_row(
+    alloc: Global,
+    out: &mut Bytes,
+    history: &[Entry],
+    world: &World,
+    f: Family,
+) -> Result<(), AllocError>
     requires law { spec.Balanced f history.now (world_state world.now) }
     requires small { spec.granted f history.now ≤ 65535 }
     ensures { OnOk result (out.new ≡ out.old ++ row_text history.now (world_state world.now) f) }
@@ -148,7 +160,13 @@ fn put_family_row(alloc: Global, out: &mut Bytes, history: &[Entry], world: &Wor
 
 /// The rows of some families.
 #[tactic(auto, using(crate::proofs::LedgerLaws::rows_none, crate::proofs::LedgerLaws::rows_more))]
-fn put_rows(alloc: Global, out: &mut Bytes, history: &[Entry], world: &World, families: &[Family]) -> Result<(), AllocError>
+fn put_rows(
+    alloc: Global,
+    out: &mut Bytes,
+    history: &[Entry],
+    world: &World,
+    families: &[Family],
+) -> Result<(), AllocError>
     requires law { (f : FamilyOf) → spec.Balanced f history.now (world_state world.now) }
     requires small { (f : FamilyOf) → spec.granted f history.now ≤ 65535 }
     ensures { OnOk result (out.new ≡ out.old ++ rows_text history.now (world_state world.now) families.now) }
@@ -161,7 +179,12 @@ fn put_rows(alloc: Global, out: &mut Bytes, history: &[Entry], world: &World, fa
 
 /// The ledger of a history. Conditions: each family is in balance, and its injections have at most 65,535.
 #[tactic(auto, unfolding(world_laws::specs::Texts::ledger_text))]
-pub fn put_ledger(alloc: Global, out: &mut Bytes, history: &[Entry], world: &World) -> Result<(), NoMemory>
+pub fn put_ledger(
+    alloc: Global,
+    out: &mut Bytes,
+    history: &[Entry],
+    world: &World,
+) -> Result<(), NoMemory>
     requires law { (f : FamilyOf) → spec.Balanced f history.now (world_state world.now) }
     requires small { (f : FamilyOf) → spec.granted f history.now ≤ 65535 }
     ensures { OnOk result (out.new ≡ out.old ++ ledger_text history.now (world_state world.now)) }

@@ -142,20 +142,37 @@ impl Node {
             chunk: chunk.copy(alloc)?,
         };
         let first = Act::Injected(family, bound);
-        let list = visit_acts(alloc, self.here, self.neighbours.as_slice(), &mut self.queues, first, &packet)?;
+        let list = visit_acts(
+            alloc,
+            self.here,
+            self.neighbours.as_slice(),
+            &mut self.queues,
+            first,
+            &packet,
+        )?;
         self.serial += 1;
         Ok(Acts { list, frame: None })
     }
 
     /// A packet that goes on over a device.
     #[tactic(auto, unfolding(world_laws::specs::Node::forward_over))]
-    fn forward_over(&mut self, alloc: Global, dev: Dev, packet: &Packet, over: Option<Dev>) -> Result<Acts, NoMemory>
+    fn forward_over(
+        &mut self,
+        alloc: Global,
+        dev: Dev,
+        packet: &Packet,
+        over: Option<Dev>,
+    ) -> Result<Acts, NoMemory>
         ensures ok { IfOk result (λ acts. IsStep (spec.forward_over (node_state self.old) dev packet.now over) acts (node_state self.new)) }
         ensures err { OnErr result (node_state self.new ≡ node_state self.old) }
     {
         let arrived = Act::Arrived(dev);
         let Some(over) = over else {
-            let list = two_acts(alloc, arrived, Act::Dropped(Reason::NoRoute, packet.family, packet.bound))?;
+            let list = two_acts(
+                alloc,
+                arrived,
+                Act::Dropped(Reason::NoRoute, packet.family, packet.bound),
+            )?;
             return Ok(Acts { list, frame: None });
         };
         let mut list = Vec::with_capacity(alloc, 2)?;
@@ -180,11 +197,19 @@ impl Node {
     {
         let arrived = Act::Arrived(dev);
         if packet.bound == 0 {
-            let list = two_acts(alloc, arrived, Act::Dropped(Reason::NoBound, packet.family, 0))?;
+            let list = two_acts(
+                alloc,
+                arrived,
+                Act::Dropped(Reason::NoBound, packet.family, 0),
+            )?;
             return Ok(Acts { list, frame: None });
         }
         if !is_default_route(&packet.route) {
-            let list = two_acts(alloc, arrived, Act::Dropped(Reason::NoService, packet.family, packet.bound))?;
+            let list = two_acts(
+                alloc,
+                arrived,
+                Act::Dropped(Reason::NoService, packet.family, packet.bound),
+            )?;
             return Ok(Acts { list, frame: None });
         }
         let over = route_to(self.neighbours.as_slice(), packet.dest);
@@ -201,7 +226,14 @@ impl Node {
             return self.forward(alloc, dev, packet);
         }
         let first = Act::Arrived(dev);
-        let list = visit_acts(alloc, self.here, self.neighbours.as_slice(), &mut self.queues, first, packet)?;
+        let list = visit_acts(
+            alloc,
+            self.here,
+            self.neighbours.as_slice(),
+            &mut self.queues,
+            first,
+            packet,
+        )?;
         Ok(Acts { list, frame: None })
     }
 

@@ -64,15 +64,7 @@ pub fn send_one(queues: &mut [Queue<Packet>], sent: Sent) -> Act
 }
 
 /// Makes the sends one after the other, and adds their acts. Takes no memory.
-#[tactic(
-    auto,
-    using(
-        crate::proofs::SendLaws::sends_acts_none,
-        crate::proofs::SendLaws::sends_queues_none,
-        crate::proofs::SendLaws::sends_acts_more,
-        crate::proofs::SendLaws::sends_queues_more
-    )
-)]
+#[tactic(auto, using(crate::proofs::SendLaws::sends_acts_none, crate::proofs::SendLaws::sends_queues_none, crate::proofs::SendLaws::sends_acts_more, crate::proofs::SendLaws::sends_queues_more))]
 fn send_all(acts: &mut Vec<Act>, queues: &mut [Queue<Packet>], outbox: Outbox)
     requires { vec_len acts.old + length outbox ≤ vec_capacity acts.old }
     ensures acts { acts.new.items ≡ acts.old.items ++ spec.sends_acts queues.old outbox }
@@ -95,7 +87,13 @@ fn note_all(acts: &mut Vec<Act>, notes: Notes) -> Result<(), AllocError>
 }
 
 /// What a step lists: an act, the notes of a visit and its end, with room for its sends.
-fn begin_acts(alloc: Global, first: Act, notes: Notes, end: Act, sends: usize) -> Result<Vec<Act>, AllocError>
+fn begin_acts(
+    alloc: Global,
+    first: Act,
+    notes: Notes,
+    end: Act,
+    sends: usize,
+) -> Result<Vec<Act>, AllocError>
     ensures acts { IfOk result (λ acts. acts.items ≡ (first ∷ []) ++ (map Noted notes ++ end ∷ [])) }
     ensures room { IfOk result (λ acts. vec_len acts + sends ≤ vec_capacity acts) }
 {

@@ -46,10 +46,7 @@ impl From<NoMemory> for Stop {
 }
 
 /// The name of the one routing function.
-#[tactic(
-    auto,
-    unfolding(plan_base::specs::Words::is_name, plan_base::specs::Words::is_word, plan_base::specs::Words::is_reserved)
-)]
+#[tactic(auto, unfolding(plan_base::specs::Words::is_name, plan_base::specs::Words::is_word, plan_base::specs::Words::is_reserved))]
 pub fn default_route(alloc: Global) -> Result<Name, NoMemory>
     ensures { IfOk result (λ n. n ≡ spec.default_route) }
 {
@@ -57,10 +54,7 @@ pub fn default_route(alloc: Global) -> Result<Name, NoMemory>
 }
 
 /// The exception of a bound that can't be paid.
-#[tactic(
-    auto,
-    unfolding(plan_base::specs::Words::is_name, plan_base::specs::Words::is_word, plan_base::specs::Words::is_reserved)
-)]
+#[tactic(auto, unfolding(plan_base::specs::Words::is_name, plan_base::specs::Words::is_word, plan_base::specs::Words::is_reserved))]
 fn no_bound(alloc: Global) -> Result<Exn, NoMemory>
     ensures { IfOk result (λ x. x.0 ≡ codes "NoBound") }
 {
@@ -68,10 +62,7 @@ fn no_bound(alloc: Global) -> Result<Exn, NoMemory>
 }
 
 /// The exception of a host that is no neighbour.
-#[tactic(
-    auto,
-    unfolding(plan_base::specs::Words::is_name, plan_base::specs::Words::is_word, plan_base::specs::Words::is_reserved)
-)]
+#[tactic(auto, unfolding(plan_base::specs::Words::is_name, plan_base::specs::Words::is_word, plan_base::specs::Words::is_reserved))]
 fn not_neighbor(alloc: Global) -> Result<Exn, NoMemory>
     ensures { IfOk result (λ x. x.0 ≡ codes "NotNeighbor") }
 {
@@ -82,7 +73,9 @@ fn not_neighbor(alloc: Global) -> Result<Exn, NoMemory>
 fn is_linked(links: &[(Host, Dev)], host: Host, dev: Dev) -> bool
     ensures { result ≡ list_any (spec.is_link host dev) links.now }
 {
-    links.iter().any(|link| link.0.0 == host.0 && link.1.0 == dev.0)
+    links
+        .iter()
+        .any(|link| link.0.0 == host.0 && link.1.0 == dev.0)
 }
 
 /// Whether `host` is the neighbour on `dev`, or `dev` is 0 and `host` is here.
@@ -181,7 +174,9 @@ fn send_form(
     let Expr::Dev(dev) = dev else {
         return Err(Stop::Outside);
     };
-    send(alloc, here, links, packet, entry, *host, *bound, *dev, doing)
+    send(
+        alloc, here, links, packet, entry, *host, *bound, *dev, doing,
+    )
 }
 
 /// Notes a printed text.
@@ -272,12 +267,24 @@ fn entry_place(packet: &Packet) -> Option<usize>
     ensures { result ≡ position (λ f. bytes_eq f.name packet.now.chunk.entry) packet.now.chunk.code.funs }
 {
     let entry = packet.chunk.entry.as_slice();
-    packet.chunk.code.funs.as_slice().iter().position(|f| f.name.as_slice() == entry)
+    packet
+        .chunk
+        .code
+        .funs
+        .as_slice()
+        .iter()
+        .position(|f| f.name.as_slice() == entry)
 }
 
 /// The run of the packet's entry.
 #[tactic(auto, unfolding(world_laws::specs::SmallVisit::entry_run))]
-fn entry_run(alloc: Global, here: Host, links: &[(Host, Dev)], packet: &Packet, doing: &mut Doing) -> Result<(), Stop>
+fn entry_run(
+    alloc: Global,
+    here: Host,
+    links: &[(Host, Dev)],
+    packet: &Packet,
+    doing: &mut Doing,
+) -> Result<(), Stop>
     ensures { Meets (spec.entry_run here links.now packet.now doing.old) result doing.new }
 {
     let Some(at) = entry_place(packet) else {
@@ -295,7 +302,12 @@ fn entry_run(alloc: Global, here: Host, links: &[(Host, Dev)], packet: &Packet, 
 /// The visit of a packet of a small program at a host with these neighbours. A program outside the
 /// small form is answered as one that has spent its work.
 #[tactic(auto, unfolding(world_laws::specs::SmallVisit::visit_of))]
-pub fn visit_packet(alloc: Global, here: Host, links: &[(Host, Dev)], packet: &Packet) -> Result<Visit, NoMemory>
+pub fn visit_packet(
+    alloc: Global,
+    here: Host,
+    links: &[(Host, Dev)],
+    packet: &Packet,
+) -> Result<Visit, NoMemory>
     ensures { IfOk result (λ v. v ≡ spec.visit_of here links.now packet.now) }
 {
     let mut doing = Doing {
@@ -309,7 +321,11 @@ pub fn visit_packet(alloc: Global, here: Host, links: &[(Host, Dev)], packet: &P
         Err(Stop::NoMemory) => return Err(NoMemory),
         Err(Stop::Outside) => return Ok(spent_visit(alloc, packet.bound)),
     };
-    let Doing { purse, outbox, notes } = doing;
+    let Doing {
+        purse,
+        outbox,
+        notes,
+    } = doing;
     Ok(Visit {
         outcome,
         evals: 0,

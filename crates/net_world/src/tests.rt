@@ -1,6 +1,8 @@
 use crate::{RunFault, run};
 use node_io::MemSink;
-use plan_base::{Chunk, Dev, Expr, Exprs, Fun, Funs, Host, Name, Names, Program, Svc, Svcs, Text, Ty};
+use plan_base::{
+    Chunk, Dev, Expr, Exprs, Fun, Funs, Host, Name, Names, Program, Svc, Svcs, Text, Ty,
+};
 use plan_items::{Boxed, Items};
 use schedule_text::{HostSpec, Schedule, Topology, WorldEvent, WorldEvents};
 use std::alloc::Global;
@@ -108,7 +110,8 @@ fn first_run(rt: HostRuntime) -> Result<(), Fail> {
     events.add(WorldEvent::Send(Host(1), Dev(1)))?;
     events.add(WorldEvent::Deliver(1))?;
     let text = written(alloc, events)?;
-    let wanted = "planet trace 1\n1 inject @1 1.1 bound 5\n1 print @1 \"go\"\n1 value @1 1.1 () evals 0 left 3\n1 queue @1 %1 1.1 bound 1\n2 send @1 %1 1.1\n2 wire 1\n3 off 1\n3 arrive @2 %1\n3 print @2 \"hi\"\n3 value @2 1.1 () evals 0 left 1\nledger\n1.1 granted 5 hops 1 evals 0 live 0 left 4\nend\n";
+    let wanted =
+        "planet trace 1\n1 inject @1 1.1 bound 5\n1 print @1 \"go\"\n1 value @1 1.1 () evals 0 left 3\n1 queue @1 %1 1.1 bound 1\n2 send @1 %1 1.1\n2 wire 1\n3 off 1\n3 arrive @2 %1\n3 print @2 \"hi\"\n3 value @2 1.1 () evals 0 left 1\nledger\n1.1 granted 5 hops 1 evals 0 live 0 left 4\nend\n";
     assert_eq!(rt; text.as_slice(), wanted.as_bytes());
     Ok(())
 }
@@ -121,7 +124,8 @@ fn first_run_lost(rt: HostRuntime) -> Result<(), Fail> {
     events.add(WorldEvent::Send(Host(1), Dev(1)))?;
     events.add(WorldEvent::Lose(1))?;
     let text = written(alloc, events)?;
-    let wanted = "planet trace 1\n1 inject @1 1.1 bound 5\n1 print @1 \"go\"\n1 value @1 1.1 () evals 0 left 3\n1 queue @1 %1 1.1 bound 1\n2 send @1 %1 1.1\n2 wire 1\n3 off 1\n3 lost 1.1 bound 1\nledger\n1.1 granted 5 hops 1 evals 0 live 0 left 4\nend\n";
+    let wanted =
+        "planet trace 1\n1 inject @1 1.1 bound 5\n1 print @1 \"go\"\n1 value @1 1.1 () evals 0 left 3\n1 queue @1 %1 1.1 bound 1\n2 send @1 %1 1.1\n2 wire 1\n3 off 1\n3 lost 1.1 bound 1\nledger\n1.1 granted 5 hops 1 evals 0 live 0 left 4\nend\n";
     assert_eq!(rt; text.as_slice(), wanted.as_bytes());
     Ok(())
 }
@@ -137,7 +141,8 @@ fn reordered_deliveries(rt: HostRuntime) -> Result<(), Fail> {
     events.add(WorldEvent::Deliver(2))?;
     events.add(WorldEvent::Deliver(1))?;
     let text = written(alloc, events)?;
-    let wanted = "planet trace 1\n1 inject @1 1.1 bound 5\n1 print @1 \"go\"\n1 value @1 1.1 () evals 0 left 3\n1 queue @1 %1 1.1 bound 1\n2 inject @1 1.2 bound 5\n2 print @1 \"go\"\n2 value @1 1.2 () evals 0 left 3\n2 queue @1 %1 1.2 bound 1\n3 send @1 %1 1.1\n3 wire 1\n4 send @1 %1 1.2\n4 wire 2\n5 off 2\n5 arrive @2 %1\n5 print @2 \"hi\"\n5 value @2 1.2 () evals 0 left 1\n6 off 1\n6 arrive @2 %1\n6 print @2 \"hi\"\n6 value @2 1.1 () evals 0 left 1\nledger\n1.1 granted 5 hops 1 evals 0 live 0 left 4\n1.2 granted 5 hops 1 evals 0 live 0 left 4\nend\n";
+    let wanted =
+        "planet trace 1\n1 inject @1 1.1 bound 5\n1 print @1 \"go\"\n1 value @1 1.1 () evals 0 left 3\n1 queue @1 %1 1.1 bound 1\n2 inject @1 1.2 bound 5\n2 print @1 \"go\"\n2 value @1 1.2 () evals 0 left 3\n2 queue @1 %1 1.2 bound 1\n3 send @1 %1 1.1\n3 wire 1\n4 send @1 %1 1.2\n4 wire 2\n5 off 2\n5 arrive @2 %1\n5 print @2 \"hi\"\n5 value @2 1.2 () evals 0 left 1\n6 off 1\n6 arrive @2 %1\n6 print @2 \"hi\"\n6 value @2 1.1 () evals 0 left 1\nledger\n1.1 granted 5 hops 1 evals 0 live 0 left 4\n1.2 granted 5 hops 1 evals 0 live 0 left 4\nend\n";
     assert_eq!(rt; text.as_slice(), wanted.as_bytes());
     Ok(())
 }

@@ -110,7 +110,13 @@ fn put_print(alloc: Global, out: &mut Bytes, host: Host, value: &Value) -> Resul
     Ok(())
 }
 
-fn put_port(alloc: Global, out: &mut Bytes, host: Host, port: u16, value: &Value) -> Result<(), AllocError>
+fn put_port(
+    alloc: Global,
+    out: &mut Bytes,
+    host: Host,
+    port: u16,
+    value: &Value,
+) -> Result<(), AllocError>
     ensures { OnOk result (out.new ≡ out.old ++ (spec.head_text (codes "port") host ++ (codes " " ++ (decimal port ++ (codes " " ++ spec.value_text value.now))))) }
 {
     put_head(alloc, out, b"port", host)?;
@@ -122,7 +128,15 @@ fn put_port(alloc: Global, out: &mut Bytes, host: Host, port: u16, value: &Value
 }
 
 /// The end of a visit.
-fn put_end(alloc: Global, out: &mut Bytes, host: Host, f: Family, outcome: &Outcome, evals: u32, left: u32) -> Result<(), AllocError>
+fn put_end(
+    alloc: Global,
+    out: &mut Bytes,
+    host: Host,
+    f: Family,
+    outcome: &Outcome,
+    evals: u32,
+    left: u32,
+) -> Result<(), AllocError>
     ensures { OnOk result (out.new ≡ out.old ++ spec.end_text host f outcome.now evals left) }
 {
     match outcome {
@@ -133,7 +147,15 @@ fn put_end(alloc: Global, out: &mut Bytes, host: Host, f: Family, outcome: &Outc
     Ok(())
 }
 
-fn put_ended(alloc: Global, out: &mut Bytes, host: Host, f: Family, value: &Value, evals: u32, left: u32) -> Result<(), AllocError>
+fn put_ended(
+    alloc: Global,
+    out: &mut Bytes,
+    host: Host,
+    f: Family,
+    value: &Value,
+    evals: u32,
+    left: u32,
+) -> Result<(), AllocError>
     ensures { OnOk result (out.new ≡ out.old ++ (spec.head_text (codes "value") host ++ (codes " " ++ (spec.family_text f ++ (codes " " ++ (spec.value_text value.now ++ spec.rest_text evals left)))))) }
 {
     put_head(alloc, out, b"value", host)?;
@@ -145,7 +167,15 @@ fn put_ended(alloc: Global, out: &mut Bytes, host: Host, f: Family, value: &Valu
     Ok(())
 }
 
-fn put_raised(alloc: Global, out: &mut Bytes, host: Host, f: Family, name: &[u8], evals: u32, left: u32) -> Result<(), AllocError>
+fn put_raised(
+    alloc: Global,
+    out: &mut Bytes,
+    host: Host,
+    f: Family,
+    name: &[u8],
+    evals: u32,
+    left: u32,
+) -> Result<(), AllocError>
     ensures { OnOk result (out.new ≡ out.old ++ (spec.head_text (codes "raised") host ++ (codes " " ++ (spec.family_text f ++ (codes " " ++ (name.now ++ spec.rest_text evals left)))))) }
 {
     put_head(alloc, out, b"raised", host)?;
@@ -157,7 +187,13 @@ fn put_raised(alloc: Global, out: &mut Bytes, host: Host, f: Family, name: &[u8]
     Ok(())
 }
 
-fn put_spent(alloc: Global, out: &mut Bytes, host: Host, f: Family, left: u32) -> Result<(), AllocError>
+fn put_spent(
+    alloc: Global,
+    out: &mut Bytes,
+    host: Host,
+    f: Family,
+    left: u32,
+) -> Result<(), AllocError>
     ensures { OnOk result (out.new ≡ out.old ++ (spec.head_text (codes "spent") host ++ (codes " " ++ (spec.family_text f ++ (codes " left " ++ decimal left))))) }
 {
     put_head(alloc, out, b"spent", host)?;
@@ -180,7 +216,13 @@ fn reason_word(reason: Reason) -> &'static [u8]
     }
 }
 
-fn put_injected(alloc: Global, out: &mut Bytes, host: Host, f: Family, bound: u32) -> Result<(), AllocError>
+fn put_injected(
+    alloc: Global,
+    out: &mut Bytes,
+    host: Host,
+    f: Family,
+    bound: u32,
+) -> Result<(), AllocError>
     ensures { OnOk result (out.new ≡ out.old ++ (spec.head_text (codes "inject") host ++ spec.bound_text f bound)) }
 {
     put_head(alloc, out, b"inject", host)?;
@@ -196,7 +238,14 @@ fn put_arrived(alloc: Global, out: &mut Bytes, host: Host, dev: Dev) -> Result<(
     Ok(())
 }
 
-fn put_queued(alloc: Global, out: &mut Bytes, host: Host, dev: Dev, f: Family, bound: u32) -> Result<(), AllocError>
+fn put_queued(
+    alloc: Global,
+    out: &mut Bytes,
+    host: Host,
+    dev: Dev,
+    f: Family,
+    bound: u32,
+) -> Result<(), AllocError>
     ensures { OnOk result (out.new ≡ out.old ++ (spec.head_text (codes "queue") host ++ (spec.device_text dev ++ spec.bound_text f bound))) }
 {
     put_head(alloc, out, b"queue", host)?;
@@ -205,7 +254,14 @@ fn put_queued(alloc: Global, out: &mut Bytes, host: Host, dev: Dev, f: Family, b
     Ok(())
 }
 
-fn put_dropped(alloc: Global, out: &mut Bytes, host: Host, reason: Reason, f: Family, bound: u32) -> Result<(), AllocError>
+fn put_dropped(
+    alloc: Global,
+    out: &mut Bytes,
+    host: Host,
+    reason: Reason,
+    f: Family,
+    bound: u32,
+) -> Result<(), AllocError>
     ensures { OnOk result (out.new ≡ out.old ++ (spec.head_text (codes "drop") host ++ (codes " " ++ (spec.reason_text reason ++ spec.bound_text f bound)))) }
 {
     put_head(alloc, out, b"drop", host)?;
@@ -215,7 +271,13 @@ fn put_dropped(alloc: Global, out: &mut Bytes, host: Host, reason: Reason, f: Fa
     Ok(())
 }
 
-fn put_taken(alloc: Global, out: &mut Bytes, host: Host, dev: Dev, f: Family) -> Result<(), AllocError>
+fn put_taken(
+    alloc: Global,
+    out: &mut Bytes,
+    host: Host,
+    dev: Dev,
+    f: Family,
+) -> Result<(), AllocError>
     ensures { OnOk result (out.new ≡ out.old ++ (spec.head_text (codes "send") host ++ (spec.device_text dev ++ (codes " " ++ spec.family_text f)))) }
 {
     put_head(alloc, out, b"send", host)?;
@@ -242,7 +304,9 @@ fn put_act_text(alloc: Global, out: &mut Bytes, host: Host, act: &Act) -> Result
         Act::Injected(f, bound) => put_injected(alloc, out, host, *f, *bound)?,
         Act::Arrived(dev) => put_arrived(alloc, out, host, *dev)?,
         Act::Noted(note) => put_note(alloc, out, host, note)?,
-        Act::Ended(f, outcome, evals, left) => put_end(alloc, out, host, *f, outcome, *evals, *left)?,
+        Act::Ended(f, outcome, evals, left) => put_end(
+            alloc, out, host, *f, outcome, *evals, *left,
+        )?,
         Act::Queued(dev, f, bound) => put_queued(alloc, out, host, *dev, *f, *bound)?,
         Act::Dropped(reason, f, bound) => put_dropped(alloc, out, host, *reason, *f, *bound)?,
         Act::Taken(dev, What::Packet(f, _)) => put_taken(alloc, out, host, *dev, *f)?,

@@ -88,7 +88,8 @@ fn has_end(host: Host, dev: Dev, end: Host, at: Dev) -> bool
 fn link_place(links: &[(Host, Dev, Host, Dev)], host: Host, dev: Dev) -> Option<usize>
     ensures { result ≡ position (spec.is_on host dev) links.now }
 {
-    links.iter().position(|l| (l.0.0 == host.0 && l.1.0 == dev.0) || (l.2.0 == host.0 && l.3.0 == dev.0))
+    links.iter().position(|l| (l.0.0 == host.0 && l.1.0 == dev.0)
+        || (l.2.0 == host.0 && l.3.0 == dev.0))
 }
 
 /// The end to which a link leads from a device of a host.
@@ -124,7 +125,13 @@ fn far_end(links: &[(Host, Dev, Host, Dev)], host: Host, dev: Dev) -> Option<Lin
 }
 
 /// An injection at the node at this place.
-fn inject_at(alloc: Global, nodes: &mut [Node], at: usize, chunk: &Chunk, bound: u32) -> Result<Acts, NoMemory>
+fn inject_at(
+    alloc: Global,
+    nodes: &mut [Node],
+    at: usize,
+    chunk: &Chunk,
+    bound: u32,
+) -> Result<Acts, NoMemory>
     requires { at < length nodes.old }
     ensures { IfOk result (λ acts. StepsAt (λ node. inject_step node chunk.now bound) (states nodes.old) at acts (states nodes.new)) }
 {
@@ -132,7 +139,13 @@ fn inject_at(alloc: Global, nodes: &mut [Node], at: usize, chunk: &Chunk, bound:
 }
 
 /// An arrival at the node at this place.
-fn arrive_at(alloc: Global, nodes: &mut [Node], at: usize, dev: Dev, packet: &Packet) -> Result<Acts, NoMemory>
+fn arrive_at(
+    alloc: Global,
+    nodes: &mut [Node],
+    at: usize,
+    dev: Dev,
+    packet: &Packet,
+) -> Result<Acts, NoMemory>
     requires { at < length nodes.old }
     ensures { IfOk result (λ acts. StepsAt (λ node. arrive_step node dev packet.now) (states nodes.old) at acts (states nodes.new)) }
 {
@@ -157,7 +170,12 @@ fn wire_place(wire: &[Wired], number: u32) -> Option<usize>
 }
 
 /// Adds the neighbour on a device, where there is one.
-fn add_neighbour(neighbours: &mut Neighbours, links: &[(Host, Dev, Host, Dev)], host: Host, dev: Dev) -> Result<(), NoMemory>
+fn add_neighbour(
+    neighbours: &mut Neighbours,
+    links: &[(Host, Dev, Host, Dev)],
+    host: Host,
+    dev: Dev,
+) -> Result<(), NoMemory>
     ensures { OnOk result (neighbours.new ≡ neighbours.old ++ spec.neighbour_at dev (spec.peer_of links.now host dev)) }
 {
     if let Some(far) = peer_of(links, host, dev) {
@@ -168,7 +186,11 @@ fn add_neighbour(neighbours: &mut Neighbours, links: &[(Host, Dev, Host, Dev)], 
 
 /// The neighbours of a host, by device.
 #[tactic(auto, using(crate::proofs::StateLaws::neighbours_none, crate::proofs::StateLaws::neighbours_more))]
-fn neighbours_of(alloc: Global, links: &[(Host, Dev, Host, Dev)], host: Host) -> Result<Neighbours, NoMemory>
+fn neighbours_of(
+    alloc: Global,
+    links: &[(Host, Dev, Host, Dev)],
+    host: Host,
+) -> Result<Neighbours, NoMemory>
     ensures { IfOk result (λ neighbours. neighbours ≡ spec.neighbours_to links.now host 8) }
 {
     let mut neighbours = Items::new(alloc);
@@ -203,11 +225,14 @@ impl World {
         self.made
     }
 
-    #[tactic(
-        auto,
-        unfolding(world_laws::specs::World::injects, world_laws::specs::World::inject_place, world_laws::specs::World::inject_at)
-    )]
-    fn inject(&mut self, alloc: Global, host: Host, chunk: &Chunk, bound: u32) -> Result<Lines, NoMemory>
+    #[tactic(auto, unfolding(world_laws::specs::World::injects, world_laws::specs::World::inject_place, world_laws::specs::World::inject_at))]
+    fn inject(
+        &mut self,
+        alloc: Global,
+        host: Host,
+        chunk: &Chunk,
+        bound: u32,
+    ) -> Result<Lines, NoMemory>
         ensures ok { IfOk result (λ lines. IsHappened (spec.injects (world_state self.old) host chunk.now bound) lines (world_state self.new)) }
         ensures made { self.new.made ≡ self.old.made }
     {
@@ -218,16 +243,7 @@ impl World {
         lines_at(alloc, host, acts.list)
     }
 
-    #[tactic(
-        auto,
-        unfolding(
-            world_laws::specs::World::sends,
-            world_laws::specs::World::send_place,
-            world_laws::specs::World::send_over,
-            world_laws::specs::World::send_at,
-            world_laws::specs::World::send_taken
-        )
-    )]
+    #[tactic(auto, unfolding(world_laws::specs::World::sends, world_laws::specs::World::send_place, world_laws::specs::World::send_over, world_laws::specs::World::send_at, world_laws::specs::World::send_taken))]
     fn send(&mut self, alloc: Global, host: Host, dev: Dev) -> Result<Lines, NoMemory>
         requires { self.old.next < 2 ^ 32 - 1 }
         ensures ok { IfOk result (λ lines. IsHappened (spec.sends (world_state self.old) host dev) lines (world_state self.new)) }
@@ -260,16 +276,7 @@ impl World {
         Ok(lines)
     }
 
-    #[tactic(
-        auto,
-        unfolding(
-            world_laws::specs::World::delivers,
-            world_laws::specs::World::deliver_place,
-            world_laws::specs::World::deliver_frame,
-            world_laws::specs::World::deliver_to,
-            world_laws::specs::World::deliver_at
-        )
-    )]
+    #[tactic(auto, unfolding(world_laws::specs::World::delivers, world_laws::specs::World::deliver_place, world_laws::specs::World::deliver_frame, world_laws::specs::World::deliver_to, world_laws::specs::World::deliver_at))]
     fn deliver(&mut self, alloc: Global, number: u32) -> Result<Lines, NoMemory>
         ensures ok { IfOk result (λ lines. IsHappened (spec.delivers (world_state self.old) number) lines (world_state self.new)) }
         ensures made { self.new.made ≡ self.old.made }
@@ -286,10 +293,7 @@ impl World {
         off_lines(alloc, x.number, to.host, acts.list)
     }
 
-    #[tactic(
-        auto,
-        unfolding(world_laws::specs::World::loses, world_laws::specs::World::lose_place, world_laws::specs::World::lose_frame)
-    )]
+    #[tactic(auto, unfolding(world_laws::specs::World::loses, world_laws::specs::World::lose_place, world_laws::specs::World::lose_frame))]
     fn lose(&mut self, alloc: Global, number: u32) -> Result<Lines, NoMemory>
         ensures ok { IfOk result (λ lines. IsHappened (spec.loses (world_state self.old) number) lines (world_state self.new)) }
         ensures made { self.new.made ≡ self.old.made }
@@ -335,7 +339,11 @@ impl World {
 
 /// The nodes of these hosts at the beginning.
 #[tactic(auto, using(crate::proofs::StateLaws::states_none, crate::proofs::StateLaws::states_more))]
-fn open_nodes(alloc: Global, links: &[(Host, Dev, Host, Dev)], hosts: &[HostSpec]) -> Result<Vec<Node>, NoMemory>
+fn open_nodes(
+    alloc: Global,
+    links: &[(Host, Dev, Host, Dev)],
+    hosts: &[HostSpec],
+) -> Result<Vec<Node>, NoMemory>
     ensures { IfOk result (λ nodes. states nodes.items ≡ map (spec.opening_node links.now) hosts.now) }
 {
     let mut nodes = Items::new(alloc);
@@ -347,7 +355,11 @@ fn open_nodes(alloc: Global, links: &[(Host, Dev, Host, Dev)], hosts: &[HostSpec
 
 /// The node of a host at the beginning.
 #[tactic(auto, unfolding(world_laws::specs::World::opening_node))]
-fn open_node(alloc: Global, links: &[(Host, Dev, Host, Dev)], host: &HostSpec) -> Result<Node, NoMemory>
+fn open_node(
+    alloc: Global,
+    links: &[(Host, Dev, Host, Dev)],
+    host: &HostSpec,
+) -> Result<Node, NoMemory>
     ensures { IfOk result (λ node. node_state node ≡ spec.opening_node links.now host.now) }
 {
     let neighbours = neighbours_of(alloc, links, host.host)?;

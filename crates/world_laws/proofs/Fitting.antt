@@ -141,8 +141,12 @@ inject_at_fits : (w : WorldState) (h : Host) (chunk : Chunk) (bound at : ℕ) (o
 unfolding inject_at
 inject_at_fits w h chunk bound at None b e s = nothing_fits w s
 inject_at_fits w h chunk bound at (Some node) b e s = record {
-    nodes = All-set NodeFits w.nodes at _ (inject_fits node chunk bound b (node_of w.nodes at node e s.nodes)).node s.nodes;
-    wire = s.wire; room = s.room; next = omega arith; made = refl }
+  nodes = All-set NodeFits w.nodes at _ (inject_fits node chunk bound b (node_of w.nodes at node e s.nodes)).node s.nodes;
+  wire = s.wire;
+  room = s.room;
+  next = omega arith;
+  made = refl;
+}
 
 inject_place_fits : (w : WorldState) (h : Host) (chunk : Chunk) (bound : ℕ) (o : Option ℕ) → bound ≤ 65535 → IsSound w → EventFits w (inject_place w h chunk bound o)
 unfolding inject_place
@@ -168,7 +172,9 @@ send_taken_fits w h d at to step (Some p) n q f s =
       nodes = All-set NodeFits w.nodes at step.node f.node s.nodes;
       wire = All-push (WiredFits (w.next + 1)) w.wire _ (All-weaker (WiredFits w.next) (WiredFits (w.next + 1)) (later_number w.next) w.wire s.wire) (record { number = omega arith; bound = fits });
       room = omega (arith, wire_room (length w.wire) n, length-append {A = Wired} w.wire (record { number = w.next; from = record { host = h; dev = d }; to = to; packet = p } ∷ []));
-      next = omega arith; made = refl }
+      next = omega arith;
+      made = refl;
+    }
 
 send_at_fits : (w : WorldState) (h : Host) (d : Dev) (at : ℕ) (to : LinkEnd) (o : Option NodeState) → nat_lt (length w.wire) 4096 ≡ true → slice_get w.nodes at ≡ o → IsSound w → EventFits w (send_at w h d at to o)
 unfolding send_at
@@ -200,9 +206,12 @@ deliver_at_fits : (w : WorldState) (place : ℕ) (x : Wired) (at : ℕ) (o : Opt
 unfolding deliver_at
 deliver_at_fits w place x at None q e s = nothing_fits w s
 deliver_at_fits w place x at (Some node) q e s = record {
-    nodes = All-set NodeFits w.nodes at _ (arrive_fits node x.to.dev x.packet (wired_of w.next w.wire place x q s.wire).bound (node_of w.nodes at node e s.nodes)).node s.nodes;
-    wire = All-remove (WiredFits w.next) w.wire place s.wire;
-    room = omega (arith, length-remove w.wire place (slice_get_within w.wire place x q), s.room); next = omega arith; made = refl }
+  nodes = All-set NodeFits w.nodes at _ (arrive_fits node x.to.dev x.packet (wired_of w.next w.wire place x q s.wire).bound (node_of w.nodes at node e s.nodes)).node s.nodes;
+  wire = All-remove (WiredFits w.next) w.wire place s.wire;
+  room = omega (arith, length-remove w.wire place (slice_get_within w.wire place x q), s.room);
+  next = omega arith;
+  made = refl;
+}
 
 deliver_to_fits : (w : WorldState) (place : ℕ) (x : Wired) (o : Option ℕ) → slice_get w.wire place ≡ Some x → IsSound w → EventFits w (deliver_to w place x o)
 unfolding deliver_to
@@ -227,8 +236,12 @@ lose_frame_fits : (w : WorldState) (place : ℕ) (o : Option Wired) → slice_ge
 unfolding lose_frame
 lose_frame_fits w place None q s = nothing_fits w s
 lose_frame_fits w place (Some x) q s = record {
-    nodes = s.nodes; wire = All-remove (WiredFits w.next) w.wire place s.wire;
-    room = omega (arith, length-remove w.wire place (slice_get_within w.wire place x q), s.room); next = omega arith; made = refl }
+  nodes = s.nodes;
+  wire = All-remove (WiredFits w.next) w.wire place s.wire;
+  room = omega (arith, length-remove w.wire place (slice_get_within w.wire place x q), s.room);
+  next = omega arith;
+  made = refl;
+}
 
 lose_place_fits : (w : WorldState) (o : Option ℕ) → IsSound w → EventFits w (lose_place w o)
 unfolding lose_place

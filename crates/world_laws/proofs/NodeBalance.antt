@@ -33,14 +33,18 @@ module _ (f : Family) where
 
   room_balance : (t : Bool) (queues : Queues) (s : Sent) (queue : List Packet) → slice_get queues s.dev.0 ≡ Some queue → 0 < s.packet.bound
       → SendBalance (cond t (Queued s.dev s.packet.family (s.packet.bound - 1)) (Dropped reason.QueueFull s.packet.family s.packet.bound))
-          (queues_live f queues) (queues_live f (cond t (queue_push queues s.dev (hop_packet s.packet) (Some queue)) queues)) (packet_live f s.packet)
-  room_balance true queues s queue e h = record { granted = refl; evals = refl; moved =
-      omega (arith, queues_live-set f queues s.dev.0 queue (queue ++ hop_packet s.packet ∷ []) e, queue_live-push f queue (hop_packet s.packet), only_hop f s.packet.family s.packet.bound h) }
+      (queues_live f queues) (queues_live f (cond t (queue_push queues s.dev (hop_packet s.packet) (Some queue)) queues)) (packet_live f s.packet)
+  room_balance true queues s queue e h = record {
+    granted = refl;
+    evals = refl;
+    moved =
+        omega (arith, queues_live-set f queues s.dev.0 queue (queue ++ hop_packet s.packet ∷ []) e, queue_live-push f queue (hop_packet s.packet), only_hop f s.packet.family s.packet.bound h);
+  }
   room_balance false queues s queue e h = record { granted = refl; evals = refl; moved = omega arith }
 
   place_balance : (o : Option (List Packet)) (queues : Queues) (s : Sent) → slice_get queues s.dev.0 ≡ o → 0 < s.packet.bound
       → SendBalance (cond (queue_room o) (Queued s.dev s.packet.family (s.packet.bound - 1)) (Dropped reason.QueueFull s.packet.family s.packet.bound))
-          (queues_live f queues) (queues_live f (cond (queue_room o) (queue_push queues s.dev (hop_packet s.packet) o) queues)) (packet_live f s.packet)
+      (queues_live f queues) (queues_live f (cond (queue_room o) (queue_push queues s.dev (hop_packet s.packet) o) queues)) (packet_live f s.packet)
   place_balance None queues s e h = record { granted = refl; evals = refl; moved = omega arith }
   place_balance (Some queue) queues s e h = room_balance (nat_lt (length queue) 64) queues s queue e h
 
@@ -58,16 +62,26 @@ module _ (f : Family) where
   sends_balance : (queues : Queues) (outbox : List Sent) → All (λ s. 0 < s.packet.bound) outbox
       → SendsBalance (sends_acts queues outbox) (queues_live f queues) (queues_live f (sends_queues queues outbox)) (sum_by (λ s. packet_live f s.packet) outbox)
   unfolding sends_acts sends_queues
-  sends_balance queues [] h = record { granted = act_sum-nil (act_granted f); evals = act_sum-nil (act_evals f);
-      moved = omega (arith, act_sum-nil (act_hops f), act_sum-nil (act_left f)) }
+  sends_balance queues [] h = record {
+    granted = act_sum-nil (act_granted f);
+    evals = act_sum-nil (act_evals f);
+    moved = omega (arith, act_sum-nil (act_hops f), act_sum-nil (act_left f));
+  }
   sends_balance queues (s ∷ ss) h =
       let one = send_balance queues s (All-head (λ s. 0 < s.packet.bound) s ss h) in
       let more = sends_balance (send_queues queues s) ss (All-tail (λ s. 0 < s.packet.bound) s ss h) in
       record {
         granted = omega (arith, one.granted, more.granted, act_sum-cons (act_granted f) (send_act queues s) (sends_acts (send_queues queues s) ss));
         evals = omega (arith, one.evals, more.evals, act_sum-cons (act_evals f) (send_act queues s) (sends_acts (send_queues queues s) ss));
-        moved = omega (arith, one.moved, more.moved, act_sum-cons (act_hops f) (send_act queues s) (sends_acts (send_queues queues s) ss),
-          act_sum-cons (act_left f) (send_act queues s) (sends_acts (send_queues queues s) ss), sum_by-cons (λ s. packet_live f s.packet) s ss) }
+        moved = omega (
+          arith,
+          one.moved,
+          more.moved,
+          act_sum-cons (act_hops f) (send_act queues s) (sends_acts (send_queues queues s) ss),
+          act_sum-cons (act_left f) (send_act queues s) (sends_acts (send_queues queues s) ss),
+          sum_by-cons (λ s. packet_live f s.packet) s ss,
+        );
+      }
 
   notes_zero : (c : Act → ℕ) → ((n : Note) → c (Noted n) ≡ 0) → (notes : List Note) → act_sum c (map Noted notes) ≡ 0
   notes_zero c z [] = act_sum-nil c
@@ -91,10 +105,25 @@ module _ (f : Family) where
       let parts = ap (only f p.family) k.balance in
       record {
         granted = omega (arith, b.granted, notes_zero (act_granted f) (λ n. refl) v.notes, act_sum-append (act_granted f) notes (ended ∷ sent), act_sum-cons (act_granted f) ended sent);
-        moved = omega (arith, b.evals, b.moved, s, parts, only-plus f p.family (v.evals + v.left) total, only-plus f p.family v.evals v.left,
-          notes_zero (act_hops f) (λ n. refl) v.notes, act_sum-append (act_hops f) notes (ended ∷ sent), act_sum-cons (act_hops f) ended sent,
-          notes_zero (act_evals f) (λ n. refl) v.notes, act_sum-append (act_evals f) notes (ended ∷ sent), act_sum-cons (act_evals f) ended sent,
-          notes_zero (act_left f) (λ n. refl) v.notes, act_sum-append (act_left f) notes (ended ∷ sent), act_sum-cons (act_left f) ended sent) }
+        moved = omega (
+          arith,
+          b.evals,
+          b.moved,
+          s,
+          parts,
+          only-plus f p.family (v.evals + v.left) total,
+          only-plus f p.family v.evals v.left,
+          notes_zero (act_hops f) (λ n. refl) v.notes,
+          act_sum-append (act_hops f) notes (ended ∷ sent),
+          act_sum-cons (act_hops f) ended sent,
+          notes_zero (act_evals f) (λ n. refl) v.notes,
+          act_sum-append (act_evals f) notes (ended ∷ sent),
+          act_sum-cons (act_evals f) ended sent,
+          notes_zero (act_left f) (λ n. refl) v.notes,
+          act_sum-append (act_left f) notes (ended ∷ sent),
+          act_sum-cons (act_left f) ended sent,
+        );
+      }
 
   -- one act before a visit, which grants or brings in the packet's bound
   visited_balances : (act : Act) (arrived : ℕ) (node : NodeState) (p : Packet) → act_hops f act ≡ 0 → act_evals f act ≡ 0 → act_left f act ≡ 0
@@ -104,19 +133,48 @@ module _ (f : Family) where
       let v = visit_of node.here node.neighbours p in
       let acts = visit_acts node.queues p v in
       let b = visit_balance node.queues p v (visit_keeps node.here node.neighbours p) in
-      record { law = omega (arith, b.granted, b.moved, g, h, e, l,
-        act_sum-append (act_granted f) (act ∷ []) acts, act_sum-cons (act_granted f) act [], act_sum-nil (act_granted f),
-        act_sum-append (act_hops f) (act ∷ []) acts, act_sum-cons (act_hops f) act [], act_sum-nil (act_hops f),
-        act_sum-append (act_evals f) (act ∷ []) acts, act_sum-cons (act_evals f) act [], act_sum-nil (act_evals f),
-        act_sum-append (act_left f) (act ∷ []) acts, act_sum-cons (act_left f) act [], act_sum-nil (act_left f)) }
+      record {
+        law = omega (
+          arith,
+          b.granted,
+          b.moved,
+          g,
+          h,
+          e,
+          l,
+          act_sum-append (act_granted f) (act ∷ []) acts,
+          act_sum-cons (act_granted f) act [],
+          act_sum-nil (act_granted f),
+          act_sum-append (act_hops f) (act ∷ []) acts,
+          act_sum-cons (act_hops f) act [],
+          act_sum-nil (act_hops f),
+          act_sum-append (act_evals f) (act ∷ []) acts,
+          act_sum-cons (act_evals f) act [],
+          act_sum-nil (act_evals f),
+          act_sum-append (act_left f) (act ∷ []) acts,
+          act_sum-cons (act_left f) act [],
+          act_sum-nil (act_left f),
+        );
+      }
 
   same_node_balances : (arrived : ℕ) (old new : NodeState) (step : Step) → node_live f old ≡ node_live f new → StepBalances f arrived new step → StepBalances f arrived old step
   same_node_balances arrived old new step e b = record { law = omega (arith, b.law) }
 
   inject_cases : (t : Bool) (node : NodeState) (chunk : Chunk) (bound : ℕ)
       → StepBalances f 0 node (cond t (stepped (SerialsSpent ∷ []) None node) (visited (Injected (record { source = node.here; serial = node.serial }) bound ∷ []) (next_serial node) (injected_packet node chunk bound)))
-  inject_cases true node chunk bound = record { law = omega (arith, act_sum-cons (act_granted f) SerialsSpent [], act_sum-nil (act_granted f),
-      act_sum-cons (act_hops f) SerialsSpent [], act_sum-nil (act_hops f), act_sum-cons (act_evals f) SerialsSpent [], act_sum-nil (act_evals f), act_sum-cons (act_left f) SerialsSpent [], act_sum-nil (act_left f)) }
+  inject_cases true node chunk bound = record {
+    law = omega (
+      arith,
+      act_sum-cons (act_granted f) SerialsSpent [],
+      act_sum-nil (act_granted f),
+      act_sum-cons (act_hops f) SerialsSpent [],
+      act_sum-nil (act_hops f),
+      act_sum-cons (act_evals f) SerialsSpent [],
+      act_sum-nil (act_evals f),
+      act_sum-cons (act_left f) SerialsSpent [],
+      act_sum-nil (act_left f),
+    );
+  }
   inject_cases false node chunk bound = same_node_balances 0 node (next_serial node) _ refl
       (visited_balances (Injected (record { source = node.here; serial = node.serial }) bound) 0 (next_serial node) (injected_packet node chunk bound) refl refl refl (omega arith))
 
@@ -127,11 +185,26 @@ module _ (f : Family) where
   -- an arrival, and then one act that queues or drops the packet
   two_acts : (d : Dev) (act : Act) (node : NodeState) (queues : Queues) (p : Packet) → SendBalance act (queues_live f node.queues) (queues_live f queues) (packet_live f p)
       → StepBalances f (packet_live f p) node (stepped (Arrived d ∷ act ∷ []) None (with_queues node queues))
-  two_acts d act node queues p b = record { law = omega (arith, b.granted, b.evals, b.moved,
-      act_sum-cons (act_granted f) (Arrived d) (act ∷ []), act_sum-cons (act_granted f) act [], act_sum-nil (act_granted f),
-      act_sum-cons (act_hops f) (Arrived d) (act ∷ []), act_sum-cons (act_hops f) act [], act_sum-nil (act_hops f),
-      act_sum-cons (act_evals f) (Arrived d) (act ∷ []), act_sum-cons (act_evals f) act [], act_sum-nil (act_evals f),
-      act_sum-cons (act_left f) (Arrived d) (act ∷ []), act_sum-cons (act_left f) act [], act_sum-nil (act_left f)) }
+  two_acts d act node queues p b = record {
+    law = omega (
+      arith,
+      b.granted,
+      b.evals,
+      b.moved,
+      act_sum-cons (act_granted f) (Arrived d) (act ∷ []),
+      act_sum-cons (act_granted f) act [],
+      act_sum-nil (act_granted f),
+      act_sum-cons (act_hops f) (Arrived d) (act ∷ []),
+      act_sum-cons (act_hops f) act [],
+      act_sum-nil (act_hops f),
+      act_sum-cons (act_evals f) (Arrived d) (act ∷ []),
+      act_sum-cons (act_evals f) act [],
+      act_sum-nil (act_evals f),
+      act_sum-cons (act_left f) (Arrived d) (act ∷ []),
+      act_sum-cons (act_left f) act [],
+      act_sum-nil (act_left f),
+    );
+  }
 
   -- a drop leaves the packet's bound
   drop_balance : (act : Act) (live : ℕ) (p : Packet) → act_granted f act ≡ 0 → act_evals f act ≡ 0 → act_hops f act ≡ 0 → act_left f act ≡ packet_live f p → SendBalance act live live (packet_live f p)
@@ -149,7 +222,7 @@ module _ (f : Family) where
 
   forward_cases : (t : Bool) (node : NodeState) (d : Dev) (p : Packet) → (t ≡ true → p.bound ≡ 0) → (t ≡ false → 0 < p.bound)
       → StepBalances f (packet_live f p) node (cond t (stepped (Arrived d ∷ Dropped reason.NoBound p.family 0 ∷ []) None node)
-          (cond (bytes_eq p.route default_route) (forward_over node d p (route_to node.neighbours p.dest)) (stepped (Arrived d ∷ Dropped reason.NoService p.family p.bound ∷ []) None node)))
+      (cond (bytes_eq p.route default_route) (forward_over node d p (route_to node.neighbours p.dest)) (stepped (Arrived d ∷ Dropped reason.NoService p.family p.bound ∷ []) None node)))
   forward_cases true node d p z h = two_acts d (Dropped reason.NoBound p.family 0) node node.queues p (drop_balance _ (queues_live f node.queues) p refl refl refl (sym (ap (only f p.family) (z refl))))
   forward_cases false node d p z h = route_cases (bytes_eq p.route default_route) node d p (h refl)
 
@@ -177,9 +250,21 @@ module _ (f : Family) where
   take_from_balances : (node : NodeState) (d : Dev) (o : Option (List Packet)) → slice_get node.queues d.0 ≡ o → StepBalances f 0 node (take_from node d o)
   take_from_balances node d None e = no_acts node
   take_from_balances node d (Some []) e = no_acts node
-  take_from_balances node d (Some (p ∷ queue)) e = record { law = omega (arith, queues_live-set f node.queues d.0 (p ∷ queue) queue e, queue_live-cons f p queue,
-      act_sum-cons (act_granted f) (Taken d (what_of p)) [], act_sum-nil (act_granted f), act_sum-cons (act_hops f) (Taken d (what_of p)) [], act_sum-nil (act_hops f),
-      act_sum-cons (act_evals f) (Taken d (what_of p)) [], act_sum-nil (act_evals f), act_sum-cons (act_left f) (Taken d (what_of p)) [], act_sum-nil (act_left f)) }
+  take_from_balances node d (Some (p ∷ queue)) e = record {
+    law = omega (
+      arith,
+      queues_live-set f node.queues d.0 (p ∷ queue) queue e,
+      queue_live-cons f p queue,
+      act_sum-cons (act_granted f) (Taken d (what_of p)) [],
+      act_sum-nil (act_granted f),
+      act_sum-cons (act_hops f) (Taken d (what_of p)) [],
+      act_sum-nil (act_hops f),
+      act_sum-cons (act_evals f) (Taken d (what_of p)) [],
+      act_sum-nil (act_evals f),
+      act_sum-cons (act_left f) (Taken d (what_of p)) [],
+      act_sum-nil (act_left f),
+    );
+  }
 
   pub take_balances : (node : NodeState) (d : Dev) → StepBalances f 0 node (take_step node d)
   unfolding take_step

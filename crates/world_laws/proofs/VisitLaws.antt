@@ -42,13 +42,14 @@ module _ (here : Host) (links : Links) (p : Packet) where
   sent_keeps : (f : List ℕ) (h : Host) (n : ℕ) (d : Dev) (doing : Doing) → 0 < n → n ≤ doing.purse → DoingKeeps p doing
       → DoingKeeps p (record { purse = doing.purse - n; outbox = doing.outbox ++ record { dev = d; packet = sent_packet p f h n } ∷ []; notes = doing.notes })
   sent_keeps f h n d doing low high k = record {
-      balance = let e = sum_by_push sent_bound doing.outbox (record { dev = d; packet = sent_packet p f h n }) in omega (arith, k.balance);
-      family = All-push (λ s. s.packet.family ≡ p.family) doing.outbox _ k.family refl;
-      paid_each = All-push (λ s. 0 < s.packet.bound) doing.outbox _ k.paid_each low }
+    balance = let e = sum_by_push sent_bound doing.outbox (record { dev = d; packet = sent_packet p f h n }) in omega (arith, k.balance);
+    family = All-push (λ s. s.packet.family ≡ p.family) doing.outbox _ k.family refl;
+    paid_each = All-push (λ s. 0 < s.packet.bound) doing.outbox _ k.paid_each low;
+  }
 
   sends_cases : (t u : Bool) (f : List ℕ) (h : Host) (n : ℕ) (d : Dev) (doing : Doing) → (t ≡ false → (0 < n) × (n ≤ doing.purse)) → DoingKeeps p doing
       → WentKeeps p (cond t (stopped (codes "NoBound") doing)
-          (cond u (on (record { purse = doing.purse - n; outbox = doing.outbox ++ record { dev = d; packet = sent_packet p f h n } ∷ []; notes = doing.notes })) (stopped (codes "NotNeighbor") doing)))
+      (cond u (on (record { purse = doing.purse - n; outbox = doing.outbox ++ record { dev = d; packet = sent_packet p f h n } ∷ []; notes = doing.notes })) (stopped (codes "NotNeighbor") doing)))
   sends_cases true u f h n d doing r k = k
   sends_cases false true f h n d doing r k = sent_keeps f h n d doing (r refl).0 (r refl).1 k
   sends_cases false false f h n d doing r k = k

@@ -62,9 +62,20 @@ module _ (f : Family) where
   EventBalance w h = LinesBalance h.lines (live f w) (live f h.world)
 
   one_line : (l : Line) (old new : ℕ) → line_granted f l + old ≡ line_hops f l + line_evals f l + new + line_left f l → LinesBalance (l ∷ []) old new
-  one_line l old new e = record { law = omega (arith, e,
-      line_sum-cons (line_granted f) l [], line_sum-nil (line_granted f), line_sum-cons (line_hops f) l [], line_sum-nil (line_hops f),
-      line_sum-cons (line_evals f) l [], line_sum-nil (line_evals f), line_sum-cons (line_left f) l [], line_sum-nil (line_left f)) }
+  one_line l old new e = record {
+    law = omega (
+      arith,
+      e,
+      line_sum-cons (line_granted f) l [],
+      line_sum-nil (line_granted f),
+      line_sum-cons (line_hops f) l [],
+      line_sum-nil (line_hops f),
+      line_sum-cons (line_evals f) l [],
+      line_sum-nil (line_evals f),
+      line_sum-cons (line_left f) l [],
+      line_sum-nil (line_left f),
+    );
+  }
 
   nothing_balances : (w : WorldState) → EventBalance w (nothing w)
   nothing_balances w = one_line Nothing (live f w) (live f w) (omega arith)
@@ -72,8 +83,17 @@ module _ (f : Family) where
   -- the lines of a node's step
   acts_balance : (h : Host) (arrived taken : ℕ) (node : NodeState) (step : Step) → StepBalances f arrived node step → frame_live f step.frame ≡ taken
       → LinesBalance (lines_at h step.acts) (arrived + node_live f node) (node_live f step.node + taken)
-  acts_balance h arrived taken node step b e = record { law = omega (arith, b.law, e,
-      line_sum-at (line_granted f) h step.acts, line_sum-at (line_hops f) h step.acts, line_sum-at (line_evals f) h step.acts, line_sum-at (line_left f) h step.acts) }
+  acts_balance h arrived taken node step b e = record {
+    law = omega (
+      arith,
+      b.law,
+      e,
+      line_sum-at (line_granted f) h step.acts,
+      line_sum-at (line_hops f) h step.acts,
+      line_sum-at (line_evals f) h step.acts,
+      line_sum-at (line_left f) h step.acts,
+    );
+  }
 
   inject_at_balances : (w : WorldState) (h : Host) (chunk : Chunk) (bound at : ℕ) (o : Option NodeState) → slice_get w.nodes at ≡ o → EventBalance w (inject_at w h chunk bound at o)
   unfolding inject_at
@@ -93,15 +113,44 @@ module _ (f : Family) where
 
   -- one more line that counts nothing
   with_line : (lines : List Line) (l : Line) (old new : ℕ) → line_granted f l ≡ 0 → line_hops f l ≡ 0 → line_evals f l ≡ 0 → line_left f l ≡ 0 → LinesBalance lines old new → LinesBalance (lines ++ l ∷ []) old new
-  with_line lines l old new g h e r b = record { law = omega (arith, b.law, g, h, e, r,
-      line_sum-append (line_granted f) lines (l ∷ []), line_sum-cons (line_granted f) l [], line_sum-nil (line_granted f),
-      line_sum-append (line_hops f) lines (l ∷ []), line_sum-cons (line_hops f) l [], line_sum-nil (line_hops f),
-      line_sum-append (line_evals f) lines (l ∷ []), line_sum-cons (line_evals f) l [], line_sum-nil (line_evals f),
-      line_sum-append (line_left f) lines (l ∷ []), line_sum-cons (line_left f) l [], line_sum-nil (line_left f)) }
+  with_line lines l old new g h e r b = record {
+    law = omega (
+      arith,
+      b.law,
+      g,
+      h,
+      e,
+      r,
+      line_sum-append (line_granted f) lines (l ∷ []),
+      line_sum-cons (line_granted f) l [],
+      line_sum-nil (line_granted f),
+      line_sum-append (line_hops f) lines (l ∷ []),
+      line_sum-cons (line_hops f) l [],
+      line_sum-nil (line_hops f),
+      line_sum-append (line_evals f) lines (l ∷ []),
+      line_sum-cons (line_evals f) l [],
+      line_sum-nil (line_evals f),
+      line_sum-append (line_left f) lines (l ∷ []),
+      line_sum-cons (line_left f) l [],
+      line_sum-nil (line_left f),
+    );
+  }
 
   before_line : (lines : List Line) (l : Line) (old new : ℕ) → line_granted f l ≡ 0 → line_hops f l ≡ 0 → line_evals f l ≡ 0 → line_left f l ≡ 0 → LinesBalance lines old new → LinesBalance (l ∷ lines) old new
-  before_line lines l old new g h e r b = record { law = omega (arith, b.law, g, h, e, r,
-      line_sum-cons (line_granted f) l lines, line_sum-cons (line_hops f) l lines, line_sum-cons (line_evals f) l lines, line_sum-cons (line_left f) l lines) }
+  before_line lines l old new g h e r b = record {
+    law = omega (
+      arith,
+      b.law,
+      g,
+      h,
+      e,
+      r,
+      line_sum-cons (line_granted f) l lines,
+      line_sum-cons (line_hops f) l lines,
+      line_sum-cons (line_evals f) l lines,
+      line_sum-cons (line_left f) l lines,
+    );
+  }
 
   send_taken_balances : (w : WorldState) (h : Host) (d : Dev) (at : ℕ) (to : LinkEnd) (node : NodeState) (step : Step) (o : Option Packet)
       → slice_get w.nodes at ≡ Some node → StepBalances f 0 node step → step.frame ≡ o → EventBalance w (send_taken w h d at to step o)
@@ -110,7 +159,7 @@ module _ (f : Family) where
   send_taken_balances w h d at to node step (Some p) e b q =
       let x : Wired = record { number = w.next; from = record { host = h; dev = d }; to = to; packet = p } in
       let acts = with_line (lines_at h step.acts) (Wire w.next) (node_live f node) (node_live f step.node + packet_live f p) refl refl refl refl
-            (let c = acts_balance h 0 (packet_live f p) node step b (ap (frame_live f) q) in record { law = omega (arith, c.law) }) in
+      (let c = acts_balance h 0 (packet_live f p) node step b (ap (frame_live f) q) in record { law = omega (arith, c.law) }) in
       record { law = omega (arith, acts.law, nodes_live-set f w.nodes at node step.node e, wire_live-push f w.wire x) }
 
   send_at_balances : (w : WorldState) (h : Host) (d : Dev) (at : ℕ) (to : LinkEnd) (o : Option NodeState) → slice_get w.nodes at ≡ o → EventBalance w (send_at w h d at to o)
@@ -142,7 +191,7 @@ module _ (f : Family) where
   deliver_at_balances w place x at (Some node) q e =
       let step = arrive_step node x.to.dev x.packet in
       let acts = before_line (lines_at x.to.host step.acts) (Off x.number) (packet_live f x.packet + node_live f node) (node_live f step.node + 0) refl refl refl refl
-            (acts_balance x.to.host (packet_live f x.packet) 0 node step (arrive_balances f node x.to.dev x.packet) (ap (frame_live f) (arrive_frame node x.to.dev x.packet))) in
+      (acts_balance x.to.host (packet_live f x.packet) 0 node step (arrive_balances f node x.to.dev x.packet) (ap (frame_live f) (arrive_frame node x.to.dev x.packet))) in
       record { law = omega (arith, acts.law, nodes_live-set f w.nodes at node step.node e, wire_live-remove f w.wire place x q) }
 
   deliver_to_balances : (w : WorldState) (place : ℕ) (x : Wired) (o : Option ℕ) → slice_get w.wire place ≡ Some x → EventBalance w (deliver_to w place x o)
@@ -193,8 +242,16 @@ module _ (f : Family) where
   event_balances w e =
       let b = acted_balance w e in
       let lines = (acted w e).lines in
-      record { law = omega (arith, b.law, tally-entries (line_granted f) (w.made + 1) lines, tally-entries (line_hops f) (w.made + 1) lines,
-        tally-entries (line_evals f) (w.made + 1) lines, tally-entries (line_left f) (w.made + 1) lines) }
+      record {
+        law = omega (
+          arith,
+          b.law,
+          tally-entries (line_granted f) (w.made + 1) lines,
+          tally-entries (line_hops f) (w.made + 1) lines,
+          tally-entries (line_evals f) (w.made + 1) lines,
+          tally-entries (line_left f) (w.made + 1) lines,
+        );
+      }
 
   -- and so is each run
   pub run_balances : (es : List WorldEvent) (w : WorldState) → GrowsInBalance f w (history_of es w) (world_after es w)
@@ -205,8 +262,17 @@ module _ (f : Family) where
       let more = run_balances es (happens w e).world in
       let first = entries w e in
       let rest = history_of es (happens w e).world in
-      record { law = omega (arith, one.law, more.law, tally-append (line_granted f) first rest, tally-append (line_hops f) first rest,
-        tally-append (line_evals f) first rest, tally-append (line_left f) first rest) }
+      record {
+        law = omega (
+          arith,
+          one.law,
+          more.law,
+          tally-append (line_granted f) first rest,
+          tally-append (line_hops f) first rest,
+          tally-append (line_evals f) first rest,
+          tally-append (line_left f) first rest,
+        );
+      }
 
   none_live : (n : ℕ) → queues_live f (replicate n []) ≡ 0
   none_live zero = queues_live-nil f

@@ -153,7 +153,7 @@ came f (event.Take d) = 0
 -- a step of a node: what came in is what was paid and left, the growth of the queues, and the frame taken
 pub record StepBalances (f : Family) (arrived : ℕ) (old : NodeState) (step : Step) : Type 0 where
   pub law : act_sum (act_granted f) step.acts + arrived + node_live f old
-    ≡ act_sum (act_hops f) step.acts + act_sum (act_evals f) step.acts + act_sum (act_left f) step.acts + node_live f step.node + frame_live f step.frame
+      ≡ act_sum (act_hops f) step.acts + act_sum (act_evals f) step.acts + act_sum (act_left f) step.acts + node_live f step.node + frame_live f step.frame
 
 -- what an event adds to a history is in balance with what it changes
 pub record GrowsInBalance (f : Family) (old : WorldState) (history : List Entry) (new : WorldState) : Type 0 where

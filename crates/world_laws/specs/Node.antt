@@ -119,7 +119,7 @@ unfoldable pub forward_step : NodeState → Dev → Packet → Step
 forward_step node d p =
     if p.bound == 0 then stepped (Arrived d ∷ Dropped reason.NoBound p.family 0 ∷ []) None node
     else (if bytes_eq p.route default_route then forward_over node d p (route_to node.neighbours p.dest)
-        else stepped (Arrived d ∷ Dropped reason.NoService p.family p.bound ∷ []) None node)
+    else stepped (Arrived d ∷ Dropped reason.NoService p.family p.bound ∷ []) None node)
 
 -- an arrival: a packet for this host is visited
 unfoldable pub arrive_step : NodeState → Dev → Packet → Step

@@ -77,8 +77,8 @@ module _ (here : Host) (links : Links) (p : Packet) where
   sends f h n d doing =
       if (paid n == 0) || nat_lt doing.purse (paid n) then stopped (codes "NoBound") doing
       else (if is_neighbour here links h d
-          then on (record { purse = doing.purse - paid n; outbox = doing.outbox ++ record { dev = d; packet = sent_packet p f h (paid n) } ∷ []; notes = doing.notes })
-          else stopped (codes "NotNeighbor") doing)
+      then on (record { purse = doing.purse - paid n; outbox = doing.outbox ++ record { dev = d; packet = sent_packet p f h (paid n) } ∷ []; notes = doing.notes })
+      else stopped (codes "NotNeighbor") doing)
 
   abbrev pub send_form : Expr-F Expr Clause → Expr-F Expr Clause → Expr-F Expr Clause → Expr-F Expr Clause → Doing → Went
   send_form (Expr-F.ChunkOf f []) (Expr-F.Host h) (Expr-F.Int n) (Expr-F.Dev d) doing = sends f h n d doing

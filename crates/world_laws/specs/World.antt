@@ -93,9 +93,13 @@ injects w h chunk bound = inject_place w h chunk bound (place_of w.nodes h)
 unfoldable pub send_taken : WorldState → Host → Dev → ℕ → LinkEnd → Step → Option Packet → Happened
 send_taken w h d at to step None = nothing w
 send_taken w h d at to step (Some p) = happened (lines_at h step.acts ++ Wire w.next ∷ [])
-    (record { nodes = slice_set w.nodes at step.node; links = w.links;
+    (record {
+      nodes = slice_set w.nodes at step.node;
+      links = w.links;
       wire = w.wire ++ record { number = w.next; from = record { host = h; dev = d }; to = to; packet = p } ∷ [];
-      next = w.next + 1; made = w.made })
+      next = w.next + 1;
+      made = w.made;
+    })
 
 unfoldable pub send_at : WorldState → Host → Dev → ℕ → LinkEnd → Option NodeState → Happened
 send_at w h d at to None = nothing w
@@ -198,8 +202,12 @@ no_queues = replicate 9 []
 
 -- a node at the beginning: nothing queued, and 1 as its next serial number
 unfoldable pub opening_node : Cables → HostSpec → NodeState
-opening_node links spec = record { here = spec.host; neighbours = neighbours_to links spec.host 8;
-  queues = no_queues; serial = 1 }
+opening_node links spec = record {
+  here = spec.host;
+  neighbours = neighbours_to links spec.host 8;
+  queues = no_queues;
+  serial = 1;
+}
 
 -- a network at the beginning
 unfoldable pub opening : Topology → WorldState

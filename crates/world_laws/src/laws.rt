@@ -10,11 +10,9 @@ ghost use Rattle.world_laws.specs.SmallVisit.{Links, VisitKeeps, visit_of};
 /// Each visit keeps its balance: the packet's bound is what it paid, left and sent.
 pub fn visit_balance()
     ensures { (here : Host) (links : Links) (p : Packet) → VisitKeeps p (visit_of here links p) }
-{
-}
+{}
 
 /// Each step of a node is in balance, for each family.
 pub fn step_balance()
     ensures { (f : Family) (node : NodeState) (e : Event) → StepBalances f (came f e) node (node_step node e) }
-{
-}
+{}

@@ -9,5 +9,5 @@ mod visits;
 
 pub use acts::{Act, ActList, Acts, Event, Reason, What};
 pub use laws::{step_balance, visit_balance};
-pub use lines::{Entries, Entry, Line, LinkEnd, Lines, Wire, Wired};
+pub use lines::{Entries, Entry, Line, Lines, LinkEnd, Wire, Wired};
 pub use visits::{Doing, Neighbours, Note, Notes, Outbox, Outcome, Sent, Visit};
