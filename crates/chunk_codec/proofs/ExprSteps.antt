@@ -26,7 +26,7 @@ clauses_read_is : (room : ℕ) (s : Scan) → clauses_at (λ last. (clause_part 
 clauses_read_is room s = (λ i. clauses_at (λ last g. clause_read_is room last g i) s)
 
 behind_by : (inner : Part Expr) (clauses : Part (List Clause)) (tag : ExprTag) (s : Scan)
-  → reads (expr_forms inner clauses tag) (expr_of_parts inner clauses tag) s ≡ expr_behind inner.read clauses.read tag s
+    → reads (expr_forms inner clauses tag) (expr_of_parts inner clauses tag) s ≡ expr_behind inner.read clauses.read tag s
 unfolding expr_behind
 behind_by inner clauses ExprTag.Unit s = refl
 behind_by inner clauses ExprTag.Bool s = refl
@@ -58,7 +58,7 @@ behind_by inner clauses ExprTag.OnRemote s = refl
 behind_by inner clauses ExprTag.OnNeighbor s = refl
 
 pub expr_goes : (room : ℕ) (f g : Scan) (tag : ExprTag) → expr_tag_at room f ≡ Ok (tag, g) → 0 < room
-  → expr_at room f ≡ expr_behind (expr_at (room - 1)) (clauses_at (clause_at (expr_at (room - 1)))) tag g
+    → expr_at room f ≡ expr_behind (expr_at (room - 1)) (clauses_at (clause_at (expr_at (room - 1)))) tag g
 unfolding expr_core tagged_at
 expr_goes zero f g tag e h = absurd (omega (arith, h))
 expr_goes (suc room) f g tag e h =
@@ -86,10 +86,10 @@ module _ (one : Bool → Reader Clause) (xs : List Clause) (count k : ℕ) (s : 
       let more : count - k ≡ suc n = omega arith in
       let total : count ≡ k + 1 + n = omega arith in
       fails_on e (one (k + 1 == count) s) start
-        (λ r. sym same ∙ ap (λ m. with_front xs (clauses_from one m s)) more ∙ ap (with_front xs) (bind_err _ (ap (λ b. one b s) (last_is n count k total) ∙ r))) f
+      (λ r. sym same ∙ ap (λ m. with_front xs (clauses_from one m s)) more ∙ ap (with_front xs) (bind_err _ (ap (λ b. one b s) (last_is n count k total) ∙ r))) f
 
   pub clauses_go : (x : Clause) (g : Scan) → k < count → one (k + 1 == count) s ≡ Ok (x, g) → with_front xs (clauses_from one (count - k) s) ≡ start
-    → with_front (xs ++ x ∷ []) (clauses_from one (count - (k + 1)) g) ≡ start
+      → with_front (xs ++ x ∷ []) (clauses_from one (count - (k + 1)) g) ≡ start
   unfolding clauses_from
   clauses_go x g h r same =
       let n : ℕ = count - (k + 1) in

@@ -14,7 +14,7 @@ use Rattle.chunk_spelling.specs.Values.{may_open, value_tag_at, value_forms, val
 use Rattle.chunk_codec.specs.Reading.{value_at, value_behind, chunk_fields, chunk_read, program_fields, param_at, service_at, function_at}
 
 behind_by : (inner : Part Value) (chunk : Part Chunk) (tag : ValueTag) (s : Scan)
-  → reads (value_forms inner chunk tag) (value_of_parts inner chunk tag) s ≡ value_behind inner.read chunk.read tag s
+    → reads (value_forms inner chunk tag) (value_of_parts inner chunk tag) s ≡ value_behind inner.read chunk.read tag s
 unfolding value_behind
 behind_by inner chunk ValueTag.Unit s = refl
 behind_by inner chunk ValueTag.Bool s = refl
@@ -30,7 +30,7 @@ behind_by inner chunk ValueTag.Tuple s = refl
 
 -- only the readers that may be used matter
 behind_same : (nest room : ℕ) (a b : Reader Value) (c d : Reader Chunk) (tag : ValueTag) (s : Scan) → IsTrue (may_open nest room tag)
-  → (0 < room → a ≡ b) → (0 < nest → c ≡ d) → value_behind a c tag s ≡ value_behind b d tag s
+    → (0 < room → a ≡ b) → (0 < nest → c ≡ d) → value_behind a c tag s ≡ value_behind b d tag s
 unfolding value_behind
 behind_same nest room a b c d ValueTag.Unit s h e k = refl
 behind_same nest room a b c d ValueTag.Bool s h e k = refl
@@ -45,7 +45,7 @@ behind_same nest room a b c d ValueTag.List s h e k = ap (λ r. value_behind r c
 behind_same nest room a b c d ValueTag.Tuple s h e k = ap (λ r. value_behind r c ValueTag.Tuple s) (e (ltb-true 0 room h))
 
 pub value_goes : (nest room : ℕ) (f g : Scan) (tag : ValueTag) → value_tag_at nest room f ≡ Ok (tag, g) → IsTrue (may_open nest room tag)
-  → value_at nest room f ≡ value_behind (value_at nest (room - 1)) (chunk_read (nest - 1)) tag g
+    → value_at nest room f ≡ value_behind (value_at nest (room - 1)) (chunk_read (nest - 1)) tag g
 unfolding value_core values_within tagged_at
 value_goes zero zero f g tag e h =
     bind_is _ e (behind_by (value_from 0 0 no_value) (chunk_from 0 no_chunk) tag g)

@@ -32,7 +32,12 @@ fn boxed(alloc: Global, s: &mut Source<'_>, room: u32) -> Result<Boxed<Expr>, Sp
 /// What is behind an expression's tag.
 #[cycle(exprs)]
 #[tactic(auto, unfolding(crate::specs::Reading::expr_behind, chunk_spelling::specs::Parts::counted_at, chunk_spelling::specs::Exprs::clauses_at))]
-fn expr_with_tag(alloc: Global, s: &mut Source<'_>, room: u32, tag: ExprTag) -> Result<Expr, SpellFault>
+fn expr_with_tag(
+    alloc: Global,
+    s: &mut Source<'_>,
+    room: u32,
+    tag: ExprTag,
+) -> Result<Expr, SpellFault>
     requires { 0 < room }
     ensures { Gives result s.new (expr_behind (expr_at (room - 1)) (clauses_at (clause_at (expr_at (room - 1)))) tag s.old) }
 {
@@ -147,7 +152,12 @@ fn expr_with_tag(alloc: Global, s: &mut Source<'_>, room: u32, tag: ExprTag) -> 
 
 /// So many expressions.
 #[cycle(exprs)]
-pub fn exprs_of(alloc: Global, s: &mut Source<'_>, room: u32, count: u8) -> Result<Exprs, SpellFault>
+pub fn exprs_of(
+    alloc: Global,
+    s: &mut Source<'_>,
+    room: u32,
+    count: u8,
+) -> Result<Exprs, SpellFault>
     ensures { Gives result s.new (many (expr_at room) count s.old) }
 {
     let mut exprs = Items::new(alloc);
@@ -160,7 +170,12 @@ pub fn exprs_of(alloc: Global, s: &mut Source<'_>, room: u32, count: u8) -> Resu
 
 /// So many clauses of a `try`, the last of which is the last.
 #[cycle(exprs)]
-fn clauses_of(alloc: Global, s: &mut Source<'_>, room: u32, count: u8) -> Result<Clauses, SpellFault>
+fn clauses_of(
+    alloc: Global,
+    s: &mut Source<'_>,
+    room: u32,
+    count: u8,
+) -> Result<Clauses, SpellFault>
     ensures { Gives result s.new (clauses_from (clause_at (expr_at room)) count s.old) }
 {
     let mut clauses = Items::new(alloc);
@@ -180,7 +195,10 @@ fn clause_of(alloc: Global, s: &mut Source<'_>, room: u32, last: bool) -> Result
     if s.clause_tag(last)? {
         let name = s.name(alloc)?;
         let body = expr_of(alloc, s, room)?;
-        Ok(Clause { name: Some(name), body })
+        Ok(Clause {
+            name: Some(name),
+            body,
+        })
     } else {
         let body = expr_of(alloc, s, room)?;
         Ok(Clause { name: None, body })

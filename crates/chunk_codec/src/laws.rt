@@ -16,8 +16,7 @@ pub fn type_laws()
     ensures one_fault { (f : Front) (d e : SpellFault) → FirstFaultAt d (a_type 8) f → FirstFaultAt e (a_type 8) f → d ≡ e }
     ensures either { (f : Front) → IsBytes f.rest → ((x : Ty) × (g : Front) × SpelledAt a_whole_type f x g) ⊎ ((e : SpellFault) × FirstFaultAt e (a_type 8) f) }
     ensures never_both { (f g : Front) (x : Ty) (e : SpellFault) → SpelledAt a_whole_type f x g → FirstFaultAt e (a_type 8) f → ⊥ }
-{
-}
+{}
 
 /// Laws of the spelling of a value: no value has two spellings and no spelling begins another's; at most one fault is the
 /// first; a spelling stands at a place or there is a first fault, and never both.
@@ -26,8 +25,7 @@ pub fn value_laws()
     ensures one_fault { (f : Front) (d e : SpellFault) → FirstFaultAt d (a_value 4 8) f → FirstFaultAt e (a_value 4 8) f → d ≡ e }
     ensures either { (f : Front) → IsBytes f.rest → ((x : Value) × (g : Front) × SpelledAt a_whole_value f x g) ⊎ ((e : SpellFault) × FirstFaultAt e (a_value 4 8) f) }
     ensures never_both { (f g : Front) (x : Value) (e : SpellFault) → SpelledAt a_whole_value f x g → FirstFaultAt e (a_value 4 8) f → ⊥ }
-{
-}
+{}
 
 /// Laws of the spelling of a chunk: no chunk has two spellings and no spelling begins another's; at most one fault is the
 /// first; a spelling stands at a place or there is a first fault, and never both.
@@ -36,8 +34,7 @@ pub fn chunk_laws()
     ensures one_fault { (f : Front) (d e : SpellFault) → FirstFaultAt d (a_chunk 3) f → FirstFaultAt e (a_chunk 3) f → d ≡ e }
     ensures either { (f : Front) → IsBytes f.rest → ((x : Chunk) × (g : Front) × SpelledAt a_whole_chunk f x g) ⊎ ((e : SpellFault) × FirstFaultAt e (a_chunk 3) f) }
     ensures never_both { (f g : Front) (x : Chunk) (e : SpellFault) → SpelledAt a_whole_chunk f x g → FirstFaultAt e (a_chunk 3) f → ⊥ }
-{
-}
+{}
 
 /// Laws of the spelling of a program: no program has two spellings and no spelling begins another's; at most one fault is the
 /// first; a spelling stands at a place or there is a first fault, and never both.
@@ -46,5 +43,4 @@ pub fn program_laws()
     ensures one_fault { (f : Front) (d e : SpellFault) → FirstFaultAt d (a_program) f → FirstFaultAt e (a_program) f → d ≡ e }
     ensures either { (f : Front) → IsBytes f.rest → ((x : Program) × (g : Front) × SpelledAt program_part f x g) ⊎ ((e : SpellFault) × FirstFaultAt e (a_program) f) }
     ensures never_both { (f g : Front) (x : Program) (e : SpellFault) → SpelledAt program_part f x g → FirstFaultAt e (a_program) f → ⊥ }
-{
-}
+{}

@@ -7,8 +7,10 @@ ghost use Rattle.chunk_spelling.specs.Programs.{counting};
 ghost use Rattle.chunk_spelling.specs.Values.{value_tag_at, may_open};
 ghost use Rattle.chunk_codec.specs.Reading.{Gives, Lends};
 
-use crate::tags::{is_char, is_text, item_of, can_stand, limit_passed};
-use chunk_spelling::{EXPR_TAGS, ExprTag, OPERATORS, SpellFault, TYPE_TAGS, TypeTag, VALUE_TAGS, ValueTag};
+use crate::tags::{can_stand, is_char, is_text, item_of, limit_passed};
+use chunk_spelling::{
+    EXPR_TAGS, ExprTag, OPERATORS, SpellFault, TYPE_TAGS, TypeTag, VALUE_TAGS, ValueTag,
+};
 use plan_base::{Bytes, Limit, Name, NameFault, Op, Text};
 use std::alloc::Global;
 use std::marker::Model;
@@ -158,7 +160,11 @@ impl<'a> Source<'a> {
     {
         let at = self.place();
         let code = self.word()?;
-        if is_char(code) { Ok(code) } else { Err(SpellFault::BadUtf8(at)) }
+        if is_char(code) {
+            Ok(code)
+        } else {
+            Err(SpellFault::BadUtf8(at))
+        }
     }
 
     /// The next text, behind its length.
@@ -235,7 +241,11 @@ impl<'a> Source<'a> {
         match item_of(0, &[false, true], byte) {
             None => Err(SpellFault::BadTag(at)),
             Some(named) => {
-                if named || last { Ok(named) } else { Err(SpellFault::BadTag(at)) }
+                if named || last {
+                    Ok(named)
+                } else {
+                    Err(SpellFault::BadTag(at))
+                }
             }
         }
     }
@@ -251,7 +261,11 @@ impl<'a> Source<'a> {
         match item_of(16, &VALUE_TAGS, byte) {
             None => Err(SpellFault::BadTag(at)),
             Some(tag) => {
-                if can_stand(nest, room, tag) { Ok(tag) } else { Err(SpellFault::OverLimit(limit_passed(tag), at)) }
+                if can_stand(nest, room, tag) {
+                    Ok(tag)
+                } else {
+                    Err(SpellFault::OverLimit(limit_passed(tag), at))
+                }
             }
         }
     }

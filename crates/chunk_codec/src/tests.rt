@@ -45,9 +45,18 @@ fn types(rt: HostRuntime) {
         (b"\x0a\x02\x00", Some(SpellFault::Truncated(3))),
         (b"\x0b", Some(SpellFault::BadTag(0))),
         (b"\x0a\x01\x00", Some(SpellFault::BadTag(1))),
-        (b"\x0a\x09\x00", Some(SpellFault::OverLimit(Limit::Parts, 1))),
-        (b"\x09\x09\x09\x09\x09\x09\x09\x09\x00", Some(SpellFault::OverLimit(Limit::OfType, 8))),
-        (b"\x09\x09\x09\x09\x09\x09\x09\x09\x0b", Some(SpellFault::BadTag(8))),
+        (
+            b"\x0a\x09\x00",
+            Some(SpellFault::OverLimit(Limit::Parts, 1)),
+        ),
+        (
+            b"\x09\x09\x09\x09\x09\x09\x09\x09\x00",
+            Some(SpellFault::OverLimit(Limit::OfType, 8)),
+        ),
+        (
+            b"\x09\x09\x09\x09\x09\x09\x09\x09\x0b",
+            Some(SpellFault::BadTag(8)),
+        ),
     ] {
         assert_eq!(rt; type_fault(&rt, rt.alloc(), bytes), fault);
     }
@@ -87,11 +96,26 @@ fn refused_values(rt: HostRuntime) {
         (b"\x14\x00\x01\xff", Some(SpellFault::BadUtf8(3))),
         (b"\x14\x00\x02\xc3", Some(SpellFault::Truncated(3))),
         (b"\x1a\x01\x10", Some(SpellFault::BadTag(1))),
-        (b"\x1a\x09\x10", Some(SpellFault::OverLimit(Limit::Parts, 1))),
-        (b"\x19\x09\x09\x09\x09\x09\x09\x09\x00\x00\x00", Some(SpellFault::OverLimit(Limit::OfType, 8))),
-        (b"\x18\x00\x00\x01\x01\x66\x00\x00\x20\x00", Some(SpellFault::BadName(9))),
-        (b"\x18\x00\x00\x01\x01\x66\x00\x00\x20\x02\x69\x66\x00", Some(SpellFault::BadName(9))),
-        (b"\x18\x00\x00\x01\x01\x66\x00\x00\x20\x01\x66\x09", Some(SpellFault::OverLimit(Limit::Arguments, 11))),
+        (
+            b"\x1a\x09\x10",
+            Some(SpellFault::OverLimit(Limit::Parts, 1)),
+        ),
+        (
+            b"\x19\x09\x09\x09\x09\x09\x09\x09\x00\x00\x00",
+            Some(SpellFault::OverLimit(Limit::OfType, 8)),
+        ),
+        (
+            b"\x18\x00\x00\x01\x01\x66\x00\x00\x20\x00",
+            Some(SpellFault::BadName(9)),
+        ),
+        (
+            b"\x18\x00\x00\x01\x01\x66\x00\x00\x20\x02\x69\x66\x00",
+            Some(SpellFault::BadName(9)),
+        ),
+        (
+            b"\x18\x00\x00\x01\x01\x66\x00\x00\x20\x01\x66\x09",
+            Some(SpellFault::OverLimit(Limit::Arguments, 11)),
+        ),
     ] {
         assert_eq!(rt; value_fault(&rt, rt.alloc(), bytes), fault);
     }
@@ -163,13 +187,28 @@ fn refused_expressions(rt: HostRuntime) -> Result<(), Fail> {
         (b"\x3c", Some(SpellFault::BadTag(7))),
         (b"\x32\x0d\x20\x20", Some(SpellFault::BadTag(8))),
         (b"\x33\x00\x20", Some(SpellFault::BadTag(8))),
-        (b"\x33\x09\x20", Some(SpellFault::OverLimit(Limit::Parts, 8))),
+        (
+            b"\x33\x09\x20",
+            Some(SpellFault::OverLimit(Limit::Parts, 8)),
+        ),
         (b"\x35\x20\x00", Some(SpellFault::BadTag(9))),
-        (b"\x35\x20\x09", Some(SpellFault::OverLimit(Limit::Clauses, 9))),
-        (b"\x35\x20\x02\x00\x20\x00\x20", Some(SpellFault::BadTag(10))),
+        (
+            b"\x35\x20\x09",
+            Some(SpellFault::OverLimit(Limit::Clauses, 9)),
+        ),
+        (
+            b"\x35\x20\x02\x00\x20\x00\x20",
+            Some(SpellFault::BadTag(10)),
+        ),
         (b"\x35\x20\x01\x02\x20", Some(SpellFault::BadTag(10))),
-        (b"\x2b\x01\x78\x09", Some(SpellFault::OverLimit(Limit::Arguments, 10))),
-        (b"\x28\x09\x09\x09\x09\x09\x09\x09\x00", Some(SpellFault::OverLimit(Limit::OfType, 15))),
+        (
+            b"\x2b\x01\x78\x09",
+            Some(SpellFault::OverLimit(Limit::Arguments, 10)),
+        ),
+        (
+            b"\x28\x09\x09\x09\x09\x09\x09\x09\x00",
+            Some(SpellFault::OverLimit(Limit::OfType, 15)),
+        ),
         (b"\x2c\x20\x20", Some(SpellFault::Truncated(10))),
     ] {
         assert_eq!(rt; body_fault(&rt, rt.alloc(), body)?, fault);
@@ -180,7 +219,10 @@ fn refused_expressions(rt: HostRuntime) -> Result<(), Fail> {
 // A sequence of `not` is refused at the 65th level.
 #[test]
 fn depth_of_expressions(rt: HostRuntime) -> Result<(), Fail> {
-    for (count, fault) in [(63u8, None), (64, Some(SpellFault::OverLimit(Limit::Depth, 71)))] {
+    for (count, fault) in [
+        (63u8, None),
+        (64, Some(SpellFault::OverLimit(Limit::Depth, 71))),
+    ] {
         let mut body = Vec::new(rt.alloc());
         for _i in 0..count {
             body.push(0x31)?;
@@ -196,13 +238,28 @@ fn depth_of_expressions(rt: HostRuntime) -> Result<(), Fail> {
 fn counts_of_programs(rt: HostRuntime) {
     for (bytes, fault) in [
         (F, None),
-        (b"\x01\x01\x67\x01\x02\x00\x01\x01\x58\x01\x01\x66\x01\x01\x78\x02\x00\x20".as_slice(), None),
+        (
+            b"\x01\x01\x67\x01\x02\x00\x01\x01\x58\x01\x01\x66\x01\x01\x78\x02\x00\x20".as_slice(),
+            None,
+        ),
         (b"\x41", Some(SpellFault::OverLimit(Limit::Services, 0))),
-        (b"\x00\x41", Some(SpellFault::OverLimit(Limit::Exceptions, 1))),
-        (b"\x00\x00\x41", Some(SpellFault::OverLimit(Limit::Functions, 2))),
+        (
+            b"\x00\x41",
+            Some(SpellFault::OverLimit(Limit::Exceptions, 1)),
+        ),
+        (
+            b"\x00\x00\x41",
+            Some(SpellFault::OverLimit(Limit::Functions, 2)),
+        ),
         (b"\x00\x00\x00", Some(SpellFault::BadTag(2))),
-        (b"\x00\x00\x01\x01\x66\x09", Some(SpellFault::OverLimit(Limit::Parameters, 5))),
-        (b"\x01\x01\x67\x09", Some(SpellFault::OverLimit(Limit::Parameters, 3))),
+        (
+            b"\x00\x00\x01\x01\x66\x09",
+            Some(SpellFault::OverLimit(Limit::Parameters, 5)),
+        ),
+        (
+            b"\x01\x01\x67\x09",
+            Some(SpellFault::OverLimit(Limit::Parameters, 3)),
+        ),
         (b"\x00\x01\x21\x61", Some(SpellFault::BadName(2))),
         (b"\x00\x01\x02\x61", Some(SpellFault::Truncated(3))),
         (b"\x00\x01\x01\x31", Some(SpellFault::BadName(2))),
@@ -223,21 +280,33 @@ fn chunk_vector(rt: HostRuntime) {
     let mut c = Cursor::over(bytes);
     assert!(rt; get_chunk(rt.alloc(), &mut c).is_ok());
     assert_eq!(rt; c.at(), 11);
-    assert_eq!(rt; chunk_fault(&rt, rt.alloc(), &bytes[..10]), Some(SpellFault::Truncated(10)));
+    assert_eq!(rt;
+        chunk_fault(&rt, rt.alloc(), &bytes[..10]),
+        Some(SpellFault::Truncated(10))
+    );
 }
 
 // A program takes 16,000 bytes, and a chunk with its tag weighs 16,384; one byte more is refused.
 #[test]
 fn sizes(rt: HostRuntime) -> Result<(), Fail> {
-    for (length, fault) in [(15990u16, None), (15991, Some(SpellFault::OverLimit(Limit::Code, 0)))] {
-        let mut bytes = Vec::from_slice(rt.alloc(), b"\x00\x00\x01\x01\x66\x00\x04\x24".as_slice())?;
+    for (length, fault) in [
+        (15990u16, None),
+        (15991, Some(SpellFault::OverLimit(Limit::Code, 0))),
+    ] {
+        let mut bytes = Vec::from_slice(
+            rt.alloc(),
+            b"\x00\x00\x01\x01\x66\x00\x04\x24".as_slice(),
+        )?;
         bytes.extend_from_slice(&length.to_be_bytes())?;
         for _i in 0..length {
             bytes.push(0x61)?;
         }
         assert_eq!(rt; program_fault(&rt, rt.alloc(), bytes.as_slice()), fault);
     }
-    for (length, fault) in [(16369u16, None), (16370, Some(SpellFault::OverLimit(Limit::Weight, 0)))] {
+    for (length, fault) in [
+        (16369u16, None),
+        (16370, Some(SpellFault::OverLimit(Limit::Weight, 0))),
+    ] {
         let mut bytes = Vec::from_slice(rt.alloc(), F)?;
         bytes.extend_from_slice(b"\x01\x66\x01\x14".as_slice())?;
         bytes.extend_from_slice(&length.to_be_bytes())?;
@@ -252,7 +321,10 @@ fn sizes(rt: HostRuntime) -> Result<(), Fail> {
 // Four chunks stand inside each other; the tag of a fifth is refused.
 #[test]
 fn nesting(rt: HostRuntime) -> Result<(), Fail> {
-    for (count, fault) in [(3u8, None), (4, Some(SpellFault::OverLimit(Limit::Nesting, 48)))] {
+    for (count, fault) in [
+        (3u8, None),
+        (4, Some(SpellFault::OverLimit(Limit::Nesting, 48))),
+    ] {
         let mut bytes = Vec::from_slice(rt.alloc(), b"\x18".as_slice())?;
         for _i in 0..count {
             bytes.extend_from_slice(F)?;
@@ -268,7 +340,10 @@ fn nesting(rt: HostRuntime) -> Result<(), Fail> {
 // 56 functions of 73 expressions are read; in a 57th the ninth expression is the 4,097th of the program.
 #[test]
 fn nodes(rt: HostRuntime) -> Result<(), Fail> {
-    for (count, fault) in [(56u8, None), (57, Some(SpellFault::OverLimit(Limit::Nodes, 4833)))] {
+    for (count, fault) in [
+        (56u8, None),
+        (57, Some(SpellFault::OverLimit(Limit::Nodes, 4833))),
+    ] {
         let mut bytes = Vec::from_slice(rt.alloc(), b"\x00\x00".as_slice())?;
         bytes.push(count)?;
         for _i in 0..count {
@@ -285,7 +360,10 @@ fn nodes(rt: HostRuntime) -> Result<(), Fail> {
 // Lists stand inside each other to depth 8; the tag of a ninth is refused.
 #[test]
 fn depth_of_values(rt: HostRuntime) -> Result<(), Fail> {
-    for (count, fault) in [(7u8, None), (8, Some(SpellFault::OverLimit(Limit::Depth, 32)))] {
+    for (count, fault) in [
+        (7u8, None),
+        (8, Some(SpellFault::OverLimit(Limit::Depth, 32))),
+    ] {
         let mut bytes = Vec::new(rt.alloc());
         for _i in 0..count {
             bytes.extend_from_slice(b"\x19\x00\x00\x01".as_slice())?;

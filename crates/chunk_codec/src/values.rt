@@ -15,7 +15,12 @@ use std::alloc::Global;
 /// A value inside which `nest` chunks may stand inside each other, and `room` lists and tuples.
 #[cycle(values)]
 #[tactic(auto, using(crate::proofs::ValueSteps::value_goes, crate::proofs::ValueSteps::value_stops))]
-pub fn value_of(alloc: Global, s: &mut Source<'_>, nest: u32, room: u32) -> Result<Value, SpellFault>
+pub fn value_of(
+    alloc: Global,
+    s: &mut Source<'_>,
+    nest: u32,
+    room: u32,
+) -> Result<Value, SpellFault>
     ensures { Gives result s.new (value_at nest room s.old) }
 {
     let tag = s.value_tag(nest, room)?;
@@ -25,7 +30,13 @@ pub fn value_of(alloc: Global, s: &mut Source<'_>, nest: u32, room: u32) -> Resu
 /// What is behind a value's tag.
 #[cycle(values)]
 #[tactic(auto, unfolding(crate::specs::Reading::value_behind, chunk_spelling::specs::Parts::counted_at, chunk_spelling::specs::Parts::listed_at))]
-fn value_with_tag(alloc: Global, s: &mut Source<'_>, nest: u32, room: u32, tag: ValueTag) -> Result<Value, SpellFault>
+fn value_with_tag(
+    alloc: Global,
+    s: &mut Source<'_>,
+    nest: u32,
+    room: u32,
+    tag: ValueTag,
+) -> Result<Value, SpellFault>
     requires { IsTrue (may_open nest room tag) }
     ensures { Gives result s.new (value_behind (value_at nest (room - 1)) (chunk_read (nest - 1)) tag s.old) }
 {
@@ -58,7 +69,13 @@ fn value_with_tag(alloc: Global, s: &mut Source<'_>, nest: u32, room: u32, tag: 
 
 /// So many values.
 #[cycle(values)]
-fn values_of(alloc: Global, s: &mut Source<'_>, nest: u32, room: u32, count: u16) -> Result<Values, SpellFault>
+fn values_of(
+    alloc: Global,
+    s: &mut Source<'_>,
+    nest: u32,
+    room: u32,
+    count: u16,
+) -> Result<Values, SpellFault>
     ensures { Gives result s.new (many (value_at nest room) count s.old) }
 {
     let mut values = Items::new(alloc);
@@ -90,5 +107,9 @@ pub fn chunk_of(alloc: Global, s: &mut Source<'_>, nest: u32) -> Result<Chunk, S
 {
     let start = s.place();
     let chunk = fields_of(alloc, s, nest)?;
-    if is_light(nest, s.place().saturating_sub(start)) { Ok(chunk) } else { Err(SpellFault::OverLimit(Limit::Weight, start)) }
+    if is_light(nest, s.place().saturating_sub(start)) {
+        Ok(chunk)
+    } else {
+        Err(SpellFault::OverLimit(Limit::Weight, start))
+    }
 }

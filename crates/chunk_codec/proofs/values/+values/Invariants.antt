@@ -8,7 +8,7 @@ abbrev pub decreases-value_of : goal.decreases-value_of
 decreases-value_of l = 64 * l.nest + 4 * l.room + 1
 
 abbrev pub decreases-value_with_tag : goal.decreases-value_with_tag
-decreases-value_with_tag l = 64 * l.nest + 4 * l.room 
+decreases-value_with_tag l = 64 * l.nest + 4 * l.room
 
 abbrev pub decreases-values_of : goal.decreases-values_of
 decreases-values_of l = 64 * l.nest + 4 * l.room + 2
