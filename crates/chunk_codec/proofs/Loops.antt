@@ -24,7 +24,7 @@ module _ {A : Type 0} (one : Reader A) (xs : List A) (count k : ℕ) (s : Scan) 
 
   -- one more is read
   pub loop_goes : (x : A) (g : Scan) → k < count → one s ≡ Ok (x, g) → with_front xs (many one (count - k) s) ≡ start
-    → with_front (xs ++ x ∷ []) (many one (count - (k + 1)) g) ≡ start
+      → with_front (xs ++ x ∷ []) (many one (count - (k + 1)) g) ≡ start
   loop_goes x g h r same =
       let more : count - k ≡ suc (count - (k + 1)) = omega arith in
       many_goes_on one (count - (k + 1)) s x g xs r ∙ ap (λ n. with_front xs (many one n s)) (sym more) ∙ same

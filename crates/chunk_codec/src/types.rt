@@ -21,7 +21,12 @@ pub fn type_of(alloc: Global, s: &mut Source<'_>, room: u32) -> Result<Ty, Spell
 /// What is behind a type's tag.
 #[cycle(types)]
 #[tactic(auto, unfolding(crate::specs::Reading::type_behind, chunk_spelling::specs::Parts::counted_at))]
-fn type_with_tag(alloc: Global, s: &mut Source<'_>, room: u32, tag: TypeTag) -> Result<Ty, SpellFault>
+fn type_with_tag(
+    alloc: Global,
+    s: &mut Source<'_>,
+    room: u32,
+    tag: TypeTag,
+) -> Result<Ty, SpellFault>
     requires { 0 < room }
     ensures { Gives result s.new (type_behind (type_at (room - 1)) tag s.old) }
 {

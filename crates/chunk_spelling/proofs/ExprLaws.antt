@@ -39,7 +39,7 @@ flat_same : {X : Type 0} (f g : X → List ℕ) → ((x : X) → f x ≡ g x) �
 flat_same f g e xs = flat_map-map f xs ∙ (λ i. flat_map (λ x. e x i) xs)
 
 expr_bytes_step : (f : Expr → List ℕ) (g h : Clause → List ℕ) → ((c : Clause) → g c ≡ h c) → (x : Expr-F Expr Clause)
-  → expr_bytes_level (λ bs. bs) (λ bs. bs) (map-Expr Expr Clause (List ℕ) (List ℕ) f g x) ≡ expr_bytes_level f h x
+    → expr_bytes_level (λ bs. bs) (λ bs. bs) (map-Expr Expr Clause (List ℕ) (List ℕ) f g x) ≡ expr_bytes_level f h x
 expr_bytes_step f g h e (Expr-F.Tuple es) = (λ i. 42 ∷ length-map es f i ∷ flat_map-map f es i)
 expr_bytes_step f g h e (Expr-F.Call x es) = (λ i. 43 ∷ (name_bytes x ++ (length-map es f i ∷ flat_map-map f es i)))
 expr_bytes_step f g h e (Expr-F.ChunkOf x es) = (λ i. 56 ∷ (name_bytes x ++ (length-map es f i ∷ flat_map-map f es i)))
@@ -51,7 +51,7 @@ unfolding expr_bytes
 expr_bytes_out e =
     fold_out-Expr (List ℕ) (List ℕ) (expr_bytes_level (λ bs. bs) (λ bs. bs)) (clause_bytes_level (λ bs. bs)) e
     ∙ expr_bytes_step expr_bytes (fold-Clause (List ℕ) (List ℕ) (expr_bytes_level (λ bs. bs) (λ bs. bs)) (clause_bytes_level (λ bs. bs))) clause_bytes
-        (λ c. fold_out-Clause (List ℕ) (List ℕ) (expr_bytes_level (λ bs. bs) (λ bs. bs)) (clause_bytes_level (λ bs. bs)) c) (out-Expr e)
+    (λ c. fold_out-Clause (List ℕ) (List ℕ) (expr_bytes_level (λ bs. bs) (λ bs. bs)) (clause_bytes_level (λ bs. bs)) c) (out-Expr e)
 
 -- ---- tags
 
@@ -122,31 +122,31 @@ expr_tag : (room : ℕ) → Tag (expr_tag_at room) (λ _. 0 < room) expr_byte 1
 unfolding expr_tag_at
 expr_tag room = record {
   may = λ f g t e.
-    let b = bind_ok (table_field 32 EXPR_TAGS f) _ _ e in
-    let c = bind_ok (allowed (nat_lt f.nodes 4096) (OverLimit Limit.Nodes f.front.at) b.first) _ _ b.then_read in
-    let d = bind_ok (allowed (nat_lt 0 room) (OverLimit Limit.Depth f.front.at) c.first) _ _ c.then_read in
-    ltb-true 0 room (allowed_ok _ _ c.first d.first d.read).0;
+      let b = bind_ok (table_field 32 EXPR_TAGS f) _ _ e in
+      let c = bind_ok (allowed (nat_lt f.nodes 4096) (OverLimit Limit.Nodes f.front.at) b.first) _ _ b.then_read in
+      let d = bind_ok (allowed (nat_lt 0 room) (OverLimit Limit.Depth f.front.at) c.first) _ _ c.then_read in
+      ltb-true 0 room (allowed_ok _ _ c.first d.first d.read).0;
   takes = λ f g t h k e.
-    let b = bind_ok (table_field 32 EXPR_TAGS f) _ _ e in
-    let c = bind_ok (allowed (nat_lt f.nodes 4096) (OverLimit Limit.Nodes f.front.at) b.first) _ _ b.then_read in
-    let d = bind_ok (allowed (nat_lt 0 room) (OverLimit Limit.Depth f.front.at) c.first) _ _ c.then_read in
-    let few = allowed_ok _ _ b.first c.first c.read in
-    let there = allowed_ok _ _ c.first d.first d.read in
-    let small = ltb-true f.nodes 4096 few.0 in
-    let P : ExprTag × Scan → Type 0 = λ q. Took f (expr_byte q.0 ∷ []) 0 q.1 in
-    let took : P d.first = subst P (few.1 ∙ there.1) (table_takes 32 EXPR_TAGS expr_byte expr_table f b.first.1 b.first.0 h b.read) in
-    let more : Took f (expr_byte d.first.0 ∷ []) 1 (one_more d.first).1 = record { parts = took.parts; place = took.place; count = omega (arith, took.count) } in
-    let Q : ExprTag × Scan → Type 0 = λ q. Took f (expr_byte q.0 ∷ []) 1 q.1 in
-    let all : Q (t, g) = subst Q (ok_inj d.then_read) more in
-    (all, omega (arith, all.count, small));
+      let b = bind_ok (table_field 32 EXPR_TAGS f) _ _ e in
+      let c = bind_ok (allowed (nat_lt f.nodes 4096) (OverLimit Limit.Nodes f.front.at) b.first) _ _ b.then_read in
+      let d = bind_ok (allowed (nat_lt 0 room) (OverLimit Limit.Depth f.front.at) c.first) _ _ c.then_read in
+      let few = allowed_ok _ _ b.first c.first c.read in
+      let there = allowed_ok _ _ c.first d.first d.read in
+      let small = ltb-true f.nodes 4096 few.0 in
+      let P : ExprTag × Scan → Type 0 = λ q. Took f (expr_byte q.0 ∷ []) 0 q.1 in
+      let took : P d.first = subst P (few.1 ∙ there.1) (table_takes 32 EXPR_TAGS expr_byte expr_table f b.first.1 b.first.0 h b.read) in
+      let more : Took f (expr_byte d.first.0 ∷ []) 1 (one_more d.first).1 = record { parts = took.parts; place = took.place; count = omega (arith, took.count) } in
+      let Q : ExprTag × Scan → Type 0 = λ q. Took f (expr_byte q.0 ∷ []) 1 q.1 in
+      let all : Q (t, g) = subst Q (ok_inj d.then_read) more in
+      (all, omega (arith, all.count, small));
   again = λ f g t a took k.
-    let m : Scan = record g { nodes = f.nodes } in
-    let first : Took f (expr_byte t ∷ []) 0 m = record { parts = took.parts; place = took.place; count = omega arith } in
-    let small : f.nodes < 4096 = omega (arith, took.count) in
-    let count : f.nodes + 1 ≡ g.nodes = omega (arith, took.count) in
-    bind_is _ (table_again 32 EXPR_TAGS expr_byte expr_table f m t first)
-    (bind_is _ (allowed_is _ _ (t, m) (lt-ltb f.nodes 4096 small))
-    (bind_is _ (allowed_is _ _ (t, m) (lt-ltb 0 room a)) (λ i. Ok (t, record g { nodes = count i }))));
+      let m : Scan = record g { nodes = f.nodes } in
+      let first : Took f (expr_byte t ∷ []) 0 m = record { parts = took.parts; place = took.place; count = omega arith } in
+      let small : f.nodes < 4096 = omega (arith, took.count) in
+      let count : f.nodes + 1 ≡ g.nodes = omega (arith, took.count) in
+      bind_is _ (table_again 32 EXPR_TAGS expr_byte expr_table f m t first)
+      (bind_is _ (allowed_is _ _ (t, m) (lt-ltb f.nodes 4096 small))
+      (bind_is _ (allowed_is _ _ (t, m) (lt-ltb 0 room a)) (λ i. Ok (t, record g { nodes = count i }))));
 }
 
 -- ---- clauses
@@ -155,27 +155,27 @@ clause_tag : (last : Bool) → Tag (clause_tag_at last) (λ named. IsTrue (named
 unfolding clause_tag_at
 clause_tag last = record {
   may = λ f g t e.
-    let b = bind_ok (table_field 0 flags f) _ _ e in
-    let a = allowed_ok _ _ b.first (t, g) b.then_read in
-    let P : Bool × Scan → Type 0 = λ q. IsTrue (q.0 || last) in
-    subst P a.1 a.0;
+      let b = bind_ok (table_field 0 flags f) _ _ e in
+      let a = allowed_ok _ _ b.first (t, g) b.then_read in
+      let P : Bool × Scan → Type 0 = λ q. IsTrue (q.0 || last) in
+      subst P a.1 a.0;
   takes = λ f g t h k e.
-    let b = bind_ok (table_field 0 flags f) _ _ e in
-    let a = allowed_ok _ _ b.first (t, g) b.then_read in
-    let P : Bool × Scan → Type 0 = λ q. Took f (flag_byte q.0 ∷ []) 0 q.1 in
-    let took : P (t, g) = subst P a.1 (table_takes 0 flags flag_byte flag_table f b.first.1 b.first.0 h b.read) in
-    (took, omega (arith, took.count));
+      let b = bind_ok (table_field 0 flags f) _ _ e in
+      let a = allowed_ok _ _ b.first (t, g) b.then_read in
+      let P : Bool × Scan → Type 0 = λ q. Took f (flag_byte q.0 ∷ []) 0 q.1 in
+      let took : P (t, g) = subst P a.1 (table_takes 0 flags flag_byte flag_table f b.first.1 b.first.0 h b.read) in
+      (took, omega (arith, took.count));
   again = λ f g t a took k. bind_is _ (table_again 0 flags flag_byte flag_table f g t took) (allowed_is _ _ (t, g) a);
 }
 
 module _ (room : ℕ) (lawful : Lawful (expr_part room)) where
   clause_is_form_by : (n : Option (List ℕ)) (e : Expr) → FormIs flag_byte 0 (clause_forms (expr_part room)) (clause_of_parts (expr_part room)) (clause_parts_by (expr_part room) n e)
-    (record { name = n; body = e }) (catch_bytes n ++ expr_bytes e) (expr_nodes e)
+      (record { name = n; body = e }) (catch_bytes n ++ expr_bytes e) (expr_nodes e)
   clause_is_form_by None e = (refl, (λ i. 0 ∷ sym (append-nil (expr_bytes e)) i), omega arith)
   clause_is_form_by (Some n) e = (refl, (λ i. 1 ∷ (name_bytes n ++ sym (append-nil (expr_bytes e)) i)), omega arith)
 
   clause_form_is : (t : Bool) (xs : Held (clause_forms (expr_part room) t))
-    → clause_parts_by (expr_part room) (clause_of_parts (expr_part room) t xs).name (clause_of_parts (expr_part room) t xs).body ≡ Some (t, xs)
+      → clause_parts_by (expr_part room) (clause_of_parts (expr_part room) t xs).name (clause_of_parts (expr_part room) t xs).body ≡ Some (t, xs)
   clause_form_is false xs = refl
   clause_form_is true xs = refl
 
@@ -190,7 +190,7 @@ module _ (room : ℕ) (lawful : Lawful (expr_part room)) where
       (λ c. clause_is_form_by c.name c.body) clause_form_is (λ more f. refl)
 
   from_takes : (n : ℕ) (f g : Scan) (cs : List Clause) → IsBytes f.front.rest → f.nodes ≤ 4096 → clauses_from (λ last. (clause_part last room (expr_part room)).read) n f ≡ Ok (cs, g)
-    → Took f (flat_map clause_bytes cs) (sum_by clause_nodes cs) g × ClausesFit (λ last. (clause_part last room (expr_part room)).Fits) cs × (length cs ≡ n) × (g.nodes ≤ 4096)
+      → Took f (flat_map clause_bytes cs) (sum_by clause_nodes cs) g × ClausesFit (λ last. (clause_part last room (expr_part room)).Fits) cs × (length cs ≡ n) × (g.nodes ≤ 4096)
   unfolding clauses_from
   from_takes zero f g cs h k e =
       let q = ok_inj e in
@@ -207,7 +207,7 @@ module _ (room : ℕ) (lawful : Lawful (expr_part room)) where
       subst P q (Took-as refl (sym (sum_by-cons clause_nodes b.first.0 c.first.0)) (Took-then t.took r.0), (subst R (sym r.2) t.fits, r.1), ap suc r.2, r.3)
 
   from_again : (cs : List Clause) (f g : Scan) → ClausesFit (λ last. (clause_part last room (expr_part room)).Fits) cs → Took f (flat_map clause_bytes cs) (sum_by clause_nodes cs) g → g.nodes ≤ 4096
-    → clauses_from (λ last. (clause_part last room (expr_part room)).read) (length cs) f ≡ Ok (cs, g)
+      → clauses_from (λ last. (clause_part last room (expr_part room)).read) (length cs) f ≡ Ok (cs, g)
   unfolding clauses_from
   from_again [] f g h t k =
       let same : f ≡ g = sym (scan_is g f.front.at f.nodes f.front.rest (omega (arith, t.place)) (sym t.parts) (omega (arith, t.count))) in
@@ -236,26 +236,27 @@ module _ (room : ℕ) (lawful : Lawful (expr_part room)) where
   unfolding clauses_at
   clauses_lawful = record {
     takes = λ f g xs h k e.
-      let b = bind_ok (count_field Limit.Clauses 1 8 f) _ _ e in
-      let c = count_takes Limit.Clauses 1 8 f b.first.1 b.first.0 h b.read in
-      let small : b.first.1.nodes ≤ 4096 = omega (arith, c.0.count) in
-      let m = from_takes b.first.0 b.first.1 g xs (Took-bytes c.0 h) small b.then_read in
-      record {
-        took = Took-as (ap (λ n. n ∷ flat_map clause_bytes xs) (sym m.2)) (omega arith) (Took-then c.0 m.0);
-        fits = (omega (arith, c.1, m.2), omega (arith, c.2, m.2), m.1);
-        within = m.3 };
+        let b = bind_ok (count_field Limit.Clauses 1 8 f) _ _ e in
+        let c = count_takes Limit.Clauses 1 8 f b.first.1 b.first.0 h b.read in
+        let small : b.first.1.nodes ≤ 4096 = omega (arith, c.0.count) in
+        let m = from_takes b.first.0 b.first.1 g xs (Took-bytes c.0 h) small b.then_read in
+        record {
+          took = Took-as (ap (λ n. n ∷ flat_map clause_bytes xs) (sym m.2)) (omega arith) (Took-then c.0 m.0);
+          fits = (omega (arith, c.1, m.2), omega (arith, c.2, m.2), m.1);
+          within = m.3;
+        };
     again = λ f g xs h t k.
-      let bs = length xs ∷ [] in
-      let cs = flat_map clause_bytes xs in
-      let b = sum_by clause_nodes xs in
-      let m = between f bs cs 0 g in
-      let u : Took f (bs ++ cs) (0 + b) g = Took-as refl (omega arith) t in
-      let second = Took-second f g bs cs 0 b u in
-      bind_is _ (count_again Limit.Clauses 1 8 f m (length xs) h.0 h.1 (Took-first f g bs cs 0 b u)) (from_again xs m g h.2 second k);
+        let bs = length xs ∷ [] in
+        let cs = flat_map clause_bytes xs in
+        let b = sum_by clause_nodes xs in
+        let m = between f bs cs 0 g in
+        let u : Took f (bs ++ cs) (0 + b) g = Took-as refl (omega arith) t in
+        let second = Took-second f g bs cs 0 b u in
+        bind_is _ (count_again Limit.Clauses 1 8 f m (length xs) h.0 h.1 (Took-first f g bs cs 0 b u)) (from_again xs m g h.2 second k);
     goes = λ more f.
-      chain step (several_clauses room ∷ more) f (λ n. clause_items n room more) (λ _. more) (count_field Limit.Clauses 1 8 f) _
-      (one_step step (several_clauses room) more f (λ n. clause_items n room more) (count_field Limit.Clauses 1 8 f) refl)
-      (λ x _. from_goes x.0 more x.1);
+        chain step (several_clauses room ∷ more) f (λ n. clause_items n room more) (λ _. more) (count_field Limit.Clauses 1 8 f) _
+        (one_step step (several_clauses room) more f (λ n. clause_items n room more) (count_field Limit.Clauses 1 8 f) refl)
+        (λ x _. from_goes x.0 more x.1);
   }
 
 -- ---- expressions
@@ -369,8 +370,8 @@ module _ (room below : ℕ) (core : Core Expr) where
   all_lawful _ k c = tt
 
   pub within_lawful : (0 < room → Lawful deeper × Lawful caught)
-    → ((more : List Item) (f : Scan) → step (an_expr room) more f ≡ (expr_tag_at room f >>= λ t. Ok (items_of_parts (expr_forms deeper caught t.0) more, t.1)))
-    → Lawful (expr_from room (expr_within room below core))
+      → ((more : List Item) (f : Scan) → step (an_expr room) more f ≡ (expr_tag_at room f >>= λ t. Ok (items_of_parts (expr_forms deeper caught t.0) more, t.1)))
+      → Lawful (expr_from room (expr_within room below core))
   within_lawful l steps =
       formed_lawful (an_expr room) (expr_tag_at room) (λ _. 0 < room) expr_byte 1 (expr_forms deeper caught) (expr_of_parts deeper caught)
       (λ e. expr_parts deeper caught (out-Expr e)) expr_bytes expr_nodes (expr_tag room) (λ tag a. all_lawful tag (l a).0 (l a).1) is_form form_is steps

@@ -44,9 +44,10 @@ cut_takes {A} k make f g x h = by_test (nat_lt (length f.front.rest) k) refl h
         let pair = ok_inj h in
         let enough : k ≤ length f.front.rest = ltb-false (length f.front.rest) k e in
         let t : Took f (take k f.front.rest) 0 (record f { front = after k f.front }) = record {
-            parts = sym (take-append-drop k f.front.rest);
-            place = let l = length-take-le k f.front.rest enough in ap (λ n. f.front.at + n) (sym l);
-            count = omega arith } in
+          parts = sym (take-append-drop k f.front.rest);
+          place = let l = length-take-le k f.front.rest enough in ap (λ n. f.front.at + n) (sym l);
+          count = omega arith;
+        } in
         let P : Scan → Type 0 = λ s. Took f (take k f.front.rest) 0 s in
         record { enough = enough; value = sym (ap (λ p. p.0) pair); took = subst P (ap (λ p. p.1) pair) t }
 

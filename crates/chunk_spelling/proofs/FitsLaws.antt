@@ -40,18 +40,18 @@ type_fits_kept zero t q = type_kept_out t ∙ type_level 0 0 no_type (λ u r. ab
 type_fits_kept (suc room) t q = type_kept_out t ∙ type_level (suc room) room (type_core room) (type_fits_kept room) (out-Ty t) q
 
 clause_by : (below : ℕ) (core : Core Expr) → ((e : Expr) → core.Fits e → expr_kept e ≡ true) → (last : Bool) (n : Option (List ℕ)) (e : Expr)
-  → FormFits (λ named. IsTrue (named || last)) (clause_forms (expr_from below core)) (clause_parts_by (expr_from below core) n e) → expr_kept e ≡ true
+    → FormFits (λ named. IsTrue (named || last)) (clause_forms (expr_from below core)) (clause_parts_by (expr_from below core) n e) → expr_kept e ≡ true
 clause_by below core h last None e q = h e q.1.0
 clause_by below core h last (Some n) e q = h e q.1.1.0
 
 clauses_kept : (below : ℕ) (core : Core Expr) → ((e : Expr) → core.Fits e → expr_kept e ≡ true) → (cs : List Clause)
-  → ClausesFit (λ last. (clause_part last below (expr_from below core)).Fits) cs → list_all clause_kept cs ≡ true
+    → ClausesFit (λ last. (clause_part last below (expr_from below core)).Fits) cs → list_all clause_kept cs ≡ true
 clauses_kept below core h [] q = refl
 clauses_kept below core h (c ∷ cs) q = both (clause_by below core h (is_none_left (length cs)) c.name c.body q.0) (clauses_kept below core h cs q.1)
 
 module _ (room below : ℕ) (core : Core Expr) (h : (e : Expr) → core.Fits e → expr_kept e ≡ true) where
   expr_level : (x : Expr-F Expr Clause) → FormFits (λ _. 0 < room) (expr_forms (expr_from below core) (clauses_part below (expr_from below core))) (expr_parts (expr_from below core) (clauses_part below (expr_from below core)) x)
-    → expr_kept_level expr_kept clause_kept x ≡ true
+      → expr_kept_level expr_kept clause_kept x ≡ true
   expr_level (Expr-F.Str s) q = lt-ltb (length s) 65536 q.1.0.1
   expr_level (Expr-F.Blob s) q = lt-ltb (length s) 65536 q.1.0
   expr_level (Expr-F.Nil (Some t)) q = type_fits_kept 7 t q.1.0
@@ -105,7 +105,7 @@ program_fits_kept p w =
 
 module _ (nest room cnest below : ℕ) (core : Core Value) (chunks : Core Chunk) (h : (v : Value) → core.Fits v → value_kept v ≡ true) (k : (c : Chunk) → chunks.Fits c → chunk_kept c ≡ true) where
   value_level : (x : Value-F Value Chunk) → FormFits (λ tag. IsTrue (may_open nest room tag)) (value_forms (value_from nest below core) (chunk_from cnest chunks)) (value_parts (value_from nest below core) (chunk_from cnest chunks) x)
-    → value_kept_level value_kept chunk_kept x ≡ true
+      → value_kept_level value_kept chunk_kept x ≡ true
   value_level (Value-F.Str s) q = lt-ltb (length s) 65536 q.1.0.1
   value_level (Value-F.Blob s) q = lt-ltb (length s) 65536 q.1.0
   value_level (Value-F.Chunk c) q = k c q.1.0

@@ -26,7 +26,7 @@ unfolding type_kept
 type_kept_out t = fold_out-Ty Bool (type_kept_level (λ b. b)) t ∙ type_step type_kept (out-Ty t)
 
 expr_step : (f : Expr → Bool) (g h : Clause → Bool) → ((c : Clause) → g c ≡ h c) → (x : Expr-F Expr Clause)
-  → expr_kept_level (λ b. b) (λ b. b) (map-Expr Expr Clause Bool Bool f g x) ≡ expr_kept_level f h x
+    → expr_kept_level (λ b. b) (λ b. b) (map-Expr Expr Clause Bool Bool f g x) ≡ expr_kept_level f h x
 expr_step f g h e (Expr-F.Tuple es) = (λ i. nat_lt (length-map es f i) 256 && all-map f es i)
 expr_step f g h e (Expr-F.Call x es) = (λ i. nat_lt (length-map es f i) 256 && all-map f es i)
 expr_step f g h e (Expr-F.ChunkOf x es) = (λ i. nat_lt (length-map es f i) 256 && all-map f es i)
@@ -38,10 +38,10 @@ unfolding expr_kept
 expr_kept_out e =
     fold_out-Expr Bool Bool (expr_kept_level (λ b. b) (λ b. b)) (clause_kept_level (λ b. b)) e
     ∙ expr_step expr_kept (fold-Clause Bool Bool (expr_kept_level (λ b. b) (λ b. b)) (clause_kept_level (λ b. b))) clause_kept
-        (λ c. fold_out-Clause Bool Bool (expr_kept_level (λ b. b) (λ b. b)) (clause_kept_level (λ b. b)) c) (out-Expr e)
+    (λ c. fold_out-Clause Bool Bool (expr_kept_level (λ b. b) (λ b. b)) (clause_kept_level (λ b. b)) c) (out-Expr e)
 
 value_step : (f : Value → Bool) (g h : Chunk → Bool) → ((c : Chunk) → g c ≡ h c) → (x : Value-F Value Chunk)
-  → value_kept_level (λ b. b) (λ b. b) (map-Value Value Chunk Bool Bool f g x) ≡ value_kept_level f h x
+    → value_kept_level (λ b. b) (λ b. b) (map-Value Value Chunk Bool Bool f g x) ≡ value_kept_level f h x
 value_step f g h e (Value-F.Chunk c) = e c
 value_step f g h e (Value-F.List t vs) = (λ i. type_kept t && (nat_lt (length-map vs f i) 65536 && all-map f vs i))
 value_step f g h e (Value-F.Tuple vs) = (λ i. nat_lt (length-map vs f i) 256 && all-map f vs i)

@@ -48,7 +48,7 @@ tag_is {T} byte base ts b t n e = by_test (nat_lt b base) refl e
     by_test false q h = let k = at_number byte base ts (b - base) t n h in let l = ltb-false b base q in omega (arith, k, l)
 
 pub table_takes : {T : Type 0} (base : ℕ) (tags : List T) (byte : T → ℕ) → Table base tags byte → (f g : Scan) (t : T) → IsBytes f.front.rest
-  → table_field base tags f ≡ Ok (t, g) → Took f (byte t ∷ []) 0 g
+    → table_field base tags f ≡ Ok (t, g) → Took f (byte t ∷ []) 0 g
 unfolding table_field
 table_takes base tags byte table f g t h e =
     let b = bind_ok (number_field w8 f) _ _ e in
@@ -59,7 +59,7 @@ table_takes base tags byte table f g t h e =
     subst P q.1 (Took-as (ap (λ n. n ∷ []) same) refl took.0)
 
 pub table_again : {T : Type 0} (base : ℕ) (tags : List T) (byte : T → ℕ) → Table base tags byte → (f g : Scan) (t : T) → Took f (byte t ∷ []) 0 g
-  → table_field base tags f ≡ Ok (t, g)
+    → table_field base tags f ≡ Ok (t, g)
 unfolding table_field
 table_again base tags byte table f g t took = bind_is _ (byte_again f g (byte t) took) (known_is _ _ g t (table.all t))
 
@@ -98,20 +98,20 @@ pub char_lawful : Lawful char_part
 unfolding char_field
 char_lawful = record {
   takes = λ f g x h k e.
-    let b = bind_ok (number_field w32 f) _ _ e in
-    let a = allowed_ok _ _ b.first (x, g) b.then_read in
-    let t = number_takes w32 wide32 f b.first.1 b.first.0 h b.read in
-    let P : ℕ × Scan → Type 0 = λ q. Took f (to_be_bytes w32 q.0) 0 q.1 × (q.0 < 2 ^ 32) in
-    let u : P (x, g) = subst P a.1 t in
-    let Q : ℕ × Scan → Type 0 = λ q. IsScalar q.0 in
-    record { took = u.0; fits = (subst Q a.1 a.0, u.1); within = omega (arith, u.0.count) };
+      let b = bind_ok (number_field w32 f) _ _ e in
+      let a = allowed_ok _ _ b.first (x, g) b.then_read in
+      let t = number_takes w32 wide32 f b.first.1 b.first.0 h b.read in
+      let P : ℕ × Scan → Type 0 = λ q. Took f (to_be_bytes w32 q.0) 0 q.1 × (q.0 < 2 ^ 32) in
+      let u : P (x, g) = subst P a.1 t in
+      let Q : ℕ × Scan → Type 0 = λ q. IsScalar q.0 in
+      record { took = u.0; fits = (subst Q a.1 a.0, u.1); within = omega (arith, u.0.count) };
   again = λ f g x h t k. bind_is _ (number_again w32 wide32 f g x h.1 t) (allowed_is _ _ (x, g) h.0);
   goes = λ more f. one_step step a_char more f (λ _. more) (char_field f) refl;
 }
 
 -- a length, and so many bytes
 sized_takes : (f m g : Scan) (n : ℕ) (bs : List ℕ) → IsBytes f.front.rest → number_field w16 f ≡ Ok (n, m) → bytes_field n m ≡ Ok (bs, g)
-  → Took f (to_be_bytes w16 (length bs) ++ bs) 0 g × (length bs < 2 ^ 16)
+    → Took f (to_be_bytes w16 (length bs) ++ bs) 0 g × (length bs < 2 ^ 16)
 sized_takes f m g n bs h e k =
     let t = number_takes w16 wide16 f m n h e in
     let u = bytes_takes n m g bs k in
@@ -122,14 +122,14 @@ pub blob_lawful : Lawful blob_part
 unfolding blob_field
 blob_lawful = record {
   takes = λ f g x h k e.
-    let b = bind_ok (number_field w16 f) _ _ e in
-    let t = sized_takes f b.first.1 g b.first.0 x h b.read b.then_read in
-    record { took = t.0; fits = t.1; within = omega (arith, t.0.count) };
+      let b = bind_ok (number_field w16 f) _ _ e in
+      let t = sized_takes f b.first.1 g b.first.0 x h b.read b.then_read in
+      record { took = t.0; fits = t.1; within = omega (arith, t.0.count) };
   again = λ f g x h t k.
-    let bs = to_be_bytes w16 (length x) in
-    let u : Took f (bs ++ x) (0 + 0) g = t in
-    let m = between f bs x 0 g in
-    bind_is _ (number_again w16 wide16 f m (length x) h (Took-first f g bs x 0 0 u)) (bytes_again m g x (Took-second f g bs x 0 0 u));
+      let bs = to_be_bytes w16 (length x) in
+      let u : Took f (bs ++ x) (0 + 0) g = t in
+      let m = between f bs x 0 g in
+      bind_is _ (number_again w16 wide16 f m (length x) h (Took-first f g bs x 0 0 u)) (bytes_again m g x (Took-second f g bs x 0 0 u));
   goes = λ more f. one_step step a_blob more f (λ _. more) (blob_field f) refl;
 }
 
@@ -137,20 +137,20 @@ pub text_lawful : Lawful text_part
 unfolding text_field
 text_lawful = record {
   takes = λ f g x h k e.
-    let b = bind_ok (number_field w16 f) _ _ e in
-    let c = bind_ok (bytes_field b.first.0 b.first.1) _ _ b.then_read in
-    let a = allowed_ok _ _ c.first (x, g) c.then_read in
-    let t = sized_takes f b.first.1 c.first.1 b.first.0 c.first.0 h b.read c.read in
-    let P : List ℕ × Scan → Type 0 = λ q. Took f (to_be_bytes w16 (length q.0) ++ q.0) 0 q.1 × (length q.0 < 2 ^ 16) in
-    let u : P (x, g) = subst P a.1 t in
-    let Q : List ℕ × Scan → Type 0 = λ q. IsUtf8 q.0 in
-    record { took = u.0; fits = (subst Q a.1 (IsUtf8-from_is_utf8 c.first.0 a.0), u.1); within = omega (arith, u.0.count) };
+      let b = bind_ok (number_field w16 f) _ _ e in
+      let c = bind_ok (bytes_field b.first.0 b.first.1) _ _ b.then_read in
+      let a = allowed_ok _ _ c.first (x, g) c.then_read in
+      let t = sized_takes f b.first.1 c.first.1 b.first.0 c.first.0 h b.read c.read in
+      let P : List ℕ × Scan → Type 0 = λ q. Took f (to_be_bytes w16 (length q.0) ++ q.0) 0 q.1 × (length q.0 < 2 ^ 16) in
+      let u : P (x, g) = subst P a.1 t in
+      let Q : List ℕ × Scan → Type 0 = λ q. IsUtf8 q.0 in
+      record { took = u.0; fits = (subst Q a.1 (IsUtf8-from_is_utf8 c.first.0 a.0), u.1); within = omega (arith, u.0.count) };
   again = λ f g x h t k.
-    let bs = to_be_bytes w16 (length x) in
-    let u : Took f (bs ++ x) (0 + 0) g = t in
-    let m = between f bs x 0 g in
-    bind_is _ (number_again w16 wide16 f m (length x) h.1 (Took-first f g bs x 0 0 u))
-    (bind_is _ (bytes_again m g x (Took-second f g bs x 0 0 u)) (allowed_is _ _ (x, g) (is_utf8-from_IsUtf8 x h.0)));
+      let bs = to_be_bytes w16 (length x) in
+      let u : Took f (bs ++ x) (0 + 0) g = t in
+      let m = between f bs x 0 g in
+      bind_is _ (number_again w16 wide16 f m (length x) h.1 (Took-first f g bs x 0 0 u))
+      (bind_is _ (bytes_again m g x (Took-second f g bs x 0 0 u)) (allowed_is _ _ (x, g) (is_utf8-from_IsUtf8 x h.0)));
   goes = λ more f. one_step step a_text more f (λ _. more) (text_field f) refl;
 }
 
@@ -174,30 +174,30 @@ pub name_lawful : Lawful name_part
 unfolding name_field
 name_lawful = record {
   takes = λ f g x h k e.
-    let b = bind_ok (number_field w8 f) _ _ e in
-    let c = bind_ok (allowed (nat_le 1 b.first.0) (BadName f.front.at) b.first) _ _ b.then_read in
-    let d = bind_ok (allowed (nat_le c.first.0 32) (BadName f.front.at) c.first) _ _ c.then_read in
-    let r = bind_ok (bytes_field d.first.0 d.first.1) _ _ d.then_read in
-    let low = allowed_ok _ _ b.first c.first c.read in
-    let high = allowed_ok _ _ c.first d.first d.read in
-    let word = allowed_ok _ _ r.first (x, g) r.then_read in
-    let one = byte_takes f b.first.1 b.first.0 h b.read in
-    let P : ℕ × Scan → Type 0 = λ q. Took f (q.0 ∷ []) 0 q.1 in
-    let start : P d.first = subst P (low.1 ∙ high.1) one.0 in
-    let t = bytes_takes d.first.0 d.first.1 r.first.1 r.first.0 r.read in
-    let both : Took f (length r.first.0 ∷ r.first.0) 0 r.first.1 = Took-as (ap (λ n. n ∷ r.first.0) (sym t.1)) refl (Took-then start t.0) in
-    let Q : List ℕ × Scan → Type 0 = λ q. Took f (length q.0 ∷ q.0) 0 q.1 × (is_name q.0 ≡ true) in
-    let u : Q (x, g) = subst Q word.1 (both, word.0) in
-    record { took = u.0; fits = u.1; within = omega (arith, u.0.count) };
+      let b = bind_ok (number_field w8 f) _ _ e in
+      let c = bind_ok (allowed (nat_le 1 b.first.0) (BadName f.front.at) b.first) _ _ b.then_read in
+      let d = bind_ok (allowed (nat_le c.first.0 32) (BadName f.front.at) c.first) _ _ c.then_read in
+      let r = bind_ok (bytes_field d.first.0 d.first.1) _ _ d.then_read in
+      let low = allowed_ok _ _ b.first c.first c.read in
+      let high = allowed_ok _ _ c.first d.first d.read in
+      let word = allowed_ok _ _ r.first (x, g) r.then_read in
+      let one = byte_takes f b.first.1 b.first.0 h b.read in
+      let P : ℕ × Scan → Type 0 = λ q. Took f (q.0 ∷ []) 0 q.1 in
+      let start : P d.first = subst P (low.1 ∙ high.1) one.0 in
+      let t = bytes_takes d.first.0 d.first.1 r.first.1 r.first.0 r.read in
+      let both : Took f (length r.first.0 ∷ r.first.0) 0 r.first.1 = Took-as (ap (λ n. n ∷ r.first.0) (sym t.1)) refl (Took-then start t.0) in
+      let Q : List ℕ × Scan → Type 0 = λ q. Took f (length q.0 ∷ q.0) 0 q.1 × (is_name q.0 ≡ true) in
+      let u : Q (x, g) = subst Q word.1 (both, word.0) in
+      record { took = u.0; fits = u.1; within = omega (arith, u.0.count) };
   again = λ f g x fits t k.
-    let long = name_long x fits in
-    let bs = length x ∷ [] in
-    let u : Took f (bs ++ x) (0 + 0) g = t in
-    let m = between f bs x 0 g in
-    bind_is _ (byte_again f m (length x) (Took-first f g bs x 0 0 u))
-    (bind_is _ (allowed_is _ _ (length x, m) (le-leb 1 (length x) long.0))
-    (bind_is _ (allowed_is _ _ (length x, m) (le-leb (length x) 32 long.1))
-    (bind_is _ (bytes_again m g x (Took-second f g bs x 0 0 u)) (allowed_is _ _ (x, g) fits))));
+      let long = name_long x fits in
+      let bs = length x ∷ [] in
+      let u : Took f (bs ++ x) (0 + 0) g = t in
+      let m = between f bs x 0 g in
+      bind_is _ (byte_again f m (length x) (Took-first f g bs x 0 0 u))
+      (bind_is _ (allowed_is _ _ (length x, m) (le-leb 1 (length x) long.0))
+      (bind_is _ (allowed_is _ _ (length x, m) (le-leb (length x) 32 long.1))
+      (bind_is _ (bytes_again m g x (Took-second f g bs x 0 0 u)) (allowed_is _ _ (x, g) fits))));
   goes = λ more f. one_step step a_name more f (λ _. more) (name_field f) refl;
 }
 

@@ -47,7 +47,7 @@ pub record PartsTaken {B : Type 0} (ps : Parts) (build : Held ps → B) (f : Sca
   pub all : AllTaken ps f held g
 
 pub reads_takes : {B : Type 0} (ps : Parts) → AllLawful ps → (build : Held ps → B) (f g : Scan) (y : B)
-  → IsBytes f.front.rest → f.nodes ≤ 4096 → reads ps build f ≡ Ok (y, g) → PartsTaken ps build f y g
+    → IsBytes f.front.rest → f.nodes ≤ 4096 → reads ps build f ≡ Ok (y, g) → PartsTaken ps build f y g
 reads_takes done l build f g y h k e =
     let p = ok_inj e in
     let P : Scan → Type 0 = λ s. AllTaken done f tt s in
@@ -60,7 +60,7 @@ reads_takes (p & ps) l build f g y h k e =
     record { held = (x.0, rest.held); is = rest.is; all = record { took = Took-then t.took rest.all.took; fit = (t.fits, rest.all.fit); within = rest.all.within } }
 
 pub reads_again : {B : Type 0} (ps : Parts) → AllLawful ps → (build : Held ps → B) (f g : Scan) (xs : Held ps)
-  → AllFit ps xs → Took f (bytes_of_parts ps xs) (nodes_of_parts ps xs) g → g.nodes ≤ 4096 → reads ps build f ≡ Ok (build xs, g)
+    → AllFit ps xs → Took f (bytes_of_parts ps xs) (nodes_of_parts ps xs) g → g.nodes ≤ 4096 → reads ps build f ≡ Ok (build xs, g)
 reads_again done l build f g xs h t k =
     let same : f ≡ g = sym (scan_is g f.front.at f.nodes f.front.rest (omega (arith, t.place)) (sym t.parts) (omega (arith, t.count))) in
     ap (λ s. Ok (build tt, s)) same
@@ -76,7 +76,7 @@ reads_again (p & ps) l build f g xs h t k =
     bind_is _ (l.0.again f m xs.0 h.0 first small) (reads_again ps l.1 (λ ys. build (xs.0, ys)) m g xs.1 h.1 second k)
 
 pub reads_go : {B : Type 0} (ps : Parts) → AllLawful ps → (build : Held ps → B) (more : List Item) (f : Scan)
-  → Goes step (items_of_parts ps more) f (λ _. more) (reads ps build f)
+    → Goes step (items_of_parts ps more) f (λ _. more) (reads ps build f)
 reads_go done l build more f = idle step more f (build tt)
 reads_go (p & ps) l build more f =
     chain step (p.item ∷ items_of_parts ps more) f (λ _. items_of_parts ps more) (λ _. more) (p.read f) _ (l.0.goes (items_of_parts ps more) f)
@@ -92,7 +92,7 @@ pub record Tag {T : Type 0} (read : Reader T) (Allowed : T → Type 0) (byte : T
 
 -- a tree is its form with its parts, and so are its bytes
 abbrev pub FormIs : {T A : Type 0} (byte : T → ℕ) (cost : ℕ) (forms : T → Parts) (build : (t : T) → Held (forms t) → A)
-  → Option ((t : T) × Held (forms t)) → A → List ℕ → ℕ → Type 0
+    → Option ((t : T) × Held (forms t)) → A → List ℕ → ℕ → Type 0
 FormIs byte cost forms build None x bytes nodes = Unit {0}
 FormIs byte cost forms build (Some y) x bytes nodes =
     (x ≡ build y.0 y.1) × (bytes ≡ byte y.0 ∷ bytes_of_parts (forms y.0) y.1) × (nodes ≡ cost + nodes_of_parts (forms y.0) y.1)
@@ -123,12 +123,12 @@ module _ {T A : Type 0} (i : Item) (tag : Reader T) (Allowed : T → Type 0) (by
       let whole : Took f (byte t ∷ bytes_of_parts (forms t) r.held) (cost + nodes_of_parts (forms t) r.held) g = Took-then took.0 r.all.took in
       let is = built t r.held in
       let fits : FormFits Allowed forms (parts (build t r.held)) =
-          let P : Option ((u : T) × Held (forms u)) → Type 0 = FormFits Allowed forms in subst P (sym (form_is t r.held)) (allowed, r.all.fit) in
+      let P : Option ((u : T) × Held (forms u)) → Type 0 = FormFits Allowed forms in subst P (sym (form_is t r.held)) (allowed, r.all.fit) in
       let P : A → Type 0 = λ y. Taken part f y g in
       subst P (sym r.is) (record { took = Took-as (sym is.1) (sym is.2) whole; fits = fits; within = r.all.within })
 
   again_by : (f g : Scan) (x : A) (o : Option ((t : T) × Held (forms t))) → FormIs byte cost forms build o x (bytes x) (nodes x) → FormFits Allowed forms o
-    → Took f (bytes x) (nodes x) g → g.nodes ≤ 4096 → tagged_at tag forms build f ≡ Ok (x, g)
+      → Took f (bytes x) (nodes x) g → g.nodes ≤ 4096 → tagged_at tag forms build f ≡ Ok (x, g)
   unfolding tagged_at
   again_by f g x None is fits took k = absurd fits
   again_by f g x (Some y) is fits took k =
@@ -159,7 +159,7 @@ module _ {T A : Type 0} (i : Item) (tag : Reader T) (Allowed : T → Type 0) (by
 -- ---- lists with a count
 
 many_takes : {A : Type 0} (p : Part A) → Lawful p → (n : ℕ) (f g : Scan) (xs : List A) → IsBytes f.front.rest → f.nodes ≤ 4096
-  → many p.read n f ≡ Ok (xs, g) → Took f (flat_map p.bytes xs) (sum_by p.nodes xs) g × EachFits p.Fits xs × (length xs ≡ n) × (g.nodes ≤ 4096)
+    → many p.read n f ≡ Ok (xs, g) → Took f (flat_map p.bytes xs) (sum_by p.nodes xs) g × EachFits p.Fits xs × (length xs ≡ n) × (g.nodes ≤ 4096)
 unfolding many
 many_takes {A} p l zero f g xs h k e =
     let q = ok_inj e in
@@ -175,7 +175,7 @@ many_takes {A} p l (suc n) f g xs h k e =
     subst P q (Took-as refl (sym (sum_by-cons p.nodes b.first.0 c.first.0)) (Took-then t.took r.0), (t.fits, r.1), ap suc r.2, r.3)
 
 many_again : {A : Type 0} (p : Part A) → Lawful p → (xs : List A) (f g : Scan) → EachFits p.Fits xs → Took f (flat_map p.bytes xs) (sum_by p.nodes xs) g → g.nodes ≤ 4096
-  → many p.read (length xs) f ≡ Ok (xs, g)
+    → many p.read (length xs) f ≡ Ok (xs, g)
 unfolding many
 many_again p l [] f g h t k =
     let same : f ≡ g = sym (scan_is g f.front.at f.nodes f.front.rest (omega (arith, t.place)) (sym t.parts) (omega (arith, t.count))) in
@@ -193,7 +193,7 @@ many_again p l (x ∷ xs) f g h t k =
     bind_is _ (l.again f m x h.0 first small) (bind_is _ (many_again p l xs m g h.1 second k) refl)
 
 pub count_takes : (limit : Limit) (least most : ℕ) (f g : Scan) (n : ℕ) → IsBytes f.front.rest → count_field limit least most f ≡ Ok (n, g)
-  → Took f (n ∷ []) 0 g × (least ≤ n) × (n ≤ most)
+    → Took f (n ∷ []) 0 g × (least ≤ n) × (n ≤ most)
 unfolding count_field
 count_takes limit least most f g n h e =
     let b = bind_ok (number_field w8 f) _ _ e in
@@ -217,59 +217,61 @@ pub several_lawful : {A : Type 0} (limit : Limit) (least most : ℕ) (p : Part A
 unfolding counted_at
 several_lawful limit least most p l = record {
   takes = λ f g xs h k e.
-    let b = bind_ok (count_field limit least most f) _ _ e in
-    let c = count_takes limit least most f b.first.1 b.first.0 h b.read in
-    let small : b.first.1.nodes ≤ 4096 = omega (arith, c.0.count) in
-    let m = many_takes p l b.first.0 b.first.1 g xs (Took-bytes c.0 h) small b.then_read in
-    record {
-      took = Took-as (ap (λ n. n ∷ flat_map p.bytes xs) (sym m.2)) (omega arith) (Took-then c.0 m.0);
-      fits = (omega (arith, c.1, m.2), omega (arith, c.2, m.2), m.1);
-      within = m.3 };
+      let b = bind_ok (count_field limit least most f) _ _ e in
+      let c = count_takes limit least most f b.first.1 b.first.0 h b.read in
+      let small : b.first.1.nodes ≤ 4096 = omega (arith, c.0.count) in
+      let m = many_takes p l b.first.0 b.first.1 g xs (Took-bytes c.0 h) small b.then_read in
+      record {
+        took = Took-as (ap (λ n. n ∷ flat_map p.bytes xs) (sym m.2)) (omega arith) (Took-then c.0 m.0);
+        fits = (omega (arith, c.1, m.2), omega (arith, c.2, m.2), m.1);
+        within = m.3;
+      };
   again = λ f g xs h t k.
-    let bs = length xs ∷ [] in
-    let cs = flat_map p.bytes xs in
-    let b = sum_by p.nodes xs in
-    let m = between f bs cs 0 g in
-    let u : Took f (bs ++ cs) (0 + b) g = Took-as refl (omega arith) t in
-    let second = Took-second f g bs cs 0 b u in
-    bind_is _ (count_again limit least most f m (length xs) h.0 h.1 (Took-first f g bs cs 0 b u)) (many_again p l xs m g h.2 second k);
+      let bs = length xs ∷ [] in
+      let cs = flat_map p.bytes xs in
+      let b = sum_by p.nodes xs in
+      let m = between f bs cs 0 g in
+      let u : Took f (bs ++ cs) (0 + b) g = Took-as refl (omega arith) t in
+      let second = Took-second f g bs cs 0 b u in
+      bind_is _ (count_again limit least most f m (length xs) h.0 h.1 (Took-first f g bs cs 0 b u)) (many_again p l xs m g h.2 second k);
   goes = λ more f.
-    chain step (counted limit least most p.item ∷ more) f (λ n. times n p.item more) (λ _. more) (count_field limit least most f) _
-    (one_step step (counted limit least most p.item) more f (λ n. times n p.item more) (count_field limit least most f) refl)
-    (λ x _. many_goes step p.item p.read l.goes x.0 more x.1);
+      chain step (counted limit least most p.item ∷ more) f (λ n. times n p.item more) (λ _. more) (count_field limit least most f) _
+      (one_step step (counted limit least most p.item) more f (λ n. times n p.item more) (count_field limit least most f) refl)
+      (λ x _. many_goes step p.item p.read l.goes x.0 more x.1);
 }
 
 pub list_lawful : {A : Type 0} (p : Part A) → Lawful p → Lawful (list_of p)
 unfolding listed_at
 list_lawful p l = record {
   takes = λ f g xs h k e.
-    let b = bind_ok (number_field w16 f) _ _ e in
-    let c = number_takes w16 wide16 f b.first.1 b.first.0 h b.read in
-    let small : b.first.1.nodes ≤ 4096 = omega (arith, c.0.count) in
-    let m = many_takes p l b.first.0 b.first.1 g xs (Took-bytes c.0 h) small b.then_read in
-    record {
-      took = Took-as (ap (λ n. to_be_bytes w16 n ++ flat_map p.bytes xs) (sym m.2)) (omega arith) (Took-then c.0 m.0);
-      fits = (let P : ℕ → Type 0 = λ n. n < 2 ^ 16 in subst P (sym m.2) c.1, m.1);
-      within = m.3 };
+      let b = bind_ok (number_field w16 f) _ _ e in
+      let c = number_takes w16 wide16 f b.first.1 b.first.0 h b.read in
+      let small : b.first.1.nodes ≤ 4096 = omega (arith, c.0.count) in
+      let m = many_takes p l b.first.0 b.first.1 g xs (Took-bytes c.0 h) small b.then_read in
+      record {
+        took = Took-as (ap (λ n. to_be_bytes w16 n ++ flat_map p.bytes xs) (sym m.2)) (omega arith) (Took-then c.0 m.0);
+        fits = (let P : ℕ → Type 0 = λ n. n < 2 ^ 16 in subst P (sym m.2) c.1, m.1);
+        within = m.3;
+      };
   again = λ f g xs h t k.
-    let bs = to_be_bytes w16 (length xs) in
-    let cs = flat_map p.bytes xs in
-    let b = sum_by p.nodes xs in
-    let m = between f bs cs 0 g in
-    let u : Took f (bs ++ cs) (0 + b) g = Took-as refl (omega arith) t in
-    let second = Took-second f g bs cs 0 b u in
-    bind_is _ (number_again w16 wide16 f m (length xs) h.0 (Took-first f g bs cs 0 b u)) (many_again p l xs m g h.1 second k);
+      let bs = to_be_bytes w16 (length xs) in
+      let cs = flat_map p.bytes xs in
+      let b = sum_by p.nodes xs in
+      let m = between f bs cs 0 g in
+      let u : Took f (bs ++ cs) (0 + b) g = Took-as refl (omega arith) t in
+      let second = Took-second f g bs cs 0 b u in
+      bind_is _ (number_again w16 wide16 f m (length xs) h.0 (Took-first f g bs cs 0 b u)) (many_again p l xs m g h.1 second k);
   goes = λ more f.
-    chain step (listed p.item ∷ more) f (λ n. times n p.item more) (λ _. more) (number_field w16 f) _
-    (one_step step (listed p.item) more f (λ n. times n p.item more) (number_field w16 f) refl)
-    (λ x _. many_goes step p.item p.read l.goes x.0 more x.1);
+      chain step (listed p.item ∷ more) f (λ n. times n p.item more) (λ _. more) (number_field w16 f) _
+      (one_step step (listed p.item) more f (λ n. times n p.item more) (number_field w16 f) refl)
+      (λ x _. many_goes step p.item p.read l.goes x.0 more x.1);
 }
 
 -- ---- constructs without a tag
 
 -- a step that reads nothing
 pub opens : {B : Type 0} (i : Item) (more mid : List Item) (f m : Scan) (r : Scan → Result (B × Scan) SpellFault)
-  → step i more f ≡ Ok (mid, m) → Goes step mid m (λ _. more) (r m) → Goes step (i ∷ more) f (λ _. more) (r m)
+    → step i more f ≡ Ok (mid, m) → Goes step mid m (λ _. more) (r m) → Goes step (i ∷ more) f (λ _. more) (r m)
 opens {B} i more mid f m r e k =
     let none : Result (Unit {0} × Scan) SpellFault = Ok (tt, m) in
     chain step {A = Unit {0}} {B = B} (i ∷ more) f (λ _. mid) (λ _. more) none (λ x. r x.1) (one_step step i more f (λ _. mid) none e)
@@ -282,12 +284,12 @@ module _ {A : Type 0} (i : Item) (forms : Parts) (build : Held forms → A) (par
   pub joined_lawful : Lawful (joined i forms build parts bytes nodes)
   joined_lawful = record {
     takes = λ f g x h k e.
-      let r = reads_takes forms lawful build f g x h k e in
-      let own : parts x ≡ r.held = ap parts r.is ∙ back r.held in
-      let P : Held forms → Type 0 = λ xs. Took f (bytes_of_parts forms xs) (nodes_of_parts forms xs) g × AllFit forms xs in
-      let q : P (parts x) = subst P (sym own) (r.all.took, r.all.fit) in
-      record { took = Took-as (sym (bytes_is x)) (sym (nodes_is x)) q.0; fits = q.1; within = r.all.within };
+        let r = reads_takes forms lawful build f g x h k e in
+        let own : parts x ≡ r.held = ap parts r.is ∙ back r.held in
+        let P : Held forms → Type 0 = λ xs. Took f (bytes_of_parts forms xs) (nodes_of_parts forms xs) g × AllFit forms xs in
+        let q : P (parts x) = subst P (sym own) (r.all.took, r.all.fit) in
+        record { took = Took-as (sym (bytes_is x)) (sym (nodes_is x)) q.0; fits = q.1; within = r.all.within };
     again = λ f g x fits t k.
-      reads_again forms lawful build f g (parts x) fits (Took-as (bytes_is x) (nodes_is x) t) k ∙ (λ j. Ok (same x j, g));
+        reads_again forms lawful build f g (parts x) fits (Took-as (bytes_is x) (nodes_is x) t) k ∙ (λ j. Ok (same x j, g));
     goes = λ more f. opens i more (items_of_parts forms more) f f (reads forms build) (steps more f) (reads_go forms lawful build more f);
   }

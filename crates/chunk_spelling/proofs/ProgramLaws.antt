@@ -59,9 +59,13 @@ function_lawful =
 -- ---- programs
 
 parts_lawful : AllLawful program_forms
-parts_lawful =
-    (several_lawful Limit.Services 0 64 service_part service_lawful, (several_lawful Limit.Exceptions 0 64 name_part name_lawful,
-        (several_lawful Limit.Functions 1 64 function_part function_lawful, tt)))
+parts_lawful = (
+  several_lawful Limit.Services 0 64 service_part service_lawful,
+  (
+    several_lawful Limit.Exceptions 0 64 name_part name_lawful,
+    (several_lawful Limit.Functions 1 64 function_part function_lawful, tt),
+  ),
+)
 
 program_bytes_is : (p : Program) → program_bytes p ≡ bytes_of_parts program_forms (program_parts p)
 unfolding program_bytes
@@ -82,33 +86,33 @@ pub program_lawful : Lawful program_part
 unfolding program_at
 program_lawful = record {
   takes = λ f g x h k e.
-    let b = bind_ok (reads program_forms program_of_parts (counting 0 f)) _ _ e in
-    let p = b.first in
-    let r = reads_takes program_forms parts_lawful program_of_parts (counting 0 f) p.1 p.0 h (omega arith) b.read in
-    let own : program_parts p.0 ≡ r.held = ap program_parts r.is in
-    let P : Held program_forms → Type 0 = λ xs. Took (counting 0 f) (bytes_of_parts program_forms xs) (nodes_of_parts program_forms xs) p.1 × AllFit program_forms xs in
-    let q : P (program_parts p.0) = subst P (sym own) (r.all.took, r.all.fit) in
-    let t : Took (counting 0 f) (program_bytes p.0) (sum_by (λ u. expr_nodes u.body) p.0.funs) p.1 = Took-as (sym (program_bytes_is p.0)) (program_nodes_is p.0) q.0 in
-    let a = allowed_ok _ _ (counting_on f.nodes p) (x, g) b.then_read in
-    let small : p.1.front.at - f.front.at ≤ 16000 = leb-true (p.1.front.at - f.front.at) 16000 a.0 in
-    let took : Took f (program_bytes p.0) 0 (counting f.nodes p.1) = record { parts = t.parts; place = t.place; count = omega arith } in
-    let fits : ProgramFits p.0 = record { parts = q.1; few = (let w = r.all.within in omega (arith, w, t.count)); small = omega (arith, small, t.place) } in
-    let R : Program × Scan → Type 0 = λ u. Took f (program_bytes u.0) 0 u.1 × ProgramFits u.0 in
-    let all : R (x, g) = subst R a.1 (took, fits) in
-    record { took = all.0; fits = all.1; within = omega (arith, all.0.count) };
+      let b = bind_ok (reads program_forms program_of_parts (counting 0 f)) _ _ e in
+      let p = b.first in
+      let r = reads_takes program_forms parts_lawful program_of_parts (counting 0 f) p.1 p.0 h (omega arith) b.read in
+      let own : program_parts p.0 ≡ r.held = ap program_parts r.is in
+      let P : Held program_forms → Type 0 = λ xs. Took (counting 0 f) (bytes_of_parts program_forms xs) (nodes_of_parts program_forms xs) p.1 × AllFit program_forms xs in
+      let q : P (program_parts p.0) = subst P (sym own) (r.all.took, r.all.fit) in
+      let t : Took (counting 0 f) (program_bytes p.0) (sum_by (λ u. expr_nodes u.body) p.0.funs) p.1 = Took-as (sym (program_bytes_is p.0)) (program_nodes_is p.0) q.0 in
+      let a = allowed_ok _ _ (counting_on f.nodes p) (x, g) b.then_read in
+      let small : p.1.front.at - f.front.at ≤ 16000 = leb-true (p.1.front.at - f.front.at) 16000 a.0 in
+      let took : Took f (program_bytes p.0) 0 (counting f.nodes p.1) = record { parts = t.parts; place = t.place; count = omega arith } in
+      let fits : ProgramFits p.0 = record { parts = q.1; few = (let w = r.all.within in omega (arith, w, t.count)); small = omega (arith, small, t.place) } in
+      let R : Program × Scan → Type 0 = λ u. Took f (program_bytes u.0) 0 u.1 × ProgramFits u.0 in
+      let all : R (x, g) = subst R a.1 (took, fits) in
+      record { took = all.0; fits = all.1; within = omega (arith, all.0.count) };
   again = λ f g x fits t k.
-    let total : ℕ = sum_by (λ u. expr_nodes u.body) x.funs in
-    let m : Scan = record { front = g.front; nodes = total } in
-    let u : Took (counting 0 f) (program_bytes x) total m = record { parts = t.parts; place = t.place; count = omega arith } in
-    let v = Took-as (program_bytes_is x) (sym (program_nodes_is x)) u in
-    let small : m.front.at - f.front.at ≤ 16000 = (let w = fits.small in omega (arith, t.place, w)) in
-    let back : counting f.nodes m ≡ g = (λ i. record { front = g.front; nodes = (let c : f.nodes ≡ g.nodes = omega (arith, t.count) in c) i }) in
-    bind_is _ (reads_again program_forms parts_lawful program_of_parts (counting 0 f) m (program_parts x) fits.parts v fits.few)
-    (allowed_is _ _ (x, counting f.nodes m) (le-leb (m.front.at - f.front.at) 16000 small) ∙ (λ i. Ok (x, back i)));
+      let total : ℕ = sum_by (λ u. expr_nodes u.body) x.funs in
+      let m : Scan = record { front = g.front; nodes = total } in
+      let u : Took (counting 0 f) (program_bytes x) total m = record { parts = t.parts; place = t.place; count = omega arith } in
+      let v = Took-as (program_bytes_is x) (sym (program_nodes_is x)) u in
+      let small : m.front.at - f.front.at ≤ 16000 = (let w = fits.small in omega (arith, t.place, w)) in
+      let back : counting f.nodes m ≡ g = (λ i. record { front = g.front; nodes = (let c : f.nodes ≡ g.nodes = omega (arith, t.count) in c) i }) in
+      bind_is _ (reads_again program_forms parts_lawful program_of_parts (counting 0 f) m (program_parts x) fits.parts v fits.few)
+      (allowed_is _ _ (x, counting f.nodes m) (le-leb (m.front.at - f.front.at) 16000 small) ∙ (λ i. Ok (x, back i)));
   goes = λ more f.
-    opens a_program more (items_of_parts program_forms (code_end f.front.at f.nodes ∷ more)) f (counting 0 f)
-    (λ s. reads program_forms program_of_parts s >>= λ p. judged_code f.front.at (counting_on f.nodes p)) refl
-    (chain step (items_of_parts program_forms (code_end f.front.at f.nodes ∷ more)) (counting 0 f) (λ _. code_end f.front.at f.nodes ∷ more) (λ _. more)
+      opens a_program more (items_of_parts program_forms (code_end f.front.at f.nodes ∷ more)) f (counting 0 f)
+      (λ s. reads program_forms program_of_parts s >>= λ p. judged_code f.front.at (counting_on f.nodes p)) refl
+      (chain step (items_of_parts program_forms (code_end f.front.at f.nodes ∷ more)) (counting 0 f) (λ _. code_end f.front.at f.nodes ∷ more) (λ _. more)
       (reads program_forms program_of_parts (counting 0 f)) _ (reads_go program_forms parts_lawful program_of_parts (code_end f.front.at f.nodes ∷ more) (counting 0 f))
       (λ p _. one_step step (code_end f.front.at f.nodes) more p.1 (λ _. more) (judged_code f.front.at (counting_on f.nodes p)) (judged_apart _ _ more p.0 (counting f.nodes p.1))));
 }

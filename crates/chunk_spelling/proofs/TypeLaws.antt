@@ -69,15 +69,15 @@ type_tag : (room : ℕ) → Tag (type_tag_at room) (λ _. 0 < room) type_byte 0
 unfolding type_tag_at
 type_tag room = record {
   may = λ f g t e.
-    let b = bind_ok (table_field 0 TYPE_TAGS f) _ _ e in
-    let a = allowed_ok _ _ b.first (t, g) b.then_read in
-    ltb-true 0 room a.0;
+      let b = bind_ok (table_field 0 TYPE_TAGS f) _ _ e in
+      let a = allowed_ok _ _ b.first (t, g) b.then_read in
+      ltb-true 0 room a.0;
   takes = λ f g t h k e.
-    let b = bind_ok (table_field 0 TYPE_TAGS f) _ _ e in
-    let a = allowed_ok _ _ b.first (t, g) b.then_read in
-    let P : TypeTag × Scan → Type 0 = λ q. Took f (type_byte q.0 ∷ []) 0 q.1 in
-    let took : Took f (type_byte t ∷ []) 0 g = subst P a.1 (table_takes 0 TYPE_TAGS type_byte type_table f b.first.1 b.first.0 h b.read) in
-    (took, omega (arith, took.count));
+      let b = bind_ok (table_field 0 TYPE_TAGS f) _ _ e in
+      let a = allowed_ok _ _ b.first (t, g) b.then_read in
+      let P : TypeTag × Scan → Type 0 = λ q. Took f (type_byte q.0 ∷ []) 0 q.1 in
+      let took : Took f (type_byte t ∷ []) 0 g = subst P a.1 (table_takes 0 TYPE_TAGS type_byte type_table f b.first.1 b.first.0 h b.read) in
+      (took, omega (arith, took.count));
   again = λ f g t a took k. bind_is _ (table_again 0 TYPE_TAGS type_byte type_table f g t took) (allowed_is _ _ (t, g) (lt-ltb 0 room a));
 }
 
@@ -113,7 +113,7 @@ module _ (room below : ℕ) (core : Core Ty) where
   all_lawful _ k = tt
 
   within_lawful : (0 < room → Lawful deeper) → ((more : List Item) (f : Scan) → step (a_type room) more f ≡ (type_tag_at room f >>= λ t. Ok (items_of_parts (type_forms deeper t.0) more, t.1)))
-    → Lawful (type_from room (type_within room deeper))
+      → Lawful (type_from room (type_within room deeper))
   within_lawful l steps =
       formed_lawful (a_type room) (type_tag_at room) (λ _. 0 < room) type_byte 0 (type_forms deeper) (type_of_parts deeper) (λ t. type_parts deeper (out-Ty t)) type_bytes (λ _. 0)
       (type_tag room) (λ tag allowed. all_lawful tag (l allowed)) is_form form_is steps

@@ -39,7 +39,7 @@ flat_same : {X : Type 0} (f g : X → List ℕ) → ((x : X) → f x ≡ g x) �
 flat_same f g e xs = flat_map-map f xs ∙ (λ i. flat_map (λ x. e x i) xs)
 
 value_bytes_step : (f : Value → List ℕ) (g h : Chunk → List ℕ) → ((c : Chunk) → g c ≡ h c) → (x : Value-F Value Chunk)
-  → value_bytes_level (λ bs. bs) (λ bs. bs) (map-Value Value Chunk (List ℕ) (List ℕ) f g x) ≡ value_bytes_level f h x
+    → value_bytes_level (λ bs. bs) (λ bs. bs) (map-Value Value Chunk (List ℕ) (List ℕ) f g x) ≡ value_bytes_level f h x
 value_bytes_step f g h e (Value-F.Chunk c) = (λ i. 24 ∷ e c i)
 value_bytes_step f g h e (Value-F.List t vs) = (λ i. 25 ∷ (type_bytes t ++ (to_be_bytes w16 (length-map vs f i) ++ flat_map-map f vs i)))
 value_bytes_step f g h e (Value-F.Tuple vs) = (λ i. 26 ∷ length-map vs f i ∷ flat_map-map f vs i)
@@ -92,16 +92,16 @@ value_tag : (nest room : ℕ) → Tag (value_tag_at nest room) (λ tag. IsTrue (
 unfolding value_tag_at
 value_tag nest room = record {
   may = λ f g t e.
-    let b = bind_ok (table_field 16 VALUE_TAGS f) _ _ e in
-    let a = allowed_ok _ _ b.first (t, g) b.then_read in
-    let P : ValueTag × Scan → Type 0 = λ q. IsTrue (may_open nest room q.0) in
-    subst P a.1 a.0;
+      let b = bind_ok (table_field 16 VALUE_TAGS f) _ _ e in
+      let a = allowed_ok _ _ b.first (t, g) b.then_read in
+      let P : ValueTag × Scan → Type 0 = λ q. IsTrue (may_open nest room q.0) in
+      subst P a.1 a.0;
   takes = λ f g t h k e.
-    let b = bind_ok (table_field 16 VALUE_TAGS f) _ _ e in
-    let a = allowed_ok _ _ b.first (t, g) b.then_read in
-    let P : ValueTag × Scan → Type 0 = λ q. Took f (value_byte q.0 ∷ []) 0 q.1 in
-    let took : P (t, g) = subst P a.1 (table_takes 16 VALUE_TAGS value_byte value_table f b.first.1 b.first.0 h b.read) in
-    (took, omega (arith, took.count));
+      let b = bind_ok (table_field 16 VALUE_TAGS f) _ _ e in
+      let a = allowed_ok _ _ b.first (t, g) b.then_read in
+      let P : ValueTag × Scan → Type 0 = λ q. Took f (value_byte q.0 ∷ []) 0 q.1 in
+      let took : P (t, g) = subst P a.1 (table_takes 16 VALUE_TAGS value_byte value_table f b.first.1 b.first.0 h b.read) in
+      (took, omega (arith, took.count));
   again = λ f g t a took k. bind_is _ (table_again 16 VALUE_TAGS value_byte value_table f g t took) (allowed_is _ _ (t, g) a);
 }
 
@@ -162,8 +162,8 @@ module _ (nest room cnest : ℕ) (core : Core Value) (chunks : Core Chunk) (iroo
   all_lawful ValueTag.Tuple a c k = (several_lawful Limit.Parts 2 8 deeper (k (ltb-true 0 room a)), tt)
 
   pub within_lawful : (0 < nest → Lawful chunk) → (0 < room → Lawful deeper)
-    → ((more : List Item) (f : Scan) → step (a_value nest room) more f ≡ (value_tag_at nest room f >>= λ t. Ok (items_of_parts (value_forms deeper chunk t.0) more, t.1)))
-    → Lawful (value_from nest room (value_within nest room chunk deeper))
+      → ((more : List Item) (f : Scan) → step (a_value nest room) more f ≡ (value_tag_at nest room f >>= λ t. Ok (items_of_parts (value_forms deeper chunk t.0) more, t.1)))
+      → Lawful (value_from nest room (value_within nest room chunk deeper))
   within_lawful c k steps =
       formed_lawful (a_value nest room) (value_tag_at nest room) (λ tag. IsTrue (may_open nest room tag)) value_byte 0 (value_forms deeper chunk) (value_of_parts deeper chunk)
       (λ v. value_parts deeper chunk (out-Value v)) value_bytes (λ _. 0) (value_tag nest room) (λ tag a. all_lawful tag a c k) is_form form_is steps
@@ -187,30 +187,30 @@ module _ (nest : ℕ) (lawful : Lawful (value_part nest 8)) where
   unfolding chunk_at
   chunk_lawful = record {
     takes = λ f g x h k e.
-      let b = bind_ok (reads (chunk_forms argument) (chunk_of_parts argument) f) _ _ e in
-      let p = b.first in
-      let r = reads_takes (chunk_forms argument) parts_lawful (chunk_of_parts argument) f p.1 p.0 h k b.read in
-      let own : chunk_parts argument p.0 ≡ r.held = ap (chunk_parts argument) r.is in
-      let P : Held (chunk_forms argument) → Type 0 = λ xs. Took f (bytes_of_parts (chunk_forms argument) xs) (nodes_of_parts (chunk_forms argument) xs) p.1 × AllFit (chunk_forms argument) xs in
-      let q : P (chunk_parts argument p.0) = subst P (sym own) (r.all.took, r.all.fit) in
-      let t : Took f (chunk_bytes p.0) 0 p.1 = Took-as (sym (chunk_bytes_is p.0)) (chunk_nodes_is p.0) q.0 in
-      let a = allowed_ok _ _ p (x, g) b.then_read in
-      let size : p.1.front.at - f.front.at ≡ length (chunk_bytes p.0) = omega (arith, t.place) in
-      let W : ℕ → Type 0 = λ n. IsTrue (light nest n) in
-      let fits : ChunkFits nest argument p.0 = record { parts = q.1; weighs = subst W size a.0 } in
-      let R : Chunk × Scan → Type 0 = λ u. Took f (chunk_bytes u.0) 0 u.1 × ChunkFits nest argument u.0 in
-      let all : R (x, g) = subst R a.1 (t, fits) in
-      record { took = all.0; fits = all.1; within = omega (arith, all.0.count) };
+        let b = bind_ok (reads (chunk_forms argument) (chunk_of_parts argument) f) _ _ e in
+        let p = b.first in
+        let r = reads_takes (chunk_forms argument) parts_lawful (chunk_of_parts argument) f p.1 p.0 h k b.read in
+        let own : chunk_parts argument p.0 ≡ r.held = ap (chunk_parts argument) r.is in
+        let P : Held (chunk_forms argument) → Type 0 = λ xs. Took f (bytes_of_parts (chunk_forms argument) xs) (nodes_of_parts (chunk_forms argument) xs) p.1 × AllFit (chunk_forms argument) xs in
+        let q : P (chunk_parts argument p.0) = subst P (sym own) (r.all.took, r.all.fit) in
+        let t : Took f (chunk_bytes p.0) 0 p.1 = Took-as (sym (chunk_bytes_is p.0)) (chunk_nodes_is p.0) q.0 in
+        let a = allowed_ok _ _ p (x, g) b.then_read in
+        let size : p.1.front.at - f.front.at ≡ length (chunk_bytes p.0) = omega (arith, t.place) in
+        let W : ℕ → Type 0 = λ n. IsTrue (light nest n) in
+        let fits : ChunkFits nest argument p.0 = record { parts = q.1; weighs = subst W size a.0 } in
+        let R : Chunk × Scan → Type 0 = λ u. Took f (chunk_bytes u.0) 0 u.1 × ChunkFits nest argument u.0 in
+        let all : R (x, g) = subst R a.1 (t, fits) in
+        record { took = all.0; fits = all.1; within = omega (arith, all.0.count) };
     again = λ f g x fits t k.
-      let v = Took-as (chunk_bytes_is x) (sym (chunk_nodes_is x)) t in
-      let size : g.front.at - f.front.at ≡ length (chunk_bytes x) = omega (arith, t.place) in
-      let W : ℕ → Type 0 = λ n. IsTrue (light nest n) in
-      bind_is _ (reads_again (chunk_forms argument) parts_lawful (chunk_of_parts argument) f g (chunk_parts argument x) fits.parts v k)
-      (allowed_is _ _ (x, g) (subst W (sym size) fits.weighs));
+        let v = Took-as (chunk_bytes_is x) (sym (chunk_nodes_is x)) t in
+        let size : g.front.at - f.front.at ≡ length (chunk_bytes x) = omega (arith, t.place) in
+        let W : ℕ → Type 0 = λ n. IsTrue (light nest n) in
+        bind_is _ (reads_again (chunk_forms argument) parts_lawful (chunk_of_parts argument) f g (chunk_parts argument x) fits.parts v k)
+        (allowed_is _ _ (x, g) (subst W (sym size) fits.weighs));
     goes = λ more f.
-      opens (a_chunk nest) more (items_of_parts (chunk_forms argument) (weight_end nest f.front.at ∷ more)) f f
-      (λ s. reads (chunk_forms argument) (chunk_of_parts argument) s >>= λ p. judged_weight nest f.front.at p) refl
-      (chain step (items_of_parts (chunk_forms argument) (weight_end nest f.front.at ∷ more)) f (λ _. weight_end nest f.front.at ∷ more) (λ _. more)
+        opens (a_chunk nest) more (items_of_parts (chunk_forms argument) (weight_end nest f.front.at ∷ more)) f f
+        (λ s. reads (chunk_forms argument) (chunk_of_parts argument) s >>= λ p. judged_weight nest f.front.at p) refl
+        (chain step (items_of_parts (chunk_forms argument) (weight_end nest f.front.at ∷ more)) f (λ _. weight_end nest f.front.at ∷ more) (λ _. more)
         (reads (chunk_forms argument) (chunk_of_parts argument) f) _ (reads_go (chunk_forms argument) parts_lawful (chunk_of_parts argument) (weight_end nest f.front.at ∷ more) f)
         (λ p _. one_step step (weight_end nest f.front.at) more p.1 (λ _. more) (judged_weight nest f.front.at p) (judged_apart _ _ more p.0 p.1)));
   }

@@ -22,7 +22,6 @@ pub record Core (A : Type 0) : Type 1 where
   pub Fits : A → Type 0
 
 infixr 20 ◌&◌
-
 pub data Parts : Type 1 where
   done : Parts
   ◌&◌ : {A : Type 0} → Part A → Parts → Parts
@@ -101,7 +100,7 @@ tagged_at tag forms build s = do
 
 -- a construct: a tag that is allowed there, and the parts of its form
 abbrev pub formed : {T A : Type 0} → Item → Reader T → (T → Type 0) → (forms : T → Parts) → ((t : T) → Held (forms t) → A)
-  → (A → Option ((t : T) × Held (forms t))) → (A → List ℕ) → (A → ℕ) → Part A
+    → (A → Option ((t : T) × Held (forms t))) → (A → List ℕ) → (A → ℕ) → Part A
 formed i tag Allowed forms build parts bytes nodes = record {
   item = i;
   read = tagged_at tag forms build;

@@ -14,7 +14,7 @@ module _ {A S E : Type 0} where
 
   -- one more was read
   pub many_goes_on : (one : S → Result (A × S) E) (n : ℕ) (f : S) (x : A) (g : S) (xs : List A) → one f ≡ Ok (x, g)
-    → with_front (xs ++ x ∷ []) (many one n g) ≡ with_front xs (many one (suc n) f)
+      → with_front (xs ++ x ∷ []) (many one n g) ≡ with_front xs (many one (suc n) f)
   unfolding many
   many_goes_on one n f x g xs h = rw h (step (many one n g))
     where

@@ -1,7 +1,6 @@
 use Rattle.std.specs.Prelude.{ℕ, zero, suc, List, [], ◌∷◌, Result, Ok, Err}
 
 infixl 10 ◌>>=◌
-
 -- the second reads on where the first came to; a fault ends the reading
 abbrev pub ◌>>=◌ : {A B E : Type 0} → Result A E → (A → Result B E) → Result B E
 Ok x >>= h = h x
