@@ -1,0 +1,136 @@
+use crate::{Checked, annotate, check};
+use plan_base::{
+    Dev, Draft, Expr, Exprs, Fun, Funs, Host, Name, Op, Param, Params, Place, Program, Ty,
+    TypeFault,
+};
+use plan_items::{Boxed, Items};
+use std::alloc::Global;
+use std::test::Fail;
+
+/// What a check answers, without the types of a mismatch.
+#[derive(Debug, PartialEq)]
+enum Answer {
+    Typed,
+    UnknownName(Place),
+    NotEarlier(Place),
+    Mismatch(Place),
+    Arity(Place),
+    NeedsType(Place),
+    WrongShape(Place),
+    TwiceNamed(Place),
+    TypeTooDeep(Place),
+    CodeTooLarge,
+    NoMemory,
+}
+
+fn answer(result: Result<Checked, TypeFault>) -> Answer {
+    match result {
+        Ok(_) => Answer::Typed,
+        Err(TypeFault::UnknownName(at)) => Answer::UnknownName(at),
+        Err(TypeFault::NotEarlier(at)) => Answer::NotEarlier(at),
+        Err(TypeFault::Mismatch(at, _, _)) => Answer::Mismatch(at),
+        Err(TypeFault::Arity(at)) => Answer::Arity(at),
+        Err(TypeFault::NeedsType(at)) => Answer::NeedsType(at),
+        Err(TypeFault::WrongShape(at)) => Answer::WrongShape(at),
+        Err(TypeFault::TwiceNamed(at)) => Answer::TwiceNamed(at),
+        Err(TypeFault::TypeTooDeep(at)) => Answer::TypeTooDeep(at),
+        Err(TypeFault::CodeTooLarge) => Answer::CodeTooLarge,
+        Err(TypeFault::NoMemory) => Answer::NoMemory,
+    }
+}
+
+fn named(alloc: Global, word: &[u8]) -> Result<Name, Fail> {
+    Ok(Name::read(alloc, word)?)
+}
+
+fn one(alloc: Global, e: Expr) -> Result<Exprs, Fail> {
+    let mut es: Exprs = Items::new(alloc);
+    es.add(e)?;
+    Ok(es)
+}
+
+/// A program of one function `f` with at most one parameter `x`.
+fn program(alloc: Global, x: Option<Ty>, result: Ty, body: Expr) -> Result<Program, Fail> {
+    let mut params: Params = Items::new(alloc);
+    if let Some(ty) = x {
+        params.add(Param {
+            name: named(alloc, b"x")?,
+            ty,
+        })?;
+    }
+    let mut funs: Funs = Items::new(alloc);
+    funs.add(Fun {
+        name: named(alloc, b"f")?,
+        params,
+        result,
+        body,
+    })?;
+    Ok(Program {
+        svcs: Items::new(alloc),
+        exns: Items::new(alloc),
+        funs,
+    })
+}
+
+fn annotated(alloc: Global, program: Program) -> Answer {
+    answer(annotate(
+        alloc,
+        Draft {
+            program,
+            decl_at: Items::new(alloc),
+            node_at: Items::new(alloc),
+        },
+    ))
+}
+
+#[test]
+fn a_function_is_no_earlier_one_than_itself(rt: HostRuntime) -> Result<(), Fail> {
+    let alloc = rt.alloc();
+    let call = Expr::Call(named(alloc, b"f")?, Items::new(alloc));
+    let program = program(alloc, None, Ty::Unit, call)?;
+    assert_eq!(rt; answer(check(alloc, program)), Answer::NotEarlier(Place::Node(0)));
+    Ok(())
+}
+
+#[test]
+fn a_chunk_literal_may_name_its_own_function(rt: HostRuntime) -> Result<(), Fail> {
+    let alloc = rt.alloc();
+    let chunk = Expr::ChunkOf(named(alloc, b"f")?, Items::new(alloc));
+    let send = Expr::OnNeighbor(
+        Boxed::new(alloc, chunk)?,
+        Boxed::new(alloc, Expr::Host(Host(2)))?,
+        Boxed::new(alloc, Expr::Int(1))?,
+        Boxed::new(alloc, Expr::Dev(Dev(1)))?,
+    );
+    let program = program(alloc, None, Ty::Unit, send)?;
+    assert_eq!(rt; answer(check(alloc, program)), Answer::Typed);
+    Ok(())
+}
+
+#[test]
+fn an_empty_list_takes_its_type_from_the_left_of_an_equation(rt: HostRuntime) -> Result<(), Fail> {
+    let alloc = rt.alloc();
+    let list = Ty::List(Boxed::new(alloc, Ty::Int)?);
+    let left = Boxed::new(alloc, Expr::Var(named(alloc, b"x")?))?;
+    let right = Boxed::new(alloc, Expr::Nil(None))?;
+    let program = program(alloc, Some(list), Ty::Bool, Expr::Binary(Op::Eq, left, right))?;
+    assert_eq!(rt; annotated(alloc, program), Answer::Typed);
+    Ok(())
+}
+
+#[test]
+fn the_argument_of_hd_gives_an_empty_list_no_type(rt: HostRuntime) -> Result<(), Fail> {
+    let alloc = rt.alloc();
+    let call = Expr::Call(named(alloc, b"hd")?, one(alloc, Expr::Nil(None))?);
+    let program = program(alloc, None, Ty::Int, call)?;
+    assert_eq!(rt; annotated(alloc, program), Answer::NeedsType(Place::Node(1)));
+    Ok(())
+}
+
+#[test]
+fn a_body_of_another_type_is_refused_at_its_place(rt: HostRuntime) -> Result<(), Fail> {
+    let alloc = rt.alloc();
+    let program = program(alloc, None, Ty::Int, Expr::Bool(true))?;
+    assert_eq!(rt; answer(check(alloc, program)), Answer::Mismatch(Place::Node(0)));
+    Ok(())
+}
