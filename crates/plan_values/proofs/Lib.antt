@@ -1,0 +1,5 @@
+pub mod Arguments
+pub mod Blobs
+pub mod ListLaws
+pub mod NumberLaws
+pub mod Settled
