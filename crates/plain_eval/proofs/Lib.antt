@@ -1,0 +1,3 @@
+pub mod Options
+pub mod Depth
+pub mod Visits

@@ -1,0 +1,22 @@
+//! A plain evaluator of the language: it recurses as the meaning does, and is proved equal to it.
+//!
+//! It copies freely and nests as deep as the program does, so it is for small inputs.
+#![tactic(auto)]
+
+mod bindings;
+mod calls;
+mod control;
+mod data;
+mod evaluator;
+mod folds;
+mod found;
+mod operate;
+mod raised;
+mod sends;
+mod shapes;
+mod state;
+mod visiting;
+
+pub use evaluator::{Evaluator, run_to};
+pub use state::State;
+pub use visiting::visit;
