@@ -416,3 +416,24 @@ module _ (f : Family) where
       let g = run_gives es (opening t) b in
       let o = opening_nodes_give t d in
       (omega (arith, g.once, o), omega (arith, g.once, g.limit, o))
+
+  later_one : (h fh s fs : ℕ) → ◌≡◌ {A = ℕ} (cond ((h == fh) && nat_le s fs) 1 0) 0 → h ≡ fh → fs < s
+  later_one h fh s fs e q = grind (arith, nat_tests)
+
+  gives_later : (n : NodeState) → may_give n ≡ 0 → n.here.0 ≡ f.source.0 → f.serial < n.serial
+  unfolding may_give
+  gives_later n e q = later_one n.here.0 f.source.0 n.serial f.serial e q
+
+  later_serials : (nodes : List NodeState) → may_give_all nodes ≡ 0 → All (λ node. node.here.0 ≡ f.source.0 → f.serial < node.serial) nodes
+  later_serials [] e = All-nil (λ node. node.here.0 ≡ f.source.0 → f.serial < node.serial)
+  later_serials (n ∷ ns) e =
+      let split = may_give_all-cons n ns in
+      All-cons (λ node. node.here.0 ≡ f.source.0 → f.serial < node.serial) n ns (gives_later n (omega arith)) (later_serials ns (omega arith))
+
+  -- once a family is injected, the nodes of its host go on with later serial numbers
+  pub opening_later : (t : Topology) (es : List WorldEvent) → HostsDiffer t.hosts → EventsFit es → 0 < injections f (history_of es (opening t))
+      → All (λ node. node.here.0 ≡ f.source.0 → f.serial < node.serial) (world_after es (opening t)).nodes
+  opening_later t es d b h =
+      let g = run_gives es (opening t) b in
+      let o = opening_nodes_give t d in
+      later_serials (world_after es (opening t)).nodes (omega (arith, g.once))
