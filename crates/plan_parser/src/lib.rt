@@ -1,0 +1,8 @@
+//! The grammar of programs and values, and their printed form.
+#![tactic(auto)]
+
+mod ahead;
+mod codes;
+mod fault;
+
+pub use fault::{ParseFault, Wanted};
