@@ -30,6 +30,11 @@ abbrev pub Gives : {A : Type 0} → Result (A × Front) ParseFault → Result A 
 Gives want (Ok a) new = want ≡ Ok (a, new)
 Gives want (Err e) new = e ≢ NoMemory → want ≡ Err e
 
+-- the same of a judgement that takes no token
+abbrev pub Answers : {A : Type 0} → Result A ParseFault → Result A ParseFault → Type 0
+Answers want (Ok a) = want ≡ Ok a
+Answers want (Err e) = e ≢ NoMemory → want ≡ Err e
+
 -- the place of the next token, or of the end
 abbrev pub place_in : ℕ → List Token → ℕ
 place_in end [] = end

@@ -1,2 +1,5 @@
 pub mod Codes
 pub mod Ahead
+pub mod Begins
+pub mod Types
+pub mod Inside

@@ -1,6 +1,6 @@
 ghost use Rattle.std.specs.Prelude.{◌≡◌, ◌≤◌, ◌<◌, length};
-ghost use Rattle.plan_parser.specs.Ahead as spec;
-ghost use Rattle.plan_parser.specs.Ahead.{Gives, need_symbol, need_key, name_at, place, behind, is_symbol, is_key};
+ghost use Rattle.std.specs.Option.{option_copied};
+ghost use Rattle.plan_parser.specs.Ahead.{Gives, need_symbol, need_key, name_at, place, behind, next_kind, is_symbol, is_key};
 
 use crate::codes::{code_of_key, code_of_symbol};
 use crate::fault::{ParseFault, Wanted};
@@ -39,6 +39,31 @@ impl<'a> Ahead<'a> {
             [token, ..] => token.start,
             [] => self.end,
         }
+    }
+
+    /// The kind of the next token.
+    #[tactic(auto, unfolding(crate::specs::Ahead::next_kind))]
+    pub fn next(&self) -> Option<&TokenKind>
+        ensures { option_copied result ≡ next_kind self.now }
+    {
+        match self.tokens {
+            [token, ..] => Some(&token.kind),
+            [] => None,
+        }
+    }
+
+    /// The tokens that are left.
+    pub fn tokens(&self) -> &'a [Token]
+        ensures { result.now ≡ self.now.tokens }
+    {
+        self.tokens
+    }
+
+    /// The length of the text.
+    pub fn end(&self) -> u32
+        ensures { result ≡ self.now.end }
+    {
+        self.end
     }
 
     pub fn left(&self) -> usize

@@ -4,5 +4,6 @@
 mod ahead;
 mod codes;
 mod fault;
+mod types;
 
 pub use fault::{ParseFault, Wanted};
