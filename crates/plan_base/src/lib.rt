@@ -2,18 +2,22 @@
 #![tactic(auto)]
 
 mod bytes;
+mod depths;
 mod ids;
 mod limit;
 mod memory;
 mod name;
+mod sizes;
 mod text;
 mod tree;
 
 pub use bytes::Bytes;
+pub use depths::{chunk_nesting, nesting};
 pub use ids::{Dev, Family, Host};
 pub use limit::Limit;
 pub use memory::NoMemory;
 pub use name::{Name, Names};
+pub use sizes::{chunk_weight, code_size, type_size, weight};
 pub use text::{Text, Texts};
 pub use tree::{
     Chunk, Clause, Clauses, Draft, Exn, Expr, Exprs, Fun, Funs, Op, Packet, Param, Params, Place, Places, Program, Svc, Svcs, Ty, Tys,
