@@ -1,0 +1,52 @@
+ghost use Rattle.std.specs.Prelude.{◌≡◌, ℕ, ◌+◌, ◌^◌, ◌≤◌, ◌<◌, length};
+ghost use Rattle.plan_lexer.specs.Faults.{Gives};
+ghost use Rattle.plan_lexer.specs.Quoted.{string_at, char_at};
+
+use crate::LexFault;
+use crate::item::{Item, item_at};
+use crate::text::byte_at;
+use plan_base::Text;
+use std::alloc::Global;
+
+/// The string whose opening quote stands at `start` before the text, and the place behind its closing quote.
+#[tactic(auto, unfolding(crate::specs::Quoted::string_at))]
+pub(crate) fn string_at(alloc: Global, start: u32, text: &[u8]) -> Result<(Text, u32), LexFault>
+    requires { start + length text.now < 2 ^ 31 }
+    ensures { Gives (λ read. read) result (string_at start text.now) }
+{
+    let mut string = String::new(alloc);
+    let mut rest = text;
+    let mut at = start + 1;
+    'items: loop {
+        match item_at(b'"', rest) {
+            Item::Closes => return Ok((Text::of(string.into_bytes()), at + 1)),
+            Item::Open => return Err(LexFault::OpenString(start)),
+            Item::Wrong => return Err(LexFault::BadChar(at)),
+            Item::Code(code, width) => {
+                string.push(code)?;
+                rest = &rest[width..];
+                at += width as u32;
+            }
+        }
+    }
+}
+
+/// The code of the char whose opening quote stands at `start` before the text, and the place behind its closing quote.
+#[tactic(auto, unfolding(crate::specs::Quoted::char_at, crate::specs::Quoted::char_by))]
+pub(crate) fn char_at(start: u32, text: &[u8]) -> Result<(u32, u32), LexFault>
+    requires { start + length text.now < 2 ^ 31 }
+    ensures { result ≡ char_at start text.now }
+{
+    match item_at(b'\'', text) {
+        Item::Code(code, width) => {
+            if byte_at(text, width) == b'\'' {
+                Ok((code as u32, start + width as u32 + 2))
+            } else {
+                Err(LexFault::BadChar(start))
+            }
+        }
+        Item::Closes => Err(LexFault::BadChar(start)),
+        Item::Open => Err(LexFault::BadChar(start)),
+        Item::Wrong => Err(LexFault::BadChar(start)),
+    }
+}

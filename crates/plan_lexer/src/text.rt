@@ -1,0 +1,9 @@
+ghost use Rattle.std.specs.Prelude.{◌≡◌, ◌<◌, get_or, length};
+
+/// The byte at place `i` of a text, or 0 at the end and past it.
+pub(crate) fn byte_at(text: &[u8], i: usize) -> u8
+    ensures value { result ≡ get_or text.now i 0 }
+    ensures inside { 0 < result → i < length text.now }
+{
+    text.get(i).copied().unwrap_or(0)
+}
