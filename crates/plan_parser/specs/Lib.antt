@@ -3,3 +3,5 @@ pub mod Ahead
 pub mod Begins
 pub mod Types
 pub mod Inside
+pub mod Nodes
+pub mod Joints

@@ -4,6 +4,8 @@
 mod ahead;
 mod codes;
 mod fault;
+mod joint;
+mod node;
 mod types;
 
 pub use fault::{ParseFault, Wanted};

@@ -17,7 +17,7 @@ use plan_lexer::{Key, Symbol, Token, TokenKind};
 use std::alloc::Global;
 
 /// The deepest type.
-const MOST_TYPE_DEPTH: u32 = 8;
+const MOST_TYPE_DEPTH: usize = 8;
 /// The parts that a tuple may have.
 const MOST_PARTS: usize = 8;
 
@@ -130,8 +130,11 @@ fn lists_of(alloc: Global, count: u32, t: Ty) -> Result<Ty, ParseFault>
 fn judged(alloc: Global, start: u32, words: usize, base: Ty) -> Result<Ty, ParseFault>
     ensures { Answers (judged start words base) result }
 {
-    let _t = lists_of(alloc, 1, base)?;
-    Err(ParseFault::NoMemory)
+    let depth = base.depth() as usize;
+    if words > MOST_TYPE_DEPTH || depth + words > MOST_TYPE_DEPTH {
+        return Err(ParseFault::TooDeep(start));
+    }
+    lists_of(alloc, words as u32, base)
 }
 
 /// What reads types, with the function that reads those inside one more open construct.
