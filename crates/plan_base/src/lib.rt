@@ -16,7 +16,7 @@ pub use depths::{chunk_nesting, nesting};
 pub use ids::{Dev, Family, Host};
 pub use limit::Limit;
 pub use memory::NoMemory;
-pub use name::{Name, Names};
+pub use name::{is_name, is_reserved, Name, NameFault, Names};
 pub use sizes::{chunk_weight, code_size, type_size, weight};
 pub use text::{Text, Texts};
 pub use tree::{

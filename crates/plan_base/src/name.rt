@@ -1,9 +1,17 @@
-ghost use Rattle.std.specs.Prelude.{◌≡◌};
+ghost use Rattle.std.specs.Prelude.{◌≡◌, ◌↔◌, false, IfOk, OnOk};
+ghost use Rattle.std.specs.List.{list_all, list_any};
+ghost use Rattle.std.specs.Str.{bytes_eq};
+ghost use Rattle.plan_base.specs.Words.{is_word_byte, is_word, is_reserved, is_name, IsName};
 
+use crate::NoMemory;
 use plan_items::Items;
+use std::alloc::{AllocError, Global};
 use std::marker::Model;
+use thiserror::Error;
 
 /// A name: a word of 1 to 32 bytes that isn't reserved, which contracts see as the list of its bytes.
+///
+/// A word is an ASCII letter, and then ASCII letters, digits and `_`.
 #[derive(Debug, Drop)]
 pub struct Name {
     bytes: Vec<u8>,
@@ -12,22 +20,122 @@ pub struct Name {
 impl Model for Name {
     ghost use Rattle.std.specs.Prelude.{List, ℕ};
     ghost use Rattle.std.specs.Coded.{coded_list, coded_ℕ};
+    ghost use Rattle.plan_base.specs.Words.{IsName};
 
     ghost Value = { List ℕ };
 
     ghost coded = { coded_list coded_ℕ };
 
     ghost view = { λ n. n.bytes.items };
+
+    ghost invariant = { λ n. IsName n.bytes.items };
 }
 
 /// A list of names.
 pub type Names = Items<Name>;
 
+/// Why bytes were not taken as a name.
+#[derive(Debug, Drop, Error)]
+pub enum NameFault {
+    /// They are no word of 1 to 32 bytes, or a reserved one.
+    #[error("not a name")]
+    BadName,
+    /// Memory was refused.
+    #[error("no memory")]
+    NoMemory,
+}
+
+impl From<AllocError> for NameFault {
+    ghost use Rattle.std.specs.Prelude.{◌≡◌};
+    ghost use Rattle.plan_base.specs.declared.name.NameFault.TheVariants.{NoMemory};
+
+    ghost from_gives = { λ _ e. e ≡ NoMemory };
+
+    fn from(_refused: AllocError) -> NameFault {
+        NameFault::NoMemory
+    }
+}
+
 impl Name {
+    /// The bytes as a name. `BadName` comes exactly where they are none.
+    pub fn read(alloc: Global, bytes: &[u8]) -> Result<Name, NameFault>
+        ensures found { IfOk result (λ n. n ≡ bytes.now) }
+        ensures only { OnOk result (IsName bytes.now) }
+        ensures fault { (result ≡ Err NameFault.BadName) ↔ (is_name bytes.now ≡ false) }
+    {
+        if !is_name(bytes) {
+            return Err(NameFault::BadName);
+        }
+        let bytes = Vec::from_slice(alloc, bytes)?;
+        Ok(Name { bytes })
+    }
+
+    /// A name that the language itself needs, as `Overflow` or `defaultRoute`. Condition: `word` is a name.
+    pub fn of(alloc: Global, word: &[u8]) -> Result<Name, NoMemory>
+        requires { IsName word.now }
+        ensures { IfOk result (λ n. n ≡ word.now) }
+    {
+        let bytes = Vec::from_slice(alloc, word)?;
+        Ok(Name { bytes })
+    }
+
     /// The bytes of the name, lent.
     pub fn as_slice(&self) -> &[u8]
-        ensures { result.now ≡ self.now }
+        ensures value { result.now ≡ self.now }
+        ensures name { IsName self.now }
     {
         self.bytes.as_slice()
     }
+
+    /// The same name.
+    pub fn copy(&self, alloc: Global) -> Result<Name, NoMemory>
+        ensures { IfOk result (λ n. n ≡ self.now) }
+    {
+        let bytes = Vec::from_slice(alloc, self.bytes.as_slice())?;
+        Ok(Name { bytes })
+    }
+}
+
+/// Whether the bytes are a name.
+#[tactic(auto, unfolding(crate::specs::Words::is_name))]
+pub fn is_name(bytes: &[u8]) -> bool
+    ensures { result ≡ is_name bytes.now }
+{
+    is_word(bytes) && bytes.len() <= 32 && !is_reserved(bytes)
+}
+
+#[tactic(auto, using(crate::proofs::WordLaws::is_word_is))]
+fn is_word(bytes: &[u8]) -> bool
+    ensures { result ≡ is_word bytes.now }
+{
+    match bytes {
+        [first, rest @ ..] => first.is_ascii_alphabetic() && are_word_bytes(rest),
+        [] => false,
+    }
+}
+
+fn are_word_bytes(bytes: &[u8]) -> bool
+    ensures { result ≡ list_all is_word_byte bytes.now }
+{
+    bytes.iter().all(|b| b.is_ascii_alphanumeric() || *b == b'_')
+}
+
+static RESERVED: [&[u8]; 34] = [
+    b"and", b"blob", b"bool", b"char", b"chunk", b"dev", b"else", b"end", b"eval", b"exception", b"false", b"foldl", b"foldr", b"fun",
+    b"handle", b"host", b"if", b"in", b"int", b"let", b"list", b"mod", b"not", b"OnNeighbor", b"OnRemote", b"or", b"raise", b"string",
+    b"svc", b"then", b"true", b"try", b"unit", b"val",
+];
+
+/// Whether the word is one that the language keeps for itself.
+#[tactic(auto, unfolding(crate::specs::Words::is_reserved))]
+pub fn is_reserved(word: &[u8]) -> bool
+    ensures { result ≡ is_reserved word.now }
+{
+    is_among(word, &RESERVED)
+}
+
+fn is_among(word: &[u8], words: &[&[u8]]) -> bool
+    ensures { result ≡ list_any (λ r. bytes_eq r.now word.now) words.now }
+{
+    words.iter().any(|r| *r == word)
 }
