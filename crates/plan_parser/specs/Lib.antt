@@ -5,3 +5,4 @@ pub mod Types
 pub mod Inside
 pub mod Nodes
 pub mod Joints
+pub mod Exprs

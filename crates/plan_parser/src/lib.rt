@@ -5,6 +5,7 @@ mod ahead;
 mod codes;
 mod fault;
 mod joint;
+mod level;
 mod node;
 mod types;
 

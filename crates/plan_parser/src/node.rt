@@ -5,7 +5,7 @@ ghost use Rattle.plan_parser.specs.Nodes as spec;
 ghost use Rattle.plan_parser.specs.Nodes.{all_at, leaf, over, over_one, over_two, over_three};
 
 use crate::fault::ParseFault;
-use plan_base::{Expr, Places};
+use plan_base::{Expr, Name, Places, Ty};
 use plan_items::Items;
 use std::alloc::Global;
 
@@ -54,6 +54,22 @@ impl Node {
             depth: depth + 1,
         }
     }
+}
+
+/// One `val` of a `let`.
+#[derive(Drop)]
+pub struct Bound {
+    pub at: u32,
+    pub name: Name,
+    pub ty: Ty,
+    pub value: Node,
+}
+
+/// One clause of a `try`.
+#[derive(Drop)]
+pub struct Caught {
+    pub name: Option<Name>,
+    pub body: Node,
 }
 
 /// The place of an expression before those below it.
