@@ -1,2 +1,3 @@
 pub mod NumeralLemmas
 pub mod QuotedLemmas
+pub mod ScanLemmas

@@ -5,3 +5,5 @@ pub mod Quoted
 pub mod Hexed
 pub mod Gaps
 pub mod Tables
+pub mod WordTokens
+pub mod Scanning

@@ -1,4 +1,4 @@
-ghost use Rattle.std.specs.Prelude.{◌≡◌, ℕ, ◌+◌, ◌^◌, ◌≤◌, ◌<◌, ◌&&◌, ◌==◌, length, get_or};
+ghost use Rattle.std.specs.Prelude.{◌≡◌, ℕ, ◌+◌, ◌^◌, ◌≤◌, ◌<◌, ◌&&◌, ◌==◌, length, get_or, IfOk};
 ghost use Rattle.plan_lexer.specs.Gaps.{is_blank, left_by, opens, closes, comment_at, gap_at};
 
 use crate::LexFault;
@@ -64,7 +64,8 @@ fn closes(last: Before, byte: u8) -> bool
 #[tactic(auto, unfolding(crate::specs::Gaps::comment_at))]
 fn comment_at(start: u32, text: &[u8]) -> Result<u32, LexFault>
     requires { start + length text.now < 2 ^ 31 }
-    ensures { result ≡ comment_at start text.now }
+    ensures value { result ≡ comment_at start text.now }
+    ensures within { IfOk result (λ next. (start < next) × (next ≤ start + 2 + length text.now)) }
 {
     let mut depth = 0u32;
     let mut last = Before::Other;
@@ -98,7 +99,8 @@ fn opens_comment(text: &[u8]) -> bool
 #[tactic(auto, unfolding(crate::specs::Gaps::gap_at))]
 pub(crate) fn gap_at(at: u32, text: &[u8]) -> Result<u32, LexFault>
     requires { at + length text.now < 2 ^ 31 }
-    ensures { result ≡ gap_at at text.now }
+    ensures value { result ≡ gap_at at text.now }
+    ensures within { IfOk result (λ next. (at ≤ next) × (next ≤ at + length text.now)) }
 {
     if is_blank(byte_at(text, 0)) {
         return Ok(at + 1);

@@ -1,4 +1,4 @@
-ghost use Rattle.std.specs.Prelude.{◌≡◌, ℕ, ◌+◌, ◌^◌, ◌≤◌, ◌<◌, length};
+ghost use Rattle.std.specs.Prelude.{◌≡◌, ℕ, ◌+◌, ◌^◌, ◌≤◌, ◌<◌, length, IfOk};
 ghost use Rattle.plan_lexer.specs.Faults.{Gives};
 ghost use Rattle.plan_lexer.specs.Hexed.{blob_at};
 
@@ -11,7 +11,8 @@ use std::alloc::Global;
 #[tactic(auto, unfolding(crate::specs::Hexed::blob_at))]
 pub(crate) fn blob_at(alloc: Global, start: u32, text: &[u8]) -> Result<(Bytes, u32), LexFault>
     requires { start + length text.now < 2 ^ 31 }
-    ensures { Gives (λ read. read) result (blob_at start text.now) }
+    ensures value { Gives (λ read. read) result (blob_at start text.now) }
+    ensures within { IfOk result (λ read. (start < read.1) × (read.1 ≤ start + 2 + length text.now)) }
 {
     let mut bytes = Bytes::new(alloc);
     let mut half: Option<u8> = None;

@@ -5,11 +5,15 @@ mod fault;
 mod gap;
 mod hexed;
 mod item;
+mod lexing;
 mod numeral;
 mod quoted;
+mod scan;
 mod tables;
 mod text;
 mod token;
+mod word;
 
 pub use fault::LexFault;
+pub use lexing::lex;
 pub use token::{Key, Symbol, Token, TokenKind, Tokens};

@@ -1,4 +1,5 @@
-ghost use Rattle.std.specs.Prelude.{◌≡◌, ℕ, ◌+◌, ◌-◌, ◌*◌, ◌^◌, ◌≤◌, ◌<◌, length, take, MatchOption};
+ghost use Rattle.std.specs.Prelude.{◌≡◌, ℕ, ◌+◌, ◌-◌, ◌*◌, ◌^◌, ◌≤◌, ◌<◌, length, take, get_or, MatchOption, IfOk, IsTrue};
+ghost use Rattle.std.specs.Char.{is_ascii_digit};
 ghost use Rattle.plan_lexer.specs.Numerals.{number_of, digits_len, number_at, number_behind};
 
 use crate::LexFault;
@@ -7,6 +8,7 @@ use crate::LexFault;
 fn digits(text: &[u8]) -> usize
     ensures value { result ≡ digits_len text.now }
     ensures within { result ≤ length text.now }
+    ensures some { IsTrue (is_ascii_digit (get_or text.now 0 0)) → 0 < result }
 {
     let mut count = 0;
     for byte in text {
@@ -37,7 +39,9 @@ fn number(digits: &[u8], most: u64) -> Option<u64>
 #[tactic(auto, unfolding(crate::specs::Numerals::number_at))]
 pub(crate) fn number_at(at: u32, most: u64, text: &[u8]) -> Result<(u64, usize), LexFault>
     requires { most ≤ 2 ^ 63 }
-    ensures { result ≡ number_at at most text.now }
+    ensures value { result ≡ number_at at most text.now }
+    ensures within { IfOk result (λ read. (read.0 ≤ most) × (read.1 ≤ length text.now)) }
+    ensures some { IfOk result (λ read. IsTrue (is_ascii_digit (get_or text.now 0 0)) → 0 < read.1) }
 {
     let count = digits(text);
     match number(&text[..count], most) {
@@ -50,7 +54,8 @@ pub(crate) fn number_at(at: u32, most: u64, text: &[u8]) -> Result<(u64, usize),
 #[tactic(auto, unfolding(crate::specs::Numerals::number_behind))]
 pub(crate) fn number_behind(at: u32, most: u64, text: &[u8]) -> Result<(u64, usize), LexFault>
     requires { most ≤ 2 ^ 63 }
-    ensures { result ≡ number_behind at most text.now }
+    ensures value { result ≡ number_behind at most text.now }
+    ensures within { IfOk result (λ read. (read.0 ≤ most) × (read.1 ≤ length text.now)) }
 {
     if digits(text) == 0 {
         Err(LexFault::BadChar(at))

@@ -1,4 +1,4 @@
-ghost use Rattle.std.specs.Prelude.{◌≡◌, ℕ, ◌+◌, ◌^◌, ◌≤◌, ◌<◌, length};
+ghost use Rattle.std.specs.Prelude.{◌≡◌, ℕ, ◌+◌, ◌^◌, ◌≤◌, ◌<◌, length, IfOk};
 ghost use Rattle.plan_lexer.specs.Faults.{Gives};
 ghost use Rattle.plan_lexer.specs.Quoted.{string_at, char_at};
 
@@ -12,7 +12,8 @@ use std::alloc::Global;
 #[tactic(auto, unfolding(crate::specs::Quoted::string_at))]
 pub(crate) fn string_at(alloc: Global, start: u32, text: &[u8]) -> Result<(Text, u32), LexFault>
     requires { start + length text.now < 2 ^ 31 }
-    ensures { Gives (λ read. read) result (string_at start text.now) }
+    ensures value { Gives (λ read. read) result (string_at start text.now) }
+    ensures within { IfOk result (λ read. (start < read.1) × (read.1 ≤ start + 1 + length text.now)) }
 {
     let mut string = String::new(alloc);
     let mut rest = text;
@@ -35,7 +36,8 @@ pub(crate) fn string_at(alloc: Global, start: u32, text: &[u8]) -> Result<(Text,
 #[tactic(auto, unfolding(crate::specs::Quoted::char_at, crate::specs::Quoted::char_by))]
 pub(crate) fn char_at(start: u32, text: &[u8]) -> Result<(u32, u32), LexFault>
     requires { start + length text.now < 2 ^ 31 }
-    ensures { result ≡ char_at start text.now }
+    ensures value { result ≡ char_at start text.now }
+    ensures within { IfOk result (λ read. (start < read.1) × (read.1 ≤ start + 1 + length text.now)) }
 {
     match item_at(b'\'', text) {
         Item::Code(code, width) => {

@@ -1,4 +1,4 @@
-ghost use Rattle.std.specs.Prelude.{◌≡◌, ◌<◌, ◌≤◌, length};
+ghost use Rattle.std.specs.Prelude.{◌≡◌, ◌≤◌, length, IfSome};
 ghost use Rattle.plan_lexer.specs.Tables.{key_text, key_of, symbol_text, symbol_at};
 
 use crate::{Key, Symbol};
@@ -52,7 +52,8 @@ impl Symbol {
     /// The symbol's bytes, one or two.
     #[tactic(auto, unfolding(crate::specs::Tables::symbol_text))]
     pub fn text(self) -> &'static [u8]
-        ensures { result.now ≡ symbol_text self }
+        ensures value { result.now ≡ symbol_text self }
+        ensures short { (1 ≤ length result.now) × (length result.now ≤ 2) }
     {
         match self {
             Symbol::ParenOpen => b"(",
@@ -158,7 +159,8 @@ pub(crate) fn key_of(word: &[u8]) -> Option<Key>
 /// The longest symbol that a text begins with.
 #[tactic(auto, unfolding(crate::specs::Tables::symbol_at))]
 pub(crate) fn symbol_at(text: &[u8]) -> Option<Symbol>
-    ensures { result ≡ symbol_at text.now }
+    ensures value { result ≡ symbol_at text.now }
+    ensures within { IfSome result (λ s. length (symbol_text s) ≤ length text.now) }
 {
     SYMBOLS.iter().copied().find(|symbol| text.starts_with(symbol.text()))
 }

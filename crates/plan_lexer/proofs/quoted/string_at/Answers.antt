@@ -5,9 +5,9 @@ use Rattle.plan_lexer.specs.Quoted.{string_at, with_front}
 use Rattle.plan_lexer.proofs.QuotedLemmas.{string_closes, string_open, string_wrong, string_more}
 use Rattle.plan_lexer.proofs.quoted.string_at.Goals as goal
 
-pub returns-in-Closes : goal.returns-in-Closes
+pub returns-in-Closes-clause-value : goal.returns-in-Closes-clause-value
 unfolding string_at
-returns-in-Closes c = let e = string_closes c.args.start c.items.at c.items.rest.now (sym c.item_at.ensures.value ∙ c.in-Closes.is) in grind (arith, common_steps)
+returns-in-Closes-clause-value c = let e = string_closes c.args.start c.items.at c.items.rest.now (sym c.item_at.ensures.value ∙ c.in-Closes.is) in grind (arith, common_steps)
 
 pub returns-in-Open : goal.returns-in-Open
 unfolding string_at
@@ -19,4 +19,7 @@ returns-in-Wrong c = let e = string_wrong c.args.start c.items.at c.items.rest.n
 
 pub items-preserved : goal.items-preserved
 items-preserved c = let e = string_more c.args.start c.items.at c.items.rest.now c.in-Code.code c.in-Code.width (string_bytes c.items.string) _ c.items.invariant.same (sym c.item_at.ensures.value ∙ c.in-Code.is) c.in-Code.ensures.within.0 in
-  record { same = grind (arith, common_steps); place = omega (arith, c.in-Code.ensures.within.1) }
+  record { same = grind (arith, common_steps); later = omega arith; place = omega (arith, c.in-Code.ensures.within.1) }
+
+pub returns-in-Closes-clause-within : goal.returns-in-Closes-clause-within
+returns-in-Closes-clause-within c = (omega arith, omega (arith, c.in-Closes.ensures.within))

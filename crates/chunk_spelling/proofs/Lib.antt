@@ -1,0 +1,5 @@
+pub mod Took
+pub mod FieldLaws
+pub mod PartLaws
+pub mod LeafLaws
+pub mod TypeLaws

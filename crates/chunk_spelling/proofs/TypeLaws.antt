@@ -1,0 +1,136 @@
+use Rattle.std.proofs.Common.{◌≡◌, ℕ, zero, suc, ◌+◌, ◌-◌, ◌<◌, ◌≤◌, List, [], ◌∷◌, ◌++◌, length, Bool, true, false, Option, Some, None, Result, Ok, Err, refl, sym, ◌∙◌, ap, subst, arith, append-nil, sum_by}
+use Rattle.std.proofs.lemmas.List.{length-map}
+use Rattle.std.proofs.lemmas.List.Sums.{sum_by-cons}
+use Rattle.std.specs.Prelude.{map}
+use Rattle.std.specs.List.{flat_map}
+use Rattle.wire_bytes.specs.Fields.{IsBytes}
+use Rattle.read_laws.specs.Reading.{◌>>=◌}
+use Rattle.read_laws.proofs.Binds.{ok_inj, some_inj, bind_ok, bind_is}
+use Rattle.plan_base.specs.declared.limit.Limit.{Limit}
+use Rattle.plan_base.specs.declared.tree.Ty.{Ty, Ty-F, out-Ty, roll-Ty, roll-out-Ty, map-Ty, fold_out-Ty, the_lemmas}
+use Rattle.plan_base.specs.declared.tree.Ty.TheVariants as ty
+use denote.Hole.Carrier.{roll, out}
+use Rattle.chunk_spelling.specs.declared.tags.TypeTag.{TypeTag}
+use Rattle.chunk_spelling.specs.declared.tags.TheConstants.{TYPE_TAGS}
+use Rattle.chunk_spelling.specs.Items.{Item, a_type}
+use Rattle.chunk_spelling.specs.Steps.{step}
+use Rattle.chunk_spelling.specs.Scan.{Scan, table_field, tag_of}
+use Rattle.chunk_spelling.specs.Parts.{Part, Parts, Held, items_of_parts, bytes_of_parts, FormFits}
+use Rattle.chunk_spelling.specs.Types.{type_bytes, type_bytes_level, type_tag_at, type_forms, type_of_parts, type_parts, no_type, type_within, type_part}
+use Rattle.chunk_spelling.proofs.Took.{Took, Took-as}
+use Rattle.std.proofs.lemmas.Bool.{ltb-true, lt-ltb}
+use Rattle.chunk_spelling.proofs.FieldLaws.{allowed_ok, allowed_is}
+use Rattle.chunk_spelling.proofs.LeafLaws.{Table, table_takes, table_again}
+use Rattle.chunk_spelling.proofs.PartLaws.{Lawful, Taken, AllLawful, Tag, FormIs, several_lawful, formed_lawful}
+
+flat_map-map : {X : Type 0} (f : X → List ℕ) (xs : List X) → flat_map (λ bs. bs) (map f xs) ≡ flat_map f xs
+flat_map-map f [] = refl
+flat_map-map f (x ∷ xs) = ap (λ bs. f x ++ bs) (flat_map-map f xs)
+
+type_bytes_step : (f : Ty → List ℕ) (x : Ty-F Ty) → type_bytes_level (λ bytes. bytes) (map-Ty Ty (List ℕ) f x) ≡ type_bytes_level f x
+type_bytes_step f (Ty-F.Tuple ts) = (λ i. 10 ∷ length-map ts f i ∷ flat_map-map f ts i)
+type_bytes_step f _ = refl
+
+pub type_bytes_out : (t : Ty) → type_bytes t ≡ type_bytes_level type_bytes (out-Ty t)
+unfolding type_bytes
+type_bytes_out t = fold_out-Ty (List ℕ) (type_bytes_level (λ bytes. bytes)) t ∙ type_bytes_step type_bytes (out-Ty t)
+
+-- the tag of each form
+abbrev type_byte : TypeTag → ℕ
+type_byte TypeTag.Unit = 0
+type_byte TypeTag.Bool = 1
+type_byte TypeTag.Int = 2
+type_byte TypeTag.Char = 3
+type_byte TypeTag.Str = 4
+type_byte TypeTag.Blob = 5
+type_byte TypeTag.Host = 6
+type_byte TypeTag.Dev = 7
+type_byte TypeTag.Chunk = 8
+type_byte TypeTag.List = 9
+type_byte TypeTag.Tuple = 10
+
+type_table_all : (t : TypeTag) → tag_of 0 TYPE_TAGS (type_byte t) ≡ Some t
+type_table_all TypeTag.Unit = refl
+type_table_all TypeTag.Bool = refl
+type_table_all TypeTag.Int = refl
+type_table_all TypeTag.Char = refl
+type_table_all TypeTag.Str = refl
+type_table_all TypeTag.Blob = refl
+type_table_all TypeTag.Host = refl
+type_table_all TypeTag.Dev = refl
+type_table_all TypeTag.Chunk = refl
+type_table_all TypeTag.List = refl
+type_table_all TypeTag.Tuple = refl
+
+type_table : Table 0 TYPE_TAGS type_byte
+type_table = record { numbered = (refl, (refl, (refl, (refl, (refl, (refl, (refl, (refl, (refl, (refl, (refl, tt))))))))))); all = type_table_all }
+
+type_tag : (room : ℕ) → Tag (type_tag_at room) (λ _. 0 < room) type_byte 0
+unfolding type_tag_at
+type_tag room = record {
+  may = λ f g t e.
+    let b = bind_ok (table_field 0 TYPE_TAGS f) _ _ e in
+    let a = allowed_ok _ _ b.first (t, g) b.then_read in
+    ltb-true 0 room a.0;
+  takes = λ f g t h k e.
+    let b = bind_ok (table_field 0 TYPE_TAGS f) _ _ e in
+    let a = allowed_ok _ _ b.first (t, g) b.then_read in
+    let P : TypeTag × Scan → Type 0 = λ q. Took f (type_byte q.0 ∷ []) 0 q.1 in
+    let took : Took f (type_byte t ∷ []) 0 g = subst P a.1 (table_takes 0 TYPE_TAGS type_byte type_table f b.first.1 b.first.0 h b.read) in
+    (took, omega (arith, took.count));
+  again = λ f g t a took k. bind_is _ (table_again 0 TYPE_TAGS type_byte type_table f g t took) (allowed_is _ _ (t, g) (lt-ltb 0 room a));
+}
+
+module _ (room : ℕ) (inner : Part Ty) (bytes : (t : Ty) → inner.bytes t ≡ type_bytes t) (nodes : (t : Ty) → inner.nodes t ≡ 0) where
+  same_bytes : (ts : List Ty) → flat_map type_bytes ts ≡ flat_map inner.bytes ts
+  same_bytes [] = refl
+  same_bytes (t ∷ ts) = λ i. sym (bytes t) i ++ same_bytes ts i
+
+  no_nodes : (ts : List Ty) → sum_by inner.nodes ts ≡ 0
+  no_nodes [] = refl
+  no_nodes (t ∷ ts) = sum_by-cons inner.nodes t ts ∙ (let a = nodes t in let b = no_nodes ts in omega (arith, a, b))
+
+  level_is : (x : Ty-F Ty) → FormIs type_byte 0 (type_forms inner) (type_of_parts inner) (type_parts inner x) (roll-Ty x) (type_bytes_level type_bytes x) 0
+  unfolding roll-Ty roll
+  level_is (Ty-F.List t) = (sym (ty.rolls-List t), (λ i. 9 ∷ (sym (bytes t) ∙ sym (append-nil (inner.bytes t))) i), (let a = nodes t in omega (arith, a)))
+  level_is (Ty-F.Tuple ts) = (sym (ty.rolls-Tuple ts), (λ i. 10 ∷ length ts ∷ (same_bytes ts ∙ sym (append-nil (flat_map inner.bytes ts))) i), (let a = no_nodes ts in omega (arith, a)))
+  level_is _ = (refl, refl, refl)
+
+  type_is_form : (t : Ty) → FormIs type_byte 0 (type_forms inner) (type_of_parts inner) (type_parts inner (out-Ty t)) t (type_bytes t) 0
+  type_is_form t =
+      let P : Ty → Type 0 = λ y. FormIs type_byte 0 (type_forms inner) (type_of_parts inner) (type_parts inner (out-Ty t)) y (type_bytes_level type_bytes (out-Ty t)) 0 in
+      let Q : List ℕ → Type 0 = λ bs. FormIs type_byte 0 (type_forms inner) (type_of_parts inner) (type_parts inner (out-Ty t)) t bs 0 in
+      subst Q (sym (type_bytes_out t)) (subst P (roll-out-Ty t) (level_is (out-Ty t)))
+
+  type_form_is : (tag : TypeTag) (xs : Held (type_forms inner tag)) → type_parts inner (out-Ty (type_of_parts inner tag xs)) ≡ Some (tag, xs)
+  unfolding out-Ty out
+  type_form_is TypeTag.List xs = ap (type_parts inner) (ty.outs-List xs.0)
+  type_form_is TypeTag.Tuple xs = ap (type_parts inner) (ty.outs-Tuple xs.0)
+  type_form_is _ xs = refl
+
+  pub type_within_lawful : (0 < room → Lawful inner) → ((more : List Item) (f : Scan) → step (a_type room) more f ≡ (type_tag_at room f >>= λ t. Ok (items_of_parts (type_forms inner t.0) more, t.1)))
+    → Lawful (type_within room inner)
+  type_within_lawful l steps =
+      formed_lawful (a_type room) (type_tag_at room) (λ _. 0 < room) type_byte 0 (type_forms inner) (type_of_parts inner) (λ t. type_parts inner (out-Ty t)) type_bytes (λ _. 0)
+      (type_tag room) (λ tag allowed. forms_lawful tag (l allowed)) type_is_form type_form_is steps
+    where
+      forms_lawful : (tag : TypeTag) → Lawful inner → AllLawful (type_forms inner tag)
+      forms_lawful TypeTag.List k = (k, tt)
+      forms_lawful TypeTag.Tuple k = (several_lawful Limit.Parts 2 8 inner k, tt)
+      forms_lawful _ k = tt
+
+pub type_part_bytes : (room : ℕ) (t : Ty) → (type_part room).bytes t ≡ type_bytes t
+unfolding type_part
+type_part_bytes zero t = refl
+type_part_bytes (suc room) t = refl
+
+pub type_part_nodes : (room : ℕ) (t : Ty) → (type_part room).nodes t ≡ 0
+unfolding type_part
+type_part_nodes zero t = refl
+type_part_nodes (suc room) t = refl
+
+-- a type is read exactly where it is spelled, else its first fault is the answer
+pub type_lawful : (room : ℕ) → Lawful (type_part room)
+unfolding type_part
+type_lawful zero = type_within_lawful 0 no_type (λ _. refl) (λ _. refl) (λ a. absurd (omega (arith, a))) (λ more f. refl)
+type_lawful (suc room) = type_within_lawful (suc room) (type_part room) (type_part_bytes room) (type_part_nodes room) (λ _. type_lawful room) (λ more f. refl)

@@ -1,0 +1,89 @@
+-- How a type is spelled: its tag, and a list's element type or a tuple's count and parts.
+use Rattle.std.specs.Prelude.{◌≡◌, ℕ, zero, suc, ◌+◌, ◌<◌, List, [], ◌∷◌, ◌++◌, length, Bool, Option, Some, None, Result, Ok, Err, nat_lt}
+use Rattle.std.specs.List.{flat_map}
+use Rattle.read_laws.specs.Reading.{◌>>=◌}
+use Rattle.plan_base.specs.declared.limit.Limit.{Limit}
+use Rattle.plan_base.specs.declared.tree.Ty.{Ty, Ty-F, fold-Ty, out-Ty}
+use Rattle.plan_base.specs.declared.tree.Ty.TheVariants as ty
+use Rattle.chunk_spelling.specs.declared.fault.SpellFault.{SpellFault}
+use Rattle.chunk_spelling.specs.declared.fault.SpellFault.TheVariants.{OverLimit}
+use Rattle.chunk_spelling.specs.declared.tags.TypeTag.{TypeTag}
+use Rattle.chunk_spelling.specs.declared.tags.TheConstants.{TYPE_TAGS}
+use Rattle.chunk_spelling.specs.Items.{a_type}
+use Rattle.chunk_spelling.specs.Scan.{Scan, Reader, table_field, allowed}
+use Rattle.chunk_spelling.specs.Parts.{Part, Parts, done, ◌&◌, Held, several, formed}
+
+-- a type's bytes, by those of its parts
+abbrev pub type_bytes_level : {X : Type 0} → (X → List ℕ) → Ty-F X → List ℕ
+type_bytes_level bytes Ty-F.Unit = 0 ∷ []
+type_bytes_level bytes Ty-F.Bool = 1 ∷ []
+type_bytes_level bytes Ty-F.Int = 2 ∷ []
+type_bytes_level bytes Ty-F.Char = 3 ∷ []
+type_bytes_level bytes Ty-F.Str = 4 ∷ []
+type_bytes_level bytes Ty-F.Blob = 5 ∷ []
+type_bytes_level bytes Ty-F.Host = 6 ∷ []
+type_bytes_level bytes Ty-F.Dev = 7 ∷ []
+type_bytes_level bytes Ty-F.Chunk = 8 ∷ []
+type_bytes_level bytes (Ty-F.List t) = 9 ∷ bytes t
+type_bytes_level bytes (Ty-F.Tuple ts) = 10 ∷ length ts ∷ flat_map bytes ts
+
+-- the spelling of a type
+unfoldable pub type_bytes : Ty → List ℕ
+type_bytes = fold-Ty (List ℕ) (type_bytes_level (λ bytes. bytes))
+
+-- a type's tag, where so many levels may still be opened
+unfoldable pub type_tag_at : ℕ → Reader TypeTag
+type_tag_at room s = do
+  tag ← table_field 0 TYPE_TAGS s
+  allowed (nat_lt 0 room) (OverLimit Limit.OfType s.front.at) tag
+
+-- what stands behind each tag
+abbrev pub type_forms : Part Ty → TypeTag → Parts
+type_forms inner TypeTag.List = inner & done
+type_forms inner TypeTag.Tuple = several Limit.Parts 2 8 inner & done
+type_forms inner _ = done
+
+abbrev pub type_of_parts : (inner : Part Ty) (tag : TypeTag) → Held (type_forms inner tag) → Ty
+type_of_parts inner TypeTag.Unit xs = ty.Unit
+type_of_parts inner TypeTag.Bool xs = ty.Bool
+type_of_parts inner TypeTag.Int xs = ty.Int
+type_of_parts inner TypeTag.Char xs = ty.Char
+type_of_parts inner TypeTag.Str xs = ty.Str
+type_of_parts inner TypeTag.Blob xs = ty.Blob
+type_of_parts inner TypeTag.Host xs = ty.Host
+type_of_parts inner TypeTag.Dev xs = ty.Dev
+type_of_parts inner TypeTag.Chunk xs = ty.Chunk
+type_of_parts inner TypeTag.List xs = ty.List xs.0
+type_of_parts inner TypeTag.Tuple xs = ty.Tuple xs.0
+
+abbrev pub type_parts : (inner : Part Ty) → Ty-F Ty → Option ((tag : TypeTag) × Held (type_forms inner tag))
+type_parts inner Ty-F.Unit = Some (TypeTag.Unit, tt)
+type_parts inner Ty-F.Bool = Some (TypeTag.Bool, tt)
+type_parts inner Ty-F.Int = Some (TypeTag.Int, tt)
+type_parts inner Ty-F.Char = Some (TypeTag.Char, tt)
+type_parts inner Ty-F.Str = Some (TypeTag.Str, tt)
+type_parts inner Ty-F.Blob = Some (TypeTag.Blob, tt)
+type_parts inner Ty-F.Host = Some (TypeTag.Host, tt)
+type_parts inner Ty-F.Dev = Some (TypeTag.Dev, tt)
+type_parts inner Ty-F.Chunk = Some (TypeTag.Chunk, tt)
+type_parts inner (Ty-F.List t) = Some (TypeTag.List, (t, tt))
+type_parts inner (Ty-F.Tuple ts) = Some (TypeTag.Tuple, (ts, tt))
+
+-- no type may stand there
+abbrev pub no_type : Part Ty
+no_type = record { item = a_type 0; read = λ s. Err (OverLimit Limit.OfType s.front.at); bytes = type_bytes; Fits = λ _. ⊥; nodes = λ _. 0 }
+
+-- a type at its tag, with so many levels to open, by the parts one level deeper
+abbrev pub type_within : ℕ → Part Ty → Part Ty
+type_within room inner =
+    formed (a_type room) (type_tag_at room) (λ _. 0 < room) (type_forms inner) (type_of_parts inner) (λ t. type_parts inner (out-Ty t)) type_bytes (λ _. 0)
+
+-- a type of depth at most room
+unfoldable pub type_part : ℕ → Part Ty
+type_part zero = type_within 0 no_type
+type_part (suc room) = type_within (suc room) (type_part room)
+
+-- the parts of a type one level deeper
+abbrev pub type_inner : ℕ → Part Ty
+type_inner zero = no_type
+type_inner (suc room) = type_part room

@@ -1,0 +1,9 @@
+//! How types, values, expressions, programs and chunks are spelled in bytes: the tags, the faults of
+//! a reading, and the definitions and laws that the readers and writers are proved against.
+#![tactic(auto)]
+
+mod fault;
+mod tags;
+
+pub use fault::SpellFault;
+pub use tags::{EXPR_TAGS, ExprTag, OPERATORS, TYPE_TAGS, TypeTag, VALUE_TAGS, ValueTag};

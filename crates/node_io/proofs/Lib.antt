@@ -1,0 +1,3 @@
+pub mod FileMapLemmas
+pub mod PieceLemmas
+pub mod Fronts

@@ -1,0 +1,37 @@
+-- What the forms in memory keep, and when their calls fail.
+use Rattle.std.specs.Prelude.{ℕ, List, ◌≡◌, ◌<◌, ◌⊎◌, Option, Some, None, option_map, length}
+use Rattle.node_io.specs.Causes.{IsDue, Rose, one_more}
+use Rattle.node_io.specs.declared.mem_sink.MemSink.{MemSink}
+use Rattle.node_io.specs.declared.mem_files.MemFiles.{MemFiles}
+
+-- the bytes that a sink in memory may still take, or None where there is no end
+abbrev pub room_of : MemSink → Option ℕ
+room_of s = s.room
+
+-- this call is among those of the sink that are to fail
+abbrev pub IsDuePush : MemSink → Type 0
+IsDuePush s = IsDue s.fails (one_more s.calls)
+
+-- a sink that may take no more, and a piece that isn't empty
+abbrev pub IsFull : MemSink → List ℕ → Type 0
+IsFull s piece = (s.room ≡ Some 0) × (0 < length piece)
+
+-- a growth of the sink was refused for memory
+abbrev pub LacksRoom : MemSink → MemSink → Type 0
+LacksRoom old new = Rose old.refused new.refused
+
+-- the sink counted one call more, and its list of failing calls is as before
+abbrev pub CountsPush : MemSink → MemSink → Type 0
+CountsPush old new = (new.calls ≡ one_more old.calls) × (new.fails ≡ old.fails)
+
+-- this call is among those of the files that are to fail
+abbrev pub IsDueCall : MemFiles → Type 0
+IsDueCall f = IsDue f.fails (one_more f.calls)
+
+-- a growth of the files was refused for memory
+abbrev pub LacksMemory : MemFiles → MemFiles → Type 0
+LacksMemory old new = Rose old.refused new.refused
+
+-- the files counted one call more, and their list of failing calls is as before
+abbrev pub CountsCall : MemFiles → MemFiles → Type 0
+CountsCall old new = (new.calls ≡ one_more old.calls) × (new.fails ≡ old.fails)

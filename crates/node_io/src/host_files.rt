@@ -1,0 +1,98 @@
+ghost use Rattle.std.specs.Prelude.{[], false, is_some};
+
+use crate::counts::raise;
+use crate::host_sink::write_some;
+use crate::outside::{Failed, Files};
+use std::fs;
+use std::io::Read;
+use std::rt::Files as System;
+
+/// The files of the system. Each push writes and flushes, so that no fault comes later. It tells
+/// nothing of what the files hold.
+#[derive(Drop)]
+pub struct HostFiles<'a, R: System> {
+    system: &'a R,
+    source: Option<R::File>,
+    target: Option<R::File>,
+    read_faults: u64,
+    write_faults: u64,
+}
+
+impl<'a, R: System> HostFiles<'a, R> {
+    /// The files of this system.
+    pub fn new(system: &'a R) -> HostFiles<'a, R> {
+        HostFiles {
+            system,
+            source: None,
+            target: None,
+            read_faults: 0,
+            write_faults: 0,
+        }
+    }
+}
+
+impl<R: System> Files for HostFiles<'_, R> {
+    ghost read_faults = { λ f. f.read_faults };
+
+    ghost write_faults = { λ f. f.write_faults };
+
+    ghost reading = { λ f. is_some f.source };
+
+    ghost writing = { λ f. is_some f.target };
+
+    ghost tells = { false };
+
+    ghost files = { λ _. [] };
+
+    ghost left = { λ _. [] };
+
+    ghost target = { λ _. [] };
+
+    ghost asked = { λ _. [] };
+
+    ghost made = { λ _. [] };
+
+    fn read_from(&mut self, name: &str) -> Result<(), Failed> {
+        self.source = fs::open(self.system, name).ok();
+        if self.source.is_none() {
+            raise(&mut self.read_faults);
+            return Err(Failed);
+        }
+        Ok(())
+    }
+
+    fn pull(&mut self, buf: &mut [u8]) -> Result<usize, Failed> {
+        match &mut self.source {
+            None => unreachable!(),
+            Some(file) => match file.read(buf) {
+                Ok(count) => Ok(count),
+                Err(_) => {
+                    raise(&mut self.read_faults);
+                    Err(Failed)
+                }
+            },
+        }
+    }
+
+    fn write_to(&mut self, name: &str) -> Result<(), Failed> {
+        self.target = fs::create(self.system, name).ok();
+        if self.target.is_none() {
+            raise(&mut self.write_faults);
+            return Err(Failed);
+        }
+        Ok(())
+    }
+
+    fn push(&mut self, piece: &[u8]) -> Result<usize, Failed> {
+        match &mut self.target {
+            None => unreachable!(),
+            Some(file) => match write_some(file, piece) {
+                Some(count) => Ok(count),
+                None => {
+                    raise(&mut self.write_faults);
+                    Err(Failed)
+                }
+            },
+        }
+    }
+}

@@ -1,0 +1,55 @@
+ghost use Rattle.std.specs.Prelude.{◌≤◌, ◌<◌, [], false, length, IfSome};
+
+use crate::counts::raise;
+use crate::outside::{Failed, Sink};
+use std::io::Write;
+
+/// A sink over a real output. Each push writes and flushes, so that no fault comes later. It tells
+/// nothing of what the output holds.
+#[derive(Drop)]
+pub struct HostSink<W: Write + Drop> {
+    inner: W,
+    faults: u64,
+}
+
+impl<W: Write + Drop> HostSink<W> {
+    /// A sink over this output.
+    pub fn new(inner: W) -> HostSink<W> {
+        HostSink { inner, faults: 0 }
+    }
+}
+
+/// Writes a front of `piece`, at least one byte of a nonempty one, and flushes. Answers its length,
+/// or `None` where the writing or the flushing failed.
+pub(crate) fn write_some<W: Write>(to: &mut W, piece: &[u8]) -> Option<usize>
+    ensures { IfSome result (λ n. (n ≤ length piece.now) × (0 < length piece.now → 0 < n)) }
+{
+    if piece.is_empty() {
+        return Some(0);
+    }
+    match to.write(piece) {
+        Ok(count) if count > 0 => match to.flush() {
+            Ok(()) => Some(count),
+            Err(_) => None,
+        },
+        _ => None,
+    }
+}
+
+impl<W: Write + Drop> Sink for HostSink<W> {
+    ghost faults = { λ s. s.faults };
+
+    ghost tells = { false };
+
+    ghost taken = { λ _. [] };
+
+    fn push(&mut self, piece: &[u8]) -> Result<usize, Failed> {
+        match write_some(&mut self.inner, piece) {
+            Some(count) => Ok(count),
+            None => {
+                raise(&mut self.faults);
+                Err(Failed)
+            }
+        }
+    }
+}

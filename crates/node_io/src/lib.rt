@@ -1,0 +1,36 @@
+//! The outside of a node: files, sinks, links, clocks and child processes as traits, their forms in
+//! memory, which tell what they hold, and adapters over the real files and outputs, which don't.
+//!
+//! Every call that can fail answers [`Failed`] only where a count of faults rose in it.
+#![tactic(auto)]
+
+mod clock;
+mod counts;
+mod file_list;
+mod host_files;
+mod host_sink;
+mod link;
+mod mem_files;
+mod mem_link;
+mod mem_sink;
+mod outside;
+mod read;
+mod reading;
+mod spawner;
+#[cfg(test)]
+mod tests;
+mod text;
+mod write;
+
+pub use clock::{Clock, MemClock, Moments};
+pub use file_list::FileList;
+pub use host_files::HostFiles;
+pub use host_sink::HostSink;
+pub use link::{Arrival, Arrivals, Got, Link, Peer, Peers, RECEIVED_MAX, SentFrames};
+pub use mem_files::MemFiles;
+pub use mem_link::MemLink;
+pub use mem_sink::MemSink;
+pub use outside::{Calls, Failed, Files, Sink};
+pub use read::{ReadError, read_whole};
+pub use spawner::{Child, MemSpawner, Spawner, Statuses};
+pub use write::put_all;

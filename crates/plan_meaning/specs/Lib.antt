@@ -1,0 +1,4 @@
+pub mod State
+pub mod Run
+pub mod Meaning
+pub mod Visit

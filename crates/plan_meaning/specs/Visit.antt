@@ -1,0 +1,49 @@
+-- What a visit ends with.
+use Rattle.std.specs.Prelude.{◌≡◌, ℕ, ◌+◌, ◌-◌, ◌≤◌, List, [], sum_by, length}
+use Rattle.plan_base.specs.declared.ids.Family.{Family}
+use Rattle.plan_base.specs.declared.tree.Value.{Value}
+use Rattle.plan_base.specs.declared.tree.Chunk.{Chunk}
+use Rattle.service_api.specs.declared.ctx.Ctx.{Ctx}
+use Rattle.service_api.specs.Services.{Standing}
+use Rattle.plan_meaning.specs.declared.sent.Sent.{Sent}
+use Rattle.plan_meaning.specs.declared.stop.Stop.{Stop}
+use Rattle.plan_meaning.specs.declared.stop.Stop.TheVariants as stop
+use Rattle.plan_meaning.specs.declared.outcome.Outcome.{Outcome}
+use Rattle.plan_meaning.specs.declared.outcome.Outcome.TheVariants as outcome
+use Rattle.plan_meaning.specs.declared.outcome.Visit.{Visit}
+use Rattle.plan_meaning.specs.State.{VisitState}
+use Rattle.plan_meaning.specs.Run.{After, gave, stopped, Step}
+use Rattle.plan_meaning.specs.Meaning.{meaning, visited}
+
+-- the work that a visit may spend
+abbrev pub allowance : ℕ
+allowance = 4000000
+
+-- the state in which a visit begins, with so much work to spend
+abbrev pub begun : ℕ → Ctx → Family → Standing → VisitState
+begun work ctx family services = record { ctx = ctx; family = family; work = work; evals = 0; outbox = []; notes = []; services = services }
+
+-- a visit that ended in a state
+abbrev pub ended : ℕ → Outcome → VisitState → Visit
+ended work how s = record { outcome = how; evals = s.evals; left = s.ctx.purse; outbox = s.outbox; notes = s.notes; work = work - s.work }
+
+-- a visit that has no effect at all
+abbrev pub spent : ℕ → ℕ → Visit
+spent work bound = record { outcome = outcome.WorkSpent; evals = 0; left = bound; outbox = []; notes = []; work = work }
+
+-- A visit that began with so much work and that bound ends so, and leaves the services so. After `WorkSpent` the caller
+-- takes the rows back.
+abbrev pub Ends : ℕ → ℕ → After Value → Visit → Standing → Type 0
+Ends work bound (gave v s) r new = (r ≡ ended work (outcome.Value v) s) × (new ≡ s.services)
+Ends work bound (stopped (stop.Raised x) s) r new = (r ≡ ended work (outcome.Raised x) s) × (new ≡ s.services)
+Ends work bound (stopped stop.WorkSpent s) r new = (r ≡ spent work bound) × (new ≡ s.services)
+Ends work bound (stopped _ s) r new = ⊥
+
+-- The visit of a chunk in surroundings whose purse is the packet's bound: the entry's body with the arguments bound, no
+-- evals, packets or notes, and the node's rows.
+unfoldable pub IsVisit : ℕ → Chunk → Ctx → Family → Standing → Visit → Standing → Type 0
+IsVisit work k ctx family old r new = Ends work ctx.purse (visited meaning k (begun work ctx family old)).after r new
+
+-- the bounds of packets in sum
+abbrev pub bounds : List Sent → ℕ
+bounds outbox = sum_by (λ p. p.packet.bound) outbox

@@ -1,0 +1,14 @@
+use plan_base::{Name, Value};
+use plan_items::Items;
+
+/// A name with the value that it is bound to.
+#[derive(Debug, Drop)]
+pub struct Binding {
+    /// The name.
+    pub name: Name,
+    /// The value.
+    pub value: Value,
+}
+
+/// The bindings that an expression sees, the innermost last.
+pub type Env = Items<Binding>;

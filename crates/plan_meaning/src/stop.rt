@@ -1,0 +1,34 @@
+use plan_base::{Exn, NoMemory};
+use std::alloc::AllocError;
+
+ghost use Rattle.std.specs.Prelude.{◌≡◌};
+ghost use Rattle.plan_meaning.specs.declared.stop.Stop.TheVariants as stop;
+
+/// Why an evaluation gave no value.
+#[derive(Debug, Drop)]
+pub enum Stop {
+    /// An exception.
+    Raised(Exn),
+    /// The work would pass what the visit is allowed.
+    WorkSpent,
+    /// No case of the meaning applies. A typed chunk never comes here.
+    Wrong,
+    /// A growth was refused for memory. The meaning never gives it.
+    NoMemory,
+}
+
+impl From<AllocError> for Stop {
+    ghost from_gives = { λ _ r. r ≡ stop.NoMemory };
+
+    fn from(_refused: AllocError) -> Stop {
+        Stop::NoMemory
+    }
+}
+
+impl From<NoMemory> for Stop {
+    ghost from_gives = { λ _ r. r ≡ stop.NoMemory };
+
+    fn from(_refused: NoMemory) -> Stop {
+        Stop::NoMemory
+    }
+}

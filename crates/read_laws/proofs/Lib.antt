@@ -1,0 +1,3 @@
+pub mod Agendas
+pub mod Lists
+pub mod Binds

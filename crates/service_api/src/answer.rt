@@ -1,0 +1,23 @@
+use plan_base::{Exn, Value};
+use plan_items::Items;
+
+/// What a service tells the node's owner.
+#[derive(Debug, Drop)]
+pub enum Note {
+    /// A value that was printed.
+    Print(Value),
+    /// A value that was delivered to a port.
+    Port(u16, Value),
+}
+
+/// Notes in the order in which they were made.
+pub type Notes = Items<Note>;
+
+/// The answer of a service.
+#[derive(Debug, Drop)]
+pub enum Answer {
+    /// A value, and a note where the service made one.
+    Gives(Value, Option<Note>),
+    /// An exception.
+    Raises(Exn),
+}

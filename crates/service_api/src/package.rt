@@ -1,0 +1,15 @@
+use plan_items::Items;
+
+/// A package of services.
+#[derive(Debug, Clone, Copy, PartialEq, Eq)]
+pub enum PackageName {
+    /// What a node knows of itself and of the network.
+    Net,
+    /// The node's table.
+    Resident,
+    /// What is told to the node's owner.
+    Host,
+}
+
+/// A list of packages.
+pub type Packages = Items<PackageName>;

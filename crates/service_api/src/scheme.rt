@@ -1,0 +1,23 @@
+use plan_base::Ty;
+use plan_items::Items;
+
+/// A type in a service's row.
+#[derive(Debug, Drop)]
+pub enum SchemeTy {
+    /// Any type, the same at each place of the row.
+    Any,
+    /// This type.
+    Is(Ty),
+}
+
+/// A list of such types.
+pub type SchemeTys = Items<SchemeTy>;
+
+/// The type of a service.
+#[derive(Debug, Drop)]
+pub struct Scheme {
+    /// The types of its arguments.
+    pub params: SchemeTys,
+    /// The type of its answer.
+    pub result: SchemeTy,
+}

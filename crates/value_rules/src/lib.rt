@@ -1,0 +1,4 @@
+//! What operators and primitives give: for each the value or the exception, as definitions in `specs/`.
+//!
+//! `specs/Rules.antt` has the rules and `specs/Same.antt` the test that `=` makes.
+#![tactic(auto)]

@@ -1,0 +1,5 @@
+pub mod SmallVisit
+pub mod Node
+pub mod World
+pub mod Counts
+pub mod Texts
