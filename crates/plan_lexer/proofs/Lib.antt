@@ -1,3 +1,4 @@
 pub mod NumeralLemmas
 pub mod QuotedLemmas
 pub mod ScanLemmas
+pub mod WordLemmas

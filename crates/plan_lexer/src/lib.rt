@@ -14,6 +14,9 @@ mod text;
 mod token;
 mod word;
 
+#[cfg(test)]
+mod tests;
+
 pub use fault::LexFault;
 pub use lexing::lex;
 pub use token::{Key, Symbol, Token, TokenKind, Tokens};
