@@ -3,5 +3,5 @@ use Rattle.std.proofs.lemmas.Grind.{common_steps}
 use Rattle.plan_parser.proofs.Mores.{more_steps}
 use Rattle.plan_parser.proofs.reader.ExprReader.more.Goals as goal
 
-pub loop-ahead-preserved : goal.loop-ahead-preserved
-loop-ahead-preserved g c = grind (arith, common_steps, more_steps, length-append)
+pub loop-limit-preserved : goal.loop-limit-preserved
+loop-limit-preserved g c = grind (arith, common_steps, more_steps, length-append)

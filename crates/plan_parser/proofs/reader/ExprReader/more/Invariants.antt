@@ -7,10 +7,10 @@ use Rattle.plan_parser.specs.Begins.{begins_expr}
 use Rattle.plan_parser.specs.Types.{more}
 use Rattle.plan_parser.proofs.reader.ExprReader.more.Given as goal
 
-abbrev pub invariant-loop-ahead : goal.invariant-loop-ahead
-invariant-loop-ahead g l = (more (expr_to l.self.room levels.Whole) begins_expr symbols.Comma l.limit wanted.AnExpr (l.most - length l.fn.nodes) l.fn.nodes l.fn.ahead
+abbrev pub invariant-loop-limit : goal.invariant-loop-limit
+invariant-loop-limit g l = (more (expr_to l.self.room levels.Whole) begins_expr symbols.Comma l.limit wanted.AnExpr (l.most - length l.fn.nodes) l.fn.nodes l.fn.ahead
       ≡ more (expr_to l.self.room levels.Whole) begins_expr symbols.Comma l.limit wanted.AnExpr (l.most - length l.nodes) l.nodes l.ahead)
     × (length l.nodes ≤ l.most)
 
-abbrev pub decreases-loop-ahead : goal.decreases-loop-ahead
-decreases-loop-ahead g l = l.most - length l.nodes
+abbrev pub decreases-loop-limit : goal.decreases-loop-limit
+decreases-loop-limit g l = l.most - length l.nodes
