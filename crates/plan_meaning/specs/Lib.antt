@@ -2,3 +2,4 @@ pub mod State
 pub mod Run
 pub mod Meaning
 pub mod Visit
+pub mod Safe

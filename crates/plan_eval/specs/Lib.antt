@@ -1,0 +1,3 @@
+pub mod Stack
+pub mod Leads
+pub mod Nexts

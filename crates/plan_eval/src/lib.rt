@@ -1,0 +1,7 @@
+//! Visits: the evaluation of a packet's chunk on an explicit stack.
+#![tactic(auto)]
+
+mod frame;
+mod next;
+mod parts;
+mod walk;

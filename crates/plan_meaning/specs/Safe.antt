@@ -1,0 +1,58 @@
+-- Evaluations that ask services well, hold typed values and never are without a case.
+use Rattle.std.specs.Prelude.{◌≡◌, ◌≢◌, ℕ, List, [], ◌∷◌, Option, Some, None, All}
+use Rattle.plan_base.specs.declared.name.Name.{Name}
+use Rattle.plan_base.specs.declared.tree.Param.{Param}
+use Rattle.plan_base.specs.declared.tree.Svc.{Svc}
+use Rattle.plan_base.specs.declared.tree.Ty.{Ty}
+use Rattle.plan_base.specs.declared.tree.Value.{Value}
+use Rattle.plan_base.specs.declared.tree.Chunk.{Chunk}
+
+use Rattle.plan_base.specs.Typing.{IsTypedChunk}
+
+use Rattle.service_api.specs.declared.answer.Note.{Note}
+use Rattle.service_api.specs.Services.{IsGoodValue, AreGoodValues, IsGoodNote, IsGood}
+use Rattle.plan_meaning.specs.declared.binding.Binding.{Binding}
+use Rattle.plan_meaning.specs.declared.sent.Sent.{Sent}
+use Rattle.plan_meaning.specs.declared.stop.Stop.{Stop}
+use Rattle.plan_meaning.specs.declared.stop.Stop.TheVariants.{Wrong}
+use Rattle.plan_meaning.specs.State.{VisitState}
+use Rattle.plan_meaning.specs.Run.{After, gave, stopped, Asks, nothing, never, service, both, Step, Run}
+
+-- services are asked only with good arguments of the declared types, and no step is without a case
+abbrev pub IsSafe : Asks → Type 0
+IsSafe nothing = Unit {0}
+IsSafe never = ⊥
+IsSafe (service d args) = AreGoodValues d.params args
+IsSafe (both a b) = IsSafe a × IsSafe b
+
+-- the values of the notes and the chunks of the packets are typed and keep the limits
+abbrev pub AreGoodNotes : List Note → Type 0
+AreGoodNotes notes = All IsGoodNote notes
+
+abbrev pub AreGoodPackets : List Sent → Type 0
+AreGoodPackets outbox = All (λ p. IsTypedChunk p.packet.chunk) outbox
+
+pub record IsGoodState (s : VisitState) : Type 0 where
+  pub services : IsGood s.services
+  pub notes : AreGoodNotes s.notes
+  pub outbox : AreGoodPackets s.outbox
+
+-- a value of which P holds, or a stop for a cause other than the want of a case, and a good state
+abbrev pub Holds : {A : Type 0} → (A → Type 0) → After A → Type 0
+Holds P (gave a s) = P a × IsGoodState s
+Holds P (stopped e s) = (e ≢ Wrong) × IsGoodState s
+
+pub record IsRight {A : Type 0} (P : A → Type 0) (r : Step A) : Type 0 where
+  pub safe : IsSafe r.asks
+  pub holds : Holds P r.after
+
+-- right from each good state
+abbrev pub Yields : {A : Type 0} → (A → Type 0) → Run A → Type 0
+Yields P p = (s : VisitState) → IsGoodState s → IsRight P (p s)
+
+-- bindings of good values under the names and at the types of a list
+abbrev pub HasEnv : List Param → List Binding → Type 0
+HasEnv [] [] = Unit {0}
+HasEnv (p ∷ ps) (b ∷ bs) = (p.name ≡ b.name) × IsGoodValue p.ty b.value × HasEnv ps bs
+HasEnv _ _ = ⊥
+
