@@ -1,3 +1,7 @@
+pub mod Shapes
+pub mod Rules
+pub mod Right
+pub mod Sound
 pub mod Walk
 pub mod Even
 pub mod Steady

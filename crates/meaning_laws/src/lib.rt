@@ -1,12 +1,19 @@
 //! Laws of the meaning. Each is the contract of a function without a body, so that a contract or a proof can name it.
 #![tactic(auto)]
 
-ghost use Rattle.std.specs.Prelude.{◌≡◌, ℕ};
+ghost use Rattle.std.specs.Prelude.{◌≡◌, ℕ, List, Some, slice_get};
 ghost use Rattle.plan_base.specs.declared.tree.Expr.{Expr};
 ghost use Rattle.plan_base.specs.declared.tree.Program.{Program};
 ghost use Rattle.plan_base.specs.declared.tree.Chunk.{Chunk};
+ghost use Rattle.plan_base.specs.declared.tree.Param.{Param};
+ghost use Rattle.plan_base.specs.declared.tree.Fun.{Fun};
+ghost use Rattle.plan_base.specs.declared.tree.Ty.{Ty};
+ghost use Rattle.plan_base.specs.Typing.{Typed, HasTy, IsTypedChunk};
+ghost use Rattle.plan_base.specs.TypingNames.{place_of};
+ghost use Rattle.service_api.specs.Services.{IsGoodValue};
 ghost use Rattle.plan_meaning.specs.State.{VisitState};
 ghost use Rattle.plan_meaning.specs.Meaning.{Env, node, meaning, visited};
+ghost use Rattle.plan_meaning.specs.Safe.{HasEnv, Yields};
 ghost use Rattle.meaning_laws.specs.Laws.{IsBalanced, IsSteady, IsLonger, left_by};
 
 /// The meaning of an expression is its case with the meaning at its parts: the depth at which the definition is cut
@@ -34,5 +41,14 @@ pub fn steadiness()
 pub fn allowance()
     ensures parts { (code : Program) (seen : ℕ) (env : Env) (e : Expr) (s : VisitState) → IsLonger (meaning code seen env e) s }
     ensures visits { (k : Chunk) (s : VisitState) → IsLonger (visited meaning k) s }
+{
+}
+
+/// From a good state a typed expression never is without a case, its value has its type and keeps the limits, services
+/// are asked only with arguments of the declared types that keep the limits, and what is in the outbox, the notes and the
+/// rows is typed and keeps the limits. So does a typed chunk, at its entry's result type.
+pub fn soundness()
+    ensures parts { (code : Program) (seen : ℕ) (c : List Param) (env : Env) (e : Expr) (t : Ty) → Typed code → HasTy code seen c e t → HasEnv c env → Yields (IsGoodValue t) (meaning code seen env e) }
+    ensures visits { (k : Chunk) (at : ℕ) (d : Fun) → IsTypedChunk k → place_of k.entry k.code.funs ≡ Some at → slice_get k.code.funs at ≡ Some d → Yields (IsGoodValue d.result) (visited meaning k) }
 {
 }

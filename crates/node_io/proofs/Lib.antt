@@ -1,3 +1,5 @@
 pub mod FileMapLemmas
 pub mod PieceLemmas
 pub mod Fronts
+pub mod ChildLemmas
+pub mod FileWrites

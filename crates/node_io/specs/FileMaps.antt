@@ -1,5 +1,5 @@
 -- Files by name. Where a name stands twice, its first entry is the file.
-use Rattle.std.specs.Prelude.{ℕ, Bool, List, [], ◌∷◌, ◌++◌, ◌≡◌, ◌≢◌, ◌⊎◌, if◌then◌else◌, Option, Some, None, unwrap_or, Result, MatchResult}
+use Rattle.std.specs.Prelude.{ℕ, Bool, List, [], ◌∷◌, ◌++◌, ◌≡◌, ◌≢◌, ◌⊎◌, if◌then◌else◌, Option, Some, None, IsSome, take, unwrap_or, Result, MatchResult}
 use Rattle.std.specs.Str.{bytes_eq}
 
 -- names with their bytes
@@ -36,3 +36,19 @@ Names old new name result = MatchResult result (λ _. new ≡ old ++ name ∷ []
 abbrev pub HasDistinctNames : FileMap → Type 0
 HasDistinctNames [] = Unit {0}
 HasDistinctNames (f ∷ fs) = (file_at fs f.0 ≡ None) × HasDistinctNames fs
+
+-- these bytes were added at the end of the file of this name, and every other file is as before
+pub record WritesMore (old new : FileMap) (name bytes : List ℕ) : Type 0 where
+  pub here : contents new name ≡ contents old name ++ bytes
+  pub there : IsSome (file_at old name) → IsSome (file_at new name)
+  pub others : (other : List ℕ) → other ≢ name → file_at new other ≡ file_at old other
+
+-- a front of these bytes was added at the end of the file of this name
+pub record WritesFront (old new : FileMap) (name bytes : List ℕ) : Type 0 where
+  pub count : ℕ
+  pub is : WritesMore old new name (take count bytes)
+
+-- the files are as before, or the file of this name is a front of these bytes and every other one is as before
+pub data SavesFront (old new : FileMap) (name bytes : List ℕ) : Type 0 where
+  untouched : new ≡ old → SavesFront old new name bytes
+  begun : (count : ℕ) → ChangesOnly old new name (take count bytes) → SavesFront old new name bytes

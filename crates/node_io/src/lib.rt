@@ -33,4 +33,4 @@ pub use mem_sink::MemSink;
 pub use outside::{Calls, Failed, Files, Sink};
 pub use read::{ReadError, read_whole};
 pub use spawner::{Child, MemSpawner, Spawner, Statuses};
-pub use write::put_all;
+pub use write::{put_all, put_file, save};

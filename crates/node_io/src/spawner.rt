@@ -1,4 +1,4 @@
-ghost use Rattle.std.specs.Prelude.{◌≡◌, ◌++◌, ◌∷◌, ℕ, Bool, List, [], true, drop, filter, Contains, IfOk, MatchOption, MatchResult};
+ghost use Rattle.std.specs.Prelude.{◌≡◌, ◌++◌, ◌∷◌, ℕ, Bool, List, [], true, drop, filter, Contains, IfOk, IfSome, MatchOption, MatchResult};
 ghost use Rattle.node_io.specs.Causes.{HasCause};
 ghost use Rattle.node_io.specs.Children.{is_other};
 ghost use Rattle.node_io.specs.declared.spawner.Child.{Child};
@@ -37,6 +37,7 @@ pub trait Spawner {
         ensures children { MatchResult result
             (λ child. children self.new ≡ children self.old ++ child ∷ [])
             (λ _. children self.new ≡ children self.old) }
+        ensures started { IfOk result (Contains (children self.new)) }
         ensures cause { HasCause (faults self.old) (faults self.new) result };
 
     /// Waits for a child and answers its exit status. A child that ended without one is a fault.
@@ -55,7 +56,7 @@ pub struct MemSpawner {
     starts: Items<Texts>,
     // the children started so far, and those not yet waited for
     started: u32,
-    open: Vec<Child>,
+    running: Vec<Child>,
     fails: Calls,
     calls: u64,
     faults: u64,
@@ -65,7 +66,7 @@ impl MemSpawner {
     /// A spawner with these statuses, whose calls with the numbers in `fails`, from 1, fail.
     pub fn new(alloc: Global, statuses: Statuses, fails: Calls) -> Result<MemSpawner, NoMemory>
         ensures { IfOk result
-            (λ s. (s.statuses ≡ statuses) × (s.starts ≡ []) × (s.started ≡ 0) × (s.open.items ≡ []) × (s.fails ≡ fails)
+            (λ s. (s.statuses ≡ statuses) × (s.starts ≡ []) × (s.started ≡ 0) × (s.running.items ≡ []) × (s.fails ≡ fails)
             × (s.calls ≡ 0) × (s.faults ≡ 0)) }
     {
         Ok(MemSpawner {
@@ -73,7 +74,7 @@ impl MemSpawner {
             statuses,
             starts: Items::new(alloc),
             started: 0,
-            open: Vec::new(alloc),
+            running: Vec::new(alloc),
             fails,
             calls: 0,
             faults: 0,
@@ -90,28 +91,30 @@ fn note_start(alloc: Global, starts: &mut Items<Texts>, words: &Texts) -> Result
 }
 
 // Opens the next child, unless memory is refused or there are no more numbers.
-fn open_next(open: &mut Vec<Child>, started: &mut u32) -> Option<Child>
-    ensures { MatchOption result
-        (open.new.items ≡ open.old.items)
-        (λ child. open.new.items ≡ open.old.items ++ child ∷ []) }
+#[tactic(auto, using(crate::proofs::ChildLemmas::last_is_there))]
+fn open_next(running: &mut Vec<Child>, started: &mut u32) -> Option<Child>
+    ensures started { IfSome result (Contains running.new.items) }
+    ensures items { MatchOption result
+        (running.new.items ≡ running.old.items)
+        (λ child. running.new.items ≡ running.old.items ++ child ∷ []) }
 {
     let child = Child(*started);
     let next = started.checked_add(1)?;
-    open.push(child).ok()?;
+    running.push(child).ok()?;
     *started = next;
     Some(child)
 }
 
-fn forget(open: &mut Vec<Child>, child: Child)
-    ensures { open.new.items ≡ filter (is_other child) open.old.items }
+fn forget(running: &mut Vec<Child>, child: Child)
+    ensures { running.new.items ≡ filter (is_other child) running.old.items }
 {
-    open.retain(|other| other.0 != child.0);
+    running.retain(|other| other.0 != child.0);
 }
 
 impl Spawner for MemSpawner {
     ghost faults = { λ s. s.faults };
 
-    ghost children = { λ s. s.open.items };
+    ghost children = { λ s. s.running.items };
 
     ghost tells = { true };
 
@@ -126,7 +129,7 @@ impl Spawner for MemSpawner {
             raise(&mut self.faults);
             return Err(Failed);
         }
-        match open_next(&mut self.open, &mut self.started) {
+        match open_next(&mut self.running, &mut self.started) {
             Some(child) => Ok(child),
             None => {
                 raise(&mut self.faults);
@@ -137,7 +140,7 @@ impl Spawner for MemSpawner {
 
     fn wait(&mut self, child: Child) -> Result<u8, Failed> {
         raise(&mut self.calls);
-        forget(&mut self.open, child);
+        forget(&mut self.running, child);
         let due = is_due(self.fails.as_slice(), self.calls);
         match self.statuses.get(child.0 as usize) {
             Some(status) if !due => Ok(*status),

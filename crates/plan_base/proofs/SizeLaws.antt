@@ -49,7 +49,7 @@ unfolding expr_size
 expr_size_out e =
     fold_out-Expr ℕ ℕ (expr_size_level (λ n. n) (λ n. n)) (clause_size_level (λ n. n)) e
     ∙ expr_size_step expr_size (fold-Clause ℕ ℕ (expr_size_level (λ n. n) (λ n. n)) (clause_size_level (λ n. n))) clause_size
-        (λ c. fold_out-Clause ℕ ℕ (expr_size_level (λ n. n) (λ n. n)) (clause_size_level (λ n. n)) c) (out-Expr e)
+    (λ c. fold_out-Clause ℕ ℕ (expr_size_level (λ n. n) (λ n. n)) (clause_size_level (λ n. n)) c) (out-Expr e)
 
 expr_depth_step : (f : Expr → ℕ) (g h : Clause → ℕ) → ((c : Clause) → g c ≡ h c) → (x : Expr-F Expr Clause) → expr_depth_level (λ n. n) (λ n. n) (map-Expr Expr Clause ℕ ℕ f g x) ≡ expr_depth_level f h x
 expr_depth_step f g h e (Expr-F.Tuple es) = ap (λ n. 1 + n) (largest_by-map f es)
@@ -63,7 +63,7 @@ unfolding expr_depth
 expr_depth_out e =
     fold_out-Expr ℕ ℕ (expr_depth_level (λ n. n) (λ n. n)) (clause_depth_level (λ n. n)) e
     ∙ expr_depth_step expr_depth (fold-Clause ℕ ℕ (expr_depth_level (λ n. n) (λ n. n)) (clause_depth_level (λ n. n))) clause_depth
-        (λ c. fold_out-Clause ℕ ℕ (expr_depth_level (λ n. n) (λ n. n)) (clause_depth_level (λ n. n)) c) (out-Expr e)
+    (λ c. fold_out-Clause ℕ ℕ (expr_depth_level (λ n. n) (λ n. n)) (clause_depth_level (λ n. n)) c) (out-Expr e)
 
 expr_nodes_step : (f : Expr → ℕ) (g h : Clause → ℕ) → ((c : Clause) → g c ≡ h c) → (x : Expr-F Expr Clause) → expr_nodes_level (λ n. n) (λ n. n) (map-Expr Expr Clause ℕ ℕ f g x) ≡ expr_nodes_level f h x
 expr_nodes_step f g h e (Expr-F.Tuple es) = ap (λ n. 1 + n) (sum-map f es)
@@ -77,7 +77,7 @@ unfolding expr_nodes
 expr_nodes_out e =
     fold_out-Expr ℕ ℕ (expr_nodes_level (λ n. n) (λ n. n)) (clause_nodes_level (λ n. n)) e
     ∙ expr_nodes_step expr_nodes (fold-Clause ℕ ℕ (expr_nodes_level (λ n. n) (λ n. n)) (clause_nodes_level (λ n. n))) clause_nodes
-        (λ c. fold_out-Clause ℕ ℕ (expr_nodes_level (λ n. n) (λ n. n)) (clause_nodes_level (λ n. n)) c) (out-Expr e)
+    (λ c. fold_out-Clause ℕ ℕ (expr_nodes_level (λ n. n) (λ n. n)) (clause_nodes_level (λ n. n)) c) (out-Expr e)
 
 weight_step : (f : Value → ℕ) (g h : Chunk → ℕ) → ((c : Chunk) → g c ≡ h c) → (x : Value-F Value Chunk) → weight_level (λ n. n) (λ n. n) (map-Value Value Chunk ℕ ℕ f g x) ≡ weight_level f h x
 weight_step f g h e (Value-F.Chunk c) = ap (λ n. 1 + n) (e c)

@@ -1,5 +1,7 @@
+pub mod Limits
 pub mod Sizes
 pub mod Trees
+pub mod WellFormed
 pub mod Words
 pub mod Typing
 pub mod TypingNames

@@ -63,7 +63,6 @@ after (Ok r) k = k r.0 r.1
 after (Err f) k = Err f
 
 infixl 10 ◌>>=◌
-
 abbrev pub ◌>>=◌ : {A B : Type 0} → Checking A → (A → Checking B) → Checking B
 m >>= k = λ n. after (m n) k
 

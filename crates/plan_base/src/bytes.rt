@@ -1,5 +1,6 @@
-ghost use Rattle.std.specs.Prelude.{◌≡◌, [], ◌∷◌, ◌++◌, ◌<◌, length, get_or, OnOk, OnErr};
+ghost use Rattle.std.specs.Prelude.{◌≡◌, [], ◌∷◌, ◌++◌, ◌<◌, length, get_or, IfOk, OnOk, OnErr};
 
+use crate::NoMemory;
 use std::alloc::{AllocError, Global};
 use std::marker::Model;
 
@@ -65,6 +66,14 @@ impl Bytes {
         ensures { result.now ≡ self.now }
     {
         self.all.as_slice()
+    }
+
+    /// The same bytes.
+    pub fn copy(&self, alloc: Global) -> Result<Bytes, NoMemory>
+        ensures { IfOk result (λ b. b ≡ self.now) }
+    {
+        let all = Vec::from_slice(alloc, self.all.as_slice())?;
+        Ok(Bytes { all })
     }
 
     /// Adds `byte` at the end. Where memory is refused, the bytes stay.

@@ -60,21 +60,36 @@ fn expr_depth(e: &Expr) -> u32
     ensures { result ≡ min (expr_depth e.now) 4294967295 }
 {
     match e {
-        Expr::Tuple(es) | Expr::Call(_, es) | Expr::ChunkOf(_, es) => exprs_depth(es.as_slice()).saturating_add(1),
-        Expr::If(c, a, b) => expr_depth(c.get()).max(expr_depth(a.get())).max(expr_depth(b.get())).saturating_add(1),
+        Expr::Tuple(es) | Expr::Call(_, es) | Expr::ChunkOf(_, es) => exprs_depth(
+            es.as_slice(),
+        ).saturating_add(1),
+        Expr::If(c, a, b) => expr_depth(c.get())
+            .max(expr_depth(a.get()))
+            .max(expr_depth(b.get()))
+            .saturating_add(1),
         Expr::Let(_, _, a, b)
         | Expr::Then(a, b)
         | Expr::And(a, b)
         | Expr::Or(a, b)
         | Expr::Binary(_, a, b)
         | Expr::Foldl(_, a, b)
-        | Expr::Foldr(_, a, b) => expr_depth(a.get()).max(expr_depth(b.get())).saturating_add(1),
+        | Expr::Foldr(_, a, b) => expr_depth(a.get())
+            .max(expr_depth(b.get()))
+            .saturating_add(1),
         Expr::Not(a) | Expr::Part(_, a) | Expr::Eval(a) => expr_depth(a.get()).saturating_add(1),
-        Expr::Try(a, clauses) => expr_depth(a.get()).max(clauses_depth(clauses.as_slice())).saturating_add(1),
-        Expr::OnRemote(c, h, n, _) => expr_depth(c.get()).max(expr_depth(h.get())).max(expr_depth(n.get())).saturating_add(1),
+        Expr::Try(a, clauses) => expr_depth(a.get())
+            .max(clauses_depth(clauses.as_slice()))
+            .saturating_add(1),
+        Expr::OnRemote(c, h, n, _) => expr_depth(c.get())
+            .max(expr_depth(h.get()))
+            .max(expr_depth(n.get()))
+            .saturating_add(1),
         Expr::OnNeighbor(c, h, n, d) => {
             let first = expr_depth(c.get()).max(expr_depth(h.get()));
-            first.max(expr_depth(n.get())).max(expr_depth(d.get())).saturating_add(1)
+            first
+                .max(expr_depth(n.get()))
+                .max(expr_depth(d.get()))
+                .saturating_add(1)
         }
         Expr::Unit
         | Expr::Bool(_)
@@ -118,9 +133,14 @@ fn expr_nodes(e: &Expr) -> u32
     ensures { result ≡ min (expr_nodes e.now) 4294967295 }
 {
     match e {
-        Expr::Tuple(es) | Expr::Call(_, es) | Expr::ChunkOf(_, es) => exprs_nodes(es.as_slice()).saturating_add(1),
+        Expr::Tuple(es) | Expr::Call(_, es) | Expr::ChunkOf(_, es) => exprs_nodes(
+            es.as_slice(),
+        ).saturating_add(1),
         Expr::If(c, a, b) | Expr::OnRemote(c, a, b, _) => {
-            expr_nodes(c.get()).saturating_add(expr_nodes(a.get())).saturating_add(expr_nodes(b.get())).saturating_add(1)
+            expr_nodes(c.get())
+                .saturating_add(expr_nodes(a.get()))
+                .saturating_add(expr_nodes(b.get()))
+                .saturating_add(1)
         }
         Expr::Let(_, _, a, b)
         | Expr::Then(a, b)
@@ -128,12 +148,19 @@ fn expr_nodes(e: &Expr) -> u32
         | Expr::Or(a, b)
         | Expr::Binary(_, a, b)
         | Expr::Foldl(_, a, b)
-        | Expr::Foldr(_, a, b) => expr_nodes(a.get()).saturating_add(expr_nodes(b.get())).saturating_add(1),
+        | Expr::Foldr(_, a, b) => expr_nodes(a.get())
+            .saturating_add(expr_nodes(b.get()))
+            .saturating_add(1),
         Expr::Not(a) | Expr::Part(_, a) | Expr::Eval(a) => expr_nodes(a.get()).saturating_add(1),
-        Expr::Try(a, clauses) => expr_nodes(a.get()).saturating_add(clauses_nodes(clauses.as_slice())).saturating_add(1),
+        Expr::Try(a, clauses) => expr_nodes(a.get())
+            .saturating_add(clauses_nodes(clauses.as_slice()))
+            .saturating_add(1),
         Expr::OnNeighbor(c, h, n, d) => {
             let first = expr_nodes(c.get()).saturating_add(expr_nodes(h.get()));
-            first.saturating_add(expr_nodes(n.get())).saturating_add(expr_nodes(d.get())).saturating_add(1)
+            first
+                .saturating_add(expr_nodes(n.get()))
+                .saturating_add(expr_nodes(d.get()))
+                .saturating_add(1)
         }
         Expr::Unit
         | Expr::Bool(_)

@@ -1,3 +1,6 @@
+ghost use Rattle.std.specs.Prelude.{◌≡◌};
+ghost use Rattle.plan_base.specs.Limits.{word_of};
+
 /// What a limit counts or measures, one variant for each word that a refusal can name.
 #[derive(Debug, Clone, Copy, PartialEq, Eq)]
 pub enum Limit {
@@ -33,4 +36,30 @@ pub enum Limit {
     Hosts,
     /// Cost of a route in hops, at most 65,535.
     Cost,
+}
+
+impl Limit {
+    /// The word by which it prints.
+    pub fn word(self) -> &'static str
+        ensures { result.now ≡ word_of self }
+    {
+        match self {
+            Limit::Functions => "functions",
+            Limit::Services => "services",
+            Limit::Exceptions => "exceptions",
+            Limit::Parameters => "parameters",
+            Limit::Arguments => "arguments",
+            Limit::Parts => "parts",
+            Limit::Clauses => "clauses",
+            Limit::Items => "items",
+            Limit::Nodes => "nodes",
+            Limit::Depth => "depth",
+            Limit::OfType => "type",
+            Limit::Nesting => "nesting",
+            Limit::Code => "code",
+            Limit::Weight => "weight",
+            Limit::Hosts => "hosts",
+            Limit::Cost => "cost",
+        }
+    }
 }

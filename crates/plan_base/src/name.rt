@@ -117,13 +117,46 @@ fn is_word(bytes: &[u8]) -> bool
 fn are_word_bytes(bytes: &[u8]) -> bool
     ensures { result ≡ list_all is_word_byte bytes.now }
 {
-    bytes.iter().all(|b| b.is_ascii_alphanumeric() || *b == b'_')
+    bytes
+        .iter()
+        .all(|b| b.is_ascii_alphanumeric() || *b == b'_')
 }
 
 static RESERVED: [&[u8]; 34] = [
-    b"and", b"blob", b"bool", b"char", b"chunk", b"dev", b"else", b"end", b"eval", b"exception", b"false", b"foldl", b"foldr", b"fun",
-    b"handle", b"host", b"if", b"in", b"int", b"let", b"list", b"mod", b"not", b"OnNeighbor", b"OnRemote", b"or", b"raise", b"string",
-    b"svc", b"then", b"true", b"try", b"unit", b"val",
+    b"and",
+    b"blob",
+    b"bool",
+    b"char",
+    b"chunk",
+    b"dev",
+    b"else",
+    b"end",
+    b"eval",
+    b"exception",
+    b"false",
+    b"foldl",
+    b"foldr",
+    b"fun",
+    b"handle",
+    b"host",
+    b"if",
+    b"in",
+    b"int",
+    b"let",
+    b"list",
+    b"mod",
+    b"not",
+    b"OnNeighbor",
+    b"OnRemote",
+    b"or",
+    b"raise",
+    b"string",
+    b"svc",
+    b"then",
+    b"true",
+    b"try",
+    b"unit",
+    b"val",
 ];
 
 /// Whether the word is one that the language keeps for itself.

@@ -77,18 +77,45 @@ fn expr_size(e: &Expr) -> u64
         Expr::Nil(t) => option_type_size(t).saturating_add(1),
         Expr::Var(x) => name_size(x).saturating_add(1),
         Expr::Tuple(es) => exprs_size(es.as_slice()).saturating_add(2),
-        Expr::Call(f, es) | Expr::ChunkOf(f, es) => name_size(f).saturating_add(exprs_size(es.as_slice())).saturating_add(2),
-        Expr::If(c, a, b) => expr_size(a.get()).saturating_add(expr_size(b.get())).saturating_add(expr_size(c.get())).saturating_add(1),
-        Expr::Let(x, t, a, b) => expr_size(a.get()).saturating_add(expr_size(b.get())).saturating_add(name_size(x)).saturating_add(type_size(t)).saturating_add(1),
-        Expr::Then(a, b) | Expr::And(a, b) | Expr::Or(a, b) => expr_size(a.get()).saturating_add(expr_size(b.get())).saturating_add(1),
+        Expr::Call(f, es) | Expr::ChunkOf(f, es) => name_size(f)
+            .saturating_add(exprs_size(es.as_slice()))
+            .saturating_add(2),
+        Expr::If(c, a, b) => expr_size(a.get())
+            .saturating_add(expr_size(b.get()))
+            .saturating_add(expr_size(c.get()))
+            .saturating_add(1),
+        Expr::Let(x, t, a, b) => expr_size(a.get())
+            .saturating_add(expr_size(b.get()))
+            .saturating_add(name_size(x))
+            .saturating_add(type_size(t))
+            .saturating_add(1),
+        Expr::Then(a, b) | Expr::And(a, b) | Expr::Or(a, b) => expr_size(a.get())
+            .saturating_add(expr_size(b.get()))
+            .saturating_add(1),
         Expr::Not(a) | Expr::Eval(a) => expr_size(a.get()).saturating_add(1),
-        Expr::Binary(_, a, b) => expr_size(a.get()).saturating_add(expr_size(b.get())).saturating_add(2),
+        Expr::Binary(_, a, b) => expr_size(a.get())
+            .saturating_add(expr_size(b.get()))
+            .saturating_add(2),
         Expr::Part(_, a) => expr_size(a.get()).saturating_add(2),
-        Expr::Raise(x, t) => option_type_size(t).saturating_add(name_size(x)).saturating_add(1),
-        Expr::Try(a, clauses) => expr_size(a.get()).saturating_add(clauses_size(clauses.as_slice())).saturating_add(2),
-        Expr::Foldl(f, a, l) | Expr::Foldr(f, a, l) => expr_size(a.get()).saturating_add(expr_size(l.get())).saturating_add(name_size(f)).saturating_add(1),
-        Expr::OnRemote(c, h, n, r) => expr_size(c.get()).saturating_add(expr_size(h.get())).saturating_add(expr_size(n.get())).saturating_add(name_size(r)).saturating_add(1),
-        Expr::OnNeighbor(c, h, n, d) => expr_size(c.get()).saturating_add(expr_size(h.get())).saturating_add(expr_size(n.get()).saturating_add(expr_size(d.get()))).saturating_add(1),
+        Expr::Raise(x, t) => option_type_size(t)
+            .saturating_add(name_size(x))
+            .saturating_add(1),
+        Expr::Try(a, clauses) => expr_size(a.get())
+            .saturating_add(clauses_size(clauses.as_slice()))
+            .saturating_add(2),
+        Expr::Foldl(f, a, l) | Expr::Foldr(f, a, l) => expr_size(a.get())
+            .saturating_add(expr_size(l.get()))
+            .saturating_add(name_size(f))
+            .saturating_add(1),
+        Expr::OnRemote(c, h, n, r) => expr_size(c.get())
+            .saturating_add(expr_size(h.get()))
+            .saturating_add(expr_size(n.get()))
+            .saturating_add(name_size(r))
+            .saturating_add(1),
+        Expr::OnNeighbor(c, h, n, d) => expr_size(c.get())
+            .saturating_add(expr_size(h.get()))
+            .saturating_add(expr_size(n.get()).saturating_add(expr_size(d.get())))
+            .saturating_add(1),
     }
 }
 
@@ -109,7 +136,9 @@ fn clauses_size(clauses: &[Clause]) -> u64
 {
     let mut total = 0u64;
     for clause in clauses {
-        total = total.saturating_add(catch_size(&clause.name).saturating_add(expr_size(&clause.body)));
+        total = total.saturating_add(catch_size(&clause.name).saturating_add(expr_size(
+            &clause.body,
+        )));
     }
     total
 }
@@ -174,7 +203,9 @@ pub fn code_size(p: &Program) -> u64
     ensures { result ≡ min (code_size p.now) 18446744073709551615 }
 {
     let heads = svcs_size(p.svcs.as_slice()).saturating_add(names_size(p.exns.as_slice()));
-    heads.saturating_add(funs_size(p.funs.as_slice())).saturating_add(3)
+    heads
+        .saturating_add(funs_size(p.funs.as_slice()))
+        .saturating_add(3)
 }
 
 /// The bytes of a value's marshalled form, its tag counted, or 2^64 - 1 where there are more. Takes no memory.
@@ -191,7 +222,9 @@ pub fn weight(v: &Value) -> u64
         Value::Str(s) => bytes_size(s.as_slice(), 3),
         Value::Blob(b) => bytes_size(b.as_slice(), 3),
         Value::Chunk(c) => chunk_weight(c.get()).saturating_add(1),
-        Value::List(t, items) => values_weight(items.as_slice()).saturating_add(type_size(t)).saturating_add(3),
+        Value::List(t, items) => values_weight(items.as_slice())
+            .saturating_add(type_size(t))
+            .saturating_add(3),
         Value::Tuple(parts) => values_weight(parts.as_slice()).saturating_add(2),
     }
 }
@@ -204,7 +237,8 @@ pub fn chunk_weight(c: &Chunk) -> u64
     ensures { result ≡ min (chunk_weight c.now) 18446744073709551615 }
 {
     let code = code_size(&c.code).saturating_add(name_size(&c.entry));
-    code.saturating_add(values_weight(c.args.as_slice())).saturating_add(1)
+    code.saturating_add(values_weight(c.args.as_slice()))
+        .saturating_add(1)
 }
 
 #[cycle(weight)]

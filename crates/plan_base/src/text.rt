@@ -1,5 +1,7 @@
-ghost use Rattle.std.specs.Prelude.{◌≡◌, [], ◌∷◌, ◌++◌, ◌<◌, length, get_or, OnOk, OnErr};
+ghost use Rattle.std.specs.Prelude.{◌≡◌, [], ◌∷◌, ◌++◌, ◌<◌, length, get_or, IfOk, OnOk, OnErr};
+ghost use Rattle.std.specs.Str.{IsUtf8};
 
+use crate::NoMemory;
 use plan_items::Items;
 use std::alloc::{AllocError, Global};
 use std::marker::Model;
@@ -66,6 +68,23 @@ impl Text {
         ensures { result.now ≡ self.now }
     {
         self.all.as_slice()
+    }
+
+    /// The text, lent. Condition: its bytes are valid UTF-8. Takes no memory.
+    pub fn as_str(&self) -> &str
+        requires { IsUtf8 self.now }
+        ensures { result.now ≡ self.now }
+    {
+        // Safety: the condition is that of the call.
+        unsafe { str::from_utf8_unchecked(self.all.as_slice()) }
+    }
+
+    /// The same text.
+    pub fn copy(&self, alloc: Global) -> Result<Text, NoMemory>
+        ensures { IfOk result (λ b. b ≡ self.now) }
+    {
+        let all = Vec::from_slice(alloc, self.all.as_slice())?;
+        Ok(Text { all })
     }
 
     /// Adds `byte` at the end. Where memory is refused, the bytes stay.

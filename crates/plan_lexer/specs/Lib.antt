@@ -7,3 +7,5 @@ pub mod Gaps
 pub mod Tables
 pub mod WordTokens
 pub mod Scanning
+pub mod TokenForms
+pub mod PrintedForms

@@ -1,3 +1,4 @@
+use plan_base::NoMemory;
 use std::alloc::AllocError;
 use thiserror::Error;
 
@@ -31,6 +32,17 @@ impl From<AllocError> for LexFault {
     ghost from_gives = { λ _ e. e ≡ NoMemory };
 
     fn from(_refused: AllocError) -> LexFault {
+        LexFault::NoMemory
+    }
+}
+
+impl From<NoMemory> for LexFault {
+    ghost use Rattle.std.specs.Prelude.{◌≡◌};
+    ghost use Rattle.plan_lexer.specs.declared.fault.LexFault.TheVariants.{NoMemory};
+
+    ghost from_gives = { λ _ e. e ≡ NoMemory };
+
+    fn from(_refused: NoMemory) -> LexFault {
         LexFault::NoMemory
     }
 }

@@ -5,6 +5,7 @@ mod fault;
 mod gap;
 mod hexed;
 mod item;
+mod laws;
 mod lexing;
 mod numeral;
 mod quoted;
@@ -14,6 +15,10 @@ mod text;
 mod token;
 mod word;
 
+#[cfg(test)]
+mod tests;
+
 pub use fault::LexFault;
+pub use laws::{one_answer, printed_tokens, spelled_tokens};
 pub use lexing::lex;
 pub use token::{Key, Symbol, Token, TokenKind, Tokens};

@@ -1,2 +1,4 @@
 pub mod Splits
 pub mod Digits
+pub mod SmallLaws
+pub mod PackageLists

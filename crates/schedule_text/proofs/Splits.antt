@@ -7,7 +7,7 @@ use Rattle.std.proofs.lemmas.List.{take_all, drop_all}
 use Rattle.schedule_text.specs.declared.fault.LineReason.{LineReason}
 use Rattle.schedule_text.specs.declared.fault.LineReason.TheVariants.{BadWord}
 use Rattle.schedule_text.specs.Lines.{begin_with, lines, words, left, spaced, behind}
-use Rattle.schedule_text.specs.Reads.{word_at, rest_at, end_at, allowed}
+use Rattle.schedule_text.specs.Reads.{word_at, rest_at, end_at, has_word, allowed}
 
 abbrev is_byte : ℕ → ℕ → Bool
 is_byte sep x = eqb x sep
@@ -116,6 +116,10 @@ rest_all xs = let w = a_word xs in rw (w.is) (ap (λ (x : List ℕ). Ok x) w.joi
 -- a line that goes on has not ended
 pub not_ended : (xs : List ℕ) → end_at (words xs) ≡ Err BadWord
 not_ended xs = let w = a_word xs in rw (w.is) refl
+
+pub goes_on_is : (more : Bool) (xs : List ℕ) → more ≡ has_word (left more xs)
+goes_on_is true xs = let w = a_word xs in rw (w.is) refl
+goes_on_is false xs = refl
 
 pub ended_is : (more : Bool) (xs : List ℕ) → allowed (not more) BadWord ≡ end_at (left more xs)
 ended_is true xs = sym (not_ended xs)

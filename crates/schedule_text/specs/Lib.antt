@@ -1,4 +1,9 @@
 pub mod Lines
 pub mod Reads
 pub mod Numbers
+pub mod Packages
 pub mod Parts
+pub mod Built
+pub mod SmallPrograms
+pub mod Schedules
+pub mod Leaving

@@ -6,6 +6,7 @@ use Rattle.std.specs.Str.{bytes_eq}
 use Rattle.plan_base.specs.declared.ids.Host.{Host}
 use Rattle.plan_base.specs.declared.ids.Dev.{Dev}
 use Rattle.plan_base.specs.declared.name.Name.{Name}
+use Rattle.plan_base.specs.Words.{is_name}
 use Rattle.plan_base.specs.declared.tree.Fun.{Fun}
 use Rattle.schedule_text.specs.declared.fault.LineReason.{LineReason}
 use Rattle.schedule_text.specs.declared.fault.LineReason.TheVariants.{BadWord, UnknownHost, UnknownProgram, TwiceNamed, BadArgument}
@@ -13,6 +14,14 @@ use Rattle.schedule_text.specs.declared.schedule.HostSpec.{HostSpec}
 use Rattle.schedule_text.specs.declared.reading.NamedProgram.{NamedProgram}
 use Rattle.schedule_text.specs.Reads.{◌>>=◌, Part, word_at, allowed}
 use Rattle.schedule_text.specs.Numbers.{number_at}
+
+-- a host by its number
+abbrev pub host_of : ℕ → Host
+host_of n = record { 0 = n }
+
+-- a device by its number
+abbrev pub dev_of : ℕ → Dev
+dev_of n = record { 0 = n }
 
 -- a link: a device of one host and a device of another
 abbrev pub Link : Type 0
@@ -65,3 +74,7 @@ entry_at funs ws = do
   w ← word_at ws
   f ← ok_or (find (has_name w.0) funs) BadArgument
   Ok (f, w.1)
+
+-- a word as a name, or else a reason
+abbrev pub named_word : List ℕ → LineReason → Result Name LineReason
+named_word w reason = if is_name w then Ok w else Err reason

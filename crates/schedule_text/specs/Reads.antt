@@ -42,6 +42,11 @@ abbrev pub end_at : List (List ℕ) → Result (Unit {0}) LineReason
 end_at [] = Ok tt
 end_at (w ∷ ws) = Err BadWord
 
+-- whether a word is left
+abbrev pub has_word : List (List ℕ) → Bool
+has_word [] = false
+has_word (w ∷ ws) = true
+
 -- nothing where a rule is kept, else its reason
 abbrev pub allowed : Bool → LineReason → Result (Unit {0}) LineReason
 allowed true reason = Ok tt
@@ -51,3 +56,37 @@ allowed false reason = Err reason
 abbrev pub rest_at : List (List ℕ) → Result (List ℕ) LineReason
 rest_at [] = Err BadWord
 rest_at (w ∷ ws) = Ok (spaced (w ∷ ws))
+
+-- what a reader that takes memory gave is what is read
+abbrev pub Gives : {X Y : Type 0} → (X → Y) → Result X Stop → Result Y LineReason → Type 0
+Gives view (Ok x) read = read ≡ Ok (view x)
+Gives view (Err e) read = Fails e read
+
+-- one more step of a file, where the lines so far are inside the format
+abbrev pub and_then : {A B : Type 0} → Result A LineFault → (A → Result B LineFault) → Result B LineFault
+and_then (Ok x) f = f x
+and_then (Err e) f = Err e
+
+-- a step of a file gave what is read, or memory ran out
+abbrev pub FileFails : {Y : Type 0} → LineFault → Result Y LineFault → Type 0
+FileFails faults.NoMemory read = Unit {0}
+FileFails (faults.Line n r) read = read ≡ Err (faults.Line n r)
+
+abbrev pub FileGives : {X Y : Type 0} → (X → Y) → Result X LineFault → Result Y LineFault → Type 0
+FileGives view (Ok x) read = read ≡ Ok (view x)
+FileGives view (Err e) read = FileFails e read
+
+-- a reader of a part of a line changed a value, with the words behind
+abbrev pub LeavesBoth : {X Y : Type 0} → Result X Stop → Y → List (List ℕ) → Part Y → Type 0
+LeavesBoth (Ok x) new rest read = read ≡ Ok (new, rest)
+LeavesBoth (Err e) new rest read = Fails e read
+
+-- a reader without memory gave what is read
+abbrev pub Tells : {X Y : Type 0} → (X → Y) → Result X LineReason → Result Y LineReason → Type 0
+Tells view (Ok x) read = read ≡ Ok (view x)
+Tells view (Err e) read = read ≡ Err e
+
+-- a stop at its line
+abbrev pub fault_at : ℕ → Stop → LineFault
+fault_at number (stops.Reason r) = faults.Line number r
+fault_at number stops.NoMemory = faults.NoMemory

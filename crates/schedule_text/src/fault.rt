@@ -1,5 +1,6 @@
 ghost use Rattle.std.specs.Prelude.{◌≡◌};
 
+use plan_base::NoMemory;
 use std::alloc::AllocError;
 
 /// Why a line is outside a format.
@@ -70,5 +71,15 @@ impl From<LineReason> for Stop {
 
     fn from(reason: LineReason) -> Stop {
         Stop::Reason(reason)
+    }
+}
+
+impl From<NoMemory> for Stop {
+    ghost use Rattle.schedule_text.specs.declared.fault.Stop.TheVariants as stops;
+
+    ghost from_gives = { λ _ e. e ≡ stops.NoMemory };
+
+    fn from(_refused: NoMemory) -> Stop {
+        Stop::NoMemory
     }
 }

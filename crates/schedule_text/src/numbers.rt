@@ -19,7 +19,7 @@ fn is_padded_word(word: &[u8]) -> bool
 
 #[tactic(auto, using(crate::proofs::Digits::digit_more, crate::proofs::Digits::digit_done, crate::proofs::Digits::digit_over))]
 /// The number that digits spell, where it is below 2^64.
-fn digits(word: &[u8]) -> Option<u64>
+pub fn digits(word: &[u8]) -> Option<u64>
     ensures { result ≡ narrow (Some (digits_from 0 word.now)) }
 {
     let mut n: u64 = 0;
@@ -51,7 +51,7 @@ pub fn decimal(word: &[u8]) -> Option<u64>
 }
 
 /// A number in its range.
-fn in_range(low: u32, high: u32, n: Option<u64>) -> Result<u32, LineReason>
+pub fn in_range(low: u32, high: u32, n: Option<u64>) -> Result<u32, LineReason>
     ensures { result ≡ ranged low high n }
 {
     match n {

@@ -1,15 +1,16 @@
 ghost use Rattle.std.specs.Prelude.{◌≡◌, IfOk};
-ghost use Rattle.std.specs.List.{find};
+ghost use Rattle.std.specs.List.{find, list_any};
 ghost use Rattle.std.specs.Option.{option_copied};
-ghost use Rattle.schedule_text.specs.Parts.{is_host, is_used, host_at, free_device_at, is_called, program_at, has_name, entry_at};
-ghost use Rattle.schedule_text.specs.Reads.{Reads};
+ghost use Rattle.schedule_text.specs.Parts.{is_host, is_used, host_at, free_device_at, is_called, program_at, has_name, entry_at, named_word};
+ghost use Rattle.schedule_text.specs.Reads.{Reads, Gives};
 
-use crate::fault::LineReason;
+use crate::fault::{LineReason, Stop};
 use crate::numbers::number;
 use crate::reading::NamedProgram;
 use crate::schedule::HostSpec;
 use crate::words::{Words, allow, is};
-use plan_base::{Dev, Fun, Host};
+use plan_base::{Dev, Fun, Host, Name, NameFault};
+use std::alloc::Global;
 
 /// Whether a host is among those named so far.
 pub fn is_known_host(hosts: &[HostSpec], n: u32) -> bool
@@ -86,5 +87,23 @@ pub fn known_entry<'a>(funs: &'a [Fun], words: &mut Words<'_>) -> Result<&'a Fun
     match find_fun(funs, name) {
         Some(fun) => Ok(fun),
         None => Err(LineReason::BadArgument),
+    }
+}
+
+/// Whether a program has a name.
+pub fn is_known_program(programs: &[NamedProgram], name: &[u8]) -> bool
+    ensures { result ≡ list_any (is_called name.now) programs.now }
+{
+    programs.iter().any(|p| is(p.name.as_slice(), name))
+}
+
+/// A word as a name, or else a reason.
+pub fn name_of(alloc: Global, word: &[u8], reason: LineReason) -> Result<Name, Stop>
+    ensures { Gives (λ n. n) result (named_word word.now reason) }
+{
+    match Name::read(alloc, word) {
+        Ok(name) => Ok(name),
+        Err(NameFault::BadName) => Err(Stop::Reason(reason)),
+        Err(NameFault::NoMemory) => Err(Stop::NoMemory),
     }
 }

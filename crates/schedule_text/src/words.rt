@@ -2,7 +2,7 @@ ghost use Rattle.std.specs.Prelude.{◌≡◌, true, ◌==◌, ◌<◌, ◌≤�
 ghost use Rattle.std.specs.List.{position, position_or_len};
 ghost use Rattle.std.specs.Str.{bytes_eq};
 ghost use Rattle.schedule_text.specs.Lines.{lines, left};
-ghost use Rattle.schedule_text.specs.Reads.{Reads, word_at, rest_at, end_at, allowed};
+ghost use Rattle.schedule_text.specs.Reads.{Reads, word_at, rest_at, end_at, has_word, allowed};
 
 use crate::fault::LineReason;
 use std::marker::Model;
@@ -100,6 +100,14 @@ impl<'a> Words<'a> {
         let (_, rest) = rest.split_at(end + 1);
         self.rest = rest;
         Ok(word)
+    }
+
+    /// Whether a word is left.
+    #[tactic(auto, using(crate::proofs::Splits::goes_on_is))]
+    pub fn goes_on(&self) -> bool
+        ensures { result ≡ has_word self.now }
+    {
+        self.more
     }
 
     #[tactic(auto, using(crate::proofs::Splits::rest_all))]

@@ -101,6 +101,18 @@ pub queue_live-cons : (f : Family) (p : Packet) (queue : List Packet) → queue_
 unfolding queue_live
 queue_live-cons f p queue = sum_by-cons (packet_live f) p queue
 
+pub queue_live-nil : (f : Family) → queue_live f [] ≡ 0
+unfolding queue_live
+queue_live-nil f = refl
+
+pub queues_live-nil : (f : Family) → queues_live f [] ≡ 0
+unfolding queues_live
+queues_live-nil f = refl
+
+pub queues_live-cons : (f : Family) (queue : List Packet) (queues : List (List Packet)) → queues_live f (queue ∷ queues) ≡ queue_live f queue + queues_live f queues
+unfolding queues_live
+queues_live-cons f queue queues = sum_by-cons (queue_live f) queue queues
+
 pub queues_live-set : (f : Family) (queues : List (List Packet)) (d : ℕ) (old new : List Packet) → slice_get queues d ≡ Some old
     → queues_live f (slice_set queues d new) + queue_live f old ≡ queues_live f queues + queue_live f new
 unfolding queues_live

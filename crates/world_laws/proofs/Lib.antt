@@ -1,3 +1,6 @@
-pub mod VisitLaws
 pub mod CountLaws
+pub mod Fitting
+pub mod Injecting
 pub mod NodeBalance
+pub mod VisitLaws
+pub mod WorldBalance

@@ -40,15 +40,15 @@ paid_range n m e = grind (arith, nat_tests)
 
 module _ (here : Host) (links : Links) (p : Packet) where
   sent_keeps : (f : List ℕ) (h : Host) (n : ℕ) (d : Dev) (doing : Doing) → 0 < n → n ≤ doing.purse → DoingKeeps p doing
-      → DoingKeeps p (record { purse = doing.purse - n; outbox = doing.outbox ++ record { dev = d; packet = sent_packet here links p f h n } ∷ []; notes = doing.notes })
+      → DoingKeeps p (record { purse = doing.purse - n; outbox = doing.outbox ++ record { dev = d; packet = sent_packet p f h n } ∷ []; notes = doing.notes })
   sent_keeps f h n d doing low high k = record {
-      balance = let e = sum_by_push sent_bound doing.outbox (record { dev = d; packet = sent_packet here links p f h n }) in omega (arith, k.balance);
+      balance = let e = sum_by_push sent_bound doing.outbox (record { dev = d; packet = sent_packet p f h n }) in omega (arith, k.balance);
       family = All-push (λ s. s.packet.family ≡ p.family) doing.outbox _ k.family refl;
       paid_each = All-push (λ s. 0 < s.packet.bound) doing.outbox _ k.paid_each low }
 
   sends_cases : (t u : Bool) (f : List ℕ) (h : Host) (n : ℕ) (d : Dev) (doing : Doing) → (t ≡ false → (0 < n) × (n ≤ doing.purse)) → DoingKeeps p doing
       → WentKeeps p (cond t (stopped (codes "NoBound") doing)
-          (cond u (on (record { purse = doing.purse - n; outbox = doing.outbox ++ record { dev = d; packet = sent_packet here links p f h n } ∷ []; notes = doing.notes })) (stopped (codes "NotNeighbor") doing)))
+          (cond u (on (record { purse = doing.purse - n; outbox = doing.outbox ++ record { dev = d; packet = sent_packet p f h n } ∷ []; notes = doing.notes })) (stopped (codes "NotNeighbor") doing)))
   sends_cases true u f h n d doing r k = k
   sends_cases false true f h n d doing r k = sent_keeps f h n d doing (r refl).0 (r refl).1 k
   sends_cases false false f h n d doing r k = k
@@ -61,16 +61,16 @@ module _ (here : Host) (links : Links) (p : Packet) where
   send_form_keeps (Expr-F.ChunkOf f []) (Expr-F.Host h) (Expr-F.Int n) (Expr-F.Dev d) doing k = sends_keeps f h n d doing k
   send_form_keeps _ _ _ _ doing k = tt
 
-  print_text_keeps : (a : Expr-F Expr Clause) (doing : Doing) → DoingKeeps p doing → WentKeeps p (print_text here links p a doing)
+  print_text_keeps : (a : Expr-F Expr Clause) (doing : Doing) → DoingKeeps p doing → WentKeeps p (print_text a doing)
   print_text_keeps (Expr-F.Str t) doing k = record { balance = k.balance; family = k.family; paid_each = k.paid_each }
   print_text_keeps _ doing k = tt
 
-  print_keeps : (args : List Expr) (doing : Doing) → DoingKeeps p doing → WentKeeps p (print_arguments here links p args doing)
+  print_keeps : (args : List Expr) (doing : Doing) → DoingKeeps p doing → WentKeeps p (print_arguments args doing)
   print_keeps [] doing k = tt
   print_keeps (e ∷ []) doing k = print_text_keeps (out-Expr e) doing k
   print_keeps (e ∷ f ∷ es) doing k = tt
 
-  then_keeps : (w : Went) (next : Doing → Went) → ((d : Doing) → DoingKeeps p d → WentKeeps p (next d)) → WentKeeps p w → WentKeeps p (and_then here links p w next)
+  then_keeps : (w : Went) (next : Doing → Went) → ((d : Doing) → DoingKeeps p d → WentKeeps p (next d)) → WentKeeps p w → WentKeeps p (and_then w next)
   then_keeps (on d) next h k = h d k
   then_keeps (stopped x d) next h k = k
   then_keeps outside next h k = tt
@@ -83,7 +83,7 @@ module _ (here : Host) (links : Links) (p : Packet) where
       → (a : Expr-F Expr Clause) (doing : Doing) → DoingKeeps p doing → WentKeeps p (form here links p run a doing)
   unfolding form
   form_keeps run h (Expr-F.Then a b) doing k = then_keeps (run a doing) (run b) (h b) (h a doing k)
-  form_keeps run h (Expr-F.Call f args) doing k = choice_keeps (bytes_eq f (codes "print")) (print_arguments here links p args doing) (print_keeps args doing k)
+  form_keeps run h (Expr-F.Call f args) doing k = choice_keeps (bytes_eq f (codes "print")) (print_arguments args doing) (print_keeps args doing k)
   form_keeps run h (Expr-F.OnNeighbor c g n d) doing k = send_form_keeps (out-Expr c) (out-Expr g) (out-Expr n) (out-Expr d) doing k
   form_keeps run h _ doing k = tt
 

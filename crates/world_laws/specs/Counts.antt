@@ -1,9 +1,10 @@
 -- What a family has paid and what it still has, counted anew from the history and the network.
-use Rattle.std.specs.Prelude.{◌≡◌, ◌≢◌, ℕ, ◌+◌, ◌≤◌, ◌<◌, Bool, true, false, ◌==◌, ◌&&◌, if◌then◌else◌, List, [], ◌∷◌, ◌++◌, length, sum_by, Contains, All, Option, Some, None}
+use Rattle.std.specs.Prelude.{◌≡◌, ◌≢◌, ℕ, ◌+◌, ◌≤◌, ◌<◌, Bool, true, false, ◌==◌, ◌&&◌, ◌||◌, if◌then◌else◌, List, [], ◌∷◌, ◌++◌, length, sum_by, Contains, All, Option, Some, None}
 use Rattle.std.specs.List.{list_any}
 use Rattle.plan_base.specs.declared.ids.Family.{Family}
 use Rattle.plan_base.specs.declared.ids.Host.{Host}
 use Rattle.plan_base.specs.declared.tree.Packet.{Packet}
+use Rattle.schedule_text.specs.declared.schedule.HostSpec.{HostSpec}
 use Rattle.schedule_text.specs.declared.schedule.WorldEvent.{WorldEvent}
 use Rattle.schedule_text.specs.declared.schedule.WorldEvent.TheVariants.{Inject, Send, Deliver, Lose}
 use Rattle.world_laws.specs.declared.acts.Act.{Act}
@@ -126,10 +127,11 @@ live f w = nodes_live f w.nodes + wire_live f w.wire
 pub record Balanced (f : Family) (history : List Entry) (w : WorldState) : Type 0 where
   pub law : granted f history ≡ hops f history + evals f history + live f w + left f history
 
--- a family is injected at most once, with this bound, and never pays or has more than it
+-- a family is injected at most once, with at most 65,535, and never pays and has more than that bound
 pub record IsBounded (f : Family) (history : List Entry) (w : WorldState) : Type 0 where
   pub once : injections f history ≤ 1
-  pub bound : hops f history + evals f history + live f w ≤ granted f history
+  pub limit : granted f history ≤ 65535
+  pub within : hops f history + evals f history + live f w ≤ granted f history
 
 -- a count over the acts of a step, and over the lines of an event
 unfoldable pub act_sum : (Act → ℕ) → List Act → ℕ
@@ -160,10 +162,13 @@ pub record GrowsInBalance (f : Family) (old : WorldState) (history : List Entry)
 abbrev pub packet_fits : Packet → Type 0
 packet_fits p = p.bound ≤ 65535
 
--- a node's queues keep their room, and their packets the limit of bounds
-pub record NodeFits (node : NodeState) : Type 0 where
-  pub room : All (λ queue. length queue ≤ 64) node.queues
-  pub bounds : All (λ queue. All packet_fits queue) node.queues
+-- queues keep their room, and their packets the limit of bounds
+pub record QueuesFit (queues : List (List Packet)) : Type 0 where
+  pub room : All (λ queue. length queue ≤ 64) queues
+  pub bounds : All (λ queue. All packet_fits queue) queues
+
+abbrev pub NodeFits : NodeState → Type 0
+NodeFits node = QueuesFit node.queues
 
 -- a frame's number is below the next one, and its packet keeps the limit of bounds
 pub record WiredFits (next : ℕ) (x : Wired) : Type 0 where
@@ -186,3 +191,12 @@ event_fits (Lose number) = Unit {0}
 -- every injected bound is at most 65,535
 abbrev pub EventsFit : List WorldEvent → Type 0
 EventsFit events = All event_fits events
+
+abbrev pub has_host : Host → List HostSpec → Bool
+has_host h [] = false
+has_host h (g ∷ gs) = (g.host.0 == h.0) || has_host h gs
+
+-- no host is named twice
+abbrev pub HostsDiffer : List HostSpec → Type 0
+HostsDiffer [] = Unit {0}
+HostsDiffer (h ∷ hs) = (has_host h.host hs ≡ false) × HostsDiffer hs

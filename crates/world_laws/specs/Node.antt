@@ -96,10 +96,17 @@ unfoldable pub inject_step : NodeState → Chunk → ℕ → Step
 inject_step node chunk bound = if node.serial == 18446744073709551615 then stepped (SerialsSpent ∷ []) None node
     else visited (Injected (record { source = node.here; serial = node.serial }) bound ∷ []) (next_serial node) (injected_packet node chunk bound)
 
+abbrev pub link_dev : Option (Host × Dev) → Option Dev
+link_dev None = None
+link_dev (Some l) = Some l.1
+
+abbrev pub route_at : Links → Option ℕ → Option Dev
+route_at links None = None
+route_at links (Some at) = link_dev (slice_get links at)
+
 -- the device of the route to a host: the lowest one whose neighbour it is
 unfoldable pub route_to : Links → Host → Option Dev
-route_to [] h = None
-route_to (l ∷ links) h = if is_host l.0 h then Some l.1 else route_to links h
+route_to links h = route_at links (position (λ l. is_host l.0 h) links)
 
 -- a packet that goes on over this device
 unfoldable pub forward_over : NodeState → Dev → Packet → Option Dev → Step

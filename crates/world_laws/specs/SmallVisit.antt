@@ -53,36 +53,36 @@ paid (negsuc n) = 0
 abbrev pub default_route : List ℕ
 default_route = codes "defaultRoute"
 
-module _ (here : Host) (links : Links) (p : Packet) where
-  -- the packet that a send makes: the whole program with another entry and no arguments
-  abbrev pub sent_packet : List ℕ → Host → ℕ → Packet
-  sent_packet f h n = record { family = p.family; dest = h; bound = n; route = default_route; chunk = record { code = p.chunk.code; entry = f; args = [] } }
+-- the packet that a send makes: the whole program with another entry and no arguments
+abbrev pub sent_packet : Packet → List ℕ → Host → ℕ → Packet
+sent_packet p f h n = record { family = p.family; dest = h; bound = n; route = default_route; chunk = record { code = p.chunk.code; entry = f; args = [] } }
 
+-- a printed text is a note
+abbrev pub print_text : Expr-F Expr Clause → Doing → Went
+print_text (Expr-F.Str t) doing = on (record { purse = doing.purse; outbox = doing.outbox; notes = doing.notes ++ Print (value.Str t) ∷ [] })
+print_text _ doing = outside
+
+abbrev pub print_arguments : List Expr → Doing → Went
+print_arguments (e ∷ []) doing = print_text (out-Expr e) doing
+print_arguments _ doing = outside
+
+abbrev pub and_then : Went → (Doing → Went) → Went
+and_then (on doing) next = next doing
+and_then (stopped x doing) next = stopped x doing
+and_then outside next = outside
+
+module _ (here : Host) (links : Links) (p : Packet) where
   -- a send to a neighbour
   unfoldable pub sends : List ℕ → Host → ℤ → Dev → Doing → Went
   sends f h n d doing =
       if (paid n == 0) || nat_lt doing.purse (paid n) then stopped (codes "NoBound") doing
       else (if is_neighbour here links h d
-          then on (record { purse = doing.purse - paid n; outbox = doing.outbox ++ record { dev = d; packet = sent_packet f h (paid n) } ∷ []; notes = doing.notes })
+          then on (record { purse = doing.purse - paid n; outbox = doing.outbox ++ record { dev = d; packet = sent_packet p f h (paid n) } ∷ []; notes = doing.notes })
           else stopped (codes "NotNeighbor") doing)
 
   abbrev pub send_form : Expr-F Expr Clause → Expr-F Expr Clause → Expr-F Expr Clause → Expr-F Expr Clause → Doing → Went
   send_form (Expr-F.ChunkOf f []) (Expr-F.Host h) (Expr-F.Int n) (Expr-F.Dev d) doing = sends f h n d doing
   send_form _ _ _ _ doing = outside
-
-  -- a printed text is a note
-  abbrev pub print_text : Expr-F Expr Clause → Doing → Went
-  print_text (Expr-F.Str t) doing = on (record { purse = doing.purse; outbox = doing.outbox; notes = doing.notes ++ Print (value.Str t) ∷ [] })
-  print_text _ doing = outside
-
-  abbrev pub print_arguments : List Expr → Doing → Went
-  print_arguments (e ∷ []) doing = print_text (out-Expr e) doing
-  print_arguments _ doing = outside
-
-  abbrev pub and_then : Went → (Doing → Went) → Went
-  and_then (on doing) next = next doing
-  and_then (stopped x doing) next = stopped x doing
-  and_then outside next = outside
 
   -- one form, where `run` does its parts
   unfoldable pub form : (Expr → Doing → Went) → Expr-F Expr Clause → Doing → Went

@@ -1,5 +1,5 @@
 -- The text of a trace and of its ledger.
-use Rattle.std.specs.Prelude.{ℕ, Bool, true, false, ◌||◌, if◌then◌else◌, List, [], ◌∷◌, ◌++◌, codes}
+use Rattle.std.specs.Prelude.{ℕ, if◌then◌else◌, List, [], ◌∷◌, ◌++◌, fold, codes}
 use Rattle.std.specs.List.{list_any, flat_map}
 use Rattle.std.specs.Fmt.{decimal}
 use Rattle.plan_base.specs.declared.ids.Host.{Host}
@@ -107,22 +107,25 @@ abbrev pub line_families : List Family → Line → List Family
 line_families fs (At h (Injected f bound)) = with_family fs f
 line_families fs _ = fs
 
-unfoldable pub families_from : List Family → List Entry → List Family
-families_from fs [] = fs
-families_from fs (e ∷ es) = families_from (line_families fs e.line) es
-
 -- the families of a history in the order of their first injection
-abbrev pub families : List Entry → List Family
-families history = families_from [] history
+unfoldable pub families : List Entry → List Family
+families history = fold (λ fs e. line_families fs e.line) [] history
+
+-- a family with its counts
+abbrev pub counts_text : Family → ℕ → ℕ → ℕ → ℕ → ℕ → List ℕ
+counts_text f g h e l r = family_text f ++ ((codes " granted " ++ decimal g) ++ ((codes " hops " ++ decimal h) ++ ((codes " evals " ++ decimal e) ++ ((codes " live " ++ decimal l) ++ ((codes " left " ++ decimal r) ++ codes "\n")))))
 
 -- a row of the ledger
 unfoldable pub row_text : List Entry → WorldState → Family → List ℕ
-row_text history w f = family_text f ++ (codes " granted " ++ (decimal (granted f history) ++ (codes " hops " ++ (decimal (hops f history) ++
-    (codes " evals " ++ (decimal (evals f history) ++ (codes " live " ++ (decimal (live f w) ++ (codes " left " ++ (decimal (left f history) ++ codes "\n"))))))))))
+row_text history w f = counts_text f (granted f history) (hops f history) (evals f history) (live f w) (left f history)
+
+-- the rows of some families
+unfoldable pub rows_text : List Entry → WorldState → List Family → List ℕ
+rows_text history w fs = flat_map (row_text history w) fs
 
 -- a ledger
 unfoldable pub ledger_text : List Entry → WorldState → List ℕ
-ledger_text history w = codes "ledger\n" ++ (flat_map (row_text history w) (families history) ++ codes "end\n")
+ledger_text history w = codes "ledger\n" ++ (rows_text history w (families history) ++ codes "end\n")
 
 -- what a run writes: its trace and its ledger
 unfoldable pub run_text : List WorldEvent → WorldState → List ℕ

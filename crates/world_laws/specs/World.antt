@@ -1,5 +1,5 @@
 -- What a network does at each event, and in a whole run.
-use Rattle.std.specs.Prelude.{◌≡◌, ℕ, ◌+◌, ◌-◌, ◌≤◌, Bool, true, false, ◌==◌, ◌&&◌, nat_lt, if◌then◌else◌, List, [], ◌∷◌, ◌++◌, length, map, slice_get, slice_set, remove, position, replicate, Option, Some, None}
+use Rattle.std.specs.Prelude.{◌≡◌, ℕ, zero, suc, ◌+◌, Bool, true, false, ◌==◌, ◌&&◌, ◌||◌, nat_lt, if◌then◌else◌, List, [], ◌∷◌, ◌++◌, length, map, slice_get, slice_set, remove, position, replicate, Option, Some, None}
 use Rattle.std.specs.List.{flat_map}
 use Rattle.plan_base.specs.declared.ids.Host.{Host}
 use Rattle.plan_base.specs.declared.ids.Dev.{Dev}
@@ -49,11 +49,22 @@ place_of nodes h = position (λ node. is_host node.here h) nodes
 abbrev pub has_end : Host → Dev → Host → Dev → Bool
 has_end h d g e = (g.0 == h.0) && (e.0 == d.0)
 
+-- whether a device of a host is one of a link's ends
+abbrev pub is_on : Host → Dev → Host × Dev × Host × Dev → Bool
+is_on h d c = has_end h d c.0 c.1 || has_end h d c.2 c.3
+
+-- the other end of a link
+abbrev pub other_end : Host → Dev → Option (Host × Dev × Host × Dev) → Option LinkEnd
+other_end h d None = None
+other_end h d (Some c) = if has_end h d c.0 c.1 then Some (record { host = c.2; dev = c.3 }) else Some (record { host = c.0; dev = c.1 })
+
+abbrev pub peer_at : Cables → Host → Dev → Option ℕ → Option LinkEnd
+peer_at links h d None = None
+peer_at links h d (Some at) = other_end h d (slice_get links at)
+
 -- the end to which a link leads from a device of a host
 unfoldable pub peer_of : Cables → Host → Dev → Option LinkEnd
-peer_of [] h d = None
-peer_of (c ∷ cs) h d = if has_end h d c.0 c.1 then Some (record { host = c.2; dev = c.3 })
-    else (if has_end h d c.2 c.3 then Some (record { host = c.0; dev = c.1 }) else peer_of cs h d)
+peer_of links h d = peer_at links h d (position (is_on h d) links)
 
 -- the same for every device; device 0 leads to the node itself
 unfoldable pub far_end : Cables → Host → Dev → Option LinkEnd
@@ -176,15 +187,19 @@ abbrev pub neighbour_at : Dev → Option LinkEnd → Links
 neighbour_at d None = []
 neighbour_at d (Some far) = (far.host, d) ∷ []
 
--- the neighbours of a host on these devices
-unfoldable pub neighbours_on : Cables → Host → List ℕ → Links
-neighbours_on links h [] = []
-neighbours_on links h (d ∷ ds) = neighbour_at (record { 0 = d }) (peer_of links h (record { 0 = d })) ++ neighbours_on links h ds
+-- the neighbours of a host on devices 1 to n, in this order
+unfoldable pub neighbours_to : Cables → Host → ℕ → Links
+neighbours_to links h zero = []
+neighbours_to links h (suc n) = neighbours_to links h n ++ neighbour_at (record { 0 = n + 1 }) (peer_of links h (record { 0 = n + 1 }))
+
+-- nine devices with nothing queued
+abbrev pub no_queues : List (List Packet)
+no_queues = replicate 9 []
 
 -- a node at the beginning: nothing queued, and 1 as its next serial number
 unfoldable pub opening_node : Cables → HostSpec → NodeState
-opening_node links spec = record { here = spec.host; neighbours = neighbours_on links spec.host (1 ∷ 2 ∷ 3 ∷ 4 ∷ 5 ∷ 6 ∷ 7 ∷ 8 ∷ []);
-  queues = [] ∷ [] ∷ [] ∷ [] ∷ [] ∷ [] ∷ [] ∷ [] ∷ [] ∷ []; serial = 1 }
+opening_node links spec = record { here = spec.host; neighbours = neighbours_to links spec.host 8;
+  queues = no_queues; serial = 1 }
 
 -- a network at the beginning
 unfoldable pub opening : Topology → WorldState

@@ -1,6 +1,6 @@
 use Rattle.std.proofs.Common.{◌≡◌, ◌+◌, ◌≤◌, drop}
 use Rattle.std.specs.List.{prefix_len}
-use Rattle.plan_lexer.specs.WordTokens.{is_word_byte}
+use Rattle.plan_base.specs.Words.{is_word_byte}
 use Rattle.plan_lexer.proofs.word.word_len.Given as goal
 
 abbrev pub invariant-loop-byte : goal.invariant-loop-byte

@@ -1,0 +1,16 @@
+//! A network of nodes and the run of a schedule in it.
+#![tactic(auto)]
+
+mod ledger;
+mod node;
+mod runs;
+mod sends;
+mod small_visit;
+#[cfg(test)]
+mod tests;
+mod text;
+mod world;
+
+pub use node::Node;
+pub use runs::{RunFault, run};
+pub use world::World;

@@ -1,0 +1,5 @@
+use Rattle.plan_lexer.proofs.ScanLemmas.{Toks-unique, Refuses-unique, Toks-refused}
+use Rattle.plan_lexer.proofs.laws.one_answer.Goals as goal
+
+pub returns : goal.returns
+returns c = record { tokens = Toks-unique; refusal = Refuses-unique; apart = Toks-refused }

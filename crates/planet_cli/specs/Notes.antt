@@ -1,0 +1,45 @@
+-- The notes: one line for each cause but Done.
+use Rattle.std.specs.Prelude.{ℕ, ◌≡◌, ◌≢◌, List, [], ◌++◌}
+use Rattle.std.specs.Fmt.{decimal}
+use lib.Chars.{codes}
+use Rattle.node_io.specs.Pieces.{AppendsFront}
+use Rattle.planet_cli.specs.declared.status.Cause.{Cause}
+use Rattle.planet_cli.specs.declared.status.Cause.TheVariants.{Done, Usage, Refused, ReadFault, WriteFault, LinkFault, SpawnFault, NoMemory, NodesFailed}
+use Rattle.planet_cli.specs.declared.status.Refusal.{Refusal}
+use Rattle.planet_cli.specs.declared.status.Refusal.TheVariants.{Line, TooLong}
+use Rattle.planet_cli.specs.declared.stand_in.LineReason.{LineReason}
+use Rattle.planet_cli.specs.declared.stand_in.LineReason.TheVariants.{BadHeader, BadWord, BadNumber, UnknownHost, UnknownProgram, TwiceNamed, TooMany, BadArgument, NotYet}
+
+-- the name of a reason
+abbrev pub reason_text : LineReason → List ℕ
+reason_text BadHeader = codes "BadHeader"
+reason_text BadWord = codes "BadWord"
+reason_text BadNumber = codes "BadNumber"
+reason_text UnknownHost = codes "UnknownHost"
+reason_text UnknownProgram = codes "UnknownProgram"
+reason_text TwiceNamed = codes "TwiceNamed"
+reason_text TooMany = codes "TooMany"
+reason_text BadArgument = codes "BadArgument"
+reason_text NotYet = codes "NotYet"
+
+-- the note of a refusal
+abbrev pub refusal_text : Refusal → List ℕ
+refusal_text (Line n reason) = codes "planet: line " ++ (decimal n ++ (codes ": " ++ (reason_text reason ++ codes "\n")))
+refusal_text TooLong = codes "planet: TooLong\n"
+
+-- the note of a cause
+abbrev pub note_text : Cause → List ℕ
+note_text Done = []
+note_text Usage = codes "planet: usage: check FILE | show FILE | replay FILE | node FILE TURNS | inject FILE | fleet FILE | grow SEED N\n"
+note_text (Refused r) = refusal_text r
+note_text ReadFault = codes "planet: read fault\n"
+note_text WriteFault = codes "planet: write fault\n"
+note_text LinkFault = codes "planet: link fault\n"
+note_text SpawnFault = codes "planet: spawn fault\n"
+note_text NoMemory = codes "planet: no memory\n"
+note_text (NodesFailed h s) = codes "planet: node @" ++ (decimal h.0 ++ (codes " failed with " ++ (decimal s ++ codes "\n")))
+
+-- the note of the given cause was written; or a fault of the notes left a front of the note of another cause
+pub data Noted (old new : List ℕ) (given : Cause) (unwritten : Type 0) : Type 0 where
+  whole : new ≡ old ++ note_text given → Noted old new given unwritten
+  cut : (cause : Cause) → given ≡ WriteFault → unwritten → AppendsFront old new (note_text cause) → Noted old new given unwritten

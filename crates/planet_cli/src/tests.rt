@@ -1,0 +1,254 @@
+use crate::status::Status;
+use crate::{planet, rows};
+use node_io::{
+    Arrivals, Calls, FileList, MemClock, MemFiles, MemLink, MemSink, MemSpawner, Moments, Statuses,
+};
+use plan_base::{Bytes, Text, Texts};
+use std::alloc::{AllocError, Global};
+use std::test::Fail;
+
+const USAGE: &[u8] =
+    b"planet: usage: check FILE | show FILE | replay FILE | node FILE TURNS | inject FILE | fleet FILE | grow SEED N\n";
+
+fn text(alloc: Global, of: &str) -> Result<Text, AllocError> {
+    Ok(Text::of(Vec::from_slice(alloc, of.as_bytes())?))
+}
+
+fn words_of(alloc: Global, all: &[&str]) -> Result<Texts, Fail> {
+    let mut words = Texts::new(alloc);
+    for word in all {
+        words.add(text(alloc, word)?)?;
+    }
+    Ok(words)
+}
+
+// The file `schedule.txt` of these bytes, and the calls that are to fail.
+fn files_of(alloc: Global, bytes: &[u8], fails: &[u64]) -> Result<MemFiles, Fail> {
+    let mut files = FileList::new(alloc);
+    files.add((
+        text(alloc, "schedule.txt")?,
+        Bytes::of(Vec::from_slice(alloc, bytes)?),
+    ))?;
+    Ok(MemFiles::new(alloc, files, Calls::from_slice(alloc, fails)?)?)
+}
+
+fn sink(alloc: Global) -> Result<MemSink, Fail> {
+    Ok(MemSink::new(alloc, Calls::new(alloc))?)
+}
+
+fn call(
+    alloc: Global,
+    words: &[&str],
+    files: &mut MemFiles,
+    out: &mut MemSink,
+    notes: &mut MemSink,
+) -> Result<Status, Fail> {
+    let words = words_of(alloc, words)?;
+    let mut link = MemLink::new(alloc, Arrivals::new(alloc), Calls::new(alloc))?;
+    let mut clock = MemClock::new(alloc, Moments::new(alloc))?;
+    let mut spawn = MemSpawner::new(alloc, Statuses::new(alloc), Calls::new(alloc))?;
+    Ok(planet(
+        alloc, &words, files, out, notes, &mut link, &mut clock, &mut spawn,
+    ))
+}
+
+// The code, the output and the notes of `replay schedule.txt` on these bytes.
+fn replay(alloc: Global, bytes: &[u8]) -> Result<(u8, MemSink, MemSink), Fail> {
+    let mut files = files_of(alloc, bytes, &[])?;
+    let mut out = sink(alloc)?;
+    let mut notes = sink(alloc)?;
+    let status = call(
+        alloc,
+        &["replay", "schedule.txt"],
+        &mut files,
+        &mut out,
+        &mut notes,
+    )?;
+    Ok((status.code, out, notes))
+}
+
+#[test]
+fn schedules_give_their_output(rt: HostRuntime) -> Result<(), Fail> {
+    for (schedule, output) in [
+        (rows::FIRST_RUN, rows::FIRST_RUN_OUTPUT),
+        (rows::FIRST_RUN_LOST, rows::FIRST_RUN_LOST_OUTPUT),
+        (
+            rows::REORDERED_DELIVERIES,
+            rows::REORDERED_DELIVERIES_OUTPUT,
+        ),
+        (rows::IN_ORDER_DELIVERIES, rows::IN_ORDER_DELIVERIES_OUTPUT),
+        (
+            rows::FULL_QUEUE_BY_THREE_VISITS,
+            rows::FULL_QUEUE_BY_THREE_VISITS_OUTPUT,
+        ),
+        (rows::SMALLEST_SCHEDULE, rows::SMALLEST_SCHEDULE_OUTPUT),
+        (rows::DELIVER_NOTHING, rows::DELIVER_NOTHING_OUTPUT),
+    ] {
+        let (code, out, notes) = replay(rt.alloc(), schedule)?;
+        assert_eq!(rt; code, 0);
+        assert_eq!(rt; out.taken().as_slice(), output);
+        assert_eq!(rt; notes.taken().as_slice(), b"".as_slice());
+    }
+    Ok(())
+}
+
+#[test]
+fn files_outside_the_format_are_refused(rt: HostRuntime) -> Result<(), Fail> {
+    for (schedule, note) in [
+        (
+            rows::UNKNOWN_HEADER,
+            b"planet: line 1: BadHeader\n".as_slice(),
+        ),
+        (rows::EMPTY_FILE, b"planet: line 1: BadHeader\n".as_slice()),
+        (
+            rows::FIRST_RUN_WITH_TICK_NOT_BUILT,
+            b"planet: line 14: NotYet\n".as_slice(),
+        ),
+    ] {
+        let (code, out, notes) = replay(rt.alloc(), schedule)?;
+        assert_eq!(rt; code, 2);
+        assert_eq!(rt; out.taken().as_slice(), b"".as_slice());
+        assert_eq!(rt; notes.taken().as_slice(), note);
+    }
+    Ok(())
+}
+
+#[test]
+fn words_that_name_no_command_are_usage(rt: HostRuntime) -> Result<(), Fail> {
+    let alloc = rt.alloc();
+    for words in [
+        [].as_slice(),
+        ["replay"].as_slice(),
+        ["check", "schedule.txt"].as_slice(),
+        ["replay", ""].as_slice(),
+        ["replay", "schedule.txt", "more"].as_slice(),
+    ] {
+        let mut files = files_of(alloc, rows::FIRST_RUN, &[])?;
+        let mut out = sink(alloc)?;
+        let mut notes = sink(alloc)?;
+        let status = call(alloc, words, &mut files, &mut out, &mut notes)?;
+        assert_eq!(rt; status.code, 1);
+        assert_eq!(rt; notes.taken().as_slice(), USAGE);
+        assert_eq!(rt; out.taken().len(), 0);
+    }
+    Ok(())
+}
+
+#[test]
+fn a_missing_file_is_a_read_fault(rt: HostRuntime) -> Result<(), Fail> {
+    let alloc = rt.alloc();
+    let mut files = files_of(alloc, rows::FIRST_RUN, &[])?;
+    let mut out = sink(alloc)?;
+    let mut notes = sink(alloc)?;
+    let status = call(
+        alloc,
+        &["replay", "missing.txt"],
+        &mut files,
+        &mut out,
+        &mut notes,
+    )?;
+    assert_eq!(rt; status.code, 3);
+    assert_eq!(rt;
+        notes.taken().as_slice(),
+        b"planet: read fault\n".as_slice()
+    );
+    Ok(())
+}
+
+#[test]
+fn a_file_of_one_byte_too_many_is_too_long(rt: HostRuntime) -> Result<(), Fail> {
+    let alloc = rt.alloc();
+    let mut bytes = Vec::new(alloc);
+    bytes.resize(4_194_305, b'#')?;
+    let (code, out, notes) = replay(alloc, bytes.as_slice())?;
+    assert_eq!(rt; code, 2);
+    assert_eq!(rt; out.taken().len(), 0);
+    assert_eq!(rt; notes.taken().as_slice(), b"planet: TooLong\n".as_slice());
+    Ok(())
+}
+
+#[test]
+fn a_failing_read_is_a_read_fault_and_the_next_call_is_sound(rt: HostRuntime) -> Result<(), Fail> {
+    let alloc = rt.alloc();
+    for at in 1..4 {
+        let mut files = files_of(alloc, rows::FIRST_RUN, &[at])?;
+        let mut out = sink(alloc)?;
+        let mut notes = sink(alloc)?;
+        let status = call(
+            alloc,
+            &["replay", "schedule.txt"],
+            &mut files,
+            &mut out,
+            &mut notes,
+        )?;
+        assert_eq!(rt; status.code, 3, "failing at {at}");
+        assert_eq!(rt; out.taken().len(), 0);
+        let again = call(
+            alloc,
+            &["replay", "schedule.txt"],
+            &mut files,
+            &mut out,
+            &mut notes,
+        )?;
+        assert_eq!(rt; again.code, 0);
+        assert_eq!(rt; out.taken().as_slice(), rows::FIRST_RUN_OUTPUT);
+    }
+    Ok(())
+}
+
+#[test]
+fn a_stopping_output_has_taken_a_front(rt: HostRuntime) -> Result<(), Fail> {
+    let alloc = rt.alloc();
+    let output = rows::FIRST_RUN_OUTPUT;
+    for n in 0..output.len() {
+        let mut files = files_of(alloc, rows::FIRST_RUN, &[])?;
+        let mut out = MemSink::stopping(alloc, n as u64)?;
+        let mut notes = sink(alloc)?;
+        let status = call(
+            alloc,
+            &["replay", "schedule.txt"],
+            &mut files,
+            &mut out,
+            &mut notes,
+        )?;
+        assert_eq!(rt; status.code, 4, "stopping after {n}");
+        assert_eq!(rt; out.taken().as_slice(), &output[..n]);
+        assert_eq!(rt;
+            notes.taken().as_slice(),
+            b"planet: write fault\n".as_slice()
+        );
+    }
+    let (code, out, _) = replay(alloc, rows::FIRST_RUN)?;
+    assert_eq!(rt; code, 0);
+    assert_eq!(rt; out.taken().as_slice(), output);
+    Ok(())
+}
+
+#[test]
+fn a_note_that_fails_is_a_write_fault(rt: HostRuntime) -> Result<(), Fail> {
+    let alloc = rt.alloc();
+    let mut files = files_of(alloc, rows::UNKNOWN_HEADER, &[])?;
+    let mut out = sink(alloc)?;
+    let mut notes = MemSink::new(alloc, Calls::from_slice(alloc, &[1])?)?;
+    let status = call(
+        alloc,
+        &["replay", "schedule.txt"],
+        &mut files,
+        &mut out,
+        &mut notes,
+    )?;
+    assert_eq!(rt; status.code, 4);
+    let again = call(
+        alloc,
+        &["replay", "schedule.txt"],
+        &mut files,
+        &mut out,
+        &mut notes,
+    )?;
+    assert_eq!(rt; again.code, 2);
+    assert_eq!(rt;
+        notes.taken().as_slice(),
+        b"planet: line 1: BadHeader\n".as_slice()
+    );
+    Ok(())
+}

@@ -1,0 +1,265 @@
+-- What each line of a schedule says, and what a whole file says: a schedule, or the first line that is outside the format.
+use Rattle.std.specs.Prelude.{ℕ, ◌+◌, Bool, true, false, not, ◌||◌, if◌then◌else◌, ◌==◌, nat_le, nat_lt, List, [], ◌∷◌, ◌++◌, length, Option, Some, None, Result, Ok, Err}
+use Rattle.std.specs.List.{list_any}
+use Rattle.std.specs.Option.{ok_or}
+use Rattle.std.specs.Str.{bytes_eq}
+use lib.Chars.{codes}
+use Rattle.plan_base.specs.declared.ids.Host.{Host}
+use Rattle.plan_base.specs.declared.ids.Dev.{Dev}
+use Rattle.plan_base.specs.declared.name.Name.{Name}
+use Rattle.plan_base.specs.declared.tree.Chunk.{Chunk}
+use Rattle.plan_base.specs.declared.tree.Program.{Program}
+use Rattle.plan_base.specs.Sizes.{chunk_weight}
+use Rattle.schedule_text.specs.declared.fault.LineReason.{LineReason}
+use Rattle.schedule_text.specs.declared.fault.LineReason.TheVariants.{BadHeader, BadWord, TwiceNamed, TooMany, BadArgument, NotYet}
+use Rattle.schedule_text.specs.declared.fault.LineFault.{LineFault}
+use Rattle.schedule_text.specs.declared.fault.LineFault.TheVariants as faults
+use Rattle.schedule_text.specs.declared.schedule.HostSpec.{HostSpec}
+use Rattle.schedule_text.specs.declared.schedule.Schedule.{Schedule}
+use Rattle.schedule_text.specs.declared.schedule.WorldEvent.{WorldEvent}
+use Rattle.schedule_text.specs.declared.schedule.WorldEvent.TheVariants as happens
+use Rattle.schedule_text.specs.declared.reading.NamedProgram.{NamedProgram}
+use Rattle.schedule_text.specs.declared.reading.Reading.{Reading}
+use Rattle.schedule_text.specs.declared.reading.OpenProgram.{OpenProgram}
+use Rattle.schedule_text.specs.declared.reading.Stage.{Stage}
+use Rattle.schedule_text.specs.declared.reading.Stage.TheVariants as stages
+use Rattle.schedule_text.specs.declared.keyword.NetworkWord.{NetworkWord}
+use Rattle.schedule_text.specs.declared.keyword.NetworkWord.TheVariants as network
+use Rattle.schedule_text.specs.declared.keyword.EventWord.{EventWord}
+use Rattle.schedule_text.specs.declared.keyword.EventWord.TheVariants as event
+use Rattle.schedule_text.specs.Lines.{lines, words}
+use Rattle.schedule_text.specs.Reads.{◌>>=◌, and_then, Part, word_at, end_at, rest_at, allowed}
+use Rattle.schedule_text.specs.Numbers.{number_at}
+use Rattle.schedule_text.specs.Packages.{packages_at}
+use Rattle.schedule_text.specs.Parts.{Link, host_of, dev_of, is_host, host_at, free_device_at, is_called, program_at, entry_at, named_word}
+use Rattle.schedule_text.specs.Built.{is_built, lacking, with_arguments, a_tick}
+use Rattle.schedule_text.specs.SmallPrograms.{program_of}
+
+abbrev pub host_spec : ℕ → HostSpec
+host_spec n = record { host = host_of n }
+
+-- the first word of a line of the network
+abbrev pub network_word : List ℕ → Option NetworkWord
+network_word w = if bytes_eq w (codes "host") then Some network.Host else (if bytes_eq w (codes "link") then Some network.Link else (if bytes_eq w (codes "program") then Some network.Program else (if bytes_eq w (codes "events") then Some network.Events else None)))
+
+-- the first word of an event
+abbrev pub event_word : List ℕ → Option EventWord
+event_word w = if bytes_eq w (codes "inject") then Some event.Inject else (if bytes_eq w (codes "send") then Some event.Send else (if bytes_eq w (codes "deliver") then Some event.Deliver else (if bytes_eq w (codes "lose") then Some event.Lose else (if bytes_eq w (codes "tick") then Some event.Tick else None))))
+
+-- `host N`, then `without PACKAGE` any number of times
+unfoldable pub host_line : List (List ℕ) → Reading → Result Reading LineReason
+host_line ws s = do
+  _ ← allowed (nat_lt (length s.hosts) 32) TooMany
+  n ← number_at 0 4294967295 ws
+  _ ← allowed (not (is_host s.hosts n.0)) TwiceNamed
+  missing ← packages_at [] n.1
+  _ ← allowed (is_built (lacking missing)) NotYet
+  Ok (record s { hosts = s.hosts ++ host_spec n.0 ∷ [] })
+
+-- the link of two devices of different hosts
+abbrev pub link_of : ℕ → ℕ → ℕ → ℕ → Link
+link_of n d m e = (host_of n, dev_of d, host_of m, dev_of e)
+
+-- `link N D M E`
+unfoldable pub link_line : List (List ℕ) → Reading → Result Reading LineReason
+link_line ws s = do
+  n ← host_at s.hosts ws
+  d ← free_device_at s.links n.0 n.1
+  m ← host_at s.hosts d.1
+  _ ← allowed (not (m.0 == n.0)) BadArgument
+  e ← free_device_at s.links m.0 m.1
+  _ ← end_at e.1
+  Ok (record s { links = s.links ++ link_of n.0 d.0 m.0 e.0 ∷ [] })
+
+-- a program without text, begun at a line
+abbrev pub opened : ℕ → Name → OpenProgram
+opened number name = record { line = number; name = name; text = [] }
+
+-- `program NAME`
+unfoldable pub program_line : ℕ → List (List ℕ) → Reading → Result OpenProgram LineReason
+program_line number ws s = do
+  _ ← allowed (nat_lt (length s.programs) 64) TooMany
+  w ← word_at ws
+  name ← named_word w.0 BadWord
+  _ ← allowed (not (list_any (is_called w.0) s.programs)) TwiceNamed
+  _ ← end_at w.1
+  Ok (opened number name)
+
+abbrev pub named : Name → Program → NamedProgram
+named name program = record { name = name; program = program }
+
+-- the end of a program's text
+unfoldable pub close_program : OpenProgram → Reading → Result Reading LineReason
+close_program begun s = do
+  _ ← allowed (nat_le (length begun.text) 65536) TooMany
+  program ← program_of begun.text
+  Ok (record s { programs = s.programs ++ named begun.name program ∷ [] })
+
+-- a line of the network behind its first word, and what may come next
+unfoldable pub network_rest : NetworkWord → ℕ → List (List ℕ) → Reading → Result (Stage × Reading) LineReason
+network_rest network.Host number ws s = do
+  t ← host_line ws s
+  Ok (stages.Network, t)
+network_rest network.Link number ws s = do
+  t ← link_line ws s
+  Ok (stages.Network, t)
+network_rest network.Program number ws s = do
+  begun ← program_line number ws s
+  Ok (stages.Inside begun, s)
+network_rest network.Events number ws s = do
+  _ ← end_at ws
+  Ok (stages.Events, s)
+
+-- a line of the network
+unfoldable pub network_line : ℕ → List (List ℕ) → Reading → Result (Stage × Reading) LineReason
+network_line number ws s = do
+  w ← word_at ws
+  k ← ok_or (network_word w.0) BadWord
+  network_rest k number w.1 s
+
+-- an event more
+abbrev pub with_event : Reading → WorldEvent → Reading
+with_event s e = record s { events = s.events ++ e ∷ [] }
+
+-- what an injection says: where, what, and with which bound
+pub record Injection : Type 0 where
+  pub host : ℕ
+  pub chunk : Chunk
+  pub bound : ℕ
+
+-- the chunk of a program's function, without arguments
+abbrev pub chunk_of : Program → Name → Chunk
+chunk_of program entry = record { code = program; entry = entry; args = [] }
+
+-- `inject N PROGRAM ENTRY BOUND ARGS` behind its first word
+unfoldable pub injection_at : Reading → List (List ℕ) → Result Injection LineReason
+injection_at s ws = do
+  n ← host_at s.hosts ws
+  p ← program_at s.programs n.1
+  f ← entry_at p.0.program.funs p.1
+  bound ← number_at 0 65535 f.1
+  args ← rest_at bound.1
+  _ ← allowed (is_built (with_arguments args)) NotYet
+  Ok (record { host = n.0; chunk = chunk_of p.0.program f.0.name; bound = bound.0 })
+
+-- an injection, whose chunk weighs as a value, its tag counted
+unfoldable pub inject_line : List (List ℕ) → Reading → Result Reading LineReason
+inject_line ws s = do
+  i ← injection_at s ws
+  _ ← allowed (nat_le (s.weight + (1 + chunk_weight i.chunk)) 16777216) TooMany
+  Ok (record (with_event s (happens.Inject (host_of i.host) i.chunk i.bound)) { weight = s.weight + (1 + chunk_weight i.chunk) })
+
+-- `send N D`
+unfoldable pub send_line : List (List ℕ) → Reading → Result Reading LineReason
+send_line ws s = do
+  n ← host_at s.hosts ws
+  d ← number_at 0 8 n.1
+  _ ← end_at d.1
+  Ok (with_event s (happens.Send (host_of n.0) (dev_of d.0)))
+
+-- the number of a frame, alone
+unfoldable pub frame_at : List (List ℕ) → Result ℕ LineReason
+frame_at ws = do
+  k ← number_at 0 4294967295 ws
+  _ ← end_at k.1
+  Ok k.0
+
+-- `deliver K`
+unfoldable pub deliver_line : List (List ℕ) → Reading → Result Reading LineReason
+deliver_line ws s = do
+  k ← frame_at ws
+  Ok (with_event s (happens.Deliver k))
+
+-- `lose K`
+unfoldable pub lose_line : List (List ℕ) → Reading → Result Reading LineReason
+lose_line ws s = do
+  k ← frame_at ws
+  Ok (with_event s (happens.Lose k))
+
+-- `tick N`
+unfoldable pub tick_line : List (List ℕ) → Reading → Result Reading LineReason
+tick_line ws s = do
+  n ← host_at s.hosts ws
+  _ ← end_at n.1
+  _ ← allowed (is_built a_tick) NotYet
+  Ok s
+
+-- an event behind its first word
+unfoldable pub event_rest : EventWord → List (List ℕ) → Reading → Result Reading LineReason
+event_rest event.Inject ws s = inject_line ws s
+event_rest event.Send ws s = send_line ws s
+event_rest event.Deliver ws s = deliver_line ws s
+event_rest event.Lose ws s = lose_line ws s
+event_rest event.Tick ws s = tick_line ws s
+
+-- an event
+unfoldable pub event_line : List (List ℕ) → Reading → Result Reading LineReason
+event_line ws s = do
+  w ← word_at ws
+  k ← ok_or (event_word w.0) BadWord
+  _ ← allowed (nat_lt (length s.events) 50000) TooMany
+  event_rest k w.1 s
+
+-- a line that says nothing: empty, or a comment
+abbrev pub is_skipped : List ℕ → Bool
+is_skipped [] = true
+is_skipped (b ∷ bytes) = b == 35
+
+-- a reason at its line
+abbrev pub at_line : {A : Type 0} → ℕ → Result A LineReason → Result A LineFault
+at_line number (Ok x) = Ok x
+at_line number (Err reason) = Err (faults.Line number reason)
+
+-- a line more of a program
+abbrev pub with_line : OpenProgram → List ℕ → OpenProgram
+with_line begun line = record begun { text = begun.text ++ line ++ 10 ∷ [] }
+
+-- a stage that stays, with what was read
+abbrev pub staying : Stage → Result Reading LineReason → Result (Stage × Reading) LineReason
+staying stage (Ok s) = Ok (stage, s)
+staying stage (Err e) = Err e
+
+-- the header
+abbrev pub header_step : ℕ → List ℕ → Result Stage LineFault
+header_step number line = if bytes_eq line (codes "planet schedule 1") then Ok stages.Network else Err (faults.Line number BadHeader)
+
+-- a line of the network
+abbrev pub network_step : ℕ → List ℕ → Reading → Result (Stage × Reading) LineFault
+network_step number line s = if is_skipped line then Ok (stages.Network, s) else at_line number (network_line number (words line) s)
+
+-- a line of a program, or the line that ends it
+abbrev pub program_step : List ℕ → OpenProgram → Reading → Result (Stage × Reading) LineFault
+program_step line begun s = if bytes_eq line (codes "end program") then at_line begun.line (staying stages.Network (close_program begun s)) else Ok (stages.Inside (with_line begun line), s)
+
+-- an event
+abbrev pub event_step : ℕ → List ℕ → Reading → Result (Stage × Reading) LineFault
+event_step number line s = if is_skipped line then Ok (stages.Events, s) else at_line number (staying stages.Events (event_line (words line) s))
+
+-- what a line adds to what the lines above it said
+unfoldable pub step : ℕ → List ℕ → Stage → Reading → Result (Stage × Reading) LineFault
+step number line stages.Header s = and_then (header_step number line) (λ stage. Ok (stage, s))
+step number line stages.Network s = network_step number line s
+step number line (stages.Inside begun) s = program_step line begun s
+step number line stages.Events s = event_step number line s
+
+abbrev pub schedule_of_reading : Reading → Schedule
+schedule_of_reading s = record { topology = record { hosts = s.hosts; links = s.links }; events = s.events }
+
+-- what the lines so far say where the file ends in front of the line with a number
+abbrev pub finish : ℕ → Stage → Reading → Result Schedule LineFault
+finish number stages.Header s = Err (faults.Line number BadHeader)
+finish number stages.Events s = Ok (schedule_of_reading s)
+finish number _ s = Err (faults.Line number BadWord)
+
+-- what the lines from the one with a number on say, behind what those above it said
+abbrev pub read_on : ℕ → List (List ℕ) → Stage → Reading → Result Schedule LineFault
+read_on number [] stage s = finish number stage s
+read_on number (line ∷ more) stage s = and_then (step number line stage s) (λ next. read_on (number + 1) more next.0 next.1)
+
+-- nothing read yet
+abbrev pub nothing_read : Reading
+nothing_read = record { hosts = []; links = []; programs = []; events = []; weight = 0 }
+
+-- what a file says: its schedule, or its first line outside the format with the reason
+unfoldable pub schedule_of : List ℕ → Result Schedule LineFault
+schedule_of bytes = read_on 1 (lines bytes) stages.Header nothing_read

@@ -1,0 +1,72 @@
+ghost use Rattle.std.specs.Prelude.{◌≡◌};
+ghost use Rattle.schedule_text.specs.Schedules.{network_word, event_word};
+
+use crate::words::is;
+
+/// The first word of a line of the network.
+#[derive(Debug, Clone, Copy, PartialEq, Eq)]
+pub enum NetworkWord {
+    /// `host`
+    Host,
+    /// `link`
+    Link,
+    /// `program`
+    Program,
+    /// `events`
+    Events,
+}
+
+/// The first word of an event.
+#[derive(Debug, Clone, Copy, PartialEq, Eq)]
+pub enum EventWord {
+    /// `inject`
+    Inject,
+    /// `send`
+    Send,
+    /// `deliver`
+    Deliver,
+    /// `lose`
+    Lose,
+    /// `tick`
+    Tick,
+}
+
+impl NetworkWord {
+    /// The first word that a word is, or none.
+    pub fn of(word: &[u8]) -> Option<NetworkWord>
+        ensures { result ≡ network_word word.now }
+    {
+        if is(word, b"host") {
+            Some(NetworkWord::Host)
+        } else if is(word, b"link") {
+            Some(NetworkWord::Link)
+        } else if is(word, b"program") {
+            Some(NetworkWord::Program)
+        } else if is(word, b"events") {
+            Some(NetworkWord::Events)
+        } else {
+            None
+        }
+    }
+}
+
+impl EventWord {
+    /// The first word that a word is, or none.
+    pub fn of(word: &[u8]) -> Option<EventWord>
+        ensures { result ≡ event_word word.now }
+    {
+        if is(word, b"inject") {
+            Some(EventWord::Inject)
+        } else if is(word, b"send") {
+            Some(EventWord::Send)
+        } else if is(word, b"deliver") {
+            Some(EventWord::Deliver)
+        } else if is(word, b"lose") {
+            Some(EventWord::Lose)
+        } else if is(word, b"tick") {
+            Some(EventWord::Tick)
+        } else {
+            None
+        }
+    }
+}

@@ -1,0 +1,134 @@
+ghost use Rattle.std.specs.Prelude.{◌≡◌};
+ghost use Rattle.schedule_text.specs.Reads.{Leaves, Gives};
+ghost use Rattle.schedule_text.specs.Schedules.{host_line, link_line, program_line, close_program, network_rest, network_line};
+ghost use Rattle.schedule_text.specs.Leaving.{LeavesStage};
+
+use crate::fault::{LineReason, Stop};
+use crate::keyword::NetworkWord;
+use crate::numbers::number;
+use crate::package::packages;
+use crate::parts::{free_device, is_known_host, is_known_program, known_host, name_of};
+use crate::reading::{NamedProgram, OpenProgram, Reading, Stage};
+use crate::schedule::HostSpec;
+use crate::small_program::read_small;
+use crate::words::{Words, allow};
+use plan_base::{Bytes, Dev, Host};
+use std::alloc::Global;
+
+/// `host N` and the packages that it lacks, behind the first word. Reasons: `TooMany`, `BadWord`,
+/// `BadNumber`, `TwiceNamed`, `NotYet`.
+#[tactic(auto, unfolding(crate::specs::Schedules::host_line))]
+fn read_host(alloc: Global, reading: &mut Reading, words: &mut Words<'_>) -> Result<(), Stop>
+    ensures { Leaves result reading.new (host_line words.old reading.old) }
+{
+    allow(reading.hosts.len() < 32, LineReason::TooMany)?;
+    let n = number(words, 0, u32::MAX)?;
+    allow(
+        !is_known_host(reading.hosts.as_slice(), n),
+        LineReason::TwiceNamed,
+    )?;
+    let missing = packages(alloc, words)?;
+    allow(missing.is_empty(), LineReason::NotYet)?;
+    reading.hosts.add(HostSpec { host: Host(n) })?;
+    Ok(())
+}
+
+/// `link N D M E` behind the first word. Reasons: `BadWord`, `BadNumber`, `UnknownHost`, `TwiceNamed`,
+/// `BadArgument`.
+#[tactic(auto, unfolding(crate::specs::Schedules::link_line))]
+fn read_link(reading: &mut Reading, words: &mut Words<'_>) -> Result<(), Stop>
+    ensures { Leaves result reading.new (link_line words.old reading.old) }
+{
+    let n = known_host(reading.hosts.as_slice(), words)?;
+    let d = free_device(reading.links.as_slice(), n, words)?;
+    let m = known_host(reading.hosts.as_slice(), words)?;
+    allow(m != n, LineReason::BadArgument)?;
+    let e = free_device(reading.links.as_slice(), m, words)?;
+    words.end()?;
+    reading.links.add((Host(n), Dev(d), Host(m), Dev(e)))?;
+    Ok(())
+}
+
+/// `program NAME` behind the first word. Reasons: `TooMany`, `BadWord`, `TwiceNamed`.
+#[tactic(auto, unfolding(crate::specs::Schedules::program_line))]
+fn begin_program(
+    alloc: Global,
+    line: u32,
+    reading: &Reading,
+    words: &mut Words<'_>,
+) -> Result<OpenProgram, Stop>
+    ensures { Gives (λ o. o) result (program_line line words.old reading.now) }
+{
+    allow(reading.programs.len() < 64, LineReason::TooMany)?;
+    let word = words.next()?;
+    let name = name_of(alloc, word, LineReason::BadWord)?;
+    allow(
+        !is_known_program(reading.programs.as_slice(), word),
+        LineReason::TwiceNamed,
+    )?;
+    words.end()?;
+    let text = Bytes::new(alloc);
+    Ok(OpenProgram { line, name, text })
+}
+
+/// The end of a program's text. Reasons: `TooMany`, `NotYet`.
+#[tactic(auto, unfolding(crate::specs::Schedules::close_program))]
+pub fn end_program(alloc: Global, reading: &mut Reading, begun: OpenProgram) -> Result<(), Stop>
+    ensures { Leaves result reading.new (close_program begun reading.old) }
+{
+    let OpenProgram {
+        line: _,
+        name,
+        text,
+    } = begun;
+    allow(text.len() <= 65_536, LineReason::TooMany)?;
+    let program = read_small(alloc, text.as_slice())?;
+    reading.programs.add(NamedProgram { name, program })?;
+    Ok(())
+}
+
+/// A line of the network behind its first word.
+#[tactic(auto, unfolding(crate::specs::Schedules::network_rest))]
+fn read_rest(
+    alloc: Global,
+    kind: NetworkWord,
+    line: u32,
+    reading: &mut Reading,
+    words: &mut Words<'_>,
+) -> Result<Stage, Stop>
+    ensures { LeavesStage result reading.new (network_rest kind line words.old reading.old) }
+{
+    match kind {
+        NetworkWord::Host => {
+            read_host(alloc, reading, words)?;
+            Ok(Stage::Network)
+        }
+        NetworkWord::Link => {
+            read_link(reading, words)?;
+            Ok(Stage::Network)
+        }
+        NetworkWord::Program => {
+            let begun = begin_program(alloc, line, reading, words)?;
+            Ok(Stage::Inside(begun))
+        }
+        NetworkWord::Events => {
+            words.end()?;
+            Ok(Stage::Events)
+        }
+    }
+}
+
+/// A line of the network, and what may come next.
+#[tactic(auto, unfolding(crate::specs::Schedules::network_line))]
+pub fn read_network(
+    alloc: Global,
+    line: u32,
+    reading: &mut Reading,
+    words: &mut Words<'_>,
+) -> Result<Stage, Stop>
+    ensures { LeavesStage result reading.new (network_line line words.old reading.old) }
+{
+    let word = words.next()?;
+    let kind = NetworkWord::of(word).ok_or(LineReason::BadWord)?;
+    read_rest(alloc, kind, line, reading, words)
+}
