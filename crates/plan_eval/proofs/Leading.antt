@@ -54,3 +54,18 @@ wrong_then s f g = refl
 pub regrouped_twice : {A B C D : Type 0} (p : Step A) (f : A → Run B) (g : B → Run C) (h : C → Run D)
     → Leads (and_then (and_then (and_then p f) g) h) (and_then p (λ x. f x >>= g >>= h))
 regrouped_twice p f g h = onward _ _ _ (carried _ _ h (regrouped p f g)) (regrouped p (λ x. f x >>= g) h)
+
+pub known_back : {A B C : Type 0} (a : A) (s : VisitState) (f : A → Run B) (g : B → Run C) → Leads ((f a >>= g) s) ((pure a >>= f >>= g) s)
+known_back a s f g = record { same = refl; safe = λ k. ((tt, k.0), k.1) }
+
+-- a step that gave a value goes on with it
+pub gave_on : {A B : Type 0} (p : Step A) (a : A) (t : VisitState) (f : A → Run B) → p.after ≡ gave a t → Leads (and_then p f) (f a t)
+gave_on p a t f is = record { same = ap (λ r. («next» r f).after) is; safe = λ k. rw is at k.1 }
+
+later_next : {A B : Type 0} (a : After A) (f g : A → Run B) → ((x : A) (t : VisitState) → Leads (f x t) (g x t)) → Leads («next» a f) («next» a g)
+later_next (gave x t) f g h = h x t
+later_next (stopped e t) f g h = itself _
+
+-- what follows may go another way
+pub later : {A B : Type 0} (p : Step A) (f g : A → Run B) → ((x : A) (t : VisitState) → Leads (f x t) (g x t)) → Leads (and_then p f) (and_then p g)
+later p f g h = let l = later_next p.after f g h in record { same = l.same; safe = λ k. (k.0, l.safe k.1) }

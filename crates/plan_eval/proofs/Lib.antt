@@ -1,3 +1,5 @@
 pub mod Leading
 pub mod Walking
 pub mod Deciding
+pub mod Stacks
+pub mod Applying

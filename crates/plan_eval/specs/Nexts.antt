@@ -1,5 +1,6 @@
 -- What an open expression does next, and that it leads on.
 use Rattle.std.specs.Prelude.{◌≡◌, ℕ, List, [], ◌∷◌, Option, Some, None, Result}
+use Rattle.plan_base.specs.declared.name.Name.{Name}
 use Rattle.plan_base.specs.declared.tree.Expr.{Expr, out-Expr}
 use Rattle.plan_base.specs.declared.tree.Program.{Program}
 use Rattle.plan_base.specs.declared.tree.Value.{Value}
@@ -7,13 +8,13 @@ use Rattle.plan_base.specs.declared.tree.Value as value
 use Rattle.plan_meaning.specs.declared.stop.Stop.{Stop}
 use Rattle.plan_meaning.specs.declared.stop.Stop.TheVariants.{Raised}
 use Rattle.plan_meaning.specs.State.{VisitState}
-use Rattle.plan_meaning.specs.Run.{Run, Step, stopped, quiet, wrong, weighed}
-use Rattle.plan_meaning.specs.Meaning.{entered, visited, meaning}
+use Rattle.plan_meaning.specs.Run.{Run, Step, stopped, quiet, wrong, weighed, ◌>>=◌}
+use Rattle.plan_meaning.specs.Meaning.{entered, visited, meaning, opened_at, called}
 use Rattle.plan_eval.specs.declared.frame.Frame.{Frame}
 use Rattle.plan_eval.specs.declared.frame.Frame.TheVariants as frame
 use Rattle.plan_eval.specs.declared.next.Next.{Next}
 use Rattle.plan_eval.specs.declared.next.Next.TheVariants as next
-use Rattle.plan_eval.specs.Stack.{Spot, deeper, resume}
+use Rattle.plan_eval.specs.Stack.{Spot, deeper, resume, behind, along}
 use Rattle.plan_eval.specs.Leads.{Carries}
 
 module _ (code : Program) (seen : ℕ) where
@@ -33,3 +34,19 @@ module _ (code : Program) (seen : ℕ) where
   -- what was decided carries the evaluation on
   abbrev pub Decides : Spot → Step Value → Result Next Stop → VisitState → Type 0
   Decides at want result s = Carries want (λ n. next_step at n s) result s
+
+  -- an expression at a spot, once it spent 1
+  abbrev pub begins : Spot → VisitState → Step Value
+  begins at s = (opened_at meaning code seen at.env (out-Expr at.expr) >>= weighed) s
+
+  -- an expression of which a part, behind those that gave `held`, gave v
+  abbrev pub part_gave : Spot → ℕ → List Value → Value → VisitState → Step Value
+  part_gave at n held v s = (behind code seen (out-Expr at.expr) at.env n held v >>= weighed) s
+
+  -- a call of a name with its arguments
+  abbrev pub call_of : Name → List Value → VisitState → Step Value
+  call_of f args s = (called meaning code seen f args >>= weighed) s
+
+  -- a fold with its value so far and the items that are left
+  abbrev pub fold_on : Spot → Value → List Value → VisitState → Step Value
+  fold_on at acc left s = (along code seen (out-Expr at.expr) acc left >>= weighed) s

@@ -1,5 +1,5 @@
 -- What the stack of a visit stands for: how the evaluation goes on when its innermost expression has ended.
-use Rattle.std.specs.Prelude.{All, IsSome, ◌≡◌, ℕ, zero, suc, ◌+◌, ◌==◌, Bool, true, false, not, if◌then◌else◌, List, [], ◌∷◌, ◌++◌, length, map, take, drop, reverse, slice_get, Option, Some, None}
+use Rattle.std.specs.Prelude.{IsSome, ◌≡◌, ℕ, zero, suc, ◌+◌, ◌==◌, Bool, true, false, not, if◌then◌else◌, List, [], ◌∷◌, ◌++◌, length, map, take, drop, reverse, slice_get, Option, Some, None}
 use Rattle.std.specs.Option.{option_and_then}
 use Rattle.std.specs.Str.{bytes_eq}
 use Rattle.plan_base.specs.declared.name.Name.{Name}
@@ -206,11 +206,12 @@ ended codes a r = ended_in (slice_get codes a.code) (start_of codes a) a r
 -- all activations, the innermost first
 abbrev pub all_ended : List Program → List Activation → Step Value → Step Value
 all_ended codes [] r = r
-all_ended codes (a ∷ as') r = ended codes a (all_ended codes as' r)
+all_ended codes (a ∷ more) r = ended codes a (all_ended codes more r)
 
 -- each activation stands somewhere
 abbrev pub AreLinked : List Program → List Activation → Type 0
-AreLinked codes activations = All (λ a. IsSome (spot_in codes a)) activations
+AreLinked codes [] = Unit {0}
+AreLinked codes (a ∷ more) = IsSome (spot_in codes a) × AreLinked codes more
 
 -- ---- what a stack stands for
 

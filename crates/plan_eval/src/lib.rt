@@ -4,4 +4,5 @@
 mod frame;
 mod next;
 mod parts;
+mod pure;
 mod walk;
