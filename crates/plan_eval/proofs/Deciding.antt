@@ -1,9 +1,11 @@
 -- What each form does when a part has given a value.
-use Rattle.std.proofs.Common.{◌≡◌, ℕ, zero, suc, ◌+◌, add-one, drop, slice_get, not, reverse, take, Bool, true, false, cond, if◌then◌else◌, List, [], ◌∷◌, ◌++◌, Option, Some, None, refl, sym, ◌∙◌, ap}
+use Rattle.std.proofs.Common.{◌≡◌, ℕ, zero, suc, ◌+◌, add-one, drop, slice_get, not, reverse, take, ℤ, Bool, true, false, cond, if◌then◌else◌, List, [], ◌∷◌, ◌++◌, Option, Some, None, refl, sym, ◌∙◌, ap}
 use Rattle.std.proofs.Math.Seq.{drop-nil}
 use Rattle.std.proofs.lemmas.List.{reverse-reverse, reverse-append}
 
 use Rattle.plan_base.specs.declared.name.Name.{Name}
+use Rattle.plan_base.specs.declared.ids.Host.{Host}
+use Rattle.plan_base.specs.declared.ids.Dev.{Dev}
 use Rattle.plan_base.specs.declared.tree.Exn.{Exn}
 use Rattle.plan_base.specs.declared.tree.Ty.{Ty}
 use Rattle.plan_base.specs.declared.tree.Op.{Op}
@@ -247,3 +249,79 @@ module _ (code : Program) (seen : ℕ) (e : Expr) (env : Env) (s : VisitState) w
       → Leads ((applied meaning code seen f args >>= weighed) s) (next_step code seen (record { expr = e; env = env }) (next.Enter fun args frame.Body) s)
   unfolding applied
   enters f args fun is = rw is (itself _)
+
+  -- the further parts of a send
+  pub bound_of_remote : (a h b : Expr) (r : Name) (n : ℕ) (c v : Value) (k : Chunk) (host : Host) → out-Expr e ≡ Expr-F.OnRemote a h b r → as_chunk c ≡ Some k → as_host v ≡ Some host
+      → Leads ((behind code seen (out-Expr e) env n (c ∷ []) v >>= weighed) s) (next_step code seen (record { expr = e; env = env }) (next.Open (frame.Part 2 (c ∷ v ∷ []))) s)
+  unfolding deeper
+  bound_of_remote a h b r n c v k host form is there = rw (form, is, there)
+      (onward _ _ _ (known_then k s (λ d. or_wrong (Some host) >>= (λ g. meaning code seen env b >>= rest d g)) weighed)
+        (onward _ _ _ (known_then host s (λ g. meaning code seen env b >>= rest k g) weighed)
+          (onward _ _ _ (regrouped (meaning code seen env b s) (rest k host) weighed)
+            (later (meaning code seen env b s) _ _ (λ u t. onward _ _ _ (known_back host t (λ g. rest k g u) weighed) (known_back k t (λ d. or_wrong (Some host) >>= (λ g. rest d g u)) weighed))))))
+    where
+      rest : Chunk → Host → Value → Run Value
+      rest d g u = or_wrong (as_int u) >>= (λ i. send_remote d g i r >> pure value.Unit)
+
+  -- a send by a routing name, once its parts are there
+  pub sends_remote : (a h b : Expr) (r : Name) (n : ℕ) (c w v : Value) (held : List Value) (k : Chunk) (host : Host) (i : ℤ) (t : VisitState)
+      → out-Expr e ≡ Expr-F.OnRemote a h b r → as_chunk c ≡ Some k → as_host w ≡ Some host → as_int v ≡ Some i → (send_remote k host i r s).after ≡ gave tt t
+      → Leads ((behind code seen (out-Expr e) env n (c ∷ w ∷ held) v >>= weighed) s) (weighed value.Unit t)
+  sends_remote a h b r n c w v held k host i t form is there much sent = rw (form, is, there, much)
+      (onward _ _ _ (known_then k s (λ d. or_wrong (Some host) >>= (λ g. or_wrong (Some i) >>= (λ j. send_remote d g j r >> pure value.Unit))) weighed)
+        (onward _ _ _ (known_then host s (λ g. or_wrong (Some i) >>= (λ j. send_remote k g j r >> pure value.Unit)) weighed)
+          (onward _ _ _ (known_then i s (λ j. send_remote k host j r >> pure value.Unit) weighed)
+            (onward _ _ _ (regrouped (send_remote k host i r s) (λ _. pure value.Unit) weighed)
+              (onward _ _ _ (gave_on (send_remote k host i r s) tt t (λ _. pure value.Unit >>= weighed) sent) (given_on value.Unit t weighed))))))
+
+  -- the parts of a send to a neighbour
+  module _ (a h b d : Expr) (n : ℕ) (form : out-Expr e ≡ Expr-F.OnNeighbor a h b d) where
+    last_of : Chunk → Host → ℤ → Value → Run Value
+    last_of k g i t = or_wrong (as_dev t) >>= (λ dev. send_neighbour k g i dev >> pure value.Unit)
+
+    dev_of : Chunk → Host → Value → Run Value
+    dev_of k g u = or_wrong (as_int u) >>= (λ i. meaning code seen env d >>= last_of k g i)
+
+    bound_of : Chunk → Value → Run Value
+    bound_of k w = or_wrong (as_host w) >>= (λ g. meaning code seen env b >>= dev_of k g)
+
+    pub host_of_neighbour : (v : Value) (k : Chunk) → as_chunk v ≡ Some k
+        → Leads ((behind code seen (out-Expr e) env n [] v >>= weighed) s) (next_step code seen (record { expr = e; env = env }) (next.Open (frame.Part 1 (v ∷ []))) s)
+    unfolding deeper dev_of last_of bound_of
+    host_of_neighbour v k is = rw (form, is)
+        (onward _ _ _ (known_then k s (λ c. meaning code seen env h >>= bound_of c) weighed)
+          (onward _ _ _ (regrouped (meaning code seen env h s) (bound_of k) weighed)
+            (later (meaning code seen env h s) _ _ (λ w t. known_back k t (λ c. bound_of c w) weighed))))
+
+    pub bound_of_neighbour : (c v : Value) (k : Chunk) (host : Host) → as_chunk c ≡ Some k → as_host v ≡ Some host
+        → Leads ((behind code seen (out-Expr e) env n (c ∷ []) v >>= weighed) s) (next_step code seen (record { expr = e; env = env }) (next.Open (frame.Part 2 (c ∷ v ∷ []))) s)
+    unfolding deeper dev_of last_of
+    bound_of_neighbour c v k host is there = rw (form, is, there)
+        (onward _ _ _ (known_then k s (λ x. or_wrong (Some host) >>= (λ g. meaning code seen env b >>= dev_of x g)) weighed)
+          (onward _ _ _ (known_then host s (λ g. meaning code seen env b >>= dev_of k g) weighed)
+            (onward _ _ _ (regrouped (meaning code seen env b s) (dev_of k host) weighed)
+              (later (meaning code seen env b s) _ _ (λ u t. onward _ _ _ (known_back host t (λ g. dev_of k g u) weighed) (known_back k t (λ x. or_wrong (Some host) >>= (λ g. dev_of x g u)) weighed))))))
+
+    pub dev_of_neighbour : (c w v : Value) (k : Chunk) (host : Host) (i : ℤ) → as_chunk c ≡ Some k → as_host w ≡ Some host → as_int v ≡ Some i
+        → Leads ((behind code seen (out-Expr e) env n (c ∷ w ∷ []) v >>= weighed) s) (next_step code seen (record { expr = e; env = env }) (next.Open (frame.Part 3 (c ∷ w ∷ v ∷ []))) s)
+    unfolding deeper last_of
+    dev_of_neighbour c w v k host i is there much = rw (form, is, there, much)
+        (onward _ _ _ (known_then k s (λ x. or_wrong (Some host) >>= (λ g. or_wrong (Some i) >>= (λ j. meaning code seen env d >>= last_of x g j))) weighed)
+          (onward _ _ _ (known_then host s (λ g. or_wrong (Some i) >>= (λ j. meaning code seen env d >>= last_of k g j)) weighed)
+            (onward _ _ _ (known_then i s (λ j. meaning code seen env d >>= last_of k host j) weighed)
+              (onward _ _ _ (regrouped (meaning code seen env d s) (last_of k host i) weighed)
+                (later (meaning code seen env d s) _ _ (λ y t.
+                    onward _ _ _ (known_back i t (λ j. last_of k host j y) weighed)
+                      (onward _ _ _ (known_back host t (λ g. or_wrong (Some i) >>= (λ j. last_of k g j y)) weighed)
+                        (known_back k t (λ x. or_wrong (Some host) >>= (λ g. or_wrong (Some i) >>= (λ j. last_of x g j y))) weighed))))))))
+
+    pub sends_neighbour : (c w u v : Value) (held : List Value) (k : Chunk) (host : Host) (i : ℤ) (dev : Dev) (t : VisitState)
+        → as_chunk c ≡ Some k → as_host w ≡ Some host → as_int u ≡ Some i → as_dev v ≡ Some dev → (send_neighbour k host i dev s).after ≡ gave tt t
+        → Leads ((behind code seen (out-Expr e) env n (c ∷ w ∷ u ∷ held) v >>= weighed) s) (weighed value.Unit t)
+    sends_neighbour c w u v held k host i dev t is there much way sent = rw (form, is, there, much, way)
+        (onward _ _ _ (known_then k s (λ x. or_wrong (Some host) >>= (λ g. or_wrong (Some i) >>= (λ j. or_wrong (Some dev) >>= (λ y. send_neighbour x g j y >> pure value.Unit)))) weighed)
+          (onward _ _ _ (known_then host s (λ g. or_wrong (Some i) >>= (λ j. or_wrong (Some dev) >>= (λ y. send_neighbour k g j y >> pure value.Unit))) weighed)
+            (onward _ _ _ (known_then i s (λ j. or_wrong (Some dev) >>= (λ y. send_neighbour k host j y >> pure value.Unit)) weighed)
+              (onward _ _ _ (known_then dev s (λ y. send_neighbour k host i y >> pure value.Unit) weighed)
+                (onward _ _ _ (regrouped (send_neighbour k host i dev s) (λ _. pure value.Unit) weighed)
+                  (onward _ _ _ (gave_on (send_neighbour k host i dev s) tt t (λ _. pure value.Unit >>= weighed) sent) (given_on value.Unit t weighed)))))))

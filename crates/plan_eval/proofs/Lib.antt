@@ -3,3 +3,4 @@ pub mod Walking
 pub mod Deciding
 pub mod Stacks
 pub mod Applying
+pub mod Delivering

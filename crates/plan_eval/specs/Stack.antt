@@ -16,7 +16,7 @@ use Rattle.value_rules.specs.Rules.{binary, part}
 use Rattle.plan_meaning.specs.declared.stop.Stop.TheVariants.{Raised}
 use Rattle.plan_meaning.specs.State.{VisitState}
 use Rattle.plan_meaning.specs.Run.{Run, Step, After, gave, stopped, ◌>>=◌, ◌>>◌, and_then, rescued, quiet, pure, wrong, or_wrong, given, weighed}
-use Rattle.plan_meaning.specs.Meaning.{Env, binds, bound, as_bool, as_int, as_host, as_dev, as_chunk, as_items, values_behind, called, applied, left_along, right_along, pay_eval, visited, send_remote, send_neighbour, handled, meaning}
+use Rattle.plan_meaning.specs.Meaning.{Env, catches, binds, bound, as_bool, as_int, as_host, as_dev, as_chunk, as_items, values_behind, called, applied, left_along, right_along, pay_eval, visited, send_remote, send_neighbour, handled, meaning}
 use Rattle.plan_eval.specs.declared.frame.Frame.{Frame}
 use Rattle.plan_eval.specs.declared.frame.Frame.TheVariants as frame
 use Rattle.plan_eval.specs.declared.frame.Activation.{Activation}
@@ -110,6 +110,18 @@ abbrev pub value_from : Name → Option Value → Option Expr → List Frame →
 value_from y before e [] = before
 value_from y before None (f ∷ fs) = before
 value_from y before (Some e) (f ∷ fs) = value_from y (value_at y e f before) (part_or_self e (part_number f)) fs
+
+-- ---- clauses
+
+-- the body of the first clause that takes an exception
+abbrev pub first_body : List Clause → Exn → Option Expr
+first_body [] x = None
+first_body (k ∷ ks) x = if catches k.name x then Some k.body else first_body ks x
+
+-- the number of that body among the parts of the `try`, where those before were `from`
+abbrev pub first_from : ℕ → List Clause → Exn → Option ℕ
+first_from n [] x = None
+first_from n (k ∷ ks) x = if catches k.name x then Some n else first_from (n + 1) ks x
 
 -- ---- how an open expression goes on
 
