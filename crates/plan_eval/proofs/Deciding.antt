@@ -17,7 +17,7 @@ use Rattle.plan_base.specs.declared.tree.Chunk.{Chunk}
 use Rattle.plan_base.specs.Trees.{ExprLayer}
 use Rattle.plan_base.specs.TypingNames.{place_of}
 use Rattle.value_rules.specs.Rules.{Given, gives, raises, unfit, binary, part}
-use Rattle.plan_meaning.specs.declared.stop.Stop.TheVariants.{Raised}
+use Rattle.plan_meaning.specs.declared.stop.Stop.TheVariants.{Raised, Wrong}
 use Rattle.plan_meaning.specs.State.{VisitState}
 use Rattle.plan_meaning.specs.Run.{Run, Step, gave, stopped, quiet, ◌>>=◌, ◌>>◌, and_then, pure, or_wrong, given, weighed}
 use Rattle.plan_meaning.specs.Meaning.{Env, meaning, as_bool, as_int, as_host, as_dev, as_chunk, as_items, values_behind, called, left_along, right_along, pay_eval, visited, send_remote, send_neighbour, opened_at, applied, entered, tuple, call, packed, choice, binding, sequence, conjunction, disjunction, negation, operation, selection, attempt, fold_left, fold_right, evaluation, remote, neighbour, values}
@@ -325,3 +325,20 @@ module _ (code : Program) (seen : ℕ) (e : Expr) (env : Env) (s : VisitState) w
               (onward _ _ _ (known_then dev s (λ y. send_neighbour k host i y >> pure value.Unit) weighed)
                 (onward _ _ _ (regrouped (send_neighbour k host i dev s) (λ _. pure value.Unit) weighed)
                   (onward _ _ _ (gave_on (send_neighbour k host i dev s) tt t (λ _. pure value.Unit >>= weighed) sent) (given_on value.Unit t weighed)))))))
+
+  -- where a test is none
+  pub chosen_none : (t a b : Expr) (n : ℕ) (held : List Value) (v : Value) → out-Expr e ≡ Expr-F.If t a b → as_bool v ≡ None
+      → ((behind code seen (out-Expr e) env n held v >>= weighed) s).after ≡ stopped Wrong s
+  chosen_none t a b n held v form is = rw (form, is) refl
+
+  pub both_none : (a b : Expr) (n : ℕ) (held : List Value) (v : Value) → out-Expr e ≡ Expr-F.And a b → as_bool v ≡ None
+      → ((behind code seen (out-Expr e) env n held v >>= weighed) s).after ≡ stopped Wrong s
+  both_none a b n held v form is = rw (form, is) refl
+
+  pub either_none : (a b : Expr) (n : ℕ) (held : List Value) (v : Value) → out-Expr e ≡ Expr-F.Or a b → as_bool v ≡ None
+      → ((behind code seen (out-Expr e) env n held v >>= weighed) s).after ≡ stopped Wrong s
+  either_none a b n held v form is = rw (form, is) refl
+
+  pub turned_none : (a : Expr) (n : ℕ) (held : List Value) (v : Value) → out-Expr e ≡ Expr-F.Not a → as_bool v ≡ None
+      → ((behind code seen (out-Expr e) env n held v >>= weighed) s).after ≡ stopped Wrong s
+  turned_none a n held v form is = rw (form, is) refl

@@ -1,94 +1,90 @@
-//! What the forms do that touch neither the state nor the services.
-ghost use Rattle.std.specs.Prelude.{◌≡◌, ℕ, Bool, not, List, [], ◌∷◌, ◌++◌, Option, Some, None, if◌then◌else◌, MatchResult};
-ghost use Rattle.plan_base.specs.declared.tree.Expr.{out-Expr};
+//! What the forms do that touch neither the state nor the services, when a part has given a value.
+ghost use Rattle.std.specs.Prelude.{◌≡◌, ℕ, ◌+◌, Bool, not, List, [], ◌∷◌, ◌++◌, length, drop, Option, Some, None, if◌then◌else◌};
+ghost use Rattle.plan_base.specs.declared.tree.Expr.{Expr-F, out-Expr};
 ghost use Rattle.plan_meaning.specs.State.{VisitState};
-ghost use Rattle.plan_meaning.specs.Meaning.{Env, as_bool};
-ghost use Rattle.plan_eval.specs.Stack as spec;
+ghost use Rattle.plan_meaning.specs.Meaning.{Env};
 ghost use Rattle.plan_eval.specs.Nexts.{Decides, part_gave};
 
 use crate::frame::Frame;
 use crate::next::Next;
-use plan_base::{Expr, Program, Value, Values};
+use plain_eval::{as_bool, as_chunk, as_host, as_int, as_items, binary, part};
+use plan_base::{Chunk, Clause, Expr, Exprs, Name, Op, Program, Ty, Value, Values};
+use plan_items::Items;
 use plan_meaning::Stop;
-
-/// The truth value, or `Wrong` where it is none.
-#[tactic(auto, unfolding(plan_meaning::specs::Meaning::as_bool), using(plan_base::specs::Trees::trees))]
-fn test_of(v: &Value) -> Result<bool, Stop>
-    ensures { MatchResult result (λ t. as_bool v.now ≡ Some t) (λ e. (e ≡ Stop.Wrong) × (as_bool v.now ≡ None)) }
-{
-    match v {
-        Value::Bool(test) => Ok(*test),
-        _ => Err(Stop::Wrong),
-    }
-}
+use std::alloc::Global;
 
 /// A branch of an `if` for the value of its test.
-#[tactic(auto, using(crate::proofs::Deciding::chosen_true, crate::proofs::Deciding::chosen_false, plan_base::specs::Trees::trees))]
-fn choose(code: &Program, seen: usize, e: &Expr, n: u32, held: &Values, v: &Value) -> Result<Next, Stop>
+#[tactic(auto, using(crate::proofs::Deciding::chosen_true, crate::proofs::Deciding::chosen_false, crate::proofs::Deciding::chosen_none, plan_base::specs::Trees::trees))]
+pub fn choose(code: &Program, seen: usize, e: &Expr, test: &Expr, a: &Expr, b: &Expr, n: u32, held: &Values, v: &Value) -> Result<Next, Stop>
+    requires form { out-Expr e.now ≡ Expr-F.If test.now a.now b.now }
     ensures { (env : Env) (s : VisitState) → Decides code.now seen (record { expr = e.now; env = env })
         (part_gave code.now seen (record { expr = e.now; env = env }) n held.now v.now s) result s }
 {
-    let Expr::If(_, _, _) = e else {
-        return Err(Stop::NoMemory);
-    };
-    if test_of(v)? {
-        return Ok(Next::Open(Frame::Last(1)));
+    match as_bool(v) {
+        Some(true) => Ok(Next::Open(Frame::Last(1))),
+        Some(false) => Ok(Next::Open(Frame::Last(2))),
+        None => Err(Stop::Wrong),
     }
-    Ok(Next::Open(Frame::Last(2)))
 }
 
 /// The second side of an `and`, or its early end.
-#[tactic(auto, using(crate::proofs::Deciding::both_true, crate::proofs::Deciding::both_false, plan_base::specs::Trees::trees))]
-fn both(code: &Program, seen: usize, e: &Expr, n: u32, held: &Values, v: &Value) -> Result<Next, Stop>
+#[tactic(auto, using(crate::proofs::Deciding::both_true, crate::proofs::Deciding::both_false, crate::proofs::Deciding::both_none, plan_base::specs::Trees::trees))]
+pub fn both(code: &Program, seen: usize, e: &Expr, a: &Expr, b: &Expr, n: u32, held: &Values, v: &Value) -> Result<Next, Stop>
+    requires form { out-Expr e.now ≡ Expr-F.And a.now b.now }
     ensures { (env : Env) (s : VisitState) → Decides code.now seen (record { expr = e.now; env = env })
         (part_gave code.now seen (record { expr = e.now; env = env }) n held.now v.now s) result s }
 {
-    let Expr::And(_, _) = e else {
-        return Err(Stop::NoMemory);
-    };
-    if test_of(v)? {
-        return Ok(Next::Open(Frame::Last(1)));
+    match as_bool(v) {
+        Some(true) => Ok(Next::Open(Frame::Last(1))),
+        Some(false) => Ok(Next::Give(Value::Bool(false))),
+        None => Err(Stop::Wrong),
     }
-    Ok(Next::Give(Value::Bool(false)))
 }
 
 /// The second side of an `or`, or its early end.
-#[tactic(auto, using(crate::proofs::Deciding::either_true, crate::proofs::Deciding::either_false, plan_base::specs::Trees::trees))]
-fn either(code: &Program, seen: usize, e: &Expr, n: u32, held: &Values, v: &Value) -> Result<Next, Stop>
+#[tactic(auto, using(crate::proofs::Deciding::either_true, crate::proofs::Deciding::either_false, crate::proofs::Deciding::either_none, plan_base::specs::Trees::trees))]
+pub fn either(code: &Program, seen: usize, e: &Expr, a: &Expr, b: &Expr, n: u32, held: &Values, v: &Value) -> Result<Next, Stop>
+    requires form { out-Expr e.now ≡ Expr-F.Or a.now b.now }
     ensures { (env : Env) (s : VisitState) → Decides code.now seen (record { expr = e.now; env = env })
         (part_gave code.now seen (record { expr = e.now; env = env }) n held.now v.now s) result s }
 {
-    let Expr::Or(_, _) = e else {
-        return Err(Stop::NoMemory);
-    };
-    if test_of(v)? {
-        return Ok(Next::Give(Value::Bool(true)));
+    match as_bool(v) {
+        Some(true) => Ok(Next::Give(Value::Bool(true))),
+        Some(false) => Ok(Next::Open(Frame::Last(1))),
+        None => Err(Stop::Wrong),
     }
-    Ok(Next::Open(Frame::Last(1)))
 }
 
 /// The other truth value.
-#[tactic(auto, using(crate::proofs::Deciding::turned, plan_base::specs::Trees::trees))]
-fn turn(code: &Program, seen: usize, e: &Expr, n: u32, held: &Values, v: &Value) -> Result<Next, Stop>
+#[tactic(auto, using(crate::proofs::Deciding::turned, crate::proofs::Deciding::turned_none, plan_base::specs::Trees::trees))]
+pub fn turn(code: &Program, seen: usize, e: &Expr, a: &Expr, n: u32, held: &Values, v: &Value) -> Result<Next, Stop>
+    requires form { out-Expr e.now ≡ Expr-F.Not a.now }
     ensures { (env : Env) (s : VisitState) → Decides code.now seen (record { expr = e.now; env = env })
         (part_gave code.now seen (record { expr = e.now; env = env }) n held.now v.now s) result s }
 {
-    let Expr::Not(_) = e else {
-        return Err(Stop::NoMemory);
-    };
-    let test = test_of(v)?;
-    Ok(Next::Give(Value::Bool(!test)))
+    match as_bool(v) {
+        Some(test) => Ok(Next::Give(Value::Bool(!test))),
+        None => Err(Stop::Wrong),
+    }
 }
 
 /// What stands behind `;`.
 #[tactic(auto, using(crate::proofs::Deciding::followed, plan_base::specs::Trees::trees))]
-fn follow(code: &Program, seen: usize, e: &Expr, n: u32, held: &Values, v: &Value) -> Result<Next, Stop>
+pub fn follow(code: &Program, seen: usize, e: &Expr, a: &Expr, b: &Expr, n: u32, held: &Values, v: &Value) -> Result<Next, Stop>
+    requires form { out-Expr e.now ≡ Expr-F.Then a.now b.now }
     ensures { (env : Env) (s : VisitState) → Decides code.now seen (record { expr = e.now; env = env })
         (part_gave code.now seen (record { expr = e.now; env = env }) n held.now v.now s) result s }
 {
-    let Expr::Then(_, _) = e else {
-        return Err(Stop::NoMemory);
-    };
     Ok(Next::Open(Frame::Last(1)))
+}
+
+/// The body of a `let`, under the value.
+#[tactic(auto, using(crate::proofs::Deciding::bound, plan_base::specs::Trees::trees))]
+pub fn bind(code: &Program, seen: usize, e: &Expr, x: &Name, t: &Ty, a: &Expr, b: &Expr, n: u32, held: &Values, v: Value) -> Result<Next, Stop>
+    requires form { out-Expr e.now ≡ Expr-F.Let x.now t.now a.now b.now }
+    ensures { (env : Env) (s : VisitState) → Decides code.now seen (record { expr = e.now; env = env })
+        (part_gave code.now seen (record { expr = e.now; env = env }) n held.now v s) result s }
+{
+    Ok(Next::Open(Frame::Bound(v)))
 }
 
