@@ -6,8 +6,6 @@ mod node;
 mod runs;
 mod sends;
 mod small_visit;
-#[cfg(test)]
-mod tests;
 mod text;
 mod world;
 
