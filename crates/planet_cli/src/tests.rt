@@ -113,24 +113,37 @@ fn files_outside_the_format_are_refused(rt: HostRuntime) -> Result<(), Fail> {
     Ok(())
 }
 
+// The code of these words on the first run, which wrote no output, and the notes.
+fn refused_words(alloc: Global, words: &[&str]) -> Result<(u8, usize, MemSink), Fail> {
+    let mut files = files_of(alloc, rows::FIRST_RUN, &[])?;
+    let mut out = sink(alloc)?;
+    let mut notes = sink(alloc)?;
+    let status = call(alloc, words, &mut files, &mut out, &mut notes)?;
+    Ok((status.code, out.taken().len(), notes))
+}
+
 #[test]
 fn words_that_name_no_command_are_usage(rt: HostRuntime) -> Result<(), Fail> {
-    let alloc = rt.alloc();
-    for words in [
-        [].as_slice(),
-        ["replay"].as_slice(),
-        ["check", "schedule.txt"].as_slice(),
-        ["replay", ""].as_slice(),
-        ["replay", "schedule.txt", "more"].as_slice(),
-    ] {
-        let mut files = files_of(alloc, rows::FIRST_RUN, &[])?;
-        let mut out = sink(alloc)?;
-        let mut notes = sink(alloc)?;
-        let status = call(alloc, words, &mut files, &mut out, &mut notes)?;
-        assert_eq!(rt; status.code, 1);
-        assert_eq!(rt; notes.taken().as_slice(), USAGE);
-        assert_eq!(rt; out.taken().len(), 0);
-    }
+    let (code, written, notes) = refused_words(rt.alloc(), &[])?;
+    assert_eq!(rt; (code, written), (1, 0));
+    assert_eq!(rt; notes.taken().as_slice(), USAGE);
+    let (code, written, notes) = refused_words(rt.alloc(), &["replay"])?;
+    assert_eq!(rt; (code, written), (1, 0));
+    assert_eq!(rt; notes.taken().as_slice(), USAGE);
+    let (code, written, notes) = refused_words(rt.alloc(), &["check", "schedule.txt"])?;
+    assert_eq!(rt; (code, written), (1, 0));
+    assert_eq!(rt; notes.taken().as_slice(), USAGE);
+    Ok(())
+}
+
+#[test]
+fn file_words_that_name_no_file_are_usage(rt: HostRuntime) -> Result<(), Fail> {
+    let (code, written, notes) = refused_words(rt.alloc(), &["replay", ""])?;
+    assert_eq!(rt; (code, written), (1, 0));
+    assert_eq!(rt; notes.taken().as_slice(), USAGE);
+    let (code, written, notes) = refused_words(rt.alloc(), &["replay", "schedule.txt", "more"])?;
+    assert_eq!(rt; (code, written), (1, 0));
+    assert_eq!(rt; notes.taken().as_slice(), USAGE);
     Ok(())
 }
 
