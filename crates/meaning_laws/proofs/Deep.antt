@@ -1,6 +1,5 @@
 -- A visit at a depth above its work is the visit, and asks services well.
-use Rattle.std.proofs.Common.{◌≡◌, ℕ, ◌<◌, Some, refl, sym, ap, ◌∙◌, subst}
-use Rattle.plan_base.specs.declared.tree.Fun.{Fun}
+use Rattle.std.proofs.Common.{◌≡◌, ℕ, ◌<◌, sym, subst}
 use Rattle.plan_base.specs.declared.tree.Chunk.{Chunk}
 use Rattle.plan_base.specs.declared.tree.Value.{Value}
 use Rattle.plan_base.specs.Typing.{IsTypedChunk, within}
@@ -9,7 +8,7 @@ use Rattle.service_api.specs.Services.{IsGoodChunk}
 use Rattle.plan_meaning.specs.State.{VisitState}
 use Rattle.plan_meaning.specs.Run.{Step}
 use Rattle.plan_meaning.specs.Meaning.{run_to, meaning, visited}
-use Rattle.plan_meaning.specs.Safe.{IsSafe, IsGoodState, IsRight}
+use Rattle.plan_meaning.specs.Safe.{IsSafe, IsGoodState}
 use Rattle.meaning_laws.proofs.Walk.{visited_kept}
 use Rattle.meaning_laws.proofs.Within.{Within, within_kept, deep_enough}
 use Rattle.meaning_laws.proofs.Sound.{visit_soundness}

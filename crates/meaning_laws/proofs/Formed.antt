@@ -1,6 +1,6 @@
 -- Well-formed values: their parts, and what is made of well-formed parts.
-use Rattle.std.proofs.Common.{◌≡◌, ℕ, zero, suc, ◌+◌, ◌≤◌, ◌<◌, max, Bool, true, false, ◌&&◌, nat_le, ℤ, List, [], ◌∷◌, length, take, drop, Option, Some, None, slice_get, is_some, refl, sym, ap, ◌∙◌, subst, lit≤, arith}
-use Rattle.std.specs.List.{list_all, sum_by}
+use Rattle.std.proofs.Common.{◌≡◌, ℕ, zero, suc, ◌+◌, ◌≤◌, Bool, true, false, ◌&&◌, nat_le, ℤ, List, [], ◌∷◌, length, Some, slice_get, is_some, refl, sym, ap, ◌∙◌, subst, lit≤, arith}
+use Rattle.std.specs.List.{list_all}
 use Rattle.std.proofs.lemmas.Bool.{false≢true, leb-true, le-leb}
 use lib.Utf8.{scalar}
 use Rattle.plan_base.specs.declared.ids.Host.{Host}
@@ -10,7 +10,7 @@ use Rattle.plan_base.specs.declared.tree.Ty.TheVariants as ty
 use Rattle.plan_base.specs.declared.tree.Value.{Value, Value-F, out-Value}
 use Rattle.plan_base.specs.declared.tree.Value.TheVariants as value
 use Rattle.plan_base.specs.declared.tree.Chunk.{Chunk}
-use Rattle.plan_base.specs.declared.tree.Expr.{Expr, Expr-F, out-Expr}
+use Rattle.plan_base.specs.declared.tree.Expr.{Expr, out-Expr}
 use Rattle.plan_base.specs.declared.tree.Fun.{Fun}
 use Rattle.plan_base.specs.declared.tree.Program.{Program}
 use Rattle.plan_base.specs.Trees.{ExprLayer, ValueLayer}
@@ -18,7 +18,7 @@ use Rattle.plan_base.specs.Sizes.{weight, weight_level, chunk_weight, nesting, c
 use Rattle.plan_base.proofs.SizeLaws.{weight_out, value_depth_out, type_depth_out, chunk_nesting_is}
 use Rattle.plan_base.specs.WellFormed.{has_from_to, formed_type, well_formed_type, well_formed_svc, well_formed_fun, formed_expr, formed_expr_level, well_formed_expr, formed_value, formed_value_level, formed_chunk, well_formed_text, well_formed_value, well_formed_chunk, well_formed_program, IsWellFormedValue, IsWellFormedChunk}
 use Rattle.plan_base.proofs.FormLaws.{formed_value_out, formed_chunk_is, formed_expr_out}
-use Rattle.plan_base.specs.Typing.{HasType, unit, bool, int, char, str, blob, host, dev, list, tuple, chunk, HaveTypes, no_values, and_value, AllHaveType, no_items, and_item}
+use Rattle.plan_base.specs.Typing.{HasType, unit, bool, int, char, str, blob, host, dev, list, tuple, chunk, HaveTypes, and_value, AllHaveType, and_item}
 use Rattle.service_api.specs.Services.{IsSmall}
 use Rattle.meaning_laws.proofs.Totals.{largest_within, largest_bounds, count_within}
 

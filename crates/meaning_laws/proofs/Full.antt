@@ -1,12 +1,12 @@
 -- Where code is typed, no type of `[]` or `raise` is missing in it.
-use Rattle.std.proofs.Common.{◌≡◌, ℕ, Bool, true, ◌&&◌, List, [], ◌∷◌, Option, Some, None, slice_get, refl, ap, ◌∙◌}
+use Rattle.std.proofs.Common.{◌≡◌, ℕ, true, ◌&&◌, List, [], ◌∷◌, Some, refl, ap, ◌∙◌}
 use Rattle.std.specs.List.{list_all}
 use Rattle.plan_base.specs.declared.tree.Ty.{Ty}
 use Rattle.plan_base.specs.declared.tree.Expr.{Expr, Expr-F, out-Expr}
 use Rattle.plan_base.specs.declared.tree.Clause.{Clause}
 use Rattle.plan_base.specs.declared.tree.Param.{Param}
 use Rattle.plan_base.specs.declared.tree.Program.{Program}
-use Rattle.plan_base.specs.declared.tree.Value.{Value, Value-F, out-Value}
+use Rattle.plan_base.specs.declared.tree.Value.{Value, out-Value}
 use Rattle.plan_base.specs.declared.tree.Chunk.{Chunk}
 use Rattle.plan_base.specs.Trees.{ExprLayer, ValueLayer}
 use Rattle.plan_base.specs.WellFormed.{typed_expr_level, typed_value_level, has_types, program_has_types, value_has_types, chunk_has_types}

@@ -1,6 +1,5 @@
 -- What operators, parts and primitives give of well-formed values is well formed.
-use Rattle.std.proofs.Common.{◌≡◌, ℕ, zero, suc, ◌+◌, ◌-◌, ◌*◌, ◌/◌, ◌%◌, ◌≤◌, ◌<◌, max, Bool, true, false, ◌&&◌, if◌then◌else◌, ◌==◌, nat_lt, nat_le, ℤ, pos, negsuc, List, [], ◌∷◌, ◌++◌, length, take, drop, Option, Some, None, slice_get, decimal, IsAscii, IsUtf8, refl, sym, ap, ◌∙◌, subst, lit≤, arith}
-use Rattle.std.specs.List.{list_all}
+use Rattle.std.proofs.Common.{◌≡◌, ℕ, zero, suc, ◌+◌, ◌-◌, ◌/◌, ◌%◌, ◌≤◌, ◌<◌, Bool, true, false, if◌then◌else◌, ◌==◌, nat_lt, nat_le, ℤ, pos, negsuc, List, [], ◌∷◌, ◌++◌, length, Some, slice_get, decimal, IsAscii, refl, sym, ap, ◌∙◌, subst, lit≤, arith}
 use Rattle.std.specs.Str.{is_utf8}
 use Rattle.std.specs.Fmt.{digits, digits_onto, digit_glyph}
 use Rattle.std.proofs.lemmas.Bool.{lt-ltb}
@@ -16,17 +15,17 @@ use Rattle.plan_base.specs.declared.tree.Ty.TheVariants as ty
 use Rattle.plan_base.specs.declared.tree.Value.{Value, Value-F, out-Value}
 use Rattle.plan_base.specs.declared.tree.Value.TheVariants as value
 use Rattle.plan_base.specs.Trees.{ValueLayer}
-use Rattle.plan_base.specs.Sizes.{weight, weight_level, chunk_weight, type_depth, value_depth, largest_by}
+use Rattle.plan_base.specs.Sizes.{weight, weight_level, chunk_weight, value_depth}
 use Rattle.plan_base.proofs.SizeLaws.{weight_out}
-use Rattle.plan_base.specs.WellFormed.{formed_type, formed_value, well_formed_text}
+use Rattle.plan_base.specs.WellFormed.{well_formed_text}
 use Rattle.plan_base.specs.Typing.{HasType}
-use Rattle.plan_base.specs.TypingNames.{of_list, takes, makes, kind_of, joining, listing, is_joined, is_joined_at, part_of}
+use Rattle.plan_base.specs.TypingNames.{of_list, takes, makes, kind_of, joining, listing, is_joined, is_joined_at}
 use Rattle.value_rules.specs.Rules as rules
 use Rattle.value_rules.specs.Rules.{Given, gives, raises, unfit, limited, joined, put_first, binary, found, part, first_item, later_items, of_one, primitive, printed_int, printed_host, too_large}
 use Rattle.service_api.specs.Services.{IsSmall}
 use Rattle.meaning_laws.proofs.Shapes.{Shape, shape_of, shape_at}
 use Rattle.meaning_laws.proofs.Totals.{largest_within, largest_bounds}
-use Rattle.meaning_laws.proofs.Formed.{and_both, and_left, and_right, at_most, IsFormed, AllFormed, shapes, shape_level, depth_level, a_unit, a_bool, an_int, a_host, a_dev, a_str, a_list, small_blob, small_list, items_formed, items_type, parts_formed}
+use Rattle.meaning_laws.proofs.Formed.{and_both, and_left, at_most, IsFormed, AllFormed, shapes, shape_level, depth_level, a_unit, a_bool, an_int, a_host, a_dev, a_str, a_list, small_blob, small_list, items_formed, items_type, parts_formed}
 use Rattle.meaning_laws.proofs.Rules.{Fits}
 
 -- a value that is well formed where it is small, or no value

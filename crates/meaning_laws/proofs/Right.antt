@@ -1,5 +1,5 @@
 -- Evaluations that are right, put together.
-use Rattle.std.proofs.Common.{◌≡◌, ◌≢◌, ℕ, zero, suc, ◌+◌, ◌-◌, ◌<◌, ◌≤◌, Bool, true, false, cond, not, ◌&&◌, ◌||◌, if◌then◌else◌, ◌==◌, nat_lt, nat_le, ℤ, List, [], ◌∷◌, ◌++◌, Option, Some, None, refl, sym, ap, ◌∙◌, subst, arith}
+use Rattle.std.proofs.Common.{◌≡◌, ◌≢◌, ℕ, zero, suc, ◌+◌, ◌-◌, ◌<◌, ◌≤◌, Bool, true, false, ◌||◌, if◌then◌else◌, ◌==◌, nat_lt, ℤ, List, [], ◌∷◌, ◌++◌, Option, Some, None, refl, sym, subst, arith}
 use Rattle.std.specs.List.{All, slice_index_or}
 use Rattle.std.proofs.lemmas.List.Elements.{All-append}
 use Rattle.std.proofs.lemmas.Bool.Decides.{nat_tests}
@@ -20,14 +20,13 @@ use Rattle.service_api.specs.declared.answer.Answer.TheVariants.{Gives, Raises}
 use Rattle.service_api.specs.declared.router.Hop.{Hop}
 use Rattle.service_api.specs.declared.router.Hop.TheVariants.{To, NoService, NoRoute}
 use Rattle.service_api.specs.Routes.{hop, default_route}
-use Rattle.service_api.specs.Services.{Standing, Served, served, called, IsSmall, IsGoodValue, IsGoodChunk, AreGoodValues, IsGoodAnswer, IsGoodServed, IsGoodNote, IsGoodOptionNote, IsGood, AreGoodRows}
+use Rattle.service_api.specs.Services.{Served, served, called, IsSmall, IsGoodValue, IsGoodChunk, AreGoodValues, IsGoodAnswer, IsGoodServed, IsGoodNote, IsGoodOptionNote, AreGoodRows}
 use Rattle.plan_meaning.specs.declared.sent.Sent.{Sent}
-use Rattle.plan_meaning.specs.declared.stop.Stop.{Stop}
 use Rattle.plan_meaning.specs.declared.stop.Stop.TheVariants.{Raised, WorkSpent, Wrong, NoMemory}
 use Rattle.plan_meaning.specs.State.{VisitState}
-use Rattle.plan_meaning.specs.Run.{After, gave, stopped, Step, Asks, nothing, never, service, both, Run, «next», and_then, ◌>>=◌, ◌>>◌, quiet, pure, stop, raise, wrong, or_wrong, given, otherwise, rescued, rescue, spend, is_too_large, weighed, whole, serve, answered, after_service, noted}
+use Rattle.plan_meaning.specs.Run.{After, gave, stopped, Step, Run, «next», ◌>>=◌, ◌>>◌, pure, stop, raise, or_wrong, given, otherwise, rescue, spend, is_too_large, weighed, whole, serve, answered, noted}
 use Rattle.plan_meaning.specs.Meaning.{pay_eval, no_bound, is_paid, bound_of, sent, sent_by, send_remote, is_next, not_neighbour, send_neighbour}
-use Rattle.plan_meaning.specs.Safe.{IsSafe, AreGoodNotes, AreGoodPackets, IsGoodState, Holds, IsRight, Yields}
+use Rattle.plan_meaning.specs.Safe.{AreGoodNotes, IsGoodState, Holds, IsRight, Yields}
 use Rattle.meaning_laws.proofs.Formed.{IsFormed, well_formed}
 use Rattle.meaning_laws.proofs.Rules.{Fits}
 use Rattle.meaning_laws.proofs.Keeps.{Keeps}

@@ -1,5 +1,5 @@
 -- A typed expression gives a value of its type, asks services well, and never is without a case.
-use Rattle.std.proofs.Common.{◌≡◌, ◌≢◌, ℕ, zero, suc, ◌+◌, ◌-◌, ◌<◌, ◌≤◌, Bool, true, false, cond, not, ◌&&◌, if◌then◌else◌, nat_le, is_some, ℤ, List, [], ◌∷◌, ◌++◌, map, length, take, reverse, Option, Some, None, slice_get, refl, sym, ap, ◌∙◌, subst, arith, append_assoc}
+use Rattle.std.proofs.Common.{◌≡◌, ℕ, zero, suc, ◌+◌, ◌≤◌, Bool, true, false, not, ◌&&◌, if◌then◌else◌, nat_le, is_some, ℤ, List, [], ◌∷◌, ◌++◌, length, take, reverse, Option, Some, None, slice_get, refl, sym, ap, ◌∙◌, subst, arith, append_assoc}
 use Rattle.std.specs.List.{list_all, sum_by}
 use Rattle.std.specs.Option.{option_or}
 use Rattle.std.specs.Str.{bytes_eq}
@@ -10,7 +10,7 @@ use Rattle.plan_base.specs.declared.ids.Host.{Host}
 use Rattle.plan_base.specs.declared.ids.Dev.{Dev}
 use Rattle.plan_base.specs.declared.prim.Primitive.{Primitive}
 use Rattle.plan_base.specs.declared.tree.Exn.{Exn}
-use Rattle.plan_base.specs.declared.tree.Ty.{Ty, Ty-F, out-Ty}
+use Rattle.plan_base.specs.declared.tree.Ty.{Ty, Ty-F}
 use Rattle.plan_base.specs.declared.tree.Ty.TheVariants as ty
 use Rattle.plan_base.specs.declared.tree.Op.{Op}
 use Rattle.plan_base.specs.declared.tree.Expr.{Expr, Expr-F, out-Expr}
@@ -23,22 +23,19 @@ use Rattle.plan_base.specs.declared.tree.Value.{Value, Value-F, out-Value}
 use Rattle.plan_base.specs.declared.tree.Value.TheVariants as value
 use Rattle.plan_base.specs.declared.tree.Chunk.{Chunk}
 use Rattle.plan_base.specs.Trees.{ExprLayer}
-use Rattle.plan_base.specs.Sizes.{weight, weight_level, chunk_weight, nesting, nesting_level, chunk_nesting, type_size, largest_by, code_size, name_size}
+use Rattle.plan_base.specs.Sizes.{weight, weight_level, chunk_weight, nesting, nesting_level, chunk_nesting, largest_by}
 use Rattle.plan_base.proofs.SizeLaws.{weight_out, nesting_out, chunk_weight_is, chunk_nesting_is}
 use Rattle.plan_base.specs.Typing.{literal_type, HasTy, literal, variable, empty, raising, tuple, part, of_items, primitive, serving, call, choice, binder, sequence, both, either, negation, calculation, join, comparison, order, prefix, handling, fold_left, fold_right, packing, evaluation, remote, neighbour, HaveTys, no_parts, and_part, ClausesHaveTy, no_clauses, and_clause, Typed, HasType, unit, bool, int, char, str, blob, host, dev, list, chunk, HaveTypes, no_values, and_value, AllHaveType, no_items, and_item, IsTypedChunk, within, IsShallow}
 use Rattle.plan_base.specs.WellFormed.{has_from_to, names_all_but_last, well_formed_type, formed_expr, formed_chunk, well_formed_program, IsWellFormedProgram, IsWellFormedExpr}
 use Rattle.plan_base.specs.Typing as typing
-use Rattle.plan_base.specs.TypingNames.{place_of, service_of, prim_of, binding, param_types, part_of, of_list, takes, makes}
+use Rattle.plan_base.specs.TypingNames.{place_of, service_of, prim_of, binding, param_types, part_of, of_list, makes}
 use Rattle.value_rules.specs.Rules as rules
-use Rattle.service_api.specs.Services.{IsSmall, IsGoodValue, IsGoodChunk, AreGoodValues}
-use Rattle.plan_meaning.specs.declared.binding.Binding.{Binding}
-use Rattle.plan_meaning.specs.declared.stop.Stop.TheVariants.{WorkSpent}
-use Rattle.plan_meaning.specs.State.{VisitState}
-use Rattle.plan_meaning.specs.Run.{Run, ◌>>=◌, ◌>>◌, pure, stop, raise, or_wrong, given, rescue, whole, serve}
+use Rattle.service_api.specs.Services.{IsSmall, IsGoodChunk, AreGoodValues}
+use Rattle.plan_meaning.specs.Run.{Run, pure}
 use Rattle.plan_meaning.specs.Meaning as m
 use Rattle.plan_meaning.specs.Meaning.{Env, Runs, as_bool, bool_at, as_int, int_at, as_host, host_at, as_dev, dev_at, as_chunk, chunk_at, as_items, items_at, value_of, value_if, bound_behind, bound, pay_eval, send_remote, send_neighbour, values_behind, values, entered, applied_at, applied, served_or, called_by, called, left_along, right_along, handled, visited, opened_at, opened, node, run_to, meaning, catches}
-use Rattle.plan_meaning.specs.Safe.{HasEnv, Yields, IsGoodState}
-use Rattle.meaning_laws.proofs.Shapes.{Shape, shape_at}
+use Rattle.plan_meaning.specs.Safe.{HasEnv, Yields}
+use Rattle.meaning_laws.proofs.Shapes.{shape_at}
 use Rattle.meaning_laws.proofs.Totals.{sum_bounds, largest_bounds}
 use Rattle.meaning_laws.proofs.Formed as form
 use Rattle.meaning_laws.proofs.Formed.{and_left, and_right, IsFormed, AllFormed, FormedLevel, formed_of, well_formed, level_formed, items_formed}
