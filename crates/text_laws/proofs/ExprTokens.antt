@@ -48,12 +48,12 @@ made e x o Q = is_text Q (sym (expr_text_out e ∙ ap (expr_text_level expr_text
 
 nil_part : (t : Option Ty) → IsProperOption t → Part begins calm (nil_text t) (nil_kinds t)
 nil_part None h = is_text (square_part refl >> unsquare_part {f = anything} refl) refl refl
-nil_part (Some t) h = empty_part t h
+nil_part (Some t) h = empty_part t h.0
 
 raise_part : (x : Name) (t : Option Ty) → IsName x → IsProperOption t → Part begins calm (raise_text x t) (raise_kinds x t)
 unfolding key_text
 raise_part x None n h = is_text (key_part keys.Raise >> blank_part refl >> name_part x n) refl refl
-raise_part x (Some t) n h = is_text (then_blank (key_part keys.Raise >> begun (empty_part t h) refl) >> name_part x n) refl refl
+raise_part x (Some t) n h = is_text (then_blank (key_part keys.Raise >> begun (empty_part t h.0) refl) >> name_part x n) refl refl
 
 catch_part : (n : Option Name) → IsProperCatch n → Part begins calm (catch_text n) (catch_kinds n)
 catch_part (Some x) h = name_part x h
@@ -99,7 +99,7 @@ mutual
       >> (blank_part refl >> key_part keys.Else >> blank_part refl) >> expr_part r >> close_part refl) refl refl)
   expr_part (P.binder x t a b o n k p q) = made _ (Expr-F.Let x t a b) o (is_text
       (key_part keys.Let >> blank_part refl >> key_part keys.Val >> blank_part refl >> name_part x n >> (blank_part refl >> colon_part {f = anything} refl >> blank_part refl)
-      >> type_part k >> (blank_part refl >> spaced_part {f = anything} symbols.Equal refl refl >> blank_part refl) >> expr_part p >> (blank_part refl >> key_part keys.In >> blank_part refl)
+      >> type_part k.0 >> (blank_part refl >> spaced_part {f = anything} symbols.Equal refl refl >> blank_part refl) >> expr_part p >> (blank_part refl >> key_part keys.In >> blank_part refl)
       >> expr_part q >> end_part) refl refl)
   expr_part (P.sequence a b o p q) = made _ (Expr-F.Then a b) o (is_text (paren_part refl >> expr_part p >> (semicolon_part refl >> blank_part {f = anything} refl) >> expr_part q >> close_part refl) refl refl)
   expr_part (P.both a b o p q) = made _ (Expr-F.And a b) o (is_text

@@ -17,11 +17,11 @@ use Rattle.plan_printer.specs.Pieces.{listed, commas}
 use Rattle.plan_printer.specs.Printed.{type_text, svc_text, exn_text, param_text, fun_text, program_text}
 use Rattle.text_laws.specs.Lexes.{Lexes}
 use Rattle.text_laws.specs.PrintedTokens.{Kinds, mark, word, type_kinds, svc_kinds, exn_kinds, param_kinds, fun_kinds, program_kinds}
-use Rattle.text_laws.specs.Proper.{AllProper, IsProperSvc, IsProperParam, IsProperFun, IsProperProgram}
+use Rattle.text_laws.specs.Proper.{AllProper, IsReadableType, IsProperSvc, IsProperParam, IsProperFun, IsProperProgram}
 use Rattle.text_laws.proofs.Segments.{begins, calm, anything, Part, ◌>>◌, blank_part, lexes_end}
 use Rattle.text_laws.proofs.Glue.{is_text, name_part, key_part, colon_part, spaced_part, paren_part, close_part, comma_part, then_line}
 use Rattle.text_laws.proofs.Lists.{AllParts, all_listed, lines_lex}
-use Rattle.text_laws.proofs.TypeTokens.{type_part, types_parts}
+use Rattle.text_laws.proofs.TypeTokens.{type_part}
 use Rattle.text_laws.proofs.ExprTokens.{comma_glue, expr_part}
 
 -- the texts behind the types of a service and behind the parameters of a function
@@ -32,21 +32,25 @@ result_glue e = is_text (close_part e >> blank_part {f = calm} refl >> spaced_pa
 type_glue : {f : ℕ → Bool} → f 41 ≡ true → Part f begins (codes ") : ") (mark symbols.ParenClose ++ mark symbols.Colon)
 type_glue e = is_text (close_part e >> blank_part {f = calm} refl >> colon_part {f = anything} refl >> blank_part refl) refl refl
 
+types_parts : (ts : List Ty) → AllProper IsReadableType ts → AllParts calm type_text type_kinds ts
+types_parts [] h = tt
+types_parts (t ∷ ts) h = (type_part h.0.0, types_parts ts h.1)
+
 svc_part : (s : Svc) → IsProperSvc s → Part begins anything (svc_text s) (svc_kinds s)
 unfolding key_text
 svc_part s h = then_line (is_text
     (key_part keys.Svc >> blank_part refl >> name_part s.name h.name >> (blank_part refl >> colon_part {f = anything} refl >> blank_part refl >> paren_part {f = anything} refl)
-    >> all_listed type_text type_kinds (codes ", ") (mark symbols.Comma) comma_glue (codes ") -> ") (mark symbols.ParenClose ++ mark symbols.Arrow) (result_glue refl) (result_glue refl) s.params (types_parts h.params))
+    >> all_listed type_text type_kinds (codes ", ") (mark symbols.Comma) comma_glue (codes ") -> ") (mark symbols.ParenClose ++ mark symbols.Arrow) (result_glue refl) (result_glue refl) s.params (types_parts s.params h.params))
     (sym (append_assoc (codes "svc " ++ s.name ++ codes " : (") (commas type_text s.params) (codes ") -> ")))
     (sym (append_assoc (word keys.Svc ++ kind.Word s.name ∷ [] ++ mark symbols.Colon ++ mark symbols.ParenOpen ++ listed (mark symbols.Comma) [] type_kinds s.params) (mark symbols.ParenClose) (mark symbols.Arrow)))
-    >> type_part h.result)
+    >> type_part h.result.0)
 
 exn_part : (x : Name) → IsName x → Part begins anything (exn_text x) (exn_kinds x)
 unfolding key_text
 exn_part x h = is_text (then_line (key_part keys.Exception >> blank_part refl >> name_part x h)) refl refl
 
 param_part : (p : Param) → IsProperParam p → Part begins calm (param_text p) (param_kinds p)
-param_part p h = is_text (name_part p.name h.name >> (blank_part refl >> colon_part {f = anything} refl >> blank_part refl) >> type_part h.ty) refl refl
+param_part p h = is_text (name_part p.name h.name >> (blank_part refl >> colon_part {f = anything} refl >> blank_part refl) >> type_part h.ty.0) refl refl
 
 params_parts : (ps : List Param) → AllProper IsProperParam ps → AllParts calm param_text param_kinds ps
 params_parts [] h = tt
@@ -59,7 +63,7 @@ fun_part f h = then_line (is_text
     >> all_listed param_text param_kinds (codes ", ") (mark symbols.Comma) comma_glue (codes ") : ") (mark symbols.ParenClose ++ mark symbols.Colon) (type_glue refl) (type_glue refl) f.params (params_parts f.params h.params))
     (sym (append_assoc (codes "fun " ++ f.name ++ codes "(") (commas param_text f.params) (codes ") : ")))
     (sym (append_assoc (word keys.Fun ++ kind.Word f.name ∷ [] ++ mark symbols.ParenOpen ++ listed (mark symbols.Comma) [] param_kinds f.params) (mark symbols.ParenClose) (mark symbols.Colon)))
-    >> type_part h.result >> (blank_part refl >> spaced_part {f = anything} symbols.Equal refl refl >> blank_part refl) >> expr_part h.body)
+    >> type_part h.result.0 >> (blank_part refl >> spaced_part {f = anything} symbols.Equal refl refl >> blank_part refl) >> expr_part h.body)
 
 svcs_parts : (ss : List Svc) → AllProper IsProperSvc ss → AllParts anything svc_text svc_kinds ss
 svcs_parts [] h = tt

@@ -16,6 +16,7 @@ use Rattle.plan_base.specs.declared.tree.Param.{Param}
 use Rattle.plan_base.specs.declared.tree.Fun.{Fun}
 use Rattle.plan_base.specs.declared.tree.Program.{Program}
 use Rattle.plan_base.specs.declared.tree.Value.{Value, Value-F, out-Value}
+use Rattle.plan_base.specs.Sizes.{type_depth}
 use Rattle.plan_lexer.specs.declared.token.Key.{Key}
 use Rattle.plan_lexer.specs.declared.token.Key.TheVariants as key
 
@@ -68,9 +69,13 @@ mutual
     no_values : AreProperValues []
     and_value : {v : Value} {vs : List Value} → IsProperValue v → AreProperValues vs → AreProperValues (v ∷ vs)
 
--- a type that is known, and maybe an exception that is named
+-- a type that isn't too deep to be read
+abbrev pub IsReadableType : Ty → Type 0
+IsReadableType t = IsProperType t × (type_depth t ≤ 8)
+
+-- a type where there is one, and a name where there is one
 abbrev pub IsProperOption : Option Ty → Type 0
-IsProperOption (Some t) = IsProperType t
+IsProperOption (Some t) = IsReadableType t
 IsProperOption None = Unit {0}
 
 abbrev pub IsProperCatch : Option Name → Type 0
@@ -92,7 +97,7 @@ mutual
     tuple : {e : Expr} (es : List Expr) → out-Expr e ≡ Expr-F.Tuple es → IsPartCount (length es) → AreProper es → IsProper e
     call : {e : Expr} (f : Name) (es : List Expr) → out-Expr e ≡ Expr-F.Call f es → IsName f → length es ≤ 8 → AreProper es → IsProper e
     choice : {e : Expr} (c a b : Expr) → out-Expr e ≡ Expr-F.If c a b → IsProper c → IsProper a → IsProper b → IsProper e
-    binder : {e : Expr} (x : Name) (t : Ty) (a b : Expr) → out-Expr e ≡ Expr-F.Let x t a b → IsName x → IsProperType t → IsProper a → IsProper b → IsProper e
+    binder : {e : Expr} (x : Name) (t : Ty) (a b : Expr) → out-Expr e ≡ Expr-F.Let x t a b → IsName x → IsReadableType t → IsProper a → IsProper b → IsProper e
     sequence : {e : Expr} (a b : Expr) → out-Expr e ≡ Expr-F.Then a b → IsProper a → IsProper b → IsProper e
     both : {e : Expr} (a b : Expr) → out-Expr e ≡ Expr-F.And a b → IsProper a → IsProper b → IsProper e
     either : {e : Expr} (a b : Expr) → out-Expr e ≡ Expr-F.Or a b → IsProper a → IsProper b → IsProper e
@@ -118,24 +123,25 @@ mutual
     last_clause : {c : Clause} → IsProperCatch c.name → IsProper c.body → AreProperClauses (c ∷ [])
     and_clause : {c : Clause} {cs : List Clause} (x : Name) → c.name ≡ Some x → IsName x → IsProper c.body → AreProperClauses cs → AreProperClauses (c ∷ cs)
 
--- services, exceptions and functions
-pub record IsProperSvc (s : Svc) : Type 0 where
-  pub name : IsName s.name
-  pub params : AreProperTypes s.params
-  pub result : IsProperType s.result
-
-pub record IsProperParam (p : Param) : Type 0 where
-  pub name : IsName p.name
-  pub ty : IsProperType p.ty
-
+-- each item is proper
 abbrev pub AllProper : {X : Type 0} → (X → Type 0) → List X → Type 0
 AllProper P [] = Unit {0}
 AllProper P (x ∷ xs) = P x × AllProper P xs
 
+-- services, exceptions and functions
+pub record IsProperSvc (s : Svc) : Type 0 where
+  pub name : IsName s.name
+  pub params : AllProper IsReadableType s.params
+  pub result : IsReadableType s.result
+
+pub record IsProperParam (p : Param) : Type 0 where
+  pub name : IsName p.name
+  pub ty : IsReadableType p.ty
+
 pub record IsProperFun (f : Fun) : Type 0 where
   pub name : IsName f.name
   pub params : AllProper IsProperParam f.params
-  pub result : IsProperType f.result
+  pub result : IsReadableType f.result
   pub body : IsProper f.body
 
 pub record IsProperProgram (p : Program) : Type 0 where
