@@ -1,14 +1,15 @@
 -- Literals, names, and what has parts behind commas.
-use Rattle.std.proofs.Common.{◌≡◌, ℕ, zero, suc, ◌+◌, ◌-◌, ◌*◌, ◌<◌, ◌≤◌, ◌==◌, max, Bool, true, false, ◌||◌, cond, List, [], ◌∷◌, ◌++◌, length, Option, Some, None, Result, Ok, Err, ℤ, refl, sym, ap, ◌∙◌, subst, arith, append_assoc, nat_lt}
+use Rattle.std.proofs.Common.{◌≡◌, ℕ, zero, suc, ◌+◌, ◌-◌, ◌*◌, ◌<◌, ◌≤◌, ◌==◌, max, Bool, true, false, ◌||◌, cond, List, [], ◌∷◌, ◌++◌, length, Option, Some, None, Result, Ok, Err, ℤ, refl, sym, ap, ◌∙◌, subst, arith, append_assoc, length-append, nat_lt}
 use Rattle.std.specs.Prelude.{map, if◌then◌else◌}
-use Rattle.std.specs.List.{fold}
+use Rattle.std.specs.List.{fold, flat_map, sum_by}
+use Rattle.std.proofs.lemmas.List.Sums.{sum_by-cons}
 use Rattle.plan_base.specs.declared.limit.Limit.{Limit}
 use Rattle.plan_base.specs.declared.limit.Limit.TheVariants as limits
 use Rattle.plan_base.specs.declared.name.Name.{Name}
 use Rattle.plan_base.specs.declared.tree.Ty.{Ty}
 use Rattle.plan_base.specs.declared.tree.Expr.{Expr, Expr-F, out-Expr}
 use Rattle.plan_base.specs.declared.tree.Expr.TheVariants as x
-use Rattle.plan_base.specs.Sizes.{largest_by, type_depth, expr_depth_level, expr_depth}
+use Rattle.plan_base.specs.Sizes.{largest_by, type_depth, expr_depth_level, expr_depth, expr_nodes}
 use Rattle.plan_lexer.specs.declared.token.Key.{Key}
 use Rattle.plan_lexer.specs.declared.token.Key.TheVariants as keys
 use Rattle.plan_lexer.specs.declared.token.Symbol.TheVariants as symbols
@@ -24,7 +25,7 @@ use Rattle.plan_grammar.specs.declared.node.SendParts.{SendParts}
 use Rattle.plan_grammar.specs.Ahead.{Front, Reader, ◌>>=◌, behind, place, next_kind, is_symbol_kind, is_key_kind, is_key, name_kind, name_at}
 use Rattle.plan_grammar.specs.Begins.{kind_begins, begins_expr}
 use Rattle.plan_grammar.specs.Types.{type_to, more}
-use Rattle.plan_grammar.specs.Nodes.{leaf, below_of, both, below_all, trees, over, over_one, over_two, over_three, over_four, over_list}
+use Rattle.plan_grammar.specs.Nodes.{all_at, leaf, below_of, both, below_all, trees, over, over_one, over_two, over_three, over_four, over_list}
 use Rattle.plan_grammar.specs.Exprs.{literal, literal_key, literal_from, need_open, items_from, arguments_behind, arguments, call, named, chunk, tuple, grouped, parens_behind, parens, typed_nil, brackets_behind, brackets, raise_typed, raise_plain, raise_form, before_comma, before_close, fold_parts, foldl_form, foldr_form, eval_form, send_parts, remote_form, neighbor_form, key_form, symbol_form, operand_kind, operand, expr_to}
 use Rattle.plan_printer.specs.Pieces.{listed}
 use Rattle.text_laws.specs.PrintedTokens.{Kinds, mark, type_kinds, expr_kinds}
@@ -33,7 +34,7 @@ use Rattle.round_trip.specs.Reads.{kinds_at, Took, first_kind, IsNode, Ends}
 use Rattle.round_trip.proofs.Steps.{took, then_took, took_by, weaker, next_is, behind_is, symbol_is, key_is, take_symbol, take_key, take_name, take_open, Reads, AllRead, AllGood, Added, more_took}
 use Rattle.round_trip.proofs.TypesRead.{type_takes, fold_max}
 use Rattle.round_trip.proofs.Ladder.{Starts}
-use Rattle.round_trip.proofs.Forms.{is_over, IsRead, nest, behind_one, level_took, ends_paren, operand_is, begins_is, starts_expr, starts_by, paren_starts, no_close}
+use Rattle.round_trip.proofs.Forms.{is_over, Measured, IsRead, nest, behind_one, level_took, ends_paren, operand_is, begins_is, starts_expr, starts_by, paren_starts, no_close}
 use Rattle.round_trip.proofs.Bracketing.{begins_starts}
 
 pub ends_comma : Ends (Some (kind.Symbol symbols.Comma))
@@ -41,30 +42,30 @@ ends_comma = record { product = refl; sum = refl; cons = refl; comparison = refl
 
 -- ---- literals and names
 
-pub leaf_good : (e : Expr) (tree : Expr) (at : ℕ) → tree ≡ e → expr_depth e ≡ 1 → IsNode e (leaf tree at)
-leaf_good e tree at t d = record { tree = t; depth = sym d }
+pub leaf_good : (e : Expr) (tree : Expr) (at : ℕ) → tree ≡ e → Measured e 1 1 → IsNode e (leaf tree at)
+leaf_good e tree at t d = record { tree = t; depth = sym d.depth; nodes = sym d.nodes }
 
 -- a token that is an expression by itself
-pub literal_read : (e : Expr) (k : TokenKind) (tree : Expr) → tree ≡ e → expr_depth e ≡ 1 → kind_begins (Some k) ≡ true
+pub literal_read : (e : Expr) (k : TokenKind) (tree : Expr) → tree ≡ e → Measured e 1 1 → kind_begins (Some k) ≡ true
     → ((inner : Level → Reader Node) (room : ℕ) (f : Front) → operand_kind inner room f (Some k) ≡ Ok (leaf tree (place f), behind f)) → expr_kinds e ≡ k ∷ [] → IsRead e
 literal_read e k tree t d b is ks = record {
   starts = record { first = k; others = []; are = ks; begin = b };
-  shallow = omega (arith, d);
+  shallow = omega (arith, d.depth);
   operand = λ room n f rest h w. let hs : kinds_at f ≡ k ∷ rest = h ∙ ap (λ l. l ++ rest) ks in
       took_by (operand_is (expr_to room) room f (k ∷ rest) hs ∙ is (expr_to room) room f) (took (leaf tree (place f)) (behind f) (behind_is f k rest hs) (leaf_good e tree (place f) t d));
 }
 
-named_var : (inner : Level → Reader Node) (room : ℕ) (n : Name) (f : Front) (rest : Kinds) (e : Expr) → x.Var n ≡ e → expr_depth e ≡ 1 → kinds_at f ≡ kind.Word n ∷ rest
+named_var : (inner : Level → Reader Node) (room : ℕ) (n : Name) (f : Front) (rest : Kinds) (e : Expr) → x.Var n ≡ e → Measured e 1 1 → kinds_at f ≡ kind.Word n ∷ rest
     → is_symbol_kind symbols.ParenOpen (first_kind rest) ≡ false → Took (named inner room f) rest (IsNode e)
 unfolding named
 named_var inner room n f rest e t d h w =
     then_took _ (take_name n f rest h) (λ m g k q. rw (symbol_is symbols.ParenOpen g rest k ∙ w) (took (leaf (x.Var m) (place f)) g k (leaf_good e (x.Var m) (place f) (ap x.Var q ∙ t) d)))
 
 -- a variable
-pub var_read : (e : Expr) (n : Name) → x.Var n ≡ e → expr_depth e ≡ 1 → expr_kinds e ≡ kind.Word n ∷ [] → IsRead e
+pub var_read : (e : Expr) (n : Name) → x.Var n ≡ e → Measured e 1 1 → expr_kinds e ≡ kind.Word n ∷ [] → IsRead e
 var_read e n t d ks = record {
   starts = record { first = kind.Word n; others = []; are = ks; begin = refl };
-  shallow = omega (arith, d);
+  shallow = omega (arith, d.depth);
   operand = λ room k f rest h w. var_took room f rest (h ∙ ap (λ l. l ++ rest) ks) w;
 }
   where
@@ -89,6 +90,12 @@ depths_are [] [] acc g = refl
 depths_are (e ∷ es) (n ∷ ns) acc g = ap (λ d. fold (λ m n. max m n.depth) (max acc d) ns) g.0.depth ∙ depths_are es ns (max acc (expr_depth e)) g.1
 depths_are [] (n ∷ ns) acc g = absurd g
 depths_are (e ∷ es) [] acc g = absurd g
+
+places_are : (es : List Expr) (ns : List Node) → AllNodes es ns → length (flat_map all_at ns) ≡ sum_by expr_nodes es
+places_are [] [] g = refl
+places_are (e ∷ es) (n ∷ ns) g = let z = places_are es ns g.1 in let s = sum_by-cons expr_nodes e es in let b = g.0.nodes in simp length-append (omega (arith, z, s, b))
+places_are [] (n ∷ ns) g = absurd g
+places_are (e ∷ es) [] g = absurd g
 
 -- what may follow an expression
 abbrev pub FollowsExpr : Kinds → Type 0
@@ -150,11 +157,11 @@ bracketed_args room most m es r l f rest h =
     then_took _ (take_need_open room f (listed (mark symbols.Comma) [] expr_kinds es ++ (kind.Symbol symbols.ParenClose ∷ rest)) (omega (arith, m)) h) (λ u g h1 q1. args_took room most m es r l g rest h1)
 
 -- a node over a list of others
-over_good : (e tree : Expr) (at : ℕ) (es : List Expr) (ns : List Node) → tree ≡ e → expr_depth e ≡ 1 + largest_by expr_depth es → expr_depth e ≤ 64 → AllNodes es ns → IsNode e (over_list tree at ns)
-over_good e tree at es ns t d most g = let z = depths_are es ns 0 g in is_over e tree at (below_all ns) t (omega (arith, z, d)) most
+over_good : (e tree : Expr) (at : ℕ) (es : List Expr) (ns : List Node) → tree ≡ e → Measured e (1 + largest_by expr_depth es) (1 + sum_by expr_nodes es) → expr_depth e ≤ 64 → AllNodes es ns → IsNode e (over_list tree at ns)
+over_good e tree at es ns t d most g = let z = depths_are es ns 0 g in let y = places_are es ns g in is_over e tree at (below_all ns) t (omega (arith, z, d.depth)) most (omega (arith, y, d.nodes))
 
 named_call : (room most : ℕ) → 2 * most + 9 ≤ room → (name : Name) (es : List Expr) → AreRead most es → length es ≤ 8 → (f : Front) (rest : Kinds) (e : Expr) → x.Call name es ≡ e
-    → expr_depth e ≡ 1 + largest_by expr_depth es → expr_depth e ≤ 64
+    → Measured e (1 + largest_by expr_depth es) (1 + sum_by expr_nodes es) → expr_depth e ≤ 64
     → kinds_at f ≡ kind.Word name ∷ kind.Symbol symbols.ParenOpen ∷ (listed (mark symbols.Comma) [] expr_kinds es ++ (kind.Symbol symbols.ParenClose ∷ rest)) → Took (named (expr_to room) room f) rest (IsNode e)
 unfolding named call
 named_call room most m name es r l f rest e t d shallow h =
@@ -164,7 +171,7 @@ named_call room most m name es r l f rest e t d shallow h =
     took _ g2 h2 (over_good e (x.Call v (trees ns)) (place f) es ns (ap (λ z. x.Call z (trees ns)) q1 ∙ (ap (x.Call name) (trees_are es ns q2) ∙ t)) d shallow q2))))
 
 chunk_took : (room most : ℕ) → 2 * most + 9 ≤ room → (name : Name) (es : List Expr) → AreRead most es → length es ≤ 8 → (f : Front) (rest : Kinds) (e : Expr) → x.ChunkOf name es ≡ e
-    → expr_depth e ≡ 1 + largest_by expr_depth es → expr_depth e ≤ 64
+    → Measured e (1 + largest_by expr_depth es) (1 + sum_by expr_nodes es) → expr_depth e ≤ 64
     → kinds_at f ≡ kind.Symbol symbols.Bar ∷ kind.Word name ∷ kind.Symbol symbols.Bar ∷ kind.Symbol symbols.ParenOpen ∷ (listed (mark symbols.Comma) [] expr_kinds es ++ (kind.Symbol symbols.ParenClose ∷ rest))
     → Took (symbol_form (expr_to room) room symbols.Bar f) rest (IsNode e)
 unfolding symbol_form chunk
@@ -176,7 +183,7 @@ chunk_took room most m name es r l f rest e t d shallow h =
     took _ g3 h3 (over_good e (x.ChunkOf v (trees ns)) (place f) es ns (ap (λ z. x.ChunkOf z (trees ns)) q1 ∙ (ap (x.ChunkOf name) (trees_are es ns q3) ∙ t)) d shallow q3))))
 
 tuple_took : (room most : ℕ) → 2 * most + 9 ≤ room → (a b : Expr) (es : List Expr) → AreRead most (a ∷ b ∷ es) → length es ≤ 6 → (f : Front) (rest : Kinds) (e : Expr) → x.Tuple (a ∷ b ∷ es) ≡ e
-    → expr_depth e ≡ 1 + largest_by expr_depth (a ∷ b ∷ es) → expr_depth e ≤ 64
+    → Measured e (1 + largest_by expr_depth (a ∷ b ∷ es)) (1 + sum_by expr_nodes (a ∷ b ∷ es)) → expr_depth e ≤ 64
     → kinds_at f ≡ kind.Symbol symbols.ParenOpen ∷ (expr_kinds a ++ (listed (mark symbols.Comma) (mark symbols.Comma) expr_kinds (b ∷ es) ++ (kind.Symbol symbols.ParenClose ∷ rest)))
     → Took (symbol_form (expr_to room) room symbols.ParenOpen f) rest (IsNode e)
 unfolding symbol_form parens parens_behind grouped tuple
@@ -194,7 +201,7 @@ tuple_took room most m a b es r l f rest e t d shallow h =
     took _ g3 h3 (over_good e (x.Tuple (trees ns)) (place f) (a ∷ b ∷ es) ns (ap x.Tuple (trees_are (a ∷ b ∷ es) ns q2) ∙ t) d shallow q2))))))))
 
 -- a call
-pub call_read : (e : Expr) (name : Name) (es : List Expr) → x.Call name es ≡ e → expr_depth e ≡ 1 + largest_by expr_depth es → expr_depth e ≤ 64 → AreRead (largest_by expr_depth es) es → length es ≤ 8
+pub call_read : (e : Expr) (name : Name) (es : List Expr) → x.Call name es ≡ e → Measured e (1 + largest_by expr_depth es) (1 + sum_by expr_nodes es) → expr_depth e ≤ 64 → AreRead (largest_by expr_depth es) es → length es ≤ 8
     → expr_kinds e ≡ kind.Word name ∷ kind.Symbol symbols.ParenOpen ∷ (listed (mark symbols.Comma) [] expr_kinds es ++ (kind.Symbol symbols.ParenClose ∷ [])) → IsRead e
 call_read e name es t d most r l ks = record {
   starts = record { first = kind.Word name; others = _; are = ks; begin = refl };
@@ -204,10 +211,10 @@ call_read e name es t d most r l ks = record {
   where
     call_took : (room : ℕ) → 2 * expr_depth e + 7 ≤ room → (f : Front) (rest : Kinds)
         → kinds_at f ≡ kind.Word name ∷ kind.Symbol symbols.ParenOpen ∷ (listed (mark symbols.Comma) [] expr_kinds es ++ (kind.Symbol symbols.ParenClose ∷ rest)) → Took (operand (expr_to room) room f) rest (IsNode e)
-    call_took room n f rest h = took_by (operand_is (expr_to room) room f _ h) (named_call room (largest_by expr_depth es) (omega (arith, n, d)) name es r l f rest e t d most h)
+    call_took room n f rest h = took_by (operand_is (expr_to room) room f _ h) (named_call room (largest_by expr_depth es) (omega (arith, n, d.depth)) name es r l f rest e t d most h)
 
 -- a chunk of the program
-pub chunk_read : (e : Expr) (name : Name) (es : List Expr) → x.ChunkOf name es ≡ e → expr_depth e ≡ 1 + largest_by expr_depth es → expr_depth e ≤ 64 → AreRead (largest_by expr_depth es) es → length es ≤ 8
+pub chunk_read : (e : Expr) (name : Name) (es : List Expr) → x.ChunkOf name es ≡ e → Measured e (1 + largest_by expr_depth es) (1 + sum_by expr_nodes es) → expr_depth e ≤ 64 → AreRead (largest_by expr_depth es) es → length es ≤ 8
     → expr_kinds e ≡ kind.Symbol symbols.Bar ∷ kind.Word name ∷ kind.Symbol symbols.Bar ∷ kind.Symbol symbols.ParenOpen ∷ (listed (mark symbols.Comma) [] expr_kinds es ++ (kind.Symbol symbols.ParenClose ∷ [])) → IsRead e
 chunk_read e name es t d most r l ks = record {
   starts = record { first = kind.Symbol symbols.Bar; others = _; are = ks; begin = refl };
@@ -218,10 +225,10 @@ chunk_read e name es t d most r l ks = record {
     chunk_operand : (room : ℕ) → 2 * expr_depth e + 7 ≤ room → (f : Front) (rest : Kinds)
         → kinds_at f ≡ kind.Symbol symbols.Bar ∷ kind.Word name ∷ kind.Symbol symbols.Bar ∷ kind.Symbol symbols.ParenOpen ∷ (listed (mark symbols.Comma) [] expr_kinds es ++ (kind.Symbol symbols.ParenClose ∷ rest))
         → Took (operand (expr_to room) room f) rest (IsNode e)
-    chunk_operand room n f rest h = took_by (operand_is (expr_to room) room f _ h) (chunk_took room (largest_by expr_depth es) (omega (arith, n, d)) name es r l f rest e t d most h)
+    chunk_operand room n f rest h = took_by (operand_is (expr_to room) room f _ h) (chunk_took room (largest_by expr_depth es) (omega (arith, n, d.depth)) name es r l f rest e t d most h)
 
 -- a tuple
-pub tuple_read : (e a b : Expr) (es : List Expr) → x.Tuple (a ∷ b ∷ es) ≡ e → expr_depth e ≡ 1 + largest_by expr_depth (a ∷ b ∷ es) → expr_depth e ≤ 64 → AreRead (largest_by expr_depth (a ∷ b ∷ es)) (a ∷ b ∷ es) → length es ≤ 6
+pub tuple_read : (e a b : Expr) (es : List Expr) → x.Tuple (a ∷ b ∷ es) ≡ e → Measured e (1 + largest_by expr_depth (a ∷ b ∷ es)) (1 + sum_by expr_nodes (a ∷ b ∷ es)) → expr_depth e ≤ 64 → AreRead (largest_by expr_depth (a ∷ b ∷ es)) (a ∷ b ∷ es) → length es ≤ 6
     → expr_kinds e ≡ kind.Symbol symbols.ParenOpen ∷ (expr_kinds a ++ (listed (mark symbols.Comma) (mark symbols.Comma) expr_kinds (b ∷ es) ++ (kind.Symbol symbols.ParenClose ∷ []))) → IsRead e
 tuple_read e a b es t d most r l ks = record {
   starts = starts_by (expr_kinds e) _ ks (paren_starts _);
@@ -232,4 +239,4 @@ tuple_read e a b es t d most r l ks = record {
     tuple_operand : (room : ℕ) → 2 * expr_depth e + 7 ≤ room → (f : Front) (rest : Kinds)
         → kinds_at f ≡ kind.Symbol symbols.ParenOpen ∷ (expr_kinds a ++ (listed (mark symbols.Comma) (mark symbols.Comma) expr_kinds (b ∷ es) ++ (kind.Symbol symbols.ParenClose ∷ rest)))
         → Took (operand (expr_to room) room f) rest (IsNode e)
-    tuple_operand room n f rest h = took_by (operand_is (expr_to room) room f _ h) (tuple_took room (largest_by expr_depth (a ∷ b ∷ es)) (omega (arith, n, d)) a b es r l f rest e t d most h)
+    tuple_operand room n f rest h = took_by (operand_is (expr_to room) room f _ h) (tuple_took room (largest_by expr_depth (a ∷ b ∷ es)) (omega (arith, n, d.depth)) a b es r l f rest e t d most h)

@@ -1,10 +1,11 @@
 -- The forms in round brackets other than operators.
-use Rattle.std.proofs.Common.{◌≡◌, ℕ, zero, suc, ◌+◌, ◌-◌, ◌*◌, ◌<◌, ◌≤◌, ◌==◌, max, Bool, true, false, ◌||◌, cond, List, [], ◌∷◌, ◌++◌, length, Option, Some, None, Result, Ok, Err, refl, sym, ap, ◌∙◌, subst, arith, append_assoc, nat_lt}
+use Rattle.std.proofs.Common.{◌≡◌, ℕ, zero, suc, ◌+◌, ◌-◌, ◌*◌, ◌<◌, ◌≤◌, ◌==◌, max, Bool, true, false, ◌||◌, cond, List, [], ◌∷◌, ◌++◌, length, Option, Some, None, Result, Ok, Err, refl, sym, ap, ◌∙◌, subst, arith, append_assoc, length-append, nat_lt}
+use Rattle.std.specs.List.{sum_by}
 use Rattle.std.specs.Prelude.{map, if◌then◌else◌}
 use Rattle.plan_base.specs.declared.tree.Op.TheVariants as op
 use Rattle.plan_base.specs.declared.tree.Expr.{Expr, Expr-F, out-Expr}
 use Rattle.plan_base.specs.declared.tree.Expr.TheVariants as x
-use Rattle.plan_base.specs.Sizes.{expr_depth_level, expr_depth}
+use Rattle.plan_base.specs.Sizes.{expr_depth_level, expr_depth, expr_nodes, clause_nodes}
 use Rattle.plan_lexer.specs.declared.token.Key.TheVariants as keys
 use Rattle.plan_lexer.specs.declared.token.Symbol.TheVariants as symbols
 use Rattle.plan_lexer.specs.declared.token.TokenKind.{TokenKind}
@@ -21,7 +22,7 @@ use Rattle.text_laws.specs.PrintedTokens.{Kinds, expr_kinds_level, clause_kinds,
 use Rattle.round_trip.specs.Reads.{kinds_at, Took, first_kind, IsNode, Ends}
 use Rattle.round_trip.proofs.Steps.{took, then_took, took_by, weaker, next_is, behind_is, symbol_is, key_is, take_symbol, take_key, take_name, take_open}
 use Rattle.round_trip.proofs.Ladder.{Starts, Joins, at_every_level, up_product, up_addition, up_listed, up_comparison, up_negated, up_conjunction, up_disjunction, up_low, up_whole, isnt_not, isnt_if}
-use Rattle.round_trip.proofs.Forms.{is_over, depth_of, kinds_are, IsRead, AreJoined, join_good, nest, behind_one, level_took, ends_paren, parens_took, around_took, begins_is, starts_expr, operand_is, starts_by, paren_starts}
+use Rattle.round_trip.proofs.Forms.{is_over, Measured, depth_of, kinds_are, IsRead, AreJoined, join_good, nest, behind_one, level_took, ends_paren, parens_took, around_took, begins_is, starts_expr, operand_is, starts_by, paren_starts}
 
 pub ends_then : Ends (Some (kind.Key keys.Then))
 ends_then = record { product = refl; sum = refl; cons = refl; comparison = refl; both = refl; either = refl; next = refl; call = refl }
@@ -45,7 +46,7 @@ whole_of room g rest t = took_by (whole_is room g) (up_whole (expr_to room) room
 
 -- ---- if
 
-condition_took : (e c a b : Expr) → x.If c a b ≡ e → expr_depth e ≡ 1 + max (expr_depth c) (max (expr_depth a) (expr_depth b)) → expr_depth e ≤ 64 → IsRead c → IsRead a → IsRead b
+condition_took : (e c a b : Expr) → x.If c a b ≡ e → Measured e (1 + max (expr_depth c) (max (expr_depth a) (expr_depth b))) (1 + expr_nodes c + expr_nodes a + expr_nodes b) → expr_depth e ≤ 64 → IsRead c → IsRead a → IsRead b
     → (room : ℕ) → 2 * expr_depth e + 6 ≤ room → (g : Front) (rest : Kinds)
     → kinds_at g ≡ kind.Key keys.If ∷ (expr_kinds c ++ (kind.Key keys.Then ∷ (expr_kinds a ++ (kind.Key keys.Else ∷ (expr_kinds b ++ (kind.Symbol symbols.ParenClose ∷ rest))))))
     → Took (low (expr_to room) room g) (kind.Symbol symbols.ParenClose ∷ rest) (IsNode e)
@@ -56,16 +57,16 @@ condition_took e c a b t d most rc ra rb room n g rest h =
     let first : Kinds = kind.Key keys.Then ∷ (expr_kinds a ++ second) in
     rw (key_is keys.If g (kind.Key keys.If ∷ (expr_kinds c ++ first)) h)
     (then_took _ (take_open room g (kind.Key keys.If ∷ (expr_kinds c ++ first)) (omega (arith, n)) h) (λ u0 g0 h0 q0.
-    then_took _ (level_took c rc room (omega (arith, n, d)) levels.Whole (behind g) first (behind_is g (kind.Key keys.If) (expr_kinds c ++ first) h) ends_then) (λ nc g1 h1 q1.
+    then_took _ (level_took c rc room (omega (arith, n, d.depth)) levels.Whole (behind g) first (behind_is g (kind.Key keys.If) (expr_kinds c ++ first) h) ends_then) (λ nc g1 h1 q1.
     then_took _ (take_key keys.Then g1 (expr_kinds a ++ second) h1) (λ u2 g2 h2 q2.
-    then_took _ (level_took a ra room (omega (arith, n, d)) levels.Low g2 second h2 ends_else) (λ na g3 h3 q3.
+    then_took _ (level_took a ra room (omega (arith, n, d.depth)) levels.Low g2 second h2 ends_else) (λ na g3 h3 q3.
     then_took _ (take_key keys.Else g3 (expr_kinds b ++ close) h3) (λ u4 g4 h4 q4.
-    then_took _ (level_took b rb room (omega (arith, n, d)) levels.Low g4 close h4 ends_paren) (λ nb g5 h5 q5.
+    then_took _ (level_took b rb room (omega (arith, n, d.depth)) levels.Low g4 close h4 ends_paren) (λ nb g5 h5 q5.
     took _ g5 h5 (is_over e (x.If nc.tree na.tree nb.tree) (place g) (both (below_of nc) (both (below_of na) (below_of nb)))
     (ap (λ z. x.If z na.tree nb.tree) q1.tree ∙ (ap (λ z. x.If c z nb.tree) q3.tree ∙ (ap (λ z. x.If c a z) q5.tree ∙ t)))
-    (omega (arith, q1.depth, q3.depth, q5.depth, d)) most))))))))
+    (omega (arith, q1.depth, q3.depth, q5.depth, d.depth)) most (simp length-append (omega (arith, q1.nodes, q3.nodes, q5.nodes, d.nodes)))))))))))
 
-pub if_read : (e c a b : Expr) → x.If c a b ≡ e → expr_depth e ≡ 1 + max (expr_depth c) (max (expr_depth a) (expr_depth b)) → expr_depth e ≤ 64 → IsRead c → IsRead a → IsRead b
+pub if_read : (e c a b : Expr) → x.If c a b ≡ e → Measured e (1 + max (expr_depth c) (max (expr_depth a) (expr_depth b))) (1 + expr_nodes c + expr_nodes a + expr_nodes b) → expr_depth e ≤ 64 → IsRead c → IsRead a → IsRead b
     → expr_kinds e ≡ kind.Symbol symbols.ParenOpen ∷ kind.Key keys.If ∷ (expr_kinds c ++ (kind.Key keys.Then ∷ (expr_kinds a ++ (kind.Key keys.Else ∷ (expr_kinds b ++ (kind.Symbol symbols.ParenClose ∷ []))))))
     → IsRead e
 if_read e c a b t d most rc ra rb ks = record {
@@ -91,7 +92,7 @@ operand_starts g ka ks h s = ap kind_begins (next_is g (s.first ∷ (s.others ++
 pub begins_starts : (g : Front) (ka ks : Kinds) → kinds_at g ≡ ka ++ ks → Starts ka → begins_expr g ≡ true
 begins_starts g ka ks h s = begins_is g (s.first ∷ (s.others ++ ks)) (h ∙ ap (λ l. l ++ ks) s.are) ∙ starts_expr s.first s.begin
 
-sequence_took : (e a b : Expr) → x.Then a b ≡ e → expr_depth e ≡ 1 + max (expr_depth a) (expr_depth b) → expr_depth e ≤ 64 → IsRead a → IsRead b
+sequence_took : (e a b : Expr) → x.Then a b ≡ e → Measured e (1 + max (expr_depth a) (expr_depth b)) (1 + expr_nodes a + expr_nodes b) → expr_depth e ≤ 64 → IsRead a → IsRead b
     → (room : ℕ) → 2 * expr_depth e + 6 ≤ room → (g : Front) (rest : Kinds) → kinds_at g ≡ expr_kinds a ++ (kind.Symbol symbols.Semicolon ∷ (expr_kinds b ++ (kind.Symbol symbols.ParenClose ∷ rest)))
     → Took (whole (expr_to room) room g) (kind.Symbol symbols.ParenClose ∷ rest) (IsNode e)
 unfolding whole before_next opens_at
@@ -103,13 +104,13 @@ sequence_took e a b t d most ra rb room n g rest h =
     let none : is_key keys.If g ≡ false = isnt_if inner room g (expr_kinds a) second h ra.starts in
     let first : Took (low inner room g) second (IsNode a) = up_low inner room g second none (up_disjunction inner room g second refl (up_conjunction inner room g second refl
     (up_negated inner room g second other (up_comparison inner room g second refl (up_listed inner room g second refl (up_addition inner room g second refl
-    (up_product inner room g second refl (ra.operand room (omega (arith, n, d)) g second h refl)))))))) in
+    (up_product inner room g second refl (ra.operand room (omega (arith, n, d.depth)) g second h refl)))))))) in
     then_took _ first (λ na g1 h1 q1. rw (symbol_is symbols.Semicolon g1 second h1) (rw (begins_starts (behind g1) (expr_kinds b) close (behind_is g1 (kind.Symbol symbols.Semicolon) (expr_kinds b ++ close) h1) rb.starts)
     (then_took _ (take_open room (behind g1) (expr_kinds b ++ close) (omega (arith, n)) (behind_is g1 (kind.Symbol symbols.Semicolon) (expr_kinds b ++ close) h1)) (λ u2 g2 h2 q2.
-    then_took _ (level_took b rb room (omega (arith, n, d)) levels.Whole (behind g1) close (behind_is g1 (kind.Symbol symbols.Semicolon) (expr_kinds b ++ close) h1) ends_paren) (λ nb g3 h3 q3.
-    took _ g3 h3 (is_over e (x.Then na.tree nb.tree) na.at (both (below_of na) (below_of nb)) (ap (λ z. x.Then z nb.tree) q1.tree ∙ (ap (λ z. x.Then a z) q3.tree ∙ t)) (omega (arith, q1.depth, q3.depth, d)) most))))))
+    then_took _ (level_took b rb room (omega (arith, n, d.depth)) levels.Whole (behind g1) close (behind_is g1 (kind.Symbol symbols.Semicolon) (expr_kinds b ++ close) h1) ends_paren) (λ nb g3 h3 q3.
+    took _ g3 h3 (is_over e (x.Then na.tree nb.tree) na.at (both (below_of na) (below_of nb)) (ap (λ z. x.Then z nb.tree) q1.tree ∙ (ap (λ z. x.Then a z) q3.tree ∙ t)) (omega (arith, q1.depth, q3.depth, d.depth)) most (simp length-append (omega (arith, q1.nodes, q3.nodes, d.nodes)))))))))
 
-pub sequence_read : (e a b : Expr) → x.Then a b ≡ e → expr_depth e ≡ 1 + max (expr_depth a) (expr_depth b) → expr_depth e ≤ 64 → IsRead a → IsRead b
+pub sequence_read : (e a b : Expr) → x.Then a b ≡ e → Measured e (1 + max (expr_depth a) (expr_depth b)) (1 + expr_nodes a + expr_nodes b) → expr_depth e ≤ 64 → IsRead a → IsRead b
     → expr_kinds e ≡ kind.Symbol symbols.ParenOpen ∷ (expr_kinds a ++ (kind.Symbol symbols.Semicolon ∷ (expr_kinds b ++ (kind.Symbol symbols.ParenClose ∷ [])))) → IsRead e
 sequence_read e a b t d most ra rb ks = record {
   starts = starts_by (expr_kinds e) _ ks (paren_starts _);
@@ -126,17 +127,17 @@ sequence_read e a b t d most ra rb ks = record {
 
 -- ---- not
 
-negation_took : (e a : Expr) → x.Not a ≡ e → expr_depth e ≡ 1 + expr_depth a → expr_depth e ≤ 64 → IsRead a → (room : ℕ) → 2 * expr_depth e + 6 ≤ room → (g : Front) (rest : Kinds)
+negation_took : (e a : Expr) → x.Not a ≡ e → Measured e (1 + expr_depth a) (1 + expr_nodes a) → expr_depth e ≤ 64 → IsRead a → (room : ℕ) → 2 * expr_depth e + 6 ≤ room → (g : Front) (rest : Kinds)
     → kinds_at g ≡ kind.Key keys.Not ∷ (expr_kinds a ++ (kind.Symbol symbols.ParenClose ∷ rest)) → Took (negated (expr_to room) room g) (kind.Symbol symbols.ParenClose ∷ rest) (IsNode e)
 unfolding negated negation
 negation_took e a t d most ra room n g rest h =
     let close : Kinds = kind.Symbol symbols.ParenClose ∷ rest in
     rw (key_is keys.Not g (kind.Key keys.Not ∷ (expr_kinds a ++ close)) h)
     (then_took _ (take_open room g (kind.Key keys.Not ∷ (expr_kinds a ++ close)) (omega (arith, n)) h) (λ u0 g0 h0 q0.
-    then_took _ (level_took a ra room (omega (arith, n, d)) levels.Negated (behind g) close (behind_is g (kind.Key keys.Not) (expr_kinds a ++ close) h) ends_paren) (λ na g1 h1 q1.
-    took _ g1 h1 (is_over e (x.Not na.tree) (place g) (below_of na) (ap x.Not q1.tree ∙ t) (omega (arith, q1.depth, d)) most))))
+    then_took _ (level_took a ra room (omega (arith, n, d.depth)) levels.Negated (behind g) close (behind_is g (kind.Key keys.Not) (expr_kinds a ++ close) h) ends_paren) (λ na g1 h1 q1.
+    took _ g1 h1 (is_over e (x.Not na.tree) (place g) (below_of na) (ap x.Not q1.tree ∙ t) (omega (arith, q1.depth, d.depth)) most (omega (arith, q1.nodes, d.nodes))))))
 
-pub not_read : (e a : Expr) → x.Not a ≡ e → expr_depth e ≡ 1 + expr_depth a → expr_depth e ≤ 64 → IsRead a
+pub not_read : (e a : Expr) → x.Not a ≡ e → Measured e (1 + expr_depth a) (1 + expr_nodes a) → expr_depth e ≤ 64 → IsRead a
     → expr_kinds e ≡ kind.Symbol symbols.ParenOpen ∷ kind.Key keys.Not ∷ (expr_kinds a ++ (kind.Symbol symbols.ParenClose ∷ [])) → IsRead e
 not_read e a t d most ra ks = record {
   starts = starts_by (expr_kinds e) _ ks (paren_starts _);
@@ -163,10 +164,10 @@ cons_took e a b m most ra rb room n g rest h =
     let close : Kinds = kind.Symbol symbols.ParenClose ∷ rest in
     let second : Kinds = kind.Symbol symbols.DoubleColon ∷ (expr_kinds b ++ close) in
     let inner : Level → Reader Node = expr_to room in
-    let first : Took (addition inner room g) second (IsNode a) = up_addition inner room g second refl (up_product inner room g second refl (ra.operand room (omega (arith, n, m.depth)) g second h refl)) in
+    let first : Took (addition inner room g) second (IsNode a) = up_addition inner room g second refl (up_product inner room g second refl (ra.operand room (omega (arith, n, m.size.depth)) g second h refl)) in
     then_took _ first (λ na g1 h1 q1. rw (symbol_is symbols.DoubleColon g1 second h1) (rw (operand_starts (behind g1) (expr_kinds b) close (behind_is g1 (kind.Symbol symbols.DoubleColon) (expr_kinds b ++ close) h1) rb.starts)
     (then_took _ (take_open room (behind g1) (expr_kinds b ++ close) (omega (arith, n)) (behind_is g1 (kind.Symbol symbols.DoubleColon) (expr_kinds b ++ close) h1)) (λ u2 g2 h2 q2.
-    then_took _ (level_took b rb room (omega (arith, n, m.depth)) levels.Listed (behind g1) close (behind_is g1 (kind.Symbol symbols.DoubleColon) (expr_kinds b ++ close) h1) ends_paren) (λ nb g3 h3 q3.
+    then_took _ (level_took b rb room (omega (arith, n, m.size.depth)) levels.Listed (behind g1) close (behind_is g1 (kind.Symbol symbols.DoubleColon) (expr_kinds b ++ close) h1) ends_paren) (λ nb g3 h3 q3.
     took (consed na nb) g3 h3 (na, nb, q1, q3, refl))))))
 
 pub cons_read : (e a b : Expr) → AreJoined e (joints.Operator op.Cons) a b → expr_depth e ≤ 64 → IsRead a → IsRead b
@@ -192,17 +193,17 @@ cons_read e a b m most ra rb ks = record {
 
 -- ---- a part of a tuple
 
-picked_took : (e a : Expr) (i : ℕ) → x.Part i a ≡ e → expr_depth e ≡ 1 + expr_depth a → expr_depth e ≤ 64 → IsRead a → (room : ℕ) → 2 * expr_depth e + 6 ≤ room → (g : Front) (rest : Kinds)
+picked_took : (e a : Expr) (i : ℕ) → x.Part i a ≡ e → Measured e (1 + expr_depth a) (1 + expr_nodes a) → expr_depth e ≤ 64 → IsRead a → (room : ℕ) → 2 * expr_depth e + 6 ≤ room → (g : Front) (rest : Kinds)
     → kinds_at g ≡ kind.Part i ∷ (expr_kinds a ++ (kind.Symbol symbols.ParenClose ∷ rest)) → Took (operand (expr_to room) room g) (kind.Symbol symbols.ParenClose ∷ rest) (IsNode e)
 unfolding picked
 picked_took e a i t d most ra room n g rest h =
     let close : Kinds = kind.Symbol symbols.ParenClose ∷ rest in
     took_by (operand_is (expr_to room) room g (kind.Part i ∷ (expr_kinds a ++ close)) h)
     (then_took _ (take_open room g (kind.Part i ∷ (expr_kinds a ++ close)) (omega (arith, n)) h) (λ u0 g0 h0 q0.
-    then_took _ (level_took a ra room (omega (arith, n, d)) levels.Operand (behind g) close (behind_is g (kind.Part i) (expr_kinds a ++ close) h) ends_paren) (λ na g1 h1 q1.
-    took _ g1 h1 (is_over e (x.Part i na.tree) (place g) (below_of na) (ap (x.Part i) q1.tree ∙ t) (omega (arith, q1.depth, d)) most))))
+    then_took _ (level_took a ra room (omega (arith, n, d.depth)) levels.Operand (behind g) close (behind_is g (kind.Part i) (expr_kinds a ++ close) h) ends_paren) (λ na g1 h1 q1.
+    took _ g1 h1 (is_over e (x.Part i na.tree) (place g) (below_of na) (ap (x.Part i) q1.tree ∙ t) (omega (arith, q1.depth, d.depth)) most (omega (arith, q1.nodes, d.nodes))))))
 
-pub part_read : (e a : Expr) (i : ℕ) → x.Part i a ≡ e → expr_depth e ≡ 1 + expr_depth a → expr_depth e ≤ 64 → IsRead a
+pub part_read : (e a : Expr) (i : ℕ) → x.Part i a ≡ e → Measured e (1 + expr_depth a) (1 + expr_nodes a) → expr_depth e ≤ 64 → IsRead a
     → expr_kinds e ≡ kind.Symbol symbols.ParenOpen ∷ kind.Part i ∷ (expr_kinds a ++ (kind.Symbol symbols.ParenClose ∷ [])) → IsRead e
 part_read e a i t d most ra ks = record {
   starts = starts_by (expr_kinds e) _ ks (paren_starts _);

@@ -1,5 +1,5 @@
 -- How each printed form is read, from the readings of its parts.
-use Rattle.std.proofs.Common.{◌≡◌, ℕ, zero, suc, ◌+◌, ◌-◌, ◌*◌, ◌<◌, ◌≤◌, ◌==◌, max, Bool, true, false, ◌||◌, cond, List, [], ◌∷◌, ◌++◌, length, Option, Some, None, Result, Ok, Err, refl, sym, ap, ◌∙◌, subst, arith, append_assoc, nat_lt}
+use Rattle.std.proofs.Common.{◌≡◌, ℕ, zero, suc, ◌+◌, ◌-◌, ◌*◌, ◌<◌, ◌≤◌, ◌==◌, max, Bool, true, false, ◌||◌, cond, List, [], ◌∷◌, ◌++◌, length, Option, Some, None, Result, Ok, Err, refl, sym, ap, ◌∙◌, subst, arith, append_assoc, length-append, nat_lt}
 use Rattle.std.specs.Prelude.{map, if◌then◌else◌}
 use Rattle.std.proofs.lemmas.Bool.Decides.{nat_tests}
 use Rattle.plan_base.specs.declared.name.Name.{Name}
@@ -9,8 +9,8 @@ use Rattle.plan_base.specs.declared.tree.Ty.{Ty}
 use Rattle.plan_base.specs.declared.tree.Expr.{Expr, Expr-F, out-Expr, roll-Expr, roll-out-Expr}
 use Rattle.plan_base.specs.declared.tree.Expr.TheVariants as x
 use Rattle.plan_base.specs.declared.tree.Clause.{Clause}
-use Rattle.plan_base.specs.Sizes.{largest_by, type_depth, expr_depth_level, expr_depth, clause_depth}
-use Rattle.plan_base.proofs.SizeLaws.{expr_depth_out}
+use Rattle.plan_base.specs.Sizes.{largest_by, type_depth, expr_depth_level, expr_depth, clause_depth, expr_nodes_level, expr_nodes, clause_nodes}
+use Rattle.plan_base.proofs.SizeLaws.{expr_depth_out, expr_nodes_out}
 use Rattle.plan_lexer.specs.declared.token.Key.{Key}
 use Rattle.plan_lexer.specs.declared.token.Key.TheVariants as keys
 use Rattle.plan_lexer.specs.declared.token.Symbol.{Symbol}
@@ -44,9 +44,14 @@ depth_below : (n : ℕ) → n < 64 → nat_lt n 64 ≡ true
 depth_below n h = grind (arith, nat_tests)
 
 -- an expression over others that isn't too deep is kept
-pub is_over : (e tree : Expr) (at : ℕ) (b : Below) → tree ≡ e → b.depth + 1 ≡ expr_depth e → expr_depth e ≤ 64 → IsNode e (over tree at b)
+pub is_over : (e tree : Expr) (at : ℕ) (b : Below) → tree ≡ e → b.depth + 1 ≡ expr_depth e → expr_depth e ≤ 64 → length b.places + 1 ≡ expr_nodes e → IsNode e (over tree at b)
 unfolding over
-is_over e tree at b t d most = rw (depth_below b.depth (omega (arith, d, most))) (record { tree = t; depth = d })
+is_over e tree at b t d most n = rw (depth_below b.depth (omega (arith, d, most))) (record { tree = t; depth = d; nodes = n })
+
+-- how deep an expression is, and how many expressions it has
+pub record Measured (e : Expr) (deep many : ℕ) : Type 0 where
+  pub depth : expr_depth e ≡ deep
+  pub nodes : expr_nodes e ≡ many
 
 -- an expression of its level
 pub made_of : (e : Expr) (l : Expr-F Expr Clause) → out-Expr e ≡ l → e ≡ roll-Expr l
@@ -54,6 +59,9 @@ made_of e l o = sym (roll-out-Expr e) ∙ ap roll-Expr o
 
 pub depth_of : (e : Expr) (l : Expr-F Expr Clause) → out-Expr e ≡ l → expr_depth e ≡ expr_depth_level expr_depth clause_depth l
 depth_of e l o = expr_depth_out e ∙ ap (expr_depth_level expr_depth clause_depth) o
+
+pub measured : (e : Expr) (l : Expr-F Expr Clause) → out-Expr e ≡ l → Measured e (expr_depth_level expr_depth clause_depth l) (expr_nodes_level expr_nodes clause_nodes l)
+measured e l o = record { depth = depth_of e l o; nodes = expr_nodes_out e ∙ ap (expr_nodes_level expr_nodes clause_nodes) o }
 
 pub kinds_are : (e : Expr) (l : Expr-F Expr Clause) → out-Expr e ≡ l → expr_kinds e ≡ expr_kinds_level expr_kinds clause_kinds l
 kinds_are e l o = expr_kinds_out e ∙ ap (expr_kinds_level expr_kinds clause_kinds) o
@@ -125,12 +133,12 @@ ends_paren = record { product = refl; sum = refl; cons = refl; comparison = refl
 -- two expressions with a joint that makes e of them
 pub record AreJoined (e : Expr) (j : Joint) (a b : Expr) : Type 0 where
   pub tree : joined_tree j a b ≡ e
-  pub depth : expr_depth e ≡ 1 + max (expr_depth a) (expr_depth b)
+  pub size : Measured e (1 + max (expr_depth a) (expr_depth b)) (1 + expr_nodes a + expr_nodes b)
 
 pub join_good : (e : Expr) (j : Joint) (a b : Expr) → AreJoined e j a b → expr_depth e ≤ 64 → (n : Node) → Joins j (IsNode a) (IsNode b) n → IsNode e n
 join_good e j a b m most n q = let v = q.2 in let w = q.3 in
     subst (λ z. IsNode e z) (sym q.4) (is_over e (joined_tree j q.0.tree q.1.tree) q.0.at (both (below_of q.0) (below_of q.1))
-    (ap (λ t. joined_tree j t q.1.tree) v.tree ∙ (ap (λ t. joined_tree j a t) w.tree ∙ m.tree)) (omega (arith, v.depth, w.depth, m.depth)) most)
+    (ap (λ t. joined_tree j t q.1.tree) v.tree ∙ (ap (λ t. joined_tree j a t) w.tree ∙ m.tree)) (omega (arith, v.depth, w.depth, m.size.depth)) most (simp length-append (omega (arith, v.nodes, w.nodes, m.size.nodes))))
 
 module _ (inner : Level → Reader Node) (room : ℕ) (f : Front) (ka mid rest : Kinds) (k : TokenKind) (j : Joint) (at : kinds_at f ≡ ka ++ (k ∷ mid)) (s : Starts ka) {P Q : Node → Type 0} where
   -- operands of `*`, `/` and `mod`
@@ -214,10 +222,10 @@ pair_took e j a b k m most_depth w np ra rb (suc room) n g rest h = weaker (by_c
     inner = expr_to room
 
     first : Took (operand inner room g) (k ∷ mid) (IsNode a)
-    first = ra.operand room (omega (arith, n, m.depth)) g (k ∷ mid) h np
+    first = ra.operand room (omega (arith, n, m.size.depth)) g (k ∷ mid) h np
 
     second : (f : Front) → kinds_at f ≡ mid → Took (operand inner room f) c (IsNode b)
-    second f i = rb.operand room (omega (arith, n, m.depth)) f c i refl
+    second f i = rb.operand room (omega (arith, n, m.size.depth)) f c i refl
 
     by_chain : Between j k → Took (whole inner room g) c (Joins j (IsNode a) (IsNode b))
     by_chain (in_product q) = product_pair inner room g (expr_kinds a) mid rest k j h ra.starts q first second

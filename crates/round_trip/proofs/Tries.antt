@@ -1,12 +1,13 @@
 -- The clauses of a `try`.
-use Rattle.std.proofs.Common.{◌≡◌, ℕ, zero, suc, ◌+◌, ◌-◌, ◌*◌, ◌<◌, ◌≤◌, ◌==◌, max, Bool, true, false, ◌&&◌, ◌||◌, cond, List, [], ◌∷◌, ◌++◌, length, Option, Some, None, Result, Ok, Err, refl, sym, ap, ◌∙◌, subst, arith, append_assoc, nat_lt}
+use Rattle.std.proofs.Common.{◌≡◌, ℕ, zero, suc, ◌+◌, ◌-◌, ◌*◌, ◌<◌, ◌≤◌, ◌==◌, max, Bool, true, false, ◌&&◌, ◌||◌, cond, List, [], ◌∷◌, ◌++◌, length, Option, Some, None, Result, Ok, Err, refl, sym, ap, ◌∙◌, subst, arith, append_assoc, length-append, nat_lt}
 use Rattle.std.specs.Prelude.{map, is_some, if◌then◌else◌}
-use Rattle.std.specs.List.{fold}
+use Rattle.std.specs.List.{fold, flat_map, sum_by}
+use Rattle.std.proofs.lemmas.List.Sums.{sum_by-cons}
 use Rattle.plan_base.specs.declared.name.Name.{Name}
 use Rattle.plan_base.specs.declared.tree.Expr.{Expr}
 use Rattle.plan_base.specs.declared.tree.Expr.TheVariants as x
 use Rattle.plan_base.specs.declared.tree.Clause.{Clause}
-use Rattle.plan_base.specs.Sizes.{largest_by, expr_depth, clause_depth}
+use Rattle.plan_base.specs.Sizes.{largest_by, expr_depth, clause_depth, expr_nodes, clause_nodes}
 use Rattle.plan_lexer.specs.declared.token.Key.TheVariants as keys
 use Rattle.plan_lexer.specs.declared.token.Symbol.TheVariants as symbols
 use Rattle.plan_lexer.specs.declared.token.TokenKind.{TokenKind}
@@ -15,14 +16,14 @@ use Rattle.plan_grammar.specs.declared.level.Level.TheVariants as levels
 use Rattle.plan_grammar.specs.declared.node.Node.{Node}
 use Rattle.plan_grammar.specs.declared.node.Caught.{Caught}
 use Rattle.plan_grammar.specs.Ahead.{Front, Reader, ◌>>=◌, behind, place, is_symbol_kind, is_symbol}
-use Rattle.plan_grammar.specs.Nodes.{below_of, both, below_all, clauses_of, bodies, try_of}
+use Rattle.plan_grammar.specs.Nodes.{all_at, below_of, both, below_all, clauses_of, bodies, try_of}
 use Rattle.plan_grammar.specs.Exprs.{catch_at, clause_follows, clause, clauses_from, try_form, key_form, expr_to}
 use Rattle.plan_printer.specs.Pieces.{listed}
 use Rattle.text_laws.specs.PrintedTokens.{Kinds, mark, catch_kinds, expr_kinds, clause_kinds}
 use Rattle.round_trip.specs.Reads.{kinds_at, Took, first_kind, IsNode, Ends}
 use Rattle.round_trip.proofs.Steps.{took, then_took, took_by, weaker, next_is, behind_is, symbol_is, key_is, take_symbol, take_key, take_name, take_open}
 use Rattle.round_trip.proofs.Ladder.{Starts}
-use Rattle.round_trip.proofs.Forms.{is_over, IsRead, nest, behind_one, level_took}
+use Rattle.round_trip.proofs.Forms.{is_over, Measured, IsRead, nest, behind_one, level_took}
 use Rattle.round_trip.proofs.Words.{ends_end, ends_handle, by_operand}
 
 ends_bar : Ends (Some (kind.Symbol symbols.Bar))
@@ -100,7 +101,13 @@ caught_depths (c ∷ cs) (k ∷ ks) acc g = ap (λ d. fold (λ m n. max m n.dept
 caught_depths [] (k ∷ ks) acc g = absurd g
 caught_depths (c ∷ cs) [] acc g = absurd g
 
-try_took : (room : ℕ) (e a : Expr) (c : Clause) (cs : List Clause) → x.Try a (c ∷ cs) ≡ e → expr_depth e ≡ 1 + max (expr_depth a) (largest_by clause_depth (c ∷ cs)) → expr_depth e ≤ 64 → IsRead a
+caught_places : (cs : List Clause) (ks : List Caught) → AllCaught cs ks → length (flat_map all_at (bodies ks)) ≡ sum_by clause_nodes cs
+caught_places [] [] g = refl
+caught_places (c ∷ cs) (k ∷ ks) g = let z = caught_places cs ks g.1 in let s = sum_by-cons clause_nodes c cs in let b = g.0.body.nodes in simp length-append (omega (arith, z, s, b))
+caught_places [] (k ∷ ks) g = absurd g
+caught_places (c ∷ cs) [] g = absurd g
+
+try_took : (room : ℕ) (e a : Expr) (c : Clause) (cs : List Clause) → x.Try a (c ∷ cs) ≡ e → Measured e (1 + max (expr_depth a) (largest_by clause_depth (c ∷ cs))) (1 + expr_nodes a + sum_by clause_nodes (c ∷ cs)) → expr_depth e ≤ 64 → IsRead a
     → ClausesRead (largest_by clause_depth (c ∷ cs)) (c ∷ cs) → length cs ≤ 7 → 2 * expr_depth e + 7 ≤ room → (f : Front) (rest : Kinds)
     → kinds_at f ≡ kind.Key keys.Try ∷ (expr_kinds a ++ (kind.Key keys.Handle ∷ (clause_kinds c ++ (listed (mark symbols.Bar) (mark symbols.Bar) clause_kinds cs ++ (kind.Key keys.End ∷ rest)))))
     → Took (key_form (expr_to room) room keys.Try f) rest (IsNode e)
@@ -108,16 +115,17 @@ unfolding key_form try_form
 try_took room e a c cs t d most ra r l n f rest h =
     let ks : Kinds = clause_kinds c ++ (listed (mark symbols.Bar) (mark symbols.Bar) clause_kinds cs ++ (kind.Key keys.End ∷ rest)) in
     then_took _ (take_open room f _ (omega (arith, n)) h) (λ u0 g0 h0 q0.
-    then_took _ (level_took a ra room (omega (arith, n, d)) levels.Whole (behind f) (kind.Key keys.Handle ∷ ks) (behind_is f (kind.Key keys.Try) _ h) ends_handle) (λ na g1 h1 q1.
+    then_took _ (level_took a ra room (omega (arith, n, d.depth)) levels.Whole (behind f) (kind.Key keys.Handle ∷ ks) (behind_is f (kind.Key keys.Try) _ h) ends_handle) (λ na g1 h1 q1.
     then_took _ (take_key keys.Handle g1 ks h1) (λ u2 g2 h2 q2.
-    then_took _ (clauses_took room (largest_by clause_depth (c ∷ cs)) (omega (arith, n, d)) c cs r 8 (omega (arith, l)) [] g2 rest h2) (λ all g3 h3 q3.
+    then_took _ (clauses_took room (largest_by clause_depth (c ∷ cs)) (omega (arith, n, d.depth)) c cs r 8 (omega (arith, l)) [] g2 rest h2) (λ all g3 h3 q3.
     then_took _ (take_key keys.End g3 rest h3) (λ u4 g4 h4 q4.
     let z = caught_depths (c ∷ cs) q3.0 0 q3.2 in
+    let y = caught_places (c ∷ cs) q3.0 q3.2 in
     let same : all ≡ q3.0 = q3.1 in
     took _ g4 h4 (subst (λ bs. IsNode e (try_of (place f) na bs)) (sym same) (is_over e (x.Try na.tree (clauses_of q3.0)) (place f) (both (below_of na) (below_all (bodies q3.0)))
-    (ap (λ v. x.Try v (clauses_of q3.0)) q1.tree ∙ (ap (x.Try a) (same_clauses (c ∷ cs) q3.0 q3.2) ∙ t)) (omega (arith, q1.depth, z, d)) most)))))))
+    (ap (λ v. x.Try v (clauses_of q3.0)) q1.tree ∙ (ap (x.Try a) (same_clauses (c ∷ cs) q3.0 q3.2) ∙ t)) (omega (arith, q1.depth, z, d.depth)) most (simp length-append (omega (arith, q1.nodes, y, d.nodes))))))))))
 
-pub try_read : (e a : Expr) (c : Clause) (cs : List Clause) → x.Try a (c ∷ cs) ≡ e → expr_depth e ≡ 1 + max (expr_depth a) (largest_by clause_depth (c ∷ cs)) → expr_depth e ≤ 64 → IsRead a
+pub try_read : (e a : Expr) (c : Clause) (cs : List Clause) → x.Try a (c ∷ cs) ≡ e → Measured e (1 + max (expr_depth a) (largest_by clause_depth (c ∷ cs))) (1 + expr_nodes a + sum_by clause_nodes (c ∷ cs)) → expr_depth e ≤ 64 → IsRead a
     → ClausesRead (largest_by clause_depth (c ∷ cs)) (c ∷ cs) → length cs ≤ 7
     → expr_kinds e ≡ kind.Key keys.Try ∷ (expr_kinds a ++ (kind.Key keys.Handle ∷ (clause_kinds c ++ (listed (mark symbols.Bar) (mark symbols.Bar) clause_kinds cs ++ (kind.Key keys.End ∷ [])))))
     → IsRead e

@@ -1,7 +1,7 @@
 -- What it is to read tokens by their kinds alone.
-use Rattle.std.specs.Prelude.{◌≡◌, false, List, [], ◌∷◌, Option, Some, None, Result, Ok}
+use Rattle.std.specs.Prelude.{◌≡◌, ◌+◌, false, List, length, [], ◌∷◌, Option, Some, None, Result, Ok}
 use Rattle.plan_base.specs.declared.tree.Expr.{Expr}
-use Rattle.plan_base.specs.Sizes.{expr_depth}
+use Rattle.plan_base.specs.Sizes.{expr_depth, expr_nodes}
 use Rattle.plan_lexer.specs.declared.token.Key.TheVariants as keys
 use Rattle.plan_lexer.specs.declared.token.Symbol.TheVariants as symbols
 use Rattle.plan_lexer.specs.declared.token.TokenKind.{TokenKind}
@@ -33,10 +33,11 @@ first_kind (k ∷ ks) = Some k
 abbrev pub FollowsType : Kinds → Type 0
 FollowsType ks = is_key_kind keys.List (first_kind ks) ≡ false
 
--- the node is that expression, with its depth
+-- the node is that expression, with its depth, and with a place for each expression in it
 pub record IsNode (e : Expr) (n : Node) : Type 0 where
   pub tree : n.tree ≡ e
   pub depth : n.depth ≡ expr_depth e
+  pub nodes : length n.below + 1 ≡ expr_nodes e
 
 -- what may follow an expression: no joint of a chain, no `::`, no `;` and no opening bracket
 pub record Ends (k : Option TokenKind) : Type 0 where
