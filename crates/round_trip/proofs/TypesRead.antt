@@ -1,6 +1,6 @@
 -- The tokens of a printed type are read as that type.
 use Rattle.std.proofs.Common.{◌≡◌, ℕ, zero, suc, ◌+◌, ◌<◌, ◌≤◌, ◌==◌, max, Bool, true, false, cond, List, [], ◌∷◌, ◌++◌, length, drop, get_or, Option, Some, None, Result, Ok, Err, refl, sym, ap, ◌∙◌, subst, arith, append_assoc, append-nil, nat_lt}
-use Rattle.std.specs.Prelude.{map, if◌then◌else◌}
+use Rattle.std.specs.Prelude.{map, is_some, ◌||◌, if◌then◌else◌}
 use Rattle.std.proofs.lemmas.Bool.Decides.{nat_tests}
 use Rattle.std.specs.List.{fold}
 use Rattle.plan_base.specs.declared.limit.Limit.TheVariants as limits
@@ -263,3 +263,53 @@ mutual
 -- a printed type is read as that type
 pub type_takes : {t : Ty} → IsProperType t → (most : ℕ) → type_depth t ≤ most → type_depth t ≤ 8 → ReadsType most t
 type_takes {t = t} p most d w = takes_by t most d w (λ room e f ks h. base_takes p room e w 0 ks f h)
+
+-- ---- how a type begins
+
+begins_base : (x : Ty-F Ty) (k : Key) → base_key x ≡ Some k → is_some (simple_type k) ≡ true
+begins_base (Ty-F.List u) k e = absurd (cc)
+begins_base (Ty-F.Tuple ts) k e = absurd (cc)
+begins_base Ty-F.Unit k e = let w : k ≡ keys.Unit = cc in ap (λ v. is_some (simple_type v)) w
+begins_base Ty-F.Bool k e = let w : k ≡ keys.Bool = cc in ap (λ v. is_some (simple_type v)) w
+begins_base Ty-F.Int k e = let w : k ≡ keys.Int = cc in ap (λ v. is_some (simple_type v)) w
+begins_base Ty-F.Char k e = let w : k ≡ keys.Char = cc in ap (λ v. is_some (simple_type v)) w
+begins_base Ty-F.Str k e = let w : k ≡ keys.Str = cc in ap (λ v. is_some (simple_type v)) w
+begins_base Ty-F.Blob k e = let w : k ≡ keys.Blob = cc in ap (λ v. is_some (simple_type v)) w
+begins_base Ty-F.Host k e = let w : k ≡ keys.Host = cc in ap (λ v. is_some (simple_type v)) w
+begins_base Ty-F.Dev k e = let w : k ≡ keys.Dev = cc in ap (λ v. is_some (simple_type v)) w
+begins_base Ty-F.Chunk k e = let w : k ≡ keys.Chunk = cc in ap (λ v. is_some (simple_type v)) w
+
+-- the kind that a type begins with
+record TypeStarts (ks : Kinds) : Type 0 where
+  first : TokenKind
+  others : Kinds
+  are : ks ≡ first ∷ others
+  begin : (is_some (kind_type (Some first)) || is_symbol_kind symbols.ParenOpen (Some first)) ≡ true
+  shut : is_symbol_kind symbols.ParenClose (Some first) ≡ false
+
+first_of_type : {t : Ty} → IsProperType t → TypeStarts (type_kinds t)
+first_of_type {t = t} (T.base k e) = let b = base_is t (out-Ty t) refl k e in record { first = kind.Key k; others = []; are = b.kinds; begin = rw (begins_base (out-Ty t) k e) refl; shut = refl }
+first_of_type {t = t} (T.list u o p) = let s = first_of_type p in record {
+  first = s.first;
+  others = s.others ++ word keys.List;
+  are = type_kinds_out t ∙ (ap (type_kinds_level type_kinds) o ∙ ap (λ l. l ++ word keys.List) s.are);
+  begin = s.begin;
+  shut = s.shut;
+}
+first_of_type {t = t} (T.tuple ts o n ps) = record {
+  first = kind.Symbol symbols.ParenOpen;
+  others = _;
+  are = type_kinds_out t ∙ ap (type_kinds_level type_kinds) o;
+  begin = refl;
+  shut = refl;
+}
+
+-- where a printed type stands next, one may begin, and no bracket closes
+pub type_starts : (t : Ty) → IsProperType t → (f : Front) (rest : Kinds) → kinds_at f ≡ type_kinds t ++ rest → (is_symbol symbols.ParenClose f ≡ false) × (begins_type f ≡ true)
+unfolding begins_type
+type_starts t p f rest h =
+    let s = first_of_type p in
+    let ks : kinds_at f ≡ s.first ∷ (s.others ++ rest) = h ∙ ap (λ l. l ++ rest) s.are in (
+      symbol_is symbols.ParenClose f (s.first ∷ (s.others ++ rest)) ks ∙ s.shut,
+      (λ i. is_some (kind_type (next_is f (s.first ∷ (s.others ++ rest)) ks i)) || symbol_is symbols.ParenOpen f (s.first ∷ (s.others ++ rest)) ks i) ∙ s.begin,
+    )

@@ -1,0 +1,2 @@
+pub mod HeadsRead
+pub mod Declarations
