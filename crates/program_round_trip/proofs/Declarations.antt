@@ -35,7 +35,7 @@ use Rattle.round_trip.specs.Reads.{kinds_at, Took, first_kind, FollowsType, IsNo
 use Rattle.round_trip.proofs.Steps.{took, then_took, took_by, weaker, behind_is, key_is, take_name}
 use Rattle.round_trip.proofs.Forms.{level_took}
 use Rattle.round_trip.proofs.ExprsRead.{expr_read}
-use Rattle.program_round_trip.specs.Limits.{IsShortSvc, IsShortFun, IsWithinLimits}
+use Rattle.program_round_trip.proofs.Within.{IsShortSvc, IsShortFun, IsWithinLimits}
 use Rattle.program_round_trip.proofs.HeadsRead.{service_took, IsHead, head_took}
 
 -- ---- one declaration
