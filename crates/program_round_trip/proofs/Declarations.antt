@@ -1,18 +1,15 @@
 -- The tokens of a printed program are read as its declarations.
-use Rattle.std.proofs.Common.{◌≡◌, ℕ, zero, suc, ◌+◌, ◌<◌, ◌≤◌, Bool, true, false, List, [], ◌∷◌, ◌++◌, length, Option, Some, None, Result, Ok, Err, refl, sym, ap, ◌∙◌, subst, arith, append_assoc, append-nil, length-append, nat_lt}
-use Rattle.std.specs.Prelude.{map, if◌then◌else◌}
+use Rattle.std.proofs.Common.{◌≡◌, ℕ, zero, suc, ◌+◌, ◌<◌, ◌≤◌, true, false, List, [], ◌∷◌, ◌++◌, length, Result, Ok, refl, sym, ap, ◌∙◌, arith, append_assoc, append-nil, length-append, nat_lt}
 use Rattle.std.specs.List.{flat_map, sum_by}
 use Rattle.std.proofs.lemmas.Bool.Decides.{nat_tests}
 use Rattle.std.proofs.lemmas.List.Sums.{sum_by-cons}
-use Rattle.plan_base.specs.Words.{IsName}
 use Rattle.plan_base.specs.declared.limit.Limit.{Limit}
 use Rattle.plan_base.specs.declared.name.Name.{Name}
 use Rattle.plan_base.specs.declared.tree.Svc.{Svc}
 use Rattle.plan_base.specs.declared.tree.Fun.{Fun}
 use Rattle.plan_base.specs.declared.tree.Program.{Program}
 use Rattle.plan_base.specs.declared.tree.Draft.{Draft}
-use Rattle.plan_base.specs.Sizes.{expr_depth, expr_nodes, program_nodes}
-use Rattle.plan_lexer.specs.declared.token.Key.{Key}
+use Rattle.plan_base.specs.Sizes.{expr_nodes, program_nodes}
 use Rattle.plan_lexer.specs.declared.token.Key.TheVariants as keys
 use Rattle.plan_lexer.specs.declared.token.Symbol.TheVariants as symbols
 use Rattle.plan_lexer.specs.declared.token.Token.{Token}
@@ -20,23 +17,20 @@ use Rattle.plan_lexer.specs.declared.token.TokenKind.{TokenKind}
 use Rattle.plan_lexer.specs.declared.token.TokenKind.TheVariants as kind
 use Rattle.plan_grammar.specs.declared.fault.ParseFault.{ParseFault}
 use Rattle.plan_grammar.specs.declared.level.Level.TheVariants as levels
-use Rattle.plan_grammar.specs.declared.node.Node.{Node}
-use Rattle.plan_grammar.specs.Ahead.{Front, Reader, ◌>>=◌, place, behind, is_key}
+use Rattle.plan_grammar.specs.Ahead.{Front, place, behind}
 use Rattle.plan_grammar.specs.Nodes.{all_at}
-use Rattle.plan_grammar.specs.Exprs.{expr_to}
-use Rattle.plan_parser.specs.declared.signature.Head.{Head}
 use Rattle.plan_parser.specs.declared.program.Gathered.{Gathered}
-use Rattle.plan_parser.specs.Programs.{nothing, one_more, with_service, with_exception, judged, function_of, with_function, with_declaration, declarations, draft_of, finished, program_of}
+use Rattle.plan_parser.specs.Programs.{nothing, one_more, with_service, with_exception, judged, with_function, with_declaration, declarations, draft_of, finished, program_of}
 use Rattle.plan_printer.specs.Pieces.{listed}
 use Rattle.text_laws.specs.Lexes.{kinds_of}
 use Rattle.text_laws.specs.PrintedTokens.{Kinds, mark, type_kinds, param_kinds, expr_kinds, svc_kinds, exn_kinds, fun_kinds, program_kinds}
 use Rattle.text_laws.specs.Proper.{AllProper, IsProperSvc, IsProperFun, IsProperProgram}
-use Rattle.round_trip.specs.Reads.{kinds_at, Took, first_kind, FollowsType, IsNode, Ends}
-use Rattle.round_trip.proofs.Steps.{took, then_took, took_by, weaker, behind_is, key_is, take_name}
+use Rattle.round_trip.specs.Reads.{kinds_at, Took, first_kind, FollowsType, Ends}
+use Rattle.round_trip.proofs.Steps.{took, then_took, behind_is, key_is, take_name}
 use Rattle.round_trip.proofs.Forms.{level_took}
 use Rattle.round_trip.proofs.ExprsRead.{expr_read}
 use Rattle.program_round_trip.proofs.Within.{IsShortSvc, IsShortFun, IsWithinLimits}
-use Rattle.program_round_trip.proofs.HeadsRead.{service_took, IsHead, head_took}
+use Rattle.program_round_trip.proofs.HeadsRead.{service_took, head_took}
 
 -- ---- one declaration
 

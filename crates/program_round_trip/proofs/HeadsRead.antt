@@ -1,31 +1,22 @@
 -- The head of a printed declaration is read.
-use Rattle.std.proofs.Common.{◌≡◌, ℕ, zero, suc, ◌+◌, ◌<◌, ◌≤◌, Bool, true, false, List, [], ◌∷◌, ◌++◌, length, Option, Some, None, Result, Ok, Err, refl, sym, ap, ◌∙◌, subst, arith, append_assoc}
-use Rattle.std.specs.Prelude.{map, if◌then◌else◌}
-use Rattle.plan_base.specs.declared.limit.Limit.{Limit}
+use Rattle.std.proofs.Common.{◌≡◌, ◌≤◌, true, List, [], ◌∷◌, ◌++◌, length, refl, ap, ◌∙◌, arith, append_assoc}
 use Rattle.plan_base.specs.declared.limit.Limit.TheVariants as limits
-use Rattle.plan_base.specs.declared.name.Name.{Name}
 use Rattle.plan_base.specs.declared.tree.Ty.{Ty}
 use Rattle.plan_base.specs.declared.tree.Svc.{Svc}
 use Rattle.plan_base.specs.declared.tree.Param.{Param}
 use Rattle.plan_base.specs.declared.tree.Fun.{Fun}
-use Rattle.plan_base.specs.Sizes.{type_depth}
-use Rattle.plan_lexer.specs.declared.token.Key.TheVariants as keys
 use Rattle.plan_lexer.specs.declared.token.Symbol.TheVariants as symbols
-use Rattle.plan_lexer.specs.declared.token.TokenKind.{TokenKind}
 use Rattle.plan_lexer.specs.declared.token.TokenKind.TheVariants as kind
-use Rattle.plan_grammar.specs.declared.fault.ParseFault.{ParseFault}
-use Rattle.plan_grammar.specs.declared.fault.Wanted.{Wanted}
 use Rattle.plan_grammar.specs.declared.fault.Wanted.TheVariants as wanted
-use Rattle.plan_grammar.specs.Ahead.{Front, Reader, ◌>>=◌, behind, next_kind, is_word, is_symbol_kind, is_key_kind}
-use Rattle.plan_grammar.specs.Begins.{kind_type, begins_type}
-use Rattle.plan_grammar.specs.Types.{more, type_to}
+use Rattle.plan_grammar.specs.Ahead.{Front, behind, is_word}
+use Rattle.plan_grammar.specs.Begins.{begins_type}
 use Rattle.plan_parser.specs.declared.signature.Head.{Head}
 use Rattle.plan_parser.specs.Signatures.{outer_type, inner_type, arguments_from, arguments_behind, service_at, begins_param, param_at, params_from, params_behind, head_at}
 use Rattle.plan_printer.specs.Pieces.{listed}
 use Rattle.text_laws.specs.PrintedTokens.{Kinds, mark, type_kinds, param_kinds}
 use Rattle.text_laws.specs.Proper.{IsReadableType, IsProperParam, IsProperSvc, IsProperFun, AllProper}
-use Rattle.round_trip.specs.Reads.{kinds_at, Took, first_kind, FollowsType}
-use Rattle.round_trip.proofs.Steps.{took, then_took, took_by, weaker, next_is, behind_is, symbol_is, take_symbol, take_name, AllRead, AllGood, more_took}
+use Rattle.round_trip.specs.Reads.{kinds_at, Took, FollowsType}
+use Rattle.round_trip.proofs.Steps.{took, then_took, next_is, behind_is, symbol_is, take_symbol, take_name, AllRead, AllGood, more_took}
 use Rattle.round_trip.proofs.TypesRead.{type_takes, type_starts}
 
 inner_took : (t : Ty) → IsReadableType t → (f : Front) (rest : Kinds) → kinds_at f ≡ type_kinds t ++ rest → FollowsType rest → Took (inner_type f) rest (λ u. u ≡ t)

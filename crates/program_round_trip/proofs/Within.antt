@@ -1,9 +1,9 @@
 -- A well-formed program keeps the limits of the grammar.
-use Rattle.std.proofs.Common.{◌≡◌, ℕ, ◌≤◌, Bool, true, false, ◌&&◌, List, [], ◌∷◌, length, nat_le, refl, sym, ap, ◌∙◌, arith}
+use Rattle.std.proofs.Common.{◌≡◌, ℕ, ◌≤◌, Bool, true, false, ◌&&◌, List, [], ◌∷◌, length, nat_le, refl, arith}
 use Rattle.std.specs.List.{list_all}
 use Rattle.std.proofs.lemmas.Bool.Decides.{nat_tests}
 use Rattle.plan_base.specs.Sizes.{expr_depth, program_nodes}
-use Rattle.plan_base.specs.WellFormed.{well_formed_type, well_formed_expr, well_formed_svc, well_formed_fun, well_formed_program, IsWellFormedProgram}
+use Rattle.plan_base.specs.WellFormed.{well_formed_expr, well_formed_svc, well_formed_fun, well_formed_program, IsWellFormedProgram}
 use Rattle.plan_base.specs.declared.tree.Svc.{Svc}
 use Rattle.plan_base.specs.declared.tree.Expr.{Expr}
 use Rattle.plan_base.specs.declared.tree.Fun.{Fun}

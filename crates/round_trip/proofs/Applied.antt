@@ -1,40 +1,31 @@
 -- Literals, names, and what has parts behind commas.
-use Rattle.std.proofs.Common.{◌≡◌, ℕ, zero, suc, ◌+◌, ◌-◌, ◌*◌, ◌<◌, ◌≤◌, ◌==◌, max, Bool, true, false, ◌||◌, cond, List, [], ◌∷◌, ◌++◌, length, Option, Some, None, Result, Ok, Err, ℤ, refl, sym, ap, ◌∙◌, subst, arith, append_assoc, length-append, nat_lt}
-use Rattle.std.specs.Prelude.{map, if◌then◌else◌}
+use Rattle.std.proofs.Common.{◌≡◌, ℕ, ◌+◌, ◌*◌, ◌<◌, ◌≤◌, max, Bool, true, false, List, [], ◌∷◌, ◌++◌, length, Some, Ok, refl, sym, ap, ◌∙◌, subst, arith, append_assoc, length-append}
 use Rattle.std.specs.List.{fold, flat_map, sum_by}
 use Rattle.std.proofs.lemmas.List.Sums.{sum_by-cons}
 use Rattle.plan_base.specs.declared.limit.Limit.{Limit}
 use Rattle.plan_base.specs.declared.limit.Limit.TheVariants as limits
 use Rattle.plan_base.specs.declared.name.Name.{Name}
-use Rattle.plan_base.specs.declared.tree.Ty.{Ty}
-use Rattle.plan_base.specs.declared.tree.Expr.{Expr, Expr-F, out-Expr}
+use Rattle.plan_base.specs.declared.tree.Expr.{Expr}
 use Rattle.plan_base.specs.declared.tree.Expr.TheVariants as x
-use Rattle.plan_base.specs.Sizes.{largest_by, type_depth, expr_depth_level, expr_depth, expr_nodes}
-use Rattle.plan_lexer.specs.declared.token.Key.{Key}
-use Rattle.plan_lexer.specs.declared.token.Key.TheVariants as keys
+use Rattle.plan_base.specs.Sizes.{largest_by, expr_depth, expr_nodes}
 use Rattle.plan_lexer.specs.declared.token.Symbol.TheVariants as symbols
 use Rattle.plan_lexer.specs.declared.token.TokenKind.{TokenKind}
 use Rattle.plan_lexer.specs.declared.token.TokenKind.TheVariants as kind
-use Rattle.plan_grammar.specs.declared.fault.ParseFault.{ParseFault}
 use Rattle.plan_grammar.specs.declared.fault.Wanted.TheVariants as wanted
 use Rattle.plan_grammar.specs.declared.level.Level.{Level}
 use Rattle.plan_grammar.specs.declared.level.Level.TheVariants as levels
 use Rattle.plan_grammar.specs.declared.node.Node.{Node}
-use Rattle.plan_grammar.specs.declared.node.FoldParts.{FoldParts}
-use Rattle.plan_grammar.specs.declared.node.SendParts.{SendParts}
-use Rattle.plan_grammar.specs.Ahead.{Front, Reader, ◌>>=◌, behind, place, next_kind, is_symbol_kind, is_key_kind, is_key, name_kind, name_at}
+use Rattle.plan_grammar.specs.Ahead.{Front, Reader, behind, place, is_symbol_kind}
 use Rattle.plan_grammar.specs.Begins.{kind_begins, begins_expr}
-use Rattle.plan_grammar.specs.Types.{type_to, more}
-use Rattle.plan_grammar.specs.Nodes.{all_at, leaf, below_of, both, below_all, trees, over, over_one, over_two, over_three, over_four, over_list}
-use Rattle.plan_grammar.specs.Exprs.{literal, literal_key, literal_from, need_open, items_from, arguments_behind, arguments, call, named, chunk, tuple, grouped, parens_behind, parens, typed_nil, brackets_behind, brackets, raise_typed, raise_plain, raise_form, before_comma, before_close, fold_parts, foldl_form, foldr_form, eval_form, send_parts, remote_form, neighbor_form, key_form, symbol_form, operand_kind, operand, expr_to}
+use Rattle.plan_grammar.specs.Types.{more}
+use Rattle.plan_grammar.specs.Nodes.{all_at, leaf, below_all, trees, over_list}
+use Rattle.plan_grammar.specs.Exprs.{need_open, items_from, arguments_behind, arguments, call, named, chunk, tuple, grouped, parens_behind, parens, symbol_form, operand_kind, operand, expr_to}
 use Rattle.plan_printer.specs.Pieces.{listed}
-use Rattle.text_laws.specs.PrintedTokens.{Kinds, mark, type_kinds, expr_kinds}
-use Rattle.text_laws.specs.Proper.{IsProperType}
+use Rattle.text_laws.specs.PrintedTokens.{Kinds, mark, expr_kinds}
 use Rattle.round_trip.specs.Reads.{kinds_at, Took, first_kind, IsNode, Ends}
-use Rattle.round_trip.proofs.Steps.{took, then_took, took_by, weaker, next_is, behind_is, symbol_is, key_is, take_symbol, take_key, take_name, take_open, Reads, AllRead, AllGood, Added, more_took}
-use Rattle.round_trip.proofs.TypesRead.{type_takes, fold_max}
+use Rattle.round_trip.proofs.Steps.{took, then_took, took_by, weaker, behind_is, symbol_is, take_symbol, take_name, take_open, AllRead, AllGood, more_took}
 use Rattle.round_trip.proofs.Ladder.{Starts}
-use Rattle.round_trip.proofs.Forms.{is_over, Measured, IsRead, nest, behind_one, level_took, ends_paren, operand_is, begins_is, starts_expr, starts_by, paren_starts, no_close}
+use Rattle.round_trip.proofs.Forms.{is_over, Measured, IsRead, nest, behind_one, level_took, ends_paren, operand_is, starts_by, paren_starts, no_close}
 use Rattle.round_trip.proofs.Bracketing.{begins_starts}
 
 pub ends_comma : Ends (Some (kind.Symbol symbols.Comma))

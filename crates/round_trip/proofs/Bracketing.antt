@@ -1,28 +1,25 @@
 -- The forms in round brackets other than operators.
-use Rattle.std.proofs.Common.{◌≡◌, ℕ, zero, suc, ◌+◌, ◌-◌, ◌*◌, ◌<◌, ◌≤◌, ◌==◌, max, Bool, true, false, ◌||◌, cond, List, [], ◌∷◌, ◌++◌, length, Option, Some, None, Result, Ok, Err, refl, sym, ap, ◌∙◌, subst, arith, append_assoc, length-append, nat_lt}
-use Rattle.std.specs.List.{sum_by}
-use Rattle.std.specs.Prelude.{map, if◌then◌else◌}
+use Rattle.std.proofs.Common.{◌≡◌, ℕ, zero, suc, ◌+◌, ◌*◌, ◌≤◌, max, true, false, [], ◌∷◌, ◌++◌, Some, refl, ap, ◌∙◌, arith, length-append}
 use Rattle.plan_base.specs.declared.tree.Op.TheVariants as op
-use Rattle.plan_base.specs.declared.tree.Expr.{Expr, Expr-F, out-Expr}
+use Rattle.plan_base.specs.declared.tree.Expr.{Expr}
 use Rattle.plan_base.specs.declared.tree.Expr.TheVariants as x
-use Rattle.plan_base.specs.Sizes.{expr_depth_level, expr_depth, expr_nodes, clause_nodes}
+use Rattle.plan_base.specs.Sizes.{expr_depth, expr_nodes}
 use Rattle.plan_lexer.specs.declared.token.Key.TheVariants as keys
 use Rattle.plan_lexer.specs.declared.token.Symbol.TheVariants as symbols
-use Rattle.plan_lexer.specs.declared.token.TokenKind.{TokenKind}
 use Rattle.plan_lexer.specs.declared.token.TokenKind.TheVariants as kind
 use Rattle.plan_grammar.specs.declared.level.Level.{Level}
 use Rattle.plan_grammar.specs.declared.level.Level.TheVariants as levels
 use Rattle.plan_grammar.specs.declared.joint.Joint.TheVariants as joints
 use Rattle.plan_grammar.specs.declared.node.Node.{Node}
-use Rattle.plan_grammar.specs.Ahead.{Front, Reader, ◌>>=◌, behind, place, next_kind, is_symbol_kind, is_key_kind, is_key}
+use Rattle.plan_grammar.specs.Ahead.{Front, Reader, behind, place, is_key}
 use Rattle.plan_grammar.specs.Begins.{kind_begins, begins_operand, begins_expr}
-use Rattle.plan_grammar.specs.Nodes.{below_of, both, over, over_one, over_two, over_three, consed}
-use Rattle.plan_grammar.specs.Exprs.{opens_at, operand_kind, operand, addition, before_list, listed, comparison, negation, negated, condition, low, before_next, whole, at_level, expr_to, picked}
-use Rattle.text_laws.specs.PrintedTokens.{Kinds, expr_kinds_level, clause_kinds, expr_kinds}
-use Rattle.round_trip.specs.Reads.{kinds_at, Took, first_kind, IsNode, Ends}
-use Rattle.round_trip.proofs.Steps.{took, then_took, took_by, weaker, next_is, behind_is, symbol_is, key_is, take_symbol, take_key, take_name, take_open}
+use Rattle.plan_grammar.specs.Nodes.{below_of, both, consed}
+use Rattle.plan_grammar.specs.Exprs.{opens_at, operand, addition, before_list, listed, negation, negated, condition, low, before_next, whole, at_level, expr_to, picked}
+use Rattle.text_laws.specs.PrintedTokens.{Kinds, expr_kinds}
+use Rattle.round_trip.specs.Reads.{kinds_at, Took, IsNode, Ends}
+use Rattle.round_trip.proofs.Steps.{took, then_took, took_by, weaker, next_is, behind_is, symbol_is, key_is, take_key, take_open}
 use Rattle.round_trip.proofs.Ladder.{Starts, Joins, at_every_level, up_product, up_addition, up_listed, up_comparison, up_negated, up_conjunction, up_disjunction, up_low, up_whole, isnt_not, isnt_if}
-use Rattle.round_trip.proofs.Forms.{is_over, Measured, depth_of, kinds_are, IsRead, AreJoined, join_good, nest, behind_one, level_took, ends_paren, parens_took, around_took, begins_is, starts_expr, operand_is, starts_by, paren_starts}
+use Rattle.round_trip.proofs.Forms.{is_over, Measured, IsRead, AreJoined, join_good, nest, behind_one, level_took, ends_paren, parens_took, around_took, begins_is, starts_expr, operand_is, starts_by, paren_starts}
 
 pub ends_then : Ends (Some (kind.Key keys.Then))
 ends_then = record { product = refl; sum = refl; cons = refl; comparison = refl; both = refl; either = refl; next = refl; call = refl }

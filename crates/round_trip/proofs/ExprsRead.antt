@@ -1,6 +1,6 @@
 -- The tokens of a printed expression are read as that expression.
-use Rattle.std.proofs.Common.{◌≡◌, ℕ, zero, suc, ◌+◌, ◌-◌, ◌*◌, ◌<◌, ◌≤◌, ◌==◌, max, Bool, true, false, ◌||◌, cond, List, [], ◌∷◌, ◌++◌, length, Option, Some, None, Result, Ok, Err, refl, sym, ap, ◌∙◌, subst, arith, append_assoc}
-use Rattle.std.specs.Prelude.{map, is_some, if◌then◌else◌}
+use Rattle.std.proofs.Common.{◌≡◌, ℕ, ◌≤◌, Bool, true, false, List, [], ◌∷◌, ◌++◌, length, Option, Some, None, refl, sym, ap, ◌∙◌, arith, append_assoc}
+use Rattle.std.specs.Prelude.{is_some}
 use Rattle.plan_base.specs.declared.name.Name.{Name}
 use Rattle.plan_base.specs.declared.tree.Ty.{Ty}
 use Rattle.plan_base.specs.declared.tree.Op.{Op}
@@ -8,26 +8,22 @@ use Rattle.plan_base.specs.declared.tree.Op.TheVariants as op
 use Rattle.plan_base.specs.declared.tree.Expr.{Expr, Expr-F, out-Expr}
 use Rattle.plan_base.specs.declared.tree.Expr.TheVariants as x
 use Rattle.plan_base.specs.declared.tree.Clause.{Clause}
-use Rattle.plan_base.specs.Sizes.{largest_by, type_depth, expr_depth, clause_depth}
+use Rattle.plan_base.specs.Sizes.{largest_by, expr_depth, clause_depth}
 use Rattle.plan_lexer.specs.declared.token.Key.TheVariants as keys
 use Rattle.plan_lexer.specs.declared.token.Symbol.TheVariants as symbols
 use Rattle.plan_lexer.specs.declared.token.TokenKind.{TokenKind}
 use Rattle.plan_lexer.specs.declared.token.TokenKind.TheVariants as kind
-use Rattle.plan_grammar.specs.declared.joint.Joint.{Joint}
 use Rattle.plan_grammar.specs.declared.joint.Joint.TheVariants as joints
-use Rattle.plan_grammar.specs.declared.level.Level.{Level}
-use Rattle.plan_grammar.specs.declared.node.Node.{Node}
-use Rattle.plan_grammar.specs.Ahead.{Front, Reader, ◌>>=◌, behind, place, is_symbol_kind}
-use Rattle.plan_grammar.specs.Nodes.{leaf}
-use Rattle.plan_grammar.specs.Exprs.{parens, parens_behind, key_form, symbol_form, operand_kind, expr_to}
+use Rattle.plan_grammar.specs.Ahead.{Front, behind, place, is_symbol_kind}
+use Rattle.plan_grammar.specs.Exprs.{parens, parens_behind, key_form, symbol_form, expr_to}
 use Rattle.plan_printer.specs.Pieces.{listed}
 use Rattle.text_laws.specs.PrintedTokens.{Kinds, mark, op_kinds, type_kinds, clause_kinds, expr_kinds}
-use Rattle.text_laws.specs.Proper.{IsReadableType, IsProperOption, IsProper, AreProper, AreProperClauses}
+use Rattle.text_laws.specs.Proper.{IsProperOption, IsProper, AreProper, AreProperClauses}
 use Rattle.text_laws.specs.Proper.{IsProper as P, AreProper as M, AreProperClauses as K}
-use Rattle.round_trip.specs.Reads.{kinds_at, Took, first_kind, IsNode}
+use Rattle.round_trip.specs.Reads.{kinds_at, Took, IsNode}
 use Rattle.round_trip.proofs.Steps.{took, then_took, behind_is, symbol_is, take_open}
 use Rattle.round_trip.proofs.TypesRead.{largest_cons}
-use Rattle.round_trip.proofs.Forms.{Measured, made_of, measured, kinds_are, IsRead, AreJoined, Between, in_product, in_sum, in_comparison, in_both, in_either, pair_read, starts_by, paren_starts}
+use Rattle.round_trip.proofs.Forms.{Measured, made_of, measured, kinds_are, IsRead, Between, in_product, in_sum, in_comparison, in_both, in_either, pair_read}
 use Rattle.round_trip.proofs.Bracketing.{if_read, sequence_read, not_read, cons_read, part_read}
 use Rattle.round_trip.proofs.Applied.{leaf_good, literal_read, var_read, AreRead, call_read, chunk_read, tuple_read}
 use Rattle.round_trip.proofs.Words.{by_operand, eval_read, foldl_read, foldr_read, remote_read, neighbor_read, nil_read, empty_read, raise_typed_read, raise_read, let_read}

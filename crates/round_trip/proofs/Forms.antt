@@ -1,42 +1,31 @@
 -- How each printed form is read, from the readings of its parts.
-use Rattle.std.proofs.Common.{◌≡◌, ℕ, zero, suc, ◌+◌, ◌-◌, ◌*◌, ◌<◌, ◌≤◌, ◌==◌, max, Bool, true, false, ◌||◌, cond, List, [], ◌∷◌, ◌++◌, length, Option, Some, None, Result, Ok, Err, refl, sym, ap, ◌∙◌, subst, arith, append_assoc, length-append, nat_lt}
-use Rattle.std.specs.Prelude.{map, if◌then◌else◌}
+use Rattle.std.proofs.Common.{◌≡◌, ℕ, zero, suc, ◌+◌, ◌*◌, ◌<◌, ◌≤◌, max, Bool, true, false, ◌||◌, [], ◌∷◌, ◌++◌, length, Option, Some, None, refl, sym, ap, ◌∙◌, subst, arith, append_assoc, length-append, nat_lt}
 use Rattle.std.proofs.lemmas.Bool.Decides.{nat_tests}
-use Rattle.plan_base.specs.declared.name.Name.{Name}
-use Rattle.plan_base.specs.declared.tree.Op.{Op}
-use Rattle.plan_base.specs.declared.tree.Op.TheVariants as op
-use Rattle.plan_base.specs.declared.tree.Ty.{Ty}
 use Rattle.plan_base.specs.declared.tree.Expr.{Expr, Expr-F, out-Expr, roll-Expr, roll-out-Expr}
-use Rattle.plan_base.specs.declared.tree.Expr.TheVariants as x
 use Rattle.plan_base.specs.declared.tree.Clause.{Clause}
-use Rattle.plan_base.specs.Sizes.{largest_by, type_depth, expr_depth_level, expr_depth, clause_depth, expr_nodes_level, expr_nodes, clause_nodes}
+use Rattle.plan_base.specs.Sizes.{expr_depth_level, expr_depth, clause_depth, expr_nodes_level, expr_nodes, clause_nodes}
 use Rattle.plan_base.proofs.SizeLaws.{expr_depth_out, expr_nodes_out}
-use Rattle.plan_lexer.specs.declared.token.Key.{Key}
 use Rattle.plan_lexer.specs.declared.token.Key.TheVariants as keys
-use Rattle.plan_lexer.specs.declared.token.Symbol.{Symbol}
 use Rattle.plan_lexer.specs.declared.token.Symbol.TheVariants as symbols
 use Rattle.plan_lexer.specs.declared.token.TokenKind.{TokenKind}
 use Rattle.plan_lexer.specs.declared.token.TokenKind.TheVariants as kind
-use Rattle.plan_grammar.specs.declared.fault.ParseFault.{ParseFault}
 use Rattle.plan_grammar.specs.declared.joint.Joint.{Joint}
-use Rattle.plan_grammar.specs.declared.joint.Joint.TheVariants as joints
 use Rattle.plan_grammar.specs.declared.joint.Chain.{Chain}
 use Rattle.plan_grammar.specs.declared.joint.Chain.TheVariants as chains
 use Rattle.plan_grammar.specs.declared.level.Level.{Level}
 use Rattle.plan_grammar.specs.declared.level.Level.TheVariants as levels
 use Rattle.plan_grammar.specs.declared.node.Node.{Node}
 use Rattle.plan_grammar.specs.declared.node.Below.{Below}
-use Rattle.plan_grammar.specs.Ahead.{Front, Reader, ◌>>=◌, behind, place, next_kind, is_symbol_kind, is_symbol, is_key_kind, is_key}
+use Rattle.plan_grammar.specs.Ahead.{Front, Reader, behind, is_symbol_kind, is_key_kind, is_key}
 use Rattle.plan_grammar.specs.Begins.{kind_begins, begins_operand, begins_negated, begins_expr}
 use Rattle.plan_grammar.specs.Joints.{joint_of, joined_tree}
-use Rattle.plan_grammar.specs.Nodes.{leaf, over, below_of, both, over_one, over_two, over_three, joined, consed}
-use Rattle.plan_grammar.specs.Exprs.{literal, literal_key, literal_from, opens_at, need_open, operand_kind, operand, chained, product, addition, before_list, listed, compared, comparison, negation, negated, conjunction, disjunction, condition, low, before_next, whole, at_level, expr_to, single, grouped, parens_behind, parens, symbol_form, key_form, picked, named, before_close, eval_form}
-use Rattle.text_laws.specs.Lexes.{kinds_of}
-use Rattle.text_laws.specs.PrintedTokens.{Kinds, mark, word, expr_kinds_level, clause_kinds, expr_kinds, op_kinds}
+use Rattle.plan_grammar.specs.Nodes.{over, below_of, both, joined}
+use Rattle.plan_grammar.specs.Exprs.{operand_kind, operand, product, addition, listed, compared, comparison, negated, conjunction, disjunction, whole, at_level, expr_to, single, grouped, parens_behind, parens, symbol_form}
+use Rattle.text_laws.specs.PrintedTokens.{Kinds, expr_kinds_level, clause_kinds, expr_kinds}
 use Rattle.text_laws.proofs.ExprTokens.{expr_kinds_out}
 use Rattle.round_trip.specs.Reads.{kinds_at, Took, first_kind, IsNode, Ends}
-use Rattle.round_trip.proofs.Steps.{took, then_took, took_by, weaker, next_is, behind_is, symbol_is, key_is, take_symbol, take_key, take_name, take_open}
-use Rattle.round_trip.proofs.Ladder.{Starts, alone, paired, Joins, up_product, up_addition, up_listed, up_comparison, up_negated, up_conjunction, up_disjunction, up_low, up_whole, isnt_not, isnt_if, at_every_level}
+use Rattle.round_trip.proofs.Steps.{took, then_took, took_by, weaker, next_is, behind_is, symbol_is, take_symbol, take_open}
+use Rattle.round_trip.proofs.Ladder.{Starts, paired, Joins, up_product, up_addition, up_listed, up_comparison, up_negated, up_conjunction, up_disjunction, up_low, up_whole, isnt_not, isnt_if, at_every_level}
 
 -- ---- nodes
 

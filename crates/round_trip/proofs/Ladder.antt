@@ -1,31 +1,25 @@
 -- From operands up to whole expressions, where no further joint stands behind them.
-use Rattle.std.proofs.Common.{◌≡◌, ℕ, zero, suc, ◌+◌, ◌*◌, ◌<◌, ◌≤◌, ◌==◌, max, Bool, true, false, ◌||◌, cond, List, [], ◌∷◌, ◌++◌, length, Option, Some, None, Result, Ok, Err, refl, sym, ap, ◌∙◌, subst, arith, append_assoc, nat_lt}
-use Rattle.std.specs.Prelude.{map, if◌then◌else◌}
-use Rattle.std.proofs.lemmas.Bool.Decides.{nat_tests}
-use Rattle.plan_base.specs.declared.tree.Expr.{Expr}
-use Rattle.plan_base.specs.Sizes.{expr_depth}
+use Rattle.std.proofs.Common.{◌≡◌, ℕ, zero, suc, ◌<◌, true, false, List, [], ◌∷◌, ◌++◌, length, Some, None, Ok, refl, ap, ◌∙◌, arith}
 use Rattle.plan_lexer.specs.declared.token.Key.TheVariants as keys
 use Rattle.plan_lexer.specs.declared.token.Symbol.TheVariants as symbols
 use Rattle.plan_lexer.specs.declared.token.Token.{Token}
 use Rattle.plan_lexer.specs.declared.token.TokenKind.{TokenKind}
 use Rattle.plan_lexer.specs.declared.token.TokenKind.TheVariants as kind
-use Rattle.plan_grammar.specs.declared.fault.ParseFault.{ParseFault}
 use Rattle.plan_grammar.specs.declared.joint.Joint.{Joint}
 use Rattle.plan_grammar.specs.declared.joint.Chain.{Chain}
 use Rattle.plan_grammar.specs.declared.joint.Chain.TheVariants as chains
 use Rattle.plan_grammar.specs.declared.level.Level.{Level}
 use Rattle.plan_grammar.specs.declared.level.Level.TheVariants as levels
 use Rattle.plan_grammar.specs.declared.node.Node.{Node}
-use Rattle.plan_grammar.specs.declared.node.Below.{Below}
-use Rattle.plan_grammar.specs.Ahead.{Front, Reader, ◌>>=◌, behind, place, next_kind, is_symbol_kind, is_symbol, is_key_kind, is_key}
-use Rattle.plan_grammar.specs.Begins.{kind_begins, begins_operand, begins_negated, begins_expr}
+use Rattle.plan_grammar.specs.Ahead.{Front, Reader, ◌>>=◌, behind, next_kind, is_symbol_kind, is_key_kind, is_key}
+use Rattle.plan_grammar.specs.Begins.{kind_begins}
 use Rattle.plan_grammar.specs.Joints.{joint_of}
-use Rattle.plan_grammar.specs.Nodes.{over, joined}
-use Rattle.plan_grammar.specs.Exprs.{chain_step, chain_from, operand, chained, product, addition, before_list, listed, compared, comparison, negation, negated, conjunction, disjunction, condition, low, before_next, whole, at_level, expr_to}
+use Rattle.plan_grammar.specs.Nodes.{joined}
+use Rattle.plan_grammar.specs.Exprs.{chain_from, operand, chained, product, addition, listed, compared, comparison, negated, conjunction, disjunction, low, whole, at_level}
 use Rattle.text_laws.specs.Lexes.{kinds_of}
-use Rattle.text_laws.specs.PrintedTokens.{Kinds, expr_kinds}
-use Rattle.round_trip.specs.Reads.{kinds_at, Took, first_kind, IsNode, Ends}
-use Rattle.round_trip.proofs.Steps.{took, then_took, took_by, weaker, next_is, behind_is, symbol_is, key_is}
+use Rattle.text_laws.specs.PrintedTokens.{Kinds}
+use Rattle.round_trip.specs.Reads.{kinds_at, Took, first_kind, Ends}
+use Rattle.round_trip.proofs.Steps.{took, then_took, took_by, next_is, behind_is, symbol_is, key_is}
 
 -- tokens that begin with one that may begin an operand
 pub record Starts (ks : Kinds) : Type 0 where

@@ -1,6 +1,6 @@
 -- The clauses of a `try`.
-use Rattle.std.proofs.Common.{◌≡◌, ℕ, zero, suc, ◌+◌, ◌-◌, ◌*◌, ◌<◌, ◌≤◌, ◌==◌, max, Bool, true, false, ◌&&◌, ◌||◌, cond, List, [], ◌∷◌, ◌++◌, length, Option, Some, None, Result, Ok, Err, refl, sym, ap, ◌∙◌, subst, arith, append_assoc, length-append, nat_lt}
-use Rattle.std.specs.Prelude.{map, is_some, if◌then◌else◌}
+use Rattle.std.proofs.Common.{◌≡◌, ℕ, zero, suc, ◌+◌, ◌*◌, ◌<◌, ◌≤◌, max, Bool, true, false, ◌&&◌, List, [], ◌∷◌, ◌++◌, length, Option, Some, None, refl, sym, ap, ◌∙◌, subst, arith, append_assoc, length-append}
+use Rattle.std.specs.Prelude.{is_some}
 use Rattle.std.specs.List.{fold, flat_map, sum_by}
 use Rattle.std.proofs.lemmas.List.Sums.{sum_by-cons}
 use Rattle.plan_base.specs.declared.name.Name.{Name}
@@ -10,19 +10,16 @@ use Rattle.plan_base.specs.declared.tree.Clause.{Clause}
 use Rattle.plan_base.specs.Sizes.{largest_by, expr_depth, clause_depth, expr_nodes, clause_nodes}
 use Rattle.plan_lexer.specs.declared.token.Key.TheVariants as keys
 use Rattle.plan_lexer.specs.declared.token.Symbol.TheVariants as symbols
-use Rattle.plan_lexer.specs.declared.token.TokenKind.{TokenKind}
 use Rattle.plan_lexer.specs.declared.token.TokenKind.TheVariants as kind
 use Rattle.plan_grammar.specs.declared.level.Level.TheVariants as levels
-use Rattle.plan_grammar.specs.declared.node.Node.{Node}
 use Rattle.plan_grammar.specs.declared.node.Caught.{Caught}
-use Rattle.plan_grammar.specs.Ahead.{Front, Reader, ◌>>=◌, behind, place, is_symbol_kind, is_symbol}
+use Rattle.plan_grammar.specs.Ahead.{Front, behind, place, is_symbol}
 use Rattle.plan_grammar.specs.Nodes.{all_at, below_of, both, below_all, clauses_of, bodies, try_of}
 use Rattle.plan_grammar.specs.Exprs.{catch_at, clause_follows, clause, clauses_from, try_form, key_form, expr_to}
 use Rattle.plan_printer.specs.Pieces.{listed}
 use Rattle.text_laws.specs.PrintedTokens.{Kinds, mark, catch_kinds, expr_kinds, clause_kinds}
 use Rattle.round_trip.specs.Reads.{kinds_at, Took, first_kind, IsNode, Ends}
-use Rattle.round_trip.proofs.Steps.{took, then_took, took_by, weaker, next_is, behind_is, symbol_is, key_is, take_symbol, take_key, take_name, take_open}
-use Rattle.round_trip.proofs.Ladder.{Starts}
+use Rattle.round_trip.proofs.Steps.{took, then_took, weaker, behind_is, symbol_is, take_symbol, take_key, take_name, take_open}
 use Rattle.round_trip.proofs.Forms.{is_over, Measured, IsRead, nest, behind_one, level_took}
 use Rattle.round_trip.proofs.Words.{ends_end, ends_handle, by_operand}
 

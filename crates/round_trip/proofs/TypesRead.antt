@@ -1,11 +1,10 @@
 -- The tokens of a printed type are read as that type.
-use Rattle.std.proofs.Common.{◌≡◌, ℕ, zero, suc, ◌+◌, ◌<◌, ◌≤◌, ◌==◌, max, Bool, true, false, cond, List, [], ◌∷◌, ◌++◌, length, drop, get_or, Option, Some, None, Result, Ok, Err, refl, sym, ap, ◌∙◌, subst, arith, append_assoc, append-nil, nat_lt}
-use Rattle.std.specs.Prelude.{map, is_some, ◌||◌, if◌then◌else◌}
+use Rattle.std.proofs.Common.{◌≡◌, ℕ, zero, suc, ◌+◌, ◌<◌, ◌≤◌, max, Bool, true, false, List, [], ◌∷◌, ◌++◌, length, Some, Result, Ok, refl, sym, ap, ◌∙◌, subst, arith, append_assoc, nat_lt}
+use Rattle.std.specs.Prelude.{is_some, ◌||◌}
 use Rattle.std.proofs.lemmas.Bool.Decides.{nat_tests}
 use Rattle.std.specs.List.{fold}
 use Rattle.plan_base.specs.declared.limit.Limit.TheVariants as limits
 use Rattle.plan_base.specs.declared.tree.Ty.{Ty, Ty-F, out-Ty, roll-Ty, roll-out-Ty}
-use Rattle.plan_base.specs.declared.tree.Ty as ty
 use Rattle.plan_base.specs.declared.tree.Ty.TheVariants as made
 use Rattle.plan_base.specs.Sizes.{largest_by, type_depth_level, type_depth}
 use Rattle.plan_base.proofs.SizeLaws.{type_depth_out}
@@ -17,9 +16,9 @@ use Rattle.plan_lexer.specs.declared.token.TokenKind.{TokenKind}
 use Rattle.plan_lexer.specs.declared.token.TokenKind.TheVariants as kind
 use Rattle.plan_grammar.specs.declared.fault.ParseFault.{ParseFault}
 use Rattle.plan_grammar.specs.declared.fault.Wanted.TheVariants as wanted
-use Rattle.plan_grammar.specs.Ahead.{Front, Reader, ◌>>=◌, behind, place, next_kind, is_symbol, is_symbol_kind, is_key_kind}
+use Rattle.plan_grammar.specs.Ahead.{Front, Reader, behind, place, is_symbol, is_symbol_kind, is_key_kind}
 use Rattle.plan_grammar.specs.Begins.{simple_type, kind_type, begins_type}
-use Rattle.plan_grammar.specs.Types.{opens, more, named, after_lists, is_list_word, list_words, behind_lists, lists_of, judged, tuple_type, group_type, base_type, whole_type, type_to}
+use Rattle.plan_grammar.specs.Types.{named, after_lists, is_list_word, list_words, behind_lists, lists_of, judged, tuple_type, group_type, base_type, whole_type, type_to}
 use Rattle.plan_printer.specs.Pieces.{listed}
 use Rattle.text_laws.specs.Lexes.{kinds_of}
 use Rattle.text_laws.specs.PrintedTokens.{Kinds, mark, word, type_kinds_level, type_kinds}
@@ -27,7 +26,7 @@ use Rattle.text_laws.specs.Proper.{base_key, IsProperType, AreProperTypes}
 use Rattle.text_laws.specs.Proper.{IsProperType as T, AreProperTypes as M}
 use Rattle.text_laws.proofs.TypeTokens.{type_kinds_out}
 use Rattle.round_trip.specs.Reads.{kinds_at, Took, first_kind, FollowsType}
-use Rattle.round_trip.proofs.Steps.{took, then_took, took_by, weaker, next_is, behind_is, symbol_is, take_symbol, take_open, Reads, AllRead, AllGood, Added, more_took}
+use Rattle.round_trip.proofs.Steps.{took, then_took, took_by, next_is, behind_is, symbol_is, take_symbol, take_open, AllRead, AllGood, more_took}
 
 -- so many words `list`
 abbrev lists : ℕ → Kinds

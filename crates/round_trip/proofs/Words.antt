@@ -1,36 +1,29 @@
 -- The forms that a reserved word or a square bracket begins.
-use Rattle.std.proofs.Common.{◌≡◌, ℕ, zero, suc, ◌+◌, ◌-◌, ◌*◌, ◌<◌, ◌≤◌, ◌==◌, max, Bool, true, false, ◌||◌, cond, List, [], ◌∷◌, ◌++◌, length, Option, Some, None, Result, Ok, Err, refl, sym, ap, ◌∙◌, subst, arith, append_assoc, length-append, nat_lt}
-use Rattle.std.specs.List.{sum_by}
-use Rattle.std.specs.Prelude.{map, if◌then◌else◌}
+use Rattle.std.proofs.Common.{◌≡◌, ℕ, zero, suc, ◌+◌, ◌*◌, ◌≤◌, max, true, false, List, [], ◌∷◌, ◌++◌, length, Some, None, Ok, refl, sym, ap, ◌∙◌, subst, arith, length-append}
 use Rattle.plan_base.specs.declared.name.Name.{Name}
 use Rattle.plan_base.specs.declared.tree.Ty.{Ty}
 use Rattle.plan_base.specs.declared.tree.Expr.{Expr}
 use Rattle.plan_base.specs.declared.tree.Expr.TheVariants as x
-use Rattle.plan_base.specs.Sizes.{type_depth, expr_depth, expr_nodes, clause_nodes}
+use Rattle.plan_base.specs.Sizes.{type_depth, expr_depth, expr_nodes}
 use Rattle.plan_lexer.specs.declared.token.Key.{Key}
 use Rattle.plan_lexer.specs.declared.token.Key.TheVariants as keys
 use Rattle.plan_lexer.specs.declared.token.Symbol.TheVariants as symbols
 use Rattle.plan_lexer.specs.declared.token.TokenKind.{TokenKind}
 use Rattle.plan_lexer.specs.declared.token.TokenKind.TheVariants as kind
-use Rattle.plan_grammar.specs.declared.fault.ParseFault.{ParseFault}
-use Rattle.plan_grammar.specs.declared.level.Level.{Level}
 use Rattle.plan_grammar.specs.declared.level.Level.TheVariants as levels
-use Rattle.plan_grammar.specs.declared.node.Node.{Node}
 use Rattle.plan_grammar.specs.declared.node.Bound.{Bound}
 use Rattle.plan_grammar.specs.declared.node.FoldParts.{FoldParts}
 use Rattle.plan_grammar.specs.declared.node.SendParts.{SendParts}
-use Rattle.plan_grammar.specs.Ahead.{Front, Reader, ◌>>=◌, behind, place, is_symbol_kind, is_key}
+use Rattle.plan_grammar.specs.Ahead.{Front, behind, place, is_key}
 use Rattle.plan_grammar.specs.Begins.{kind_begins}
-use Rattle.plan_grammar.specs.Types.{type_to}
-use Rattle.plan_grammar.specs.Nodes.{leaf, below_of, both, over_one, over_two, over_three, over_four, bound, let_of}
-use Rattle.plan_grammar.specs.Exprs.{typed_nil, brackets_behind, brackets, binding, bindings_from, let_form, raise_typed, raise_plain, raise_form, before_comma, before_close, fold_parts, foldl_form, foldr_form, eval_form, send_parts, remote_form, neighbor_form, key_form, symbol_form, operand_kind, operand, expr_to}
+use Rattle.plan_grammar.specs.Nodes.{below_of, both, let_of}
+use Rattle.plan_grammar.specs.Exprs.{typed_nil, brackets_behind, brackets, binding, bindings_from, let_form, raise_typed, raise_plain, raise_form, before_comma, before_close, fold_parts, foldl_form, foldr_form, eval_form, send_parts, remote_form, neighbor_form, key_form, symbol_form, operand_kind, expr_to}
 use Rattle.text_laws.specs.PrintedTokens.{Kinds, type_kinds, expr_kinds}
 use Rattle.text_laws.specs.Proper.{IsProperType}
-use Rattle.round_trip.specs.Reads.{kinds_at, Took, first_kind, IsNode, Ends}
-use Rattle.round_trip.proofs.Steps.{took, then_took, took_by, weaker, next_is, behind_is, symbol_is, key_is, take_symbol, take_key, take_name, take_open}
+use Rattle.round_trip.specs.Reads.{kinds_at, Took, IsNode, Ends}
+use Rattle.round_trip.proofs.Steps.{took, then_took, took_by, behind_is, symbol_is, key_is, take_symbol, take_key, take_name, take_open}
 use Rattle.round_trip.proofs.TypesRead.{type_takes}
-use Rattle.round_trip.proofs.Ladder.{Starts}
-use Rattle.round_trip.proofs.Forms.{is_over, Measured, IsRead, nest, behind_one, level_took, ends_paren, operand_is, starts_by}
+use Rattle.round_trip.proofs.Forms.{is_over, Measured, IsRead, nest, behind_one, level_took, ends_paren, operand_is}
 use Rattle.round_trip.proofs.Applied.{ends_comma, take_need_open, leaf_good}
 
 pub ends_in : Ends (Some (kind.Key keys.In))

@@ -1,5 +1,5 @@
 -- What it is to read tokens by their kinds alone.
-use Rattle.std.specs.Prelude.{◌≡◌, ◌+◌, false, List, length, [], ◌∷◌, Option, Some, None, Result, Ok}
+use Rattle.std.specs.Prelude.{◌≡◌, ◌+◌, false, length, [], ◌∷◌, Option, Some, None, Result, Ok}
 use Rattle.plan_base.specs.declared.tree.Expr.{Expr}
 use Rattle.plan_base.specs.Sizes.{expr_depth, expr_nodes}
 use Rattle.plan_lexer.specs.declared.token.Key.TheVariants as keys
