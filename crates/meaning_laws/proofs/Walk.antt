@@ -1,20 +1,18 @@
 -- What holds of two ways to run an expression where it holds of their parts. A relation that the steps of the meaning keep
 -- relates the runs at two depths.
-use Rattle.std.proofs.Common.{◌≡◌, ℕ, zero, suc, ◌+◌, ◌≤◌, Bool, true, false, cond, not, if◌then◌else◌, ℤ, List, [], ◌∷◌, ◌++◌, take, reverse, Option, Some, None, slice_get, arith}
+use Rattle.std.proofs.Common.{ℕ, zero, suc, ◌≤◌, Bool, true, false, if◌then◌else◌, ℤ, List, [], ◌∷◌, ◌++◌, take, reverse, Option, Some, None, slice_get, arith}
 use Rattle.plan_base.specs.declared.name.Name.{Name}
 use Rattle.plan_base.specs.declared.ids.Host.{Host}
 use Rattle.plan_base.specs.declared.ids.Dev.{Dev}
-use Rattle.plan_base.specs.declared.prim.Prim.{Prim}
+use Rattle.plan_base.specs.declared.prim.Primitive.{Primitive}
 use Rattle.plan_base.specs.declared.tree.Exn.{Exn}
 use Rattle.plan_base.specs.declared.tree.Ty.{Ty}
 use Rattle.plan_base.specs.declared.tree.Op.{Op}
 use Rattle.plan_base.specs.declared.tree.Expr.{Expr, Expr-F, out-Expr}
 use Rattle.plan_base.specs.declared.tree.Clause.{Clause}
 use Rattle.plan_base.specs.declared.tree.Svc.{Svc}
-use Rattle.plan_base.specs.declared.tree.Fun.{Fun}
 use Rattle.plan_base.specs.declared.tree.Program.{Program}
 use Rattle.plan_base.specs.declared.tree.Value.{Value}
-use Rattle.plan_base.specs.declared.tree.Value as value
 use Rattle.plan_base.specs.declared.tree.Chunk.{Chunk}
 use Rattle.plan_base.specs.Trees.{ExprLayer}
 use Rattle.plan_base.specs.TypingNames.{place_of, service_of, prim_of}
@@ -22,8 +20,7 @@ use Rattle.plan_base.specs.Sizes.{weight}
 use Rattle.value_rules.specs.Rules.{Given, gives, raises, unfit, too_large, binary, part, primitive}
 use Rattle.plan_meaning.specs.declared.stop.Stop.{Stop}
 use Rattle.plan_meaning.specs.declared.stop.Stop.TheVariants.{Raised, WorkSpent}
-use Rattle.plan_meaning.specs.State.{VisitState}
-use Rattle.plan_meaning.specs.Run.{Run, ◌>>=◌, ◌>>◌, pure, stop, raise, wrong, or_wrong, given, rescue, spend, weighed, is_too_large, whole, serve}
+use Rattle.plan_meaning.specs.Run.{Run, ◌>>=◌, pure, stop, wrong, or_wrong, given, rescue, spend, weighed, is_too_large, whole, serve}
 use Rattle.plan_meaning.specs.Meaning.{Env, Runs, binds, bound, as_bool, as_int, as_host, as_dev, as_chunk, as_items, value_of, pay_eval, send_remote, send_neighbour, catches, named, values_behind, values, entered, applied_at, applied, served_or, called_by, called, call, tuple, packed, choice, binding, sequence, conjunction, disjunction, negation, operation, selection, handled, attempt, left_along, fold_left, right_along, fold_right, visited, evaluation, remote, neighbour, empty_of, opened_at, opened, node, run_to}
 
 pub record Kept (Rel : (A : Type 0) → Run A → Run A → Type 0) : Type 1 where
@@ -86,7 +83,7 @@ module _ (Rel : (A : Type 0) → Run A → Run A → Type 0) (K : Kept Rel) wher
     served_kept (Some d) code seen f args = K.serves d args
     served_kept None code seen f args = applied_kept code seen f args
 
-    called_by_kept : (o : Option Prim) (code : Program) (seen : ℕ) (f : Name) (args : List Value) → Rel Value (called_by r o code seen f args) (called_by r' o code seen f args)
+    called_by_kept : (o : Option Primitive) (code : Program) (seen : ℕ) (f : Name) (args : List Value) → Rel Value (called_by r o code seen f args) (called_by r' o code seen f args)
     called_by_kept (Some p) code seen f args = given_kept (primitive p args)
     called_by_kept None code seen f args = served_kept (service_of f code.svcs) code seen f args
 

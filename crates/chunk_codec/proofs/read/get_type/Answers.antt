@@ -1,4 +1,4 @@
-use Rattle.std.proofs.Common.{◌≡◌, refl, sym, ◌∙◌, rules}
+use Rattle.std.proofs.Common.{refl}
 use Rattle.std.proofs.lemmas.Result.{err_from_is_err_and}
 use Rattle.chunk_spelling.specs.Spelling.{a_whole_type}
 use Rattle.chunk_spelling.proofs.TypeLaws.{type_lawful}

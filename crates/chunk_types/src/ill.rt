@@ -1,0 +1,99 @@
+//! What comes first that is wrong with a chunk.
+
+ghost use Rattle.std.specs.Prelude.{◌≡◌, IfOk, length};
+ghost use Rattle.std.specs.List.{list_all};
+ghost use Rattle.plan_base.specs.TypingNames.{param_types};
+ghost use Rattle.chunk_types.specs.Chunks as spec;
+
+use crate::fault::Ill;
+use crate::shape::fits;
+use plan_base::{Chunk, Name, NoMemory, Param, Program, Ty, Value};
+use plan_types::{fun_of, refused};
+use std::alloc::Global;
+
+/// What comes first that is wrong with a chunk within the limits of size.
+#[cycle(illness)]
+#[tactic(auto, using(crate::proofs::Levels::illness_is, crate::proofs::Levels::code_passes))]
+pub fn illness(alloc: Global, chunk: &Chunk) -> Result<Option<Ill>, NoMemory>
+    ensures { IfOk result (λ o. o ≡ spec.illness chunk.now) }
+{
+    match refused(alloc, &chunk.code)? {
+        Some(fault) => Ok(Some(Ill::Code(fault))),
+        None => ill_call(alloc, &chunk.code, &chunk.entry, chunk.args.as_slice()),
+    }
+}
+
+/// The same from the entry on.
+#[cycle(illness)]
+pub fn ill_call(
+    alloc: Global,
+    code: &Program,
+    entry: &Name,
+    args: &[Value],
+) -> Result<Option<Ill>, NoMemory>
+    ensures { IfOk result (λ o. o ≡ spec.ill_call spec.right code.now entry.now args.now) }
+{
+    let Some(fun) = fun_of(code, entry) else {
+        return Ok(Some(Ill::Entry));
+    };
+    if args.len() != fun.params.len() {
+        return Ok(Some(Ill::Count));
+    }
+    first_ill(alloc, args, fun.params.as_slice())
+}
+
+/// The first argument that isn't right.
+#[cycle(illness)]
+#[tactic(auto, using(crate::proofs::Loops::ill_next))]
+fn first_ill(alloc: Global, args: &[Value], params: &[Param]) -> Result<Option<Ill>, NoMemory>
+    requires { length args.now ≡ length params.now }
+    ensures { IfOk result (λ o. o ≡ spec.ill_from spec.right 0 args.now (param_types params.now)) }
+{
+    let mut number = 0u8;
+    for i in 0..args.len() {
+        if !is_right(alloc, &args[i], &params[i].ty)? {
+            return Ok(Some(Ill::Argument(number)));
+        }
+        number = number.saturating_add(1);
+    }
+    Ok(None)
+}
+
+/// Whether an argument's shape has the type and no chunk inside it is ill.
+#[cycle(illness)]
+fn is_right(alloc: Global, v: &Value, t: &Ty) -> Result<bool, NoMemory>
+    ensures { IfOk result (λ b. b ≡ spec.right v.now t.now) }
+{
+    if fits(v, t) {
+        is_sound(alloc, v)
+    } else {
+        Ok(false)
+    }
+}
+
+/// Whether no chunk inside the value is ill.
+#[cycle(illness)]
+#[tactic(auto, using(crate::proofs::Levels::sound_out, plan_base::specs::Trees::trees))]
+fn is_sound(alloc: Global, v: &Value) -> Result<bool, NoMemory>
+    ensures { IfOk result (λ b. b ≡ spec.sound v.now) }
+{
+    match v {
+        Value::Chunk(chunk) => Ok(illness(alloc, chunk.get())?.is_none()),
+        Value::List(_, items) => are_sound(alloc, items.as_slice()),
+        Value::Tuple(parts) => are_sound(alloc, parts.as_slice()),
+        _ => Ok(true),
+    }
+}
+
+#[cycle(illness)]
+#[tactic(auto, using(crate::proofs::Loops::all_next))]
+fn are_sound(alloc: Global, values: &[Value]) -> Result<bool, NoMemory>
+    ensures { IfOk result (λ b. b ≡ list_all spec.sound values.now) }
+{
+    for i in 0..values.len() {
+        if !is_sound(alloc, &values[i])? {
+            return Ok(false);
+        }
+    }
+    Ok(true)
+}

@@ -1,0 +1,16 @@
+//! The checking of values and chunks: a chunk that is checked keeps the fact that it is typed, so that
+//! nothing above tests it again.
+#![tactic(auto)]
+
+mod fault;
+mod ill;
+mod laws;
+mod shape;
+#[cfg(test)]
+mod tests;
+mod typed_chunk;
+
+pub use fault::{ChunkFault, Ill};
+pub use laws::values_have_types;
+pub use shape::fits;
+pub use typed_chunk::{CheckedChunk, check_chunk, chunk_of};

@@ -1,0 +1,115 @@
+//! Chunks that are typed.
+
+ghost use Rattle.std.specs.Prelude.{◌≡◌, ◌≢◌, ◌+◌, ◌≤◌, IsTrue, IfOk, IfErr, Some, MatchResult};
+ghost use Rattle.std.specs.List.{list_all};
+ghost use Rattle.plan_base.specs.declared.tree.Chunk.{Chunk as Packed};
+ghost use Rattle.plan_base.specs.Sizes.{chunk_weight};
+ghost use Rattle.plan_base.specs.WellFormed.{IsWellFormedChunk, ChunkHasTypes, well_formed_value, value_has_types};
+ghost use Rattle.plan_base.specs.Typing.{IsTypedChunk};
+ghost use Rattle.chunk_types.specs.Chunks as spec;
+ghost use Rattle.chunk_types.specs.Chunks.{IsCheckedChunk};
+
+use crate::fault::ChunkFault;
+use crate::ill::{ill_call, illness};
+use plan_base::{Chunk, Name, NoMemory, Values, chunk_nesting, chunk_weight};
+use plan_types::Checked;
+use std::alloc::Global;
+use std::marker::Model;
+
+/// A chunk that is typed, which contracts see as that chunk.
+#[derive(Debug, Drop)]
+pub struct CheckedChunk {
+    chunk: Chunk,
+}
+
+impl Model for CheckedChunk {
+    ghost use Rattle.plan_base.specs.declared.tree.Chunk.{Chunk};
+    ghost use Rattle.plan_base.specs.contracts.tree.Chunk as whole;
+    ghost use Rattle.chunk_types.specs.Chunks.{IsCheckedChunk};
+
+    ghost Value = { Chunk };
+
+    ghost coded = { whole.the_row.coded };
+
+    ghost view = { λ k. k.chunk };
+
+    ghost invariant = { λ k. IsCheckedChunk k.chunk };
+}
+
+impl CheckedChunk {
+    /// The chunk. Takes no memory.
+    pub fn chunk(&self) -> &Chunk
+        ensures value { result.now ≡ self.now }
+        ensures kept { IsCheckedChunk self.now }
+    {
+        &self.chunk
+    }
+
+    /// The chunk itself. Takes no memory.
+    pub fn into_chunk(self) -> Chunk
+        ensures value { result ≡ self }
+        ensures kept { IsCheckedChunk self }
+    {
+        self.chunk
+    }
+
+    /// The same chunk.
+    pub fn copy(&self, alloc: Global) -> Result<CheckedChunk, NoMemory>
+        ensures { IfOk result (λ k. k ≡ self.now) }
+    {
+        let chunk = self.chunk.copy(alloc)?;
+        Ok(CheckedChunk { chunk })
+    }
+}
+
+fn is_small(chunk: &Chunk) -> bool
+    ensures { result ≡ spec.is_small_chunk chunk.now }
+{
+    chunk_weight(chunk) < 16384 && chunk_nesting(chunk) <= 4
+}
+
+/// Checks a chunk that is within the limits of size: its code, its entry, the number of its arguments and
+/// each of them. Else what comes first that is wrong.
+#[tactic(auto, using(crate::proofs::Values::chunk_found, crate::proofs::Values::chunk_only))]
+pub fn check_chunk(alloc: Global, chunk: Chunk) -> Result<CheckedChunk, ChunkFault>
+    requires formed { IsWellFormedChunk chunk }
+    requires full { ChunkHasTypes chunk }
+    requires small { 1 + chunk_weight chunk ≤ 16384 }
+    ensures found { IfOk result (λ k. (k ≡ chunk) × IsCheckedChunk k) }
+    ensures only { IsTypedChunk chunk → MatchResult result (λ k. k ≡ chunk) (λ f. f ≡ ChunkFault.NoMemory) }
+    ensures fault { IfErr result (λ f. f ≢ ChunkFault.NoMemory → spec.as_fault (spec.illness chunk) ≡ Some f) }
+{
+    if let Some(ill) = illness(alloc, &chunk)? {
+        return Err(ChunkFault::Ill(ill));
+    }
+    Ok(CheckedChunk { chunk })
+}
+
+/// The chunk of a typed program with that entry and those arguments. Else what comes first that is wrong:
+/// the entry, the number of arguments, each of them, and then the size of the chunk.
+#[tactic(auto, using(crate::proofs::Values::call_found, crate::proofs::Values::call_only))]
+pub fn chunk_of(
+    alloc: Global,
+    program: &Checked,
+    entry: &Name,
+    args: Values,
+) -> Result<CheckedChunk, ChunkFault>
+    requires formed { IsTrue (list_all well_formed_value args) }
+    requires full { IsTrue (list_all value_has_types args) }
+    ensures found { IfOk result (λ k. (k ≡ record { code = program.now; entry = entry.now; args = args }) × IsCheckedChunk k) }
+    ensures only { IsTypedChunk (record { code = program.now; entry = entry.now; args = args }) → MatchResult result (λ k. k ≡ record { code = program.now; entry = entry.now; args = args }) (λ f. f ≡ ChunkFault.NoMemory) }
+    ensures fault { IfErr result (λ f. f ≢ ChunkFault.NoMemory → spec.refusal_of (record { code = program.now; entry = entry.now; args = args }) ≡ Some f) }
+{
+    if let Some(ill) = ill_call(alloc, program.program(), entry, args.as_slice())? {
+        return Err(ChunkFault::Ill(ill));
+    }
+    let chunk = Chunk {
+        code: program.program().copy(alloc)?,
+        entry: entry.copy(alloc)?,
+        args,
+    };
+    if !is_small(&chunk) {
+        return Err(ChunkFault::TooLarge);
+    }
+    Ok(CheckedChunk { chunk })
+}

@@ -1,0 +1,5 @@
+pub mod Carries
+pub mod FieldLaws
+pub mod FrameLaws
+pub mod Rows
+pub mod Sizes

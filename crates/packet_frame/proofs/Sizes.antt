@@ -1,0 +1,85 @@
+use Rattle.std.proofs.Common.{◌≡◌, ℕ, ◌+◌, ◌*◌, ◌<◌, ◌≤◌, List, [], ◌∷◌, ◌++◌, length, drop, get_or, length-append, Bool, true, false, refl, ap, arith}
+use Rattle.std.specs.Prelude.{◌&&◌, nat_le}
+use Rattle.std.specs.List.{flat_map}
+use Rattle.std.specs.Int.{w16, w32, w64, to_be_bytes}
+use Rattle.std.proofs.lemmas.Bool.{leb-true}
+use Rattle.std.proofs.lemmas.List.{drop_more}
+use Rattle.plan_base.specs.Words.{is_word, is_name, IsName}
+use Rattle.plan_base.specs.Sizes.{chunk_weight}
+use Rattle.plan_base.specs.declared.tree.Chunk.{Chunk}
+use Rattle.plan_base.specs.declared.tree.Packet.{Packet}
+use Rattle.chunk_spelling.specs.Fields.{name_bytes}
+use Rattle.chunk_spelling.specs.Values.{chunk_bytes}
+use Rattle.chunk_spelling.specs.Kept.{chunk_kept}
+use Rattle.chunk_spelling.specs.Spelling.{a_whole_chunk}
+use Rattle.chunk_spelling.proofs.FitsLaws.{chunk_fits_kept}
+use Rattle.chunk_writer.proofs.Puts.{Written}
+use Rattle.spelling_sizes.proofs.LengthLaws.{chunk_length}
+use Rattle.packet_frame.specs.declared.frame.AdvertRow.{AdvertRow}
+use Rattle.packet_frame.specs.declared.frame.Advert.{Advert}
+use Rattle.packet_frame.specs.declared.frame.PlainFrame.{PlainFrame}
+use Rattle.packet_frame.specs.Bytes.{head_bytes, row_bytes, frame_bytes}
+use Rattle.packet_frame.specs.Forms.{FrameFits}
+use Rattle.packet_frame.specs.Frames.{SpellsFrame}
+
+pub chunk_can : (c : Chunk) → a_whole_chunk.Fits c → chunk_kept c ≡ true
+chunk_can = chunk_fits_kept 3
+
+chunk_bytes_small : (c : Chunk) → a_whole_chunk.Fits c → length (chunk_bytes c) ≤ 16383
+chunk_bytes_small c h = let l = leb-true (length (chunk_bytes c) + 1) 16384 h.weighs in omega (arith, l)
+
+pub chunk_small : (c : Chunk) → a_whole_chunk.Fits c → chunk_weight c ≤ 16383
+chunk_small c h = let l = chunk_bytes_small c h in let e = chunk_length c in omega (arith, l, e)
+
+both_true : (b c : Bool) → (b && c) ≡ true → (b ≡ true) × (c ≡ true)
+both_true true c h = (refl, h)
+both_true false c h = cc
+
+pub route_short : (n : List ℕ) → IsName n → length n ≤ 32
+unfolding is_name
+route_short n h = leb-true (length n) 32 (both_true (nat_le (length n) 32) _ (both_true (is_word n) _ h).1).0
+
+pub rows_size : (rows : List AdvertRow) → length (flat_map row_bytes rows) ≡ 8 * length rows
+rows_size [] = refl
+rows_size (r ∷ rs) = let e = rows_size rs in let l = length-append (row_bytes r) (flat_map row_bytes rs) in omega (arith, e, l)
+
+pub spells_packet : (p : Packet) (bytes : List ℕ) → FrameFits (PlainFrame.Packet p)
+    → bytes ≡ (((((head_bytes 1 ++ to_be_bytes w32 p.family.source.0) ++ to_be_bytes w64 p.family.serial) ++ to_be_bytes w32 p.dest.0) ++ to_be_bytes w32 p.bound) ++ name_bytes p.route) ++ chunk_bytes p.chunk
+    → SpellsFrame bytes (PlainFrame.Packet p)
+unfolding frame_bytes
+spells_packet p bytes fits e =
+    let is : bytes ≡ frame_bytes (PlainFrame.Packet p) = e in
+    let route = route_short p.route fits.1.1.1.1.0 in
+    let chunk = chunk_bytes_small p.chunk fits.1.1.1.1.1.0 in
+    let l = length-append p.route (chunk_bytes p.chunk) in
+    let n = ap length is in
+    record { short = omega (arith, n, l, route, chunk); fits = fits; is = is }
+
+pub spells_advert : (a : Advert) (bytes : List ℕ) → FrameFits (PlainFrame.Advert a)
+    → bytes ≡ ((head_bytes 2 ++ to_be_bytes w32 a.host.0) ++ to_be_bytes w16 (length a.rows)) ++ flat_map row_bytes a.rows → SpellsFrame bytes (PlainFrame.Advert a)
+unfolding frame_bytes
+spells_advert a bytes fits e =
+    let is : bytes ≡ frame_bytes (PlainFrame.Advert a) = e in
+    let n = ap length is in
+    let l = rows_size a.rows in
+    let few = fits.1.0.0 in
+    record { short = omega (arith, n, l, few); fits = fits; is = is }
+
+pub spells_ask : (bound : ℕ) (c : Chunk) (bytes : List ℕ) → FrameFits (PlainFrame.Ask bound c) → bytes ≡ (head_bytes 3 ++ to_be_bytes w32 bound) ++ chunk_bytes c → SpellsFrame bytes (PlainFrame.Ask bound c)
+unfolding frame_bytes
+spells_ask bound c bytes fits e =
+    let is : bytes ≡ frame_bytes (PlainFrame.Ask bound c) = e in
+    let n = ap length is in
+    let chunk = chunk_bytes_small c fits.1.0 in
+    record { short = omega (arith, n, chunk); fits = fits; is = is }
+
+-- a row that is still to be written has room
+pub row_room : (rows : List AdvertRow) (i : ℕ) → i < length rows → {start : List ℕ} {room : ℕ} {now : List ℕ} {left : ℕ} → length (flat_map row_bytes rows) ≤ room
+    → Written row_bytes (λ _. true) rows i start room now left → 8 ≤ left
+row_room rows i h r w =
+    let none : AdvertRow = record { host = record { 0 = 0 }; cost = 0 } in
+    let row = get_or rows i none in
+    let l = length-append (row_bytes row) (flat_map row_bytes (drop (i + 1) rows)) in
+    let m = ap (λ ys. length (flat_map row_bytes ys)) (drop_more rows i none h) in
+    let n = w.rooms in
+    omega (arith, l, m, n, r)

@@ -1,0 +1,7 @@
+use Rattle.std.proofs.Common.{subst}
+use Rattle.packet_frame.specs.declared.frame.PlainFrame.{PlainFrame}
+use Rattle.packet_frame.specs.Forms.{FrameFits}
+use Rattle.packet_frame.proofs.tests.advert_again.Goals as goal
+
+pub put_advert-requires : goal.put_advert-requires
+put_advert-requires c = let P : PlainFrame → Type 0 = λ x. FrameFits x in subst P c.in-Ok-Advert.field-0-is c.in-Ok-Advert.ensures.found.fits

@@ -1,0 +1,19 @@
+-- What a call on a cursor gives.
+use Rattle.std.specs.Prelude.{◌≡◌, Result, Ok, Err}
+use Rattle.wire_bytes.specs.Fields.{Front}
+use Rattle.chunk_spelling.specs.Scan.{Scan}
+use Rattle.packet_frame.specs.declared.fault.FrameFault.{FrameFault}
+
+-- a reading from a front on
+abbrev pub from_front : Front → Scan
+from_front f = record { front = f; nodes = 0 }
+
+-- memory may be wanting at any time; every other fault is the one that the reading has
+abbrev pub Fails : {A : Type 0} → FrameFault → Result A FrameFault → Type 0
+Fails FrameFault.NoMemory read = Unit {0}
+Fails e read = read ≡ Err e
+
+-- a call answers what the reading gives, and stands where the reading came to
+abbrev pub Gives : {A : Type 0} → Result A FrameFault → Front → Result (A × Scan) FrameFault → Type 0
+Gives (Ok x) new read = read ≡ Ok (x, from_front new)
+Gives (Err e) new read = Fails e read

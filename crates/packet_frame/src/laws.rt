@@ -1,0 +1,14 @@
+ghost use Rattle.std.specs.Prelude.{◌≡◌, ◌++◌, ◌⊎◌, List, ℕ};
+ghost use Rattle.wire_bytes.specs.Fields.{IsBytes};
+ghost use Rattle.packet_frame.specs.Frames.{SpellsFrame, SpellingFault};
+ghost use Rattle.packet_frame.specs.declared.fault.FrameFault.{FrameFault};
+ghost use Rattle.packet_frame.specs.declared.frame.PlainFrame.{PlainFrame};
+
+/// Laws of the spelling of a frame: no frame has two spellings and no spelling begins another's; at most one fault is
+/// the first; bytes spell a frame or have a first fault, and never both.
+pub fn frame_laws()
+    ensures one_spelling { (a b x y : List ℕ) (v w : PlainFrame) → SpellsFrame a v → SpellsFrame b w → a ++ x ≡ b ++ y → (a ≡ b) × (v ≡ w) × (x ≡ y) }
+    ensures one_fault { (bytes : List ℕ) (d e : FrameFault) → SpellingFault d bytes → SpellingFault e bytes → d ≡ e }
+    ensures either { (bytes : List ℕ) → IsBytes bytes → ((x : PlainFrame) × SpellsFrame bytes x) ⊎ ((e : FrameFault) × SpellingFault e bytes) }
+    ensures never_both { (bytes : List ℕ) (x : PlainFrame) (e : FrameFault) → SpellsFrame bytes x → SpellingFault e bytes → ⊥ }
+{}

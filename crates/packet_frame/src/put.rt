@@ -1,0 +1,114 @@
+ghost use Rattle.std.specs.Prelude.{◌≡◌, ◌++◌, ◌+◌, ◌≤◌, ◌<◌, ◌∷◌, [], length, IsTrue, IfOk};
+ghost use Rattle.std.specs.List.{flat_map};
+ghost use Rattle.std.specs.Int.{w16, w32, w64, to_be_bytes};
+ghost use Rattle.chunk_spelling.specs.Values.{chunk_bytes};
+ghost use Rattle.chunk_spelling.specs.Spelling.{a_whole_chunk};
+ghost use Rattle.packet_frame.specs.Bytes.{head_bytes, row_bytes, rows_bytes, packet_bytes, frame_bytes};
+ghost use Rattle.packet_frame.specs.Forms.{FrameFits};
+ghost use Rattle.packet_frame.specs.Frames.{SpellsFrame};
+ghost use Rattle.packet_frame.specs.declared.frame.PlainFrame.{PlainFrame as Plain};
+
+use crate::frame::{Advert, AdvertRow};
+use chunk_writer::{put_chunk, put_name};
+use plan_base::{Bytes, Chunk, NoMemory, Packet, chunk_weight};
+use std::alloc::Global;
+use wire_bytes::Out;
+
+/// Puts the letters PLAN, the version and a kind.
+fn put_head(kind: u8, out: &mut Out)
+    requires { 6 ≤ out.old.room }
+    ensures bytes { out.new.bytes ≡ out.old.bytes ++ head_bytes kind }
+    ensures room { out.new.room + 6 ≡ out.old.room }
+{
+    out.put_u32(0x504c_414e);
+    out.put_u8(1);
+    out.put_u8(kind);
+}
+
+/// Puts a row of an advert.
+fn put_row(r: &AdvertRow, out: &mut Out)
+    requires { length (row_bytes r.now) ≤ out.old.room }
+    ensures bytes { out.new.bytes ≡ out.old.bytes ++ row_bytes r.now }
+    ensures room { out.new.room + length (row_bytes r.now) ≡ out.old.room }
+{
+    out.put_u32(r.host.0);
+    out.put_u32(r.cost);
+}
+
+/// Puts rows one after another.
+fn put_rows(rows: &[AdvertRow], out: &mut Out)
+    requires { length (flat_map row_bytes rows.now) ≤ out.old.room }
+    ensures bytes { out.new.bytes ≡ out.old.bytes ++ flat_map row_bytes rows.now }
+    ensures room { out.new.room + length (flat_map row_bytes rows.now) ≡ out.old.room }
+{
+    for r in rows {
+        put_row(r, out);
+    }
+}
+
+/// The number of bytes of a chunk. Condition: it keeps the limits of its spelling.
+#[tactic(auto, using(crate::proofs::Sizes::chunk_small, spelling_sizes::proofs::LengthLaws::chunk_length))]
+fn size_of(c: &Chunk) -> u32
+    requires { a_whole_chunk.Fits c.now }
+    ensures size { result ≡ length (chunk_bytes c.now) }
+    ensures small { result ≤ 16383 }
+{
+    chunk_weight(c) as u32
+}
+
+/// Puts a chunk. Conditions: it keeps the limits of its spelling, and the bytes have room.
+#[tactic(auto, using(crate::proofs::Sizes::chunk_can))]
+fn put_carried(c: &Chunk, out: &mut Out)
+    requires fits { a_whole_chunk.Fits c.now }
+    requires room { length (chunk_bytes c.now) ≤ out.old.room }
+    ensures bytes { out.new.bytes ≡ out.old.bytes ++ chunk_bytes c.now }
+    ensures room { out.new.room + length (chunk_bytes c.now) ≡ out.old.room }
+{
+    put_chunk(c, out);
+}
+
+/// The frame of an advert. Conditions: at most 32 rows, whose hosts ascend and whose costs are at most 65,535.
+#[tactic(auto, using(crate::proofs::Sizes::spells_advert, crate::proofs::Sizes::rows_size))]
+pub fn put_advert(alloc: Global, a: &Advert) -> Result<Bytes, NoMemory>
+    requires { FrameFits (Plain.Advert a.now) }
+    ensures { IfOk result (λ b. SpellsFrame b (Plain.Advert a.now)) }
+{
+    let rows = a.rows.as_slice();
+    let mut out = Out::with_room(alloc, 12 + 8 * rows.len() as u32)?;
+    put_head(2, &mut out);
+    out.put_u32(a.host.0);
+    out.put_u16(rows.len() as u16);
+    put_rows(rows, &mut out);
+    Ok(Bytes::of(out.into_vec()))
+}
+
+/// The frame of a packet with another bound. Conditions: the packet keeps the limits of its spelling, with that bound.
+#[tactic(auto, using(crate::proofs::Sizes::spells_packet, crate::proofs::Sizes::route_short))]
+pub fn put_plain_packet(alloc: Global, p: &Packet, new_bound: u32) -> Result<Bytes, NoMemory>
+    requires { FrameFits (Plain.Packet (record p.now { bound = new_bound })) }
+    ensures { IfOk result (λ b. SpellsFrame b (Plain.Packet (record p.now { bound = new_bound }))) }
+{
+    let size = 27 + p.route.as_slice().len() as u32 + size_of(&p.chunk);
+    let mut out = Out::with_room(alloc, size)?;
+    put_head(1, &mut out);
+    out.put_u32(p.family.source.0);
+    out.put_u64(p.family.serial);
+    out.put_u32(p.dest.0);
+    out.put_u32(new_bound);
+    put_name(&p.route, &mut out);
+    put_carried(&p.chunk, &mut out);
+    Ok(Bytes::of(out.into_vec()))
+}
+
+/// The frame of an ask. Conditions: the bound is at most 65,535, and the chunk keeps the limits of its spelling.
+#[tactic(auto, using(crate::proofs::Sizes::spells_ask))]
+pub fn put_plain_ask(alloc: Global, bound: u32, c: &Chunk) -> Result<Bytes, NoMemory>
+    requires { FrameFits (Plain.Ask bound c.now) }
+    ensures { IfOk result (λ b. SpellsFrame b (Plain.Ask bound c.now)) }
+{
+    let mut out = Out::with_room(alloc, 10 + size_of(c))?;
+    put_head(3, &mut out);
+    out.put_u32(bound);
+    put_carried(c, &mut out);
+    Ok(Bytes::of(out.into_vec()))
+}

@@ -1,0 +1,4 @@
+pub mod Answered
+pub mod Formed
+pub mod Loops
+pub mod Whole

@@ -1,0 +1,233 @@
+//! An expression by its form, to a depth.
+
+ghost use Rattle.std.specs.Prelude.{◌≡◌};
+ghost use Rattle.std.specs.Option.{option_copied};
+ghost use Rattle.plan_base.specs.declared.tree.Expr.{out-Expr};
+ghost use Rattle.plan_base.specs.TypingOrder as spec;
+ghost use Rattle.plan_types.specs.Checks.{Meets, Nests, below};
+
+use crate::checker::Checker;
+use crate::names::{binding, is_exception};
+use crate::settle::{items_of, list_of, settled, shallow};
+use crate::state::{Scope, State};
+use plan_base::{Expr, Name, Param, Place, Ty, TypeFault};
+use std::alloc::Global;
+
+/// A literal, which has a type of its own.
+fn literal(
+    alloc: Global,
+    at: u32,
+    node: u32,
+    want: Option<&Ty>,
+    e: &Expr,
+    ty: Ty,
+) -> Result<(Expr, Ty), TypeFault>
+    ensures { Meets (spec.settled at (option_copied want.entry) e.now ty node) result node }
+{
+    settled(alloc, at, node, want, e.copy(alloc)?, ty)
+}
+
+/// A name that was bound.
+#[tactic(auto, unfolding(plan_base::specs::TypingOrder::variable))]
+fn variable(
+    alloc: Global,
+    ctx: &[Param],
+    at: u32,
+    node: u32,
+    want: Option<&Ty>,
+    e: &Expr,
+    name: &Name,
+) -> Result<(Expr, Ty), TypeFault>
+    ensures { Meets (spec.variable ctx.now at (option_copied want.entry) e.now name.now node) result node }
+{
+    match binding(name, ctx) {
+        Some(ty) => settled(alloc, at, node, want, e.copy(alloc)?, ty.copy(alloc)?),
+        None => Err(TypeFault::UnknownName(Place::Node(at))),
+    }
+}
+
+/// An empty list.
+#[tactic(auto, unfolding(plan_base::specs::TypingOrder::empty))]
+fn empty(
+    alloc: Global,
+    at: u32,
+    node: u32,
+    want: Option<&Ty>,
+    e: &Expr,
+    item: &Option<Ty>,
+) -> Result<(Expr, Ty), TypeFault>
+    ensures { Meets (spec.empty at (option_copied want.entry) e.now item.now node) result node }
+{
+    if let Some(item) = item {
+        let ty = list_of(alloc, item.copy(alloc)?)?;
+        return shallow(alloc, at, node, want, e.copy(alloc)?, ty);
+    }
+    match items_of(want) {
+        Some(item) => {
+            let whole = Expr::Nil(Some(item.copy(alloc)?));
+            let ty = list_of(alloc, item.copy(alloc)?)?;
+            shallow(alloc, at, node, want, whole, ty)
+        }
+        None => Err(TypeFault::NeedsType(Place::Node(at))),
+    }
+}
+
+/// An exception raised.
+#[tactic(auto, unfolding(plan_base::specs::TypingOrder::raising))]
+fn raising(
+    alloc: Global,
+    scope: &Scope<'_>,
+    at: u32,
+    node: u32,
+    want: Option<&Ty>,
+    e: &Expr,
+    name: &Name,
+    ty: &Option<Ty>,
+) -> Result<(Expr, Ty), TypeFault>
+    ensures { Meets (spec.raising scope.now.code.now at (option_copied want.entry) e.now name.now ty.now node) result node }
+{
+    if !is_exception(scope.code, name) {
+        return Err(TypeFault::UnknownName(Place::Node(at)));
+    }
+    if let Some(ty) = ty {
+        return shallow(alloc, at, node, want, e.copy(alloc)?, ty.copy(alloc)?);
+    }
+    let Some(ty) = want else {
+        return Err(TypeFault::NeedsType(Place::Node(at)));
+    };
+    let whole = Expr::Raise(name.copy(alloc)?, Some(ty.copy(alloc)?));
+    shallow(alloc, at, node, want, whole, ty.copy(alloc)?)
+}
+
+impl<
+    F: Fn(
+        Global,
+        usize,
+        &Scope<'_>,
+        &mut State,
+        Option<&Ty>,
+        &Expr,
+    ) -> Result<(Expr, Ty), TypeFault>,
+> Checker<F> {
+    /// Each form by its own rule.
+    #[tactic(auto, using(plan_base::specs::Trees::trees))]
+    fn opened(
+        &self,
+        scope: &Scope<'_>,
+        state: &mut State,
+        at: u32,
+        want: Option<&Ty>,
+        e: &Expr,
+    ) -> Result<(Expr, Ty), TypeFault>
+        requires { Nests self.now.depth (F.pre self.now.run) (F.post self.now.run) }
+        ensures meets { Meets (spec.opened scope.now.code.now scope.now.seen (below scope.now self.now.depth) state.old.ctx at (option_copied want.entry) e.now (out-Expr e.now) state.old.node) result state.new.node }
+        ensures keeps { state.new.ctx ≡ state.old.ctx }
+    {
+        match e {
+            Expr::Unit => literal(self.alloc, at, state.node, want, e, Ty::Unit),
+            Expr::Bool(_) => literal(self.alloc, at, state.node, want, e, Ty::Bool),
+            Expr::Int(_) => literal(self.alloc, at, state.node, want, e, Ty::Int),
+            Expr::Char(_) => literal(self.alloc, at, state.node, want, e, Ty::Char),
+            Expr::Str(_) => literal(self.alloc, at, state.node, want, e, Ty::Str),
+            Expr::Blob(_) => literal(self.alloc, at, state.node, want, e, Ty::Blob),
+            Expr::Host(_) => literal(self.alloc, at, state.node, want, e, Ty::Host),
+            Expr::Dev(_) => literal(self.alloc, at, state.node, want, e, Ty::Dev),
+            Expr::Nil(item) => empty(self.alloc, at, state.node, want, e, item),
+            Expr::Var(name) => variable(
+                self.alloc,
+                state.ctx.as_slice(),
+                at,
+                state.node,
+                want,
+                e,
+                name,
+            ),
+            Expr::Raise(name, ty) => raising(self.alloc, scope, at, state.node, want, e, name, ty),
+            Expr::Tuple(es) => self.tuple(scope, state, at, want, es),
+            Expr::Call(f, es) => self.call(scope, state, at, want, f, es),
+            Expr::If(a, b, c) => self.choice(scope, state, want, a.get(), b.get(), c.get()),
+            Expr::Let(name, ty, a, b) => self.binder(
+                scope,
+                state,
+                want,
+                name,
+                ty,
+                a.get(),
+                b.get(),
+            ),
+            Expr::Then(a, b) => self.sequence(scope, state, want, a.get(), b.get()),
+            Expr::And(a, b) => self.both(scope, state, at, want, a.get(), b.get()),
+            Expr::Or(a, b) => self.either(scope, state, at, want, a.get(), b.get()),
+            Expr::Not(a) => self.negation(scope, state, at, want, a.get()),
+            Expr::Binary(op, a, b) => self.operation(scope, state, at, want, *op, a.get(), b.get()),
+            Expr::Part(number, a) => self.part(scope, state, at, want, *number, a.get()),
+            Expr::Try(a, clauses) => self.handling(scope, state, at, want, a.get(), clauses),
+            Expr::Foldl(f, a, l) => self.fold_left(scope, state, at, want, f, a.get(), l.get()),
+            Expr::Foldr(f, a, l) => self.fold_right(scope, state, at, want, f, a.get(), l.get()),
+            Expr::ChunkOf(f, es) => self.packing(scope, state, at, want, f, es),
+            Expr::Eval(a) => self.evaluation(scope, state, at, want, a.get()),
+            Expr::OnRemote(a, h, n, route) => self.remote(
+                scope,
+                state,
+                at,
+                want,
+                a.get(),
+                h.get(),
+                n.get(),
+                route,
+            ),
+            Expr::OnNeighbor(a, h, n, d) => self.neighbour(
+                scope,
+                state,
+                at,
+                want,
+                a.get(),
+                h.get(),
+                n.get(),
+                d.get(),
+            ),
+        }
+    }
+
+    /// An expression takes the next number, and its parts the numbers after it.
+    #[tactic(auto, unfolding(plan_base::specs::TypingOrder::expression))]
+    fn expression(
+        &self,
+        scope: &Scope<'_>,
+        state: &mut State,
+        want: Option<&Ty>,
+        e: &Expr,
+    ) -> Result<(Expr, Ty), TypeFault>
+        requires { Nests self.now.depth (F.pre self.now.run) (F.post self.now.run) }
+        ensures meets { Meets (spec.expression scope.now.code.now scope.now.seen (below scope.now self.now.depth) state.old.ctx (option_copied want.entry) e.now state.old.node) result state.new.node }
+        ensures keeps { state.new.ctx ≡ state.old.ctx }
+    {
+        let at = state.node;
+        state.node = at.saturating_add(1);
+        self.opened(scope, state, at, want, e)
+    }
+}
+
+/// An expression of at most that depth, of which a type may be wanted: the expression with its types
+/// filled in, and its type.
+pub fn checked(
+    alloc: Global,
+    depth: usize,
+    scope: &Scope<'_>,
+    state: &mut State,
+    want: Option<&Ty>,
+    e: &Expr,
+) -> Result<(Expr, Ty), TypeFault>
+    ensures meets { Meets (below scope.now depth state.old.ctx (option_copied want.entry) e.now state.old.node) result state.new.node }
+    ensures keeps { state.new.ctx ≡ state.old.ctx }
+{
+    if depth == 0 {
+        return Err(TypeFault::CodeTooLarge);
+    }
+    let checker = Checker {
+        alloc,
+        depth: depth - 1,
+        run: checked,
+    };
+    checker.expression(scope, state, want, e)
+}

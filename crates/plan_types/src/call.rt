@@ -1,0 +1,358 @@
+//! The rules of calls, folds and chunk literals.
+
+ghost use Rattle.std.specs.Prelude.{◌≡◌, IfOk};
+ghost use Rattle.std.specs.Option.{option_copied};
+ghost use Rattle.plan_base.specs.TypingOrder as spec;
+ghost use Rattle.plan_base.specs.TypingNames as names;
+ghost use Rattle.plan_types.specs.Checks.{Meets, Nests, below};
+
+use crate::checker::Checker;
+use crate::names::{earlier, fun_of, place_of, prim_of, service_of};
+use crate::same::same_type;
+use crate::settle::{items_of, list_of, settled};
+use crate::state::{Scope, State};
+use plan_base::{
+    Expr, Exprs, Name, NoMemory, Param, Place, Primitive, Program, Ty, TypeFault, Tys,
+};
+use plan_items::Items;
+use std::alloc::Global;
+
+/// The types of parameters.
+fn param_types(alloc: Global, params: &[Param]) -> Result<Tys, NoMemory>
+    ensures { IfOk result (λ types. types ≡ names.param_types params.now) }
+{
+    let mut types = Items::new(alloc);
+    for param in params {
+        types.add(param.ty.copy(alloc)?)?;
+    }
+    Ok(types)
+}
+
+/// The types that a primitive takes, or `None` for one that takes a list of any type.
+fn takes(alloc: Global, prim: Primitive) -> Result<Option<Tys>, NoMemory>
+    ensures { IfOk result (λ types. types ≡ names.takes prim) }
+{
+    let mut types = Items::new(alloc);
+    match prim {
+        Primitive::Hd | Primitive::Tl | Primitive::Length => return Ok(None),
+        Primitive::IntToString => types.add(Ty::Int)?,
+        Primitive::HostToString => types.add(Ty::Host)?,
+        Primitive::StringToBlob => types.add(Ty::Str)?,
+        Primitive::BlobLength => types.add(Ty::Blob)?,
+        Primitive::BlobPart => {
+            types.add(Ty::Blob)?;
+            types.add(Ty::Int)?;
+            types.add(Ty::Int)?;
+        }
+    }
+    Ok(Some(types))
+}
+
+/// The type that such a primitive gives.
+fn makes(prim: Primitive) -> Ty
+    ensures { result ≡ names.makes prim }
+{
+    match prim {
+        Primitive::IntToString | Primitive::HostToString => Ty::Str,
+        Primitive::BlobLength => Ty::Int,
+        _ => Ty::Blob,
+    }
+}
+
+/// What a primitive gives that takes one list of any type, by the items' type.
+fn of_list(alloc: Global, prim: Primitive, item: &Ty) -> Result<Option<Ty>, NoMemory>
+    ensures { IfOk result (λ ty. ty ≡ names.of_list prim item.now) }
+{
+    match prim {
+        Primitive::Hd => Ok(Some(item.copy(alloc)?)),
+        Primitive::Tl => Ok(Some(list_of(alloc, item.copy(alloc)?)?)),
+        Primitive::Length => Ok(Some(Ty::Int)),
+        _ => Ok(None),
+    }
+}
+
+/// The same by the types of the arguments.
+fn given_of(alloc: Global, prim: Primitive, types: &[Ty]) -> Result<Option<Ty>, NoMemory>
+    ensures { IfOk result (λ ty. ty ≡ spec.given_of prim types.now) }
+{
+    match types {
+        [ty] => match items_of(Some(ty)) {
+            Some(item) => of_list(alloc, prim, item),
+            None => Ok(None),
+        },
+        _ => Ok(None),
+    }
+}
+
+/// Why no earlier function has the name.
+fn not_earlier(code: &Program, f: &Name, at: u32) -> TypeFault
+    ensures { result ≡ spec.not_earlier code.now f.now at }
+{
+    if place_of(f, code.funs.as_slice()).is_some() {
+        TypeFault::NotEarlier(Place::Node(at))
+    } else {
+        TypeFault::UnknownName(Place::Node(at))
+    }
+}
+
+impl<
+    F: Fn(
+        Global,
+        usize,
+        &Scope<'_>,
+        &mut State,
+        Option<&Ty>,
+        &Expr,
+    ) -> Result<(Expr, Ty), TypeFault>,
+> Checker<F> {
+    /// Arguments, each with the type that is wanted of it.
+    #[tactic(auto, unfolding(plan_base::specs::TypingOrder::arguments))]
+    fn arguments(
+        &self,
+        scope: &Scope<'_>,
+        state: &mut State,
+        at: u32,
+        wants: &Tys,
+        es: &Exprs,
+    ) -> Result<Exprs, TypeFault>
+        requires { Nests self.now.depth (F.pre self.now.run) (F.post self.now.run) }
+        ensures meets { Meets (spec.arguments scope.now.code.now scope.now.seen (below scope.now self.now.depth) state.old.ctx at wants.now es.now state.old.node) result state.new.node }
+        ensures keeps { state.new.ctx ≡ state.old.ctx }
+    {
+        if es.len() != wants.len() {
+            return Err(TypeFault::Arity(Place::Node(at)));
+        }
+        let (given, _types) = self.parts(scope, state, Some(wants), es.as_slice())?;
+        Ok(given)
+    }
+
+    /// A call by its parameters' types and its result's.
+    #[tactic(auto, unfolding(plan_base::specs::TypingOrder::applied))]
+    fn applied(
+        &self,
+        scope: &Scope<'_>,
+        state: &mut State,
+        at: u32,
+        want: Option<&Ty>,
+        f: &Name,
+        es: &Exprs,
+        wants: &Tys,
+        ty: &Ty,
+    ) -> Result<(Expr, Ty), TypeFault>
+        requires { Nests self.now.depth (F.pre self.now.run) (F.post self.now.run) }
+        ensures meets { Meets (spec.applied scope.now.code.now scope.now.seen (below scope.now self.now.depth) state.old.ctx at (option_copied want.entry) f.now es.now wants.now ty.now state.old.node) result state.new.node }
+        ensures keeps { state.new.ctx ≡ state.old.ctx }
+    {
+        let given = self.arguments(scope, state, at, wants, es)?;
+        let whole = Expr::Call(f.copy(self.alloc)?, given);
+        settled(
+            self.alloc,
+            at,
+            state.node,
+            want,
+            whole,
+            ty.copy(self.alloc)?,
+        )
+    }
+
+    /// A primitive that takes one list of any type.
+    #[tactic(auto, unfolding(plan_base::specs::TypingOrder::of_items))]
+    fn of_items(
+        &self,
+        scope: &Scope<'_>,
+        state: &mut State,
+        at: u32,
+        want: Option<&Ty>,
+        f: &Name,
+        prim: Primitive,
+        es: &Exprs,
+    ) -> Result<(Expr, Ty), TypeFault>
+        requires { Nests self.now.depth (F.pre self.now.run) (F.post self.now.run) }
+        ensures meets { Meets (spec.of_items scope.now.code.now scope.now.seen (below scope.now self.now.depth) state.old.ctx at (option_copied want.entry) f.now prim es.now state.old.node) result state.new.node }
+        ensures keeps { state.new.ctx ≡ state.old.ctx }
+    {
+        if es.len() != 1 {
+            return Err(TypeFault::Arity(Place::Node(at)));
+        }
+        let (given, types) = self.parts(scope, state, None, es.as_slice())?;
+        let ty = match given_of(self.alloc, prim, types.as_slice())? {
+            Some(ty) => ty,
+            None => return Err(TypeFault::WrongShape(Place::Node(at))),
+        };
+        let whole = Expr::Call(f.copy(self.alloc)?, given);
+        settled(self.alloc, at, state.node, want, whole, ty)
+    }
+
+    /// A primitive.
+    #[tactic(auto, unfolding(plan_base::specs::TypingOrder::primitive))]
+    fn primitive(
+        &self,
+        scope: &Scope<'_>,
+        state: &mut State,
+        at: u32,
+        want: Option<&Ty>,
+        f: &Name,
+        prim: Primitive,
+        es: &Exprs,
+    ) -> Result<(Expr, Ty), TypeFault>
+        requires { Nests self.now.depth (F.pre self.now.run) (F.post self.now.run) }
+        ensures meets { Meets (spec.primitive scope.now.code.now scope.now.seen (below scope.now self.now.depth) state.old.ctx at (option_copied want.entry) f.now prim es.now state.old.node) result state.new.node }
+        ensures keeps { state.new.ctx ≡ state.old.ctx }
+    {
+        match takes(self.alloc, prim)? {
+            Some(wants) => self.applied(scope, state, at, want, f, es, &wants, &makes(prim)),
+            None => self.of_items(scope, state, at, want, f, prim, es),
+        }
+    }
+
+    /// A function of the program, which must be an earlier one.
+    #[tactic(auto, unfolding(plan_base::specs::TypingOrder::function))]
+    fn function(
+        &self,
+        scope: &Scope<'_>,
+        state: &mut State,
+        at: u32,
+        want: Option<&Ty>,
+        f: &Name,
+        es: &Exprs,
+    ) -> Result<(Expr, Ty), TypeFault>
+        requires { Nests self.now.depth (F.pre self.now.run) (F.post self.now.run) }
+        ensures meets { Meets (spec.function scope.now.code.now scope.now.seen (below scope.now self.now.depth) state.old.ctx at (option_copied want.entry) f.now es.now state.old.node) result state.new.node }
+        ensures keeps { state.new.ctx ≡ state.old.ctx }
+    {
+        let fun = match earlier(scope.code, scope.seen, f) {
+            Some(fun) => fun,
+            None => return Err(not_earlier(scope.code, f, at)),
+        };
+        let wants = param_types(self.alloc, fun.params.as_slice())?;
+        self.applied(scope, state, at, want, f, es, &wants, &fun.result)
+    }
+
+    /// A call of a primitive, a service or a function.
+    #[tactic(auto, unfolding(plan_base::specs::TypingOrder::call))]
+    pub fn call(
+        &self,
+        scope: &Scope<'_>,
+        state: &mut State,
+        at: u32,
+        want: Option<&Ty>,
+        f: &Name,
+        es: &Exprs,
+    ) -> Result<(Expr, Ty), TypeFault>
+        requires { Nests self.now.depth (F.pre self.now.run) (F.post self.now.run) }
+        ensures meets { Meets (spec.call scope.now.code.now scope.now.seen (below scope.now self.now.depth) state.old.ctx at (option_copied want.entry) f.now es.now state.old.node) result state.new.node }
+        ensures keeps { state.new.ctx ≡ state.old.ctx }
+    {
+        if let Some(prim) = prim_of(f) {
+            return self.primitive(scope, state, at, want, f, prim, es);
+        }
+        match service_of(f, scope.code.svcs.as_slice()) {
+            Some(svc) => self.applied(scope, state, at, want, f, es, &svc.params, &svc.result),
+            None => self.function(scope, state, at, want, f, es),
+        }
+    }
+
+    /// The types of an earlier function with two parameters, and the type that it gives.
+    #[tactic(auto, unfolding(plan_base::specs::TypingOrder::folding))]
+    fn folding(
+        &self,
+        scope: &Scope<'_>,
+        node: u32,
+        at: u32,
+        f: &Name,
+    ) -> Result<(Ty, Ty, Ty), TypeFault>
+        ensures { Meets (spec.folding scope.now.code.now scope.now.seen (below scope.now self.now.depth) at f.now node) result node }
+    {
+        let fun = match earlier(scope.code, scope.seen, f) {
+            Some(fun) => fun,
+            None => return Err(not_earlier(scope.code, f, at)),
+        };
+        match fun.params.as_slice() {
+            [first, second] => Ok((
+                first.ty.copy(self.alloc)?,
+                second.ty.copy(self.alloc)?,
+                fun.result.copy(self.alloc)?,
+            )),
+            _ => Err(TypeFault::Arity(Place::Node(at))),
+        }
+    }
+
+    /// `foldl`.
+    #[tactic(auto, unfolding(plan_base::specs::TypingOrder::fold_left))]
+    pub fn fold_left(
+        &self,
+        scope: &Scope<'_>,
+        state: &mut State,
+        at: u32,
+        want: Option<&Ty>,
+        f: &Name,
+        a: &Expr,
+        l: &Expr,
+    ) -> Result<(Expr, Ty), TypeFault>
+        requires { Nests self.now.depth (F.pre self.now.run) (F.post self.now.run) }
+        ensures meets { Meets (spec.fold_left scope.now.code.now scope.now.seen (below scope.now self.now.depth) state.old.ctx at (option_copied want.entry) f.now a.now l.now state.old.node) result state.new.node }
+        ensures keeps { state.new.ctx ≡ state.old.ctx }
+    {
+        let (first, second, result) = self.folding(scope, state.node, at, f)?;
+        let start = self.wanting_boxed(scope, state, &first, a)?;
+        let list = list_of(self.alloc, second)?;
+        let items = self.wanting_boxed(scope, state, &list, l)?;
+        if !same_type(&result, &first) {
+            return Err(TypeFault::WrongShape(Place::Node(at)));
+        }
+        let whole = Expr::Foldl(f.copy(self.alloc)?, start, items);
+        settled(self.alloc, at, state.node, want, whole, first)
+    }
+
+    /// `foldr`.
+    #[tactic(auto, unfolding(plan_base::specs::TypingOrder::fold_right))]
+    pub fn fold_right(
+        &self,
+        scope: &Scope<'_>,
+        state: &mut State,
+        at: u32,
+        want: Option<&Ty>,
+        f: &Name,
+        a: &Expr,
+        l: &Expr,
+    ) -> Result<(Expr, Ty), TypeFault>
+        requires { Nests self.now.depth (F.pre self.now.run) (F.post self.now.run) }
+        ensures meets { Meets (spec.fold_right scope.now.code.now scope.now.seen (below scope.now self.now.depth) state.old.ctx at (option_copied want.entry) f.now a.now l.now state.old.node) result state.new.node }
+        ensures keeps { state.new.ctx ≡ state.old.ctx }
+    {
+        let (first, second, result) = self.folding(scope, state.node, at, f)?;
+        let start = self.wanting_boxed(scope, state, &second, a)?;
+        let list = list_of(self.alloc, first)?;
+        let items = self.wanting_boxed(scope, state, &list, l)?;
+        if !same_type(&result, &second) {
+            return Err(TypeFault::WrongShape(Place::Node(at)));
+        }
+        let whole = Expr::Foldr(f.copy(self.alloc)?, start, items);
+        settled(self.alloc, at, state.node, want, whole, second)
+    }
+
+    /// A chunk literal, whose entry is any function of the program.
+    #[tactic(auto, unfolding(plan_base::specs::TypingOrder::packing))]
+    pub fn packing(
+        &self,
+        scope: &Scope<'_>,
+        state: &mut State,
+        at: u32,
+        want: Option<&Ty>,
+        f: &Name,
+        es: &Exprs,
+    ) -> Result<(Expr, Ty), TypeFault>
+        requires { Nests self.now.depth (F.pre self.now.run) (F.post self.now.run) }
+        ensures meets { Meets (spec.packing scope.now.code.now scope.now.seen (below scope.now self.now.depth) state.old.ctx at (option_copied want.entry) f.now es.now state.old.node) result state.new.node }
+        ensures keeps { state.new.ctx ≡ state.old.ctx }
+    {
+        let fun = match fun_of(scope.code, f) {
+            Some(fun) => fun,
+            None => return Err(TypeFault::UnknownName(Place::Node(at))),
+        };
+        let wants = param_types(self.alloc, fun.params.as_slice())?;
+        let given = self.arguments(scope, state, at, &wants, es)?;
+        let whole = Expr::ChunkOf(f.copy(self.alloc)?, given);
+        settled(self.alloc, at, state.node, want, whole, Ty::Chunk)
+    }
+}

@@ -1,0 +1,154 @@
+//! The checking of parts. The function that checks a whole expression is taken as a parameter, so that
+//! each rule is proved by itself.
+
+ghost use Rattle.std.specs.Prelude.{◌≡◌, ◌++◌, ◌∷◌, [], ◌≤◌, length, Some};
+ghost use Rattle.std.specs.Option.{option_copied};
+ghost use Rattle.plan_base.specs.TypingOrder as spec;
+ghost use Rattle.plan_types.specs.Checks.{Meets, Nests, below};
+
+use crate::settle::want_at;
+use crate::state::{Scope, State};
+use plan_base::{Clause, Clauses, Expr, Exprs, Name, NoMemory, Ty, TypeFault, Tys};
+use plan_items::{Boxed, Items};
+use std::alloc::Global;
+
+/// The function that checks expressions, and the depth to which it does.
+#[derive(Clone, Copy)]
+pub struct Checker<F> {
+    pub alloc: Global,
+    pub depth: usize,
+    pub run: F,
+}
+
+impl<
+    F: Fn(
+        Global,
+        usize,
+        &Scope<'_>,
+        &mut State,
+        Option<&Ty>,
+        &Expr,
+    ) -> Result<(Expr, Ty), TypeFault>,
+> Checker<F> {
+    /// An expression, of which a type may be wanted.
+    pub fn run(
+        &self,
+        scope: &Scope<'_>,
+        state: &mut State,
+        want: Option<&Ty>,
+        e: &Expr,
+    ) -> Result<(Expr, Ty), TypeFault>
+        requires { Nests self.now.depth (F.pre self.now.run) (F.post self.now.run) }
+        ensures meets { Meets (below scope.now self.now.depth state.old.ctx (option_copied want.entry) e.now state.old.node) result state.new.node }
+        ensures keeps { state.new.ctx ≡ state.old.ctx }
+    {
+        (self.run)(self.alloc, self.depth, scope, state, want, e)
+    }
+
+    /// An expression of which a type is wanted.
+    #[tactic(auto, unfolding(plan_base::specs::TypingOrder::wanting))]
+    pub fn wanting(
+        &self,
+        scope: &Scope<'_>,
+        state: &mut State,
+        ty: &Ty,
+        e: &Expr,
+    ) -> Result<Expr, TypeFault>
+        requires { Nests self.now.depth (F.pre self.now.run) (F.post self.now.run) }
+        ensures meets { Meets (spec.wanting scope.now.code.now scope.now.seen (below scope.now self.now.depth) state.old.ctx ty.now e.now state.old.node) result state.new.node }
+        ensures keeps { state.new.ctx ≡ state.old.ctx }
+    {
+        let found = self.run(scope, state, Some(ty), e)?;
+        Ok(found.0)
+    }
+
+    /// The same in a box.
+    pub fn wanting_boxed(
+        &self,
+        scope: &Scope<'_>,
+        state: &mut State,
+        ty: &Ty,
+        e: &Expr,
+    ) -> Result<Boxed<Expr>, TypeFault>
+        requires { Nests self.now.depth (F.pre self.now.run) (F.post self.now.run) }
+        ensures meets { Meets (spec.wanting scope.now.code.now scope.now.seen (below scope.now self.now.depth) state.old.ctx ty.now e.now state.old.node) result state.new.node }
+        ensures keeps { state.new.ctx ≡ state.old.ctx }
+    {
+        let found = self.wanting(scope, state, ty, e)?;
+        Ok(Boxed::new(self.alloc, found)?)
+    }
+
+    /// An expression in a box, of which a type may be wanted.
+    pub fn run_boxed(
+        &self,
+        scope: &Scope<'_>,
+        state: &mut State,
+        want: Option<&Ty>,
+        e: &Expr,
+    ) -> Result<(Boxed<Expr>, Ty), TypeFault>
+        requires { Nests self.now.depth (F.pre self.now.run) (F.post self.now.run) }
+        ensures meets { Meets (below scope.now self.now.depth state.old.ctx (option_copied want.entry) e.now state.old.node) result state.new.node }
+        ensures keeps { state.new.ctx ≡ state.old.ctx }
+    {
+        let (found, ty) = self.run(scope, state, want, e)?;
+        Ok((Boxed::new(self.alloc, found)?, ty))
+    }
+
+    /// Parts from the left.
+    #[tactic(auto, unfolding(plan_base::specs::TypingOrder::parts_from))]
+    pub fn parts(
+        &self,
+        scope: &Scope<'_>,
+        state: &mut State,
+        wants: Option<&Tys>,
+        mut all: &[Expr],
+    ) -> Result<(Exprs, Tys), TypeFault>
+        requires { Nests self.now.depth (F.pre self.now.run) (F.post self.now.run) }
+        ensures meets { Meets (spec.parts scope.now.code.now scope.now.seen (below scope.now self.now.depth) state.old.ctx (option_copied wants.entry) all.entry.now state.old.node) result state.new.node }
+        ensures keeps { state.new.ctx ≡ state.old.ctx }
+    {
+        let mut done = Items::new(self.alloc);
+        let mut types = Items::new(self.alloc);
+        while let [e, rest @ ..] = all {
+            let (part, ty) = self.run(scope, state, want_at(wants, types.len()), e)?;
+            done.add(part)?;
+            types.add(ty)?;
+            all = rest;
+        }
+        Ok((done, types))
+    }
+
+    /// Clauses from the first, each with the wanted type.
+    #[tactic(auto, unfolding(plan_base::specs::TypingOrder::clauses_from))]
+    pub fn clauses(
+        &self,
+        scope: &Scope<'_>,
+        state: &mut State,
+        ty: &Ty,
+        mut all: &[Clause],
+    ) -> Result<Clauses, TypeFault>
+        requires { Nests self.now.depth (F.pre self.now.run) (F.post self.now.run) }
+        ensures meets { Meets (spec.clauses_from scope.now.code.now scope.now.seen (below scope.now self.now.depth) [] state.old.ctx ty.now all.entry.now state.old.node) result state.new.node }
+        ensures keeps { state.new.ctx ≡ state.old.ctx }
+    {
+        let mut done = Items::new(self.alloc);
+        while let [clause, rest @ ..] = all {
+            let body = self.wanting(scope, state, ty, &clause.body)?;
+            done.add(Clause {
+                name: copy_name(self.alloc, &clause.name)?,
+                body,
+            })?;
+            all = rest;
+        }
+        Ok(done)
+    }
+}
+
+fn copy_name(alloc: Global, name: &Option<Name>) -> Result<Option<Name>, NoMemory>
+    ensures { Rattle.std.specs.Prelude.IfOk result (λ n. n ≡ name.now) }
+{
+    match name {
+        None => Ok(None),
+        Some(name) => Ok(Some(name.copy(alloc)?)),
+    }
+}

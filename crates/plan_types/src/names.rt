@@ -1,0 +1,138 @@
+//! How names are found: primitives, exceptions, functions, services and bindings.
+
+ghost use Rattle.std.specs.Prelude.{◌≡◌, not};
+ghost use Rattle.std.specs.Str.{bytes_eq};
+ghost use Rattle.std.specs.List.{list_any};
+ghost use Rattle.std.specs.Option.{option_copied};
+ghost use Rattle.plan_base.specs.TypingNames as spec;
+ghost use Rattle.plan_base.specs.TypingOrder as order;
+
+use plan_base::{Clause, Fun, Name, Param, Primitive, Program, Svc, Ty};
+
+/// Whether two names are the same.
+pub fn same_name(a: &Name, b: &Name) -> bool
+    ensures { result ≡ bytes_eq a.now b.now }
+{
+    a.as_slice() == b.as_slice()
+}
+
+/// The primitive of that name.
+#[tactic(auto, unfolding(plan_base::specs::TypingNames::prim_of))]
+pub fn prim_of(name: &Name) -> Option<Primitive>
+    ensures { result ≡ spec.prim_of name.now }
+{
+    let name = name.as_slice();
+    if name == b"hd".as_slice() {
+        Some(Primitive::Hd)
+    } else if name == b"tl".as_slice() {
+        Some(Primitive::Tl)
+    } else if name == b"length".as_slice() {
+        Some(Primitive::Length)
+    } else if name == b"intToString".as_slice() {
+        Some(Primitive::IntToString)
+    } else if name == b"hostToString".as_slice() {
+        Some(Primitive::HostToString)
+    } else if name == b"stringToBlob".as_slice() {
+        Some(Primitive::StringToBlob)
+    } else if name == b"blobLength".as_slice() {
+        Some(Primitive::BlobLength)
+    } else if name == b"blobPart".as_slice() {
+        Some(Primitive::BlobPart)
+    } else {
+        None
+    }
+}
+
+/// Whether a name stands among others.
+pub fn has_name(names: &[Name], name: &Name) -> bool
+    ensures { result ≡ spec.has_name names.now name.now }
+{
+    names.iter().any(|n| same_name(n, name))
+}
+
+/// Whether an exception of that name is built in.
+pub fn is_built_in(name: &Name) -> bool
+    ensures { result ≡ spec.has_name spec.built_in name.now }
+{
+    let name = name.as_slice();
+    b"Overflow".as_slice() == name
+        || b"DivByZero".as_slice() == name
+        || b"Empty".as_slice() == name
+        || b"BadIndex".as_slice() == name
+        || b"TooLarge".as_slice() == name
+        || b"NoBound".as_slice() == name
+        || b"NoService".as_slice() == name
+        || b"NoRoute".as_slice() == name
+        || b"NotNeighbor".as_slice() == name
+        || b"TableFull".as_slice() == name
+        || b"NotFound".as_slice() == name
+}
+
+/// Whether the exception may be raised in the program.
+pub fn is_exception(code: &Program, name: &Name) -> bool
+    ensures { result ≡ spec.is_exception code.now name.now }
+{
+    is_built_in(name) || has_name(code.exns.as_slice(), name)
+}
+
+/// Whether a clause may catch that.
+pub fn may_catch(code: &Program, name: &Option<Name>) -> bool
+    ensures { result ≡ spec.may_catch code.now name.now }
+{
+    match name {
+        None => true,
+        Some(name) => is_exception(code, name),
+    }
+}
+
+/// Whether a clause names no exception of the program.
+pub fn any_unknown(code: &Program, clauses: &[Clause]) -> bool
+    ensures { result ≡ list_any (λ k. not (spec.may_catch code.now k.name)) clauses.now }
+{
+    clauses.iter().any(|k| !may_catch(code, &k.name))
+}
+
+/// The place of the first function of that name.
+pub fn place_of(name: &Name, funs: &[Fun]) -> Option<usize>
+    ensures { result ≡ spec.place_of name.now funs.now }
+{
+    funs.iter().position(|f| same_name(&f.name, name))
+}
+
+/// The function of that name, wherever it stands.
+pub fn fun_of<'a>(code: &'a Program, name: &Name) -> Option<&'a Fun>
+    ensures { option_copied result ≡ order.fun_of code.now name.now }
+{
+    code.funs.get(place_of(name, code.funs.as_slice())?)
+}
+
+/// The function of that name among the first `seen`.
+#[tactic(auto, using(std::proofs::lemmas::List::take_min))]
+pub fn earlier<'a>(code: &'a Program, seen: usize, name: &Name) -> Option<&'a Fun>
+    ensures { option_copied result ≡ order.earlier code.now seen name.now }
+{
+    let funs = code.funs.as_slice();
+    let before = &funs[..seen.min(funs.len())];
+    code.funs.get(place_of(name, before)?)
+}
+
+/// The first declared service of that name.
+pub fn service_of<'a>(name: &Name, svcs: &'a [Svc]) -> Option<&'a Svc>
+    ensures { option_copied result ≡ spec.service_of name.now svcs.now }
+{
+    svcs.iter().find(|d| same_name(&d.name, name))
+}
+
+/// The type of the innermost binding of that name.
+pub fn binding<'a>(name: &Name, ctx: &'a [Param]) -> Option<&'a Ty>
+    ensures { option_copied result ≡ spec.binding name.now ctx.now }
+{
+    let mut left = ctx.len();
+    while left > 0 {
+        left -= 1;
+        if same_name(&ctx[left].name, name) {
+            return Some(&ctx[left].ty);
+        }
+    }
+    None
+}

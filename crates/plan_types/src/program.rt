@@ -1,0 +1,224 @@
+//! The checking of a whole program: its declarations, its bodies, and its size.
+
+ghost use Rattle.std.specs.Prelude.{◌≡◌, ◌++◌, [], Some, map, IfOk};
+ghost use Rattle.plan_base.specs.Typing.{param_names};
+ghost use Rattle.plan_base.specs.TypingNames as names;
+ghost use Rattle.plan_base.specs.TypingOrder as spec;
+ghost use Rattle.plan_types.specs.Checks.{Gives};
+
+use crate::body::checked;
+use crate::names::{has_name, is_built_in, prim_of};
+use crate::state::{Scope, State};
+use plan_base::{
+    Expr, Fun, Funs, Name, Names, NoMemory, Param, Params, Place, Program, Svc, Ty, TypeFault,
+    code_size, copy_names, copy_params, copy_svcs,
+};
+use plan_items::Items;
+use std::alloc::Global;
+
+/// The depth of expressions that a well-formed program keeps.
+const MAX_DEPTH: usize = 64;
+
+/// The greatest size of marshalled code, in bytes.
+const MAX_CODE: u64 = 16000;
+
+fn is_prim(name: &Name) -> bool
+    ensures { result ≡ names.is_prim name.now }
+{
+    prim_of(name).is_some()
+}
+
+/// Services, each with a new name that no primitive has; the number of the declaration after them.
+#[tactic(auto, unfolding(plan_base::specs::TypingOrder::services_from))]
+fn services(alloc: Global, mut all: &[Svc], at: u32) -> Result<u32, TypeFault>
+    ensures { Gives (spec.services_from [] all.entry.now at) result }
+{
+    let mut taken = Items::new(alloc);
+    let mut number = at;
+    while let [d, rest @ ..] = all {
+        if is_prim(&d.name) || has_name(taken.as_slice(), &d.name) {
+            return Err(TypeFault::TwiceNamed(Place::Decl(number)));
+        }
+        taken.add(d.name.copy(alloc)?)?;
+        number = number.saturating_add(1);
+        all = rest;
+    }
+    Ok(number)
+}
+
+/// Whether an exception has a built-in name or one that was taken.
+fn is_taken(taken: &[Name], name: &Name) -> bool
+    ensures { result ≡ names.has_name (names.built_in ++ taken.now) name.now }
+{
+    if is_built_in(name) {
+        return true;
+    }
+    has_name(taken, name)
+}
+
+/// Exceptions, each with a new name that no built-in one has.
+#[tactic(auto, unfolding(plan_base::specs::TypingOrder::exceptions_from))]
+fn exceptions(alloc: Global, mut all: &[Name], at: u32) -> Result<u32, TypeFault>
+    ensures { Gives (spec.exceptions_from names.built_in all.entry.now at) result }
+{
+    let mut taken = Items::new(alloc);
+    let mut number = at;
+    while let [name, rest @ ..] = all {
+        if is_taken(taken.as_slice(), name) {
+            return Err(TypeFault::TwiceNamed(Place::Decl(number)));
+        }
+        taken.add(name.copy(alloc)?)?;
+        number = number.saturating_add(1);
+        all = rest;
+    }
+    Ok(number)
+}
+
+/// Whether the parameters have different names.
+fn differ(alloc: Global, mut all: &[Param]) -> Result<bool, NoMemory>
+    ensures { IfOk result (λ b. b ≡ names.are_new [] (param_names all.entry.now)) }
+{
+    let mut taken = Items::new(alloc);
+    while let [param, rest @ ..] = all {
+        if has_name(taken.as_slice(), &param.name) {
+            return Ok(false);
+        }
+        taken.add(param.name.copy(alloc)?)?;
+        all = rest;
+    }
+    Ok(true)
+}
+
+/// The names of services.
+fn svc_names(alloc: Global, svcs: &[Svc]) -> Result<Names, NoMemory>
+    ensures { IfOk result (λ all. all ≡ map (λ d. d.name) svcs.now) }
+{
+    let mut all = Items::new(alloc);
+    for svc in svcs {
+        all.add(svc.name.copy(alloc)?)?;
+    }
+    Ok(all)
+}
+
+/// Functions, each with a new name that no primitive and no service has, and with parameters of
+/// different names.
+#[tactic(auto, unfolding(plan_base::specs::TypingOrder::functions_from))]
+fn functions(alloc: Global, before: Names, mut all: &[Fun], at: u32) -> Result<u32, TypeFault>
+    ensures { Gives (spec.functions_from before all.entry.now at) result }
+{
+    let mut taken = before;
+    let mut number = at;
+    while let [d, rest @ ..] = all {
+        if is_prim(&d.name)
+            || has_name(taken.as_slice(), &d.name)
+            || !differ(alloc, d.params.as_slice())?
+        {
+            return Err(TypeFault::TwiceNamed(Place::Decl(number)));
+        }
+        taken.add(d.name.copy(alloc)?)?;
+        number = number.saturating_add(1);
+        all = rest;
+    }
+    Ok(number)
+}
+
+/// All declarations, in the order of the tree; their number.
+#[tactic(auto, unfolding(plan_base::specs::TypingOrder::declarations))]
+fn declarations(alloc: Global, code: &Program) -> Result<u32, TypeFault>
+    ensures { Gives (spec.declarations code.now) result }
+{
+    let svcs = services(alloc, code.svcs.as_slice(), 0)?;
+    let exns = exceptions(alloc, code.exns.as_slice(), svcs)?;
+    let taken = svc_names(alloc, code.svcs.as_slice())?;
+    functions(alloc, taken, code.funs.as_slice(), exns)
+}
+
+/// The body of a function below the first `seen`, and the number of the next expression.
+fn body(
+    alloc: Global,
+    code: &Program,
+    seen: usize,
+    node: u32,
+    d: &Fun,
+) -> Result<((Expr, Ty), u32), TypeFault>
+    ensures { Gives (spec.checked code.now 64 seen d.now.params (Some d.now.result) d.now.body node) result }
+{
+    let scope = Scope { code, seen };
+    let mut state = State {
+        ctx: copy_params(alloc, d.params.as_slice())?,
+        node,
+    };
+    let found = checked(
+        alloc,
+        MAX_DEPTH,
+        &scope,
+        &mut state,
+        Some(&d.result),
+        &d.body,
+    )?;
+    Ok((found, state.node))
+}
+
+/// What a function has beside its body.
+fn head_of(alloc: Global, d: &Fun) -> Result<(Name, Params, Ty), NoMemory>
+    ensures { IfOk result (λ h. h ≡ (d.now.name, d.now.params, d.now.result)) }
+{
+    let name = d.name.copy(alloc)?;
+    let params = copy_params(alloc, d.params.as_slice())?;
+    Ok((name, params, d.result.copy(alloc)?))
+}
+
+/// The same function with another body.
+fn with_body(alloc: Global, d: &Fun, body: Expr) -> Result<Fun, NoMemory>
+    ensures { IfOk result (λ f. f ≡ record d.now { body = body }) }
+{
+    let (name, params, gives) = head_of(alloc, d)?;
+    Ok(Fun {
+        name,
+        params,
+        result: gives,
+        body,
+    })
+}
+
+/// The functions with the types of their bodies filled in, and the number of expressions.
+#[tactic(auto, unfolding(plan_base::specs::TypingOrder::bodies_from))]
+fn bodies(alloc: Global, code: &Program, mut all: &[Fun]) -> Result<(Funs, u32), TypeFault>
+    ensures { Gives (spec.bodies_from code.now [] all.entry.now 0) result }
+{
+    let mut done = Items::new(alloc);
+    let mut node = 0u32;
+    while let [d, rest @ ..] = all {
+        let (found, next) = body(alloc, code, done.len(), node, d)?;
+        done.add(with_body(alloc, d, found.0)?)?;
+        node = next;
+        all = rest;
+    }
+    Ok((done, node))
+}
+
+/// The program, unless its code is too large.
+#[tactic(auto, unfolding(plan_base::specs::TypingOrder::sized))]
+fn sized(code: Program) -> Result<Program, TypeFault>
+    ensures { result ≡ spec.sized code }
+{
+    if code_size(&code) <= MAX_CODE {
+        Ok(code)
+    } else {
+        Err(TypeFault::CodeTooLarge)
+    }
+}
+
+/// The program with its types filled in, or the first refusal in the order of checking.
+#[tactic(auto, unfolding(plan_base::specs::TypingOrder::annotated))]
+pub fn annotated(alloc: Global, code: &Program) -> Result<Program, TypeFault>
+    ensures { Gives (spec.annotated code.now) result }
+{
+    let _count = declarations(alloc, code)?;
+    let (funs, _nodes) = bodies(alloc, code, code.funs.as_slice())?;
+    sized(Program {
+        svcs: copy_svcs(alloc, code.svcs.as_slice())?,
+        exns: copy_names(alloc, code.exns.as_slice())?,
+        funs,
+    })
+}

@@ -1,0 +1,90 @@
+//! Programs that are typed.
+
+ghost use Rattle.std.specs.Prelude.{◌≡◌, ◌≢◌, Ok, Err, IsTrue, is_ok, IfOk, IfErr, MatchOption, MatchResult};
+ghost use Rattle.plan_base.specs.declared.tree.Program.{Program as Code};
+ghost use Rattle.plan_base.specs.WellFormed.{IsWellFormedProgram, ProgramHasTypes};
+ghost use Rattle.plan_base.specs.Typing.{Typed};
+ghost use Rattle.plan_base.specs.TypingFills.{Fills};
+ghost use Rattle.plan_base.specs.TypingOrder.{annotated as answer};
+ghost use Rattle.plan_types.specs.Kept.{IsChecked};
+
+use crate::program::annotated;
+use plan_base::{Draft, NoMemory, Program, TypeFault};
+use std::alloc::Global;
+use std::marker::Model;
+
+/// A program that is typed, which contracts see as that program.
+#[derive(Debug, Drop)]
+pub struct Checked {
+    program: Program,
+}
+
+impl Model for Checked {
+    ghost use Rattle.plan_base.specs.declared.tree.Program.{Program};
+    ghost use Rattle.plan_base.specs.contracts.tree.Program as whole;
+    ghost use Rattle.plan_types.specs.Kept.{IsChecked};
+
+    ghost Value = { Program };
+
+    ghost coded = { whole.the_row.coded };
+
+    ghost view = { λ k. k.program };
+
+    ghost invariant = { λ k. IsChecked k.program };
+}
+
+impl Checked {
+    /// The program. Takes no memory.
+    pub fn program(&self) -> &Program
+        ensures value { result.now ≡ self.now }
+        ensures kept { IsChecked self.now }
+    {
+        &self.program
+    }
+
+    /// The same program.
+    pub fn copy(&self, alloc: Global) -> Result<Checked, NoMemory>
+        ensures { IfOk result (λ k. k ≡ self.now) }
+    {
+        let program = self.program.copy(alloc)?;
+        Ok(Checked { program })
+    }
+}
+
+/// Checks a well-formed draft: the types of `[]` and `raise` that are missing are taken from the wanted
+/// types. Else the first refusal in the order of checking.
+#[tactic(auto, using(crate::proofs::Answered::checked_by))]
+pub fn annotate(alloc: Global, draft: Draft) -> Result<Checked, TypeFault>
+    requires { IsWellFormedProgram draft.program }
+    ensures found { IfOk result (λ k. Fills draft.program k × IsChecked k) }
+    ensures only { (p : Code) → Fills draft.program p → Typed p → MatchResult result (λ k. k ≡ p) (λ f. f ≡ TypeFault.NoMemory) }
+    ensures fault { IfErr result (λ f. f ≢ TypeFault.NoMemory → answer draft.program ≡ Err f) }
+{
+    let program = annotated(alloc, &draft.program)?;
+    Ok(Checked { program })
+}
+
+/// Checks a well-formed program in which no type of `[]` or `raise` is missing. Else the first refusal in
+/// the order of checking.
+#[tactic(auto, using(crate::proofs::Answered::full_by, crate::proofs::Answered::typed_by))]
+pub fn check(alloc: Global, program: Program) -> Result<Checked, TypeFault>
+    requires formed { IsWellFormedProgram program }
+    requires full { ProgramHasTypes program }
+    ensures found { IfOk result (λ k. (k ≡ program) × IsChecked k) }
+    ensures only { Typed program → MatchResult result (λ k. k ≡ program) (λ f. f ≡ TypeFault.NoMemory) }
+    ensures fault { IfErr result (λ f. f ≢ TypeFault.NoMemory → answer program ≡ Err f) }
+{
+    let _filled = annotated(alloc, &program)?;
+    Ok(Checked { program })
+}
+
+/// The first refusal of a program in the order of checking, where there is one.
+pub fn refused(alloc: Global, program: &Program) -> Result<Option<TypeFault>, NoMemory>
+    ensures { IfOk result (λ o. MatchOption o (IsTrue (is_ok (answer program.now))) (λ f. answer program.now ≡ Err f)) }
+{
+    match annotated(alloc, program) {
+        Ok(_filled) => Ok(None),
+        Err(TypeFault::NoMemory) => Err(NoMemory),
+        Err(fault) => Ok(Some(fault)),
+    }
+}
