@@ -4,12 +4,11 @@ use Rattle.std.specs.Prelude.{map, codes}
 use Rattle.std.specs.List.{sum_by}
 use Rattle.std.proofs.lemmas.List.Sums.{sum_by-cons}
 use Rattle.plan_base.specs.declared.tree.Value.{Value, Value-F, out-Value, roll-Value, out-roll-Value, map-Value, fold-Value, fold_out-Value, ind-Value}
-use Rattle.plan_base.specs.declared.tree.Chunk.{Chunk, Chunk-F, out-Chunk, roll-Chunk, out-roll-Chunk, map-Chunk, fold-Chunk, fold_out-Chunk}
-use Rattle.plan_base.specs.Sizes.{name_size, type_size, code_size, weight_level, weight, chunk_weight_level, chunk_weight}
-use Rattle.plan_base.proofs.SizeLaws.{weight_out, chunk_weight_is}
-use Rattle.plan_printer.specs.Pieces.{listed, commas}
-use Rattle.plan_printer.specs.Printed.{empty_text, values_text, chunk_text_of, chunk_text, value_text_level, Shown, shown_level, shown_chunk_level, value_text}
-use Rattle.plan_printer.proofs.PrintLaws.{listed-map}
+use Rattle.plan_base.specs.declared.tree.Chunk.{Chunk, Chunk-F, roll-Chunk, out-roll-Chunk, fold-Chunk, fold_out-Chunk}
+use Rattle.plan_base.specs.Sizes.{name_size, type_size, code_size, weight_level, weight, chunk_weight}
+use Rattle.plan_base.proofs.SizeLaws.{weight_out}
+use Rattle.plan_printer.specs.Pieces.{listed}
+use Rattle.plan_printer.specs.Printed.{chunk_text_of, chunk_text, value_text_level, Shown, shown_level, shown_chunk_level, value_text}
 
 shown : Value → Shown
 shown = fold-Value Shown Shown shown_level shown_chunk_level

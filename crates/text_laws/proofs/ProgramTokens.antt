@@ -1,5 +1,5 @@
 -- A printed program is read as its tokens.
-use Rattle.std.proofs.Common.{◌≡◌, ℕ, ◌<◌, Bool, true, List, [], ◌∷◌, ◌++◌, length, refl, sym, ap, ◌∙◌, subst, arith, append-nil, append_assoc}
+use Rattle.std.proofs.Common.{◌≡◌, ℕ, Bool, true, List, [], ◌∷◌, ◌++◌, refl, sym, subst, append-nil, append_assoc}
 use Rattle.std.specs.Prelude.{codes}
 use Rattle.std.specs.List.{flat_map}
 use Rattle.plan_base.specs.Words.{IsName}
@@ -16,10 +16,10 @@ use Rattle.plan_lexer.specs.declared.token.TokenKind.TheVariants as kind
 use Rattle.plan_printer.specs.Pieces.{listed, commas}
 use Rattle.plan_printer.specs.Printed.{type_text, svc_text, exn_text, param_text, fun_text, program_text}
 use Rattle.text_laws.specs.Lexes.{Lexes}
-use Rattle.text_laws.specs.PrintedTokens.{Kinds, mark, word, type_kinds, svc_kinds, exn_kinds, param_kinds, fun_kinds, program_kinds}
+use Rattle.text_laws.specs.PrintedTokens.{mark, word, type_kinds, svc_kinds, exn_kinds, param_kinds, fun_kinds, program_kinds}
 use Rattle.text_laws.specs.Proper.{AllProper, IsReadableType, IsProperSvc, IsProperParam, IsProperFun, IsProperProgram}
 use Rattle.text_laws.proofs.Segments.{begins, calm, anything, Part, ◌>>◌, blank_part, lexes_end}
-use Rattle.text_laws.proofs.Glue.{is_text, name_part, key_part, colon_part, spaced_part, paren_part, close_part, comma_part, then_line}
+use Rattle.text_laws.proofs.Glue.{is_text, name_part, key_part, colon_part, spaced_part, paren_part, close_part, then_line}
 use Rattle.text_laws.proofs.Lists.{AllParts, all_listed, lines_lex}
 use Rattle.text_laws.proofs.TypeTokens.{type_part}
 use Rattle.text_laws.proofs.ExprTokens.{comma_glue, expr_part}

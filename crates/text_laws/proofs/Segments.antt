@@ -1,9 +1,7 @@
 -- Segments of a text that are read as their tokens whatever stands around them, within bounds.
-use Rattle.std.proofs.Common.{◌≡◌, ℕ, suc, ◌+◌, ◌-◌, ◌<◌, ◌==◌, Bool, true, false, not, ◌&&◌, ◌||◌, cond, List, [], ◌∷◌, ◌++◌, length, get_or, drop, Option, Some, None, Result, Ok, Err, refl, sym, ap, ◌∙◌, subst, arith, append_assoc, append-nil, length-append, nat_lt}
-use Rattle.std.specs.Prelude.{map, codes}
+use Rattle.std.proofs.Common.{◌≡◌, ℕ, ◌+◌, ◌-◌, ◌<◌, ◌==◌, Bool, true, false, not, ◌||◌, List, [], ◌∷◌, ◌++◌, length, get_or, Some, None, Ok, refl, sym, ap, ◌∙◌, subst, arith, append_assoc, append-nil, length-append, nat_lt}
 use Rattle.std.proofs.lemmas.Bool.Decides.{nat_tests}
-use Rattle.plan_base.specs.Words.{is_word_byte, is_word, IsName}
-use Rattle.plan_lexer.specs.Faults.{◌>>=◌}
+use Rattle.plan_base.specs.Words.{is_word_byte}
 use Rattle.plan_lexer.specs.Gaps.{is_blank, gap_at}
 use Rattle.plan_lexer.specs.Scanning.{token_at, move_at, rest_at, Toks, ends, skips, takes}
 use Rattle.plan_lexer.specs.TokenForms.{Spells, EndsBefore}
@@ -11,7 +9,7 @@ use Rattle.plan_lexer.specs.declared.token.TokenKind.{TokenKind}
 use Rattle.plan_lexer.proofs.SpellLemmas.{spells_read}
 use Rattle.plan_lexer.proofs.ReadLemmas.{drop_front}
 use Rattle.plan_lexer.proofs.LawLemmas.{spells_some}
-use Rattle.text_laws.specs.Lexes.{kinds_of, Lexes}
+use Rattle.text_laws.specs.Lexes.{Lexes}
 
 -- what may follow a bracket or a blank: no star and no colon
 abbrev pub begins : ℕ → Bool

@@ -1,6 +1,6 @@
 -- A printed value is read as its tokens.
-use Rattle.std.proofs.Common.{◌≡◌, ℕ, ◌<◌, Bool, true, List, [], ◌∷◌, ◌++◌, length, Option, Some, None, refl, sym, ap, ◌∙◌, arith}
-use Rattle.std.specs.Prelude.{map, codes}
+use Rattle.std.proofs.Common.{◌≡◌, ◌<◌, List, [], ◌∷◌, ◌++◌, length, refl, sym, ap, ◌∙◌, arith}
+use Rattle.std.specs.Prelude.{codes}
 use Rattle.plan_base.specs.declared.tree.Ty.{Ty}
 use Rattle.plan_base.specs.declared.tree.Value.{Value, Value-F, out-Value, map-Value, fold_out-Value}
 use Rattle.plan_base.specs.declared.tree.Chunk.{Chunk, fold-Chunk}
@@ -12,7 +12,7 @@ use Rattle.plan_printer.proofs.ValueLaws.{value_text_out}
 use Rattle.text_laws.specs.PrintedTokens.{Kinds, mark, values_kinds, value_kinds_level, value_kinds}
 use Rattle.text_laws.specs.Proper.{IsProperType, IsProperValue, AreProperValues}
 use Rattle.text_laws.specs.Proper.{IsProperValue as V, AreProperValues as A}
-use Rattle.text_laws.proofs.Segments.{begins, calm, anything, Part, ◌>>◌}
+use Rattle.text_laws.proofs.Segments.{begins, calm, Part, ◌>>◌}
 use Rattle.text_laws.proofs.Glue.{is_text, int_part, host_part, dev_part, char_part, string_part, blob_part, bool_part, paren_part, close_part, square_part, unsquare_part}
 use Rattle.text_laws.proofs.Lists.{AllParts, some_listed}
 use Rattle.text_laws.proofs.TypeTokens.{empty_part}

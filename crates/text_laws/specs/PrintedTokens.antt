@@ -1,5 +1,5 @@
 -- The tokens of printed types, values and programs.
-use Rattle.std.specs.Prelude.{ℕ, List, [], ◌∷◌, ◌++◌, Option, Some, None, Bool, true, false}
+use Rattle.std.specs.Prelude.{List, [], ◌∷◌, ◌++◌, Option, Some, None, Bool, true, false}
 use Rattle.std.specs.List.{flat_map}
 use Rattle.plan_base.specs.declared.tree.Ty.{Ty, Ty-F, fold-Ty}
 use Rattle.plan_base.specs.declared.tree.Op.{Op}
