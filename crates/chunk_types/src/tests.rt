@@ -16,7 +16,7 @@ enum Answer {
     NoMemory,
 }
 
-fn answer(alloc: Global, chunk: &Chunk) -> Answer {
+fn told(alloc: Global, chunk: &Chunk) -> Answer {
     match illness(alloc, chunk) {
         Ok(None) => Answer::Typed,
         Ok(Some(Ill::Code(_))) => Answer::Code,
@@ -62,7 +62,7 @@ fn chunk(alloc: Global, entry: &[u8], arg: Value) -> Result<Chunk, Fail> {
 fn an_argument_of_the_entrys_type_is_right(rt: HostRuntime) -> Result<(), Fail> {
     let alloc = rt.alloc();
     let chunk = chunk(alloc, b"f", Value::Int(1))?;
-    assert_eq!(rt; answer(alloc, &chunk), Answer::Typed);
+    assert_eq!(rt; told(alloc, &chunk), Answer::Typed);
     Ok(())
 }
 
@@ -70,7 +70,7 @@ fn an_argument_of_the_entrys_type_is_right(rt: HostRuntime) -> Result<(), Fail> 
 fn a_bool_is_no_int(rt: HostRuntime) -> Result<(), Fail> {
     let alloc = rt.alloc();
     let chunk = chunk(alloc, b"f", Value::Bool(true))?;
-    assert_eq!(rt; answer(alloc, &chunk), Answer::Argument(0));
+    assert_eq!(rt; told(alloc, &chunk), Answer::Argument(0));
     Ok(())
 }
 
@@ -78,7 +78,7 @@ fn a_bool_is_no_int(rt: HostRuntime) -> Result<(), Fail> {
 fn an_unknown_entry_comes_before_the_arguments(rt: HostRuntime) -> Result<(), Fail> {
     let alloc = rt.alloc();
     let chunk = chunk(alloc, b"g", Value::Bool(true))?;
-    assert_eq!(rt; answer(alloc, &chunk), Answer::Entry);
+    assert_eq!(rt; told(alloc, &chunk), Answer::Entry);
     Ok(())
 }
 

@@ -16,7 +16,7 @@ enum Answer {
     Other,
 }
 
-fn answer(alloc: Global, program: &Program) -> Answer {
+fn told(alloc: Global, program: &Program) -> Answer {
     match annotated(alloc, program) {
         Ok(_) => Answer::Typed,
         Err(TypeFault::NotEarlier(at)) => Answer::NotEarlier(at),
@@ -64,7 +64,7 @@ fn a_function_is_no_earlier_one_than_itself(rt: HostRuntime) -> Result<(), Fail>
     let alloc = rt.alloc();
     let call = Expr::Call(named(alloc, b"f")?, Items::new(alloc));
     let program = program(alloc, None, Ty::Unit, call)?;
-    assert_eq!(rt; answer(alloc, &program), Answer::NotEarlier(Place::Node(0)));
+    assert_eq!(rt; told(alloc, &program), Answer::NotEarlier(Place::Node(0)));
     Ok(())
 }
 
@@ -79,7 +79,7 @@ fn a_chunk_literal_may_name_its_own_function(rt: HostRuntime) -> Result<(), Fail
         Boxed::new(alloc, Expr::Dev(Dev(1)))?,
     );
     let program = program(alloc, None, Ty::Unit, send)?;
-    assert_eq!(rt; answer(alloc, &program), Answer::Typed);
+    assert_eq!(rt; told(alloc, &program), Answer::Typed);
     Ok(())
 }
 
@@ -95,7 +95,7 @@ fn an_empty_list_takes_its_type_from_the_left_of_an_equation(rt: HostRuntime) ->
         Ty::Bool,
         Expr::Binary(Op::Eq, left, right),
     )?;
-    assert_eq!(rt; answer(alloc, &program), Answer::Typed);
+    assert_eq!(rt; told(alloc, &program), Answer::Typed);
     Ok(())
 }
 
@@ -104,7 +104,7 @@ fn the_argument_of_hd_gives_an_empty_list_no_type(rt: HostRuntime) -> Result<(),
     let alloc = rt.alloc();
     let call = Expr::Call(named(alloc, b"hd")?, one(alloc, Expr::Nil(None))?);
     let program = program(alloc, None, Ty::Int, call)?;
-    assert_eq!(rt; answer(alloc, &program), Answer::NeedsType(Place::Node(1)));
+    assert_eq!(rt; told(alloc, &program), Answer::NeedsType(Place::Node(1)));
     Ok(())
 }
 
@@ -112,6 +112,6 @@ fn the_argument_of_hd_gives_an_empty_list_no_type(rt: HostRuntime) -> Result<(),
 fn a_body_of_another_type_is_refused_at_its_place(rt: HostRuntime) -> Result<(), Fail> {
     let alloc = rt.alloc();
     let program = program(alloc, None, Ty::Int, Expr::Bool(true))?;
-    assert_eq!(rt; answer(alloc, &program), Answer::Mismatch(Place::Node(0)));
+    assert_eq!(rt; told(alloc, &program), Answer::Mismatch(Place::Node(0)));
     Ok(())
 }
