@@ -1,3 +1,4 @@
+pub mod Carried
 pub mod Carries
 pub mod FieldLaws
 pub mod FrameLaws

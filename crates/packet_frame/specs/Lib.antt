@@ -4,3 +4,5 @@ pub mod Fields
 pub mod Forms
 pub mod Frames
 pub mod Reading
+pub mod Refusals
+pub mod Typed

@@ -1,18 +1,22 @@
 //! Frames on the wire: packets, adverts and asks, each with one spelling in at most 16,512 bytes.
 #![tactic(auto)]
 
+mod checked;
 mod fault;
 mod frame;
 mod get;
 mod kind;
 mod laws;
 mod put;
+mod refusal;
 
+pub use checked::{CheckedPacket, Frame, get_frame};
 pub use fault::FrameFault;
 pub use frame::{Advert, AdvertRow, AdvertRows, PlainFrame};
 pub use get::get_plain_frame;
 pub use laws::frame_laws;
 pub use put::{put_advert, put_plain_ask, put_plain_packet};
+pub use refusal::FrameRefusal;
 
 #[cfg(test)]
 mod tests;

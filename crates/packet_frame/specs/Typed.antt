@@ -1,0 +1,41 @@
+-- When bytes are a frame whose chunk is typed, and the first fault of those that are none.
+use Rattle.std.specs.Prelude.{◌≡◌, ℕ, List, Option, Some, None}
+use Rattle.plan_base.specs.declared.tree.Chunk.{Chunk}
+use Rattle.plan_base.specs.Typing.{IsTypedChunk}
+use Rattle.chunk_types.specs.declared.fault.Ill.{Ill}
+use Rattle.chunk_types.specs.Chunks.{illness}
+use Rattle.packet_frame.specs.declared.fault.FrameFault.{FrameFault}
+use Rattle.packet_frame.specs.declared.frame.PlainFrame.{PlainFrame}
+use Rattle.packet_frame.specs.declared.checked.Frame.{Frame}
+use Rattle.packet_frame.specs.declared.refusal.FrameRefusal.{FrameRefusal}
+use Rattle.packet_frame.specs.Frames.{SpellsFrame, SpellingFault, carried}
+
+-- what a frame spells
+abbrev pub plain_of : Frame → PlainFrame
+plain_of (Frame.Packet p) = PlainFrame.Packet p
+plain_of (Frame.Advert a) = PlainFrame.Advert a
+plain_of (Frame.Ask bound c) = PlainFrame.Ask bound c
+
+-- the chunk that a frame carries, if it carries one, is typed
+abbrev pub CarriesTyped : PlainFrame → Type 0
+CarriesTyped (PlainFrame.Packet p) = IsTypedChunk p.chunk
+CarriesTyped (PlainFrame.Advert a) = Unit {0}
+CarriesTyped (PlainFrame.Ask bound c) = IsTypedChunk c
+
+-- all the bytes spell the frame x, and its chunk is typed
+pub record Accepts (bytes : List ℕ) (x : PlainFrame) : Type 0 where
+  pub spells : SpellsFrame bytes x
+  pub typed : CarriesTyped x
+
+-- what is wrong with the chunk that a frame carries
+pub record CarriesIll (x : PlainFrame) (e : FrameRefusal) : Type 0 where
+  pub chunk : Chunk
+  pub ill : Ill
+  pub is_carried : carried x ≡ Some chunk
+  pub first : illness chunk ≡ Some ill
+  pub is : e ≡ FrameRefusal.IllTyped ill
+
+-- the first fault of bytes that are no typed frame: that of their spelling, and then that of the chunk's types
+pub data FrameFirst (e : FrameRefusal) (bytes : List ℕ) : Type 0 where
+  misspelled : (f : FrameFault) → SpellingFault f bytes → e ≡ FrameRefusal.Misspelled f → FrameFirst e bytes
+  ill_typed : (x : PlainFrame) → SpellsFrame bytes x → CarriesIll x e → FrameFirst e bytes
