@@ -1,0 +1,4 @@
+pub mod Options
+pub mod Paying
+pub mod Depth
+pub mod Visits
