@@ -8,7 +8,7 @@ ghost use Rattle.plain_eval.specs.Meets.{Meets};
 ghost use Rattle.plain_eval.specs.Evaluates.{Evaluates};
 
 use crate::evaluator::Evaluator;
-use crate::found::catches;
+use crate::found::handler;
 use crate::shapes::as_bool;
 use crate::state::State;
 use plan_base::{Clause, Exn, Expr, Name, Program, Value};
@@ -188,6 +188,7 @@ impl<
         outcome
     }
 
+    #[tactic(auto, using(crate::proofs::Handling::handled_caught, crate::proofs::Handling::handled_uncaught))]
     pub fn handled(
         &self,
         code: &Program,
@@ -206,14 +207,10 @@ impl<
         ensures offer { (S.stands svc.new).offer ≡ (S.stands svc.old).offer }
         ensures begun { (S.stands svc.new).begun ≡ (S.stands svc.old).begun }
     {
-        let mut rest = clauses;
-        while let [clause, more @ ..] = rest {
-            if catches(&clause.name, &x) {
-                return self.run(code, seen, env, state, svc, &clause.body);
-            }
-            rest = more;
+        match handler(clauses, &x) {
+            Some(body) => self.run(code, seen, env, state, svc, body),
+            None => Err(Stop::Raised(x)),
         }
-        Err(Stop::Raised(x))
     }
 
     #[tactic(auto, unfolding(plan_meaning::specs::Meaning::attempt))]

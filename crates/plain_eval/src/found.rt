@@ -2,8 +2,9 @@ ghost use Rattle.std.specs.Prelude.{◌≡◌, option_copied, take, IsTrue};
 ghost use Rattle.std.specs.Str.{bytes_eq};
 ghost use Rattle.plan_base.specs.TypingNames as names;
 ghost use Rattle.plan_meaning.specs.Meaning as spec;
+ghost use Rattle.plain_eval.specs.Handlers as handlers;
 
-use plan_base::{Exn, Fun, Name, Prim, Svc};
+use plan_base::{Clause, Exn, Expr, Fun, Name, Primitive, Svc};
 
 fn is(name: &Name, word: &[u8]) -> bool
     ensures { result ≡ bytes_eq name.now word.now }
@@ -13,32 +14,32 @@ fn is(name: &Name, word: &[u8]) -> bool
 
 /// The primitive of that name.
 #[tactic(auto, unfolding(plan_base::specs::TypingNames::prim_of))]
-pub fn prim_of(f: &Name) -> Option<Prim>
+pub fn prim_of(f: &Name) -> Option<Primitive>
     ensures { result ≡ names.prim_of f.now }
 {
     if is(f, b"hd") {
-        return Some(Prim::Hd);
+        return Some(Primitive::Hd);
     }
     if is(f, b"tl") {
-        return Some(Prim::Tl);
+        return Some(Primitive::Tl);
     }
     if is(f, b"length") {
-        return Some(Prim::Length);
+        return Some(Primitive::Length);
     }
     if is(f, b"intToString") {
-        return Some(Prim::IntToString);
+        return Some(Primitive::IntToString);
     }
     if is(f, b"hostToString") {
-        return Some(Prim::HostToString);
+        return Some(Primitive::HostToString);
     }
     if is(f, b"stringToBlob") {
-        return Some(Prim::StringToBlob);
+        return Some(Primitive::StringToBlob);
     }
     if is(f, b"blobLength") {
-        return Some(Prim::BlobLength);
+        return Some(Primitive::BlobLength);
     }
     if is(f, b"blobPart") {
-        return Some(Prim::BlobPart);
+        return Some(Primitive::BlobPart);
     }
     None
 }
@@ -81,4 +82,18 @@ pub fn catches(name: &Option<Name>, x: &Exn) -> bool
         Some(name) => is(name, x.0.as_slice()),
         None => true,
     }
+}
+
+/// The body of the first clause that catches the exception.
+pub fn handler<'a>(clauses: &'a [Clause], x: &Exn) -> Option<&'a Expr>
+    ensures { option_copied result ≡ handlers.handler clauses.now x.now }
+{
+    let mut rest = clauses;
+    while let [clause, more @ ..] = rest {
+        if catches(&clause.name, x) {
+            return Some(&clause.body);
+        }
+        rest = more;
+    }
+    None
 }

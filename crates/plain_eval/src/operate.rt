@@ -1,7 +1,7 @@
 ghost use Rattle.value_rules.specs.Rules as rules;
 ghost use Rattle.plain_eval.specs.Meets.{MeetsGiven};
 
-use plan_base::{Op, Prim, Value, Values};
+use plan_base::{Op, Primitive, Value, Values};
 use plan_meaning::Stop;
 use std::alloc::Global;
 
@@ -13,7 +13,7 @@ pub fn binary(_alloc: Global, _op: Op, _a: &Value, _b: &Value) -> Result<Value, 
 }
 
 /// What a primitive gives of its arguments.
-pub fn primitive(_alloc: Global, _p: Prim, _args: &Values) -> Result<Value, Stop>
+pub fn primitive(_alloc: Global, _p: Primitive, _args: &Values) -> Result<Value, Stop>
     ensures { MeetsGiven (rules.primitive _p _args.now) result }
 {
     Err(Stop::NoMemory)

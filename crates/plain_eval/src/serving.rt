@@ -1,7 +1,7 @@
 ghost use Rattle.std.specs.Prelude.{◌≡◌, IsSome};
-ghost use Rattle.service_api.specs.Services.{AreGoodValues};
 ghost use Rattle.plan_meaning.specs.State.{joined};
 ghost use Rattle.plan_meaning.specs.Run as run;
+ghost use Rattle.plan_meaning.specs.Safe.{IsSafe};
 ghost use Rattle.plain_eval.specs.Meets.{Meets};
 
 use crate::state::State;
@@ -21,7 +21,7 @@ pub fn served<S: Services>(
     args: &Values,
 ) -> Result<Value, Stop>
     requires open { IsSome (S.stands svc.old).begun }
-    requires good { AreGoodValues d.now.params args.now }
+    requires safe { IsSafe (run.serve d.now args.now (joined state.old (S.stands svc.old))).asks }
     ensures meets { Meets (run.serve d.now args.now (joined state.old (S.stands svc.old))) result (joined state.new (S.stands svc.new)) }
     ensures offer { (S.stands svc.new).offer ≡ (S.stands svc.old).offer }
     ensures begun { (S.stands svc.new).begun ≡ (S.stands svc.old).begun }
