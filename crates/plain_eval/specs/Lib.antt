@@ -2,3 +2,4 @@ pub mod Stored
 pub mod Meets
 pub mod Evaluates
 pub mod Handlers
+pub mod Told

@@ -4,16 +4,33 @@ ghost use Rattle.plan_meaning.specs.Run as run;
 ghost use Rattle.plan_meaning.specs.Meaning as spec;
 ghost use Rattle.plan_meaning.specs.Meaning.{run_to};
 ghost use Rattle.plan_meaning.specs.Safe.{IsSafe};
+ghost use Rattle.service_api.specs.Services.{Standing};
 ghost use Rattle.plain_eval.specs.Meets.{Meets};
+ghost use Rattle.plain_eval.specs.Told.{and_unit};
 ghost use Rattle.plain_eval.specs.Evaluates.{Evaluates};
 
 use crate::evaluator::Evaluator;
 use crate::shapes::{as_chunk, as_dev, as_host, as_int};
 use crate::state::State;
-use plan_base::{Expr, Name, Program, Value};
+use plan_base::{Chunk, Dev, Expr, Host, Name, Program, Value};
 use plan_meaning::{Env, Stop};
 use service_api::Services;
 use std::alloc::Global;
+
+/// Sends a chunk to a neighbour, and gives `()`.
+fn sent_next(
+    alloc: Global,
+    state: &mut State,
+    chunk: &Chunk,
+    host: Host,
+    bound: i64,
+    dev: Dev,
+) -> Result<Value, Stop>
+    ensures { (s : Standing) → Meets (and_unit (spec.send_neighbour chunk.now host bound dev) (joined state.old s)) result (joined state.new s) }
+{
+    state.send_neighbour(alloc, chunk, host, bound, dev)?;
+    Ok(Value::Unit)
+}
 
 impl<
     S: Services,
@@ -120,7 +137,6 @@ impl<
         let Some(dev) = as_dev(&t) else {
             return Err(Stop::Wrong);
         };
-        state.send_neighbour(self.alloc, chunk, host, bound, dev)?;
-        Ok(Value::Unit)
+        sent_next(self.alloc, state, chunk, host, bound, dev)
     }
 }

@@ -1,5 +1,5 @@
 ghost use Rattle.std.specs.Prelude.{◌≡◌, ◌+◌, ◌≤◌, length, IfOk, IsSome};
-ghost use Rattle.plan_base.specs.Typing.{IsTypedChunk};
+ghost use Rattle.service_api.specs.Services.{IsGoodChunk};
 ghost use Rattle.plan_meaning.specs.Visit.{IsVisit, allowance, bounds, spent};
 
 use crate::evaluator::{Evaluator, run_to};
@@ -24,7 +24,7 @@ fn spent(alloc: Global, bound: u32) -> Visit
     }
 }
 
-/// What the visit of a packet ends with. Conditions: its chunk is typed, the purse of the surroundings is its bound, which
+/// What the visit of a packet ends with. Conditions: its chunk is typed and well formed, the purse of the surroundings is its bound, which
 /// is at most 65,535, there are at most 8 neighbours, and a `begin` is open. After `WorkSpent` and `NoMemory` the caller
 /// abandons.
 pub fn visit<S: Services>(
@@ -33,7 +33,7 @@ pub fn visit<S: Services>(
     svc: &mut S,
     ctx: &Ctx,
 ) -> Result<Visit, NoMemory>
-    requires typed { IsTypedChunk p.now.chunk }
+    requires good { IsGoodChunk p.now.chunk }
     requires bound { ctx.now.purse ≡ p.now.bound }
     requires small { p.now.bound ≤ 65535 }
     requires near { length ctx.now.neighbours ≤ 8 }
