@@ -1,5 +1,5 @@
 -- The meaning of an expression whose parts gave values, by its last step.
-use Rattle.std.proofs.Common.{◌≡◌, ℕ, Option, Some, Result, Ok, Err}
+use Rattle.std.proofs.Common.{◌≡◌, ℕ, Option, Some, Result, Ok, Err, subst}
 use Rattle.std.specs.Prelude.{ℤ}
 use Rattle.plan_base.specs.declared.ids.Dev.{Dev}
 use Rattle.plan_base.specs.declared.ids.Host.{Host}
@@ -21,14 +21,14 @@ weighed_last p s s' s'' u v (Ok a) new e f m = rw (e, f) m
 weighed_last p s s' s'' u v (Err x) new e f m = rw (e, f) m
 
 module _ (run : Runs) (code : Program) (seen : ℕ) where
-  pub neighbour_last : (a h n d : Expr) (env env' env'' env''' : Env) (s s' s'' s''' s'''' : VisitState) (v w u t : Value) (k : Chunk) (host : Host) (bound : ℤ) (dev : Dev) (r : Result Value Stop) (new : VisitState)
+  pub neighbour_last : (a h n d : Expr) (env env' env'' env''' : Env) (s s' s'' s''' s'''' : VisitState) (v w u t : Value) (k : Chunk) (host : Host) (bound given : ℤ) (dev : Dev) (r : Result Value Stop) (new : VisitState)
       → (run code seen env a s).after ≡ gave v s' → env' ≡ env → Some k ≡ as_chunk v
       → (run code seen env' h s').after ≡ gave w s'' → env'' ≡ env' → Some host ≡ as_host w
       → (run code seen env'' n s'').after ≡ gave u s''' → env''' ≡ env'' → Some bound ≡ as_int u
       → (run code seen env''' d s''').after ≡ gave t s'''' → Some dev ≡ as_dev t
-      → Meets (and_unit (send_neighbour k host bound dev) s'''') r new → Meets (neighbour run code seen env a h n d s) r new
+      → given ≡ bound → Meets (and_unit (send_neighbour k host given dev) s'''') r new → Meets (neighbour run code seen env a h n d s) r new
   unfolding neighbour
-  neighbour_last a h n d env env' env'' env''' s s' s'' s''' s'''' v w u t k host bound dev (Ok x) new e1 k1 f1 e2 k2 f2 e3 k3 f3 e4 f4 m =
-      rw (e1, ← f1, ← k1, e2, ← f2, ← k2, e3, ← f3, ← k3, e4, ← f4) m
-  neighbour_last a h n d env env' env'' env''' s s' s'' s''' s'''' v w u t k host bound dev (Err x) new e1 k1 f1 e2 k2 f2 e3 k3 f3 e4 f4 m =
-      rw (e1, ← f1, ← k1, e2, ← f2, ← k2, e3, ← f3, ← k3, e4, ← f4) m
+  neighbour_last a h n d env env' env'' env''' s s' s'' s''' s'''' v w u t k host bound given dev (Ok x) new e1 k1 f1 e2 k2 f2 e3 k3 f3 e4 f4 q m =
+      rw (e1, ← f1, ← k1, e2, ← f2, ← k2, e3, ← f3, ← k3, e4, ← f4) (subst (λ (n : ℤ). Meets (and_unit (send_neighbour k host n dev) s'''') (Ok x) new) q m)
+  neighbour_last a h n d env env' env'' env''' s s' s'' s''' s'''' v w u t k host bound given dev (Err x) new e1 k1 f1 e2 k2 f2 e3 k3 f3 e4 f4 q m =
+      rw (e1, ← f1, ← k1, e2, ← f2, ← k2, e3, ← f3, ← k3, e4, ← f4) (subst (λ (n : ℤ). Meets (and_unit (send_neighbour k host n dev) s'''') (Err x) new) q m)
