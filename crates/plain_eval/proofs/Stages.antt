@@ -1,5 +1,5 @@
 -- The meaning of an expression whose parts gave values, by its last step.
-use Rattle.std.proofs.Common.{◌≡◌, ℕ, Option, Some, Result, Ok, Err, subst}
+use Rattle.std.proofs.Common.{◌≡◌, ℕ, Some, Result, Ok, Err, subst}
 use Rattle.std.specs.Prelude.{ℤ}
 use Rattle.plan_base.specs.declared.ids.Dev.{Dev}
 use Rattle.plan_base.specs.declared.ids.Host.{Host}

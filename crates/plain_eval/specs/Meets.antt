@@ -6,7 +6,7 @@ use Rattle.value_rules.specs.Rules.{Given, gives, raises, unfit}
 use Rattle.plan_meaning.specs.declared.stop.Stop.{Stop}
 use Rattle.plan_meaning.specs.declared.stop.Stop.TheVariants.{Raised, Wrong, NoMemory}
 use Rattle.plan_meaning.specs.State.{VisitState}
-use Rattle.plan_meaning.specs.Run.{After, gave, stopped, Step}
+use Rattle.plan_meaning.specs.Run.{gave, stopped, Step}
 
 -- the value and the state, or the stop and the state; of want of memory nothing is said
 abbrev pub Meets : {A : Type 0} → Step A → Result A Stop → VisitState → Type 0

@@ -1,4 +1,4 @@
-use Rattle.std.proofs.Common.{◌≡◌, List, [], ◌∷◌, length, IsSome, Option, Some, None, option_copied}
+use Rattle.std.proofs.Common.{◌≡◌, length}
 use Rattle.plan_base.specs.TypingNames as names
 use Rattle.plain_eval.proofs.found.service_of.Given as goal
 
