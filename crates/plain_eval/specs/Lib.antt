@@ -1,0 +1,5 @@
+pub mod Stored
+pub mod Meets
+pub mod Evaluates
+pub mod Handlers
+pub mod Told
