@@ -1,4 +1,4 @@
-ghost use Rattle.std.specs.Prelude.{◌≡◌, IsSome, ◌∷◌, []};
+ghost use Rattle.std.specs.Prelude.{◌≡◌, IsSome};
 ghost use Rattle.plan_meaning.specs.State.{joined};
 ghost use Rattle.plan_meaning.specs.Run as run;
 ghost use Rattle.plan_meaning.specs.Meaning as spec;
@@ -6,8 +6,6 @@ ghost use Rattle.plan_meaning.specs.Meaning.{run_to};
 ghost use Rattle.plan_meaning.specs.Safe.{IsSafe};
 ghost use Rattle.plain_eval.specs.Meets.{Meets};
 ghost use Rattle.plain_eval.specs.Evaluates.{Evaluates};
-ghost use Rattle.std.specs.Prelude.{option_copied};
-ghost use Rattle.plan_base.specs.declared.tree.Expr.{out-Expr};
 
 use crate::bindings::value_of;
 use crate::evaluator::Evaluator;

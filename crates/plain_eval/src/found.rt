@@ -1,4 +1,4 @@
-ghost use Rattle.std.specs.Prelude.{◌≡◌, option_copied, take, IsTrue};
+ghost use Rattle.std.specs.Prelude.{◌≡◌, option_copied, take};
 ghost use Rattle.std.specs.Str.{bytes_eq};
 ghost use Rattle.plan_base.specs.TypingNames as names;
 ghost use Rattle.plan_meaning.specs.Meaning as spec;

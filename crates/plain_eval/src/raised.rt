@@ -1,4 +1,3 @@
-ghost use Rattle.std.specs.Prelude.{codes};
 ghost use Rattle.plan_base.specs.Words.{IsName};
 ghost use Rattle.value_rules.specs.Rules.{exception, too_large};
 ghost use Rattle.plan_meaning.specs.Meaning.{no_bound, no_service, no_route, not_neighbour};

@@ -1,8 +1,7 @@
 ghost use Rattle.std.specs.Prelude.{◌≡◌, ◌≤◌, length, [], if◌then◌else◌, Some, None, IfOk, OnOk};
-ghost use Rattle.plan_base.specs.declared.tree.Value.{Value};
 ghost use Rattle.service_api.specs.Routes.{default_route};
 ghost use Rattle.service_api.specs.Services.{Standing};
-ghost use Rattle.plan_meaning.specs.State.{Own, joined};
+ghost use Rattle.plan_meaning.specs.State.{joined};
 ghost use Rattle.plan_meaning.specs.Run as run;
 ghost use Rattle.plan_meaning.specs.Visit.{allowance, ended};
 ghost use Rattle.plan_meaning.specs.Meaning as spec;
