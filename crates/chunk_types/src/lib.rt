@@ -6,8 +6,6 @@ mod fault;
 mod ill;
 mod laws;
 mod shape;
-#[cfg(test)]
-mod tests;
 mod typed_chunk;
 
 pub use fault::{ChunkFault, Ill};
