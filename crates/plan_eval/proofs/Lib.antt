@@ -1,0 +1,12 @@
+pub mod Leading
+pub mod Walking
+pub mod Deciding
+pub mod Stacks
+pub mod Applying
+pub mod Delivering
+mod Entering
+mod Ending
+mod Turning
+mod Naming
+mod Beginning
+mod Catching
