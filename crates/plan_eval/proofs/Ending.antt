@@ -25,17 +25,17 @@ use Rattle.plan_eval.proofs.Walking.{nowhere}
 -- ---- frames
 
 from_shorter : (o : Option Expr) (fs : List Frame) (f : Frame) → IsSome (expr_from o (fs ++ f ∷ [])) → IsSome (expr_from o fs)
-from_shorter (Some e) [] f h = tt
+from_shorter (Some e) [] f h = refl
 from_shorter (Some e) (g ∷ fs) f h = from_shorter (part_or_self e (part_number g)) fs f h
 from_shorter None [] f h = absurd (false≢true h)
 from_shorter None (g ∷ fs) f h = absurd (false≢true h)
 
 spot_is : (o : Option Expr) (env : Env) → IsSome (spot_of o env) → IsSome o
-spot_is (Some e) env h = tt
+spot_is (Some e) env h = refl
 spot_is None env h = absurd (false≢true h)
 
 spot_made : (o : Option Expr) (env : Env) → IsSome o → IsSome (spot_of o env)
-spot_made (Some e) env h = tt
+spot_made (Some e) env h = refl
 spot_made None env h = absurd (false≢true h)
 
 spot_shorter : (start : Option Spot) (fs : List Frame) (f : Frame) → IsSome (spot_from start (fs ++ f ∷ [])) → IsSome (spot_from start fs)

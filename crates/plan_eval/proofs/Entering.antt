@@ -78,7 +78,7 @@ visited_stack codes outer code a at k fun g env s is there linked place has bind
         (all_ended_leads codes outer _ _ (ended_leads codes a _ _ (resume_leads code a.fun at frame.Chunk _ _ (onward _ _ _ (visited_on k fun s place) (entered_on k.code fun k.args g env s has binds))))))
   where
     stands : IsSome (spot_in codes (under a frame.Chunk))
-    stands = rw (spot_in_push codes a at frame.Chunk there) tt
+    stands = rw (spot_in_push codes a at frame.Chunk there) refl
 
 -- ---- what is linked
 

@@ -149,13 +149,13 @@ module _ (code : Program) (seen : ℕ) (at : Spot) (want : Step Value) (s : Visi
   no_part f none h = h.same ∙ resume_final code seen Wrong s tt at f _ (ap (λ o. (run_at code seen (spot_of o (env_at at.expr at.env f)) s).after) none)
 
   pub no_call : (fun : ℕ) (args : List Value) → (entered meaning code fun args s).after ≡ stopped Wrong s → Leads want (next_step code seen at (next.Call fun args) s) → want.after ≡ stopped Wrong s
-  no_call fun args none h = h.same ∙ resume_final code seen Wrong s tt at frame.Body _ none
+  no_call fun args none h = h.same ∙ resume_final code seen Wrong s tt at frame.Body (entered meaning code fun args s) none
 
   pub no_step : (fun : ℕ) (args left : List Value) → (entered meaning code fun args s).after ≡ stopped Wrong s → Leads want (next_step code seen at (next.Step fun args left) s) → want.after ≡ stopped Wrong s
-  no_step fun args left none h = h.same ∙ resume_final code seen Wrong s tt at (frame.Items left) _ none
+  no_step fun args left none h = h.same ∙ resume_final code seen Wrong s tt at (frame.Items left) (entered meaning code fun args s) none
 
   some_deep : (o : Option Expr) (env : Env) (e : Expr) → o ≡ Some e → IsSome (spot_of o env)
-  some_deep o env e is = rw is tt
+  some_deep o env e is = rw is refl
 
   pub has_part : (f : Frame) (e : Expr) → part_or_self at.expr (part_number f) ≡ Some e → IsSome (deeper at f)
   unfolding deeper

@@ -34,7 +34,7 @@ at_once_raised : {A : Type 0} (p : Step A) (e : Stop) (s : VisitState) → p.aft
 at_once_raised p e s is = record { same = is; safe = λ k. tt }
 
 is_some : {A : Type 0} {o : Option A} {x : A} → o ≡ Some x → IsSome o
-is_some h = rw h tt
+is_some h = rw h refl
 
 module _ (codes : List Program) (outer : List Activation) (code : Program) (a : Activation) (at : Spot) (want : Step Value)
     (is : slice_get codes a.code ≡ Some code) (there : spot_in codes a ≡ Some at) (linked : AreLinked codes outer) where
@@ -96,7 +96,7 @@ module _ (codes : List Program) (outer : List Activation) (code : Program) (a : 
           (is_some (spot_in_entry (codes ++ k.code ∷ []) (length codes) fun k.args k.code g env (last_one codes k.code) has binds)) )
     where
       chunk_deep : IsSome (spot_in codes (under a frame.Chunk))
-      chunk_deep = rw (spot_in_push codes a at frame.Chunk there) tt
+      chunk_deep = rw (spot_in_push codes a at frame.Chunk there) refl
 
   -- where nothing can be entered
   pub turn_no_entry : (f : Frame) (fun : ℕ) (args : List Value) (s : VisitState) → Leads want (resume code a.fun at f (entered meaning code fun args s))
