@@ -1,11 +1,11 @@
-use Rattle.std.proofs.Common.{◌≡◌, ◌⊎◌, inl, inr, ℕ, Result, Ok, Err, refl, sym, ◌∙◌, ap, subst}
+use Rattle.std.proofs.Common.{◌≡◌, ◌⊎◌, inl, inr, ℕ, ◌+◌, List, ◌++◌, length, Result, Ok, Err, refl, sym, ◌∙◌, ap, subst}
 use Rattle.wire_bytes.specs.Fields.{Front, IsBytes}
 use Rattle.read_laws.proofs.Binds.{ok_inj}
 use Rattle.chunk_spelling.specs.declared.fault.SpellFault.{SpellFault}
 use Rattle.chunk_spelling.specs.declared.fault.SpellFault.TheVariants.{Truncated, BadTag, BadName, BadUtf8, OverLimit, NoMemory}
 use Rattle.chunk_spelling.specs.Scan.{Scan}
 use Rattle.chunk_spelling.specs.Parts.{Part}
-use Rattle.chunk_spelling.specs.Spelling.{SpelledAt, from_front, FirstFaultAt}
+use Rattle.chunk_spelling.specs.Spelling.{Spells, SpelledAt, from_front, FirstFaultAt}
 use Rattle.chunk_spelling.proofs.PartLaws.{Lawful}
 use Rattle.chunk_spelling.proofs.WholeLaws.{found_by, only_by, fault_by}
 use Rattle.chunk_codec.specs.Reading.{Fails}
@@ -46,3 +46,7 @@ module _ {A : Type 0} (p : Part A) (l : Lawful p) (no_nodes : (x : A) → p.node
       by_case : (e ≡ NoMemory) ⊎ (p.read s ≡ Err e) → (e ≡ NoMemory) ⊎ FirstFaultAt e p.item f
       by_case (inl m) = inl m
       by_case (inr r) = inr (fault_by p l no_nodes f e (ap p.read (sym starts) ∙ r))
+
+-- a spelling stands in front of whatever follows
+pub again_by : {A : Type 0} (p : Part A) (at : ℕ) (a more : List ℕ) (x : A) → Spells p a x → SpelledAt p (record { at = at; rest = a ++ more }) x (record { at = at + length a; rest = more })
+again_by p at a more x h = record { fits = h.fits; splits = ap (λ l. l ++ more) h.is; place = ap (λ l. at + length l) h.is }

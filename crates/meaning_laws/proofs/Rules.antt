@@ -1,8 +1,8 @@
 -- What operators, parts and primitives give of typed values.
 use Rattle.std.proofs.Common.{◌≡◌, ◌≢◌, ℕ, zero, suc, ◌+◌, ◌-◌, ◌≤◌, Bool, true, false, cond, not, ◌&&◌, if◌then◌else◌, ◌==◌, nat_lt, nat_le, ℤ, pos, negsuc, List, [], ◌∷◌, ◌++◌, length, take, drop, Option, Some, None, slice_get, refl, sym, ap, ◌∙◌, subst, arith}
 use Rattle.plan_base.specs.declared.ids.Host.{Host}
-use Rattle.plan_base.specs.declared.prim.Prim.{Prim}
-use Rattle.plan_base.specs.declared.prim.Prim.TheVariants as prim
+use Rattle.plan_base.specs.declared.prim.Primitive.{Primitive}
+use Rattle.plan_base.specs.declared.prim.Primitive.TheVariants as prim
 use Rattle.plan_base.specs.declared.tree.Op.{Op}
 use Rattle.plan_base.specs.declared.tree.Op.TheVariants as op
 use Rattle.plan_base.specs.declared.tree.Ty.{Ty, Ty-F, out-Ty, roll-Ty, roll-out-Ty}
@@ -220,7 +220,7 @@ later_fits : (u : Ty) (vs : List Value) → AllHaveType u vs → Fits (ty.List u
 later_fits u [] h = tt
 later_fits u (v ∷ vs) (and_item h k) = a_list u vs k
 
-of_list_at : (p : Prim) (u t : Ty) (vs : List Value) → AllHaveType u vs → of_list p u ≡ Some t → Fits t (of_one p (Value-F.List u vs))
+of_list_at : (p : Primitive) (u t : Ty) (vs : List Value) → AllHaveType u vs → of_list p u ≡ Some t → Fits t (of_one p (Value-F.List u vs))
 of_list_at prim.Hd u t vs h e = let same : u ≡ t = cc in subst (λ x. Fits x (first_item vs)) same (first_fits u vs h)
 of_list_at prim.Tl u t vs h e = let same : ty.List u ≡ t = cc in subst (λ x. Fits x (later_items u vs)) same (later_fits u vs h)
 of_list_at prim.Length u t vs h e = let same : ty.Int ≡ t = cc in subst (λ x. Fits x (gives (value.Int (pos (length vs))))) same (an_int _)
@@ -230,10 +230,10 @@ of_list_at prim.StringToBlob u t vs h e = cc
 of_list_at prim.BlobLength u t vs h e = cc
 of_list_at prim.BlobPart u t vs h e = cc
 
-of_list_shape : (p : Prim) (u t : Ty) (l : ValueLayer) → Shape (Ty-F.List u) l → of_list p u ≡ Some t → Fits t (of_one p l)
+of_list_shape : (p : Primitive) (u t : Ty) (l : ValueLayer) → Shape (Ty-F.List u) l → of_list p u ≡ Some t → Fits t (of_one p l)
 of_list_shape p u t l (vs, d, h) e = subst (λ x. Fits t (of_one p x)) (sym d) (of_list_at p u t vs h e)
 
-pub of_items : (p : Prim) (u t : Ty) (v : Value) → HasType v (ty.List u) → of_list p u ≡ Some t → Fits t (primitive p (v ∷ []))
+pub of_items : (p : Primitive) (u t : Ty) (v : Value) → HasType v (ty.List u) → of_list p u ≡ Some t → Fits t (primitive p (v ∷ []))
 unfolding primitive
 of_items p u t v h e = of_list_shape p u t (out-Value v) (list_shape u h) e
 
@@ -270,7 +270,7 @@ only_one t [] h = elim h [ ]
 only_one t (v ∷ []) (and_value h k) = h
 only_one t (v ∷ w ∷ vs) (and_value h k) = elim k [ ]
 
-of_one_value : (p : Prim) (t u : Ty) → ((v : Value) → HasType v t → Fits u (of_one p (out-Value v))) → (vs : List Value) → One (λ x v. HasType v x) t vs → Fits u (primitive p vs)
+of_one_value : (p : Primitive) (t u : Ty) → ((v : Value) → HasType v t → Fits u (of_one p (out-Value v))) → (vs : List Value) → One (λ x v. HasType v x) t vs → Fits u (primitive p vs)
 unfolding primitive
 of_one_value p t u f (v ∷ []) h = f v h
 of_one_value p t u f [] h = absurd h
@@ -287,7 +287,7 @@ three : {vs : List Value} → HaveTypes vs (ty.Blob ∷ ty.Int ∷ ty.Int ∷ []
 three (and_value {v = a} h (and_value {v = b} k (and_value {v = c} l m))) =
     subst (λ vs. Fits ty.Blob (primitive prim.BlobPart (a ∷ b ∷ c ∷ vs))) (sym (none_left m)) (of_three_values a b c h k l)
 
-pub of_values : (p : Prim) (ts : List Ty) (vs : List Value) → takes p ≡ Some ts → HaveTypes vs ts → Fits (makes p) (primitive p vs)
+pub of_values : (p : Primitive) (ts : List Ty) (vs : List Value) → takes p ≡ Some ts → HaveTypes vs ts → Fits (makes p) (primitive p vs)
 of_values prim.IntToString ts vs e h =
     let same : ts ≡ ty.Int ∷ [] = cc in
     of_one_value prim.IntToString ty.Int ty.Str (λ v k. int_to_string _ (int_shape k)) vs (only_one ty.Int vs (subst (λ x. HaveTypes vs x) same h))

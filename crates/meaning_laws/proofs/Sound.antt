@@ -7,7 +7,7 @@ use Rattle.std.proofs.lemmas.List.{append-nil, reverse-append}
 use Rattle.plan_base.specs.declared.name.Name.{Name}
 use Rattle.plan_base.specs.declared.ids.Host.{Host}
 use Rattle.plan_base.specs.declared.ids.Dev.{Dev}
-use Rattle.plan_base.specs.declared.prim.Prim.{Prim}
+use Rattle.plan_base.specs.declared.prim.Primitive.{Primitive}
 use Rattle.plan_base.specs.declared.tree.Exn.{Exn}
 use Rattle.plan_base.specs.declared.tree.Ty.{Ty, Ty-F, out-Ty}
 use Rattle.plan_base.specs.declared.tree.Ty.TheVariants as ty
@@ -248,7 +248,7 @@ module _ (r : Runs) (runs : (code : Program) (seen : ℕ) (c : List Param) (env 
       subst (λ f. Yields (Good f.result) (applied_at r k.code (place_of k.entry k.code.funs) k.args)) same_fun
       (applied_at_good k.code (place_of k.entry k.code.funs) at' d' k.args t p g (good_all h (args_weight k w) (args_nesting k n)))
 
-  by_prim : (code : Program) (seen : ℕ) (f : Name) (p : Prim) (vs : List Value) (t : Ty) → prim_of f ≡ Some p → given.Fits t (rules.primitive p vs) → Yields (Mild t) (called r code seen f vs)
+  by_prim : (code : Program) (seen : ℕ) (f : Name) (p : Primitive) (vs : List Value) (t : Ty) → prim_of f ≡ Some p → given.Fits t (rules.primitive p vs) → Yields (Mild t) (called r code seen f vs)
   unfolding called
   by_prim code seen f p vs t e h = subst (λ o. Yields (Mild t) (called_by r o code seen f vs)) (sym e) (given_yields t _ h)
 
@@ -422,7 +422,7 @@ module _ (r : Runs) (runs : (code : Program) (seen : ℕ) (c : List Param) (env 
     unfolding opened
     opened_literal e t o = literal_good code seen env (out-Expr e) t o
 
-    one_item : (f : Name) (p : Prim) (u t : Ty) → prim_of f ≡ Some p → of_list p u ≡ Some t → (vs : List Value) → AreGoodValues (ty.List u ∷ []) vs → Yields (Mild t) (called r code seen f vs)
+    one_item : (f : Name) (p : Primitive) (u t : Ty) → prim_of f ≡ Some p → of_list p u ≡ Some t → (vs : List Value) → AreGoodValues (ty.List u ∷ []) vs → Yields (Mild t) (called r code seen f vs)
     one_item f p u t i q [] g = absurd g
     one_item f p u t i q (v ∷ []) g = by_prim code seen f p (v ∷ []) t i (given.of_items p u t v g.0.typed q)
     one_item f p u t i q (v ∷ w ∷ vs) g = absurd g.1

@@ -4,7 +4,7 @@ use Rattle.std.proofs.Common.{◌≡◌, ℕ, zero, suc, ◌+◌, ◌≤◌, Boo
 use Rattle.plan_base.specs.declared.name.Name.{Name}
 use Rattle.plan_base.specs.declared.ids.Host.{Host}
 use Rattle.plan_base.specs.declared.ids.Dev.{Dev}
-use Rattle.plan_base.specs.declared.prim.Prim.{Prim}
+use Rattle.plan_base.specs.declared.prim.Primitive.{Primitive}
 use Rattle.plan_base.specs.declared.tree.Exn.{Exn}
 use Rattle.plan_base.specs.declared.tree.Ty.{Ty}
 use Rattle.plan_base.specs.declared.tree.Op.{Op}
@@ -86,7 +86,7 @@ module _ (Rel : (A : Type 0) → Run A → Run A → Type 0) (K : Kept Rel) wher
     served_kept (Some d) code seen f args = K.serves d args
     served_kept None code seen f args = applied_kept code seen f args
 
-    called_by_kept : (o : Option Prim) (code : Program) (seen : ℕ) (f : Name) (args : List Value) → Rel Value (called_by r o code seen f args) (called_by r' o code seen f args)
+    called_by_kept : (o : Option Primitive) (code : Program) (seen : ℕ) (f : Name) (args : List Value) → Rel Value (called_by r o code seen f args) (called_by r' o code seen f args)
     called_by_kept (Some p) code seen f args = given_kept (primitive p args)
     called_by_kept None code seen f args = served_kept (service_of f code.svcs) code seen f args
 

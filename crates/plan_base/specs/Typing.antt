@@ -5,7 +5,7 @@ use Rattle.plan_base.specs.declared.text.Text.{Text}
 use Rattle.plan_base.specs.declared.bytes.Bytes.{Bytes}
 use Rattle.plan_base.specs.declared.ids.Host.{Host}
 use Rattle.plan_base.specs.declared.ids.Dev.{Dev}
-use Rattle.plan_base.specs.declared.prim.Prim.{Prim}
+use Rattle.plan_base.specs.declared.prim.Primitive.{Primitive}
 use Rattle.plan_base.specs.declared.tree.Op.{Op}
 use Rattle.plan_base.specs.declared.tree.Ty.{Ty, Ty-F, out-Ty}
 use Rattle.plan_base.specs.declared.tree.Ty as ty
@@ -51,8 +51,8 @@ module _ (code : Program) where
       raising : {seen : ℕ} {c : Ctx} {e : Expr} {t : Ty} (x : Name) → out-Expr e ≡ Expr-F.Raise x (Some t) → is_exception code x ≡ true → IsShallow t → HasTy seen c e t
       tuple : {seen : ℕ} {c : Ctx} {e : Expr} {t : Ty} (es : List Expr) (ts : List Ty) → out-Expr e ≡ Expr-F.Tuple es → HaveTys seen c es ts → t ≡ ty.Tuple ts → IsShallow t → HasTy seen c e t
       part : {seen : ℕ} {c : Ctx} {e : Expr} {t : Ty} (i : ℕ) (a : Expr) (ts : List Ty) → out-Expr e ≡ Expr-F.Part i a → HasTy seen c a (ty.Tuple ts) → part_of i ts ≡ Some t → HasTy seen c e t
-      of_items : {seen : ℕ} {c : Ctx} {e : Expr} {t : Ty} (f : Name) (a : Expr) (p : Prim) (u : Ty) → out-Expr e ≡ Expr-F.Call f (a ∷ []) → prim_of f ≡ Some p → HasTy seen c a (ty.List u) → of_list p u ≡ Some t → HasTy seen c e t
-      primitive : {seen : ℕ} {c : Ctx} {e : Expr} {t : Ty} (f : Name) (es : List Expr) (p : Prim) (ts : List Ty) → out-Expr e ≡ Expr-F.Call f es → prim_of f ≡ Some p → takes p ≡ Some ts → HaveTys seen c es ts → t ≡ makes p → HasTy seen c e t
+      of_items : {seen : ℕ} {c : Ctx} {e : Expr} {t : Ty} (f : Name) (a : Expr) (p : Primitive) (u : Ty) → out-Expr e ≡ Expr-F.Call f (a ∷ []) → prim_of f ≡ Some p → HasTy seen c a (ty.List u) → of_list p u ≡ Some t → HasTy seen c e t
+      primitive : {seen : ℕ} {c : Ctx} {e : Expr} {t : Ty} (f : Name) (es : List Expr) (p : Primitive) (ts : List Ty) → out-Expr e ≡ Expr-F.Call f es → prim_of f ≡ Some p → takes p ≡ Some ts → HaveTys seen c es ts → t ≡ makes p → HasTy seen c e t
       serving : {seen : ℕ} {c : Ctx} {e : Expr} {t : Ty} (f : Name) (es : List Expr) (d : Svc) → out-Expr e ≡ Expr-F.Call f es → prim_of f ≡ None → service_of f code.svcs ≡ Some d → HaveTys seen c es d.params → t ≡ d.result → HasTy seen c e t
       call : {seen : ℕ} {c : Ctx} {e : Expr} {t : Ty} (f : Name) (es : List Expr) (at : ℕ) (d : Fun) → out-Expr e ≡ Expr-F.Call f es → prim_of f ≡ None → service_of f code.svcs ≡ None → place_of f (take seen code.funs) ≡ Some at → slice_get code.funs at ≡ Some d → HaveTys seen c es (param_types d.params) → t ≡ d.result → HasTy seen c e t
       choice : {seen : ℕ} {c : Ctx} {e : Expr} {t : Ty} (a b d : Expr) → out-Expr e ≡ Expr-F.If a b d → HasTy seen c a ty.Bool → HasTy seen c b t → HasTy seen c d t → HasTy seen c e t

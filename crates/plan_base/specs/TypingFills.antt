@@ -1,7 +1,7 @@
 -- How the types of `[]` and `raise` that are missing in a draft are taken from the wanted types, and nothing else changes.
 use Rattle.std.specs.Prelude.{◌≡◌, ℕ, ◌+◌, ◌++◌, true, List, [], ◌∷◌, length, slice_get, Option, Some, None, option_and_then}
 use Rattle.plan_base.specs.declared.name.Name.{Name}
-use Rattle.plan_base.specs.declared.prim.Prim.{Prim}
+use Rattle.plan_base.specs.declared.prim.Primitive.{Primitive}
 use Rattle.plan_base.specs.declared.tree.Op.{Op}
 use Rattle.plan_base.specs.declared.tree.Ty.{Ty}
 use Rattle.plan_base.specs.declared.tree.Ty as ty
@@ -33,8 +33,8 @@ module _ (code : Program) where
       raising_filled : {seen : ℕ} {c : Ctx} {want : Option Ty} {d e : Expr} {t : Ty} (n : Name) → out-Expr d ≡ Expr-F.Raise n None → is_exception code n ≡ true → IsShallow t → e ≡ x.Raise n (Some t) → want ≡ Some t → Becomes seen c want d e t
       tuple : {seen : ℕ} {c : Ctx} {want : Option Ty} {d e : Expr} {t : Ty} (ds es : List Expr) (ts : List Ty) → out-Expr d ≡ Expr-F.Tuple ds → PartsBecome seen c (option_and_then (parts_of (length ds)) want) 0 ds es ts → t ≡ ty.Tuple ts → IsShallow t → e ≡ x.Tuple es → Suits want t → Becomes seen c want d e t
       part : {seen : ℕ} {c : Ctx} {want : Option Ty} {d e : Expr} {t : Ty} (i : ℕ) (a a' : Expr) (ts : List Ty) → out-Expr d ≡ Expr-F.Part i a → Becomes seen c None a a' (ty.Tuple ts) → part_of i ts ≡ Some t → e ≡ x.Part i a' → Suits want t → Becomes seen c want d e t
-      of_items : {seen : ℕ} {c : Ctx} {want : Option Ty} {d e : Expr} {t : Ty} (f : Name) (a a' : Expr) (p : Prim) (u : Ty) → out-Expr d ≡ Expr-F.Call f (a ∷ []) → prim_of f ≡ Some p → Becomes seen c None a a' (ty.List u) → of_list p u ≡ Some t → e ≡ x.Call f (a' ∷ []) → Suits want t → Becomes seen c want d e t
-      primitive : {seen : ℕ} {c : Ctx} {want : Option Ty} {d e : Expr} {t : Ty} (f : Name) (ds es : List Expr) (p : Prim) (ts : List Ty) → out-Expr d ≡ Expr-F.Call f ds → prim_of f ≡ Some p → takes p ≡ Some ts → PartsBecome seen c (Some ts) 0 ds es ts → t ≡ makes p → e ≡ x.Call f es → Suits want t → Becomes seen c want d e t
+      of_items : {seen : ℕ} {c : Ctx} {want : Option Ty} {d e : Expr} {t : Ty} (f : Name) (a a' : Expr) (p : Primitive) (u : Ty) → out-Expr d ≡ Expr-F.Call f (a ∷ []) → prim_of f ≡ Some p → Becomes seen c None a a' (ty.List u) → of_list p u ≡ Some t → e ≡ x.Call f (a' ∷ []) → Suits want t → Becomes seen c want d e t
+      primitive : {seen : ℕ} {c : Ctx} {want : Option Ty} {d e : Expr} {t : Ty} (f : Name) (ds es : List Expr) (p : Primitive) (ts : List Ty) → out-Expr d ≡ Expr-F.Call f ds → prim_of f ≡ Some p → takes p ≡ Some ts → PartsBecome seen c (Some ts) 0 ds es ts → t ≡ makes p → e ≡ x.Call f es → Suits want t → Becomes seen c want d e t
       serving : {seen : ℕ} {c : Ctx} {want : Option Ty} {d e : Expr} {t : Ty} (f : Name) (ds es : List Expr) (s : Svc) → out-Expr d ≡ Expr-F.Call f ds → prim_of f ≡ None → service_of f code.svcs ≡ Some s → PartsBecome seen c (Some s.params) 0 ds es s.params → t ≡ s.result → e ≡ x.Call f es → Suits want t → Becomes seen c want d e t
       call : {seen : ℕ} {c : Ctx} {want : Option Ty} {d e : Expr} {t : Ty} (f : Name) (ds es : List Expr) (g : Fun) → out-Expr d ≡ Expr-F.Call f ds → prim_of f ≡ None → service_of f code.svcs ≡ None → earlier code seen f ≡ Some g → PartsBecome seen c (Some (param_types g.params)) 0 ds es (param_types g.params) → t ≡ g.result → e ≡ x.Call f es → Suits want t → Becomes seen c want d e t
       choice : {seen : ℕ} {c : Ctx} {want : Option Ty} {d e : Expr} {t : Ty} (p a b p' a' b' : Expr) → out-Expr d ≡ Expr-F.If p a b → Becomes seen c (Some ty.Bool) p p' ty.Bool → Becomes seen c want a a' t → Becomes seen c (Some t) b b' t → e ≡ x.If p' a' b' → Becomes seen c want d e t

@@ -4,8 +4,8 @@ use Rattle.std.specs.List.{position, find, list_any}
 use Rattle.std.specs.Option.{option_or}
 use Rattle.std.specs.Str.{bytes_eq}
 use Rattle.plan_base.specs.declared.name.Name.{Name}
-use Rattle.plan_base.specs.declared.prim.Prim.{Prim}
-use Rattle.plan_base.specs.declared.prim.Prim.TheVariants.{Hd, Tl, Length, IntToString, HostToString, StringToBlob, BlobLength, BlobPart}
+use Rattle.plan_base.specs.declared.prim.Primitive.{Primitive}
+use Rattle.plan_base.specs.declared.prim.Primitive.TheVariants.{Hd, Tl, Length, IntToString, HostToString, StringToBlob, BlobLength, BlobPart}
 use Rattle.plan_base.specs.declared.tree.Op.{Op}
 use Rattle.plan_base.specs.declared.tree.Op.TheVariants.{Add, Sub, Mul, Div, Mod, Cat, Eq, Ne, Lt, Le, Gt, Ge, Cons}
 use Rattle.plan_base.specs.declared.tree.Ty.{Ty, Ty-F, out-Ty}
@@ -41,7 +41,7 @@ abbrev pub param_types : List Param → List Ty
 param_types ps = map (λ p. p.ty) ps
 
 -- the primitive of that name
-unfoldable pub prim_of : Name → Option Prim
+unfoldable pub prim_of : Name → Option Primitive
 prim_of f =
     if bytes_eq f (codes "hd") then Some Hd else
     (if bytes_eq f (codes "tl") then Some Tl else
@@ -53,14 +53,14 @@ prim_of f =
     (if bytes_eq f (codes "blobPart") then Some BlobPart else None)))))))
 
 -- the type of what a primitive that takes a list of any type gives, by its items' type
-abbrev pub of_list : Prim → Ty → Option Ty
+abbrev pub of_list : Primitive → Ty → Option Ty
 of_list Hd t = Some t
 of_list Tl t = Some (ty.List t)
 of_list Length t = Some ty.Int
 of_list _ t = None
 
 -- the types that another primitive takes
-abbrev pub takes : Prim → Option (List Ty)
+abbrev pub takes : Primitive → Option (List Ty)
 takes IntToString = Some (ty.Int ∷ [])
 takes HostToString = Some (ty.Host ∷ [])
 takes StringToBlob = Some (ty.Str ∷ [])
@@ -69,7 +69,7 @@ takes BlobPart = Some (ty.Blob ∷ ty.Int ∷ ty.Int ∷ [])
 takes _ = None
 
 -- the type that it gives
-abbrev pub makes : Prim → Ty
+abbrev pub makes : Primitive → Ty
 makes IntToString = ty.Str
 makes HostToString = ty.Str
 makes StringToBlob = ty.Blob

@@ -3,7 +3,7 @@
 use Rattle.std.specs.Prelude.{ℕ, zero, suc, ◌+◌, ◌==◌, ◌++◌, min, Bool, true, false, not, ◌&&◌, ◌||◌, if◌then◌else◌, List, [], ◌∷◌, map, take, length, slice_get, Option, Some, None, is_some, option_and_then, Result, Ok, Err, nat_le}
 use Rattle.std.specs.List.{list_any}
 use Rattle.plan_base.specs.declared.name.Name.{Name}
-use Rattle.plan_base.specs.declared.prim.Prim.{Prim}
+use Rattle.plan_base.specs.declared.prim.Primitive.{Primitive}
 use Rattle.plan_base.specs.declared.tree.Op.{Op}
 use Rattle.plan_base.specs.declared.tree.Ty.{Ty, Ty-F, out-Ty, fold-Ty}
 use Rattle.plan_base.specs.declared.tree.Ty as ty
@@ -107,7 +107,7 @@ want_at None i = None
 want_at (Some ts) i = slice_get ts i
 
 -- what a primitive gives that takes one list of any type
-abbrev pub given_of : Prim → List Ty → Option Ty
+abbrev pub given_of : Primitive → List Ty → Option Ty
 given_of p (t ∷ []) = option_and_then (of_list p) (items_of t)
 given_of p _ = None
 
@@ -179,14 +179,14 @@ module _ (code : Program) where
     applied c at want f es wants t = arguments c at wants es >>= (λ given. settled at want (x.Call f given) t)
 
     -- a primitive that takes one list of any type
-    unfoldable pub of_items : Ctx → ℕ → Option Ty → Name → Prim → List Expr → Checking Found
+    unfoldable pub of_items : Ctx → ℕ → Option Ty → Name → Primitive → List Expr → Checking Found
     of_items c at want f p es = if length es == 1 then parts c None es >>= (λ r. or_refuse (given_of p r.1) (WrongShape (Node at)) >>= (λ t. settled at want (x.Call f r.0) t)) else refuse (Arity (Node at))
 
-    abbrev pub primitive_by : Ctx → ℕ → Option Ty → Name → Prim → List Expr → Option (List Ty) → Checking Found
+    abbrev pub primitive_by : Ctx → ℕ → Option Ty → Name → Primitive → List Expr → Option (List Ty) → Checking Found
     primitive_by c at want f p es (Some ts) = applied c at want f es ts (makes p)
     primitive_by c at want f p es None = of_items c at want f p es
 
-    unfoldable pub primitive : Ctx → ℕ → Option Ty → Name → Prim → List Expr → Checking Found
+    unfoldable pub primitive : Ctx → ℕ → Option Ty → Name → Primitive → List Expr → Checking Found
     primitive c at want f p es = primitive_by c at want f p es (takes p)
 
     unfoldable pub function : Ctx → ℕ → Option Ty → Name → List Expr → Checking Found
@@ -196,7 +196,7 @@ module _ (code : Program) where
     service_or c at want f es (Some d) = applied c at want f es d.params d.result
     service_or c at want f es None = function c at want f es
 
-    abbrev pub primitive_or : Ctx → ℕ → Option Ty → Name → List Expr → Option Prim → Checking Found
+    abbrev pub primitive_or : Ctx → ℕ → Option Ty → Name → List Expr → Option Primitive → Checking Found
     primitive_or c at want f es (Some p) = primitive c at want f p es
     primitive_or c at want f es None = service_or c at want f es (service_of f code.svcs)
 

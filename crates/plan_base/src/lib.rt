@@ -27,7 +27,7 @@ pub use ids::{Dev, Family, Host};
 pub use limit::Limit;
 pub use memory::NoMemory;
 pub use name::{Name, NameFault, Names, is_name, is_reserved};
-pub use prim::Prim;
+pub use prim::Primitive;
 pub use sizes::{chunk_weight, code_size, type_size, weight};
 pub use text::{Text, Texts};
 pub use tree::{

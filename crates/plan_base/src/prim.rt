@@ -1,6 +1,6 @@
 /// A primitive: a function that every program may call and no program declares.
 #[derive(Debug, Clone, Copy, PartialEq, Eq)]
-pub enum Prim {
+pub enum Primitive {
     /// `hd`, the first item of a list.
     Hd,
     /// `tl`, a list without its first item.

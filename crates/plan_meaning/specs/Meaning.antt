@@ -5,7 +5,7 @@ use Rattle.std.specs.Str.{bytes_eq}
 use Rattle.plan_base.specs.declared.name.Name.{Name}
 use Rattle.plan_base.specs.declared.ids.Host.{Host}
 use Rattle.plan_base.specs.declared.ids.Dev.{Dev}
-use Rattle.plan_base.specs.declared.prim.Prim.{Prim}
+use Rattle.plan_base.specs.declared.prim.Primitive.{Primitive}
 use Rattle.plan_base.specs.declared.tree.Exn.{Exn}
 use Rattle.plan_base.specs.declared.tree.Ty.{Ty}
 use Rattle.plan_base.specs.declared.tree.Op.{Op}
@@ -198,7 +198,7 @@ module _ (run : Runs) where
   served_or (Some d) code seen f args = serve d args
   served_or None code seen f args = applied code seen f args
 
-  abbrev pub called_by : Option Prim → Program → ℕ → Name → List Value → Run Value
+  abbrev pub called_by : Option Primitive → Program → ℕ → Name → List Value → Run Value
   called_by (Some p) code seen f args = given (primitive p args)
   called_by None code seen f args = served_or (service_of f code.svcs) code seen f args
 

@@ -1,7 +1,7 @@
 -- A type or an expression from its outermost level, and what the questions about a type's level say of the type.
 use Rattle.std.proofs.Common.{◌≡◌, ℕ, ◌∙◌, sym, ap, refl, List, [], ◌∷◌, Option, Some, None}
 use Rattle.std.specs.Prelude.{option_and_then}
-use Rattle.plan_base.specs.declared.prim.Prim.{Prim}
+use Rattle.plan_base.specs.declared.prim.Primitive.{Primitive}
 use Rattle.plan_base.specs.declared.tree.Ty.{Ty, Ty-F, out-Ty, roll-Ty, roll-out-Ty}
 use Rattle.plan_base.specs.declared.tree.Ty as ty
 use Rattle.plan_base.specs.declared.tree.Ty.TheVariants as made
@@ -44,7 +44,7 @@ pub and_then_some : {A B : Type 0} (f : A → Option B) (o : Option A) (b : B) �
 and_then_some f (Some a) b h = (a, refl, h)
 and_then_some f None b h = absurd (cc)
 
-pub given_list : (p : Prim) (u t : Ty) → given_of p (u ∷ []) ≡ Some t → (i : Ty) × (u ≡ ty.List i) × (of_list p i ≡ Some t)
+pub given_list : (p : Primitive) (u t : Ty) → given_of p (u ∷ []) ≡ Some t → (i : Ty) × (u ≡ ty.List i) × (of_list p i ≡ Some t)
 given_list p u t h =
     let w = and_then_some (of_list p) (items_of u) t h in
     (w.0, items_list u w.0 w.1, w.2)

@@ -5,7 +5,7 @@ use Rattle.std.specs.List.{list_any, fold}
 use Rattle.std.proofs.lemmas.List.{length-append, append-nil}
 use Rattle.std.proofs.lemmas.Bool.{le-leb, eq-eqb}
 use Rattle.plan_base.specs.declared.name.Name.{Name}
-use Rattle.plan_base.specs.declared.prim.Prim.{Prim}
+use Rattle.plan_base.specs.declared.prim.Primitive.{Primitive}
 use Rattle.plan_base.specs.declared.tree.Op.{Op}
 use Rattle.plan_base.specs.declared.tree.Ty.{Ty, Ty-F, out-Ty}
 use Rattle.plan_base.specs.declared.tree.Ty as ty
@@ -29,7 +29,7 @@ use Rattle.plan_base.specs.TypingOrder.{Checking, Found, pure, refuse, after, �
 use Rattle.plan_base.specs.TypingOrder as order
 use Rattle.plan_base.specs.TypingFills.{Suits, Becomes, PartsBecome, ClausesBecome}
 use Rattle.plan_base.specs.TypingFills.{Becomes as B, PartsBecome as P, ClausesBecome as C}
-use Rattle.plan_base.specs.declared.prim.Prim.TheVariants as prim
+use Rattle.plan_base.specs.declared.prim.Primitive.TheVariants as prim
 use Rattle.typing_laws.proofs.SameTypes.{same_type_of}
 use Rattle.typing_laws.proofs.Right.{wanted_suits}
 
@@ -130,7 +130,7 @@ module _ (code : Program) (seen depth : ℕ) (run : Ctx → Option Ty → Expr �
       then_reaches (run c None a) (λ r. or_refuse (part_in i r.1) (fault.WrongShape (place.Node at)) >>= (λ t. settled at want (x.Part i r.0) t)) (e, ty.Tuple ts) (x.Part i e, t) n (go _ _ _ _ _ b h n)
       (λ k. known_reaches (part_in i (ty.Tuple ts)) (fault.WrongShape (place.Node at)) (λ t. settled at want (x.Part i e) t) t (x.Part i e, t) k (ap (order.part_in_layer i) (made.outs-Tuple ts) ∙ q) (settled_reaches at k want (x.Part i e) t s))
 
-  of_items_reaches : (c : Ctx) (want : Option Ty) (a e : Expr) (u t : Ty) (at : ℕ) (f : Name) (p : Prim) → Becomes code seen c None a e (ty.List u) → expr_depth a ≤ depth → of_list p u ≡ Some t → Suits want t → (n : ℕ) → Reaches (order.of_items code seen run c at want f p (a ∷ [])) (x.Call f (e ∷ []), t) n
+  of_items_reaches : (c : Ctx) (want : Option Ty) (a e : Expr) (u t : Ty) (at : ℕ) (f : Name) (p : Primitive) → Becomes code seen c None a e (ty.List u) → expr_depth a ≤ depth → of_list p u ≡ Some t → Suits want t → (n : ℕ) → Reaches (order.of_items code seen run c at want f p (a ∷ [])) (x.Call f (e ∷ []), t) n
   unfolding order.of_items
   of_items_reaches c want a e u t at f p b h q s n =
       then_reaches (order.parts code seen run c None (a ∷ [])) (λ r. or_refuse (given_of p r.1) (fault.WrongShape (place.Node at)) >>= (λ t. settled at want (x.Call f r.0) t)) (e ∷ [], ty.List u ∷ []) (x.Call f (e ∷ []), t) n (parts_reach {wants = None} {i = 0} (P.and_part b P.no_parts) 0 (omega arith) [] [] refl n)
@@ -299,14 +299,14 @@ module _ (code : Program) (seen depth : ℕ) (run : Ctx → Option Ty → Expr �
   function_reaches c want ds es at f g e b h s n =
       known_reaches (earlier code seen f) (not_earlier code f at) (λ g. order.applied code seen run c at want f ds (param_types g.params) g.result) g (x.Call f es, g.result) n e (applied_reaches at want f g.result b h s n)
 
-  call_reaches : (c : Ctx) (want : Option Ty) (ds es : List Expr) (t : Ty) (at : ℕ) (f : Name) (o : Option Prim) → prim_of f ≡ o → (n : ℕ) → Reaches (order.primitive_or code seen run c at want f ds o) (x.Call f es, t) n → Reaches (order.call code seen run c at want f ds) (x.Call f es, t) n
+  call_reaches : (c : Ctx) (want : Option Ty) (ds es : List Expr) (t : Ty) (at : ℕ) (f : Name) (o : Option Primitive) → prim_of f ≡ o → (n : ℕ) → Reaches (order.primitive_or code seen run c at want f ds o) (x.Call f es, t) n → Reaches (order.call code seen run c at want f ds) (x.Call f es, t) n
   unfolding order.call
   call_reaches c want ds es t at f o q n r = subst (λ k. Reaches (order.primitive_or code seen run c at want f ds k) (x.Call f es, t) n) (sym q) r
 
   service_reaches : (c : Ctx) (want : Option Ty) (ds es : List Expr) (t : Ty) (at : ℕ) (f : Name) (o : Option Svc) → service_of f code.svcs ≡ o → (n : ℕ) → Reaches (order.service_or code seen run c at want f ds o) (x.Call f es, t) n → Reaches (order.primitive_or code seen run c at want f ds None) (x.Call f es, t) n
   service_reaches c want ds es t at f o q n r = subst (λ k. Reaches (order.service_or code seen run c at want f ds k) (x.Call f es, t) n) (sym q) r
 
-  primitive_reaches : (c : Ctx) (want : Option Ty) (ds es : List Expr) (t : Ty) (at : ℕ) (f : Name) (p : Prim) (o : Option (List Ty)) → takes p ≡ o → (n : ℕ) → Reaches (order.primitive_by code seen run c at want f p ds o) (x.Call f es, t) n → Reaches (order.primitive_or code seen run c at want f ds (Some p)) (x.Call f es, t) n
+  primitive_reaches : (c : Ctx) (want : Option Ty) (ds es : List Expr) (t : Ty) (at : ℕ) (f : Name) (p : Primitive) (o : Option (List Ty)) → takes p ≡ o → (n : ℕ) → Reaches (order.primitive_by code seen run c at want f p ds o) (x.Call f es, t) n → Reaches (order.primitive_or code seen run c at want f ds (Some p)) (x.Call f es, t) n
   unfolding order.primitive
   primitive_reaches c want ds es t at f p o q n r = subst (λ k. Reaches (order.primitive_by code seen run c at want f p ds k) (x.Call f es, t) n) (sym q) r
 
@@ -315,7 +315,7 @@ module _ (code : Program) (seen depth : ℕ) (run : Ctx → Option Ty → Expr �
   operation_reaches c want a b e t at o k q n r = subst (λ z. Reaches (order.operation_by code seen run c at want o a b z) (e, t) n) (sym q) r
 
   -- a primitive whose result depends on the items takes no types of its own
-  no_types : (p : Prim) (u t : Ty) → of_list p u ≡ Some t → takes p ≡ None
+  no_types : (p : Primitive) (u t : Ty) → of_list p u ≡ Some t → takes p ≡ None
   no_types prim.Hd u t h = refl
   no_types prim.Tl u t h = refl
   no_types prim.Length u t h = refl

@@ -6,7 +6,7 @@ use Rattle.std.proofs.lemmas.List.{length-append, append-nil}
 use Rattle.std.proofs.Math.ListN.{drop_of_length-le}
 use Rattle.std.proofs.lemmas.Bool.{leb-true, eqb-true}
 use Rattle.plan_base.specs.declared.name.Name.{Name}
-use Rattle.plan_base.specs.declared.prim.Prim.{Prim}
+use Rattle.plan_base.specs.declared.prim.Primitive.{Primitive}
 use Rattle.plan_base.specs.declared.tree.Op.{Op}
 use Rattle.plan_base.specs.declared.tree.Ty.{Ty, Ty-F, out-Ty}
 use Rattle.plan_base.specs.declared.tree.Ty as ty
@@ -113,7 +113,7 @@ module _ (code : Program) (seen : ℕ) where
   map_holds Q R f (Err e) h = tt
 
   -- what one argument of any list type becomes
-  one_item : (c : Ctx) (want : Option Ty) (d : Expr) (f : Name) (p : Prim) (ds es : List Expr) (ts : List Ty) (t : Ty) → out-Expr d ≡ Expr-F.Call f ds → prim_of f ≡ Some p → PartsBecome code seen c None 0 ds es ts → given_of p ts ≡ Some t → Suits want t → Becomes code seen c want d (x.Call f es) t
+  one_item : (c : Ctx) (want : Option Ty) (d : Expr) (f : Name) (p : Primitive) (ds es : List Expr) (ts : List Ty) (t : Ty) → out-Expr d ≡ Expr-F.Call f ds → prim_of f ≡ Some p → PartsBecome code seen c None 0 ds es ts → given_of p ts ≡ Some t → Suits want t → Becomes code seen c want d (x.Call f es) t
   one_item c want d f p ds es ts t o q P.no_parts g s = absurd (cc)
   one_item c want d f p ds es ts t o q (P.and_part {d = a} {e = e} {t = u} b P.no_parts) g s =
       let w = given_list p u t g in
@@ -203,7 +203,7 @@ module _ (code : Program) (seen : ℕ) where
         (λ t p. let w = part_tuple i r.1 t p in
         settled_right at c want d (x.Part i r.0) t (λ s. B.part i a r.0 w.0 o (subst (λ u. Becomes code seen c None a r.0 u) w.1 h) w.2 refl s)))
 
-    of_items_right : (c : Ctx) (at : ℕ) (want : Option Ty) (d : Expr) (f : Name) (p : Prim) (ds : List Expr) → out-Expr d ≡ Expr-F.Call f ds → prim_of f ≡ Some p → Yields (Right c want d) (order.of_items code seen run c at want f p ds)
+    of_items_right : (c : Ctx) (at : ℕ) (want : Option Ty) (d : Expr) (f : Name) (p : Primitive) (ds : List Expr) → out-Expr d ≡ Expr-F.Call f ds → prim_of f ≡ Some p → Yields (Right c want d) (order.of_items code seen run c at want f p ds)
     unfolding order.of_items
     of_items_right c at want d f p ds o q =
         if_yields (Right c want d) (length ds == 1) (order.parts code seen run c None ds >>= (λ r. or_refuse (given_of p r.1) (fault.WrongShape (place.Node at)) >>= (λ t. settled at want (x.Call f r.0) t))) (refuse (fault.Arity (place.Node at)))
@@ -212,7 +212,7 @@ module _ (code : Program) (seen : ℕ) where
         (λ t g. settled_right at c want d (x.Call f r.0) t (λ s. one_item c want d f p ds r.0 r.1 t o q h g s))))
         (λ w n. tt)
 
-    primitive_right : (c : Ctx) (at : ℕ) (want : Option Ty) (d : Expr) (f : Name) (p : Prim) (ds : List Expr) → out-Expr d ≡ Expr-F.Call f ds → prim_of f ≡ Some p → Yields (Right c want d) (order.primitive code seen run c at want f p ds)
+    primitive_right : (c : Ctx) (at : ℕ) (want : Option Ty) (d : Expr) (f : Name) (p : Primitive) (ds : List Expr) → out-Expr d ≡ Expr-F.Call f ds → prim_of f ≡ Some p → Yields (Right c want d) (order.primitive code seen run c at want f p ds)
     unfolding order.primitive
     primitive_right c at want d f p ds o q = go (takes p) refl
       where
@@ -234,7 +234,7 @@ module _ (code : Program) (seen : ℕ) where
         services q (Some v) e = applied_right c at want d f ds v.params v.result (λ es b s. B.serving f ds es v o q e b refl refl s)
         services q None e = function_right c at want d f ds o q e
 
-        prims : (k : Option Prim) → prim_of f ≡ k → Yields (Right c want d) (order.primitive_or code seen run c at want f ds k)
+        prims : (k : Option Primitive) → prim_of f ≡ k → Yields (Right c want d) (order.primitive_or code seen run c at want f ds k)
         prims (Some p) e = primitive_right c at want d f p ds o e
         prims None e = services e (service_of f code.svcs) refl
 

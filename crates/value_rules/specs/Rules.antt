@@ -11,8 +11,8 @@ use Rattle.plan_base.specs.declared.tree.Chunk.{Chunk}
 use Rattle.plan_base.specs.declared.tree.Value.{Value, out-Value}
 use Rattle.plan_base.specs.declared.tree.Value.TheVariants as value
 use Rattle.plan_base.specs.declared.tree.Value.TheOpen.{Value-F}
-use Rattle.plan_base.specs.declared.prim.Prim.{Prim}
-use Rattle.plan_base.specs.declared.prim.Prim.TheVariants as prim
+use Rattle.plan_base.specs.declared.prim.Primitive.{Primitive}
+use Rattle.plan_base.specs.declared.prim.Primitive.TheVariants as prim
 use Rattle.value_rules.specs.Same.{same_value}
 use Rattle.plan_base.specs.Sizes.{weight}
 
@@ -168,7 +168,7 @@ abbrev pub blob_part : List ℕ → ℤ → ℤ → Given
 blob_part b (pos i) (pos n) = if nat_le (i + n) (length b) then gives (value.Blob (take n (drop i b))) else raises bad_index
 blob_part b _ _ = raises bad_index
 
-abbrev pub of_one : Prim → Layer → Given
+abbrev pub of_one : Primitive → Layer → Given
 of_one prim.Hd (Value-F.List t xs) = first_item xs
 of_one prim.Tl (Value-F.List t xs) = later_items t xs
 of_one prim.Length (Value-F.List t xs) = gives (value.Int (pos (length xs)))
@@ -178,15 +178,15 @@ of_one prim.StringToBlob (Value-F.Str s) = gives (value.Blob s)
 of_one prim.BlobLength (Value-F.Blob b) = gives (value.Int (pos (length b)))
 of_one _ _ = unfit
 
-abbrev pub of_three : Prim → Layer → Layer → Layer → Given
+abbrev pub of_three : Primitive → Layer → Layer → Layer → Given
 of_three prim.BlobPart (Value-F.Blob b) (Value-F.Int i) (Value-F.Int n) = blob_part b i n
 of_three _ _ _ _ = unfit
 
-abbrev pub primitive_by : Prim → List Value → Given
+abbrev pub primitive_by : Primitive → List Value → Given
 primitive_by p (a ∷ []) = of_one p (out-Value a)
 primitive_by p (a ∷ b ∷ c ∷ []) = of_three p (out-Value a) (out-Value b) (out-Value c)
 primitive_by p _ = unfit
 
 -- what the primitive gives of its arguments
-unfoldable pub primitive : Prim → List Value → Given
+unfoldable pub primitive : Primitive → List Value → Given
 primitive = primitive_by

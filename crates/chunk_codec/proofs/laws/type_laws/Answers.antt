@@ -1,12 +1,17 @@
 use Rattle.std.proofs.Common.{refl}
-use Rattle.chunk_spelling.specs.Spelling.{a_whole_type}
+use Rattle.chunk_spelling.specs.Programs.{program_part}
+use Rattle.chunk_spelling.specs.Spelling.{a_whole_type, a_whole_value, a_whole_chunk}
 use Rattle.chunk_spelling.proofs.TypeLaws.{type_lawful}
+use Rattle.chunk_spelling.proofs.ProgramLaws.{program_lawful}
+use Rattle.chunk_spelling.proofs.ValueLaws.{value_lawful, chunk_part_lawful}
 use Rattle.chunk_spelling.proofs.WholeLaws.{one_spelling_by, at_most_one, spelled_or_fault, spelled_no_fault}
+use Rattle.chunk_codec.proofs.Wholes.{again_by}
 use Rattle.chunk_codec.proofs.laws.type_laws.Goals as goal
 
 pub returns : goal.returns
 returns c = record {
   one_spelling = one_spelling_by a_whole_type (type_lawful 8) (λ _. refl);
+  again = again_by a_whole_type;
   one_fault = at_most_one a_whole_type (type_lawful 8) (λ _. refl);
   either = spelled_or_fault a_whole_type (type_lawful 8) (λ _. refl);
   never_both = spelled_no_fault a_whole_type (type_lawful 8) (λ _. refl);

@@ -1,0 +1,30 @@
+use Rattle.std.proofs.Common.{◌≡◌, ◌+◌, ◌*◌, ◌-◌}
+use Rattle.read_laws.specs.Reading.{many}
+use Rattle.read_laws.proofs.Lists.{with_front}
+use Rattle.chunk_spelling.specs.Exprs.{clauses_from}
+use Rattle.chunk_codec.specs.Reading.{expr_at, clause_at}
+use Rattle.chunk_codec.proofs.exprs.+exprs.Given as goal
+
+abbrev pub decreases-expr_of : goal.decreases-expr_of
+decreases-expr_of l = 4 * l.room
+
+abbrev pub decreases-expr_with_tag : goal.decreases-expr_with_tag
+decreases-expr_with_tag l = 4 * l.room - 1
+
+abbrev pub decreases-boxed : goal.decreases-boxed
+decreases-boxed l = 4 * l.room + 1
+
+abbrev pub decreases-exprs_of : goal.decreases-exprs_of
+decreases-exprs_of l = 4 * l.room + 1
+
+abbrev pub decreases-clauses_of : goal.decreases-clauses_of
+decreases-clauses_of l = 4 * l.room + 2
+
+abbrev pub decreases-clause_of : goal.decreases-clause_of
+decreases-clause_of l = 4 * l.room + 1
+
+abbrev pub invariant-exprs_of-loop-i : goal.invariant-exprs_of-loop-i
+invariant-exprs_of-loop-i l = with_front l.exprs (many (expr_at l.room) (l.count - l._i) l.s) ≡ many (expr_at l.room) l.count l.fn.s
+
+abbrev pub invariant-clauses_of-loop-i : goal.invariant-clauses_of-loop-i
+invariant-clauses_of-loop-i l = with_front l.clauses (clauses_from (clause_at (expr_at l.room)) (l.count - l.i) l.s) ≡ clauses_from (clause_at (expr_at l.room)) l.count l.fn.s

@@ -1,0 +1,8 @@
+use Rattle.std.proofs.Common.{◌≡◌, ◌-◌}
+use Rattle.read_laws.specs.Reading.{many}
+use Rattle.read_laws.proofs.Lists.{with_front}
+use Rattle.chunk_spelling.specs.Scan.{name_field}
+use Rattle.chunk_codec.proofs.programs.names_of.Given as goal
+
+abbrev pub invariant-loop-i : goal.invariant-loop-i
+invariant-loop-i l = with_front l.names (many name_field (l.count - l._i) l.s) ≡ many name_field l.count l.fn.s

@@ -1,0 +1,8 @@
+use Rattle.std.proofs.Common.{◌≡◌, ◌-◌}
+use Rattle.read_laws.specs.Reading.{many}
+use Rattle.read_laws.proofs.Lists.{with_front}
+use Rattle.chunk_codec.specs.Reading.{param_at}
+use Rattle.chunk_codec.proofs.programs.params_of.Given as goal
+
+abbrev pub invariant-loop-i : goal.invariant-loop-i
+invariant-loop-i l = with_front l.params (many param_at (l.count - l._i) l.s) ≡ many param_at l.count l.fn.s

@@ -1,0 +1,115 @@
+ghost use Rattle.std.specs.Prelude.{◌≡◌, ◌-◌, IsTrue};
+ghost use Rattle.read_laws.specs.Reading.{many};
+ghost use Rattle.chunk_spelling.specs.Values.{may_open};
+ghost use Rattle.chunk_codec.specs.Reading.{Gives, value_at, value_behind, chunk_read, chunk_fields};
+
+use crate::programs::program_of;
+use crate::source::Source;
+use crate::tags::is_light;
+use crate::types::type_of;
+use chunk_spelling::{SpellFault, ValueTag};
+use plan_base::{Chunk, Dev, Host, Limit, Value, Values};
+use plan_items::{Boxed, Items};
+use std::alloc::Global;
+
+/// A value inside which `nest` chunks may stand inside each other, and `room` lists and tuples.
+#[cycle(values)]
+#[tactic(auto, using(crate::proofs::ValueSteps::value_goes, crate::proofs::ValueSteps::value_stops))]
+pub fn value_of(
+    alloc: Global,
+    s: &mut Source<'_>,
+    nest: u32,
+    room: u32,
+) -> Result<Value, SpellFault>
+    ensures { Gives result s.new (value_at nest room s.old) }
+{
+    let tag = s.value_tag(nest, room)?;
+    value_with_tag(alloc, s, nest, room, tag)
+}
+
+/// What is behind a value's tag.
+#[cycle(values)]
+#[tactic(auto, unfolding(crate::specs::Reading::value_behind, chunk_spelling::specs::Parts::counted_at, chunk_spelling::specs::Parts::listed_at))]
+fn value_with_tag(
+    alloc: Global,
+    s: &mut Source<'_>,
+    nest: u32,
+    room: u32,
+    tag: ValueTag,
+) -> Result<Value, SpellFault>
+    requires { IsTrue (may_open nest room tag) }
+    ensures { Gives result s.new (value_behind (value_at nest (room - 1)) (chunk_read (nest - 1)) tag s.old) }
+{
+    match tag {
+        ValueTag::Unit => Ok(Value::Unit),
+        ValueTag::Bool => Ok(Value::Bool(s.flag()?)),
+        ValueTag::Int => Ok(Value::Int(s.int()?)),
+        ValueTag::Char => Ok(Value::Char(s.scalar()?)),
+        ValueTag::Str => Ok(Value::Str(s.text(alloc)?)),
+        ValueTag::Blob => Ok(Value::Blob(s.blob(alloc)?)),
+        ValueTag::Host => Ok(Value::Host(Host(s.word()?))),
+        ValueTag::Dev => Ok(Value::Dev(Dev(s.word()?))),
+        ValueTag::Chunk => {
+            let chunk = chunk_of(alloc, s, nest - 1)?;
+            Ok(Value::Chunk(Boxed::new(alloc, chunk)?))
+        }
+        ValueTag::List => {
+            let ty = type_of(alloc, s, 7)?;
+            let count = s.short()?;
+            let items = values_of(alloc, s, nest, room - 1, count)?;
+            Ok(Value::List(ty, items))
+        }
+        ValueTag::Tuple => {
+            let count = s.count(Limit::Parts, 2, 8)?;
+            let parts = values_of(alloc, s, nest, room - 1, u16::from(count))?;
+            Ok(Value::Tuple(parts))
+        }
+    }
+}
+
+/// So many values.
+#[cycle(values)]
+fn values_of(
+    alloc: Global,
+    s: &mut Source<'_>,
+    nest: u32,
+    room: u32,
+    count: u16,
+) -> Result<Values, SpellFault>
+    ensures { Gives result s.new (many (value_at nest room) count s.old) }
+{
+    let mut values = Items::new(alloc);
+    for _i in 0..count {
+        let value = value_of(alloc, s, nest, room)?;
+        values.add(value)?;
+    }
+    Ok(values)
+}
+
+/// A chunk before its weight is judged.
+#[cycle(values)]
+#[tactic(auto, unfolding(crate::specs::Reading::chunk_fields, chunk_spelling::specs::Parts::counted_at))]
+fn fields_of(alloc: Global, s: &mut Source<'_>, nest: u32) -> Result<Chunk, SpellFault>
+    ensures { Gives result s.new (chunk_fields (value_at nest 8) s.old) }
+{
+    let code = program_of(alloc, s)?;
+    let entry = s.name(alloc)?;
+    let count = s.count(Limit::Arguments, 0, 8)?;
+    let args = values_of(alloc, s, nest, 8, u16::from(count))?;
+    Ok(Chunk { code, entry, args })
+}
+
+/// A chunk inside which `nest` more may stand inside each other; an outermost one, where `nest` is 3, weighs at most 16,384 with its tag.
+#[cycle(values)]
+#[tactic(auto, using(crate::proofs::ValueSteps::chunk_goes))]
+pub fn chunk_of(alloc: Global, s: &mut Source<'_>, nest: u32) -> Result<Chunk, SpellFault>
+    ensures { Gives result s.new (chunk_read nest s.old) }
+{
+    let start = s.place();
+    let chunk = fields_of(alloc, s, nest)?;
+    if is_light(nest, s.place().saturating_sub(start)) {
+        Ok(chunk)
+    } else {
+        Err(SpellFault::OverLimit(Limit::Weight, start))
+    }
+}

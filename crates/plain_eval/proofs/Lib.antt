@@ -1,0 +1,5 @@
+pub mod Options
+pub mod Paying
+pub mod Handling
+pub mod Depth
+pub mod Visits

@@ -1,0 +1,4 @@
+pub mod Stored
+pub mod Meets
+pub mod Evaluates
+pub mod Handlers

@@ -1,0 +1,126 @@
+ghost use Rattle.std.specs.Prelude.{◌≡◌, IsSome, ◌∷◌, []};
+ghost use Rattle.plan_meaning.specs.State.{joined};
+ghost use Rattle.plan_meaning.specs.Run as run;
+ghost use Rattle.plan_meaning.specs.Meaning as spec;
+ghost use Rattle.plan_meaning.specs.Meaning.{run_to};
+ghost use Rattle.plan_meaning.specs.Safe.{IsSafe};
+ghost use Rattle.plain_eval.specs.Meets.{Meets};
+ghost use Rattle.plain_eval.specs.Evaluates.{Evaluates};
+
+use crate::evaluator::Evaluator;
+use crate::shapes::{as_chunk, as_dev, as_host, as_int};
+use crate::state::State;
+use plan_base::{Expr, Name, Program, Value};
+use plan_meaning::{Env, Stop};
+use service_api::Services;
+use std::alloc::Global;
+
+impl<
+    S: Services,
+    F: Fn(Global, u64, &Program, usize, &mut Env, &mut State, &mut S, &Expr) -> Result<Value, Stop>,
+> Evaluator<S, F> {
+    #[tactic(auto, unfolding(plan_meaning::specs::Meaning::evaluation))]
+    pub fn evaluation(
+        &self,
+        code: &Program,
+        seen: usize,
+        env: &mut Env,
+        state: &mut State,
+        svc: &mut S,
+        a: &Expr,
+    ) -> Result<Value, Stop>
+        requires runs { Evaluates S.stands self.now.fuel (F.pre self.now.run) (F.post self.now.run) }
+        requires open { IsSome (S.stands svc.old).begun }
+        requires safe { IsSafe (spec.evaluation (run_to self.now.fuel) code.now seen env.old a.now (joined state.old (S.stands svc.old))).asks }
+        ensures meets { Meets (spec.evaluation (run_to self.now.fuel) code.now seen env.old a.now (joined state.old (S.stands svc.old))) result (joined state.new (S.stands svc.new)) }
+        ensures keeps { env.new ≡ env.old }
+        ensures offer { (S.stands svc.new).offer ≡ (S.stands svc.old).offer }
+        ensures begun { (S.stands svc.new).begun ≡ (S.stands svc.old).begun }
+    {
+        let v = self.run(code, seen, env, state, svc, a)?;
+        let Some(chunk) = as_chunk(&v) else {
+            return Err(Stop::Wrong);
+        };
+        state.pay_eval(self.alloc)?;
+        let _dropped = self.visited(state, svc, chunk)?;
+        Ok(Value::Unit)
+    }
+
+    #[tactic(auto, unfolding(plan_meaning::specs::Meaning::remote))]
+    pub fn remote(
+        &self,
+        code: &Program,
+        seen: usize,
+        env: &mut Env,
+        state: &mut State,
+        svc: &mut S,
+        a: &Expr,
+        h: &Expr,
+        n: &Expr,
+        route: &Name,
+    ) -> Result<Value, Stop>
+        requires runs { Evaluates S.stands self.now.fuel (F.pre self.now.run) (F.post self.now.run) }
+        requires open { IsSome (S.stands svc.old).begun }
+        requires safe { IsSafe (spec.remote (run_to self.now.fuel) code.now seen env.old a.now h.now n.now route.now (joined state.old (S.stands svc.old))).asks }
+        ensures meets { Meets (spec.remote (run_to self.now.fuel) code.now seen env.old a.now h.now n.now route.now (joined state.old (S.stands svc.old))) result (joined state.new (S.stands svc.new)) }
+        ensures keeps { env.new ≡ env.old }
+        ensures offer { (S.stands svc.new).offer ≡ (S.stands svc.old).offer }
+        ensures begun { (S.stands svc.new).begun ≡ (S.stands svc.old).begun }
+    {
+        let v = self.run(code, seen, env, state, svc, a)?;
+        let Some(chunk) = as_chunk(&v) else {
+            return Err(Stop::Wrong);
+        };
+        let w = self.run(code, seen, env, state, svc, h)?;
+        let Some(host) = as_host(&w) else {
+            return Err(Stop::Wrong);
+        };
+        let u = self.run(code, seen, env, state, svc, n)?;
+        let Some(bound) = as_int(&u) else {
+            return Err(Stop::Wrong);
+        };
+        state.send_remote(self.alloc, chunk, host, bound, route)?;
+        Ok(Value::Unit)
+    }
+
+    #[tactic(auto, unfolding(plan_meaning::specs::Meaning::neighbour))]
+    pub fn neighbour(
+        &self,
+        code: &Program,
+        seen: usize,
+        env: &mut Env,
+        state: &mut State,
+        svc: &mut S,
+        a: &Expr,
+        h: &Expr,
+        n: &Expr,
+        d: &Expr,
+    ) -> Result<Value, Stop>
+        requires runs { Evaluates S.stands self.now.fuel (F.pre self.now.run) (F.post self.now.run) }
+        requires open { IsSome (S.stands svc.old).begun }
+        requires safe { IsSafe (spec.neighbour (run_to self.now.fuel) code.now seen env.old a.now h.now n.now d.now (joined state.old (S.stands svc.old))).asks }
+        ensures meets { Meets (spec.neighbour (run_to self.now.fuel) code.now seen env.old a.now h.now n.now d.now (joined state.old (S.stands svc.old))) result (joined state.new (S.stands svc.new)) }
+        ensures keeps { env.new ≡ env.old }
+        ensures offer { (S.stands svc.new).offer ≡ (S.stands svc.old).offer }
+        ensures begun { (S.stands svc.new).begun ≡ (S.stands svc.old).begun }
+    {
+        let v = self.run(code, seen, env, state, svc, a)?;
+        let Some(chunk) = as_chunk(&v) else {
+            return Err(Stop::Wrong);
+        };
+        let w = self.run(code, seen, env, state, svc, h)?;
+        let Some(host) = as_host(&w) else {
+            return Err(Stop::Wrong);
+        };
+        let u = self.run(code, seen, env, state, svc, n)?;
+        let Some(bound) = as_int(&u) else {
+            return Err(Stop::Wrong);
+        };
+        let t = self.run(code, seen, env, state, svc, d)?;
+        let Some(dev) = as_dev(&t) else {
+            return Err(Stop::Wrong);
+        };
+        state.send_neighbour(self.alloc, chunk, host, bound, dev)?;
+        Ok(Value::Unit)
+    }
+}
