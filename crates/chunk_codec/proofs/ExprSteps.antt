@@ -1,4 +1,4 @@
-use Rattle.std.proofs.Common.{◌≡◌, ℕ, zero, suc, ◌+◌, ◌-◌, ◌<◌, ◌≤◌, ◌==◌, append_assoc, append-nil, List, [], ◌∷◌, ◌++◌, Bool, true, false, Result, Ok, Err, refl, sym, ◌∙◌, ap, arith, eqb}
+use Rattle.std.proofs.Common.{◌≡◌, ℕ, zero, suc, ◌+◌, ◌-◌, ◌<◌, ◌≤◌, ◌==◌, append_assoc, append-nil, List, [], ◌∷◌, ◌++◌, Bool, true, false, Result, Ok, Err, refl, sym, ◌∙◌, ap, arith}
 use Rattle.std.proofs.lemmas.Bool.Decides.{nat_tests}
 use Rattle.read_laws.specs.Reading.{◌>>=◌}
 use Rattle.read_laws.proofs.Binds.{bind_is, bind_err}
@@ -8,8 +8,8 @@ use Rattle.plan_base.specs.declared.tree.Clause.{Clause}
 use Rattle.chunk_spelling.specs.declared.fault.SpellFault.{SpellFault}
 use Rattle.chunk_spelling.specs.declared.tags.ExprTag.{ExprTag}
 use Rattle.chunk_spelling.specs.Scan.{Scan, Reader}
-use Rattle.chunk_spelling.specs.Parts.{Part, Core, reads, tagged_at}
-use Rattle.chunk_spelling.specs.Exprs.{expr_forms, expr_of_parts, expr_tag_at, expr_core, expr_from, expr_part, clause_forms, clause_of_parts, clause_tag_at, clause_part, clauses_part, clauses_at, clauses_from, is_none_left}
+use Rattle.chunk_spelling.specs.Parts.{Part, reads, tagged_at}
+use Rattle.chunk_spelling.specs.Exprs.{expr_forms, expr_of_parts, expr_tag_at, expr_core, expr_part, clause_forms, clause_of_parts, clause_tag_at, clause_part, clauses_part, clauses_at, clauses_from, is_none_left}
 use Rattle.chunk_codec.specs.Reading.{Fails, expr_at, expr_behind, clause_at, clause_behind}
 use Rattle.chunk_codec.proofs.Loops.{fails_on}
 

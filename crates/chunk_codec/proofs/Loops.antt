@@ -1,4 +1,4 @@
-use Rattle.std.proofs.Common.{◌≡◌, ℕ, zero, suc, ◌+◌, ◌-◌, ◌<◌, ◌≤◌, List, [], ◌∷◌, ◌++◌, Result, Ok, Err, refl, sym, ◌∙◌, ap, subst, arith}
+use Rattle.std.proofs.Common.{◌≡◌, ℕ, suc, ◌+◌, ◌-◌, ◌<◌, ◌≤◌, List, [], ◌∷◌, ◌++◌, Result, Ok, Err, sym, ◌∙◌, ap, arith}
 use Rattle.read_laws.specs.Reading.{many}
 use Rattle.read_laws.proofs.Lists.{with_front, many_stops, many_goes_on, many_done}
 use Rattle.chunk_spelling.specs.declared.fault.SpellFault.{SpellFault}

@@ -1,5 +1,4 @@
-use Rattle.std.proofs.Common.{◌≡◌, ℕ, ◌+◌, ◌<◌, ◌≤◌, Bool, true, false, Option, Some, Result, Ok, Err, refl, sym, ◌∙◌, ap, arith}
-use Rattle.std.specs.Prelude.{nat_lt}
+use Rattle.std.proofs.Common.{◌≡◌, ℕ, ◌+◌, ◌<◌, ◌≤◌, Bool, false, Some, Result, Ok, Err, refl, sym, ap, arith}
 use Rattle.std.specs.Int.{w8}
 use Rattle.std.proofs.lemmas.Bool.{le-ltb, lt-ltb}
 use Rattle.wire_bytes.specs.Fields.{Front, number_at}
@@ -9,7 +8,7 @@ use Rattle.chunk_spelling.specs.declared.fault.SpellFault.{SpellFault}
 use Rattle.chunk_spelling.specs.declared.fault.SpellFault.TheVariants.{OverLimit}
 use Rattle.chunk_spelling.specs.declared.tags.ExprTag.{ExprTag}
 use Rattle.chunk_spelling.specs.declared.tags.TheConstants.{EXPR_TAGS}
-use Rattle.chunk_spelling.specs.Scan.{Scan, Reader, whole, number_field, table_field, tag_of, allowed}
+use Rattle.chunk_spelling.specs.Scan.{Scan, whole, number_field, table_field, tag_of, allowed}
 use Rattle.chunk_spelling.specs.Exprs.{expr_tag_at}
 use Rattle.chunk_spelling.proofs.FieldLaws.{known_is, allowed_is}
 

@@ -1,9 +1,9 @@
-use Rattle.std.proofs.Common.{◌≡◌, ℕ, zero, suc, ◌-◌, ◌<◌, Result, Ok, Err, refl, sym, ◌∙◌, ap, arith}
+use Rattle.std.proofs.Common.{◌≡◌, ℕ, zero, suc, ◌-◌, ◌<◌, Ok, Err, refl, ◌∙◌, ap, arith}
 use Rattle.read_laws.proofs.Binds.{bind_is, bind_err}
 use Rattle.plan_base.specs.declared.tree.Ty.{Ty}
 use Rattle.chunk_spelling.specs.declared.fault.SpellFault.{SpellFault}
 use Rattle.chunk_spelling.specs.declared.tags.TypeTag.{TypeTag}
-use Rattle.chunk_spelling.specs.Scan.{Scan, Reader}
+use Rattle.chunk_spelling.specs.Scan.{Scan}
 use Rattle.chunk_spelling.specs.Parts.{Part, reads, tagged_at}
 use Rattle.chunk_spelling.specs.Types.{type_part, type_core, type_tag_at, type_forms, type_of_parts}
 use Rattle.chunk_codec.specs.Reading.{type_at, type_behind}

@@ -1,6 +1,6 @@
-use Rattle.std.specs.Prelude.{◌≡◌, ℕ, zero, suc, ◌-◌, List, [], ◌∷◌, Bool, true, false, Option, Some, None, Result, Ok, Err}
-use Rattle.std.specs.Int.{w8, w16, w32}
-use Rattle.read_laws.specs.Reading.{◌>>=◌, many}
+use Rattle.std.specs.Prelude.{◌≡◌, ℕ, List, Bool, true, false, Some, None, Result, Ok, Err}
+use Rattle.std.specs.Int.{w32}
+use Rattle.read_laws.specs.Reading.{◌>>=◌}
 use Rattle.plan_base.specs.declared.limit.Limit.{Limit}
 use Rattle.plan_base.specs.declared.tree.Ty.{Ty}
 use Rattle.plan_base.specs.declared.tree.Ty.TheVariants as ty
@@ -22,9 +22,9 @@ use Rattle.chunk_spelling.specs.declared.tags.ValueTag.{ValueTag}
 use Rattle.chunk_spelling.specs.Scan.{Scan, Reader, number_field, int_field, flag_field, char_field, text_field, blob_field, name_field, operator_field, count_field}
 use Rattle.chunk_spelling.specs.Parts.{counted_at, listed_at}
 use Rattle.chunk_spelling.specs.Types.{type_part}
-use Rattle.chunk_spelling.specs.Exprs.{expr_core, clause_tag_at, clauses_at, clauses_from}
-use Rattle.chunk_spelling.specs.Programs.{counting, counting_on, judged_code, program_at}
-use Rattle.chunk_spelling.specs.Values.{value_core, judged_weight, chunk_at, value_part}
+use Rattle.chunk_spelling.specs.Exprs.{expr_core, clause_tag_at}
+use Rattle.chunk_spelling.specs.Programs.{program_at}
+use Rattle.chunk_spelling.specs.Values.{value_core, chunk_at, value_part}
 
 -- memory may be wanting at any time; every other fault is the one that the reading has
 abbrev pub Fails : {A : Type 0} → SpellFault → Result A SpellFault → Type 0

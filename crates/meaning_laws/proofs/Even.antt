@@ -1,7 +1,6 @@
 -- Purse, evals and the bounds of the packets sent keep their sum.
-use Rattle.std.proofs.Common.{◌≡◌, ℕ, zero, suc, ◌+◌, ◌-◌, ◌<◌, ◌≤◌, Bool, true, false, cond, ◌&&◌, if◌then◌else◌, ◌==◌, nat_lt, nat_le, ℤ, pos, negsuc, List, [], ◌∷◌, ◌++◌, Option, Some, None, refl, sym, ap, ◌∙◌, subst, arith}
+use Rattle.std.proofs.Common.{◌≡◌, ℕ, suc, ◌+◌, ◌-◌, ◌≤◌, Bool, true, false, ◌&&◌, if◌then◌else◌, ◌==◌, nat_lt, nat_le, ℤ, pos, negsuc, List, [], ◌∷◌, ◌++◌, refl, ap, ◌∙◌, arith}
 use Rattle.std.proofs.lemmas.Bool.Decides.{nat_tests}
-use Rattle.std.specs.List.{sum_by}
 use Rattle.std.proofs.lemmas.List.Sums.{sum_by-append}
 use Rattle.std.proofs.lemmas.Bool.{false≢true}
 use Rattle.plan_base.specs.declared.name.Name.{Name}
@@ -20,14 +19,13 @@ use Rattle.service_api.specs.declared.router.Hop.TheVariants.{To, NoService, NoR
 use Rattle.service_api.specs.Routes.{hop, default_route}
 use Rattle.service_api.specs.Services.{served}
 use Rattle.plan_meaning.specs.declared.sent.Sent.{Sent}
-use Rattle.plan_meaning.specs.declared.stop.Stop.{Stop}
 use Rattle.plan_meaning.specs.declared.stop.Stop.TheVariants.{Raised, WorkSpent, Wrong, NoMemory}
 use Rattle.plan_meaning.specs.State.{VisitState}
-use Rattle.plan_meaning.specs.Run.{After, gave, stopped, Step, Asks, nothing, never, service, both, Run, «next», and_then, ◌>>=◌, ◌>>◌, quiet, pure, stop, raise, wrong, otherwise, rescued, rescue, spend, whole, serve, answered, after_service}
-use Rattle.plan_meaning.specs.Meaning.{Env, Runs, pay_eval, no_bound, is_paid, bound_of, sent, sent_by, send_remote, is_next, not_neighbour, send_neighbour, node, run_to, meaning, visited}
+use Rattle.plan_meaning.specs.Run.{After, gave, stopped, Step, Run, «next», quiet, raise, otherwise, spend, serve, answered}
+use Rattle.plan_meaning.specs.Meaning.{Env, pay_eval, no_bound, is_paid, bound_of, sent, sent_by, send_remote, is_next, not_neighbour, send_neighbour, run_to, meaning, visited}
 use Rattle.plan_meaning.specs.Visit.{bounds}
-use Rattle.meaning_laws.specs.Laws.{left_by, total, IsBalanced, around, IsSteady, IsSpent, more, after_more, step_more, IsLonger}
-use Rattle.meaning_laws.proofs.Walk.{Kept, run_kept, node_kept, visited_kept}
+use Rattle.meaning_laws.specs.Laws.{left_by, total, IsBalanced}
+use Rattle.meaning_laws.proofs.Walk.{Kept, run_kept, visited_kept}
 
 abbrev pub Even : (A : Type 0) → Run A → Run A → Type 0
 Even A p q = (s : VisitState) → IsBalanced p s

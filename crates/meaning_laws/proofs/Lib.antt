@@ -1,5 +1,9 @@
 pub mod Shapes
+pub mod Totals
+pub mod Formed
+pub mod Full
 pub mod Rules
+pub mod Keeps
 pub mod Right
 pub mod Sound
 pub mod Walk

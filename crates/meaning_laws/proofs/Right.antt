@@ -1,5 +1,5 @@
 -- Evaluations that are right, put together.
-use Rattle.std.proofs.Common.{◌≡◌, ◌≢◌, ℕ, zero, suc, ◌+◌, ◌-◌, ◌<◌, ◌≤◌, Bool, true, false, cond, not, ◌&&◌, ◌||◌, if◌then◌else◌, ◌==◌, nat_lt, nat_le, ℤ, List, [], ◌∷◌, ◌++◌, Option, Some, None, refl, sym, ap, ◌∙◌, subst, arith}
+use Rattle.std.proofs.Common.{◌≡◌, ◌≢◌, ℕ, zero, suc, ◌+◌, ◌-◌, ◌<◌, ◌≤◌, Bool, true, false, ◌||◌, if◌then◌else◌, ◌==◌, nat_lt, ℤ, List, [], ◌∷◌, ◌++◌, Option, Some, None, refl, sym, subst, arith}
 use Rattle.std.specs.List.{All, slice_index_or}
 use Rattle.std.proofs.lemmas.List.Elements.{All-append}
 use Rattle.std.proofs.lemmas.Bool.Decides.{nat_tests}
@@ -12,7 +12,7 @@ use Rattle.plan_base.specs.declared.tree.Svc.{Svc}
 use Rattle.plan_base.specs.declared.tree.Value.{Value}
 use Rattle.plan_base.specs.declared.tree.Chunk.{Chunk}
 use Rattle.plan_base.specs.Sizes.{weight, nesting}
-use Rattle.plan_base.specs.Typing.{HasType, IsTypedChunk}
+use Rattle.plan_base.specs.Typing.{HasType}
 use Rattle.value_rules.specs.Rules.{Given, gives, raises, unfit, too_large}
 use Rattle.service_api.specs.declared.answer.Note.{Note}
 use Rattle.service_api.specs.declared.answer.Answer.{Answer}
@@ -20,15 +20,16 @@ use Rattle.service_api.specs.declared.answer.Answer.TheVariants.{Gives, Raises}
 use Rattle.service_api.specs.declared.router.Hop.{Hop}
 use Rattle.service_api.specs.declared.router.Hop.TheVariants.{To, NoService, NoRoute}
 use Rattle.service_api.specs.Routes.{hop, default_route}
-use Rattle.service_api.specs.Services.{Standing, Served, served, called, IsSmall, IsGoodValue, AreGoodValues, IsGoodAnswer, IsGoodServed, IsGoodNote, IsGoodOptionNote, IsGood, AreGoodRows}
+use Rattle.service_api.specs.Services.{Served, served, called, IsSmall, IsGoodValue, IsGoodChunk, AreGoodValues, IsGoodAnswer, IsGoodServed, IsGoodNote, IsGoodOptionNote, AreGoodRows}
 use Rattle.plan_meaning.specs.declared.sent.Sent.{Sent}
-use Rattle.plan_meaning.specs.declared.stop.Stop.{Stop}
 use Rattle.plan_meaning.specs.declared.stop.Stop.TheVariants.{Raised, WorkSpent, Wrong, NoMemory}
 use Rattle.plan_meaning.specs.State.{VisitState}
-use Rattle.plan_meaning.specs.Run.{After, gave, stopped, Step, Asks, nothing, never, service, both, Run, «next», and_then, ◌>>=◌, ◌>>◌, quiet, pure, stop, raise, wrong, or_wrong, given, otherwise, rescued, rescue, spend, is_too_large, weighed, whole, serve, answered, after_service, noted}
+use Rattle.plan_meaning.specs.Run.{After, gave, stopped, Step, Run, «next», ◌>>=◌, ◌>>◌, pure, stop, raise, or_wrong, given, otherwise, rescue, spend, is_too_large, weighed, whole, serve, answered, noted}
 use Rattle.plan_meaning.specs.Meaning.{pay_eval, no_bound, is_paid, bound_of, sent, sent_by, send_remote, is_next, not_neighbour, send_neighbour}
-use Rattle.plan_meaning.specs.Safe.{IsSafe, AreGoodNotes, AreGoodPackets, IsGoodState, Holds, IsRight, Yields}
+use Rattle.plan_meaning.specs.Safe.{AreGoodNotes, IsGoodState, Holds, IsRight, Yields}
+use Rattle.meaning_laws.proofs.Formed.{IsFormed, well_formed}
 use Rattle.meaning_laws.proofs.Rules.{Fits}
+use Rattle.meaning_laws.proofs.Keeps.{Keeps}
 
 raised : (x : Exn) → Raised x ≢ Wrong
 raised x e = cc
@@ -97,9 +98,9 @@ module _ (P : Value → Type 0) where
 abbrev pub Good : Ty → Value → Type 0
 Good t v = IsGoodValue t v
 
--- a value that has the type where it is small
+-- a value that has the type and is well formed where it is small
 abbrev pub Mild : Ty → Value → Type 0
-Mild t v = IsSmall v → HasType v t
+Mild t v = IsSmall v → HasType v t × IsFormed v
 
 weaker : {A : Type 0} (P Q : A → Type 0) → ((a : A) → P a → Q a) → (a : After A) → Holds P a → Holds Q a
 weaker P Q f (gave a s) h = (f a h.0, h.1)
@@ -108,10 +109,10 @@ weaker P Q f (stopped e s) h = h
 pub mild : {A : Type 0} (P Q : A → Type 0) → ((a : A) → P a → Q a) → (p : Run A) → Yields P p → Yields Q p
 mild P Q f p h s g = let r = h s g in record { safe = r.safe; holds = weaker P Q f (p s).after r.holds }
 
-pub given_yields : (t : Ty) (g : Given) → Fits t g → Yields (Mild t) (given g)
-given_yields t (gives v) h = pure_yields (Mild t) v (λ _. h)
-given_yields t (raises x) h = raise_yields (Mild t) x
-given_yields t unfit h = absurd h
+pub given_yields : (t : Ty) (g : Given) → Fits t g → Keeps g → Yields (Mild t) (given g)
+given_yields t (gives v) h k = pure_yields (Mild t) v (λ s. (h, k s))
+given_yields t (raises x) h k = raise_yields (Mild t) x
+given_yields t unfit h k = absurd h
 
 -- the work left isn't in a good state
 spent_state : (s : VisitState) (n : ℕ) → IsGoodState s → IsGoodState (record s { work = n })
@@ -133,7 +134,7 @@ weighed_at : (t : Ty) (v : Value) (b : Bool) → is_too_large v ≡ b → Mild t
 weighed_at t v true e h = raise_yields (Good t) too_large
 weighed_at t v false e h =
     let small = is_small v e in
-    then_yields (λ _. Unit {0}) (Good t) (spend (weight v)) (λ _. pure v) (spend_yields (weight v)) (λ _ _. pure_yields (Good t) v (record { typed = h small; small = small }))
+    then_yields (λ _. Unit {0}) (Good t) (spend (weight v)) (λ _. pure v) (spend_yields (weight v)) (λ _ _. pure_yields (Good t) v (record { typed = (h small).0; small = small; formed = well_formed v (h small).1 small }))
 
 pub weighed_yields : (t : Ty) (v : Value) → Mild t v → Yields (Good t) (weighed v)
 unfolding weighed
@@ -159,21 +160,21 @@ alone P x h (suc i) d l = absurd (omega arith)
 all_behind : {X : Type 0} (P : X → Type 0) (xs : List X) (x : X) → All P xs → P x → All P (xs ++ x ∷ [])
 all_behind P xs x h k = All-append P xs (x ∷ []) h (λ i d l. alone P x k i d l)
 
-sent_right : (dev : Dev) (k : Chunk) (h : Host) (n : ℕ) (r : Name) → IsTypedChunk k → Yields {A = Unit {0}} (λ _. Unit {0}) (sent dev k h n r)
+sent_right : (dev : Dev) (k : Chunk) (h : Host) (n : ℕ) (r : Name) → IsGoodChunk k → Yields {A = Unit {0}} (λ _. Unit {0}) (sent dev k h n r)
 sent_right dev k h n r t s g =
-    record { safe = tt; holds = (tt, record { services = g.services; notes = g.notes; outbox = all_behind (λ (p : Sent). IsTypedChunk p.packet.chunk) s.outbox _ g.outbox t }) }
+    record { safe = tt; holds = (tt, record { services = g.services; notes = g.notes; outbox = all_behind (λ (p : Sent). IsGoodChunk p.packet.chunk) s.outbox _ g.outbox t }) }
 
-sent_by_right : (hop : Hop) (k : Chunk) (h : Host) (n : ℕ) (r : Name) → IsTypedChunk k → Yields {A = Unit {0}} (λ _. Unit {0}) (sent_by hop k h n r)
+sent_by_right : (hop : Hop) (k : Chunk) (h : Host) (n : ℕ) (r : Name) → IsGoodChunk k → Yields {A = Unit {0}} (λ _. Unit {0}) (sent_by hop k h n r)
 sent_by_right (To via dev) k h n r t = sent_right dev k h n r t
 sent_by_right NoService k h n r t = raise_yields (λ _. Unit {0}) _
 sent_by_right NoRoute k h n r t = raise_yields (λ _. Unit {0}) _
 
-pub remote_yields : (k : Chunk) (h : Host) (n : ℤ) (r : Name) → IsTypedChunk k → Yields {A = Unit {0}} (λ _. Unit {0}) (send_remote k h n r)
+pub remote_yields : (k : Chunk) (h : Host) (n : ℤ) (r : Name) → IsGoodChunk k → Yields {A = Unit {0}} (λ _. Unit {0}) (send_remote k h n r)
 unfolding send_remote
 remote_yields k h n r t s g =
     choose (λ _. Unit {0}) (is_paid n s.ctx.purse) _ _ (sent_by_right (hop s.ctx.router r s.ctx.here h) k h (bound_of n) r t s g) (record { safe = tt; holds = (raised no_bound, g) })
 
-pub neighbour_yields : (k : Chunk) (h : Host) (n : ℤ) (d : Dev) → IsTypedChunk k → Yields {A = Unit {0}} (λ _. Unit {0}) (send_neighbour k h n d)
+pub neighbour_yields : (k : Chunk) (h : Host) (n : ℤ) (d : Dev) → IsGoodChunk k → Yields {A = Unit {0}} (λ _. Unit {0}) (send_neighbour k h n d)
 unfolding send_neighbour
 neighbour_yields k h n d t s g =
     choose (λ _. Unit {0}) (is_paid n s.ctx.purse) _ _

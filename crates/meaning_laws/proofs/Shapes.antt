@@ -1,11 +1,10 @@
 -- What a value of a type looks like.
-use Rattle.std.proofs.Common.{◌≡◌, ℕ, ◌+◌, ◌≤◌, Bool, true, false, ℤ, List, [], ◌∷◌, ◌++◌, Option, Some, None, refl, sym, ap, ◌∙◌, subst, arith}
+use Rattle.std.proofs.Common.{◌≡◌, ℕ, Bool, ℤ, List, sym, ap, ◌∙◌, subst}
 use Rattle.plan_base.specs.declared.ids.Host.{Host}
 use Rattle.plan_base.specs.declared.ids.Dev.{Dev}
 use Rattle.plan_base.specs.declared.tree.Ty.{Ty, Ty-F, out-Ty}
 use Rattle.plan_base.specs.declared.tree.Ty.TheVariants as ty
 use Rattle.plan_base.specs.declared.tree.Value.{Value, Value-F, out-Value}
-use Rattle.plan_base.specs.declared.tree.Value as value
 use Rattle.plan_base.specs.declared.tree.Chunk.{Chunk}
 use Rattle.plan_base.specs.Trees.{ValueLayer}
 use Rattle.plan_base.specs.Typing.{HasType, unit, bool, int, char, str, blob, host, dev, list, tuple, chunk, HaveTypes, AllHaveType, IsTypedChunk}

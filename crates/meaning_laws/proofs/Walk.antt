@@ -1,6 +1,6 @@
 -- What holds of two ways to run an expression where it holds of their parts. A relation that the steps of the meaning keep
 -- relates the runs at two depths.
-use Rattle.std.proofs.Common.{◌≡◌, ℕ, zero, suc, ◌+◌, ◌≤◌, Bool, true, false, cond, not, if◌then◌else◌, ℤ, List, [], ◌∷◌, ◌++◌, take, reverse, Option, Some, None, slice_get, arith}
+use Rattle.std.proofs.Common.{ℕ, zero, suc, ◌≤◌, Bool, true, false, if◌then◌else◌, ℤ, List, [], ◌∷◌, ◌++◌, take, reverse, Option, Some, None, slice_get, arith}
 use Rattle.plan_base.specs.declared.name.Name.{Name}
 use Rattle.plan_base.specs.declared.ids.Host.{Host}
 use Rattle.plan_base.specs.declared.ids.Dev.{Dev}
@@ -11,10 +11,8 @@ use Rattle.plan_base.specs.declared.tree.Op.{Op}
 use Rattle.plan_base.specs.declared.tree.Expr.{Expr, Expr-F, out-Expr}
 use Rattle.plan_base.specs.declared.tree.Clause.{Clause}
 use Rattle.plan_base.specs.declared.tree.Svc.{Svc}
-use Rattle.plan_base.specs.declared.tree.Fun.{Fun}
 use Rattle.plan_base.specs.declared.tree.Program.{Program}
 use Rattle.plan_base.specs.declared.tree.Value.{Value}
-use Rattle.plan_base.specs.declared.tree.Value as value
 use Rattle.plan_base.specs.declared.tree.Chunk.{Chunk}
 use Rattle.plan_base.specs.Trees.{ExprLayer}
 use Rattle.plan_base.specs.TypingNames.{place_of, service_of, prim_of}
@@ -22,8 +20,7 @@ use Rattle.plan_base.specs.Sizes.{weight}
 use Rattle.value_rules.specs.Rules.{Given, gives, raises, unfit, too_large, binary, part, primitive}
 use Rattle.plan_meaning.specs.declared.stop.Stop.{Stop}
 use Rattle.plan_meaning.specs.declared.stop.Stop.TheVariants.{Raised, WorkSpent}
-use Rattle.plan_meaning.specs.State.{VisitState}
-use Rattle.plan_meaning.specs.Run.{Run, ◌>>=◌, ◌>>◌, pure, stop, raise, wrong, or_wrong, given, rescue, spend, weighed, is_too_large, whole, serve}
+use Rattle.plan_meaning.specs.Run.{Run, ◌>>=◌, pure, stop, wrong, or_wrong, given, rescue, spend, weighed, is_too_large, whole, serve}
 use Rattle.plan_meaning.specs.Meaning.{Env, Runs, binds, bound, as_bool, as_int, as_host, as_dev, as_chunk, as_items, value_of, pay_eval, send_remote, send_neighbour, catches, named, values_behind, values, entered, applied_at, applied, served_or, called_by, called, call, tuple, packed, choice, binding, sequence, conjunction, disjunction, negation, operation, selection, handled, attempt, left_along, fold_left, right_along, fold_right, visited, evaluation, remote, neighbour, empty_of, opened_at, opened, node, run_to}
 
 pub record Kept (Rel : (A : Type 0) → Run A → Run A → Type 0) : Type 1 where

@@ -1,14 +1,9 @@
 -- Laws of the meaning.
-use Rattle.std.specs.Prelude.{◌≡◌, ℕ, ◌+◌, ◌≤◌}
-use Rattle.plan_base.specs.declared.tree.Expr.{Expr}
-use Rattle.plan_base.specs.declared.tree.Program.{Program}
-use Rattle.plan_base.specs.declared.tree.Value.{Value}
+use Rattle.std.specs.Prelude.{◌≡◌, ℕ, ◌+◌}
 use Rattle.service_api.specs.declared.ctx.Ctx.{Ctx}
-use Rattle.plan_meaning.specs.declared.stop.Stop.{Stop}
 use Rattle.plan_meaning.specs.declared.stop.Stop.TheVariants as stop
 use Rattle.plan_meaning.specs.State.{VisitState}
 use Rattle.plan_meaning.specs.Run.{After, gave, stopped, Step, Run}
-use Rattle.plan_meaning.specs.Meaning.{Env, node, meaning}
 use Rattle.plan_meaning.specs.Visit.{bounds}
 
 -- the state that a run leaves

@@ -8,9 +8,11 @@ ghost use Rattle.plan_base.specs.declared.tree.Chunk.{Chunk};
 ghost use Rattle.plan_base.specs.declared.tree.Param.{Param};
 ghost use Rattle.plan_base.specs.declared.tree.Fun.{Fun};
 ghost use Rattle.plan_base.specs.declared.tree.Ty.{Ty};
-ghost use Rattle.plan_base.specs.Typing.{Typed, HasTy, IsTypedChunk};
+ghost use Rattle.plan_base.specs.declared.tree.Value.{Value};
+ghost use Rattle.plan_base.specs.Typing.{Typed, HasTy, HasType, IsTypedChunk};
+ghost use Rattle.plan_base.specs.WellFormed.{IsWellFormedProgram, IsWellFormedExpr, ProgramHasTypes, ValueHasTypes, ChunkHasTypes};
 ghost use Rattle.plan_base.specs.TypingNames.{place_of};
-ghost use Rattle.service_api.specs.Services.{IsGoodValue};
+ghost use Rattle.service_api.specs.Services.{IsGoodValue, IsGoodChunk};
 ghost use Rattle.plan_meaning.specs.State.{VisitState};
 ghost use Rattle.plan_meaning.specs.Meaning.{Env, node, run_to, meaning, visited};
 ghost use Rattle.plan_meaning.specs.Safe.{HasEnv, Yields};
@@ -45,10 +47,17 @@ pub fn allowance()
     ensures visits { (k : Chunk) (s : VisitState) → IsLonger (visited meaning k) s }
 {}
 
-/// From a good state a typed expression never is without a case, its value has its type and keeps the limits, services
-/// are asked only with arguments of the declared types that keep the limits, and what is in the outbox, the notes and the
-/// rows is typed and keeps the limits. So does a typed chunk, at its entry's result type.
+/// From a good state a typed expression of well-formed code never is without a case. Its value has its type, is well formed
+/// and keeps the limits; services are asked only with such arguments of the declared types; and what is in the outbox, the
+/// notes and the rows is such too. So does a typed, well-formed chunk, at its entry's result type.
 pub fn soundness()
-    ensures parts { (code : Program) (seen : ℕ) (c : List Param) (env : Env) (e : Expr) (t : Ty) → Typed code → HasTy code seen c e t → HasEnv c env → Yields (IsGoodValue t) (meaning code seen env e) }
-    ensures visits { (k : Chunk) (at : ℕ) (d : Fun) → IsTypedChunk k → place_of k.entry k.code.funs ≡ Some at → slice_get k.code.funs at ≡ Some d → Yields (IsGoodValue d.result) (visited meaning k) }
+    ensures parts { (code : Program) (seen : ℕ) (c : List Param) (env : Env) (e : Expr) (t : Ty) → Typed code → IsWellFormedProgram code → HasTy code seen c e t → IsWellFormedExpr e → HasEnv c env → Yields (IsGoodValue t) (meaning code seen env e) }
+    ensures visits { (k : Chunk) (at : ℕ) (d : Fun) → IsGoodChunk k → place_of k.entry k.code.funs ≡ Some at → slice_get k.code.funs at ≡ Some d → Yields (IsGoodValue d.result) (visited meaning k) }
+{}
+
+/// No type of `[]` or `raise` is missing in a typed program, nor in the code of a chunk inside a typed value.
+pub fn types_are_there()
+    ensures programs { (code : Program) → Typed code → ProgramHasTypes code }
+    ensures values { (v : Value) (t : Ty) → HasType v t → ValueHasTypes v }
+    ensures chunks { (k : Chunk) → IsTypedChunk k → ChunkHasTypes k }
 {}

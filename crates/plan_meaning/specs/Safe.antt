@@ -6,9 +6,8 @@ use Rattle.plan_base.specs.declared.tree.Svc.{Svc}
 use Rattle.plan_base.specs.declared.tree.Ty.{Ty}
 use Rattle.plan_base.specs.declared.tree.Value.{Value}
 use Rattle.plan_base.specs.declared.tree.Chunk.{Chunk}
-use Rattle.plan_base.specs.Typing.{IsTypedChunk}
 use Rattle.service_api.specs.declared.answer.Note.{Note}
-use Rattle.service_api.specs.Services.{IsGoodValue, AreGoodValues, IsGoodNote, IsGood}
+use Rattle.service_api.specs.Services.{IsGoodValue, IsGoodChunk, AreGoodValues, IsGoodNote, IsGood}
 use Rattle.plan_meaning.specs.declared.binding.Binding.{Binding}
 use Rattle.plan_meaning.specs.declared.sent.Sent.{Sent}
 use Rattle.plan_meaning.specs.declared.stop.Stop.{Stop}
@@ -23,12 +22,12 @@ IsSafe never = ⊥
 IsSafe (service d args) = AreGoodValues d.params args
 IsSafe (both a b) = IsSafe a × IsSafe b
 
--- the values of the notes and the chunks of the packets are typed and keep the limits
+-- the values of the notes and the chunks of the packets are typed, are well formed and keep the limits
 abbrev pub AreGoodNotes : List Note → Type 0
 AreGoodNotes notes = All IsGoodNote notes
 
 abbrev pub AreGoodPackets : List Sent → Type 0
-AreGoodPackets outbox = All (λ p. IsTypedChunk p.packet.chunk) outbox
+AreGoodPackets outbox = All (λ p. IsGoodChunk p.packet.chunk) outbox
 
 pub record IsGoodState (s : VisitState) : Type 0 where
   pub services : IsGood s.services

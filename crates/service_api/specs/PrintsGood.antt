@@ -1,5 +1,5 @@
 -- What `print` answers keeps the laws of services.
-use Rattle.std.proofs.Common.{◌≡◌, ◌≢◌, ◌⊎◌, ℕ, zero, suc, ◌+◌, ◌<◌, ◌≤◌, Bool, true, false, ◌&&◌, if◌then◌else◌, List, [], ◌∷◌, ◌++◌, length, codes, Option, Some, None, is_some, refl, sym, ap, ◌∙◌, subst, lit≤}
+use Rattle.std.proofs.Common.{◌≡◌, ◌≢◌, ◌⊎◌, ℕ, zero, suc, ◌+◌, ◌<◌, ◌≤◌, Bool, true, false, ◌&&◌, if◌then◌else◌, List, [], ◌∷◌, ◌++◌, length, codes, Option, Some, None, is_some, nat_le, refl, sym, ap, ◌∙◌, subst, lit≤}
 use Rattle.std.proofs.Math.Nat.{zero-lt-suc, not-suc-le-zero}
 use Rattle.std.specs.List.{slice_index_or}
 use Rattle.std.proofs.lemmas.Bool.{false≢true}
@@ -9,8 +9,10 @@ use Rattle.plan_base.specs.declared.tree.Value.TheVariants as value
 use Rattle.plan_base.specs.declared.tree.Svc.{Svc}
 use Rattle.plan_base.specs.declared.tree.Ty.{Ty}
 use Rattle.plan_base.specs.declared.tree.Ty.TheVariants as ty
-use Rattle.plan_base.specs.Sizes.{weight, nesting, weight_level, nesting_level, chunk_weight, chunk_nesting}
-use Rattle.plan_base.proofs.SizeLaws.{weight_out, nesting_out}
+use Rattle.plan_base.specs.Sizes.{weight, nesting, weight_level, nesting_level, chunk_weight, chunk_nesting, value_depth, value_depth_level}
+use Rattle.plan_base.specs.WellFormed.{formed_value, formed_value_level, formed_chunk, well_formed_value, IsWellFormedValue}
+use Rattle.plan_base.proofs.SizeLaws.{weight_out, nesting_out, value_depth_out}
+use Rattle.plan_base.proofs.FormLaws.{formed_value_out}
 use Rattle.plan_base.specs.Typing.{HasType, unit}
 use Rattle.value_rules.specs.Same.{same_type}
 use Rattle.value_rules.proofs.Same.{same_type_decides}
@@ -28,8 +30,16 @@ small_unit =
     let n = nesting_out value.Unit ∙ ap (λ l. nesting_level nesting chunk_nesting l) value.outs-Unit in
     record { weight = subst (λ x. x ≤ 16384) (sym w) (lit≤ tt); nesting = subst (λ x. x ≤ 4) (sym n) (lit≤ tt) }
 
+formed_unit : IsWellFormedValue value.Unit
+unfolding well_formed_value
+formed_unit =
+    let f = formed_value_out value.Unit ∙ ap (λ l. formed_value_level formed_value formed_chunk l) value.outs-Unit in
+    let d = value_depth_out value.Unit ∙ ap (λ l. value_depth_level value_depth l) value.outs-Unit in
+    let n = nesting_out value.Unit ∙ ap (λ l. nesting_level nesting chunk_nesting l) value.outs-Unit in
+    λ i. f i && (nat_le (d i) 8 && nat_le (n i) 4)
+
 good_unit : (t : Ty) → t ≡ ty.Unit → IsGoodValue t value.Unit
-good_unit t e = record { typed = unit value.outs-Unit e; small = small_unit }
+good_unit t e = record { typed = unit value.outs-Unit e; small = small_unit; formed = formed_unit }
 
 may_refuse : (svc : Svc) → MayRaise svc no_service
 may_refuse svc = (0, zero-lt-suc _, refl)

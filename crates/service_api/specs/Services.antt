@@ -5,6 +5,7 @@ use Rattle.plan_base.specs.declared.tree.Value.{Value}
 use Rattle.plan_base.specs.declared.tree.Ty.{Ty}
 use Rattle.plan_base.specs.declared.tree.Svc.{Svc}
 use Rattle.plan_base.specs.declared.tree.Exn.{Exn}
+use Rattle.plan_base.specs.declared.tree.Chunk.{Chunk}
 use Rattle.plan_base.specs.Sizes.{weight, nesting}
 use Rattle.service_api.specs.declared.answer.Note.{Note}
 use Rattle.service_api.specs.declared.answer.Note.TheVariants.{Print, Port}
@@ -12,7 +13,8 @@ use Rattle.service_api.specs.declared.answer.Answer.{Answer}
 use Rattle.service_api.specs.declared.answer.Answer.TheVariants.{Gives, Raises}
 use Rattle.service_api.specs.declared.ctx.Ctx.{Ctx}
 use Rattle.service_api.specs.declared.scheme.Scheme.{Scheme}
-use Rattle.plan_base.specs.Typing.{HasType}
+use Rattle.plan_base.specs.Typing.{HasType, IsTypedChunk}
+use Rattle.plan_base.specs.WellFormed.{IsWellFormedValue, IsWellFormedChunk}
 
 -- ---- the state: a table's rows and its next key
 
@@ -93,10 +95,16 @@ pub record IsSmall (v : Value) : Type 0 where
   pub weight : weight v ≤ 16384
   pub nesting : nesting v ≤ 4
 
--- a value of that type within the limits
+-- a well-formed value of that type within the limits
 pub record IsGoodValue (t : Ty) (v : Value) : Type 0 where
   pub typed : HasType v t
   pub small : IsSmall v
+  pub formed : IsWellFormedValue v
+
+-- a typed and well-formed chunk
+pub record IsGoodChunk (k : Chunk) : Type 0 where
+  pub typed : IsTypedChunk k
+  pub formed : IsWellFormedChunk k
 
 -- each value is good, at the type at its place
 abbrev pub AreGoodValues : List Ty → List Value → Type 0

@@ -1,9 +1,6 @@
 use Rattle.std.proofs.Common.{refl}
-use Rattle.chunk_spelling.specs.Programs.{program_part}
-use Rattle.chunk_spelling.specs.Spelling.{a_whole_type, a_whole_value, a_whole_chunk}
-use Rattle.chunk_spelling.proofs.TypeLaws.{type_lawful}
-use Rattle.chunk_spelling.proofs.ProgramLaws.{program_lawful}
-use Rattle.chunk_spelling.proofs.ValueLaws.{value_lawful, chunk_part_lawful}
+use Rattle.chunk_spelling.specs.Spelling.{a_whole_value}
+use Rattle.chunk_spelling.proofs.ValueLaws.{value_lawful}
 use Rattle.chunk_spelling.proofs.WholeLaws.{one_spelling_by, at_most_one, spelled_or_fault, spelled_no_fault}
 use Rattle.chunk_codec.proofs.Wholes.{again_by}
 use Rattle.chunk_codec.proofs.laws.value_laws.Goals as goal

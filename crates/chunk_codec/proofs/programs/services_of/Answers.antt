@@ -1,4 +1,3 @@
-use Rattle.std.proofs.Common.{◌≡◌, ◌++◌, ◌∷◌, []}
 use Rattle.std.proofs.lemmas.Result.{err_from_is_err_and}
 use Rattle.read_laws.specs.Reading.{many}
 use Rattle.chunk_codec.specs.Reading.{service_at}

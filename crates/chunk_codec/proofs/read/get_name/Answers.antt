@@ -1,4 +1,4 @@
-use Rattle.std.proofs.Common.{◌≡◌, refl, sym, ◌∙◌, rules}
+use Rattle.std.proofs.Common.{refl}
 use Rattle.std.proofs.lemmas.Result.{err_from_is_err_and}
 use Rattle.chunk_spelling.specs.Fields.{name_part}
 use Rattle.chunk_spelling.proofs.LeafLaws.{name_lawful}

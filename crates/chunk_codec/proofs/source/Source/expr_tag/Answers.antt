@@ -1,4 +1,4 @@
-use Rattle.std.proofs.Common.{◌≡◌, ◌+◌, ◌<◌, ◌≤◌, Ok, Err, refl, sym, ◌∙◌, ap, arith}
+use Rattle.std.proofs.Common.{◌+◌, Ok, Err, sym, ◌∙◌, ap, arith}
 use Rattle.plan_base.specs.declared.limit.Limit.{Limit}
 use Rattle.chunk_spelling.specs.declared.fault.SpellFault.TheVariants.{OverLimit}
 use Rattle.chunk_spelling.specs.Scan.{Scan}

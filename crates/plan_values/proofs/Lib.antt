@@ -1,0 +1,4 @@
+pub mod Arguments
+pub mod Blobs
+pub mod ListLaws
+pub mod NumberLaws

@@ -1,0 +1,20 @@
+-- How an answer follows the rules of operators, parts and primitives.
+use Rattle.std.specs.Prelude.{◌≡◌, Result, Ok, Err}
+use Rattle.plan_base.specs.declared.tree.Exn.{Exn}
+use Rattle.plan_base.specs.declared.tree.Value.{Value}
+use Rattle.value_rules.specs.Rules.{Given, gives, raises, unfit}
+use Rattle.plan_values.specs.declared.fault.PrimFault.{PrimFault}
+use Rattle.plan_values.specs.declared.fault.PrimFault.TheVariants as fault
+
+-- the value or the exception of the rules, or `Unfit` where they have neither; of want of memory nothing is said
+abbrev pub Answers : Given → Result Value PrimFault → Type 0
+Answers want (Ok v) = want ≡ gives v
+Answers want (Err (fault.Raises x)) = want ≡ raises x
+Answers want (Err fault.Unfit) = want ≡ unfit
+Answers want (Err fault.NoMemory) = Unit {0}
+
+-- the exception, or want of memory
+abbrev pub RaisesOnly : Exn → PrimFault → Type 0
+RaisesOnly x (fault.Raises y) = y ≡ x
+RaisesOnly x fault.Unfit = ⊥
+RaisesOnly x fault.NoMemory = Unit {0}

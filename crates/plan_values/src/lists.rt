@@ -1,0 +1,145 @@
+ghost use Rattle.std.specs.Prelude.{◌≡◌, ◌∷◌, ◌++◌, IfOk, MatchOption};
+ghost use Rattle.plan_base.specs.declared.tree.Value.{out-Value};
+ghost use Rattle.plan_base.specs.declared.tree.Value.TheVariants as value;
+ghost use Rattle.value_rules.specs.Rules as rules;
+ghost use Rattle.plan_values.specs.Answers.{Answers};
+
+use crate::PrimFault;
+use crate::raise::{bad_index, empty, too_large};
+use plan_base::{Bytes, NoMemory, Text, Ty, Value, Values, copy_values, weight};
+use plan_items::Items;
+use std::alloc::{AllocError, Global};
+
+/// The value, or `TooLarge` where it weighs more than 16,384 bytes.
+#[tactic(auto, unfolding(value_rules::specs::Rules::limited))]
+fn limited(alloc: Global, v: Value) -> Result<Value, PrimFault>
+    ensures { Answers (rules.limited v) result }
+{
+    if weight(&v) > 16384 {
+        return Err(too_large(alloc));
+    }
+    Ok(v)
+}
+
+/// `a ^ b`: two strings or two blobs, joined.
+#[tactic(auto, using(plan_base::specs::Trees::trees))]
+pub fn joined(alloc: Global, a: &Value, b: &Value) -> Result<Value, PrimFault>
+    ensures { Answers (rules.joined (out-Value a.now) (out-Value b.now)) result }
+{
+    match a {
+        Value::Str(x) => match b {
+            Value::Str(y) => limited(alloc, Value::Str(joined_text(alloc, x, y)?)),
+            _ => Err(PrimFault::Unfit),
+        },
+        Value::Blob(x) => match b {
+            Value::Blob(y) => limited(alloc, Value::Blob(joined_bytes(alloc, x, y)?)),
+            _ => Err(PrimFault::Unfit),
+        },
+        Value::Unit
+        | Value::Bool(_)
+        | Value::Int(_)
+        | Value::Char(_)
+        | Value::Host(_)
+        | Value::Dev(_)
+        | Value::Chunk(_)
+        | Value::List(_, _)
+        | Value::Tuple(_) => Err(PrimFault::Unfit),
+    }
+}
+
+fn joined_text(alloc: Global, a: &Text, b: &Text) -> Result<Text, NoMemory>
+    ensures { IfOk result (λ s. s ≡ a.now ++ b.now) }
+{
+    let mut s = a.copy(alloc)?;
+    s.add_all(b.as_slice())?;
+    Ok(s)
+}
+
+fn joined_bytes(alloc: Global, a: &Bytes, b: &Bytes) -> Result<Bytes, NoMemory>
+    ensures { IfOk result (λ s. s ≡ a.now ++ b.now) }
+{
+    let mut s = a.copy(alloc)?;
+    s.add_all(b.as_slice())?;
+    Ok(s)
+}
+
+/// `x :: xs`: the list with `x` before its items.
+#[tactic(auto, using(plan_base::specs::Trees::trees))]
+pub fn put_first(alloc: Global, x: &Value, xs: &Value) -> Result<Value, PrimFault>
+    ensures { Answers (rules.put_first x.now (out-Value xs.now)) result }
+{
+    match xs {
+        Value::List(t, items) => {
+            let t = t.copy(alloc)?;
+            let items = with_first(alloc, x, items.as_slice())?;
+            limited(alloc, Value::List(t, items))
+        }
+        Value::Unit
+        | Value::Bool(_)
+        | Value::Int(_)
+        | Value::Char(_)
+        | Value::Str(_)
+        | Value::Blob(_)
+        | Value::Host(_)
+        | Value::Dev(_)
+        | Value::Chunk(_)
+        | Value::Tuple(_) => Err(PrimFault::Unfit),
+    }
+}
+
+fn with_first(alloc: Global, x: &Value, items: &[Value]) -> Result<Values, NoMemory>
+    ensures { IfOk result (λ all. all ≡ x.now ∷ items.now) }
+{
+    let mut all = Items::new(alloc);
+    all.add(x.copy(alloc)?)?;
+    all.append(copy_values(alloc, items)?)?;
+    Ok(all)
+}
+
+/// `hd(xs)`: a copy of the first item.
+#[tactic(auto, using(crate::proofs::ListLaws::lists))]
+pub fn first_item(alloc: Global, items: &[Value]) -> Result<Value, PrimFault>
+    ensures { Answers (rules.first_item items.now) result }
+{
+    match items.first() {
+        Some(first) => Ok(first.copy(alloc)?),
+        None => Err(empty(alloc)),
+    }
+}
+
+/// `tl(xs)`: a copy of the list without its first item.
+#[tactic(auto, using(crate::proofs::ListLaws::lists))]
+pub fn later_items(alloc: Global, t: &Ty, items: &[Value]) -> Result<Value, PrimFault>
+    ensures { Answers (rules.later_items t.now items.now) result }
+{
+    match items {
+        [_, later @ ..] => Ok(Value::List(t.copy(alloc)?, copy_values(alloc, later)?)),
+        [] => Err(empty(alloc)),
+    }
+}
+
+/// `blobPart(b, i, n)`: n bytes from place i.
+pub fn blob_part(alloc: Global, b: &Bytes, i: i64, n: i64) -> Result<Value, PrimFault>
+    ensures { Answers (rules.blob_part b.now i n) result }
+{
+    match part_between(b.as_slice(), i, n) {
+        Some(part) => Ok(Value::Blob(Bytes::of(Vec::from_slice(alloc, part)?))),
+        None => Err(bad_index(alloc)),
+    }
+}
+
+/// The `n` bytes from place `i`, where they are all there.
+#[tactic(auto, using(crate::proofs::Blobs::parts))]
+fn part_between(b: &[u8], i: i64, n: i64) -> Option<&[u8]>
+    ensures { MatchOption result (rules.blob_part b.now i n ≡ rules.raises rules.bad_index) (λ p. rules.blob_part b.now i n ≡ rules.gives (value.Blob p.now)) }
+{
+    if i < 0 || n < 0 {
+        return None;
+    }
+    let from = i.unsigned_abs() as usize;
+    let count = n.unsigned_abs() as usize;
+    if from > b.len() || count > b.len() - from {
+        return None;
+    }
+    Some(&b[from..from + count])
+}

@@ -1,0 +1,61 @@
+ghost use Rattle.std.specs.Prelude.{◌+ℤ◌, ◌-ℤ◌, ◌*ℤ◌};
+ghost use Rattle.value_rules.specs.Rules as rules;
+ghost use Rattle.plan_values.specs.Answers.{Answers};
+
+use crate::PrimFault;
+use crate::raise::{division_by_zero, overflow};
+use plan_base::Value;
+use std::alloc::Global;
+
+#[tactic(auto, using(crate::proofs::NumberLaws::bounds))]
+pub fn sum(alloc: Global, a: i64, b: i64) -> Result<Value, PrimFault>
+    ensures { Answers (rules.bounded (a +ℤ b)) result }
+{
+    match a.checked_add(b) {
+        Some(n) => Ok(Value::Int(n)),
+        None => Err(overflow(alloc)),
+    }
+}
+
+#[tactic(auto, using(crate::proofs::NumberLaws::bounds))]
+pub fn difference(alloc: Global, a: i64, b: i64) -> Result<Value, PrimFault>
+    ensures { Answers (rules.bounded (a -ℤ b)) result }
+{
+    match a.checked_sub(b) {
+        Some(n) => Ok(Value::Int(n)),
+        None => Err(overflow(alloc)),
+    }
+}
+
+#[tactic(auto, using(crate::proofs::NumberLaws::bounds))]
+pub fn product(alloc: Global, a: i64, b: i64) -> Result<Value, PrimFault>
+    ensures { Answers (rules.bounded (a *ℤ b)) result }
+{
+    match a.checked_mul(b) {
+        Some(n) => Ok(Value::Int(n)),
+        None => Err(overflow(alloc)),
+    }
+}
+
+#[tactic(auto, using(crate::proofs::NumberLaws::quotients))]
+pub fn quotient(alloc: Global, a: i64, b: i64) -> Result<Value, PrimFault>
+    ensures { Answers (rules.divided a b) result }
+{
+    if b == 0 {
+        return Err(division_by_zero(alloc));
+    }
+    match a.checked_div(b) {
+        Some(n) => Ok(Value::Int(n)),
+        None => Err(overflow(alloc)),
+    }
+}
+
+#[tactic(auto, using(crate::proofs::NumberLaws::remainders))]
+pub fn remainder(alloc: Global, a: i64, b: i64) -> Result<Value, PrimFault>
+    ensures { Answers (rules.remainder a b) result }
+{
+    if b == 0 {
+        return Err(division_by_zero(alloc));
+    }
+    Ok(Value::Int(a.wrapping_rem(b)))
+}

@@ -1,0 +1,93 @@
+ghost use Rattle.std.specs.Prelude.{◌≡◌, not};
+ghost use Rattle.std.specs.Option as option;
+ghost use Rattle.plan_base.specs.declared.tree.Value.{out-Value};
+ghost use Rattle.value_rules.specs.Rules as rules;
+ghost use Rattle.value_rules.specs.Same.{same_value};
+ghost use Rattle.plan_values.specs.Answers.{Answers};
+
+use crate::PrimFault;
+use crate::lists::{joined, put_first};
+use crate::numbers::{difference, product, quotient, remainder, sum};
+use crate::order::before;
+use plan_base::{Op, Value};
+use std::alloc::Global;
+
+/// The value or the exception of `a op b`, or `Unfit` where the operator doesn't take such operands.
+#[tactic(auto, unfolding(value_rules::specs::Rules::binary))]
+pub fn binary(alloc: Global, op: Op, a: &Value, b: &Value) -> Result<Value, PrimFault>
+    ensures { Answers (rules.binary op a.now b.now) result }
+{
+    match op {
+        Op::Cat => joined(alloc, a, b),
+        Op::Cons => put_first(alloc, a, b),
+        Op::Eq => Ok(Value::Bool(same(a, b))),
+        Op::Ne => Ok(Value::Bool(!same(a, b))),
+        Op::Lt => answer(before(a, b)),
+        Op::Le => negated(before(b, a)),
+        Op::Gt => answer(before(b, a)),
+        Op::Ge => negated(before(a, b)),
+        Op::Add | Op::Sub | Op::Mul | Op::Div | Op::Mod => on_numbers(alloc, op, a, b),
+    }
+}
+
+#[tactic(auto, using(value_rules::proofs::Same::same_value_decides))]
+fn same(a: &Value, b: &Value) -> bool
+    ensures { result ≡ same_value a.now b.now }
+{
+    a.is(b)
+}
+
+fn answer(before: Option<bool>) -> Result<Value, PrimFault>
+    ensures { Answers (rules.answered (λ r. r) before) result }
+{
+    match before {
+        Some(b) => Ok(Value::Bool(b)),
+        None => Err(PrimFault::Unfit),
+    }
+}
+
+fn negated(before: Option<bool>) -> Result<Value, PrimFault>
+    ensures { Answers (rules.answered not before) result }
+{
+    match before {
+        Some(b) => Ok(Value::Bool(!b)),
+        None => Err(PrimFault::Unfit),
+    }
+}
+
+#[tactic(auto, using(plan_base::specs::Trees::trees))]
+fn on_numbers(alloc: Global, op: Op, a: &Value, b: &Value) -> Result<Value, PrimFault>
+    ensures { Answers (rules.numbers (rules.computed op) (out-Value a.now) (out-Value b.now)) result }
+{
+    match a {
+        Value::Int(x) => match b {
+            Value::Int(y) => computed(alloc, op, *x, *y),
+            _ => Err(PrimFault::Unfit),
+        },
+        Value::Unit
+        | Value::Bool(_)
+        | Value::Char(_)
+        | Value::Str(_)
+        | Value::Blob(_)
+        | Value::Host(_)
+        | Value::Dev(_)
+        | Value::Chunk(_)
+        | Value::List(_, _)
+        | Value::Tuple(_) => Err(PrimFault::Unfit),
+    }
+}
+
+fn computed(alloc: Global, op: Op, a: i64, b: i64) -> Result<Value, PrimFault>
+    ensures { Answers (rules.computed op a b) result }
+{
+    match op {
+        Op::Add => sum(alloc, a, b),
+        Op::Sub => difference(alloc, a, b),
+        Op::Mul => product(alloc, a, b),
+        Op::Div => quotient(alloc, a, b),
+        Op::Mod => remainder(alloc, a, b),
+        Op::Cat | Op::Eq | Op::Ne | Op::Lt | Op::Le | Op::Gt | Op::Ge | Op::Cons => Err(
+            PrimFault::Unfit,
+        ),
+    }
+}

@@ -1,0 +1,39 @@
+ghost use Rattle.std.specs.Prelude.{◌≡◌, ◌-◌, slice_get};
+ghost use Rattle.std.specs.Option.{option_copied};
+ghost use Rattle.plan_base.specs.declared.tree.Value.{out-Value};
+ghost use Rattle.plan_base.specs.declared.tree.Value.TheOpen.{Value-F as layer};
+ghost use Rattle.value_rules.specs.Rules as rules;
+ghost use Rattle.plan_values.specs.Answers.{Answers};
+
+use crate::PrimFault;
+use plan_base::{Value, Values};
+use std::alloc::Global;
+
+/// A copy of the part of a tuple with number `i`, from 1, or `Unfit` where `v` has no such part.
+#[tactic(auto, unfolding(value_rules::specs::Rules::part), using(plan_base::specs::Trees::trees))]
+pub fn part(alloc: Global, i: u8, v: &Value) -> Result<Value, PrimFault>
+    ensures { Answers (rules.part i v.now) result }
+{
+    match v {
+        Value::Tuple(parts) => part_at(alloc, i, parts),
+        _ => Err(PrimFault::Unfit),
+    }
+}
+
+fn part_at(alloc: Global, i: u8, parts: &Values) -> Result<Value, PrimFault>
+    ensures { Answers (rules.part_of i (layer.Tuple parts.now)) result }
+{
+    if i == 0 {
+        return Err(PrimFault::Unfit);
+    }
+    copied(alloc, parts.get(i as usize - 1))
+}
+
+fn copied(alloc: Global, v: Option<&Value>) -> Result<Value, PrimFault>
+    ensures { Answers (rules.found (option_copied v.entry)) result }
+{
+    match v {
+        Some(v) => Ok(v.copy(alloc)?),
+        None => Err(PrimFault::Unfit),
+    }
+}

@@ -1,0 +1,176 @@
+ghost use Rattle.std.specs.Prelude.{◌≡◌, IfOk, pos};
+ghost use Rattle.plan_base.specs.declared.prim.Primitive.TheVariants as prim;
+ghost use Rattle.plan_base.specs.declared.tree.Value.{out-Value};
+ghost use Rattle.plan_base.specs.declared.tree.Value.TheVariants as value;
+ghost use Rattle.value_rules.specs.Rules as rules;
+ghost use Rattle.plan_values.specs.Answers.{Answers};
+
+use crate::PrimFault;
+use crate::lists::{blob_part, first_item, later_items};
+use plan_base::{Bytes, Host, NoMemory, Primitive, Text, Value, Values};
+use std::alloc::Global;
+
+/// The value or the exception of the primitive, or `Unfit` where it doesn't take such arguments.
+#[tactic(auto, unfolding(value_rules::specs::Rules::primitive), using(crate::proofs::Arguments::arguments))]
+pub fn primitive(alloc: Global, p: Primitive, args: &Values) -> Result<Value, PrimFault>
+    ensures { Answers (rules.primitive p args.now) result }
+{
+    match args.as_slice() {
+        [a] => of_one(alloc, p, a),
+        [a, b, c] => of_three(alloc, p, a, b, c),
+        _ => Err(PrimFault::Unfit),
+    }
+}
+
+fn of_one(alloc: Global, p: Primitive, a: &Value) -> Result<Value, PrimFault>
+    ensures { Answers (rules.of_one p (out-Value a.now)) result }
+{
+    match p {
+        Primitive::Hd => head(alloc, a),
+        Primitive::Tl => tail(alloc, a),
+        Primitive::Length => length(a),
+        Primitive::IntToString => int_to_string(alloc, a),
+        Primitive::HostToString => host_to_string(alloc, a),
+        Primitive::StringToBlob => string_to_blob(alloc, a),
+        Primitive::BlobLength => blob_length(a),
+        Primitive::BlobPart => Err(PrimFault::Unfit),
+    }
+}
+
+#[tactic(auto, using(plan_base::specs::Trees::trees))]
+fn head(alloc: Global, a: &Value) -> Result<Value, PrimFault>
+    ensures { Answers (rules.of_one prim.Hd (out-Value a.now)) result }
+{
+    match a {
+        Value::List(_, items) => first_item(alloc, items.as_slice()),
+        _ => Err(PrimFault::Unfit),
+    }
+}
+
+#[tactic(auto, using(plan_base::specs::Trees::trees))]
+fn tail(alloc: Global, a: &Value) -> Result<Value, PrimFault>
+    ensures { Answers (rules.of_one prim.Tl (out-Value a.now)) result }
+{
+    match a {
+        Value::List(t, items) => later_items(alloc, t, items.as_slice()),
+        _ => Err(PrimFault::Unfit),
+    }
+}
+
+#[tactic(auto, using(plan_base::specs::Trees::trees))]
+fn length(a: &Value) -> Result<Value, PrimFault>
+    ensures { Answers (rules.of_one prim.Length (out-Value a.now)) result }
+{
+    match a {
+        Value::List(_, items) => counted(items.len()),
+        _ => Err(PrimFault::Unfit),
+    }
+}
+
+/// A count as a number. No memory holds 2^63 of anything.
+fn counted(n: usize) -> Result<Value, PrimFault>
+    ensures { Answers (rules.gives (value.Int (pos n))) result }
+{
+    match i64::try_from(n) {
+        Ok(n) => Ok(Value::Int(n)),
+        Err(_) => Err(PrimFault::NoMemory),
+    }
+}
+
+#[tactic(auto, using(plan_base::specs::Trees::trees))]
+fn int_to_string(alloc: Global, a: &Value) -> Result<Value, PrimFault>
+    ensures { Answers (rules.of_one prim.IntToString (out-Value a.now)) result }
+{
+    match a {
+        Value::Int(n) => Ok(Value::Str(printed_int(alloc, *n)?)),
+        _ => Err(PrimFault::Unfit),
+    }
+}
+
+fn printed_int(alloc: Global, n: i64) -> Result<Text, NoMemory>
+    ensures { IfOk result (λ s. s ≡ rules.printed_int n) }
+{
+    let size = n.unsigned_abs();
+    let text = if n < 0 {
+        format!(in alloc; "~{size}")?
+    } else {
+        format!(in alloc; "{size}")?
+    };
+    Ok(Text::of(text.into_bytes()))
+}
+
+#[tactic(auto, using(plan_base::specs::Trees::trees))]
+fn host_to_string(alloc: Global, a: &Value) -> Result<Value, PrimFault>
+    ensures { Answers (rules.of_one prim.HostToString (out-Value a.now)) result }
+{
+    match a {
+        Value::Host(h) => Ok(Value::Str(printed_host(alloc, *h)?)),
+        _ => Err(PrimFault::Unfit),
+    }
+}
+
+fn printed_host(alloc: Global, h: Host) -> Result<Text, NoMemory>
+    ensures { IfOk result (λ s. s ≡ rules.printed_host h) }
+{
+    let number = h.0;
+    let text = format!(in alloc; "@{number}")?;
+    Ok(Text::of(text.into_bytes()))
+}
+
+#[tactic(auto, using(plan_base::specs::Trees::trees))]
+fn string_to_blob(alloc: Global, a: &Value) -> Result<Value, PrimFault>
+    ensures { Answers (rules.of_one prim.StringToBlob (out-Value a.now)) result }
+{
+    match a {
+        Value::Str(s) => Ok(Value::Blob(Bytes::of(s.copy(alloc)?.into_vec()))),
+        _ => Err(PrimFault::Unfit),
+    }
+}
+
+#[tactic(auto, using(plan_base::specs::Trees::trees))]
+fn blob_length(a: &Value) -> Result<Value, PrimFault>
+    ensures { Answers (rules.of_one prim.BlobLength (out-Value a.now)) result }
+{
+    match a {
+        Value::Blob(b) => counted(b.len()),
+        _ => Err(PrimFault::Unfit),
+    }
+}
+
+#[tactic(auto, using(plan_base::specs::Trees::trees))]
+fn of_three(
+    alloc: Global,
+    p: Primitive,
+    a: &Value,
+    b: &Value,
+    c: &Value,
+) -> Result<Value, PrimFault>
+    ensures { Answers (rules.of_three p (out-Value a.now) (out-Value b.now) (out-Value c.now)) result }
+{
+    match p {
+        Primitive::BlobPart => part_of_blob(alloc, a, b, c),
+        Primitive::Hd
+        | Primitive::Tl
+        | Primitive::Length
+        | Primitive::IntToString
+        | Primitive::HostToString
+        | Primitive::StringToBlob
+        | Primitive::BlobLength => Err(PrimFault::Unfit),
+    }
+}
+
+#[tactic(auto, using(plan_base::specs::Trees::trees))]
+fn part_of_blob(alloc: Global, a: &Value, b: &Value, c: &Value) -> Result<Value, PrimFault>
+    ensures { Answers (rules.of_three prim.BlobPart (out-Value a.now) (out-Value b.now) (out-Value c.now)) result }
+{
+    match a {
+        Value::Blob(bytes) => match b {
+            Value::Int(i) => match c {
+                Value::Int(n) => blob_part(alloc, bytes, *i, *n),
+                _ => Err(PrimFault::Unfit),
+            },
+            _ => Err(PrimFault::Unfit),
+        },
+        _ => Err(PrimFault::Unfit),
+    }
+}
