@@ -9,13 +9,14 @@ use Rattle.plan_meaning.specs.declared.stop.Stop.TheVariants.{Raised}
 use Rattle.plan_meaning.specs.State.{VisitState}
 use Rattle.plan_meaning.specs.Run.{stopped, quiet, raise, weighed, ◌>>=◌}
 use Rattle.plan_meaning.specs.Meaning.{meaning, handled, catches}
+use Rattle.plan_eval.specs.declared.frame.Frame.{Frame}
 use Rattle.plan_eval.specs.declared.frame.Frame.TheVariants as frame
 use Rattle.plan_eval.specs.declared.next.Next.TheVariants as next
 use Rattle.plan_eval.specs.Stack.{Spot, deeper, resume, first_body, first_from}
 use Rattle.plan_eval.specs.Leads.{Leads}
 use Rattle.plan_eval.specs.Nexts.{next_step}
 use Rattle.plan_eval.proofs.Leading.{itself, onward}
-use Rattle.plan_eval.proofs.Delivering.{caught, first_place, first_nowhere, handled_some, handled_none}
+use Rattle.plan_eval.proofs.Delivering.{IsNoTry, caught, raised_part, first_place, first_nowhere, handled_some, handled_none}
 
 none-some : {A : Type 0} {x : A} → ◌≡◌ {A = Option A} None (Some x) → ⊥
 none-some h = cc
@@ -54,3 +55,19 @@ module _ (code : Program) (seen : ℕ) (at : Spot) (s : VisitState) (a : Expr) (
   -- no clause takes it
   pub passed : first_from 1 ks x ≡ None → (resume code seen at (frame.Part n held) (quiet (stopped (Raised x) s))).after ≡ stopped (Raised x) s
   passed none = (caught code seen at s a ks n held x form).same ∙ rw (handled_none code seen at.env ks x (first_nowhere 1 ks x none)) refl
+
+-- ---- what passes an exception on
+
+pub passes_part : (code : Program) (seen : ℕ) (at : Spot) (s : VisitState) (n : ℕ) (held : List Value) (x : Exn) → IsNoTry (out-Expr at.expr)
+    → (resume code seen at (frame.Part n held) (quiet (stopped (Raised x) s))).after ≡ stopped (Raised x) s
+passes_part code seen at s n held x no = (raised_part code seen at s (out-Expr at.expr) no n held x).same
+
+-- a frame of another kind
+abbrev pub IsNoPart : Frame → Type 0
+IsNoPart (frame.Part n held) = ⊥
+IsNoPart _ = Unit {0}
+
+pub passes_frame : (code : Program) (seen : ℕ) (at : Spot) (s : VisitState) (f : Frame) (x : Exn) → IsNoPart f
+    → (resume code seen at f (quiet (stopped (Raised x) s))).after ≡ stopped (Raised x) s
+passes_frame code seen at s (frame.Part n held) x no = absurd no
+passes_frame code seen at s f x no = refl

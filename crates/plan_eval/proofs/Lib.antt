@@ -10,3 +10,7 @@ mod Turning
 mod Naming
 mod Beginning
 mod Catching
+mod Calling
+mod Gathering
+mod Sending
+mod Giving

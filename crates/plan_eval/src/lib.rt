@@ -1,9 +1,25 @@
 //! Visits: the evaluation of a packet's chunk on an explicit stack.
 #![tactic(auto)]
 
+mod apply;
+mod begin;
+mod call;
+mod fold;
 mod frame;
+mod gather;
+mod given;
 mod kind;
+mod machine;
 mod next;
+mod operand;
 mod parts;
 mod place;
+mod pure;
+mod raise;
+mod send;
+#[cfg(test)]
+mod tests;
+mod visiting;
 mod walk;
+
+pub use visiting::visit;

@@ -62,7 +62,7 @@ pub fn argument_of<'a>(name: &Name, params: &[Param], args: &'a [Value]) -> Opti
 
 /// Whether a function of that place takes so many arguments.
 #[tactic(auto, using(crate::proofs::Naming::enters_by, crate::proofs::Naming::enters_none, crate::proofs::Naming::enters_other))]
-fn enters(code: &Program, fun: usize, args: &Values) -> bool
+pub fn enters(code: &Program, fun: usize, args: &Values) -> bool
     ensures yes { IsTrue result → Enters code.now fun args.now }
     ensures no { IsFalse result → (s : VisitState) → (entered meaning code.now fun args.now s).after ≡ stopped Wrong s }
 {

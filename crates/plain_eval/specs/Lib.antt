@@ -1,4 +1,0 @@
-pub mod Stored
-pub mod Meets
-pub mod Evaluates
-pub mod Handlers
