@@ -20,7 +20,7 @@ const PROGRAM_MAX: usize = 65_536;
 pub struct Check;
 
 // The line of a program.
-#[tactic(auto, using(program_text::proofs::Sizes::small_sizes))]
+#[tactic(auto, using(program_text::proofs::Sizes::small_nodes, program_text::proofs::Sizes::small_code))]
 fn sizes_line(alloc: Global, code: &Program) -> Result<String, AllocError>
     requires { Typed code.now }
     ensures { IfOk result (λ line. string_bytes line ≡ sizes_text code.now) }
