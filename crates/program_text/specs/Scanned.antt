@@ -10,16 +10,15 @@ abbrev pub before : List Token → Result (List Token) LexFault → Result (List
 before found (Ok ts) = Ok (found ++ ts)
 before found (Err e) = Err e
 
-mutual
-  -- in at most so many moves
-  abbrev pub scanned : ℕ → ℕ → List ℕ → Result (List Token) LexFault
-  scanned n at [] = Ok []
-  scanned zero at (b ∷ text) = Ok []
-  scanned (suc n) at (b ∷ text) = scanned_on n at (b ∷ text) (move_at at (b ∷ text))
+abbrev pub on_move : Result (Option TokenKind × ℕ) LexFault → (Option TokenKind × ℕ → Result (List Token) LexFault) → Result (List Token) LexFault
+on_move (Ok m) more = more m
+on_move (Err e) more = Err e
 
-  abbrev pub scanned_on : ℕ → ℕ → List ℕ → Result (Option TokenKind × ℕ) LexFault → Result (List Token) LexFault
-  scanned_on n at text (Err e) = Err e
-  scanned_on n at text (Ok m) = before (with_move [] at m.0 m.1) (scanned n m.1 (rest_at at text m.1))
+-- in at most so many moves
+abbrev pub scanned : ℕ → ℕ → List ℕ → Result (List Token) LexFault
+scanned n at [] = Ok []
+scanned zero at (b ∷ text) = Ok []
+scanned (suc n) at (b ∷ text) = on_move (move_at at (b ∷ text)) (λ m. before (with_move [] at m.0 m.1) (scanned n m.1 (rest_at at (b ∷ text) m.1)))
 
 -- each move takes a byte
 unfoldable pub tokens_of : List ℕ → Result (List Token) LexFault
