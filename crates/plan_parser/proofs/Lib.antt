@@ -1,3 +1,4 @@
 pub mod Declarations
 pub mod Items
 pub mod Answered
+pub mod FormedPrograms
