@@ -8,11 +8,11 @@ ghost use Rattle.plain_eval.specs.Evaluates.{Evaluates};
 
 use crate::bindings::bound;
 use crate::evaluator::Evaluator;
-use crate::found::{place_in, place_of, prim_of, service_of};
+use crate::found::place_among;
 use crate::operate::primitive;
 use crate::serving::served;
 use crate::state::State;
-use plan_base::{Chunk, Expr, Name, Program, Value, Values};
+use plan_base::{Chunk, Expr, Name, Program, Value, Values, place_of, prim_of, service_of};
 use plan_items::Items;
 use plan_meaning::{Env, Stop};
 use service_api::Services;
@@ -92,7 +92,7 @@ impl<
         ensures offer { (S.stands svc.new).offer ≡ (S.stands svc.old).offer }
         ensures begun { (S.stands svc.new).begun ≡ (S.stands svc.old).begun }
     {
-        match place_of(f, seen, code.funs.as_slice()) {
+        match place_among(f, seen, code.funs.as_slice()) {
             Some(at) => self.entered(code, state, svc, at, args),
             None => Err(Stop::Wrong),
         }
@@ -156,7 +156,7 @@ impl<
         ensures offer { (S.stands svc.new).offer ≡ (S.stands svc.old).offer }
         ensures begun { (S.stands svc.new).begun ≡ (S.stands svc.old).begun }
     {
-        match place_in(&chunk.entry, chunk.code.funs.as_slice()) {
+        match place_of(&chunk.entry, chunk.code.funs.as_slice()) {
             Some(at) => self.entered(&chunk.code, state, svc, at, &chunk.args),
             None => Err(Stop::Wrong),
         }

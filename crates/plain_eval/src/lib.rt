@@ -20,7 +20,7 @@ mod visiting;
 
 pub use bindings::{bound, value_of};
 pub use evaluator::{Evaluator, run_to};
-pub use found::{catches, handler, place_in, place_of, prim_of, service_of};
+pub use found::{catches, handler, place_among};
 pub use operate::{binary, part, primitive};
 pub use raised::{no_bound, no_route, no_service, not_neighbour, too_large};
 pub use serving::served;

@@ -7,12 +7,13 @@ ghost use Rattle.plan_base.specs.TypingNames as names;
 ghost use Rattle.plan_types.specs.Checks.{Meets, Nests, below};
 
 use crate::checker::Checker;
-use crate::names::{earlier, fun_of, place_of, prim_of, service_of};
+use crate::names::{earlier, fun_of};
 use crate::same::same_type;
 use crate::settle::{items_of, list_of, settled};
 use crate::state::{Scope, State};
 use plan_base::{
-    Expr, Exprs, Name, NoMemory, Param, Place, Primitive, Program, Ty, TypeFault, Tys,
+    Expr, Exprs, Name, NoMemory, Param, Place, Primitive, Program, Ty, TypeFault, Tys, place_of,
+    prim_of, service_of,
 };
 use plan_items::Items;
 use std::alloc::Global;

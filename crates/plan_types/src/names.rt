@@ -1,4 +1,4 @@
-//! How names are found: primitives, exceptions, functions, services and bindings.
+//! How names are found: exceptions, functions and bindings.
 
 ghost use Rattle.std.specs.Prelude.{◌≡◌, not};
 ghost use Rattle.std.specs.Str.{bytes_eq};
@@ -7,40 +7,13 @@ ghost use Rattle.std.specs.Option.{option_copied};
 ghost use Rattle.plan_base.specs.TypingNames as spec;
 ghost use Rattle.plan_base.specs.TypingOrder as order;
 
-use plan_base::{Clause, Fun, Name, Param, Primitive, Program, Svc, Ty};
+use plan_base::{Clause, Fun, Name, Param, Program, Ty, place_of};
 
 /// Whether two names are the same.
 pub fn same_name(a: &Name, b: &Name) -> bool
     ensures { result ≡ bytes_eq a.now b.now }
 {
     a.as_slice() == b.as_slice()
-}
-
-/// The primitive of that name.
-#[tactic(auto, unfolding(plan_base::specs::TypingNames::prim_of))]
-pub fn prim_of(name: &Name) -> Option<Primitive>
-    ensures { result ≡ spec.prim_of name.now }
-{
-    let name = name.as_slice();
-    if name == b"hd".as_slice() {
-        Some(Primitive::Hd)
-    } else if name == b"tl".as_slice() {
-        Some(Primitive::Tl)
-    } else if name == b"length".as_slice() {
-        Some(Primitive::Length)
-    } else if name == b"intToString".as_slice() {
-        Some(Primitive::IntToString)
-    } else if name == b"hostToString".as_slice() {
-        Some(Primitive::HostToString)
-    } else if name == b"stringToBlob".as_slice() {
-        Some(Primitive::StringToBlob)
-    } else if name == b"blobLength".as_slice() {
-        Some(Primitive::BlobLength)
-    } else if name == b"blobPart".as_slice() {
-        Some(Primitive::BlobPart)
-    } else {
-        None
-    }
 }
 
 /// Whether a name stands among others.
@@ -92,13 +65,6 @@ pub fn any_unknown(code: &Program, clauses: &[Clause]) -> bool
     clauses.iter().any(|k| !may_catch(code, &k.name))
 }
 
-/// The place of the first function of that name.
-pub fn place_of(name: &Name, funs: &[Fun]) -> Option<usize>
-    ensures { result ≡ spec.place_of name.now funs.now }
-{
-    funs.iter().position(|f| same_name(&f.name, name))
-}
-
 /// The function of that name, wherever it stands.
 pub fn fun_of<'a>(code: &'a Program, name: &Name) -> Option<&'a Fun>
     ensures { option_copied result ≡ order.fun_of code.now name.now }
@@ -114,13 +80,6 @@ pub fn earlier<'a>(code: &'a Program, seen: usize, name: &Name) -> Option<&'a Fu
     let funs = code.funs.as_slice();
     let before = &funs[..seen.min(funs.len())];
     code.funs.get(place_of(name, before)?)
-}
-
-/// The first declared service of that name.
-pub fn service_of<'a>(name: &Name, svcs: &'a [Svc]) -> Option<&'a Svc>
-    ensures { option_copied result ≡ spec.service_of name.now svcs.now }
-{
-    svcs.iter().find(|d| same_name(&d.name, name))
 }
 
 /// The type of the innermost binding of that name.

@@ -7,11 +7,11 @@ ghost use Rattle.plan_base.specs.TypingOrder as spec;
 ghost use Rattle.plan_types.specs.Checks.{Gives};
 
 use crate::body::checked;
-use crate::names::{has_name, is_built_in, prim_of};
+use crate::names::{has_name, is_built_in};
 use crate::state::{Scope, State};
 use plan_base::{
     Expr, Fun, Funs, Name, Names, NoMemory, Param, Params, Place, Program, Svc, Ty, TypeFault,
-    code_size, copy_names, copy_params, copy_svcs,
+    code_size, copy_names, copy_params, copy_svcs, prim_of,
 };
 use plan_items::Items;
 use std::alloc::Global;

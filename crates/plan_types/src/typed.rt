@@ -57,6 +57,7 @@ impl Checked {
 pub fn annotate(alloc: Global, draft: Draft) -> Result<Checked, TypeFault>
     requires { IsWellFormedProgram draft.program }
     ensures found { IfOk result (λ k. Fills draft.program k × IsChecked k) }
+    ensures answered { IfOk result (λ k. answer draft.program ≡ Ok k) }
     ensures only { (p : Code) → Fills draft.program p → Typed p → MatchResult result (λ k. k ≡ p) (λ f. f ≡ TypeFault.NoMemory) }
     ensures fault { IfErr result (λ f. f ≢ TypeFault.NoMemory → answer draft.program ≡ Err f) }
 {
