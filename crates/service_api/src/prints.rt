@@ -136,8 +136,7 @@ impl Services for Prints {
 
     #[tactic(auto, using(crate::proofs::Types::nothing_undone))]
     fn abandon(&mut self) {
-        self.is_open = false;
-        self.is_ready = false;
+        *self = Prints::new();
     }
 
     fn expire(&mut self, now: u64) {
