@@ -1,0 +1,26 @@
+-- How an answer follows the meaning.
+use Rattle.std.specs.Prelude.{◌≡◌, ◌≢◌, Result, Ok, Err}
+use Rattle.plan_base.specs.declared.tree.Exn.{Exn}
+use Rattle.plan_base.specs.declared.tree.Value.{Value}
+use Rattle.value_rules.specs.Rules.{Given, gives, raises, unfit}
+use Rattle.plan_meaning.specs.declared.stop.Stop.{Stop}
+use Rattle.plan_meaning.specs.declared.stop.Stop.TheVariants.{Raised, Wrong, NoMemory}
+use Rattle.plan_meaning.specs.State.{VisitState}
+use Rattle.plan_meaning.specs.Run.{gave, stopped, Step}
+
+-- the value and the state, or the stop and the state; of want of memory nothing is said
+abbrev pub Meets : {A : Type 0} → Step A → Result A Stop → VisitState → Type 0
+Meets want (Ok a) new = want.after ≡ gave a new
+Meets want (Err e) new = e ≢ NoMemory → want.after ≡ stopped e new
+
+-- the same of an operator or a primitive
+abbrev pub MeetsGiven : Given → Result Value Stop → Type 0
+MeetsGiven want (Ok v) = want ≡ gives v
+MeetsGiven want (Err (Raised x)) = want ≡ raises x
+MeetsGiven want (Err Wrong) = want ≡ unfit
+MeetsGiven want (Err NoMemory) = Unit {0}
+MeetsGiven want (Err _) = ⊥
+
+-- the exception, or want of memory
+abbrev pub RaisesOnly : Exn → Stop → Type 0
+RaisesOnly x e = e ≢ NoMemory → e ≡ Raised x

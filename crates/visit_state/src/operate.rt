@@ -1,0 +1,42 @@
+ghost use Rattle.value_rules.specs.Rules as rules;
+ghost use Rattle.value_rules.specs.Rules.{Given};
+ghost use Rattle.plan_values.specs.Answers.{Answers};
+ghost use Rattle.visit_state.specs.Meets.{MeetsGiven};
+
+use plan_base::{Op, Primitive, Value, Values};
+use plan_meaning::Stop;
+use plan_values::PrimFault;
+use std::alloc::Global;
+
+/// What an operator, a primitive or a part gave, as the end of an evaluation.
+fn given(answer: Result<Value, PrimFault>) -> Result<Value, Stop>
+    ensures { (want : Given) → Answers want answer → MeetsGiven want result }
+{
+    match answer {
+        Ok(v) => Ok(v),
+        Err(PrimFault::Raises(x)) => Err(Stop::Raised(x)),
+        Err(PrimFault::Unfit) => Err(Stop::Wrong),
+        Err(PrimFault::NoMemory) => Err(Stop::NoMemory),
+    }
+}
+
+/// What `a op b` gives.
+pub fn binary(alloc: Global, op: Op, a: &Value, b: &Value) -> Result<Value, Stop>
+    ensures { MeetsGiven (rules.binary op a.now b.now) result }
+{
+    given(plan_values::binary(alloc, op, a, b))
+}
+
+/// What a primitive gives of its arguments.
+pub fn primitive(alloc: Global, p: Primitive, args: &Values) -> Result<Value, Stop>
+    ensures { MeetsGiven (rules.primitive p args.now) result }
+{
+    given(plan_values::primitive(alloc, p, args))
+}
+
+/// What `#i v` gives.
+pub fn part(alloc: Global, i: u8, v: &Value) -> Result<Value, Stop>
+    ensures { MeetsGiven (rules.part i v.now) result }
+{
+    given(plan_values::part(alloc, i, v))
+}

@@ -1,0 +1,60 @@
+ghost use Rattle.std.specs.Prelude.{codes};
+ghost use Rattle.plan_base.specs.Words.{IsName};
+ghost use Rattle.value_rules.specs.Rules.{exception, too_large};
+ghost use Rattle.plan_meaning.specs.Meaning.{no_bound, no_service, no_route, not_neighbour};
+ghost use Rattle.visit_state.specs.Meets.{RaisesOnly};
+
+use plan_base::{Exn, Name};
+use plan_meaning::Stop;
+use std::alloc::Global;
+
+/// The exception of that name. Condition: the word is a name.
+fn raise(alloc: Global, word: &[u8]) -> Stop
+    requires { IsName word.now }
+    ensures { RaisesOnly (exception word.now) result }
+{
+    match Name::of(alloc, word) {
+        Ok(name) => Stop::Raised(Exn(name)),
+        Err(_) => Stop::NoMemory,
+    }
+}
+
+/// `TooLarge`: a value passes the limits of weight or nesting.
+#[tactic(auto, unfolding(plan_base::specs::Words::is_name, plan_base::specs::Words::is_word, plan_base::specs::Words::is_reserved))]
+pub fn too_large(alloc: Global) -> Stop
+    ensures { RaisesOnly too_large result }
+{
+    raise(alloc, b"TooLarge")
+}
+
+/// `NoBound`: the purse does not pay an eval or a send.
+#[tactic(auto, unfolding(plan_base::specs::Words::is_name, plan_base::specs::Words::is_word, plan_base::specs::Words::is_reserved))]
+pub fn no_bound(alloc: Global) -> Stop
+    ensures { RaisesOnly no_bound result }
+{
+    raise(alloc, b"NoBound")
+}
+
+/// `NoService`: no such routing function is offered.
+#[tactic(auto, unfolding(plan_base::specs::Words::is_name, plan_base::specs::Words::is_word, plan_base::specs::Words::is_reserved))]
+pub fn no_service(alloc: Global) -> Stop
+    ensures { RaisesOnly no_service result }
+{
+    raise(alloc, b"NoService")
+}
+
+/// `NoRoute`: no route to the host is known.
+#[tactic(auto, unfolding(plan_base::specs::Words::is_name, plan_base::specs::Words::is_word, plan_base::specs::Words::is_reserved))]
+pub fn no_route(alloc: Global) -> Stop
+    ensures { RaisesOnly no_route result }
+{
+    raise(alloc, b"NoRoute")
+}
+
+/// `NotNeighbor`: the host is not next over the device.
+#[tactic(auto, unfolding(plan_base::specs::Words::is_name, plan_base::specs::Words::is_word, plan_base::specs::Words::is_reserved))]
+pub fn not_neighbour(alloc: Global) -> Stop
+    ensures { RaisesOnly not_neighbour result }
+{
+    raise(alloc, b"NotNeighbor")
+}
