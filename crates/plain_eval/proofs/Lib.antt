@@ -1,6 +1,3 @@
-pub mod Options
-pub mod Paying
-pub mod Handling
 pub mod Stages
 pub mod Depth
 pub mod Visits

@@ -11,7 +11,7 @@ use Rattle.plan_meaning.specs.declared.stop.Stop.{Stop}
 use Rattle.plan_meaning.specs.State.{VisitState}
 use Rattle.plan_meaning.specs.Run.{Run, gave, spend, weighed, whole}
 use Rattle.plan_meaning.specs.Meaning.{Env, Runs, as_chunk, as_host, as_int, as_dev, send_neighbour, neighbour}
-use Rattle.plain_eval.specs.Meets.{Meets}
+use Rattle.visit_state.specs.Meets.{Meets}
 use Rattle.plain_eval.specs.Told.{and_unit}
 
 pub weighed_last : (p : Run Value) (s s' s'' : VisitState) (u : Unit {0}) (v : Value) (r : Result Value Stop) (new : VisitState)

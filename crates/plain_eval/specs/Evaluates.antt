@@ -10,8 +10,8 @@ use Rattle.plan_meaning.specs.declared.stop.Stop.{Stop}
 use Rattle.plan_meaning.specs.State.{joined}
 use Rattle.plan_meaning.specs.Meaning.{Env, run_to}
 use Rattle.plan_meaning.specs.Safe.{IsSafe}
-use Rattle.plain_eval.specs.declared.state.State.{State}
-use Rattle.plain_eval.specs.Meets.{Meets}
+use Rattle.visit_state.specs.declared.state.State.{State}
+use Rattle.visit_state.specs.Meets.{Meets}
 
 pub record Evaluates {S : Type 0} (stands : S → Standing) (fuel : ℕ)
     (pre : Global → ℕ → Bor Program → ℕ → MutBor Env → MutBor State → MutBor S → Bor Expr → Type 0)

@@ -1,5 +1,2 @@
-pub mod Stored
-pub mod Meets
 pub mod Evaluates
-pub mod Handlers
 pub mod Told

@@ -3,20 +3,16 @@ ghost use Rattle.plan_meaning.specs.State.{joined};
 ghost use Rattle.plan_meaning.specs.Meaning as spec;
 ghost use Rattle.plan_meaning.specs.Meaning.{run_to};
 ghost use Rattle.plan_meaning.specs.Safe.{IsSafe};
-ghost use Rattle.plain_eval.specs.Meets.{Meets};
+ghost use Rattle.visit_state.specs.Meets.{Meets};
 ghost use Rattle.plain_eval.specs.Evaluates.{Evaluates};
 
-use crate::bindings::bound;
 use crate::evaluator::Evaluator;
-use crate::found::place_among;
-use crate::operate::primitive;
-use crate::serving::served;
-use crate::state::State;
 use plan_base::{Chunk, Expr, Name, Program, Value, Values, place_of, prim_of, service_of};
 use plan_items::Items;
 use plan_meaning::{Env, Stop};
 use service_api::Services;
 use std::alloc::Global;
+use visit_state::{State, bound, place_among, primitive, served};
 
 impl<
     S: Services,

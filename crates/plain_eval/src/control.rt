@@ -3,17 +3,15 @@ ghost use Rattle.plan_meaning.specs.State.{joined};
 ghost use Rattle.plan_meaning.specs.Meaning as spec;
 ghost use Rattle.plan_meaning.specs.Meaning.{run_to};
 ghost use Rattle.plan_meaning.specs.Safe.{IsSafe};
-ghost use Rattle.plain_eval.specs.Meets.{Meets};
+ghost use Rattle.visit_state.specs.Meets.{Meets};
 ghost use Rattle.plain_eval.specs.Evaluates.{Evaluates};
 
 use crate::evaluator::Evaluator;
-use crate::found::handler;
-use crate::shapes::as_bool;
-use crate::state::State;
 use plan_base::{Clause, Exn, Expr, Name, Program, Value};
 use plan_meaning::{Binding, Env, Stop};
 use service_api::Services;
 use std::alloc::Global;
+use visit_state::{State, as_bool, handler};
 
 impl<
     S: Services,
@@ -187,7 +185,7 @@ impl<
         outcome
     }
 
-    #[tactic(auto, using(crate::proofs::Handling::handled_caught, crate::proofs::Handling::handled_uncaught))]
+    #[tactic(auto, using(visit_state::proofs::Handling::handled_caught, visit_state::proofs::Handling::handled_uncaught))]
     pub fn handled(
         &self,
         code: &Program,

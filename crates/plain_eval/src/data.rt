@@ -4,18 +4,16 @@ ghost use Rattle.plan_meaning.specs.Run as run;
 ghost use Rattle.plan_meaning.specs.Meaning as spec;
 ghost use Rattle.plan_meaning.specs.Meaning.{run_to};
 ghost use Rattle.plan_meaning.specs.Safe.{IsSafe};
-ghost use Rattle.plain_eval.specs.Meets.{Meets};
+ghost use Rattle.visit_state.specs.Meets.{Meets};
 ghost use Rattle.plain_eval.specs.Evaluates.{Evaluates};
 
-use crate::bindings::value_of;
 use crate::evaluator::Evaluator;
-use crate::operate::{binary, part};
-use crate::state::State;
 use plan_base::{Chunk, Exn, Expr, Name, Op, Program, Ty, Value};
 use plan_items::{Boxed, Items};
 use plan_meaning::{Env, Stop};
 use service_api::Services;
 use std::alloc::Global;
+use visit_state::{State, binary, part, value_of};
 
 impl<
     S: Services,

@@ -2,15 +2,15 @@ ghost use Rattle.std.specs.Prelude.{◌≡◌, IsSome};
 ghost use Rattle.plan_meaning.specs.State.{joined};
 ghost use Rattle.plan_meaning.specs.Meaning.{run_to};
 ghost use Rattle.plan_meaning.specs.Safe.{IsSafe};
-ghost use Rattle.plain_eval.specs.Meets.{Meets};
+ghost use Rattle.visit_state.specs.Meets.{Meets};
 ghost use Rattle.plain_eval.specs.Evaluates.{Evaluates};
 
-use crate::state::State;
 use plan_base::{Expr, Program, Value};
 use plan_meaning::{Env, Stop};
 use service_api::Services;
 use std::alloc::Global;
 use std::marker::PhantomData;
+use visit_state::State;
 
 /// What the cases of the evaluator share: how deep expressions may nest, and the function that evaluates their parts.
 #[derive_where(Clone, Copy; F)]

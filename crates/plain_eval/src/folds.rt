@@ -3,17 +3,16 @@ ghost use Rattle.plan_meaning.specs.State.{joined};
 ghost use Rattle.plan_meaning.specs.Meaning as spec;
 ghost use Rattle.plan_meaning.specs.Meaning.{run_to};
 ghost use Rattle.plan_meaning.specs.Safe.{IsSafe};
-ghost use Rattle.plain_eval.specs.Meets.{Meets};
+ghost use Rattle.visit_state.specs.Meets.{Meets};
 ghost use Rattle.plain_eval.specs.Evaluates.{Evaluates};
 
 use crate::evaluator::Evaluator;
-use crate::shapes::as_items;
-use crate::state::State;
 use plan_base::{Expr, Name, NoMemory, Program, Value, Values, copy_values};
 use plan_items::Items;
 use plan_meaning::{Env, Stop};
 use service_api::Services;
 use std::alloc::Global;
+use visit_state::{State, as_items};
 
 fn pair(alloc: Global, a: &Value, b: &Value) -> Result<Values, NoMemory>
     ensures { IfOk result (λ vs. vs ≡ a.now ∷ b.now ∷ []) }

@@ -4,17 +4,16 @@ ghost use Rattle.plan_meaning.specs.Meaning as spec;
 ghost use Rattle.plan_meaning.specs.Meaning.{run_to};
 ghost use Rattle.plan_meaning.specs.Safe.{IsSafe};
 ghost use Rattle.service_api.specs.Services.{Standing};
-ghost use Rattle.plain_eval.specs.Meets.{Meets};
+ghost use Rattle.visit_state.specs.Meets.{Meets};
 ghost use Rattle.plain_eval.specs.Told.{and_unit};
 ghost use Rattle.plain_eval.specs.Evaluates.{Evaluates};
 
 use crate::evaluator::Evaluator;
-use crate::shapes::{as_chunk, as_dev, as_host, as_int};
-use crate::state::State;
 use plan_base::{Chunk, Dev, Expr, Host, Name, Program, Value};
 use plan_meaning::{Env, Stop};
 use service_api::Services;
 use std::alloc::Global;
+use visit_state::{State, as_chunk, as_dev, as_host, as_int};
 
 /// Sends a chunk to a neighbour, and gives `()`.
 fn sent_next(

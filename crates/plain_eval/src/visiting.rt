@@ -3,13 +3,13 @@ ghost use Rattle.service_api.specs.Services.{IsGoodChunk};
 ghost use Rattle.plan_meaning.specs.Visit.{IsVisit, allowance, bounds, spent};
 
 use crate::evaluator::{Evaluator, run_to};
-use crate::state::{ALLOWANCE, State};
 use plan_base::{NoMemory, Packet};
 use plan_items::Items;
 use plan_meaning::{Outcome, Stop, Visit};
 use service_api::{Ctx, Services};
 use std::alloc::Global;
 use std::marker::PhantomData;
+use visit_state::{ALLOWANCE, State};
 
 fn spent(alloc: Global, bound: u32) -> Visit
     ensures { result ≡ spent allowance bound }

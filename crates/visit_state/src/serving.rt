@@ -1,8 +1,8 @@
-ghost use Rattle.std.specs.Prelude.{◌≡◌, IsSome};
+ghost use Rattle.std.specs.Prelude.{◌≡◌, ◌≤◌, IsSome};
 ghost use Rattle.plan_meaning.specs.State.{joined};
 ghost use Rattle.plan_meaning.specs.Run as run;
 ghost use Rattle.plan_meaning.specs.Safe.{IsSafe};
-ghost use Rattle.plain_eval.specs.Meets.{Meets};
+ghost use Rattle.visit_state.specs.Meets.{Meets};
 
 use crate::state::State;
 use plan_base::{Svc, Value, Values};
@@ -23,6 +23,7 @@ pub fn served<S: Services>(
     requires open { IsSome (S.stands svc.old).begun }
     requires safe { IsSafe (run.serve d.now args.now (joined state.old (S.stands svc.old))).asks }
     ensures meets { Meets (run.serve d.now args.now (joined state.old (S.stands svc.old))) result (joined state.new (S.stands svc.new)) }
+    ensures falls { state.new.work ≤ state.old.work }
     ensures offer { (S.stands svc.new).offer ≡ (S.stands svc.old).offer }
     ensures begun { (S.stands svc.new).begun ≡ (S.stands svc.old).begun }
 {

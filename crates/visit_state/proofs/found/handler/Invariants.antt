@@ -1,6 +1,6 @@
 use Rattle.std.proofs.Common.{◌≡◌, length}
-use Rattle.plain_eval.specs.Handlers as spec
-use Rattle.plain_eval.proofs.found.handler.Given as goal
+use Rattle.visit_state.specs.Handlers as spec
+use Rattle.visit_state.proofs.found.handler.Given as goal
 
 abbrev pub invariant-loop-rest : goal.invariant-loop-rest
 invariant-loop-rest l =

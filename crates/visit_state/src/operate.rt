@@ -1,7 +1,7 @@
 ghost use Rattle.value_rules.specs.Rules as rules;
 ghost use Rattle.value_rules.specs.Rules.{Given};
 ghost use Rattle.plan_values.specs.Answers.{Answers};
-ghost use Rattle.plain_eval.specs.Meets.{MeetsGiven};
+ghost use Rattle.visit_state.specs.Meets.{MeetsGiven};
 
 use plan_base::{Op, Primitive, Value, Values};
 use plan_meaning::Stop;

@@ -1,7 +1,7 @@
-use Rattle.std.proofs.Common.{◌≡◌, length, option_copied}
+use Rattle.std.proofs.Common.{◌≡◌, List, [], ◌∷◌, length, IsSome, Option, Some, None, option_copied}
 use Rattle.plan_meaning.specs.Meaning as spec
 use Rattle.std.specs.Option.{option_or}
-use Rattle.plain_eval.proofs.bindings.value_of.Given as goal
+use Rattle.visit_state.proofs.bindings.value_of.Given as goal
 
 abbrev pub invariant-loop-rest : goal.invariant-loop-rest
 invariant-loop-rest l =

@@ -1,5 +1,5 @@
 use Rattle.value_rules.specs.Rules as rules
-use Rattle.plain_eval.proofs.operate.part.Goals as goal
+use Rattle.visit_state.proofs.operate.part.Goals as goal
 
 pub returns : goal.returns
 returns c = c.given.ensures (rules.part c.args.i c.args.v.now) c.part.ensures

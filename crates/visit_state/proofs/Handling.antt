@@ -8,7 +8,7 @@ use Rattle.plan_base.specs.declared.tree.Value.{Value}
 use Rattle.plan_meaning.specs.State.{VisitState}
 use Rattle.plan_meaning.specs.Run.{Run, raise}
 use Rattle.plan_meaning.specs.Meaning.{Env, Runs, catches, handled}
-use Rattle.plain_eval.specs.Handlers.{handler}
+use Rattle.visit_state.specs.Handlers.{handler}
 
 module _ (run : Runs) (code : Program) (seen : ℕ) (env : Env) where
   abbrev ends_by : Option Expr → Exn → Run Value

@@ -1,6 +1,6 @@
-use Rattle.std.proofs.Common.{◌≡◌, [], length}
+use Rattle.std.proofs.Common.{◌≡◌, List, [], ◌∷◌, length, IsSome, Option, Some, None, option_copied}
 use Rattle.plan_meaning.specs.Meaning as spec
-use Rattle.plain_eval.proofs.bindings.bound.Given as goal
+use Rattle.visit_state.proofs.bindings.bound.Given as goal
 
 abbrev pub invariant-loop-names : goal.invariant-loop-names
 invariant-loop-names l =

@@ -1,11 +1,12 @@
-ghost use Rattle.std.specs.Prelude.{◌≡◌, ◌≤◌, length, [], if◌then◌else◌, Some, None, IfOk, OnOk};
+ghost use Rattle.std.specs.Prelude.{◌≡◌, ◌+◌, ◌≤◌, length, [], if◌then◌else◌, Some, None, IfOk, OnOk};
+ghost use Rattle.plan_base.specs.declared.tree.Value.{Value};
 ghost use Rattle.service_api.specs.Routes.{default_route};
 ghost use Rattle.service_api.specs.Services.{Standing};
-ghost use Rattle.plan_meaning.specs.State.{joined};
+ghost use Rattle.plan_meaning.specs.State.{Own, joined};
 ghost use Rattle.plan_meaning.specs.Run as run;
 ghost use Rattle.plan_meaning.specs.Visit.{allowance, ended};
 ghost use Rattle.plan_meaning.specs.Meaning as spec;
-ghost use Rattle.plain_eval.specs.Meets.{Meets};
+ghost use Rattle.visit_state.specs.Meets.{Meets};
 
 use crate::raised::{no_bound, no_route, no_service, not_neighbour, too_large};
 use plan_base::{Chunk, Dev, Family, Host, Name, NoMemory, Packet, Value, nesting, weight};
@@ -32,7 +33,7 @@ pub struct State {
 impl Model for State {
     ghost use Rattle.std.specs.Prelude.{◌+◌, ◌<◌, ◌≤◌, ◌^◌, length};
     ghost use Rattle.plan_meaning.specs.State.{Own};
-    ghost use Rattle.plain_eval.specs.Stored.{own_code};
+    ghost use Rattle.visit_state.specs.Stored.{own_code};
 
     ghost Value = { Own };
 
@@ -138,7 +139,9 @@ impl State {
     /// Spends work.
     #[tactic(auto, unfolding(plan_meaning::specs::Run::spend))]
     pub fn spend(&mut self, n: u64) -> Result<(), Stop>
-        ensures { (s : Standing) → Meets (run.spend n (joined self.old s)) result (joined self.new s) }
+        ensures meets { (s : Standing) → Meets (run.spend n (joined self.old s)) result (joined self.new s) }
+        ensures spends { OnOk result (self.new.work + n ≡ self.old.work) }
+        ensures falls { self.new.work ≤ self.old.work }
     {
         if self.work < n {
             return Err(Stop::WorkSpent);
@@ -150,7 +153,8 @@ impl State {
     /// Refuses a value over the limits, and spends the weight of another.
     #[tactic(auto, unfolding(plan_meaning::specs::Run::weighed, plan_meaning::specs::Run::is_too_large))]
     pub fn weighed(&mut self, alloc: Global, v: Value) -> Result<Value, Stop>
-        ensures { (s : Standing) → Meets (run.weighed v (joined self.old s)) result (joined self.new s) }
+        ensures meets { (s : Standing) → Meets (run.weighed v (joined self.old s)) result (joined self.new s) }
+        ensures falls { self.new.work ≤ self.old.work }
     {
         if is_too_large(&v) {
             return Err(too_large(alloc));
@@ -162,7 +166,8 @@ impl State {
     /// Pays for an eval.
     #[tactic(auto, unfolding(plan_meaning::specs::Meaning::pay_eval))]
     pub fn pay_eval(&mut self, alloc: Global) -> Result<(), Stop>
-        ensures { (s : Standing) → Meets (spec.pay_eval (joined self.old s)) result (joined self.new s) }
+        ensures meets { (s : Standing) → Meets (spec.pay_eval (joined self.old s)) result (joined self.new s) }
+        ensures falls { self.new.work ≤ self.old.work }
     {
         if self.ctx.purse == 0 {
             return Err(no_bound(alloc));
@@ -182,7 +187,8 @@ impl State {
         route: &Name,
     ) -> Result<(), Stop>
         requires { n ≤ self.old.ctx.purse }
-        ensures { (s : Standing) → Meets (spec.sent dev chunk.now host n route.now (joined self.old s)) result (joined self.new s) }
+        ensures meets { (s : Standing) → Meets (spec.sent dev chunk.now host n route.now (joined self.old s)) result (joined self.new s) }
+        ensures falls { self.new.work ≤ self.old.work }
     {
         let packet = Packet {
             family: self.family,
@@ -206,7 +212,8 @@ impl State {
         n: i64,
         route: &Name,
     ) -> Result<(), Stop>
-        ensures { (s : Standing) → Meets (spec.send_remote chunk.now host n route.now (joined self.old s)) result (joined self.new s) }
+        ensures meets { (s : Standing) → Meets (spec.send_remote chunk.now host n route.now (joined self.old s)) result (joined self.new s) }
+        ensures falls { self.new.work ≤ self.old.work }
     {
         let Some(bound) = paid(n, self.ctx.purse) else {
             return Err(no_bound(alloc));
@@ -239,7 +246,8 @@ impl State {
         n: i64,
         dev: Dev,
     ) -> Result<(), Stop>
-        ensures { (s : Standing) → Meets (spec.send_neighbour chunk.now host n dev (joined self.old s)) result (joined self.new s) }
+        ensures meets { (s : Standing) → Meets (spec.send_neighbour chunk.now host n dev (joined self.old s)) result (joined self.new s) }
+        ensures falls { self.new.work ≤ self.old.work }
     {
         let Some(bound) = paid(n, self.ctx.purse) else {
             return Err(no_bound(alloc));
@@ -253,7 +261,8 @@ impl State {
 
     /// Keeps the note of a service, if it made one.
     pub fn noted(&mut self, note: Option<Note>) -> Result<(), NoMemory>
-        ensures { OnOk result (self.new ≡ record self.old { notes = run.noted note self.old.notes }) }
+        ensures ok { OnOk result (self.new ≡ record self.old { notes = run.noted note self.old.notes }) }
+        ensures falls { self.new.work ≤ self.old.work }
     {
         match note {
             Some(note) => {
