@@ -1,0 +1,4 @@
+pub mod Mores
+pub mod Builds
+pub mod Chains
+pub mod StartLaws

@@ -1,0 +1,10 @@
+pub mod Codes
+pub mod Ahead
+pub mod Begins
+pub mod Types
+pub mod Inside
+pub mod Nodes
+pub mod Joints
+pub mod Exprs
+pub mod Wants
+pub mod Starts
