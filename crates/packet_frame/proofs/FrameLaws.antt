@@ -181,7 +181,7 @@ ends at rest = record { front = record { at = at; rest = rest }; nodes = 0 }
 read_whole : (bytes rest : List ℕ) (x : PlainFrame) → FrameFits x → bytes ≡ frame_bytes x ++ rest → frame_at (begins bytes) ≡ Ok (x, ends (length (frame_bytes x)) rest)
 read_whole bytes rest x fits is = frame_again (begins bytes) (ends (length (frame_bytes x)) rest) x fits (record { parts = is; place = omega arith; count = omega arith }) (omega arith)
 
-spelled_read : (bytes : List ℕ) (x : PlainFrame) → SpellsFrame bytes x → frame_at (begins bytes) ≡ Ok (x, ends (length (frame_bytes x)) [])
+pub spelled_read : (bytes : List ℕ) (x : PlainFrame) → SpellsFrame bytes x → frame_at (begins bytes) ≡ Ok (x, ends (length (frame_bytes x)) [])
 spelled_read bytes x h = read_whole bytes [] x h.fits (h.is ∙ sym (append-nil (frame_bytes x)))
 
 module _ (bytes : List ℕ) (x : PlainFrame) (s : Scan) (read : frame_at (begins bytes) ≡ Ok (x, s)) where

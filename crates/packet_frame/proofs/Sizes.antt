@@ -1,4 +1,4 @@
-use Rattle.std.proofs.Common.{◌≡◌, ℕ, ◌+◌, ◌*◌, ◌<◌, ◌≤◌, List, [], ◌∷◌, ◌++◌, length, drop, get_or, length-append, Bool, true, false, refl, ap, arith}
+use Rattle.std.proofs.Common.{◌≡◌, ℕ, ◌+◌, ◌*◌, ◌<◌, ◌≤◌, List, [], ◌∷◌, ◌++◌, length, drop, get_or, length-append, Bool, true, false, refl, ap, subst, arith, ◌^◌}
 use Rattle.std.specs.Prelude.{◌&&◌, nat_le}
 use Rattle.std.specs.List.{flat_map}
 use Rattle.std.specs.Int.{w16, w32, w64, to_be_bytes}
@@ -6,6 +6,8 @@ use Rattle.std.proofs.lemmas.Bool.{leb-true}
 use Rattle.std.proofs.lemmas.List.{drop_more}
 use Rattle.plan_base.specs.Words.{is_word, is_name, IsName}
 use Rattle.plan_base.specs.Sizes.{chunk_weight}
+use Rattle.plan_base.specs.declared.ids.Family.{Family}
+use Rattle.plan_base.specs.declared.ids.Host.{Host}
 use Rattle.plan_base.specs.declared.tree.Chunk.{Chunk}
 use Rattle.plan_base.specs.declared.tree.Packet.{Packet}
 use Rattle.chunk_spelling.specs.Fields.{name_bytes}
@@ -72,6 +74,24 @@ spells_ask bound c bytes fits e =
     let n = ap length is in
     let chunk = chunk_bytes_small c fits.1.0 in
     record { short = omega (arith, n, chunk); fits = fits; is = is }
+
+-- the same of the parts that were read of a packet and of an ask
+pub packet_spelled : (p : Packet) (bound : ℕ) (family : Family) (dest : Host) (route : List ℕ) (chunk : Chunk) (bytes : List ℕ)
+    → family ≡ p.family → dest ≡ p.dest → route ≡ p.route → chunk ≡ p.chunk
+    → family.source.0 < 2 ^ 32 → family.serial < 2 ^ 64 → dest.0 < 2 ^ 32 → bound ≤ 65535 → IsName route → a_whole_chunk.Fits chunk
+    → bytes ≡ (((((head_bytes 1 ++ to_be_bytes w32 family.source.0) ++ to_be_bytes w64 family.serial) ++ to_be_bytes w32 dest.0) ++ to_be_bytes w32 bound) ++ name_bytes route) ++ chunk_bytes chunk
+    → SpellsFrame bytes (PlainFrame.Packet (record p { bound = bound }))
+packet_spelled p bound family dest route chunk bytes f d r c source serial to few name fits e =
+    let P : PlainFrame → Type 0 = λ x. SpellsFrame bytes x in
+    let q : Packet = record { family = family; dest = dest; bound = bound; route = route; chunk = chunk } in
+    subst P (λ i. PlainFrame.Packet (record { family = f i; dest = d i; bound = bound; route = r i; chunk = c i }))
+    (spells_packet q bytes (source, (serial, (to, (few, (name, (fits, tt)))))) e)
+
+pub ask_spelled : (bound : ℕ) (c chunk : Chunk) (bytes : List ℕ) → chunk ≡ c → bound ≤ 65535 → a_whole_chunk.Fits chunk
+    → bytes ≡ (head_bytes 3 ++ to_be_bytes w32 bound) ++ chunk_bytes chunk → SpellsFrame bytes (PlainFrame.Ask bound c)
+ask_spelled bound c chunk bytes same few fits e =
+    let P : PlainFrame → Type 0 = λ x. SpellsFrame bytes x in
+    subst P (λ i. PlainFrame.Ask bound (same i)) (spells_ask bound chunk bytes (few, (fits, tt)) e)
 
 -- a row that is still to be written has room
 pub row_room : (rows : List AdvertRow) (i : ℕ) → i < length rows → {start : List ℕ} {room : ℕ} {now : List ℕ} {left : ℕ} → length (flat_map row_bytes rows) ≤ room

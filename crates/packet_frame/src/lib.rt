@@ -12,10 +12,9 @@ mod refusal;
 
 pub use checked::{CheckedPacket, Frame, get_frame};
 pub use fault::FrameFault;
-pub use frame::{Advert, AdvertRow, AdvertRows, PlainFrame};
-pub use get::get_plain_frame;
+pub use frame::{Advert, AdvertRow, AdvertRows};
 pub use laws::frame_laws;
-pub use put::{put_advert, put_plain_ask, put_plain_packet};
+pub use put::{put_advert, put_ask, put_packet};
 pub use refusal::FrameRefusal;
 
 #[cfg(test)]

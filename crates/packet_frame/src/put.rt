@@ -1,4 +1,4 @@
-ghost use Rattle.std.specs.Prelude.{◌≡◌, ◌++◌, ◌+◌, ◌≤◌, ◌<◌, ◌∷◌, [], length, IsTrue, IfOk};
+ghost use Rattle.std.specs.Prelude.{◌≡◌, ◌++◌, ◌+◌, ◌≤◌, ◌<◌, ◌^◌, ◌∷◌, [], length, IsTrue, IfOk};
 ghost use Rattle.std.specs.List.{flat_map};
 ghost use Rattle.std.specs.Int.{w16, w32, w64, to_be_bytes};
 ghost use Rattle.chunk_spelling.specs.Values.{chunk_bytes};
@@ -8,9 +8,12 @@ ghost use Rattle.packet_frame.specs.Forms.{FrameFits};
 ghost use Rattle.packet_frame.specs.Frames.{SpellsFrame};
 ghost use Rattle.packet_frame.specs.declared.frame.PlainFrame.{PlainFrame as Plain};
 
+use crate::checked::CheckedPacket;
 use crate::frame::{Advert, AdvertRow};
+use chunk_ranges::may_be_spelled;
+use chunk_types::CheckedChunk;
 use chunk_writer::{put_chunk, put_name};
-use plan_base::{Bytes, Chunk, NoMemory, Packet, chunk_weight};
+use plan_base::{Bytes, Chunk, Family, Host, NoMemory, chunk_weight};
 use std::alloc::Global;
 use wire_bytes::Out;
 
@@ -82,33 +85,56 @@ pub fn put_advert(alloc: Global, a: &Advert) -> Result<Bytes, NoMemory>
     Ok(Bytes::of(out.into_vec()))
 }
 
-/// The frame of a packet with another bound. Conditions: the packet keeps the limits of its spelling, with that bound.
-#[tactic(auto, using(crate::proofs::Sizes::spells_packet, crate::proofs::Sizes::route_short))]
-pub fn put_plain_packet(alloc: Global, p: &Packet, new_bound: u32) -> Result<Bytes, NoMemory>
-    requires { FrameFits (Plain.Packet (record p.now { bound = new_bound })) }
-    ensures { IfOk result (λ b. SpellsFrame b (Plain.Packet (record p.now { bound = new_bound }))) }
+/// The chunk of a checked one, which keeps the limits of its spelling.
+fn spellable(c: &CheckedChunk) -> &Chunk
+    ensures value { result.now ≡ c.now }
+    ensures fits { a_whole_chunk.Fits result.now }
 {
-    let size = 27 + p.route.as_slice().len() as u32 + size_of(&p.chunk);
+    let chunk = c.chunk();
+    may_be_spelled(chunk);
+    chunk
+}
+
+/// Puts what a packet has before its bound: its family and its destination.
+fn put_way(family: Family, dest: Host, out: &mut Out)
+    requires { 16 ≤ out.old.room }
+    ensures bytes { out.new.bytes ≡ ((out.old.bytes ++ to_be_bytes w32 family.source.0) ++ to_be_bytes w64 family.serial) ++ to_be_bytes w32 dest.0 }
+    ensures room { out.new.room + 16 ≡ out.old.room }
+    ensures ranges { (family.source.0 < 2 ^ 32) × (family.serial < 2 ^ 64) × (dest.0 < 2 ^ 32) }
+{
+    out.put_u32(family.source.0);
+    out.put_u64(family.serial);
+    out.put_u32(dest.0);
+}
+
+/// The frame of a packet with another bound. Condition: that bound is at most 65,535.
+#[tactic(auto, using(crate::proofs::Sizes::packet_spelled, crate::proofs::Sizes::route_short))]
+pub fn put_packet(alloc: Global, packet: &CheckedPacket, new_bound: u32) -> Result<Bytes, NoMemory>
+    requires { new_bound ≤ 65535 }
+    ensures { IfOk result (λ b. SpellsFrame b (Plain.Packet (record packet.now { bound = new_bound }))) }
+{
+    let chunk = spellable(packet.chunk());
+    let route = packet.route();
+    let size = 27 + route.as_slice().len() as u32 + size_of(chunk);
     let mut out = Out::with_room(alloc, size)?;
     put_head(1, &mut out);
-    out.put_u32(p.family.source.0);
-    out.put_u64(p.family.serial);
-    out.put_u32(p.dest.0);
+    put_way(packet.family(), packet.dest(), &mut out);
     out.put_u32(new_bound);
-    put_name(&p.route, &mut out);
-    put_carried(&p.chunk, &mut out);
+    put_name(route, &mut out);
+    put_carried(chunk, &mut out);
     Ok(Bytes::of(out.into_vec()))
 }
 
-/// The frame of an ask. Conditions: the bound is at most 65,535, and the chunk keeps the limits of its spelling.
-#[tactic(auto, using(crate::proofs::Sizes::spells_ask))]
-pub fn put_plain_ask(alloc: Global, bound: u32, c: &Chunk) -> Result<Bytes, NoMemory>
-    requires { FrameFits (Plain.Ask bound c.now) }
+/// The frame of an ask. Condition: the bound is at most 65,535.
+#[tactic(auto, using(crate::proofs::Sizes::ask_spelled))]
+pub fn put_ask(alloc: Global, bound: u32, c: &CheckedChunk) -> Result<Bytes, NoMemory>
+    requires { bound ≤ 65535 }
     ensures { IfOk result (λ b. SpellsFrame b (Plain.Ask bound c.now)) }
 {
-    let mut out = Out::with_room(alloc, 10 + size_of(c))?;
+    let chunk = spellable(c);
+    let mut out = Out::with_room(alloc, 10 + size_of(chunk))?;
     put_head(3, &mut out);
     out.put_u32(bound);
-    put_carried(c, &mut out);
+    put_carried(chunk, &mut out);
     Ok(Bytes::of(out.into_vec()))
 }
