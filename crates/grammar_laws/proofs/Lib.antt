@@ -1,0 +1,14 @@
+pub mod TokenFacts
+pub mod ReadSteps
+pub mod ReadLists
+pub mod TypesRead
+pub mod ExprsRead
+pub mod Follows
+pub mod SoFar
+pub mod Forms
+pub mod TypesAre
+pub mod Shorters
+pub mod ExprsAre
+pub mod Works
+pub mod TypesWork
+pub mod ExprsWork

@@ -1,0 +1,216 @@
+-- What must be read, in order, and what the first step that fails answers.
+use Rattle.std.specs.Prelude.{◌+◌, ℕ, zero, suc, max, Bool, List, [], ◌∷◌, nat_lt, Option, Some, None, is_some, Result, Ok, Err, if◌then◌else◌}
+use Rattle.read_laws.specs.Agenda.{FirstFault}
+use Rattle.plan_base.specs.declared.limit.Limit.{Limit}
+use Rattle.plan_base.specs.declared.limit.Limit.TheVariants as limits
+use Rattle.plan_base.specs.declared.tree.Ty.{Ty}
+use Rattle.plan_base.specs.Sizes.{type_depth}
+use Rattle.plan_lexer.specs.declared.token.TokenKind.{TokenKind}
+use Rattle.plan_lexer.specs.declared.token.TokenKind.TheVariants as kinds
+use Rattle.plan_lexer.specs.declared.token.Key.{Key}
+use Rattle.plan_lexer.specs.declared.token.Key.TheVariants as keys
+use Rattle.plan_lexer.specs.declared.token.Symbol.{Symbol}
+use Rattle.plan_lexer.specs.declared.token.Symbol.TheVariants as symbols
+use Rattle.plan_grammar.specs.declared.fault.ParseFault.{ParseFault}
+use Rattle.plan_grammar.specs.declared.fault.ParseFault.TheVariants.{Expected, TooDeep}
+use Rattle.plan_grammar.specs.declared.fault.Wanted.{Wanted}
+use Rattle.plan_grammar.specs.declared.fault.Wanted.TheVariants as wanted
+use Rattle.plan_grammar.specs.declared.joint.Chain.{Chain}
+use Rattle.plan_grammar.specs.declared.joint.Chain.TheVariants as chains
+use Rattle.plan_grammar.specs.Ahead.{Front, place, behind, next_kind, is_symbol, is_key}
+use Rattle.plan_grammar.specs.Begins.{kind_type, begins_type, begins_operand, begins_expr}
+use Rattle.plan_grammar.specs.Types.{past}
+use Rattle.plan_grammar.specs.Joints.{joint_of}
+use Rattle.plan_grammar.specs.Exprs.{begins_clause}
+
+-- what an opening bracket may belong to
+pub data Form : Type 0 where
+  a_call : Form
+  a_fold : Form
+  an_eval : Form
+  on_remote : Form
+  on_neighbor : Form
+
+-- what must be read; r constructs may still open, and `left` more items may follow
+pub data Item : Type 0 where
+  -- a symbol, a reserved word, a name
+  sym : Symbol → Item
+  word : Key → Item
+  a_name : Item
+  -- a type; the words `list` behind one of that depth which began there; behind the first type in brackets, and behind
+  -- further ones, before and after the depth of the type that was just read is known
+  a_type : ℕ → Item
+  lists : ℕ → ℕ → Item
+  first_type : ℕ → ℕ → Item
+  behind_first : ℕ → ℕ → ℕ → Item
+  next_type : ℕ → ℕ → ℕ → ℕ → Item
+  behind_next : ℕ → ℕ → ℕ → ℕ → Item
+  -- an expression, and what each level is made of
+  whole : ℕ → Item
+  maybe_next : ℕ → Item
+  low : ℕ → Item
+  chain : Chain → ℕ → Item
+  more_of : Chain → ℕ → Item
+  negated : ℕ → Item
+  compared : ℕ → Item
+  maybe_compared : ℕ → Item
+  listed : ℕ → Item
+  maybe_listed : ℕ → Item
+  operand : ℕ → Item
+  -- behind a name, `(`, `[` and `raise`; a bracket that must open; arguments behind it; further items
+  maybe_call : ℕ → Item
+  behind_paren : ℕ → Item
+  behind_bracket : ℕ → Item
+  behind_raise : ℕ → Item
+  open_bracket : ℕ → Form → Item
+  args : ℕ → Item
+  more_items : Limit → ℕ → ℕ → Item
+  -- further `val`; a clause and those behind it
+  more_vals : ℕ → Item
+  clauses : ℕ → ℕ → Item
+  maybe_clause : ℕ → ℕ → Item
+
+-- what was taken, and where the reading goes on
+abbrev pub Step : Type 0
+Step = Result (List Item × Front) ParseFault
+
+abbrev pub expected : Wanted → Front → Step
+expected what f = Err (Expected what (place f))
+
+-- a construct opens here, if one more may
+abbrev pub enter : ℕ → Front → (ℕ → List Item) → Front → Step
+enter zero at items f = Err (TooDeep (place at))
+enter (suc r) at items f = Ok (items r, f)
+
+-- the depth of a type that ends is handed to what waits for it
+abbrev pub hand : ℕ → List Item → List Item
+hand deep (first_type r start ∷ more) = behind_first r start deep ∷ more
+hand deep (next_type r start left deepest ∷ more) = behind_next r start left (max deepest deep) ∷ more
+hand deep more = more
+
+-- what a chain joins
+abbrev pub side : Chain → ℕ → Item
+side chains.Or r = chain chains.And r
+side chains.And r = negated r
+side chains.Comparison r = listed r
+side chains.Sum r = chain chains.Product r
+side chains.Product r = operand r
+
+-- one `val`
+abbrev pub a_val : ℕ → List Item → List Item
+a_val r more = word keys.Val ∷ a_name ∷ sym symbols.Colon ∷ a_type r ∷ sym symbols.Equal ∷ whole r ∷ more
+
+-- what stands behind the bracket of a form
+abbrev pub inside : Form → ℕ → List Item → List Item
+inside a_call r more = args r ∷ more
+inside a_fold r more = a_name ∷ sym symbols.Comma ∷ whole r ∷ sym symbols.Comma ∷ whole r ∷ sym symbols.ParenClose ∷ more
+inside an_eval r more = whole r ∷ sym symbols.ParenClose ∷ more
+inside on_remote r more =
+    whole r ∷ sym symbols.Comma ∷ whole r ∷ sym symbols.Comma ∷ whole r ∷ sym symbols.Comma ∷ a_name ∷ sym symbols.ParenClose ∷ more
+inside on_neighbor r more =
+    whole r ∷ sym symbols.Comma ∷ whole r ∷ sym symbols.Comma ∷ whole r ∷ sym symbols.Comma ∷ whole r ∷ sym symbols.ParenClose ∷ more
+
+-- what a reserved word, a symbol or another token begins as an operand
+abbrev pub key_step : ℕ → List Item → Front → Key → Step
+key_step r more f keys.Let = enter r f (λ q. a_val q (more_vals q ∷ word keys.In ∷ whole q ∷ word keys.End ∷ more)) (behind f)
+key_step r more f keys.Try = enter r f (λ q. whole q ∷ word keys.Handle ∷ clauses q 8 ∷ word keys.End ∷ more) (behind f)
+key_step r more f keys.Raise = Ok (behind_raise r ∷ more, behind f)
+key_step r more f keys.Foldl = Ok (open_bracket r a_fold ∷ more, behind f)
+key_step r more f keys.Foldr = Ok (open_bracket r a_fold ∷ more, behind f)
+key_step r more f keys.Eval = Ok (open_bracket r an_eval ∷ more, behind f)
+key_step r more f keys.OnRemote = Ok (open_bracket r on_remote ∷ more, behind f)
+key_step r more f keys.OnNeighbor = Ok (open_bracket r on_neighbor ∷ more, behind f)
+key_step r more f keys.True = Ok (more, behind f)
+key_step r more f keys.False = Ok (more, behind f)
+key_step r more f _ = expected wanted.AnExpr f
+
+abbrev pub symbol_step : ℕ → List Item → Front → Symbol → Step
+symbol_step r more f symbols.ParenOpen = enter r f (λ q. behind_paren q ∷ more) (behind f)
+symbol_step r more f symbols.BracketOpen = enter r f (λ q. behind_bracket q ∷ more) (behind f)
+symbol_step r more f symbols.Bar = Ok (a_name ∷ sym symbols.Bar ∷ open_bracket r a_call ∷ more, behind f)
+symbol_step r more f _ = expected wanted.AnExpr f
+
+abbrev pub operand_step : ℕ → List Item → Front → Option TokenKind → Step
+operand_step r more f None = expected wanted.AnExpr f
+operand_step r more f (Some (kinds.Word _)) = Ok (maybe_call r ∷ more, behind f)
+operand_step r more f (Some (kinds.Key k)) = key_step r more f k
+operand_step r more f (Some (kinds.Symbol s)) = symbol_step r more f s
+operand_step r more f (Some (kinds.Part _)) = enter r f (λ q. operand q ∷ more) (behind f)
+operand_step r more f (Some _) = Ok (more, behind f)
+
+-- a name, or a type that one token is
+abbrev pub name_step : List Item → Front → Option TokenKind → Step
+name_step more f (Some (kinds.Word _)) = Ok (more, behind f)
+name_step more f _ = expected wanted.AName f
+
+abbrev pub type_step : List Item → Front → Option Ty → Step
+type_step more f (Some t) = Ok (lists (place f) (type_depth t) ∷ more, behind f)
+type_step more f None = expected wanted.AType f
+
+-- a right side that begins there opens a construct
+abbrev pub right_side : (Front → Bool) → ℕ → (ℕ → List Item) → Front → Step
+right_side begins r items f = if begins f then enter r f items f else expected wanted.AnExpr f
+
+-- what is read from the first item of the agenda
+unfoldable pub step : Item → List Item → Front → Step
+step (sym w) more f = if is_symbol w f then Ok (more, behind f) else expected (wanted.Symbol w) f
+step (word k) more f = if is_key k f then Ok (more, behind f) else expected (wanted.Key k) f
+step a_name more f = name_step more f (next_kind f)
+step (a_type r) more f =
+    if is_symbol symbols.ParenOpen f then enter r f (λ q. a_type q ∷ first_type q (place f) ∷ more) (behind f) else type_step more f (kind_type (next_kind f))
+step (lists start deep) more f =
+    if is_key keys.List f then Ok (lists start (deep + 1) ∷ more, behind f)
+    else if nat_lt 8 deep then Err (TooDeep start)
+    else Ok (hand deep more, f)
+step (first_type r start) more f = Ok (more, f)
+step (behind_first r start deep) more f =
+    if is_symbol symbols.Star f then Ok (behind_next r start 7 deep ∷ more, f) else Ok (sym symbols.ParenClose ∷ lists start deep ∷ more, f)
+step (next_type r start left deepest) more f = Ok (more, f)
+step (behind_next r start zero deepest) more f =
+    if is_symbol symbols.Star f then Err (past begins_type limits.Parts wanted.AType (behind f)) else Ok (sym symbols.ParenClose ∷ lists start (1 + deepest) ∷ more, f)
+step (behind_next r start (suc left) deepest) more f =
+    if is_symbol symbols.Star f then Ok (a_type r ∷ next_type r start left deepest ∷ more, behind f) else Ok (sym symbols.ParenClose ∷ lists start (1 + deepest) ∷ more, f)
+step (whole r) more f = Ok (low r ∷ maybe_next r ∷ more, f)
+step (maybe_next r) more f = if is_symbol symbols.Semicolon f then right_side begins_expr r (λ q. whole q ∷ more) (behind f) else Ok (more, f)
+step (low r) more f =
+    if is_key keys.If f then enter r f (λ q. whole q ∷ word keys.Then ∷ low q ∷ word keys.Else ∷ low q ∷ more) (behind f)
+    else Ok (chain chains.Or r ∷ more, f)
+step (chain c r) more f = Ok (side c r ∷ more_of c r ∷ more, f)
+step (more_of c r) more f = if is_some (joint_of c (next_kind f)) then Ok (side c r ∷ more_of c r ∷ more, behind f) else Ok (more, f)
+step (negated r) more f = if is_key keys.Not f then enter r f (λ q. negated q ∷ more) (behind f) else Ok (compared r ∷ more, f)
+step (compared r) more f = Ok (listed r ∷ maybe_compared r ∷ more, f)
+step (maybe_compared r) more f = if is_some (joint_of chains.Comparison (next_kind f)) then Ok (listed r ∷ more, behind f) else Ok (more, f)
+step (listed r) more f = Ok (chain chains.Sum r ∷ maybe_listed r ∷ more, f)
+step (maybe_listed r) more f = if is_symbol symbols.DoubleColon f then right_side begins_operand r (λ q. listed q ∷ more) (behind f) else Ok (more, f)
+step (operand r) more f = operand_step r more f (next_kind f)
+step (maybe_call r) more f = if is_symbol symbols.ParenOpen f then Ok (open_bracket r a_call ∷ more, f) else Ok (more, f)
+step (open_bracket r form) more f =
+    if is_symbol symbols.ParenOpen f then enter r f (λ q. inside form q more) (behind f) else expected (wanted.Symbol symbols.ParenOpen) f
+step (args r) more f =
+    if is_symbol symbols.ParenClose f then Ok (more, behind f)
+    else if begins_expr f then Ok (whole r ∷ more_items limits.Arguments r 7 ∷ sym symbols.ParenClose ∷ more, f)
+    else expected (wanted.Symbol symbols.ParenClose) f
+step (behind_paren r) more f =
+    if is_symbol symbols.ParenClose f then Ok (more, behind f)
+    else if begins_expr f then Ok (whole r ∷ more_items limits.Parts r 7 ∷ sym symbols.ParenClose ∷ more, f)
+    else expected (wanted.Symbol symbols.ParenClose) f
+step (behind_bracket r) more f =
+    if is_symbol symbols.BracketClose f then Ok (more, behind f)
+    else if is_symbol symbols.Colon f then Ok (a_type r ∷ sym symbols.BracketClose ∷ more, behind f)
+    else if begins_expr f then Ok (whole r ∷ more_items limits.Items r 62 ∷ sym symbols.BracketClose ∷ more, f)
+    else expected (wanted.Symbol symbols.BracketClose) f
+step (behind_raise r) more f =
+    if is_symbol symbols.BracketOpen f then enter r f (λ q. sym symbols.Colon ∷ a_type q ∷ sym symbols.BracketClose ∷ a_name ∷ more) (behind f)
+    else Ok (a_name ∷ more, f)
+step (more_items limit r zero) more f = if is_symbol symbols.Comma f then Err (past begins_expr limit wanted.AnExpr (behind f)) else Ok (more, f)
+step (more_items limit r (suc left)) more f = if is_symbol symbols.Comma f then Ok (whole r ∷ more_items limit r left ∷ more, behind f) else Ok (more, f)
+step (more_vals r) more f = if is_key keys.Val f then Ok (a_val r (more_vals r ∷ more), f) else Ok (more, f)
+step (clauses r zero) more f = Err (past begins_clause limits.Clauses wanted.AName f)
+step (clauses r (suc left)) more f =
+    if is_symbol symbols.Underscore f then Ok (sym symbols.FatArrow ∷ whole r ∷ more, behind f)
+    else Ok (a_name ∷ sym symbols.FatArrow ∷ whole r ∷ maybe_clause r left ∷ more, f)
+step (maybe_clause r left) more f = if is_symbol symbols.Bar f then Ok (clauses r left ∷ more, behind f) else Ok (more, f)
+
+-- the first refusal of an agenda that begins with that item alone
+abbrev pub FirstRefusal : ParseFault → Item → Front → Type 0
+FirstRefusal e i f = FirstFault step e (i ∷ []) f

@@ -1,0 +1,4 @@
+pub mod Grammar
+pub mod Follow
+pub mod Agenda
+pub mod Answers
