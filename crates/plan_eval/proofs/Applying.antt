@@ -1,0 +1,85 @@
+-- What was decided, done on the stack.
+use Rattle.std.proofs.Common.{◌≡◌, ℕ, zero, suc, List, [], ◌∷◌, ◌++◌, slice_get, Option, Some, None, IsSome, refl, sym, ◌∙◌, ap}
+use Rattle.std.proofs.lemmas.Bool.{false≢true}
+use Rattle.plan_base.specs.declared.tree.Program.{Program}
+use Rattle.plan_base.specs.declared.tree.Value.{Value}
+use Rattle.plan_base.specs.declared.tree.Exn.{Exn}
+use Rattle.plan_meaning.specs.declared.stop.Stop.TheVariants.{Raised}
+use Rattle.plan_meaning.specs.State.{VisitState}
+use Rattle.plan_meaning.specs.Run.{Step, gave, stopped, quiet}
+use Rattle.plan_eval.specs.declared.frame.Frame.{Frame}
+use Rattle.plan_eval.specs.declared.frame.Activation.{Activation}
+use Rattle.plan_eval.specs.declared.frame.Mode.TheVariants as mode
+use Rattle.plan_eval.specs.declared.next.Next.TheVariants as next
+use Rattle.plan_eval.specs.Stack.{Spot, deeper, resume, code_spot, start_of, spot_from, spot_in, ended_in, ended, all_ended, AreLinked, innermost_run, innermost, stands_for}
+use Rattle.plan_eval.specs.Nexts.{run_at, next_step}
+use Rattle.plan_eval.proofs.Stacks.{all_ended_push, ended_push, spot_in_push}
+
+-- the innermost activation
+pub innermost_top : (codes : List Program) (outer : List Activation) (a : Activation) → innermost codes (outer ++ a ∷ []) ≡ innermost_run (slice_get codes a.code) a.fun (spot_in codes a)
+innermost_top codes [] a = refl
+innermost_top codes (b ∷ []) a = refl
+innermost_top codes (b ∷ c ∷ outer) a = innermost_top codes (c ∷ outer) a
+
+runs_there : (code : Program) (seen : ℕ) (at : Option Spot) → innermost_run (Some code) seen at ≡ run_at code seen at
+runs_there code seen (Some at) = refl
+runs_there code seen None = refl
+
+-- a part is opened
+pub opened_on : (codes : List Program) (outer : List Activation) (code : Program) (a : Activation) (at : Spot) (f : Frame) (s : VisitState) → slice_get codes a.code ≡ Some code → spot_in codes a ≡ Some at
+    → all_ended codes outer (ended codes a (next_step code a.fun at (next.Open f) s)) ≡ stands_for codes (outer ++ (record a { frames = a.frames ++ f ∷ [] }) ∷ []) mode.Run s
+unfolding stands_for
+opened_on codes outer code a at f s is there =
+    ap (all_ended codes outer)
+    (ap (λ r. ended codes a (resume code a.fun at f r)) (sym (inside ∙ ap (λ p. p s) (runs_there code a.fun (deeper at f))))
+    ∙ sym (ended_push codes code a at f (innermost codes (outer ++ (record a { frames = a.frames ++ f ∷ [] }) ∷ []) s) is there))
+    ∙ sym (all_ended_push codes outer (record a { frames = a.frames ++ f ∷ [] }) (innermost codes (outer ++ (record a { frames = a.frames ++ f ∷ [] }) ∷ []) s))
+  where
+    inside : innermost codes (outer ++ (record a { frames = a.frames ++ f ∷ [] }) ∷ []) s ≡ innermost_run (Some code) a.fun (deeper at f) s
+    inside = ap (λ p. p s) (innermost_top codes outer (record a { frames = a.frames ++ f ∷ [] })) ∙ rw (is, spot_in_push codes a at f there) refl
+
+-- a value, or an exception, is given to the activation
+pub given_to : (codes : List Program) (outer : List Activation) (a : Activation) (v : Value) (s : VisitState)
+    → stands_for codes (outer ++ a ∷ []) (mode.Give v) s ≡ all_ended codes outer (ended codes a (quiet (gave v s)))
+unfolding stands_for
+given_to codes outer a v s = all_ended_push codes outer a (quiet (gave v s))
+
+pub raised_in : (codes : List Program) (outer : List Activation) (a : Activation) (x : Exn) (s : VisitState)
+    → stands_for codes (outer ++ a ∷ []) (mode.Raise x) s ≡ all_ended codes outer (ended codes a (quiet (stopped (Raised x) s)))
+unfolding stands_for
+raised_in codes outer a x s = all_ended_push codes outer a (quiet (stopped (Raised x) s))
+
+-- ---- more programs
+
+nothing-some : {A : Type 0} {x : A} → ◌≡◌ {A = Option A} None (Some x) → ⊥
+nothing-some h = cc
+
+grown : {A : Type 0} (xs ys : List A) (i : ℕ) (x : A) → slice_get xs i ≡ Some x → slice_get (xs ++ ys) i ≡ Some x
+grown [] ys i x is = absurd (nothing-some is)
+grown (y ∷ xs) ys zero x is = is
+grown (y ∷ xs) ys (suc i) x is = grown xs ys i x is
+
+from_code : (o : Option Program) (fun : ℕ) (args : List Value) (fs : List Frame) → IsSome (spot_from (code_spot o fun args) fs) → (code : Program) × (o ≡ Some code)
+from_code (Some code) fun args fs h = (code, refl)
+from_code None fun args fs h = absurd (false≢true h)
+
+-- an activation that stands somewhere has its program
+pub program_of : (codes : List Program) (a : Activation) → IsSome (spot_in codes a) → (code : Program) × (slice_get codes a.code ≡ Some code)
+unfolding spot_in start_of
+program_of codes a h = from_code (slice_get codes a.code) a.fun a.args a.frames h
+
+pub spot_in_grown : (codes more : List Program) (a : Activation) → IsSome (spot_in codes a) → spot_in (codes ++ more) a ≡ spot_in codes a
+unfolding spot_in start_of
+spot_in_grown codes more a h =
+    let p = from_code (slice_get codes a.code) a.fun a.args a.frames h in
+    ap (λ o. spot_from (code_spot o a.fun a.args) a.frames) (grown codes more a.code p.0 p.1 ∙ sym p.1)
+
+pub ended_grown : (codes more : List Program) (a : Activation) (r : Step Value) → IsSome (spot_in codes a) → ended (codes ++ more) a r ≡ ended codes a r
+unfolding ended start_of
+ended_grown codes more a r h =
+    let p = program_of codes a h in
+    ap (λ o. ended_in o (code_spot o a.fun a.args) a r) (grown codes more a.code p.0 p.1 ∙ sym p.1)
+
+pub all_ended_grown : (codes more : List Program) (activations : List Activation) (r : Step Value) → AreLinked codes activations → all_ended (codes ++ more) activations r ≡ all_ended codes activations r
+all_ended_grown codes more [] r h = refl
+all_ended_grown codes more (a ∷ rest) r h = ended_grown codes more a _ h.0 ∙ ap (ended codes a) (all_ended_grown codes more rest r h.1)

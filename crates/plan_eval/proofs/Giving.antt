@@ -1,0 +1,78 @@
+-- A value that a frame is given, by what is decided for it.
+use Rattle.std.proofs.Common.{◌≡◌, ℕ, ◌+◌, drop, slice_get, List, [], ◌∷◌, ◌++◌, Some, IsSome, Result}
+use Rattle.plan_base.specs.declared.name.Name.{Name}
+use Rattle.plan_base.specs.declared.tree.Expr.{Expr, Expr-F, out-Expr}
+use Rattle.plan_base.specs.declared.tree.Fun.{Fun}
+use Rattle.plan_base.specs.declared.tree.Program.{Program}
+use Rattle.plan_base.specs.declared.tree.Value.{Value}
+use Rattle.plan_base.specs.Trees.{ExprLayer}
+use Rattle.plan_meaning.specs.declared.stop.Stop.{Stop}
+use Rattle.plan_meaning.specs.State.{VisitState}
+use Rattle.plan_meaning.specs.Run.{gave, quiet, weighed}
+use Rattle.plan_meaning.specs.Safe.{IsSafe}
+use Rattle.plan_eval.specs.declared.frame.Frame.TheVariants as frame
+use Rattle.plan_eval.specs.declared.frame.Activation.{Activation}
+use Rattle.plan_eval.specs.declared.next.Next.{Next}
+use Rattle.plan_eval.specs.Stack.{Spot, resume, spot_in}
+use Rattle.plan_eval.specs.Leads.{Leads}
+use Rattle.plan_eval.specs.Nexts.{Decides, part_gave, fold_on, call_of}
+use Rattle.plan_eval.specs.Turns.{IsAt, spot_at}
+use Rattle.plan_eval.proofs.Leading.{given_on}
+use Rattle.plan_eval.proofs.Delivering.{part_given, item_given}
+use Rattle.plan_eval.proofs.Deciding.{last_of_call}
+use Rattle.plan_eval.proofs.Gathering.{carries_from}
+use Rattle.plan_eval.proofs.Naming.{stands_at}
+
+-- a form without parts, or a `try`
+abbrev pub IsLeaf : ExprLayer → Type 0
+IsLeaf Expr-F.Unit = Unit {0}
+IsLeaf (Expr-F.Bool b) = Unit {0}
+IsLeaf (Expr-F.Int n) = Unit {0}
+IsLeaf (Expr-F.Char c) = Unit {0}
+IsLeaf (Expr-F.Str x) = Unit {0}
+IsLeaf (Expr-F.Blob b) = Unit {0}
+IsLeaf (Expr-F.Host h) = Unit {0}
+IsLeaf (Expr-F.Dev d) = Unit {0}
+IsLeaf (Expr-F.Nil t) = Unit {0}
+IsLeaf (Expr-F.Var x) = Unit {0}
+IsLeaf (Expr-F.Raise x t) = Unit {0}
+IsLeaf (Expr-F.Try a ks) = Unit {0}
+IsLeaf _ = ⊥
+
+module _ (code : Program) (seen : ℕ) (at : Spot) (n : ℕ) (held : List Value) (v : Value) (s : VisitState) where
+  pub by_part : (r : Result Next Stop) (t : VisitState) → Decides code seen at (part_gave code seen at n held v s) r t
+      → Decides code seen at (resume code seen at (frame.Part n held) (quiet (gave v s))) r t
+  by_part r t h = carries_from code seen at _ _ r t (part_given code seen at s (out-Expr at.expr) n held v) h
+
+  leaf_at : (l : ExprLayer) → out-Expr at.expr ≡ l → IsLeaf l → Leads (part_gave code seen at n held v s) (weighed v s)
+  leaf_at Expr-F.Unit form h = rw form (given_on v s weighed)
+  leaf_at (Expr-F.Bool b) form h = rw form (given_on v s weighed)
+  leaf_at (Expr-F.Int i) form h = rw form (given_on v s weighed)
+  leaf_at (Expr-F.Char c) form h = rw form (given_on v s weighed)
+  leaf_at (Expr-F.Str x) form h = rw form (given_on v s weighed)
+  leaf_at (Expr-F.Blob b) form h = rw form (given_on v s weighed)
+  leaf_at (Expr-F.Host x) form h = rw form (given_on v s weighed)
+  leaf_at (Expr-F.Dev d) form h = rw form (given_on v s weighed)
+  leaf_at (Expr-F.Nil t) form h = rw form (given_on v s weighed)
+  leaf_at (Expr-F.Var x) form h = rw form (given_on v s weighed)
+  leaf_at (Expr-F.Raise x t) form h = rw form (given_on v s weighed)
+  leaf_at (Expr-F.Try a ks) form h = rw form (given_on v s weighed)
+  leaf_at _ form h = absurd h
+
+  pub leaf_given : (l : ExprLayer) → out-Expr at.expr ≡ l → IsLeaf l → Leads (part_gave code seen at n held v s) (weighed v s)
+  leaf_given l form h = leaf_at l form h
+
+pub by_item : (code : Program) (seen : ℕ) (at : Spot) (left : List Value) (v : Value) (s : VisitState) (r : Result Next Stop) (t : VisitState)
+    → Decides code seen at (fold_on code seen at v left s) r t → Decides code seen at (resume code seen at (frame.Items left) (quiet (gave v s))) r t
+by_item code seen at left v s r t h = carries_from code seen at _ _ r t (item_given code seen at s left v) h
+
+-- the arguments of a call are good where its expression is safe
+pub safe_call : (codes : List Program) (a : Activation) (code : Program) (g : Fun) (e : Expr) (n : ℕ) (held : List Value) (v : Value) (s : VisitState)
+    → IsAt codes a code g e → IsSome (spot_in codes a)
+    → ((c : Program) (at : Spot) → slice_get codes a.code ≡ Some c → spot_in codes a ≡ Some at → IsSafe (resume c a.fun at (frame.Part n held) (quiet (gave v s))).asks)
+    → (f : Name) (es : List Expr) → out-Expr e ≡ Expr-F.Call f es → drop (n + 1) es ≡ [] → IsSafe (call_of code a.fun f (held ++ v ∷ []) s).asks
+safe_call codes a code g e n held v s here linked safe f es form done =
+    let stands = stands_at codes a code g e here linked in
+    let at = spot_at g a.frames stands.0 e in
+    (last_of_call code a.fun e at.env s f es n held v form done).safe
+    ((part_given code a.fun at s (out-Expr e) n held v).safe (safe code at here.program stands.2))

@@ -1,0 +1,18 @@
+use Rattle.std.proofs.Common.{◌≡◌}
+use Rattle.plan_meaning.specs.State.{joined}
+use Rattle.plan_eval.specs.declared.frame.Mode.TheVariants as mode
+use Rattle.plan_eval.specs.Leads.{Leads}
+use Rattle.plan_eval.specs.Stack.{AreLinked, stands_for}
+use Rattle.plan_eval.specs.Turns.{load}
+use Rattle.plan_eval.proofs.machine.run.Given as goal
+
+abbrev pub invariant-loop-top : goal.invariant-loop-top
+invariant-loop-top g l = record {
+  linked : AreLinked l.programs l.stack;
+  leads : Leads (stands_for l.fn.codes l.fn.activations mode.Run (joined l.fn.state (g.S.Services.stands l.fn.svc))) (stands_for l.programs l.stack l.how (joined l.state (g.S.Services.stands l.svc)));
+  offer : (g.S.Services.stands l.svc).offer ≡ (g.S.Services.stands l.fn.svc).offer;
+  begun : (g.S.Services.stands l.svc).begun ≡ (g.S.Services.stands l.fn.svc).begun;
+}
+
+abbrev pub decreases-loop-top : goal.decreases-loop-top
+decreases-loop-top g l = load l.how l.stack l.state.work

@@ -1,0 +1,5 @@
+pub mod Stack
+pub mod Leads
+pub mod Nexts
+pub mod Turns
+pub mod Forms

@@ -1,0 +1,73 @@
+-- Where an activation stands, and what a turn of a visit does.
+use Rattle.std.specs.Prelude.{◌+◌, ◌*◌, length, sum_by, if◌then◌else◌, ◌≡◌, ◌≢◌, ℕ, List, [], ◌∷◌, ◌++◌, slice_get, Option, Some, IsSome, Result, Ok, Err}
+use Rattle.std.specs.Str.{bytes_eq}
+use Rattle.plan_base.specs.declared.name.Name.{Name}
+use Rattle.plan_base.specs.declared.tree.Expr.{Expr}
+use Rattle.plan_base.specs.declared.tree.Param.{Param}
+use Rattle.plan_base.specs.declared.tree.Fun.{Fun}
+use Rattle.plan_base.specs.declared.tree.Program.{Program}
+use Rattle.plan_base.specs.declared.tree.Value.{Value}
+use Rattle.plan_meaning.specs.declared.stop.Stop.{Stop}
+use Rattle.plan_meaning.specs.declared.stop.Stop.TheVariants.{NoMemory}
+use Rattle.plan_meaning.specs.State.{VisitState}
+use Rattle.plan_meaning.specs.Run.{Step, stopped}
+use Rattle.plan_meaning.specs.Meaning.{Env}
+use Rattle.plan_eval.specs.declared.frame.Frame.{Frame}
+use Rattle.plan_eval.specs.declared.frame.Activation.{Activation}
+use Rattle.plan_eval.specs.declared.frame.Mode.{Mode}
+use Rattle.plan_eval.specs.declared.frame.Mode.TheVariants as mode
+use Rattle.plan_eval.specs.Leads.{Leads}
+use Rattle.plan_eval.specs.Stack.{Spot, deeper, expr_from, env_from, spot_in, AreLinked, stands_for}
+
+-- the program, the function and the innermost open expression of an activation
+pub record IsAt (codes : List Program) (a : Activation) (code : Program) (f : Fun) (e : Expr) : Type 0 where
+  pub program : slice_get codes a.code ≡ Some code
+  pub function : slice_get code.funs a.fun ≡ Some f
+  pub expression : expr_from (Some f.body) a.frames ≡ Some e
+
+-- an expression under the bindings that frames make behind a body's own
+abbrev pub spot_at : Fun → List Frame → Env → Expr → Spot
+spot_at f frames base e = record { expr = e; env = env_from (Some f.body) base frames }
+
+-- an activation of a function that has taken no step
+abbrev pub entry : ℕ → ℕ → List Value → Activation
+entry code fun args = record { code = code; fun = fun; args = args; frames = [] }
+
+-- an activation under one more frame
+abbrev pub under : Activation → Frame → Activation
+under a f = record a { frames = a.frames ++ f ∷ [] }
+
+-- an activation that is off its stack, in a program and at a spot, with the others linked
+pub record Stands (codes : List Program) (outer : List Activation) (a : Activation) (code : Program) (at : Spot) : Type 0 where
+  pub program : slice_get codes a.code ≡ Some code
+  pub spot : spot_in codes a ≡ Some at
+  pub linked : AreLinked codes outer
+
+-- a frame that can be added at a spot
+abbrev pub WaitsFor : Spot → Frame → Type 0
+WaitsFor at f = IsSome (deeper at f)
+
+-- A turn leads from one stack to the next, or the visit ends so. Of want of memory nothing is said.
+abbrev pub Turned : Step Value → Result Mode Stop → List Program → List Activation → VisitState → Type 0
+Turned want (Ok how) codes activations s = Leads want (stands_for codes activations how s) × AreLinked codes activations
+Turned want (Err e) codes activations s = e ≢ NoMemory → want.after ≡ stopped e s
+
+-- what a name is bound to by parameters and arguments in their order, where it was bound to `before`
+abbrev pub argument_of : Name → Option Value → List Param → List Value → Option Value
+argument_of x before (p ∷ ps) (v ∷ vs) = argument_of x (if bytes_eq p.name x then Some v else before) ps vs
+argument_of x before _ _ = before
+
+-- ---- how long a visit can go on
+
+-- open expressions in sum
+abbrev pub frames_in : List Activation → ℕ
+frames_in activations = sum_by (λ a. length a.frames) activations
+
+abbrev pub urge : Mode → ℕ
+urge mode.Run = 0
+urge (mode.Give v) = 2
+urge (mode.Raise x) = 2
+
+-- each turn makes it less
+abbrev pub load : Mode → List Activation → ℕ → ℕ
+load how activations work = 5 * work + 2 * frames_in activations + length activations + urge how

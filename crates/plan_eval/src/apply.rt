@@ -1,0 +1,193 @@
+//! What was decided, done on the stack.
+ghost use Rattle.std.specs.Prelude.{◌≡◌, ◌≢◌, ◌+◌, ◌≤◌, ◌∷◌, ◌++◌, [], ℕ, List, IfOk, OnOk};
+ghost use Rattle.plan_base.specs.declared.tree.Program.{Program};
+ghost use Rattle.service_api.specs.Services.{Standing};
+ghost use Rattle.plan_meaning.specs.declared.stop.Stop.TheVariants as stops;
+ghost use Rattle.plan_meaning.specs.State.{VisitState, joined};
+ghost use Rattle.plan_meaning.specs.Run.{Step, stopped, weighed};
+ghost use Rattle.plan_meaning.specs.Meaning.{entered, meaning};
+ghost use Rattle.plan_eval.specs.declared.frame.Mode.TheVariants as mode;
+ghost use Rattle.plan_eval.specs.declared.next.Next.TheVariants as next;
+ghost use Rattle.plan_eval.specs.Leads.{Leads};
+ghost use Rattle.plan_eval.specs.Stack.{Spot, resume, ended, all_ended};
+ghost use Rattle.plan_eval.specs.Nexts.{CanDo, Decides, Enters, IsDone, next_step};
+ghost use Rattle.plan_eval.specs.Turns.{Stands, Turned, WaitsFor, entry, load, under};
+
+use crate::frame::{Activation, Activations, Codes, Frame, Mode};
+use crate::next::Next;
+use crate::place::enters;
+use plan_base::{Chunk, NoMemory, Value, Values, place_of};
+use plan_items::Items;
+use plan_meaning::Stop;
+use std::alloc::Global;
+use visit_state::State;
+
+/// An activation under one more frame, back on the stack, and a function of that program on top of it.
+fn enter(
+    alloc: Global,
+    outer: &mut Activations,
+    top: Activation,
+    frame: Frame,
+    code: usize,
+    fun: usize,
+    args: Values,
+) -> Result<(), NoMemory>
+    ensures { OnOk result (outer.new ≡ (outer.old ++ under top frame ∷ []) ++ entry code fun args ∷ []) }
+{
+    let mut below = top;
+    below.frames.add(frame)?;
+    outer.add(below)?;
+    outer.add(Activation {
+        code,
+        fun,
+        args,
+        frames: Items::new(alloc),
+    })?;
+    Ok(())
+}
+
+/// Opens a part, or enters a `let`.
+#[tactic(auto, using(crate::proofs::Loads::load_open))]
+fn open(outer: &mut Activations, top: Activation, frame: Frame) -> Result<Mode, Stop>
+    ensures turned { (codes : List Program) (code : Program) (at : Spot) (want : Step Value) (s : VisitState) → Stands codes outer.old top code at
+        → Leads want (next_step code top.fun at (next.Open frame) s) → CanDo code at (next.Open frame)
+        → Turned (all_ended codes outer.old (ended codes top want)) result codes outer.new s }
+    ensures bounded { (work : ℕ) → IfOk result (λ how. load how outer.new work ≤ load mode.Run (outer.old ++ top ∷ []) work + 3) }
+{
+    let mut above = top;
+    above.frames.add(frame)?;
+    outer.add(above)?;
+    Ok(Mode::Run)
+}
+
+/// Enters a function of the program of the innermost activation, which waits under a frame.
+#[tactic(auto, using(crate::proofs::Loads::load_enter))]
+fn enter_here(
+    alloc: Global,
+    outer: &mut Activations,
+    top: Activation,
+    frame: Frame,
+    fun: usize,
+    args: Values,
+) -> Result<Mode, Stop>
+    ensures turned { (codes : List Program) (code : Program) (at : Spot) (want : Step Value) (s : VisitState) → Stands codes outer.old top code at
+        → WaitsFor at frame → Leads want (resume code top.fun at frame (entered meaning code fun args s)) → Enters code fun args
+        → Turned (all_ended codes outer.old (ended codes top want)) result codes outer.new s }
+    ensures bounded { (work : ℕ) → IfOk result (λ how. load how outer.new work ≤ load mode.Run (outer.old ++ top ∷ []) work + 3) }
+{
+    let code = top.code;
+    enter(alloc, outer, top, frame, code, fun, args)?;
+    Ok(Mode::Run)
+}
+
+/// Weighs the value that an open expression ends with.
+#[tactic(auto, using(crate::proofs::Loads::load_give, crate::proofs::Loads::load_less))]
+fn weigh(
+    alloc: Global,
+    outer: &mut Activations,
+    top: Activation,
+    v: Value,
+    state: &mut State,
+) -> Result<Mode, Stop>
+    ensures turned { (codes : List Program) (code : Program) (at : Spot) (want : Step Value) (n : Standing) → Stands codes outer.old top code at
+        → Leads want (weighed v (joined state.old n))
+        → Turned (all_ended codes outer.old (ended codes top want)) result codes outer.new (joined state.new n) }
+    ensures bounded { IfOk result (λ how. load how outer.new state.new.work ≤ load mode.Run (outer.old ++ top ∷ []) state.old.work + 3) }
+{
+    match state.weighed(alloc, v) {
+        Ok(value) => {
+            outer.add(top)?;
+            Ok(Mode::Give(value))
+        }
+        Err(stop) => halt(outer, top, stop),
+    }
+}
+
+/// Begins the evaluation of a chunk.
+#[tactic(auto, using(crate::proofs::Turning::no_visit, crate::proofs::Loads::load_enter))]
+fn visit_chunk(
+    alloc: Global,
+    codes: &mut Codes,
+    outer: &mut Activations,
+    top: Activation,
+    chunk: Chunk,
+) -> Result<Mode, Stop>
+    ensures turned { (code : Program) (at : Spot) (want : Step Value) (s : VisitState) → Stands codes.old outer.old top code at
+        → Leads want (next_step code top.fun at (next.Visit chunk) s)
+        → Turned (all_ended codes.old outer.old (ended codes.old top want)) result codes.new outer.new s }
+    ensures bounded { (work : ℕ) → IfOk result (λ how. load how outer.new work ≤ load mode.Run (outer.old ++ top ∷ []) work + 3) }
+{
+    let Chunk { code, entry, args } = chunk;
+    let Some(fun) = place_of(&entry, code.funs.as_slice()) else {
+        return Err(Stop::Wrong);
+    };
+    if !enters(&code, fun, &args) {
+        return Err(Stop::Wrong);
+    }
+    let number = codes.len();
+    codes.add(code)?;
+    enter(alloc, outer, top, Frame::Chunk, number, fun, args)?;
+    Ok(Mode::Run)
+}
+
+/// Raises the exception that an open expression ends with, or ends the visit.
+#[tactic(auto, using(crate::proofs::Loads::load_raise))]
+fn halt(outer: &mut Activations, top: Activation, stop: Stop) -> Result<Mode, Stop>
+    ensures turned { (codes : List Program) (code : Program) (at : Spot) (want : Step Value) (s : VisitState) → Stands codes outer.old top code at
+        → (stop ≢ stops.NoMemory → want.after ≡ stopped stop s)
+        → Turned (all_ended codes outer.old (ended codes top want)) result codes outer.new s }
+    ensures bounded { (work : ℕ) → IfOk result (λ how. load how outer.new work ≤ load mode.Run (outer.old ++ top ∷ []) work + 3) }
+{
+    match stop {
+        Stop::Raised(x) => {
+            outer.add(top)?;
+            Ok(Mode::Raise(x))
+        }
+        Stop::WorkSpent => Err(Stop::WorkSpent),
+        Stop::Wrong => Err(Stop::Wrong),
+        Stop::NoMemory => Err(Stop::NoMemory),
+    }
+}
+
+/// Does what an open expression does next.
+fn go_on(
+    alloc: Global,
+    codes: &mut Codes,
+    outer: &mut Activations,
+    top: Activation,
+    next: Next,
+    state: &mut State,
+) -> Result<Mode, Stop>
+    ensures turned { (code : Program) (at : Spot) (want : Step Value) (n : Standing) → Stands codes.old outer.old top code at
+        → Leads want (next_step code top.fun at next (joined state.old n)) → CanDo code at next
+        → Turned (all_ended codes.old outer.old (ended codes.old top want)) result codes.new outer.new (joined state.new n) }
+    ensures bounded { IfOk result (λ how. load how outer.new state.new.work ≤ load mode.Run (outer.old ++ top ∷ []) state.old.work + 3) }
+{
+    match next {
+        Next::Give(v) => weigh(alloc, outer, top, v, state),
+        Next::Open(frame) => open(outer, top, frame),
+        Next::Call(fun, args) => enter_here(alloc, outer, top, Frame::Body, fun, args),
+        Next::Step(fun, args, left) => enter_here(alloc, outer, top, Frame::Items(left), fun, args),
+        Next::Visit(chunk) => visit_chunk(alloc, codes, outer, top, chunk),
+    }
+}
+
+/// Does what was decided for the innermost activation, which is off the stack.
+pub fn apply(
+    alloc: Global,
+    codes: &mut Codes,
+    outer: &mut Activations,
+    top: Activation,
+    decided: Result<Next, Stop>,
+    state: &mut State,
+) -> Result<Mode, Stop>
+    ensures turned { (code : Program) (at : Spot) (want : Step Value) (n : Standing) → Stands codes.old outer.old top code at
+        → Decides code top.fun at want decided (joined state.old n) → IsDone code at decided
+        → Turned (all_ended codes.old outer.old (ended codes.old top want)) result codes.new outer.new (joined state.new n) }
+    ensures bounded { IfOk result (λ how. load how outer.new state.new.work ≤ load mode.Run (outer.old ++ top ∷ []) state.old.work + 3) }
+{
+    match decided {
+        Ok(next) => go_on(alloc, codes, outer, top, next, state),
+        Err(stop) => halt(outer, top, stop),
+    }
+}

@@ -1,0 +1,113 @@
+//! What an open expression does when a part has given a value, or an activation on top has.
+ghost use Rattle.std.specs.Prelude.{◌≡◌, ◌≤◌, ◌+◌, ◌∷◌, ◌++◌, [], List, drop, IsSome, Some, slice_get};
+ghost use Rattle.plan_base.specs.declared.name.Name.{Name};
+ghost use Rattle.plan_base.specs.declared.tree.Expr.{Expr, Expr-F, out-Expr};
+ghost use Rattle.plan_base.specs.declared.tree.Program.{Program};
+ghost use Rattle.plan_meaning.specs.State.{joined};
+ghost use Rattle.plan_meaning.specs.Run.{gave, quiet};
+ghost use Rattle.plan_meaning.specs.Meaning.{Env};
+ghost use Rattle.plan_meaning.specs.Safe.{IsSafe};
+ghost use Rattle.plan_eval.specs.Stack.{Spot, resume, spot_in};
+ghost use Rattle.plan_eval.specs.Nexts.{Decides, IsDone, part_gave, call_of};
+
+use crate::fold::{item_gave, left_part, right_part};
+use crate::frame::{Activation, Frame};
+use crate::gather::{call_part, chunk_part, tuple_part};
+use crate::next::Next;
+use crate::operand::{operand, selected};
+use crate::place::{can_do, place_in};
+use crate::pure::{both, choose, either, turn};
+use crate::send::{evaluated, neighbour_part, remote_part};
+use plan_base::{Expr, Program, Value, Values};
+use plan_meaning::Stop;
+use service_api::Services;
+use std::alloc::Global;
+use visit_state::State;
+
+/// What an expression does when its part of number `n` has given a value, behind those that gave `held`.
+#[tactic(auto, using(plan_base::specs::Trees::trees, crate::proofs::Deciding::bound, crate::proofs::Deciding::followed, crate::proofs::Giving::leaf_given))]
+fn after_part<S: Services>(
+    alloc: Global,
+    code: &Program,
+    seen: usize,
+    e: &Expr,
+    n: usize,
+    held: Values,
+    v: Value,
+    state: &mut State,
+    svc: &mut S,
+) -> Result<Next, Stop>
+    requires open { IsSome (S.stands svc.old).begun }
+    requires safe { (f : Name) (es : List Expr) → out-Expr e.now ≡ Expr-F.Call f es → drop (n + 1) es ≡ []
+        → IsSafe (call_of code.now seen f (held ++ v ∷ []) (joined state.old (S.stands svc.old))).asks }
+    ensures decides { (env : Env) → Decides code.now seen (record { expr = e.now; env = env })
+        (part_gave code.now seen (record { expr = e.now; env = env }) n held v (joined state.old (S.stands svc.old)))
+        result (joined state.new (S.stands svc.new)) }
+    ensures falls { state.new.work ≤ state.old.work }
+    ensures offer { (S.stands svc.new).offer ≡ (S.stands svc.old).offer }
+    ensures begun { (S.stands svc.new).begun ≡ (S.stands svc.old).begun }
+{
+    match e {
+        Expr::Tuple(es) => tuple_part(es, n, held, v),
+        Expr::Call(f, es) => call_part(alloc, code, seen, f, es, n, held, v, state, svc),
+        Expr::ChunkOf(f, es) => chunk_part(alloc, code, f, es, n, held, v),
+        Expr::If(_, _, _) => choose(&v),
+        Expr::Let(_, _, _, _) => Ok(Next::Open(Frame::Bound(v))),
+        Expr::Then(_, _) => Ok(Next::Open(Frame::Last(1))),
+        Expr::And(_, _) => both(&v),
+        Expr::Or(_, _) => either(&v),
+        Expr::Not(_) => turn(&v),
+        Expr::Binary(op, _, _) => operand(alloc, *op, &held, v),
+        Expr::Part(i, _) => selected(alloc, *i, &v),
+        Expr::Foldl(f, _, _) => left_part(alloc, code, seen, f, held, v),
+        Expr::Foldr(f, _, _) => right_part(alloc, code, seen, f, held, v),
+        Expr::Eval(_) => evaluated(alloc, v, state),
+        Expr::OnRemote(_, _, _, r) => remote_part(alloc, r, held, v, state),
+        Expr::OnNeighbor(_, _, _, _) => neighbour_part(alloc, held, v, state),
+        Expr::Unit | Expr::Bool(_) | Expr::Int(_) | Expr::Char(_) => Ok(Next::Give(v)),
+        Expr::Str(_) | Expr::Blob(_) | Expr::Host(_) | Expr::Dev(_) => Ok(Next::Give(v)),
+        Expr::Nil(_) | Expr::Var(_) | Expr::Raise(_, _) | Expr::Try(_, _) => Ok(Next::Give(v)),
+    }
+}
+
+/// What an activation does when its innermost frame, which is off it, is given a value.
+#[tactic(auto, using(crate::proofs::Naming::at_place, crate::proofs::Giving::by_part, crate::proofs::Giving::safe_call, crate::proofs::Delivering::last_given, crate::proofs::Delivering::bound_given, crate::proofs::Delivering::body_given, crate::proofs::Delivering::chunk_given, crate::proofs::Giving::by_item))]
+pub fn give_top<S: Services>(
+    alloc: Global,
+    codes: &[Program],
+    top: &Activation,
+    frame: Frame,
+    v: Value,
+    state: &mut State,
+    svc: &mut S,
+) -> Result<Next, Stop>
+    requires open { IsSome (S.stands svc.old).begun }
+    requires linked { IsSome (spot_in codes.now top.now) }
+    requires safe { (code : Program) (at : Spot) → slice_get codes.now top.now.code ≡ Some code → spot_in codes.now top.now ≡ Some at
+        → IsSafe (resume code top.now.fun at frame (quiet (gave v (joined state.old (S.stands svc.old))))).asks }
+    ensures decides { (code : Program) (at : Spot) → slice_get codes.now top.now.code ≡ Some code → spot_in codes.now top.now ≡ Some at
+        → Decides code top.now.fun at (resume code top.now.fun at frame (quiet (gave v (joined state.old (S.stands svc.old))))) result (joined state.new (S.stands svc.new))
+        × IsDone code at result }
+    ensures falls { state.new.work ≤ state.old.work }
+    ensures offer { (S.stands svc.new).offer ≡ (S.stands svc.old).offer }
+    ensures begun { (S.stands svc.new).begun ≡ (S.stands svc.old).begun }
+{
+    let Some(place) = place_in(codes, top) else {
+        return Err(Stop::Wrong);
+    };
+    match frame {
+        Frame::Part(n, held) => {
+            let decided = after_part(
+                alloc, place.code, top.fun, place.expr, n, held, v, state, svc,
+            );
+            can_do(place, decided)
+        }
+        Frame::Last(_) | Frame::Body => Ok(Next::Give(v)),
+        Frame::Bound(_) => Ok(Next::Give(v)),
+        Frame::Items(left) => {
+            let decided = item_gave(alloc, place.code, top.fun, place.expr, v, left);
+            can_do(place, decided)
+        }
+        Frame::Chunk => Ok(Next::Give(Value::Unit)),
+    }
+}

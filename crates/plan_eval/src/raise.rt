@@ -1,0 +1,78 @@
+//! What an open expression does when a part has raised an exception.
+ghost use Rattle.std.specs.Prelude.{◌≡◌, ◌+◌, ℕ, List, Some, slice_get};
+ghost use Rattle.plan_base.specs.declared.tree.Expr.{Expr, Expr-F, out-Expr};
+ghost use Rattle.plan_base.specs.declared.tree.Program.{Program};
+ghost use Rattle.plan_base.specs.declared.tree.Value.{Value};
+ghost use Rattle.plan_meaning.specs.declared.stop.Stop.TheVariants.{Raised};
+ghost use Rattle.plan_meaning.specs.State.{VisitState};
+ghost use Rattle.plan_meaning.specs.Run.{quiet, stopped};
+ghost use Rattle.plan_meaning.specs.Meaning.{Env};
+ghost use Rattle.plan_eval.specs.declared.frame.Frame.TheVariants as frame;
+ghost use Rattle.plan_eval.specs.Stack.{Spot, resume, spot_in, first_from};
+ghost use Rattle.plan_eval.specs.Nexts.{Decides, IsDone};
+
+use crate::frame::{Activation, Frame};
+use crate::next::Next;
+use crate::place::{can_do, place_in};
+use plan_base::{Clause, Clauses, Exn, Expr, Program};
+use plan_meaning::Stop;
+use visit_state::catches;
+
+/// The number of the body that takes an exception among the parts of its `try`.
+fn body_for(clauses: &[Clause], x: &Exn) -> Option<usize>
+    ensures { result ≡ first_from 1 clauses.now x.now }
+{
+    let mut number = 1;
+    let mut rest = clauses;
+    while let [clause, more @ ..] = rest {
+        if catches(&clause.name, x) {
+            return Some(number);
+        }
+        number += 1;
+        rest = more;
+    }
+    None
+}
+
+/// The expression of a `try` raised an exception: a clause takes it, or it goes on.
+fn try_raised(clauses: &Clauses, x: Exn) -> Result<Next, Stop>
+    ensures { (code : Program) (seen : ℕ) (e a : Expr) (env : Env) (n : ℕ) (held : List Value) (s : VisitState) → out-Expr e ≡ Expr-F.Try a clauses.now
+        → Decides code seen (record { expr = e; env = env })
+        (resume code seen (record { expr = e; env = env }) (frame.Part n held) (quiet (stopped (Raised x) s))) result s }
+{
+    match body_for(clauses.as_slice(), &x) {
+        Some(number) => Ok(Next::Open(Frame::Last(number))),
+        None => Err(Stop::Raised(x)),
+    }
+}
+
+/// A part raised an exception: the clauses of a `try` may take it, and every other form passes it on.
+#[tactic(auto, using(plan_base::specs::Trees::trees))]
+fn part_raised(e: &Expr, x: Exn) -> Result<Next, Stop>
+    ensures { (code : Program) (seen : ℕ) (env : Env) (n : ℕ) (held : List Value) (s : VisitState) → Decides code seen (record { expr = e.now; env = env })
+        (resume code seen (record { expr = e.now; env = env }) (frame.Part n held) (quiet (stopped (Raised x) s))) result s }
+{
+    match e {
+        Expr::Try(_, clauses) => try_raised(clauses, x),
+        _ => Err(Stop::Raised(x)),
+    }
+}
+
+/// What an activation does when an exception reaches its innermost frame, which is off it.
+#[tactic(auto, using(crate::proofs::Naming::at_place, crate::proofs::Catching::passes_frame))]
+pub fn raise_top(codes: &[Program], top: &Activation, frame: &Frame, x: Exn) -> Result<Next, Stop>
+    ensures { (code : Program) (at : Spot) (s : VisitState) → slice_get codes.now top.now.code ≡ Some code → spot_in codes.now top.now ≡ Some at
+        → Decides code top.now.fun at (resume code top.now.fun at frame.now (quiet (stopped (Raised x) s))) result s × IsDone code at result }
+{
+    let Some(place) = place_in(codes, top) else {
+        return Err(Stop::Wrong);
+    };
+    match frame {
+        Frame::Part(_, _) => {
+            let decided = part_raised(place.expr, x);
+            can_do(place, decided)
+        }
+        Frame::Last(_) | Frame::Body | Frame::Chunk => Err(Stop::Raised(x)),
+        Frame::Bound(_) | Frame::Items(_) => Err(Stop::Raised(x)),
+    }
+}
