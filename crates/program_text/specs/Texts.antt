@@ -54,14 +54,18 @@ parsed_of len (Err f) = Err (fault.Lex f)
 unfoldable pub program_of : List ℕ → Result Program TextFault
 program_of text = parsed_of (length text) (tokens_of text)
 
--- the text says the program: its tokens are a draft that the program fills in, and the program is typed
+-- the tokens of a text of that length are a draft that the program fills in, and the program is typed
+pub record IsProgram (tokens : List Token) (len : ℕ) (code : Program) : Type 0 where
+  pub draft : Draft
+  pub read : parsed.program_of tokens len ≡ Ok draft
+  pub fills : Fills draft.program code
+  pub typed : Typed code
+
+-- the text is tokens that are the program
 pub record Says (text : List ℕ) (code : Program) : Type 0 where
   pub tokens : List Token
   pub toks : Toks 0 text tokens
-  pub draft : Draft
-  pub read : parsed.program_of tokens (length text) ≡ Ok draft
-  pub fills : Fills draft.program code
-  pub typed : Typed code
+  pub program : IsProgram tokens (length text) code
 
 abbrev pub args_by : Result (List Value) ParseFault → Option (List Value)
 args_by (Ok vs) = Some vs
