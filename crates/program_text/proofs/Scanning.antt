@@ -1,12 +1,11 @@
 -- One pass finds the tokens of a text, or its first refusal.
-use Rattle.std.proofs.Common.{◌≡◌, ◌≤◌, ◌<◌, ◌+◌, ◌-◌, ℕ, zero, suc, arith, drop, List, [], ◌∷◌, ◌++◌, length, Option, Some, None, Result, Ok, Err, refl, sym, ◌∙◌, ap}
+use Rattle.std.proofs.Common.{◌≡◌, ◌≤◌, ◌<◌, ◌-◌, ℕ, zero, suc, arith, List, [], ◌∷◌, length, Some, None, Ok, Err, refl, ap}
 use Rattle.std.proofs.lemmas.List.{length-drop}
 use Rattle.plan_lexer.specs.declared.fault.LexFault.{LexFault}
 use Rattle.plan_lexer.specs.declared.token.Token.{Token}
-use Rattle.plan_lexer.specs.declared.token.TokenKind.{TokenKind}
-use Rattle.plan_lexer.specs.Scanning.{move_at, rest_at, with_move, Toks, Refuses, ends, skips, takes, here, past}
+use Rattle.plan_lexer.specs.Scanning.{rest_at, Toks, Refuses, ends, skips, takes, here, past}
 use Rattle.plan_lexer.proofs.LawLemmas.{move_goes}
-use Rattle.program_text.specs.Scanned.{before, scanned, tokens_of}
+use Rattle.program_text.specs.Scanned.{scanned, tokens_of}
 
 less-left : (at next n : ℕ) (b : ℕ) (text : List ℕ) → at < next → length (b ∷ text) ≤ suc n → length (rest_at at (b ∷ text) next) ≤ n
 less-left at next n b text goes le = rw (length-drop (next - at) (b ∷ text)) (omega (arith, goes, le))

@@ -1,9 +1,9 @@
 -- A program has no more expressions than its code has bytes, so that the sizes of a typed program are small.
-use Rattle.std.proofs.Common.{◌≡◌, ◌≤◌, ◌+◌, ℕ, List, [], ◌∷◌, length, min, Option, Some, None, refl, sym, ◌∙◌, ap, subst, arith, sum_by}
+use Rattle.std.proofs.Common.{◌≡◌, ◌≤◌, ℕ, List, [], ◌∷◌, min, sym, subst, arith, sum_by}
 use Rattle.std.proofs.lemmas.Bool.Decides.{nat_tests}
 use Rattle.std.specs.Prelude.{map}
 use Rattle.std.proofs.lemmas.List.Sums.{sum_by-cons}
-use Rattle.plan_base.specs.Sizes.{expr_size, expr_size_level, clause_size, catch_size, fun_size, code_size, expr_nodes, expr_nodes_level, clause_nodes, program_nodes}
+use Rattle.plan_base.specs.Sizes.{expr_size, expr_size_level, clause_size, fun_size, code_size, expr_nodes, expr_nodes_level, clause_nodes, program_nodes}
 use Rattle.plan_base.specs.Typing.{Typed}
 use Rattle.plan_base.proofs.SizeLaws.{expr_size_out, expr_nodes_out}
 use Rattle.plan_base.specs.declared.tree.Expr.{Expr, Expr-F, roll-Expr, out-roll-Expr, map-Expr, ind-Expr}

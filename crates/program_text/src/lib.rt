@@ -5,6 +5,8 @@ mod fault;
 mod laws;
 mod reading;
 mod reason;
+#[cfg(test)]
+mod tests;
 
 pub use fault::TextFault;
 pub use laws::one_pass;

@@ -90,6 +90,7 @@ fn program_in(alloc: Global, tokens: &Tokens, len: u32) -> Result<Checked, TextF
 }
 
 /// The tokens of a text, or its first refusal.
+#[tactic(auto, using(crate::proofs::Readings::refused_by))]
 fn tokens_in(alloc: Global, text: &[u8]) -> Result<Tokens, TextFault>
     requires { length text.now ≤ 65536 }
     ensures toks { IfOk result (Toks 0 text.now) }
@@ -120,6 +121,7 @@ pub fn read_program(alloc: Global, text: &[u8]) -> Result<Checked, TextFault>
 }
 
 /// The arguments that a text of at most 65,536 bytes is, or none where it is no arguments.
+#[tactic(auto, using(crate::proofs::Readings::none_by))]
 pub fn read_args(alloc: Global, text: &[u8]) -> Result<Option<Values>, NoMemory>
     requires { length text.now ≤ 65536 }
     ensures { IfOk result (λ args. args ≡ args_of_text text.now) }
