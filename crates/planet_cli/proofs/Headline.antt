@@ -11,9 +11,10 @@ use Rattle.schedule_text.specs.Schedules.{schedule_of}
 use Rattle.schedule_text.proofs.RuleLaws.{schedule_keeps}
 use Rattle.world_laws.specs.World.{opening}
 use Rattle.world_laws.specs.Texts.{run_text}
-use Rattle.world_laws.specs.Counts.{event_fits}
+use Rattle.world_laws.specs.Sound.{event_fits}
 use Rattle.world_laws.proofs.WorldBalance.{opening_balances}
 use Rattle.world_laws.proofs.Fitting.{run_sound, opening_sound}
+use Rattle.world_laws.proofs.Granting.{opening_grants}
 use Rattle.net_world.proofs.RunLaws.{opening_bounded}
 use Rattle.planet_cli.specs.declared.status.Cause.{Cause}
 use Rattle.planet_cli.specs.declared.status.Cause.TheVariants.{Done, WriteFault}
@@ -66,6 +67,7 @@ replay_ledger words files s r =
     record {
       balance = λ k f. opening_balances f s.topology (take k s.events);
       bounded = λ k f. opening_bounded f s.topology (take k s.events) (hosts_differ s keeps) (All-take event_fits k s.events fits);
+      granted = λ k f. opening_grants f s.topology (take k s.events) (hosts_differ s keeps) (All-take event_fits k s.events fits);
       sound = λ k. run_sound (take k s.events) (opening s.topology) (All-take event_fits k s.events fits) (opening_sound s.topology);
     }
 

@@ -8,7 +8,7 @@ use Rattle.schedule_text.specs.declared.schedule.WorldEvent.{WorldEvent}
 use Rattle.schedule_text.specs.declared.schedule.WorldEvent.TheVariants.{Inject, Send, Deliver, Lose}
 use Rattle.schedule_text.specs.Parts.{is_host}
 use Rattle.schedule_text.specs.Rules as rules
-use Rattle.world_laws.specs.Counts.{HostsDiffer, has_host, event_fits, EventsFit}
+use Rattle.world_laws.specs.Sound.{HostsDiffer, has_host, event_fits, EventsFit}
 
 same_test : (h : Host) (hs : List HostSpec) → is_host hs h.0 ≡ has_host h hs
 same_test h [] = refl
@@ -31,6 +31,6 @@ event_of hosts (Lose k) keeps = tt
 events_of : (hosts : List HostSpec) (es : List WorldEvent) → All (rules.KeepsEvent hosts) es → EventsFit es
 events_of hosts es keeps = λ k d h. event_of hosts _ (keeps k d h)
 
--- its bounds fit
+-- its bounds and its chunks fit
 pub events_fit : (s : Schedule) → rules.KeepsRules s → EventsFit s.events
 events_fit s keeps = events_of s.topology.hosts s.events keeps.events

@@ -14,6 +14,8 @@ mod status;
 #[cfg(test)]
 mod tests;
 mod top;
+#[cfg(test)]
+mod visit_rows;
 mod words;
 
 use crate::args::words_of;

@@ -1,5 +1,5 @@
 use crate::status::Status;
-use crate::{planet, rows};
+use crate::{planet, rows, visit_rows};
 use node_io::{
     Arrivals, Calls, FileList, MemClock, MemFiles, MemLink, MemSink, MemSpawner, Moments, Statuses,
 };
@@ -52,14 +52,14 @@ fn call(
     ))
 }
 
-// The code, the output and the notes of `replay schedule.txt` on these bytes.
-fn replay(alloc: Global, bytes: &[u8]) -> Result<(u8, MemSink, MemSink), Fail> {
+// The code, the output and the notes of a command on a file of these bytes.
+fn on_bytes(alloc: Global, command: &str, bytes: &[u8]) -> Result<(u8, MemSink, MemSink), Fail> {
     let mut files = files_of(alloc, bytes, &[])?;
     let mut out = sink(alloc)?;
     let mut notes = sink(alloc)?;
     let status = call(
         alloc,
-        &["replay", "schedule.txt"],
+        &[command, "schedule.txt"],
         &mut files,
         &mut out,
         &mut notes,
@@ -84,7 +84,66 @@ fn schedules_give_their_output(rt: HostRuntime) -> Result<(), Fail> {
         (rows::SMALLEST_SCHEDULE, rows::SMALLEST_SCHEDULE_OUTPUT),
         (rows::DELIVER_NOTHING, rows::DELIVER_NOTHING_OUTPUT),
     ] {
-        let (code, out, notes) = replay(rt.alloc(), schedule)?;
+        let (code, out, notes) = on_bytes(rt.alloc(), "replay", schedule)?;
+        assert_eq!(rt; code, 0);
+        assert_eq!(rt; out.taken().as_slice(), output);
+        assert_eq!(rt; notes.taken().as_slice(), b"".as_slice());
+    }
+    Ok(())
+}
+
+#[test]
+fn programs_of_the_whole_language_run(rt: HostRuntime) -> Result<(), Fail> {
+    for (schedule, output) in [
+        (visit_rows::NESTED_EVALS, visit_rows::NESTED_EVALS_OUTPUT),
+        (
+            visit_rows::SIXTEEN_NESTED_EVALS,
+            visit_rows::SIXTEEN_NESTED_EVALS_OUTPUT,
+        ),
+        (
+            visit_rows::SEVENTEEN_NESTED_EVALS,
+            visit_rows::SEVENTEEN_NESTED_EVALS_OUTPUT,
+        ),
+        (
+            visit_rows::EVAL_THEN_SEND_PAID,
+            visit_rows::EVAL_THEN_SEND_PAID_OUTPUT,
+        ),
+        (
+            visit_rows::EVAL_THEN_SEND_UNPAID,
+            visit_rows::EVAL_THEN_SEND_UNPAID_OUTPUT,
+        ),
+        (
+            visit_rows::SEND_WITHOUT_ROUTE,
+            visit_rows::SEND_WITHOUT_ROUTE_OUTPUT,
+        ),
+        (
+            visit_rows::SEND_BY_UNKNOWN_ROUTE_NAME,
+            visit_rows::SEND_BY_UNKNOWN_ROUTE_NAME_OUTPUT,
+        ),
+        (visit_rows::WORK_SPENT, visit_rows::WORK_SPENT_OUTPUT),
+        (visit_rows::FOLDS, visit_rows::FOLDS_OUTPUT),
+        (
+            visit_rows::ARITHMETIC_EDGES,
+            visit_rows::ARITHMETIC_EDGES_OUTPUT,
+        ),
+        (
+            visit_rows::EXCEPTION_FALLS_TO_LAST_CLAUSE,
+            visit_rows::EXCEPTION_FALLS_TO_LAST_CLAUSE_OUTPUT,
+        ),
+        (
+            visit_rows::CHUNK_NESTING_LIMIT,
+            visit_rows::CHUNK_NESTING_LIMIT_OUTPUT,
+        ),
+        (
+            visit_rows::STRING_WEIGHT_LIMIT,
+            visit_rows::STRING_WEIGHT_LIMIT_OUTPUT,
+        ),
+        (
+            visit_rows::LONG_SUM_THROUGH_MANY_FUNCTIONS,
+            visit_rows::LONG_SUM_THROUGH_MANY_FUNCTIONS_OUTPUT,
+        ),
+    ] {
+        let (code, out, notes) = on_bytes(rt.alloc(), "replay", schedule)?;
         assert_eq!(rt; code, 0);
         assert_eq!(rt; out.taken().as_slice(), output);
         assert_eq!(rt; notes.taken().as_slice(), b"".as_slice());
@@ -104,28 +163,45 @@ fn files_outside_the_format_are_refused(rt: HostRuntime) -> Result<(), Fail> {
             rows::FIRST_RUN_WITH_TICK_NOT_BUILT,
             b"planet: line 14: NotYet\n".as_slice(),
         ),
+        (
+            rows::ABSENT_SERVICE_NOT_BUILT,
+            b"planet: line 2: NotYet\n".as_slice(),
+        ),
+        (
+            rows::FORGED_PACKET_UNKNOWN_WORD,
+            b"planet: line 4: BadWord\n".as_slice(),
+        ),
+        (
+            rows::LINK_TO_UNKNOWN_HOST,
+            b"planet: line 3: UnknownHost\n".as_slice(),
+        ),
+        (
+            rows::NO_BOUND_CAUGHT_NOT_BUILT,
+            b"planet: line 5: NotYet\n".as_slice(),
+        ),
+        (
+            rows::PING_THREE_HOSTS_PROGRAM_NOT_BUILT,
+            b"planet: line 7: NotYet\n".as_slice(),
+        ),
+        (
+            rows::REPEATED_FRAME_UNKNOWN_HEADER,
+            b"planet: line 1: BadHeader\n".as_slice(),
+        ),
+        (
+            rows::SERVING_LOG_UNKNOWN_HEADER,
+            b"planet: line 1: BadHeader\n".as_slice(),
+        ),
+        (
+            rows::PROGRAM_REFUSED,
+            b"planet: line 3: ProgramRefused at 16: Mismatch int bool\n".as_slice(),
+        ),
     ] {
-        let (code, out, notes) = replay(rt.alloc(), schedule)?;
+        let (code, out, notes) = on_bytes(rt.alloc(), "replay", schedule)?;
         assert_eq!(rt; code, 2);
         assert_eq!(rt; out.taken().as_slice(), b"".as_slice());
         assert_eq!(rt; notes.taken().as_slice(), note);
     }
     Ok(())
-}
-
-// The code, the output and the notes of `check` on this text.
-fn check(alloc: Global, program: &[u8]) -> Result<(u8, MemSink, MemSink), Fail> {
-    let mut files = files_of(alloc, program, &[])?;
-    let mut out = sink(alloc)?;
-    let mut notes = sink(alloc)?;
-    let status = call(
-        alloc,
-        &["check", "schedule.txt"],
-        &mut files,
-        &mut out,
-        &mut notes,
-    )?;
-    Ok((status.code, out, notes))
 }
 
 #[test]
@@ -140,7 +216,7 @@ fn typed_programs_give_their_sizes(rt: HostRuntime) -> Result<(), Fail> {
             b"ok functions 1 nodes 3 code 18\n".as_slice(),
         ),
     ] {
-        let (code, out, notes) = check(rt.alloc(), program)?;
+        let (code, out, notes) = on_bytes(rt.alloc(), "check", program)?;
         assert_eq!(rt; code, 0);
         assert_eq!(rt; out.taken().as_slice(), output);
         assert_eq!(rt; notes.taken().as_slice(), b"".as_slice());
@@ -164,7 +240,7 @@ fn other_programs_are_refused_at_their_byte(rt: HostRuntime) -> Result<(), Fail>
             b"planet: at 19: NeedsType\n".as_slice(),
         ),
     ] {
-        let (code, out, notes) = check(rt.alloc(), program)?;
+        let (code, out, notes) = on_bytes(rt.alloc(), "check", program)?;
         assert_eq!(rt; code, 2);
         assert_eq!(rt; out.taken().as_slice(), b"".as_slice());
         assert_eq!(rt; notes.taken().as_slice(), note);
@@ -232,7 +308,7 @@ fn a_file_of_one_byte_too_many_is_too_long(rt: HostRuntime) -> Result<(), Fail> 
     let alloc = rt.alloc();
     let mut bytes = Vec::new(alloc);
     bytes.resize(4_194_305, b'#')?;
-    let (code, out, notes) = replay(alloc, bytes.as_slice())?;
+    let (code, out, notes) = on_bytes(alloc, "replay", bytes.as_slice())?;
     assert_eq!(rt; code, 2);
     assert_eq!(rt; out.taken().len(), 0);
     assert_eq!(rt; notes.taken().as_slice(), b"planet: TooLong\n".as_slice());
@@ -302,7 +378,7 @@ fn a_stopping_output_has_taken_a_front(rt: HostRuntime) -> Result<(), Fail> {
             b"planet: write fault\n".as_slice()
         );
     }
-    let (code, out, _) = replay(alloc, rows::FIRST_RUN)?;
+    let (code, out, _) = on_bytes(alloc, "replay", rows::FIRST_RUN)?;
     assert_eq!(rt; code, 0);
     assert_eq!(rt; out.taken().as_slice(), output);
     Ok(())

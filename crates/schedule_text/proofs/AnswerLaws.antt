@@ -19,7 +19,7 @@ use Rattle.schedule_text.specs.Answers.{Says, IsRefused, Accepted, Refused}
 use Rattle.schedule_text.specs.Lines.{lines, words}
 use Rattle.schedule_text.specs.Reads.{and_then, word_at, end_at, allowed}
 use Rattle.schedule_text.specs.Parts.{is_called, named_word}
-use Rattle.schedule_text.specs.Schedules.{network_word, host_line, link_line, opened, program_line, close_program, network_rest, network_line, event_line, is_skipped, at_line, with_line, staying, header_step, step, schedule_of_reading, finish, read_on, nothing_read, schedule_of}
+use Rattle.schedule_text.specs.Schedules.{network_word, frames_line, host_line, link_line, opened, program_line, close_program, network_rest, network_line, event_line, is_skipped, at_line, with_line, staying, header_step, step, schedule_of_reading, finish, read_on, nothing_read, schedule_of}
 use Rattle.schedule_text.proofs.RuleLaws.{IfRead, then_keeps, done_keeps, IfStep, step_done, step_none, step_is, at_line_keeps, either_keeps}
 
 -- a stage's program began at a line up to one
@@ -96,6 +96,7 @@ opens number ws s =
 
 rest_begun : (kind : NetworkWord) (number : ℕ) (ws : List (List ℕ)) (s : Reading) → 1 ≤ number → IfRead (BegunBoth number) (network_rest kind number ws s)
 unfolding network_rest
+rest_begun network.Frames number ws s low = then_keeps (BegunBoth number) (frames_line ws s) _ (λ t ht. done_keeps (BegunBoth number) (stages.Network, t) tt)
 rest_begun network.Host number ws s low = then_keeps (BegunBoth number) (host_line ws s) _ (λ t ht. done_keeps (BegunBoth number) (stages.Network, t) tt)
 rest_begun network.Link number ws s low = then_keeps (BegunBoth number) (link_line ws s) _ (λ t ht. done_keeps (BegunBoth number) (stages.Network, t) tt)
 rest_begun network.Program number ws s low = then_keeps (BegunBoth number) (program_line number ws s) _ (λ begun hb. done_keeps (BegunBoth number) (stages.Inside begun, s) (omega (arith, opens number ws s begun hb, low), omega (arith, opens number ws s begun hb)))

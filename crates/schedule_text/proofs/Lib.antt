@@ -1,6 +1,7 @@
 pub mod Splits
 pub mod Digits
-pub mod SmallLaws
+pub mod CallLaws
+pub mod TextLaws
 pub mod PackageLists
 pub mod FileLaws
 pub mod RuleLaws

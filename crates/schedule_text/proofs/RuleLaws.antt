@@ -1,22 +1,32 @@
 -- Each line keeps the rules of a schedule, so a file's schedule keeps them.
 use Rattle.std.proofs.Common.{◌≡◌, ◌≢◌, ℕ, zero, suc, ◌+◌, ◌<◌, ◌≤◌, ◌^◌, Bool, true, false, cond, not, eqb, ltb, leb, ◌&&◌, ◌||◌, List, [], ◌∷◌, ◌++◌, length, Option, Some, None, Result, Ok, Err, refl, sym, ap, subst, ◌∙◌, arith, length-append}
-use Rattle.std.specs.Prelude.{IfOk}
-use Rattle.std.specs.List.{All, list_any}
+use Rattle.std.specs.Prelude.{IfOk, IsTrue, is_some}
+use Rattle.std.specs.List.{All, list_any, list_all, find}
 use Rattle.std.specs.Option.{ok_or}
 use Rattle.std.specs.Str.{bytes_eq}
 use lib.Chars.{codes}
 use Rattle.std.proofs.lemmas.Bool.{not-true, ltb-true, leb-true, eqb-true, eqb-false, eq-eqb, ne_eqb}
 use Rattle.std.proofs.lemmas.List.Folds.{list_any-append}
-use Rattle.std.proofs.lemmas.List.Elements.{All-nil, All-push, All-weaker}
+use Rattle.std.proofs.lemmas.Option.{same_Some}
+use Rattle.std.proofs.lemmas.List.Elements.{All-nil, All-head, All-tail, All-push, All-weaker}
+use Rattle.plan_base.specs.declared.tree.Chunk.{Chunk}
+use Rattle.plan_base.specs.declared.tree.Program.{Program}
+use Rattle.plan_base.specs.declared.tree.Value.{Value}
 use Rattle.plan_base.specs.Sizes.{chunk_weight}
+use Rattle.plan_base.specs.WellFormed.{well_formed_value, value_has_types}
+use Rattle.plan_types.specs.Kept.{IsChecked}
+use Rattle.program_text.specs.declared.fault.TextFault.{TextFault}
+use Rattle.program_text.specs.Texts.{program_of, args_of_text}
+use Rattle.chunk_types.specs.Chunks.{refusal_of, IsCheckedChunk}
 use Rattle.schedule_text.specs.declared.fault.LineReason.{LineReason}
-use Rattle.schedule_text.specs.declared.fault.LineReason.TheVariants.{BadHeader, BadWord, BadNumber, UnknownHost, TwiceNamed, TooMany, BadArgument, NotYet}
+use Rattle.schedule_text.specs.declared.fault.LineReason.TheVariants.{BadHeader, BadWord, BadNumber, UnknownHost, UnknownProgram, TwiceNamed, TooMany, BadArgument, NotYet}
 use Rattle.schedule_text.specs.declared.fault.LineFault.{LineFault}
 use Rattle.schedule_text.specs.declared.fault.LineFault.TheVariants as faults
 use Rattle.schedule_text.specs.declared.keyword.NetworkWord.{NetworkWord}
 use Rattle.schedule_text.specs.declared.keyword.NetworkWord.TheVariants as network
 use Rattle.schedule_text.specs.declared.keyword.EventWord.{EventWord}
 use Rattle.schedule_text.specs.declared.keyword.EventWord.TheVariants as event
+use Rattle.schedule_text.specs.declared.reading.NamedProgram.{NamedProgram}
 use Rattle.schedule_text.specs.declared.reading.OpenProgram.{OpenProgram}
 use Rattle.schedule_text.specs.declared.reading.Reading.{Reading}
 use Rattle.schedule_text.specs.declared.reading.Stage.{Stage}
@@ -25,15 +35,16 @@ use Rattle.schedule_text.specs.declared.schedule.HostSpec.{HostSpec}
 use Rattle.schedule_text.specs.declared.schedule.Schedule.{Schedule}
 use Rattle.schedule_text.specs.declared.schedule.WorldEvent.{WorldEvent}
 use Rattle.schedule_text.specs.declared.schedule.WorldEvent.TheVariants as happens
-use Rattle.schedule_text.specs.Built.{is_built, lacking, with_arguments, a_tick}
+use Rattle.schedule_text.proofs.TextLaws.{program_checked, args_good, chunk_checked}
+use Rattle.schedule_text.specs.Built.{is_built, with_frames, lacking, carrying, a_tick}
 use Rattle.schedule_text.specs.Lines.{lines, words}
 use Rattle.schedule_text.specs.Numbers.{spelled, ranged, number_at}
 use Rattle.schedule_text.specs.Packages.{packages_at}
-use Rattle.schedule_text.specs.Parts.{Link, host_of, dev_of, is_host, ends_link, is_used, host_at, free_device_at, program_at, entry_at}
+use Rattle.schedule_text.specs.Parts.{Link, host_of, dev_of, is_host, ends_link, is_used, host_at, free_device_at, is_called, program_at, entry_at}
+use Rattle.schedule_text.specs.Programs.{accepted, program_in, args_at, chunk_with, typed_chunk}
 use Rattle.schedule_text.specs.Reads.{◌>>=◌, and_then, word_at, end_at, rest_at, allowed}
 use Rattle.schedule_text.specs.Rules.{HostsDiffer, LinksApart, KeepsLink, KeepsEvent, KeepsRules}
-use Rattle.schedule_text.specs.Schedules.{host_spec, network_word, event_word, host_line, link_of, link_line, program_line, close_program, network_rest, network_line, with_event, Injection, chunk_of, injection_at, inject_line, send_line, frame_at, deliver_line, lose_line, tick_line, event_rest, event_line, is_skipped, at_line, staying, header_step, network_step, program_step, event_step, step, schedule_of_reading, finish, read_on, nothing_read, schedule_of}
-use Rattle.schedule_text.specs.SmallPrograms.{program_of}
+use Rattle.schedule_text.specs.Schedules.{host_spec, network_word, event_word, is_first, frames_line, host_line, link_of, link_line, program_line, named, close_program, network_rest, network_line, with_event, Injection, injection_at, inject_line, send_line, frame_at, deliver_line, lose_line, tick_line, event_rest, event_line, is_skipped, at_line, staying, header_step, network_step, program_step, event_step, step, schedule_of_reading, finish, read_on, nothing_read, schedule_of}
 
 -- ---- steps of a line
 
@@ -103,6 +114,58 @@ device_is links n ws =
     then_keeps (λ x. FreeDevice links n x.0) (allowed (not (is_used links n d.0)) TwiceNamed) _ (λ u hu.
     done_keeps (λ x. FreeDevice links n x.0) d (number_is 1 8 ws d hd, not-true (is_used links n d.0) (allowed_true (not (is_used links n d.0)) TwiceNamed u hu))))
 
+-- ---- programs and arguments
+
+ok_or_is : {A : Type 0} (o : Option A) (r : LineReason) (x : A) → ok_or o r ≡ Ok x → o ≡ Some x
+ok_or_is (Some y) r x e = ap Some (ok_is y x e)
+ok_or_is None r x e = absurd cc
+
+accepted_is : (r : Result Program TextFault) (p : Program) → accepted r ≡ Ok p → r ≡ Ok p
+accepted_is (Ok q) p e = let same = ok_is q p e in ap (λ z. Ok z) same
+accepted_is (Err why) p e = absurd cc
+
+program_is : (text : List ℕ) → IfRead IsChecked (program_in text)
+unfolding program_in
+program_is text =
+    then_keeps IsChecked (allowed (leb (length text) 65536) TooMany) _ (λ u small.
+    then_keeps IsChecked (accepted (program_of text)) _ (λ p hp.
+    then_keeps IsChecked (allowed (is_built (carrying p)) NotYet) _ (λ v hv.
+    done_keeps IsChecked p (program_checked text p (leb-true (length text) 65536 (allowed_true (leb (length text) 65536) TooMany u small)) (accepted_is (program_of text) p hp)))))
+
+abbrev AreGood : List Value → Type 0
+AreGood vs = IsTrue (list_all well_formed_value vs) × IsTrue (list_all value_has_types vs)
+
+args_are : (ws : List (List ℕ)) → IfRead AreGood (args_at ws)
+unfolding args_at
+args_are ws =
+    then_keeps AreGood (rest_at ws) _ (λ text ht.
+    then_keeps AreGood (allowed (leb (length text) 65536) BadArgument) _ (λ u small vs e.
+    args_good text vs (leb-true (length text) 65536 (allowed_true (leb (length text) 65536) BadArgument u small)) (ok_or_is (args_of_text text) BadArgument vs e)))
+
+chunk_is : (c : Chunk) → IsChecked c.code → AreGood c.args → IfRead IsCheckedChunk (typed_chunk c)
+unfolding typed_chunk
+chunk_is c code good =
+    then_keeps IsCheckedChunk (allowed (not (is_some (refusal_of c))) BadArgument) _ (λ u hu.
+    done_keeps IsCheckedChunk c (chunk_checked c code good.0 good.1 (allowed_true (not (is_some (refusal_of c))) BadArgument u hu)))
+
+either_found : {X : Type 0} (P : X → Type 0) (t : Bool) (y x : X) (o : Option X) → P y → (o ≡ Some x → P x) → cond t (Some y) o ≡ Some x → P x
+either_found P true y x o q k e = subst P (same_Some y x e) q
+either_found P false y x o q k e = k e
+
+found_all : {X : Type 0} (P : X → Type 0) (p : X → Bool) (xs : List X) (x : X) → All P xs → find p xs ≡ Some x → P x
+found_all P p [] x h e = absurd cc
+found_all P p (y ∷ ys) x h e = either_found P (p y) y x (find p ys) (All-head P y ys h) (λ f. found_all P p ys x (All-tail P y ys h) f) e
+
+abbrev IsNamed : NamedProgram → Type 0
+IsNamed p = IsChecked p.program
+
+named_is : (programs : List NamedProgram) (ws : List (List ℕ)) → All IsNamed programs → IfRead (λ x. IsNamed x.0) (program_at programs ws)
+unfolding program_at
+named_is programs ws all =
+    then_keeps (λ x. IsNamed x.0) (word_at ws) _ (λ w hw.
+    then_keeps (λ x. IsNamed x.0) (ok_or (find (is_called w.0) programs) UnknownProgram) _ (λ p hp.
+    done_keeps (λ x. IsNamed x.0) (p, w.1) (found_all IsNamed (is_called w.0) programs p all (ok_or_is (find (is_called w.0) programs) UnknownProgram p hp))))
+
 -- ---- hosts and links that differ
 
 swapped : (a b : ℕ) (t : Bool) → eqb a b ≡ t → eqb b a ≡ t
@@ -151,6 +214,7 @@ record Keeps (s : Reading) : Type 0 where
   hosts : HostsDiffer s.hosts
   links : All (KeepsLink s.hosts) s.links
   apart : LinksApart s.links
+  programs : All IsNamed s.programs
   few_events : length s.events ≤ 50000
   events : All (KeepsEvent s.hosts) s.events
 
@@ -164,7 +228,7 @@ link_stays hosts h l k = record {
 }
 
 event_stays : (hosts : List HostSpec) (h : HostSpec) (e : WorldEvent) → KeepsEvent hosts e → KeepsEvent (hosts ++ h ∷ []) e
-event_stays hosts h (happens.Inject at chunk bound) k = (host_stays hosts h at.0 k.0, k.1)
+event_stays hosts h (happens.Inject at chunk bound) k = (host_stays hosts h at.0 k.0, k.1, k.2)
 event_stays hosts h (happens.Send at d) k = (host_stays hosts h at.0 k.0, k.1)
 event_stays hosts h (happens.Deliver n) k = k
 event_stays hosts h (happens.Lose n) k = k
@@ -175,6 +239,7 @@ add_host s n k room new = record {
   hosts = differ_push s.hosts n k.hosts new;
   links = All-weaker (KeepsLink s.hosts) (KeepsLink (s.hosts ++ host_spec n ∷ [])) (link_stays s.hosts (host_spec n)) s.links k.links;
   apart = k.apart;
+  programs = k.programs;
   few_events = k.few_events;
   events = All-weaker (KeepsEvent s.hosts) (KeepsEvent (s.hosts ++ host_spec n ∷ [])) (event_stays s.hosts (host_spec n)) s.events k.events;
 }
@@ -196,6 +261,7 @@ add_link s n d m e k from free to apart other = record {
   hosts = k.hosts;
   links = All-push (KeepsLink s.hosts) s.links (link_of n d m e) k.links (record { from = from; to = to; apart = eqb-false m n apart; from_device = free.0; to_device = other.0 });
   apart = apart_push s.links (link_of n d m e) k.apart free.1 other.1;
+  programs = k.programs;
   few_events = k.few_events;
   events = k.events;
 }
@@ -213,18 +279,34 @@ link_line_keeps ws s k =
     (add_link s n.0 d.0 m.0 e.0 k (host_is s.hosts ws n hn) (device_is s.links n.0 n.1 d hd) (host_is s.hosts d.1 m hm)
     (not-true (eqb m.0 n.0) (allowed_true (not (eqb m.0 n.0)) BadArgument u apart)) (device_is s.links m.0 m.1 e he))))))))
 
+frames_keeps : (ws : List (List ℕ)) (s : Reading) → Keeps s → IfRead Keeps (frames_line ws s)
+unfolding frames_line
+frames_keeps ws s k =
+    then_keeps Keeps (allowed (is_first s) BadWord) _ (λ u hu.
+    then_keeps Keeps (end_at ws) _ (λ v hv.
+    then_keeps Keeps (allowed (is_built with_frames) NotYet) _ (λ w hw.
+    done_keeps Keeps s k)))
+
 abbrev KeepsBoth : Stage × Reading → Type 0
 KeepsBoth x = Keeps x.1
 
 close_keeps : (begun : OpenProgram) (s : Reading) → Keeps s → IfRead Keeps (close_program begun s)
 unfolding close_program
 close_keeps begun s k =
-    then_keeps Keeps (allowed (leb (length begun.text) 65536) TooMany) _ (λ u hu.
-    then_keeps Keeps (program_of begun.text) _ (λ program hp.
-    done_keeps Keeps _ (record { few_hosts = k.few_hosts; hosts = k.hosts; links = k.links; apart = k.apart; few_events = k.few_events; events = k.events })))
+    then_keeps Keeps (program_in begun.text) _ (λ program hp.
+    done_keeps Keeps _ (record {
+      few_hosts = k.few_hosts;
+      hosts = k.hosts;
+      links = k.links;
+      apart = k.apart;
+      programs = All-push IsNamed s.programs (named begun.name program) k.programs (program_is begun.text program hp);
+      few_events = k.few_events;
+      events = k.events;
+    }))
 
 network_rest_keeps : (kind : NetworkWord) (number : ℕ) (ws : List (List ℕ)) (s : Reading) → Keeps s → IfRead KeepsBoth (network_rest kind number ws s)
 unfolding network_rest
+network_rest_keeps network.Frames number ws s k = then_keeps KeepsBoth (frames_line ws s) _ (λ t ht. done_keeps KeepsBoth (stages.Network, t) (frames_keeps ws s k t ht))
 network_rest_keeps network.Host number ws s k = then_keeps KeepsBoth (host_line ws s) _ (λ t ht. done_keeps KeepsBoth (stages.Network, t) (host_line_keeps ws s k t ht))
 network_rest_keeps network.Link number ws s k = then_keeps KeepsBoth (link_line ws s) _ (λ t ht. done_keeps KeepsBoth (stages.Network, t) (link_line_keeps ws s k t ht))
 network_rest_keeps network.Program number ws s k = then_keeps KeepsBoth (program_line number ws s) _ (λ begun hb. done_keeps KeepsBoth (stages.Inside begun, s) k)
@@ -243,30 +325,35 @@ add_event s e weight k room h = record {
   hosts = k.hosts;
   links = k.links;
   apart = k.apart;
+  programs = k.programs;
   few_events = omega (arith, length-append s.events (e ∷ []), room);
   events = All-push (KeepsEvent s.hosts) s.events e k.events h;
 }
 
 abbrev IsInjection : Reading → Injection → Type 0
-IsInjection s i = (is_host s.hosts i.host ≡ true) × (i.bound ≤ 65535)
+IsInjection s i = (is_host s.hosts i.host ≡ true) × (i.bound ≤ 65535) × IsCheckedChunk i.chunk
 
-injection_is : (s : Reading) (ws : List (List ℕ)) → IfRead (IsInjection s) (injection_at s ws)
+injection_is : (s : Reading) (ws : List (List ℕ)) → Keeps s → IfRead (IsInjection s) (injection_at s ws)
 unfolding injection_at
-injection_is s ws =
+injection_is s ws k =
     then_keeps (IsInjection s) (host_at s.hosts ws) _ (λ n hn.
     then_keeps (IsInjection s) (program_at s.programs n.1) _ (λ p hp.
     then_keeps (IsInjection s) (entry_at p.0.program.funs p.1) _ (λ f hf.
     then_keeps (IsInjection s) (number_at 0 65535 f.1) _ (λ bound hb.
-    then_keeps (IsInjection s) (rest_at bound.1) _ (λ args ha.
-    then_keeps (IsInjection s) (allowed (is_built (with_arguments args)) NotYet) _ (λ u hu.
-    done_keeps (IsInjection s) (record { host = n.0; chunk = chunk_of p.0.program f.0.name; bound = bound.0 }) (host_is s.hosts ws n hn, (number_is 0 65535 f.1 bound hb).1)))))))
+    then_keeps (IsInjection s) (args_at bound.1) _ (λ args ha.
+    then_keeps (IsInjection s) (typed_chunk (chunk_with p.0.program f.0.name args)) _ (λ chunk hc.
+    done_keeps (IsInjection s) (record { host = n.0; chunk = chunk; bound = bound.0 }) (
+      host_is s.hosts ws n hn,
+      (number_is 0 65535 f.1 bound hb).1,
+      chunk_is (chunk_with p.0.program f.0.name args) (named_is s.programs n.1 k.programs p hp) (args_are bound.1 args ha) chunk hc,
+    )))))))
 
 inject_keeps : (ws : List (List ℕ)) (s : Reading) → Keeps s → length s.events < 50000 → IfRead Keeps (inject_line ws s)
 unfolding inject_line
 inject_keeps ws s k room =
     then_keeps Keeps (injection_at s ws) _ (λ i hi.
     then_keeps Keeps (allowed (leb (s.weight + (1 + chunk_weight i.chunk)) 16777216) TooMany) _ (λ u hu.
-    done_keeps Keeps _ (add_event s (happens.Inject (host_of i.host) i.chunk i.bound) (s.weight + (1 + chunk_weight i.chunk)) k room (injection_is s ws i hi))))
+    done_keeps Keeps _ (add_event s (happens.Inject (host_of i.host) i.chunk i.bound) (s.weight + (1 + chunk_weight i.chunk)) k room (injection_is s ws k i hi))))
 
 send_keeps : (ws : List (List ℕ)) (s : Reading) → Keeps s → length s.events < 50000 → IfRead Keeps (send_line ws s)
 unfolding send_line
@@ -378,6 +465,7 @@ nothing_keeps = record {
   hosts = tt;
   links = All-nil (KeepsLink []);
   apart = tt;
+  programs = All-nil IsNamed;
   few_events = omega arith;
   events = All-nil (KeepsEvent []);
 }

@@ -3,8 +3,9 @@ pub mod Reads
 pub mod Numbers
 pub mod Packages
 pub mod Parts
+pub mod Calls
 pub mod Built
-pub mod SmallPrograms
+pub mod Programs
 pub mod Schedules
 pub mod Leaving
 pub mod Rules

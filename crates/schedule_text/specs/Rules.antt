@@ -1,6 +1,7 @@
 -- What every schedule that a file says keeps.
 use Rattle.std.specs.Prelude.{◌≡◌, ◌≢◌, ℕ, ◌≤◌, ◌<◌, ◌^◌, Bool, true, false, List, [], ◌∷◌, length}
 use Rattle.std.specs.List.{All}
+use Rattle.chunk_types.specs.Chunks.{IsCheckedChunk}
 use Rattle.schedule_text.specs.declared.schedule.HostSpec.{HostSpec}
 use Rattle.schedule_text.specs.declared.schedule.Schedule.{Schedule}
 use Rattle.schedule_text.specs.declared.schedule.WorldEvent.{WorldEvent}
@@ -25,9 +26,9 @@ pub record KeepsLink (hosts : List HostSpec) (l : Link) : Type 0 where
   pub from_device : (1 ≤ l.1.0) × (l.1.0 ≤ 8)
   pub to_device : (1 ≤ l.3.0) × (l.3.0 ≤ 8)
 
--- an event is at a host of the network, an injection's bound is at most 65,535, and a sending device at most 8
+-- an event is at a host of the network, an injection's bound is at most 65,535 and its chunk typed and well formed, and a sending device is at most 8
 abbrev pub KeepsEvent : List HostSpec → WorldEvent → Type 0
-KeepsEvent hosts (happens.Inject h chunk bound) = (is_host hosts h.0 ≡ true) × (bound ≤ 65535)
+KeepsEvent hosts (happens.Inject h chunk bound) = (is_host hosts h.0 ≡ true) × (bound ≤ 65535) × IsCheckedChunk chunk
 KeepsEvent hosts (happens.Send h d) = (is_host hosts h.0 ≡ true) × (d.0 ≤ 8)
 KeepsEvent hosts (happens.Deliver k) = k < 2 ^ 32
 KeepsEvent hosts (happens.Lose k) = k < 2 ^ 32

@@ -1,5 +1,5 @@
 -- What each line of a schedule says, and what a whole file says: a schedule, or the first line that is outside the format.
-use Rattle.std.specs.Prelude.{ℕ, ◌+◌, Bool, true, false, not, ◌||◌, if◌then◌else◌, ◌==◌, nat_le, nat_lt, List, [], ◌∷◌, ◌++◌, length, Option, Some, None, Result, Ok, Err}
+use Rattle.std.specs.Prelude.{ℕ, ◌+◌, Bool, true, false, not, ◌&&◌, ◌||◌, if◌then◌else◌, ◌==◌, nat_le, nat_lt, List, [], ◌∷◌, ◌++◌, length, Option, Some, None, Result, Ok, Err}
 use Rattle.std.specs.List.{list_any}
 use Rattle.std.specs.Option.{ok_or}
 use Rattle.std.specs.Str.{bytes_eq}
@@ -28,23 +28,35 @@ use Rattle.schedule_text.specs.declared.keyword.NetworkWord.TheVariants as netwo
 use Rattle.schedule_text.specs.declared.keyword.EventWord.{EventWord}
 use Rattle.schedule_text.specs.declared.keyword.EventWord.TheVariants as event
 use Rattle.schedule_text.specs.Lines.{lines, words}
-use Rattle.schedule_text.specs.Reads.{◌>>=◌, and_then, Part, word_at, end_at, rest_at, allowed}
+use Rattle.schedule_text.specs.Reads.{◌>>=◌, and_then, Part, word_at, end_at, allowed}
 use Rattle.schedule_text.specs.Numbers.{number_at}
 use Rattle.schedule_text.specs.Packages.{packages_at}
 use Rattle.schedule_text.specs.Parts.{Link, host_of, dev_of, is_host, host_at, free_device_at, is_called, program_at, entry_at, named_word}
-use Rattle.schedule_text.specs.Built.{is_built, lacking, with_arguments, a_tick}
-use Rattle.schedule_text.specs.SmallPrograms.{program_of}
+use Rattle.schedule_text.specs.Built.{is_built, with_frames, lacking, a_tick}
+use Rattle.schedule_text.specs.Programs.{program_in, args_at, chunk_with, typed_chunk}
 
 abbrev pub host_spec : ℕ → HostSpec
 host_spec n = record { host = host_of n }
 
 -- the first word of a line of the network
 abbrev pub network_word : List ℕ → Option NetworkWord
-network_word w = if bytes_eq w (codes "host") then Some network.Host else (if bytes_eq w (codes "link") then Some network.Link else (if bytes_eq w (codes "program") then Some network.Program else (if bytes_eq w (codes "events") then Some network.Events else None)))
+network_word w = if bytes_eq w (codes "frames") then Some network.Frames else (if bytes_eq w (codes "host") then Some network.Host else (if bytes_eq w (codes "link") then Some network.Link else (if bytes_eq w (codes "program") then Some network.Program else (if bytes_eq w (codes "events") then Some network.Events else None))))
 
 -- the first word of an event
 abbrev pub event_word : List ℕ → Option EventWord
 event_word w = if bytes_eq w (codes "inject") then Some event.Inject else (if bytes_eq w (codes "send") then Some event.Send else (if bytes_eq w (codes "deliver") then Some event.Deliver else (if bytes_eq w (codes "lose") then Some event.Lose else (if bytes_eq w (codes "tick") then Some event.Tick else None))))
+
+-- whether no host and no program was read; a link needs hosts
+abbrev pub is_first : Reading → Bool
+is_first s = length s.hosts == 0 && length s.programs == 0
+
+-- `frames`, in front of the other lines of the network
+unfoldable pub frames_line : List (List ℕ) → Reading → Result Reading LineReason
+frames_line ws s = do
+  _ ← allowed (is_first s) BadWord
+  _ ← end_at ws
+  _ ← allowed (is_built with_frames) NotYet
+  Ok s
 
 -- `host N`, then `without PACKAGE` any number of times
 unfoldable pub host_line : List (List ℕ) → Reading → Result Reading LineReason
@@ -91,12 +103,14 @@ named name program = record { name = name; program = program }
 -- the end of a program's text
 unfoldable pub close_program : OpenProgram → Reading → Result Reading LineReason
 close_program begun s = do
-  _ ← allowed (nat_le (length begun.text) 65536) TooMany
-  program ← program_of begun.text
+  program ← program_in begun.text
   Ok (record s { programs = s.programs ++ named begun.name program ∷ [] })
 
 -- a line of the network behind its first word, and what may come next
 unfoldable pub network_rest : NetworkWord → ℕ → List (List ℕ) → Reading → Result (Stage × Reading) LineReason
+network_rest network.Frames number ws s = do
+  t ← frames_line ws s
+  Ok (stages.Network, t)
 network_rest network.Host number ws s = do
   t ← host_line ws s
   Ok (stages.Network, t)
@@ -127,10 +141,6 @@ pub record Injection : Type 0 where
   pub chunk : Chunk
   pub bound : ℕ
 
--- the chunk of a program's function, without arguments
-abbrev pub chunk_of : Program → Name → Chunk
-chunk_of program entry = record { code = program; entry = entry; args = [] }
-
 -- `inject N PROGRAM ENTRY BOUND ARGS` behind its first word
 unfoldable pub injection_at : Reading → List (List ℕ) → Result Injection LineReason
 injection_at s ws = do
@@ -138,9 +148,9 @@ injection_at s ws = do
   p ← program_at s.programs n.1
   f ← entry_at p.0.program.funs p.1
   bound ← number_at 0 65535 f.1
-  args ← rest_at bound.1
-  _ ← allowed (is_built (with_arguments args)) NotYet
-  Ok (record { host = n.0; chunk = chunk_of p.0.program f.0.name; bound = bound.0 })
+  args ← args_at bound.1
+  chunk ← typed_chunk (chunk_with p.0.program f.0.name args)
+  Ok (record { host = n.0; chunk = chunk; bound = bound.0 })
 
 -- an injection, whose chunk weighs as a value, its tag counted
 unfoldable pub inject_line : List (List ℕ) → Reading → Result Reading LineReason

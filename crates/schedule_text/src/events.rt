@@ -7,33 +7,31 @@ use crate::fault::{LineReason, Stop};
 use crate::keyword::EventWord;
 use crate::numbers::number;
 use crate::parts::{known_entry, known_host, known_program};
+use crate::program::{arguments, typed_chunk};
 use crate::reading::Reading;
 use crate::schedule::WorldEvent;
-use crate::words::{Words, allow, is};
-use plan_base::{Chunk, Dev, Host, chunk_weight};
-use plan_items::Items;
+use crate::words::{Words, allow};
+use chunk_types::CheckedChunk;
+use plan_base::{Dev, Host, chunk_weight};
 use std::alloc::Global;
 
 /// `inject N PROGRAM ENTRY BOUND ARGS` behind the first word: where, what and with which bound.
-/// Reasons: `BadWord`, `BadNumber`, `UnknownHost`, `UnknownProgram`, `BadArgument`, `NotYet`.
+/// Reasons: `BadWord`, `BadNumber`, `UnknownHost`, `UnknownProgram`, `BadArgument`.
 #[tactic(auto, unfolding(crate::specs::Schedules::injection_at))]
 fn read_injection(
     alloc: Global,
     reading: &Reading,
     words: &mut Words<'_>,
-) -> Result<(u32, Chunk, u32), Stop>
+) -> Result<(u32, CheckedChunk, u32), Stop>
     ensures { Gives injection result (injection_at reading.now words.old) }
 {
     let n = known_host(reading.hosts.as_slice(), words)?;
     let named = known_program(reading.programs.as_slice(), words)?;
-    let fun = known_entry(named.program.funs.as_slice(), words)?;
+    let fun = known_entry(named.program.program().funs.as_slice(), words)?;
     let bound = number(words, 0, 65_535)?;
-    let args = words.rest()?;
-    allow(is(args, b"()"), LineReason::NotYet)?;
-    let code = named.program.copy(alloc)?;
-    let entry = fun.name.copy(alloc)?;
-    let args = Items::new(alloc);
-    Ok((n, Chunk { code, entry, args }, bound))
+    let args = arguments(alloc, words)?;
+    let chunk = typed_chunk(alloc, &named.program, &fun.name, args)?;
+    Ok((n, chunk, bound))
 }
 
 /// An injection behind its first word. Reasons: those of [`read_injection`], and `TooMany`.
@@ -42,7 +40,7 @@ fn inject(alloc: Global, reading: &mut Reading, words: &mut Words<'_>) -> Result
     ensures { Leaves result reading.new (inject_line words.old reading.old) }
 {
     let (n, chunk, bound) = read_injection(alloc, reading, words)?;
-    let weight = chunk_weight(&chunk)
+    let weight = chunk_weight(chunk.chunk())
         .saturating_add(1)
         .saturating_add(reading.weight);
     allow(weight <= 16_777_216, LineReason::TooMany)?;

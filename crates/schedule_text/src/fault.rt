@@ -1,6 +1,7 @@
 ghost use Rattle.std.specs.Prelude.{◌≡◌};
 
 use plan_base::NoMemory;
+use program_text::TextFault;
 use std::alloc::AllocError;
 
 /// Why a line is outside a format.
@@ -18,8 +19,10 @@ pub enum LineReason {
     UnknownProgram,
     /// A host, a program or a device of a host is named a second time.
     TwiceNamed,
-    /// One more than the format allows, or a program's text over its limit.
+    /// One more than the format allows, or a program's text or the injected chunks over their limit.
     TooMany,
+    /// A program's text is refused for this.
+    ProgramRefused(TextFault),
     /// An entry, arguments or a combination of numbers that don't fit.
     BadArgument,
     /// The line is right in every other way and uses a form that isn't built yet.

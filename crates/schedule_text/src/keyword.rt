@@ -6,6 +6,8 @@ use crate::words::is;
 /// The first word of a line of the network.
 #[derive(Debug, Clone, Copy, PartialEq, Eq)]
 pub enum NetworkWord {
+    /// `frames`
+    Frames,
     /// `host`
     Host,
     /// `link`
@@ -36,7 +38,9 @@ impl NetworkWord {
     pub fn of(word: &[u8]) -> Option<NetworkWord>
         ensures { result ≡ network_word word.now }
     {
-        if is(word, b"host") {
+        if is(word, b"frames") {
+            Some(NetworkWord::Frames)
+        } else if is(word, b"host") {
             Some(NetworkWord::Host)
         } else if is(word, b"link") {
             Some(NetworkWord::Link)

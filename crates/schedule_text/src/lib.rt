@@ -1,6 +1,7 @@
 //! Files of lines: schedules.
 #![tactic(auto)]
 
+mod calls;
 mod events;
 mod fault;
 mod keyword;
@@ -9,11 +10,10 @@ mod network;
 mod numbers;
 mod package;
 mod parts;
+mod program;
 mod read;
 mod reading;
-mod scan;
 mod schedule;
-mod small_program;
 mod words;
 
 pub use fault::{LineFault, LineReason};

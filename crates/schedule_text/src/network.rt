@@ -1,6 +1,6 @@
 ghost use Rattle.std.specs.Prelude.{◌≡◌};
 ghost use Rattle.schedule_text.specs.Reads.{Leaves, Gives};
-ghost use Rattle.schedule_text.specs.Schedules.{host_line, link_line, program_line, close_program, network_rest, network_line};
+ghost use Rattle.schedule_text.specs.Schedules.{is_first, frames_line, host_line, link_line, program_line, close_program, network_rest, network_line};
 ghost use Rattle.schedule_text.specs.Leaving.{LeavesStage};
 
 use crate::fault::{LineReason, Stop};
@@ -8,12 +8,29 @@ use crate::keyword::NetworkWord;
 use crate::numbers::number;
 use crate::package::packages;
 use crate::parts::{free_device, is_known_host, is_known_program, known_host, name_of};
+use crate::program::program;
 use crate::reading::{NamedProgram, OpenProgram, Reading, Stage};
 use crate::schedule::HostSpec;
-use crate::small_program::read_small;
 use crate::words::{Words, allow};
 use plan_base::{Bytes, Dev, Host};
 use std::alloc::Global;
+
+/// Whether no host and no program was read.
+fn is_first(reading: &Reading) -> bool
+    ensures { result ≡ is_first reading.now }
+{
+    reading.hosts.is_empty() && reading.programs.is_empty()
+}
+
+/// `frames` behind the first word. Reasons: `BadWord`, `NotYet`.
+#[tactic(auto, unfolding(crate::specs::Schedules::frames_line))]
+fn read_frames(reading: &mut Reading, words: &mut Words<'_>) -> Result<(), Stop>
+    ensures { Leaves result reading.new (frames_line words.old reading.old) }
+{
+    allow(is_first(reading), LineReason::BadWord)?;
+    words.end()?;
+    Err(Stop::Reason(LineReason::NotYet))
+}
 
 /// `host N` and the packages that it lacks, behind the first word. Reasons: `TooMany`, `BadWord`,
 /// `BadNumber`, `TwiceNamed`, `NotYet`.
@@ -71,7 +88,7 @@ fn begin_program(
     Ok(OpenProgram { line, name, text })
 }
 
-/// The end of a program's text. Reasons: `TooMany`, `NotYet`.
+/// The end of a program's text. Reasons: `TooMany`, `ProgramRefused`, `NotYet`.
 #[tactic(auto, unfolding(crate::specs::Schedules::close_program))]
 pub fn end_program(alloc: Global, reading: &mut Reading, begun: OpenProgram) -> Result<(), Stop>
     ensures { Leaves result reading.new (close_program begun reading.old) }
@@ -81,8 +98,7 @@ pub fn end_program(alloc: Global, reading: &mut Reading, begun: OpenProgram) -> 
         name,
         text,
     } = begun;
-    allow(text.len() <= 65_536, LineReason::TooMany)?;
-    let program = read_small(alloc, text.as_slice())?;
+    let program = program(alloc, text.as_slice())?;
     reading.programs.add(NamedProgram { name, program })?;
     Ok(())
 }
@@ -99,6 +115,10 @@ fn read_rest(
     ensures { LeavesStage result reading.new (network_rest kind line words.old reading.old) }
 {
     match kind {
+        NetworkWord::Frames => {
+            read_frames(reading, words)?;
+            Ok(Stage::Network)
+        }
         NetworkWord::Host => {
             read_host(alloc, reading, words)?;
             Ok(Stage::Network)

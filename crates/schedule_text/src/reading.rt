@@ -1,14 +1,15 @@
 use crate::schedule::{HostSpecs, Links, WorldEvents};
-use plan_base::{Bytes, Name, Program};
+use plan_base::{Bytes, Name};
 use plan_items::Items;
+use plan_types::Checked;
 
-/// A program of a file, with the name that the file gives it.
+/// A typed program of a file, with the name that the file gives it.
 #[derive(Debug, Drop)]
 pub struct NamedProgram {
     /// Its name.
     pub name: Name,
     /// The program.
-    pub program: Program,
+    pub program: Checked,
 }
 
 /// A list of named programs.

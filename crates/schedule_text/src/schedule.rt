@@ -1,4 +1,5 @@
-use plan_base::{Chunk, Dev, Host};
+use chunk_types::CheckedChunk;
+use plan_base::{Dev, Host};
 use plan_items::Items;
 
 /// A schedule: a network and what happens to it, one event after the other.
@@ -38,8 +39,8 @@ pub type WorldEvents = Items<WorldEvent>;
 /// What happens to a network at one moment.
 #[derive(Debug, Drop)]
 pub enum WorldEvent {
-    /// A chunk is injected at a host with a bound.
-    Inject(Host, Chunk, u32),
+    /// A typed chunk is injected at a host with a bound of at most 65,535.
+    Inject(Host, CheckedChunk, u32),
     /// A host sends the first frame of a device's queue.
     Send(Host, Dev),
     /// The frame with this number is taken off the wire and arrives.

@@ -23,6 +23,7 @@ fn reason_name(reason: &LineReason) -> &'static str {
         LineReason::UnknownProgram => "UnknownProgram",
         LineReason::TwiceNamed => "TwiceNamed",
         LineReason::TooMany => "TooMany",
+        LineReason::ProgramRefused(_) => "ProgramRefused",
         LineReason::BadArgument => "BadArgument",
         LineReason::NotYet => "NotYet",
     }
@@ -60,7 +61,7 @@ fn all_hold(rt: &impl Abort, alloc: Global, front: &[u8], cases: &[Case]) -> Res
     Ok(())
 }
 
-static HEADERS_AND_ENDS: [Case; 14] = [
+static HEADERS_AND_ENDS: [Case; 17] = [
     (b"", 1, "BadHeader"),
     (b"\n", 1, "BadHeader"),
     (b"planet schedule 9\n", 1, "BadHeader"),
@@ -69,7 +70,10 @@ static HEADERS_AND_ENDS: [Case; 14] = [
     (b"planet schedule 1", 2, "BadWord"),
     (b"planet schedule 1\n", 2, "BadWord"),
     (b"planet schedule 1\n\n\n", 4, "BadWord"),
-    (b"planet schedule 1\nframes\n", 2, "BadWord"),
+    (b"planet schedule 1\nframes\n", 2, "NotYet"),
+    (b"planet schedule 1\n# a comment\nframes\n", 3, "NotYet"),
+    (b"planet schedule 1\nframes x\n", 2, "BadWord"),
+    (b"planet schedule 1\nhost 1\nframes\n", 3, "BadWord"),
     (b"planet schedule 1\nevents", 0, ""),
     (
         b"planet schedule 1\n\n# a comment\nhost 1\nevents\n# another\n\n",
@@ -136,7 +140,7 @@ fn link_lines(rt: HostRuntime) -> Result<(), Fail> {
     all_hold(&rt, rt.alloc(), HOSTS, &LINK_LINES)
 }
 
-static PROGRAM_LINES: [Case; 13] = [
+static PROGRAM_LINES: [Case; 15] = [
     (b"program\n", 4, "BadWord"),
     (b"program fun\n", 4, "BadWord"),
     (b"program 1p\n", 4, "BadWord"),
@@ -147,26 +151,36 @@ static PROGRAM_LINES: [Case; 13] = [
     (
         b"program p\nfun f() : int = true\nend program\nevents\n",
         4,
-        "NotYet",
+        "ProgramRefused",
     ),
     (
-        b"program p\n# no comment\nfun f() : unit = OnNeighbor(|f|(), @2, 1, %1)\nend program\nevents\n",
+        b"program p\n# no comment\nfun f() : unit = ()\nend program\nevents\n",
         4,
-        "NotYet",
-    ),
-    (
-        b"program p\nfun f() : unit = OnNeighbor(|g|(), @2, 1, %1)\nend program\nevents\n",
-        4,
-        "NotYet",
+        "ProgramRefused",
     ),
     (
         b"program p\nfun f() : unit = print(\"a\")\nend program\nevents\n",
         4,
+        "ProgramRefused",
+    ),
+    (b"program p\nend program\nevents\n", 4, "ProgramRefused"),
+    (
+        b"program p\nsvc thisHost : () -> host\nfun f() : host list = [thisHost()]\nend program\nevents\n",
+        4,
         "NotYet",
     ),
-    (b"program p\nend program\nevents\n", 4, "NotYet"),
+    (
+        b"program p\nsvc thisHost : () -> host\nfun f() : host list = []\nend program\nevents\n",
+        0,
+        "",
+    ),
     (
         b"program p\n\n  fun f():unit=OnNeighbor ( | f | ( ) ,@002 , 00001,%1)\n\nend program\nevents\n",
+        0,
+        "",
+    ),
+    (
+        b"program p\nsvc print : (int) -> unit\nfun f(n : int) : unit = if n < 1 then () else print(n)\nend program\nevents\n",
         0,
         "",
     ),
@@ -210,7 +224,7 @@ fn event_lines(rt: HostRuntime) -> Result<(), Fail> {
     all_hold(&rt, rt.alloc(), NETWORK, &EVENT_LINES)
 }
 
-static INJECTIONS: [Case; 10] = [
+static INJECTIONS: [Case; 12] = [
     (b"inject 1 p f 65535 ()\ninject 2 p f 0 ()", 0, ""),
     (b"inject 3 q g x y\n", 9, "UnknownHost"),
     (b"inject 1 q g x y\n", 9, "UnknownProgram"),
@@ -219,13 +233,33 @@ static INJECTIONS: [Case; 10] = [
     (b"inject 1 p f 65536 ()\n", 9, "BadNumber"),
     (b"inject 1 p f\n", 9, "BadWord"),
     (b"inject 1 p f 5\n", 9, "BadWord"),
-    (b"inject 1 p f 5 (1)\n", 9, "NotYet"),
-    (b"inject 1 p f 5 (1, 2)\n", 9, "NotYet"),
+    (b"inject 1 p f 5 \n", 9, "BadArgument"),
+    (b"inject 1 p f 5 (1)\n", 9, "BadArgument"),
+    (b"inject 1 p f 5 () x\n", 9, "BadArgument"),
+    (b"inject 1 p f 5  ( (* none *) ) \n", 0, ""),
 ];
 
 #[test]
 fn injections(rt: HostRuntime) -> Result<(), Fail> {
     all_hold(&rt, rt.alloc(), NETWORK, &INJECTIONS)
+}
+
+/// A program whose function takes an int and a list of strings, up to the line `events`, which is line 6.
+const TAKES: &[u8] =
+    b"planet schedule 1\nhost 1\nprogram p\nfun f(n : int, s : string list) : unit = ()\nend program\nevents\n";
+
+static ARGUMENTS: [Case; 6] = [
+    (b"inject 1 p f 5 (~7, [\"a b\", \"\"])\n", 0, ""),
+    (b"inject 1 p f 5 (7, [: string])\n", 0, ""),
+    (b"inject 1 p f 5 (7, [: int])\n", 7, "BadArgument"),
+    (b"inject 1 p f 5 (7)\n", 7, "BadArgument"),
+    (b"inject 1 p f 5 (7, [\"a\"]\n", 7, "BadArgument"),
+    (b"inject 1 p f 5 (n, [\"a\"])\n", 7, "BadArgument"),
+];
+
+#[test]
+fn arguments_of_injections(rt: HostRuntime) -> Result<(), Fail> {
+    all_hold(&rt, rt.alloc(), TAKES, &ARGUMENTS)
 }
 
 #[test]
@@ -288,7 +322,7 @@ fn a_programs_text_has_at_most_65_536_bytes(rt: HostRuntime) -> Result<(), Fail>
         65_536,
         b"end program\nevents\n",
     )?;
-    is_answered(&rt, rt.alloc(), full.as_slice(), 2, "NotYet");
+    is_answered(&rt, rt.alloc(), full.as_slice(), 2, "ProgramRefused");
     let over = repeated(
         rt.alloc(),
         b"planet schedule 1\nprogram p\n",
@@ -300,32 +334,19 @@ fn a_programs_text_has_at_most_65_536_bytes(rt: HostRuntime) -> Result<(), Fail>
     Ok(())
 }
 
-/// A statement that prints 100 bytes. A chunk with 32 of them weighs 3,603 bytes as a value.
-const PRINT: &[u8] =
-    b"; print(\"0123456789012345678901234567890123456789012345678901234567890123456789012345678901234567890123456789\")";
-
+/// A program that prints a text, up to the text. A chunk of it weighs, as a value, 31 bytes more than the text.
 const PRINTS: &[u8] =
-    b"planet schedule 1\nhost 1\nprogram p\nsvc print : (string) -> unit\nfun f() : unit = print(\"0123456789012345678901234567890123456789012345678901234567890123456789012345678901234567890123456789\")";
+    b"planet schedule 1\nhost 1\nprogram p\nsvc print : (string) -> unit\nfun f() : unit = print(\"";
 
 #[test]
 fn injected_chunks_weigh_at_most_16_777_216_bytes(rt: HostRuntime) -> Result<(), Fail> {
-    let network = repeated(rt.alloc(), PRINTS, PRINT, 31, b"\nend program\nevents\n")?;
-    let full = repeated(
-        rt.alloc(),
-        network.as_slice(),
-        b"inject 1 p f 1 ()\n",
-        4_656,
-        b"",
-    )?;
+    let back = b"\")\nend program\nevents\n";
+    let network = repeated(rt.alloc(), PRINTS, b"0123456789", 1_500, back)?;
+    let inject = b"inject 1 p f 1 ()\n";
+    let full = repeated(rt.alloc(), network.as_slice(), inject, 1_116, b"")?;
     is_answered(&rt, rt.alloc(), full.as_slice(), 0, "");
-    let over = repeated(
-        rt.alloc(),
-        network.as_slice(),
-        b"inject 1 p f 1 ()\n",
-        4_657,
-        b"",
-    )?;
-    is_answered(&rt, rt.alloc(), over.as_slice(), 4_664, "TooMany");
+    let over = repeated(rt.alloc(), network.as_slice(), inject, 1_117, b"")?;
+    is_answered(&rt, rt.alloc(), over.as_slice(), 1_124, "TooMany");
     Ok(())
 }
 
