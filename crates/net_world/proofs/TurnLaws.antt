@@ -31,7 +31,7 @@ turn_visit ctx old p r new b v = visit_is p.bound (visited meaning p.chunk (begu
 
 some_rows : (o : Option Rows) (a b : Rows) → IsSome o → rows_at o a ≡ rows_at o b
 some_rows (Some rows) a b h = refl
-some_rows None a b h = absurd h
+some_rows None a b h = cc
 
 undone_as : (old new : Standing) → new.offer ≡ old.offer → rows_at new.begun new.rows ≡ rows_at old.begun old.rows → abandoned new ≡ abandoned old
 undone_as old new o r = λ i. record { offer = o i; rows = r i; begun = None; ready = false }

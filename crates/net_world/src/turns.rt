@@ -7,8 +7,8 @@ ghost use Rattle.net_world.specs.Turns.{IsOpen, closed, is_spent as spent};
 
 use crate::sends::{begin_acts, send_all};
 use link_queue::Queue;
-use plan_eval::visit;
 use plan_base::{NoMemory, Packet};
+use plan_eval::visit;
 use plan_items::Items;
 use plan_meaning::{Outbox, Outcome, Visit};
 use service_api::{Ctx, Services};

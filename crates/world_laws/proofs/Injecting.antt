@@ -68,8 +68,14 @@ module _ (c : Act → ℕ) (z : OnlyInjects c) where
 
   visit_none : (queues : Queues) (p : Packet) (v : Visit) → act_sum c (visit_acts queues p v) ≡ 0
   unfolding visit_acts
-  visit_none queues p v = omega (arith, act_sum-append c (map Noted v.notes) (Ended p.family v.outcome v.evals v.left ∷ sends_acts queues v.outbox),
-      act_sum-cons c (Ended p.family v.outcome v.evals v.left) (sends_acts queues v.outbox), notes_none v.notes, z.ended p.family v.outcome v.evals v.left, sends_none queues v.outbox)
+  visit_none queues p v = omega (
+    arith,
+    act_sum-append c (map Noted v.notes) (Ended p.family v.outcome v.evals v.left ∷ sends_acts queues v.outbox),
+    act_sum-cons c (Ended p.family v.outcome v.evals v.left) (sends_acts queues v.outbox),
+    notes_none v.notes,
+    z.ended p.family v.outcome v.evals v.left,
+    sends_none queues v.outbox,
+  )
 
   pub visited_count : (act : Act) (node : NodeState) (p : Packet) → act_sum c (visited (act ∷ []) node p).acts ≡ c act
   unfolding visited
@@ -160,8 +166,9 @@ module _ (f : Family) where
   inject_cases : (t : Bool) (node : NodeState) (chunk : Chunk) (bound : ℕ) → bound ≤ 65535
       → StepGives node (cond t (stepped (SerialsSpent ∷ []) None node) (visited (Injected (record { source = node.here; serial = node.serial }) bound ∷ []) (next_serial node) (injected_packet node chunk bound)))
   inject_cases true node chunk bound h = record {
-      once = omega (arith, act_sum-cons (act_injections f) SerialsSpent [], act_sum-nil (act_injections f));
-      limit = omega (arith, act_sum-cons (act_granted f) SerialsSpent [], act_sum-nil (act_granted f)) }
+    once = omega (arith, act_sum-cons (act_injections f) SerialsSpent [], act_sum-nil (act_injections f));
+    limit = omega (arith, act_sum-cons (act_granted f) SerialsSpent [], act_sum-nil (act_granted f));
+  }
   inject_cases false node chunk bound h =
       let g : Family = record { source = node.here; serial = node.serial } in
       let act = Injected g bound in
@@ -209,13 +216,15 @@ module _ (f : Family) where
 
   arrive_gives : (node : NodeState) (d : Dev) (p : Packet) → StepGives node (arrive_step node d p)
   arrive_gives node d p = let s = arrive_same node d p in record {
-      once = omega (arith, arrive_none (act_injections f) injections_injects node d p, same_gives node (arrive_step node d p).node s.here s.serial);
-      limit = omega (arith, arrive_none (act_granted f) granted_injects node d p) }
+    once = omega (arith, arrive_none (act_injections f) injections_injects node d p, same_gives node (arrive_step node d p).node s.here s.serial);
+    limit = omega (arith, arrive_none (act_granted f) granted_injects node d p);
+  }
 
   take_gives : (node : NodeState) (d : Dev) → StepGives node (take_step node d)
   take_gives node d = let s = take_same node d in record {
-      once = omega (arith, take_none (act_injections f) injections_injects node d, same_gives node (take_step node d).node s.here s.serial);
-      limit = omega (arith, take_none (act_granted f) granted_injects node d) }
+    once = omega (arith, take_none (act_injections f) injections_injects node d, same_gives node (take_step node d).node s.here s.serial);
+    limit = omega (arith, take_none (act_granted f) granted_injects node d);
+  }
 
   -- the same for an event
   record EventGives (w : WorldState) (h : Happened) : Type 0 where
@@ -224,8 +233,9 @@ module _ (f : Family) where
 
   nothing_gives : (w : WorldState) → EventGives w (nothing w)
   nothing_gives w = record {
-      once = omega (arith, line_sum-cons (line_injections f) Nothing [], line_sum-nil (line_injections f));
-      limit = omega (arith, line_sum-cons (line_granted f) Nothing [], line_sum-nil (line_granted f)) }
+    once = omega (arith, line_sum-cons (line_injections f) Nothing [], line_sum-nil (line_injections f));
+    limit = omega (arith, line_sum-cons (line_granted f) Nothing [], line_sum-nil (line_granted f));
+  }
 
   inject_at_gives : (w : WorldState) (h : Host) (chunk : Chunk) (bound at : ℕ) (o : Option NodeState) → bound ≤ 65535 → slice_get w.nodes at ≡ o → EventGives w (inject_at w h chunk bound at o)
   unfolding inject_at
@@ -233,8 +243,10 @@ module _ (f : Family) where
   inject_at_gives w h chunk bound at (Some node) b e =
       let step = inject_step node chunk bound in
       let g = inject_gives node chunk bound b in
-      record { once = omega (arith, g.once, line_sum-at (line_injections f) h step.acts, may_give_all-set w.nodes at node step.node e);
-        limit = omega (arith, g.limit, line_sum-at (line_injections f) h step.acts, line_sum-at (line_granted f) h step.acts) }
+      record {
+        once = omega (arith, g.once, line_sum-at (line_injections f) h step.acts, may_give_all-set w.nodes at node step.node e);
+        limit = omega (arith, g.limit, line_sum-at (line_injections f) h step.acts, line_sum-at (line_granted f) h step.acts);
+      }
 
   inject_place_gives : (w : WorldState) (h : Host) (chunk : Chunk) (bound : ℕ) (o : Option ℕ) → bound ≤ 65535 → EventGives w (inject_place w h chunk bound o)
   unfolding inject_place
@@ -252,11 +264,29 @@ module _ (f : Family) where
   send_taken_gives w h d at to node step (Some p) e g =
       let lines = lines_at h step.acts in
       let wire = Wire w.next in
-      record { once = omega (arith, g.once, line_sum-at (line_injections f) h step.acts, may_give_all-set w.nodes at node step.node e,
-          line_sum-append (line_injections f) lines (wire ∷ []), line_sum-cons (line_injections f) wire [], line_sum-nil (line_injections f));
-        limit = omega (arith, g.limit, line_sum-at (line_injections f) h step.acts, line_sum-at (line_granted f) h step.acts,
-          line_sum-append (line_injections f) lines (wire ∷ []), line_sum-cons (line_injections f) wire [], line_sum-nil (line_injections f),
-          line_sum-append (line_granted f) lines (wire ∷ []), line_sum-cons (line_granted f) wire [], line_sum-nil (line_granted f)) }
+      record {
+        once = omega (
+          arith,
+          g.once,
+          line_sum-at (line_injections f) h step.acts,
+          may_give_all-set w.nodes at node step.node e,
+          line_sum-append (line_injections f) lines (wire ∷ []),
+          line_sum-cons (line_injections f) wire [],
+          line_sum-nil (line_injections f),
+        );
+        limit = omega (
+          arith,
+          g.limit,
+          line_sum-at (line_injections f) h step.acts,
+          line_sum-at (line_granted f) h step.acts,
+          line_sum-append (line_injections f) lines (wire ∷ []),
+          line_sum-cons (line_injections f) wire [],
+          line_sum-nil (line_injections f),
+          line_sum-append (line_granted f) lines (wire ∷ []),
+          line_sum-cons (line_granted f) wire [],
+          line_sum-nil (line_granted f),
+        );
+      }
 
   send_at_gives : (w : WorldState) (h : Host) (d : Dev) (at : ℕ) (to : LinkEnd) (o : Option NodeState) → slice_get w.nodes at ≡ o → EventGives w (send_at w h d at to o)
   unfolding send_at
@@ -289,9 +319,17 @@ module _ (f : Family) where
       let g = arrive_gives node x.to.dev x.packet in
       let lines = lines_at x.to.host step.acts in
       let off = Off x.number in
-      record { once = omega (arith, g.once, line_sum-at (line_injections f) x.to.host step.acts, may_give_all-set w.nodes at node step.node e, line_sum-cons (line_injections f) off lines);
-        limit = omega (arith, g.limit, line_sum-at (line_injections f) x.to.host step.acts, line_sum-at (line_granted f) x.to.host step.acts,
-          line_sum-cons (line_injections f) off lines, line_sum-cons (line_granted f) off lines) }
+      record {
+        once = omega (arith, g.once, line_sum-at (line_injections f) x.to.host step.acts, may_give_all-set w.nodes at node step.node e, line_sum-cons (line_injections f) off lines);
+        limit = omega (
+          arith,
+          g.limit,
+          line_sum-at (line_injections f) x.to.host step.acts,
+          line_sum-at (line_granted f) x.to.host step.acts,
+          line_sum-cons (line_injections f) off lines,
+          line_sum-cons (line_granted f) off lines,
+        );
+      }
 
   deliver_to_gives : (w : WorldState) (place : ℕ) (x : Wired) (o : Option ℕ) → EventGives w (deliver_to w place x o)
   unfolding deliver_to
@@ -320,7 +358,8 @@ module _ (f : Family) where
       let lost = Lost (what_of x.packet) in
       record {
         once = omega (arith, line_sum-cons (line_injections f) off (lost ∷ []), line_sum-cons (line_injections f) lost [], line_sum-nil (line_injections f));
-        limit = omega (arith, line_sum-cons (line_granted f) off (lost ∷ []), line_sum-cons (line_granted f) lost [], line_sum-nil (line_granted f)) }
+        limit = omega (arith, line_sum-cons (line_granted f) off (lost ∷ []), line_sum-cons (line_granted f) lost [], line_sum-nil (line_granted f));
+      }
 
   lose_place_gives : (w : WorldState) (o : Option ℕ) → EventGives w (lose_place w o)
   unfolding lose_place
@@ -347,8 +386,10 @@ module _ (f : Family) where
   event_gives w e b =
       let g = acted_gives w e b in
       let lines = (acted w e).lines in
-      record { once = omega (arith, g.once, tally-entries (line_injections f) (w.made + 1) lines);
-        limit = omega (arith, g.limit, tally-entries (line_injections f) (w.made + 1) lines, tally-entries (line_granted f) (w.made + 1) lines) }
+      record {
+        once = omega (arith, g.once, tally-entries (line_injections f) (w.made + 1) lines);
+        limit = omega (arith, g.limit, tally-entries (line_injections f) (w.made + 1) lines, tally-entries (line_granted f) (w.made + 1) lines);
+      }
 
   run_gives : (es : List WorldEvent) (w : WorldState) → EventsFit es → RunGives (history_of es w) w (world_after es w)
   unfolding history_of world_after
@@ -358,8 +399,10 @@ module _ (f : Family) where
       let more = run_gives es (happens w e).world (All-tail event_fits e es b) in
       let first = entries w e in
       let rest = history_of es (happens w e).world in
-      record { once = omega (arith, one.once, more.once, tally-append (line_injections f) first rest);
-        limit = omega (arith, one.limit, more.limit, tally-append (line_injections f) first rest, tally-append (line_granted f) first rest) }
+      record {
+        once = omega (arith, one.once, more.once, tally-append (line_injections f) first rest);
+        limit = omega (arith, one.limit, more.limit, tally-append (line_injections f) first rest, tally-append (line_granted f) first rest);
+      }
 
   other_host : (n m s t : ℕ) → (n == m) ≡ false → ◌≡◌ {A = ℕ} (cond ((n == m) && nat_le s t) 1 0) 0
   other_host n m s t e = grind (arith, nat_tests)

@@ -8,3 +8,6 @@ returns-clause-sound c = acted_sound (world_state c.args.self.now) c.args.event.
 
 pub returns-clause-balance : goal.returns-clause-balance
 returns-clause-balance c = λ f. event_balances f (world_state c.args.self.now) c.args.event.now
+
+pub returns-in_err-lines-clause-balance : goal.returns-in_err-lines-clause-balance
+returns-in_err-lines-clause-balance c = λ f. event_balances f (world_state c.args.self.now) c.args.event.now
