@@ -23,7 +23,7 @@ pub hosts_differ : (s : Schedule) → rules.KeepsRules s → HostsDiffer s.topol
 hosts_differ s keeps = differ s.topology.hosts keeps.hosts
 
 event_of : (hosts : List HostSpec) (e : WorldEvent) → rules.KeepsEvent hosts e → event_fits e
-event_of hosts (Inject h chunk bound) keeps = keeps.1
+event_of hosts (Inject h chunk bound) keeps = (keeps.1, keeps.2)
 event_of hosts (Send h d) keeps = tt
 event_of hosts (Deliver k) keeps = tt
 event_of hosts (Lose k) keeps = tt
