@@ -320,7 +320,7 @@ fn a_program_of_one_byte_too_many_is_too_long(rt: HostRuntime) -> Result<(), Fai
     let alloc = rt.alloc();
     let mut bytes = Vec::from_slice(alloc, b"fun f() : unit = ()\n")?;
     bytes.resize(65_537, b'\n')?;
-    let (code, out, notes) = check(alloc, bytes.as_slice())?;
+    let (code, out, notes) = on_bytes(alloc, "check", bytes.as_slice())?;
     assert_eq!(rt; code, 2);
     assert_eq!(rt; out.taken().len(), 0);
     assert_eq!(rt; notes.taken().as_slice(), b"planet: TooLong\n".as_slice());
