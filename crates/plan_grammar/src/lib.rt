@@ -14,6 +14,8 @@ mod levels;
 mod node;
 mod reader;
 mod start;
+#[cfg(test)]
+mod tests;
 mod types;
 
 pub use ahead::Ahead;
