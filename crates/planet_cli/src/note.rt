@@ -1,28 +1,51 @@
-ghost use Rattle.std.specs.Prelude.{◌≡◌, ◌≤◌, ◌⊎◌, IsTrue, IfOk};
+ghost use Rattle.std.specs.Prelude.{◌≡◌, ◌≤◌, ◌⊎◌, ◌++◌, IsTrue, IfOk, OnOk};
 ghost use Rattle.node_io.specs.Causes.{Rose};
-ghost use Rattle.planet_cli.specs.Notes.{reason_text, refusal_text, note_text, Noted};
+ghost use Rattle.planet_cli.specs.Notes.{reason_name, refused_text, reason_text, refusal_text, note_text, Noted};
 ghost use Rattle.planet_cli.specs.Refusals.{Gives};
 
 use crate::status::{Cause, Refusal};
 use node_io::{Sink, put_all};
 use plan_base::{Bytes, Host, NoMemory};
-use program_text::{TextFault, put_reason};
+use program_text::{TextFault, place_of, put_reason};
 use schedule_text::LineReason;
 use std::alloc::Global;
 
-fn reason_name(reason: &LineReason) -> &'static str
-    ensures { result.now ≡ reason_text reason.now }
+// The name of a reason, but for a refused program.
+fn reason_name(reason: &LineReason) -> &'static [u8]
+    ensures { result.now ≡ reason_name reason.now }
 {
     match reason {
-        LineReason::BadHeader => "BadHeader",
-        LineReason::BadWord => "BadWord",
-        LineReason::BadNumber => "BadNumber",
-        LineReason::UnknownHost => "UnknownHost",
-        LineReason::UnknownProgram => "UnknownProgram",
-        LineReason::TwiceNamed => "TwiceNamed",
-        LineReason::TooMany => "TooMany",
-        LineReason::BadArgument => "BadArgument",
-        LineReason::NotYet => "NotYet",
+        LineReason::BadHeader => b"BadHeader",
+        LineReason::BadWord => b"BadWord",
+        LineReason::BadNumber => b"BadNumber",
+        LineReason::UnknownHost => b"UnknownHost",
+        LineReason::UnknownProgram => b"UnknownProgram",
+        LineReason::TwiceNamed => b"TwiceNamed",
+        LineReason::TooMany => b"TooMany",
+        LineReason::ProgramRefused(_) => b"ProgramRefused",
+        LineReason::BadArgument => b"BadArgument",
+        LineReason::NotYet => b"NotYet",
+    }
+}
+
+// Appends where a program is refused, and why.
+fn put_refused(alloc: Global, why: &TextFault, note: &mut Bytes) -> Result<(), NoMemory>
+    ensures { OnOk result (note.new ≡ note.old ++ refused_text why.now) }
+{
+    let at = place_of(why);
+    let head = format!(in alloc; " at {at}: ")?;
+    note.add_all(head.as_bytes())?;
+    put_reason(alloc, why, note)
+}
+
+// Appends a reason.
+fn put_line_reason(alloc: Global, reason: &LineReason, note: &mut Bytes) -> Result<(), NoMemory>
+    ensures { OnOk result (note.new ≡ note.old ++ reason_text reason.now) }
+{
+    note.add_all(reason_name(reason))?;
+    match reason {
+        LineReason::ProgramRefused(why) => put_refused(alloc, why, note),
+        _ => Ok(()),
     }
 }
 
@@ -30,9 +53,11 @@ fn reason_name(reason: &LineReason) -> &'static str
 fn line_note(alloc: Global, line: u32, reason: &LineReason) -> Result<Bytes, NoMemory>
     ensures { IfOk result (λ note. note ≡ refusal_text (Refusal.Line line reason.now)) }
 {
-    let name = reason_name(reason);
-    let text = format!(in alloc; "planet: line {line}: {name}\n")?;
-    bytes_of(alloc, text.as_bytes())
+    let head = format!(in alloc; "planet: line {line}: ")?;
+    let mut note = bytes_of(alloc, head.as_bytes())?;
+    put_line_reason(alloc, reason, &mut note)?;
+    note.add_all(b"\n")?;
+    Ok(note)
 }
 
 // The note of a refused text with its line feed.

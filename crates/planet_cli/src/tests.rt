@@ -104,6 +104,38 @@ fn files_outside_the_format_are_refused(rt: HostRuntime) -> Result<(), Fail> {
             rows::FIRST_RUN_WITH_TICK_NOT_BUILT,
             b"planet: line 14: NotYet\n".as_slice(),
         ),
+        (
+            rows::ABSENT_SERVICE_NOT_BUILT,
+            b"planet: line 2: NotYet\n".as_slice(),
+        ),
+        (
+            rows::FORGED_PACKET_UNKNOWN_WORD,
+            b"planet: line 4: BadWord\n".as_slice(),
+        ),
+        (
+            rows::LINK_TO_UNKNOWN_HOST,
+            b"planet: line 3: UnknownHost\n".as_slice(),
+        ),
+        (
+            rows::NO_BOUND_CAUGHT_NOT_BUILT,
+            b"planet: line 5: NotYet\n".as_slice(),
+        ),
+        (
+            rows::PING_THREE_HOSTS_PROGRAM_NOT_BUILT,
+            b"planet: line 7: NotYet\n".as_slice(),
+        ),
+        (
+            rows::REPEATED_FRAME_UNKNOWN_HEADER,
+            b"planet: line 1: BadHeader\n".as_slice(),
+        ),
+        (
+            rows::SERVING_LOG_UNKNOWN_HEADER,
+            b"planet: line 1: BadHeader\n".as_slice(),
+        ),
+        (
+            rows::PROGRAM_REFUSED,
+            b"planet: line 3: ProgramRefused at 16: Mismatch int bool\n".as_slice(),
+        ),
     ] {
         let (code, out, notes) = replay(rt.alloc(), schedule)?;
         assert_eq!(rt; code, 2);
