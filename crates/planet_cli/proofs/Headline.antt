@@ -1,8 +1,11 @@
--- A replay that is done wrote the run of its schedule, and that run is in balance.
+-- A replay that is done wrote the run of its schedule, and that run is in balance. A check that is done wrote the sizes of its
+-- program.
 use Rattle.std.proofs.Common.{◌≡◌, ℕ, Bool, true, false, cond, nat_lt, ◌⊎◌, inl, inr, List, length, take, Option, Some, None, Result, Ok, refl, sym, ap, ◌∙◌, subst}
 use Rattle.std.specs.List.{All}
 use Rattle.std.proofs.lemmas.List.Elements.{All-take}
 use Rattle.node_io.specs.FileMaps.{FileMap}
+use Rattle.plan_base.specs.declared.tree.Program.{Program}
+use Rattle.program_text.specs.Texts.{program_of}
 use Rattle.schedule_text.specs.declared.schedule.Schedule.{Schedule}
 use Rattle.schedule_text.specs.Schedules.{schedule_of}
 use Rattle.schedule_text.proofs.RuleLaws.{schedule_keeps}
@@ -20,6 +23,7 @@ use Rattle.planet_cli.specs.declared.status.Refusal.TheVariants.{TooLong}
 use Rattle.planet_cli.specs.Refusals.{Gives}
 use Rattle.planet_cli.specs.Outcomes.{Outcome, refused, whole, ruled, judged, outcome_at, answered, outcome_of, output_of, IsWhole}
 use Rattle.planet_cli.specs.Schedules.{schedule_limit, schedule_refusal, schedule_output, output_in}
+use Rattle.planet_cli.specs.Checks.{program_limit, program_refusal, program_output, sizes_text, sizes_of, IsCheckOf}
 use Rattle.planet_cli.specs.Replays.{IsReplayOf, KeepsLedger}
 use Rattle.planet_cli.proofs.RuleLemmas.{hosts_differ, events_fit}
 
@@ -64,3 +68,19 @@ replay_ledger words files s r =
       bounded = λ k f. opening_bounded f s.topology (take k s.events) (hosts_differ s keeps) (All-take event_fits k s.events fits);
       sound = λ k. run_sound (take k s.events) (opening s.topology) (All-take event_fits k s.events fits) (opening_sound s.topology);
     }
+
+checked_outcome : (words : List (List ℕ)) (files : FileMap) (p : Program) (c : IsCheckOf words files p) → outcome_of words files ≡ judged program_limit program_refusal program_output c.bytes
+checked_outcome words files p c =
+    ap (λ q. answered q files) c.asked ∙ ap (λ o. outcome_at program_limit program_refusal program_output o) c.there
+
+sizes_said : (bytes : List ℕ) (p : Program) → program_of bytes ≡ Ok p → program_output bytes ≡ sizes_text p
+unfolding program_output
+sizes_said bytes p e = ap sizes_of e
+
+-- the whole output of a check is the sizes of its program
+pub check_output : (words : List (List ℕ)) (files : FileMap) (p : Program) → IsCheckOf words files p → IsWhole (outcome_of words files)
+    → output_of (outcome_of words files) ≡ sizes_text p
+check_output words files p c h =
+    let e = checked_outcome words files p c in
+    let P : Outcome → Type 0 = λ o. IsWhole o in
+    ap output_of e ∙ whole_text (nat_lt program_limit (length c.bytes)) (program_refusal c.bytes) (program_output c.bytes) (subst P e h) ∙ sizes_said c.bytes p c.says

@@ -3,28 +3,41 @@ use Rattle.std.specs.Prelude.{ℕ, ◌≡◌, ◌≢◌, List, [], ◌++◌}
 use Rattle.std.specs.Fmt.{decimal}
 use lib.Chars.{codes}
 use Rattle.node_io.specs.Pieces.{AppendsFront}
+use Rattle.program_text.specs.declared.fault.TextFault.{TextFault}
+use Rattle.program_text.specs.Reasons as texts
 use Rattle.planet_cli.specs.declared.status.Cause.{Cause}
 use Rattle.planet_cli.specs.declared.status.Cause.TheVariants.{Done, Usage, Refused, ReadFault, WriteFault, LinkFault, SpawnFault, NoMemory, NodesFailed}
 use Rattle.planet_cli.specs.declared.status.Refusal.{Refusal}
-use Rattle.planet_cli.specs.declared.status.Refusal.TheVariants.{Line, TooLong}
+use Rattle.planet_cli.specs.declared.status.Refusal.TheVariants.{Line, At, TooLong}
 use Rattle.schedule_text.specs.declared.fault.LineReason.{LineReason}
-use Rattle.schedule_text.specs.declared.fault.LineReason.TheVariants.{BadHeader, BadWord, BadNumber, UnknownHost, UnknownProgram, TwiceNamed, TooMany, BadArgument, NotYet}
+use Rattle.schedule_text.specs.declared.fault.LineReason.TheVariants.{BadHeader, BadWord, BadNumber, UnknownHost, UnknownProgram, TwiceNamed, TooMany, ProgramRefused, BadArgument, NotYet}
 
 -- the name of a reason
+abbrev pub reason_name : LineReason → List ℕ
+reason_name BadHeader = codes "BadHeader"
+reason_name BadWord = codes "BadWord"
+reason_name BadNumber = codes "BadNumber"
+reason_name UnknownHost = codes "UnknownHost"
+reason_name UnknownProgram = codes "UnknownProgram"
+reason_name TwiceNamed = codes "TwiceNamed"
+reason_name TooMany = codes "TooMany"
+reason_name (ProgramRefused why) = codes "ProgramRefused"
+reason_name BadArgument = codes "BadArgument"
+reason_name NotYet = codes "NotYet"
+
+-- where a program is refused, counted in its text, and why
+abbrev pub refused_text : TextFault → List ℕ
+refused_text why = codes " at " ++ (decimal (texts.fault_byte why) ++ (codes ": " ++ texts.reason_text why))
+
+-- a reason, with the refusal of the program where it is one
 abbrev pub reason_text : LineReason → List ℕ
-reason_text BadHeader = codes "BadHeader"
-reason_text BadWord = codes "BadWord"
-reason_text BadNumber = codes "BadNumber"
-reason_text UnknownHost = codes "UnknownHost"
-reason_text UnknownProgram = codes "UnknownProgram"
-reason_text TwiceNamed = codes "TwiceNamed"
-reason_text TooMany = codes "TooMany"
-reason_text BadArgument = codes "BadArgument"
-reason_text NotYet = codes "NotYet"
+reason_text (ProgramRefused why) = codes "ProgramRefused" ++ refused_text why
+reason_text reason = reason_name reason
 
 -- the note of a refusal
 abbrev pub refusal_text : Refusal → List ℕ
 refusal_text (Line n reason) = codes "planet: line " ++ (decimal n ++ (codes ": " ++ (reason_text reason ++ codes "\n")))
+refusal_text (At byte fault) = codes "planet: at " ++ (decimal byte ++ (codes ": " ++ (texts.reason_text fault ++ codes "\n")))
 refusal_text TooLong = codes "planet: TooLong\n"
 
 -- the note of a cause

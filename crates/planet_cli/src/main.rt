@@ -2,6 +2,7 @@
 #![tactic(auto)]
 
 mod args;
+mod check;
 mod command;
 mod note;
 mod on_file;
@@ -16,6 +17,7 @@ mod top;
 mod words;
 
 use crate::args::words_of;
+pub use check::Check;
 pub use command::{FileCommand, Stop};
 use node_io::{
     Arrivals, Calls, HostFiles, HostSink, MemClock, MemLink, MemSpawner, Moments, Statuses,

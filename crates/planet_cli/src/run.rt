@@ -7,6 +7,7 @@ ghost use Rattle.planet_cli.specs.Refusals.{IfRefused, IfNodesFailed};
 ghost use Rattle.planet_cli.specs.Files.{AsksFor};
 ghost use Rattle.planet_cli.specs.declared.status.Refusal.{Refusal};
 
+use crate::check::Check;
 use crate::on_file::on_file;
 use crate::replay::Replay;
 use crate::status::Cause;
@@ -52,5 +53,6 @@ pub fn run<F: Files, K: Sink>(alloc: Global, words: &Texts, files: &mut F, out: 
     match read_words(words) {
         None => Cause::Usage,
         Some(Command::Replay(file)) => on_file::<Replay, F, K>(alloc, files, file, out),
+        Some(Command::Check(file)) => on_file::<Check, F, K>(alloc, files, file, out),
     }
 }

@@ -1,4 +1,5 @@
 use plan_base::Host;
+use program_text::TextFault;
 use schedule_text::LineReason;
 
 /// How a call of the product ended.
@@ -38,6 +39,8 @@ pub enum Cause {
 pub enum Refusal {
     /// The first line outside the format, from 1, and the reason.
     Line(u32, LineReason),
+    /// The text is no typed program: the byte of the first refusal, from 0, and the refusal.
+    At(u32, TextFault),
     /// The file has more bytes than its limit.
     TooLong,
 }

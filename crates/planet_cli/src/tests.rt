@@ -104,8 +104,99 @@ fn files_outside_the_format_are_refused(rt: HostRuntime) -> Result<(), Fail> {
             rows::FIRST_RUN_WITH_TICK_NOT_BUILT,
             b"planet: line 14: NotYet\n".as_slice(),
         ),
+        (
+            rows::ABSENT_SERVICE_NOT_BUILT,
+            b"planet: line 2: NotYet\n".as_slice(),
+        ),
+        (
+            rows::FORGED_PACKET_UNKNOWN_WORD,
+            b"planet: line 4: BadWord\n".as_slice(),
+        ),
+        (
+            rows::LINK_TO_UNKNOWN_HOST,
+            b"planet: line 3: UnknownHost\n".as_slice(),
+        ),
+        (
+            rows::NO_BOUND_CAUGHT_NOT_BUILT,
+            b"planet: line 5: NotYet\n".as_slice(),
+        ),
+        (
+            rows::PING_THREE_HOSTS_PROGRAM_NOT_BUILT,
+            b"planet: line 7: NotYet\n".as_slice(),
+        ),
+        (
+            rows::REPEATED_FRAME_UNKNOWN_HEADER,
+            b"planet: line 1: BadHeader\n".as_slice(),
+        ),
+        (
+            rows::SERVING_LOG_UNKNOWN_HEADER,
+            b"planet: line 1: BadHeader\n".as_slice(),
+        ),
+        (
+            rows::PROGRAM_REFUSED,
+            b"planet: line 3: ProgramRefused at 16: Mismatch int bool\n".as_slice(),
+        ),
     ] {
         let (code, out, notes) = replay(rt.alloc(), schedule)?;
+        assert_eq!(rt; code, 2);
+        assert_eq!(rt; out.taken().as_slice(), b"".as_slice());
+        assert_eq!(rt; notes.taken().as_slice(), note);
+    }
+    Ok(())
+}
+
+// The code, the output and the notes of `check` on this text.
+fn check(alloc: Global, program: &[u8]) -> Result<(u8, MemSink, MemSink), Fail> {
+    let mut files = files_of(alloc, program, &[])?;
+    let mut out = sink(alloc)?;
+    let mut notes = sink(alloc)?;
+    let status = call(
+        alloc,
+        &["check", "schedule.txt"],
+        &mut files,
+        &mut out,
+        &mut notes,
+    )?;
+    Ok((status.code, out, notes))
+}
+
+#[test]
+fn typed_programs_give_their_sizes(rt: HostRuntime) -> Result<(), Fail> {
+    for (program, output) in [
+        (
+            b"fun f() : unit = OnNeighbor(|f|(), @2, 1, %1)\n".as_slice(),
+            b"ok functions 1 nodes 5 code 31\n".as_slice(),
+        ),
+        (
+            b"fun f(x : int list) : bool = x = []\n".as_slice(),
+            b"ok functions 1 nodes 3 code 18\n".as_slice(),
+        ),
+    ] {
+        let (code, out, notes) = check(rt.alloc(), program)?;
+        assert_eq!(rt; code, 0);
+        assert_eq!(rt; out.taken().as_slice(), output);
+        assert_eq!(rt; notes.taken().as_slice(), b"".as_slice());
+    }
+    Ok(())
+}
+
+#[test]
+fn other_programs_are_refused_at_their_byte(rt: HostRuntime) -> Result<(), Fail> {
+    for (program, note) in [
+        (
+            b"fun f() : int = true\n".as_slice(),
+            b"planet: at 16: Mismatch int bool\n".as_slice(),
+        ),
+        (
+            b"fun f() : unit = f()\n".as_slice(),
+            b"planet: at 17: NotEarlier\n".as_slice(),
+        ),
+        (
+            b"fun f() : int = hd([])\n".as_slice(),
+            b"planet: at 19: NeedsType\n".as_slice(),
+        ),
+    ] {
+        let (code, out, notes) = check(rt.alloc(), program)?;
         assert_eq!(rt; code, 2);
         assert_eq!(rt; out.taken().as_slice(), b"".as_slice());
         assert_eq!(rt; notes.taken().as_slice(), note);
@@ -130,7 +221,7 @@ fn words_that_name_no_command_are_usage(rt: HostRuntime) -> Result<(), Fail> {
     let (code, written, notes) = refused_words(rt.alloc(), &["replay"])?;
     assert_eq!(rt; (code, written), (1, 0));
     assert_eq!(rt; notes.taken().as_slice(), USAGE);
-    let (code, written, notes) = refused_words(rt.alloc(), &["check", "schedule.txt"])?;
+    let (code, written, notes) = refused_words(rt.alloc(), &["show", "schedule.txt"])?;
     assert_eq!(rt; (code, written), (1, 0));
     assert_eq!(rt; notes.taken().as_slice(), USAGE);
     Ok(())
@@ -174,6 +265,18 @@ fn a_file_of_one_byte_too_many_is_too_long(rt: HostRuntime) -> Result<(), Fail> 
     let mut bytes = Vec::new(alloc);
     bytes.resize(4_194_305, b'#')?;
     let (code, out, notes) = replay(alloc, bytes.as_slice())?;
+    assert_eq!(rt; code, 2);
+    assert_eq!(rt; out.taken().len(), 0);
+    assert_eq!(rt; notes.taken().as_slice(), b"planet: TooLong\n".as_slice());
+    Ok(())
+}
+
+#[test]
+fn a_program_of_one_byte_too_many_is_too_long(rt: HostRuntime) -> Result<(), Fail> {
+    let alloc = rt.alloc();
+    let mut bytes = Vec::from_slice(alloc, b"fun f() : unit = ()\n")?;
+    bytes.resize(65_537, b'\n')?;
+    let (code, out, notes) = check(alloc, bytes.as_slice())?;
     assert_eq!(rt; code, 2);
     assert_eq!(rt; out.taken().len(), 0);
     assert_eq!(rt; notes.taken().as_slice(), b"planet: TooLong\n".as_slice());

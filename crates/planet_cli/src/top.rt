@@ -6,7 +6,9 @@ ghost use Rattle.planet_cli.specs.Outcomes.{refused, outcome_of, output_of, IsWh
 ghost use Rattle.planet_cli.specs.Refusals.{IfRefused, IfNodesFailed, Gives, code_of};
 ghost use Rattle.planet_cli.specs.Notes.{Noted};
 ghost use Rattle.planet_cli.specs.Files.{AsksFor};
+ghost use Rattle.planet_cli.specs.Checks.{IsCheckOf, sizes_text};
 ghost use Rattle.planet_cli.specs.Replays.{IsReplayOf, KeepsLedger};
+ghost use Rattle.plan_base.specs.declared.tree.Program.{Program};
 ghost use Rattle.schedule_text.specs.declared.schedule.Schedule.{Schedule};
 ghost use Rattle.world_laws.specs.World.{opening};
 ghost use Rattle.world_laws.specs.Texts.{run_text};
@@ -90,6 +92,13 @@ pub fn planet<F: Files, K: Sink, N: Sink, L: Link, C: Clock, P: Spawner>(
         → result.cause ≡ Cause.Done
         → K.taken out.new ≡ K.taken out.old ++ run_text s.events (opening s.topology) }
     ensures ledger { IsTrue F.tells → (s : Schedule) → IsReplayOf words.now (F.files files.old) s → KeepsLedger s }
+    // The same of `check`: where it is done it wrote the sizes of its typed program.
+    ensures checked { IsTrue F.tells
+        → IsTrue K.tells
+        → (p : Program)
+        → IsCheckOf words.now (F.files files.old) p
+        → result.cause ≡ Cause.Done
+        → K.taken out.new ≡ K.taken out.old ++ sizes_text p }
     ensures asked { IsTrue F.tells → AsksFor (request_of words.now) (F.asked files.old) (F.asked files.new) }
     ensures made { IsTrue F.tells → F.made files.new ≡ F.made files.old }
     ensures files { IsTrue F.tells → F.files files.new ≡ F.files files.old }

@@ -1,5 +1,5 @@
 use Rattle.std.proofs.Common.{ℕ, List, ◌++◌, ap, ◌∙◌}
-use Rattle.planet_cli.proofs.Headline.{done_found, replay_output, replay_ledger}
+use Rattle.planet_cli.proofs.Headline.{done_found, replay_output, replay_ledger, check_output}
 use Rattle.planet_cli.proofs.top.planet.Goals as goal
 
 pub returns-clause-replayed : goal.returns-clause-replayed
@@ -10,3 +10,9 @@ returns-clause-replayed g c =
 
 pub returns-clause-ledger : goal.returns-clause-ledger
 returns-clause-ledger g c = λ files_tell s replays. replay_ledger _ _ s replays
+
+pub returns-clause-checked : goal.returns-clause-checked
+returns-clause-checked g c =
+    λ files_tell out_tells p checks done.
+    let found = done_found _ _ _ c.settle-cause.ensures.gives done in
+    c.run-found.ensures.whole files_tell out_tells found ∙ ap (λ text. g.K.Sink.taken c.args.out.now ++ text) (check_output _ _ p checks (c.run-found.ensures.accepted files_tell found))

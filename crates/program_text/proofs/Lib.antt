@@ -1,0 +1,3 @@
+pub mod Scanning
+pub mod Sizes
+pub mod Readings
