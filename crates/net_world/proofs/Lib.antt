@@ -1,6 +1,7 @@
 pub mod LedgerLaws
+pub mod NodeLaws
 pub mod RunLaws
 pub mod SendLaws
 pub mod StateLaws
-pub mod Statements
 pub mod TextLaws
+pub mod TurnLaws

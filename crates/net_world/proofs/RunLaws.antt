@@ -13,7 +13,10 @@ use Rattle.plan_base.specs.declared.ids.Family.{Family}
 use Rattle.world_laws.specs.declared.lines.Entry.{Entry}
 use Rattle.world_laws.specs.World.{WorldState, happens, entries, world_after, history_of, opening}
 use Rattle.world_laws.specs.Texts.{entry_text, entries_text, trace_text, ledger_text, run_text}
-use Rattle.world_laws.specs.Counts.{granted, hops, evals, left, live, Balanced, IsBounded, IsSound, event_fits, EventsFit, HostsDiffer}
+use Rattle.world_laws.specs.Counts.{granted, hops, evals, left, live, Balanced, IsBounded}
+use Rattle.world_laws.specs.Sound.{IsSound, event_fits, EventsFit, HostsDiffer}
+use Rattle.world_laws.specs.Packets.{IsGranted}
+use Rattle.world_laws.proofs.Granting.{opening_grants}
 use Rattle.world_laws.proofs.WorldBalance.{opening_balances}
 use Rattle.world_laws.proofs.Injecting.{opening_once_given}
 use Rattle.world_laws.proofs.Fitting.{opening_sound, run_sound}
@@ -170,6 +173,9 @@ start_whole w t es old new e n = n ∙ ap (λ x. old ++ run_text es x) e
 -- after every prefix of the events
 pub prefix_bounded : (t : Topology) (es : List WorldEvent) → HostsDiffer t.hosts → EventsFit es → (k : ℕ) (f : Family) → IsBounded f (history_of (take k es) (opening t)) (world_after (take k es) (opening t))
 prefix_bounded t es d b k f = opening_bounded f t (take k es) d (All-take event_fits k es b)
+
+pub prefix_granted : (t : Topology) (es : List WorldEvent) → HostsDiffer t.hosts → EventsFit es → (k : ℕ) (f : Family) → IsGranted f (history_of (take k es) (opening t)) (world_after (take k es) (opening t))
+prefix_granted t es d b k f = opening_grants f t (take k es) d (All-take event_fits k es b)
 
 pub prefix_sound : (t : Topology) (es : List WorldEvent) → EventsFit es → (k : ℕ) → IsSound (world_after (take k es) (opening t))
 prefix_sound t es b k = run_sound (take k es) (opening t) (All-take event_fits k es b) (opening_sound t)

@@ -2,8 +2,9 @@
 use Rattle.std.proofs.Common.{◌≡◌, ℕ, List, [], ◌∷◌, ◌++◌, refl, ap, ◌∙◌}
 use Rattle.std.specs.Prelude.{slice_set, slice_get, Option, Some, None}
 use Rattle.plan_base.specs.declared.tree.Packet.{Packet}
-use Rattle.world_laws.specs.declared.visits.Sent.{Sent}
-use Rattle.world_laws.specs.Node.{Queues, send_act, send_queues, sends_acts, sends_queues}
+use Rattle.plan_meaning.specs.declared.sent.Sent.{Sent}
+use Rattle.world_laws.specs.State.{Queues}
+use Rattle.world_laws.specs.Node.{send_act, send_queues, sends_acts, sends_queues}
 
 pub sends_acts_none : (queues : Queues) → sends_acts queues [] ≡ []
 unfolding sends_acts

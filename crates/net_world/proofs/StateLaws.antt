@@ -13,16 +13,18 @@ use Rattle.schedule_text.specs.declared.schedule.HostSpec.{HostSpec}
 use Rattle.world_laws.specs.declared.acts.Act.{Act}
 use Rattle.world_laws.specs.declared.lines.Line.{Line}
 use Rattle.world_laws.specs.declared.lines.Line.TheVariants.{At}
-use Rattle.world_laws.specs.Node.{NodeState, take_from, take_step}
-use Rattle.world_laws.specs.SmallVisit.{is_host}
+use Rattle.world_laws.specs.State.{NodeState, is_host}
+use Rattle.world_laws.specs.Node.{take_from, take_step}
 use Rattle.plan_base.specs.declared.tree.Packet.{Packet}
 use Rattle.world_laws.specs.World.{WorldState, acted, counted, opening_node, place_of, Cables, lines_at, neighbour_at, neighbours_to, peer_of}
 use Rattle.net_world.specs.declared.node.Node.{Node}
 use Rattle.world_laws.specs.declared.acts.Acts.{Acts}
 use Rattle.world_laws.specs.Node.{Step}
 use Rattle.net_world.specs.Stands.{node_state, states, IsStep, StepsAt, IsHappened}
-use Rattle.world_laws.specs.Counts.{event_fits, IsSound}
-use Rattle.world_laws.proofs.Fitting.{event_sound}
+use Rattle.world_laws.specs.declared.lines.Wired.{Wired}
+use Rattle.world_laws.specs.Sound.{event_fits, NodeFits, PacketFits, WiredFits, IsSound}
+use Rattle.world_laws.proofs.Fitting.{event_sound, node_of, wired_of}
+use Rattle.std.specs.List.{All}
 use Rattle.schedule_text.specs.declared.schedule.WorldEvent.{WorldEvent}
 
 pub lines_none : (h : Host) → lines_at h [] ≡ []
@@ -135,3 +137,11 @@ nodes_step links hosts i d nodes node new h e before one =
 -- an event keeps a network sound, where it is counted last
 pub acted_sound : (w : WorldState) (e : WorldEvent) (h : List Line) (mid : WorldState) → event_fits e → IsSound w → IsHappened (acted w e) h mid → IsSound (counted mid)
 acted_sound w e h mid fits s is = let P : WorldState → Type 0 = λ x. IsSound (counted x) in subst P (sym is.world) (event_sound w e fits s)
+
+-- the node at a place fits where all do
+pub node_fits : (nodes : List Node) (at : ℕ) (d : Node) → at < length nodes → All NodeFits (states nodes) → NodeFits (node_state (get_or nodes at d))
+node_fits nodes at d h all = node_of (states nodes) at (node_state (get_or nodes at d)) (states_get nodes at (get_or nodes at d) (slice_get-get_or nodes at d h)) all
+
+-- and so does the packet of a frame on the wire
+pub wired_fits : (next : ℕ) (wire : List Wired) (at : ℕ) (d : Wired) → at < length wire → All (WiredFits next) wire → PacketFits (get_or wire at d).packet
+wired_fits next wire at d h all = (wired_of next wire at (get_or wire at d) (slice_get-get_or wire at d h) all).packet

@@ -1,5 +1,5 @@
 pub mod Counted
-pub mod Meets
 pub mod Queued
 pub mod Running
 pub mod Stands
+pub mod Turns

@@ -2,14 +2,16 @@
 use Rattle.std.specs.Prelude.{◌≡◌, ℕ, List, map, slice_get, slice_set, Option, Some}
 use Rattle.world_laws.specs.declared.acts.Acts.{Acts}
 use Rattle.world_laws.specs.declared.lines.Line.{Line}
-use Rattle.world_laws.specs.Node.{NodeState, Step}
+use Rattle.service_api.specs.PrintsLaws.{prints_stand}
+use Rattle.world_laws.specs.State.{NodeState}
+use Rattle.world_laws.specs.Node.{Step}
 use Rattle.world_laws.specs.World.{WorldState, Happened}
 use Rattle.net_world.specs.declared.node.Node.{Node}
 use Rattle.net_world.specs.declared.world.World.{World}
 
--- the node, with its queues as lists of packets
+-- the node, with what its services stand for and its queues as lists of packets
 abbrev pub node_state : Node → NodeState
-node_state n = record { here = n.here; neighbours = n.neighbours; queues = n.queues.items; serial = n.serial }
+node_state n = record { here = n.here; neighbours = n.neighbours; routes = n.router; services = prints_stand n.services; queues = n.queues.items; serial = n.serial }
 
 -- the acts and the frame of a step are those of its definition, and so is the node afterwards
 pub record IsStep (step : Step) (acts : Acts) (new : NodeState) : Type 0 where

@@ -148,7 +148,7 @@ fn put_family_row(
     history: &[Entry],
     world: &World,
     f: Family,
-) -> Result<(), AllocError>
+) -> Result<(), NoMemory>
     requires law { spec.Balanced f history.now (world_state world.now) }
     requires small { spec.granted f history.now ≤ 65535 }
     ensures { OnOk result (out.new ≡ out.old ++ row_text history.now (world_state world.now) f) }
@@ -166,7 +166,7 @@ fn put_rows(
     history: &[Entry],
     world: &World,
     families: &[Family],
-) -> Result<(), AllocError>
+) -> Result<(), NoMemory>
     requires law { (f : FamilyOf) → spec.Balanced f history.now (world_state world.now) }
     requires small { (f : FamilyOf) → spec.granted f history.now ≤ 65535 }
     ensures { OnOk result (out.new ≡ out.old ++ rows_text history.now (world_state world.now) families.now) }

@@ -5,8 +5,8 @@ mod ledger;
 mod node;
 mod runs;
 mod sends;
-mod small_visit;
 mod text;
+mod turns;
 mod world;
 
 pub use node::Node;

@@ -1,28 +1,36 @@
-ghost use Rattle.std.specs.Prelude.{◌≡◌, IfOk, OnErr, [], ◌∷◌, position, slice_get, IsTrue};
-ghost use Rattle.std.specs.Str.{bytes_eq};
-ghost use Rattle.world_laws.specs.SmallVisit.{is_host, default_route as route_name};
+ghost use Rattle.std.specs.Prelude.{◌≡◌, ◌≤◌, IfOk, OnOk, OnErr, [], ◌∷◌, slice_get, None, IsTrue};
+ghost use Rattle.service_api.specs.Routes.{default_route as route_name};
+ghost use Rattle.world_laws.specs.State.{link_routes};
+ghost use Rattle.world_laws.specs.Visits.{around};
+ghost use Rattle.world_laws.specs.declared.acts.Act.TheVariants as act;
 ghost use Rattle.world_laws.specs.Node as spec;
-ghost use Rattle.world_laws.specs.World.{no_queues};
+ghost use Rattle.world_laws.specs.World.{no_queues, new_node};
+ghost use Rattle.world_laws.specs.Sound.{NodeFits, PacketFits, comes_fit};
 ghost use Rattle.net_world.specs.Queued.{has_first, TakesFirst};
 ghost use Rattle.net_world.specs.Stands.{node_state, IsStep};
 
-use crate::sends::{send_one, visit_acts};
-use crate::small_visit::default_route;
+use crate::sends::send_one;
+use crate::turns::visit_turn;
+use chunk_types::CheckedChunk;
 use link_queue::Queue;
-use plan_base::{Chunk, Dev, Family, Host, Name, NoMemory, Packet};
+use plan_base::{Dev, Family, Host, Name, NoMemory, Packet};
 use plan_items::Items;
+use plan_meaning::Sent;
+use service_api::{Ctx, Hop, Neighbours, Prints, RouteRow, Router};
 use std::alloc::Global;
-use world_laws::{Act, ActList, Acts, Event, Neighbours, Reason, Sent, What};
+use world_laws::{Act, ActList, Acts, Event, Reason, What};
 
 /// The number of devices of a node, with device 0.
 const DEVICES: usize = 9;
 
-/// A node: its host, its neighbours by device, a queue for each device from 0 to 8, and the serial
-/// number of its next injection.
+/// A node: its host, its neighbours by device, its routes, its services, a queue for each device from
+/// 0 to 8, and the serial number of its next injection.
 #[derive(Drop)]
 pub struct Node {
     pub(crate) here: Host,
     neighbours: Neighbours,
+    router: Router,
+    services: Prints,
     queues: Vec<Queue<Packet>>,
     serial: u64,
 }
@@ -36,38 +44,45 @@ fn one_act(alloc: Global, act: Act) -> Result<ActList, NoMemory>
     Ok(acts)
 }
 
-/// A list of two acts.
-fn two_acts(alloc: Global, first: Act, second: Act) -> Result<ActList, NoMemory>
-    ensures { IfOk result (λ acts. acts ≡ first ∷ second ∷ []) }
+/// What a node does with a packet that arrived and is dropped.
+fn dropped(
+    alloc: Global,
+    dev: Dev,
+    reason: Reason,
+    family: Family,
+    bound: u32,
+) -> Result<Acts, NoMemory>
+    ensures list { IfOk result (λ acts. acts.list ≡ act.Arrived dev ∷ act.Dropped reason family bound ∷ []) }
+    ensures frame { IfOk result (λ acts. acts.frame ≡ None) }
 {
-    let mut acts = Items::new(alloc);
-    acts.add(first)?;
-    acts.add(second)?;
-    Ok(acts)
+    let mut list = Items::new(alloc);
+    list.add(Act::Arrived(dev))?;
+    list.add(Act::Dropped(reason, family, bound))?;
+    Ok(Acts { list, frame: None })
 }
 
-/// The place of the first neighbour that is this host.
-fn link_place(links: &[(Host, Dev)], host: Host) -> Option<usize>
-    ensures { result ≡ position (λ l. is_host l.0 host) links.now }
+/// The routes to neighbours.
+fn routes_to(alloc: Global, neighbours: &[(Host, Dev)]) -> Result<Router, NoMemory>
+    ensures { IfOk result (λ routes. routes ≡ link_routes neighbours.now) }
 {
-    links.iter().position(|link| link.0.0 == host.0)
+    let mut rows = Items::new(alloc);
+    for link in neighbours {
+        rows.add(RouteRow {
+            host: link.0,
+            next: link.0,
+            dev: link.1,
+            cost: 1,
+        })?;
+    }
+    Ok(Router::new(rows))
 }
 
-/// The device of the route to a host.
-#[tactic(auto, unfolding(world_laws::specs::Node::route_to))]
-fn route_to(links: &[(Host, Dev)], host: Host) -> Option<Dev>
-    ensures { result ≡ spec.route_to links.now host }
+/// The name of the one routing function that there is.
+#[tactic(auto, unfolding(plan_base::specs::Words::is_name, plan_base::specs::Words::is_word, plan_base::specs::Words::is_reserved))]
+fn default_route(alloc: Global) -> Result<Name, NoMemory>
+    ensures { IfOk result (λ name. name ≡ route_name) }
 {
-    let at = link_place(links, host)?;
-    let link = links.get(at)?;
-    Some(link.1)
-}
-
-/// Whether a name is that of the one routing function.
-fn is_default_route(name: &Name) -> bool
-    ensures { result ≡ bytes_eq name.now route_name }
-{
-    name.as_slice() == b"defaultRoute".as_slice()
+    Name::of(alloc, b"defaultRoute")
 }
 
 /// A queue for each device, with nothing queued.
@@ -100,14 +115,18 @@ fn take_first(queues: &mut [Queue<Packet>], at: usize) -> Packet
 }
 
 impl Node {
-    /// A node at its beginning: nothing is queued, and its next serial number is 1.
+    /// A node at its beginning: it knows its neighbours, nothing is queued, and its next serial number
+    /// is 1.
     pub fn new(alloc: Global, here: Host, neighbours: Neighbours) -> Result<Node, NoMemory>
-        ensures { IfOk result (λ node. node_state node ≡ record { here = here; neighbours = neighbours; queues = no_queues; serial = 1 }) }
+        ensures { IfOk result (λ node. node_state node ≡ new_node here neighbours) }
     {
+        let router = routes_to(alloc, neighbours.as_slice())?;
         let queues = open_queues(alloc)?;
         Ok(Node {
             here,
             neighbours,
+            router,
+            services: Prints::new(),
             queues,
             serial: 1,
         })
@@ -120,9 +139,50 @@ impl Node {
         self.here
     }
 
+    /// What stands around the visit of a packet.
+    fn around(&self, alloc: Global, packet: &Packet) -> Result<Ctx, NoMemory>
+        ensures { IfOk result (λ ctx. ctx ≡ around (node_state self.now) packet.now) }
+    {
+        Ok(Ctx {
+            here: self.here,
+            source: packet.family.source,
+            purse: packet.bound,
+            now: 0,
+            neighbours: Items::from_slice(alloc, self.neighbours.as_slice())?,
+            router: self.router.copy(alloc)?,
+        })
+    }
+
+    /// The visit of a packet, after an act.
+    #[tactic(auto, unfolding(world_laws::specs::Node::visited))]
+    fn visit(&mut self, alloc: Global, first: Act, packet: &Packet) -> Result<Acts, NoMemory>
+        requires node { NodeFits (node_state self.old) }
+        requires fits { PacketFits packet.now }
+        ensures ok { IfOk result (λ acts. IsStep (spec.visited (first ∷ []) (node_state self.old) packet.now) acts (node_state self.new)) }
+        ensures err { OnErr result (node_state self.new ≡ node_state self.old) }
+    {
+        let ctx = self.around(alloc, packet)?;
+        let list = visit_turn(
+            alloc,
+            &mut self.services,
+            &ctx,
+            &mut self.queues,
+            first,
+            packet,
+        )?;
+        Ok(Acts { list, frame: None })
+    }
+
     /// An injection with a bound of at most 65,535. Where memory is refused, the node stays.
-    #[tactic(auto, unfolding(world_laws::specs::Node::inject_step, world_laws::specs::Node::visited))]
-    pub fn inject(&mut self, alloc: Global, chunk: &Chunk, bound: u32) -> Result<Acts, NoMemory>
+    #[tactic(auto, unfolding(world_laws::specs::Node::inject_step, world_laws::specs::Node::visited), using(crate::proofs::NodeLaws::injected_fits))]
+    pub fn inject(
+        &mut self,
+        alloc: Global,
+        chunk: &CheckedChunk,
+        bound: u32,
+    ) -> Result<Acts, NoMemory>
+        requires node { NodeFits (node_state self.old) }
+        requires small { bound ≤ 65535 }
         ensures ok { IfOk result (λ acts. IsStep (spec.inject_step (node_state self.old) chunk.now bound) acts (node_state self.new)) }
         ensures err { OnErr result (node_state self.new ≡ node_state self.old) }
     {
@@ -139,54 +199,58 @@ impl Node {
             dest: self.here,
             bound,
             route: default_route(alloc)?,
-            chunk: chunk.copy(alloc)?,
+            chunk: chunk.chunk().copy(alloc)?,
         };
-        let first = Act::Injected(family, bound);
-        let list = visit_acts(
-            alloc,
-            self.here,
-            self.neighbours.as_slice(),
-            &mut self.queues,
-            first,
-            &packet,
-        )?;
+        let acts = self.visit(alloc, Act::Injected(family, bound), &packet)?;
         self.serial += 1;
-        Ok(Acts { list, frame: None })
+        Ok(acts)
     }
 
     /// A packet that goes on over a device.
-    #[tactic(auto, unfolding(world_laws::specs::Node::forward_over))]
-    fn forward_over(
+    fn send_on(
         &mut self,
         alloc: Global,
         dev: Dev,
         packet: &Packet,
-        over: Option<Dev>,
+        over: Dev,
     ) -> Result<Acts, NoMemory>
-        ensures ok { IfOk result (λ acts. IsStep (spec.forward_over (node_state self.old) dev packet.now over) acts (node_state self.new)) }
+        ensures list { IfOk result (λ acts. acts.list ≡ act.Arrived dev ∷ spec.send_act self.old.queues.items (record { dev = over; packet = packet.now }) ∷ []) }
+        ensures frame { IfOk result (λ acts. acts.frame ≡ None) }
+        ensures ok { OnOk result (node_state self.new ≡ spec.with_queues (node_state self.old) (spec.send_queues self.old.queues.items (record { dev = over; packet = packet.now }))) }
         ensures err { OnErr result (node_state self.new ≡ node_state self.old) }
     {
-        let arrived = Act::Arrived(dev);
-        let Some(over) = over else {
-            let list = two_acts(
-                alloc,
-                arrived,
-                Act::Dropped(Reason::NoRoute, packet.family, packet.bound),
-            )?;
-            return Ok(Acts { list, frame: None });
-        };
         let mut list = Vec::with_capacity(alloc, 2)?;
         let sent = Sent {
             dev: over,
             packet: packet.copy(alloc)?,
         };
         let act = send_one(&mut self.queues, sent);
-        list.push_reserved(arrived);
+        list.push_reserved(Act::Arrived(dev));
         list.push_reserved(act);
         Ok(Acts {
             list: Items::from_vec(list),
             frame: None,
         })
+    }
+
+    /// A packet that goes on by a hop.
+    #[tactic(auto, unfolding(world_laws::specs::Node::forward_by))]
+    fn forward_by(
+        &mut self,
+        alloc: Global,
+        dev: Dev,
+        packet: &Packet,
+        hop: Hop,
+    ) -> Result<Acts, NoMemory>
+        ensures ok { IfOk result (λ acts. IsStep (spec.forward_by (node_state self.old) dev packet.now hop) acts (node_state self.new)) }
+        ensures err { OnErr result (node_state self.new ≡ node_state self.old) }
+    {
+        let reason = match hop {
+            Hop::To(_, over) => return self.send_on(alloc, dev, packet, over),
+            Hop::NoService => Reason::NoService,
+            Hop::NoRoute => Reason::NoRoute,
+        };
+        dropped(alloc, dev, reason, packet.family, packet.bound)
     }
 
     /// A packet for another host.
@@ -195,46 +259,25 @@ impl Node {
         ensures ok { IfOk result (λ acts. IsStep (spec.forward_step (node_state self.old) dev packet.now) acts (node_state self.new)) }
         ensures err { OnErr result (node_state self.new ≡ node_state self.old) }
     {
-        let arrived = Act::Arrived(dev);
         if packet.bound == 0 {
-            let list = two_acts(
-                alloc,
-                arrived,
-                Act::Dropped(Reason::NoBound, packet.family, 0),
-            )?;
-            return Ok(Acts { list, frame: None });
+            return dropped(alloc, dev, Reason::NoBound, packet.family, 0);
         }
-        if !is_default_route(&packet.route) {
-            let list = two_acts(
-                alloc,
-                arrived,
-                Act::Dropped(Reason::NoService, packet.family, packet.bound),
-            )?;
-            return Ok(Acts { list, frame: None });
-        }
-        let over = route_to(self.neighbours.as_slice(), packet.dest);
-        self.forward_over(alloc, dev, packet, over)
+        let hop = self.router.next(&packet.route, self.here, packet.dest);
+        self.forward_by(alloc, dev, packet, hop)
     }
 
     /// A frame arrives over a device. Where memory is refused, the node stays.
-    #[tactic(auto, unfolding(world_laws::specs::Node::arrive_step, world_laws::specs::Node::visited))]
+    #[tactic(auto, unfolding(world_laws::specs::Node::arrive_step))]
     pub fn arrive(&mut self, alloc: Global, dev: Dev, packet: &Packet) -> Result<Acts, NoMemory>
+        requires node { NodeFits (node_state self.old) }
+        requires fits { PacketFits packet.now }
         ensures ok { IfOk result (λ acts. IsStep (spec.arrive_step (node_state self.old) dev packet.now) acts (node_state self.new)) }
         ensures err { OnErr result (node_state self.new ≡ node_state self.old) }
     {
         if packet.dest.0 != self.here.0 {
             return self.forward(alloc, dev, packet);
         }
-        let first = Act::Arrived(dev);
-        let list = visit_acts(
-            alloc,
-            self.here,
-            self.neighbours.as_slice(),
-            &mut self.queues,
-            first,
-            packet,
-        )?;
-        Ok(Acts { list, frame: None })
+        self.visit(alloc, Act::Arrived(dev), packet)
     }
 
     /// Takes the first frame of a device. Where memory is refused, the node stays.
@@ -259,9 +302,11 @@ impl Node {
         })
     }
 
-    /// One step. Where memory is refused, the node stays. Condition: an injected bound is at most
-    /// 65,535.
+    /// One step. Where memory is refused, the node stays. Conditions: an injected bound is at most
+    /// 65,535; the packet of a frame has at most this bound, and its chunk is typed and well formed.
     pub fn step(&mut self, alloc: Global, event: &Event) -> Result<Acts, NoMemory>
+        requires node { NodeFits (node_state self.old) }
+        requires fits { comes_fit event.now }
         ensures ok { IfOk result (λ acts. IsStep (spec.node_step (node_state self.old) event.now) acts (node_state self.new)) }
         ensures err { OnErr result (node_state self.new ≡ node_state self.old) }
     {

@@ -3,7 +3,9 @@ ghost use Rattle.plan_base.specs.declared.ids.Family.{Family as FamilyOf};
 ghost use Rattle.node_io.specs.Causes.{Rose};
 ghost use Rattle.node_io.specs.Pieces.{AppendsFront};
 ghost use Rattle.world_laws.specs.World as spec;
-ghost use Rattle.world_laws.specs.Counts.{Balanced, IsBounded, IsSound, EventsFit, HostsDiffer, event_fits, granted};
+ghost use Rattle.world_laws.specs.Counts.{Balanced, IsBounded, granted};
+ghost use Rattle.world_laws.specs.Sound.{IsSound, EventsFit, HostsDiffer, event_fits};
+ghost use Rattle.world_laws.specs.Packets.{IsGranted};
 ghost use Rattle.world_laws.specs.Texts.{entries_text, ledger_text, run_text};
 ghost use Rattle.net_world.specs.Stands.{world_state};
 ghost use Rattle.net_world.specs.Running.{IsAfterEvent, IsAfterEvents};
@@ -206,6 +208,7 @@ pub fn run<K: Sink>(alloc: Global, schedule: &Schedule, out: &mut K) -> Result<(
     ensures later { K.faults out.old ≤ K.faults out.new }
     ensures law { (k : ℕ) (f : FamilyOf) → Balanced f (spec.history_of (take k schedule.now.events) (spec.opening schedule.now.topology)) (spec.world_after (take k schedule.now.events) (spec.opening schedule.now.topology)) }
     ensures bounded { (k : ℕ) (f : FamilyOf) → IsBounded f (spec.history_of (take k schedule.now.events) (spec.opening schedule.now.topology)) (spec.world_after (take k schedule.now.events) (spec.opening schedule.now.topology)) }
+    ensures granted { (k : ℕ) (f : FamilyOf) → IsGranted f (spec.history_of (take k schedule.now.events) (spec.opening schedule.now.topology)) (spec.world_after (take k schedule.now.events) (spec.opening schedule.now.topology)) }
     ensures sound { (k : ℕ) → IsSound (spec.world_after (take k schedule.now.events) (spec.opening schedule.now.topology)) }
 {
     run_schedule(alloc, schedule, out)

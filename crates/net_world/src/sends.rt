@@ -1,14 +1,13 @@
-ghost use Rattle.std.specs.Prelude.{◌≡◌, ◌∷◌, ◌++◌, map, IfOk, OnOk, OnErr, vec_len, vec_capacity, ◌<◌, ◌≤◌, ◌+◌, length, [], IsTrue, slice_get};
+ghost use Rattle.std.specs.Prelude.{◌≡◌, ◌∷◌, ◌++◌, map, IfOk, OnOk, vec_len, vec_capacity, ◌≤◌, ◌+◌, length, [], IsTrue, slice_get};
 ghost use Rattle.world_laws.specs.declared.acts.Act.TheVariants.{Noted};
-ghost use Rattle.world_laws.specs.SmallVisit.{visit_of};
 ghost use Rattle.world_laws.specs.Node as spec;
 
-use crate::small_visit::visit_packet;
 use link_queue::Queue;
-use plan_base::{Dev, Host, NoMemory, Packet};
-use plan_items::Items;
+use plan_base::{Dev, Packet};
+use plan_meaning::{Outbox, Sent};
+use service_api::Notes;
 use std::alloc::{AllocError, Global};
-use world_laws::{Act, ActList, Notes, Outbox, Reason, Sent, Visit};
+use world_laws::{Act, Reason};
 
 /// The number of frames that a device's queue holds.
 const ROOM: u32 = link_queue::ROOM;
@@ -65,7 +64,7 @@ pub fn send_one(queues: &mut [Queue<Packet>], sent: Sent) -> Act
 
 /// Makes the sends one after the other, and adds their acts. Takes no memory.
 #[tactic(auto, using(crate::proofs::SendLaws::sends_acts_none, crate::proofs::SendLaws::sends_queues_none, crate::proofs::SendLaws::sends_acts_more, crate::proofs::SendLaws::sends_queues_more))]
-fn send_all(acts: &mut Vec<Act>, queues: &mut [Queue<Packet>], outbox: Outbox)
+pub fn send_all(acts: &mut Vec<Act>, queues: &mut [Queue<Packet>], outbox: Outbox)
     requires { vec_len acts.old + length outbox ≤ vec_capacity acts.old }
     ensures acts { acts.new.items ≡ acts.old.items ++ spec.sends_acts queues.old outbox }
     ensures queues { queues.new ≡ spec.sends_queues queues.old outbox }
@@ -87,7 +86,7 @@ fn note_all(acts: &mut Vec<Act>, notes: Notes) -> Result<(), AllocError>
 }
 
 /// What a step lists: an act, the notes of a visit and its end, with room for its sends.
-fn begin_acts(
+pub fn begin_acts(
     alloc: Global,
     first: Act,
     notes: Notes,
@@ -103,32 +102,4 @@ fn begin_acts(
     acts.push(end)?;
     acts.reserve(sends)?;
     Ok(acts)
-}
-
-/// A visit at a host, after an act: its acts, with its sends queued. Where memory is refused, the
-/// queues stay.
-#[tactic(auto, unfolding(world_laws::specs::Node::visit_acts))]
-pub fn visit_acts(
-    alloc: Global,
-    here: Host,
-    links: &[(Host, Dev)],
-    queues: &mut [Queue<Packet>],
-    first: Act,
-    packet: &Packet,
-) -> Result<ActList, NoMemory>
-    ensures acts { IfOk result (λ acts. acts ≡ (first ∷ []) ++ spec.visit_acts queues.old packet.now (visit_of here links.now packet.now)) }
-    ensures queues { OnOk result (queues.new ≡ spec.sends_queues queues.old (visit_of here links.now packet.now).outbox) }
-    ensures err { OnErr result (queues.new ≡ queues.old) }
-{
-    let Visit {
-        outcome,
-        evals,
-        left,
-        outbox,
-        notes,
-    } = visit_packet(alloc, here, links, packet)?;
-    let end = Act::Ended(packet.family, outcome, evals, left);
-    let mut acts = begin_acts(alloc, first, notes, end, outbox.len())?;
-    send_all(&mut acts, queues, outbox);
-    Ok(Items::from_vec(acts))
 }

@@ -1,14 +1,17 @@
-ghost use Rattle.std.specs.Prelude.{◌≡◌, [], ◌∷◌, ◌++◌, codes, OnOk, OnErr, IfOk};
+ghost use Rattle.std.specs.Prelude.{◌≡◌, ◌++◌, codes, OnOk};
 ghost use Rattle.std.specs.Fmt.{decimal};
-ghost use Rattle.plan_base.specs.declared.tree.Value.{out-Value};
+ghost use Rattle.plan_printer.specs.Printed.{value_text};
 ghost use Rattle.world_laws.specs.Texts as spec;
 
-use plan_base::{Bytes, Dev, Family, Host, Value};
-use std::alloc::{AllocError, Global};
-use world_laws::{Act, Entry, Line, Note, Outcome, Reason, What};
+use plan_base::{Bytes, Dev, Family, Host, NoMemory, Value};
+use plan_meaning::Outcome;
+use plan_printer::print_value;
+use service_api::Note;
+use std::alloc::Global;
+use world_laws::{Act, Entry, Line, Reason, What};
 
 /// A number in decimal.
-fn put_number(alloc: Global, out: &mut Bytes, n: u64) -> Result<(), AllocError>
+fn put_number(alloc: Global, out: &mut Bytes, n: u64) -> Result<(), NoMemory>
     ensures { OnOk result (out.new ≡ out.old ++ decimal n) }
 {
     let digits = format!(in alloc; "{n}")?;
@@ -17,7 +20,7 @@ fn put_number(alloc: Global, out: &mut Bytes, n: u64) -> Result<(), AllocError>
 }
 
 /// The head of a line.
-fn put_head(alloc: Global, out: &mut Bytes, word: &[u8], host: Host) -> Result<(), AllocError>
+fn put_head(alloc: Global, out: &mut Bytes, word: &[u8], host: Host) -> Result<(), NoMemory>
     ensures { OnOk result (out.new ≡ out.old ++ spec.head_text word.now host) }
 {
     out.add_all(word)?;
@@ -27,7 +30,7 @@ fn put_head(alloc: Global, out: &mut Bytes, word: &[u8], host: Host) -> Result<(
 }
 
 /// A family.
-fn put_family(alloc: Global, out: &mut Bytes, f: Family) -> Result<(), AllocError>
+fn put_family(alloc: Global, out: &mut Bytes, f: Family) -> Result<(), NoMemory>
     ensures { OnOk result (out.new ≡ out.old ++ spec.family_text f) }
 {
     put_number(alloc, out, u64::from(f.source.0))?;
@@ -37,7 +40,7 @@ fn put_family(alloc: Global, out: &mut Bytes, f: Family) -> Result<(), AllocErro
 }
 
 /// A family with its bound.
-fn put_bound(alloc: Global, out: &mut Bytes, f: Family, bound: u32) -> Result<(), AllocError>
+fn put_bound(alloc: Global, out: &mut Bytes, f: Family, bound: u32) -> Result<(), NoMemory>
     ensures { OnOk result (out.new ≡ out.old ++ spec.bound_text f bound) }
 {
     out.add_all(b" ")?;
@@ -48,7 +51,7 @@ fn put_bound(alloc: Global, out: &mut Bytes, f: Family, bound: u32) -> Result<()
 }
 
 /// A device.
-fn put_device(alloc: Global, out: &mut Bytes, dev: Dev) -> Result<(), AllocError>
+fn put_device(alloc: Global, out: &mut Bytes, dev: Dev) -> Result<(), NoMemory>
     ensures { OnOk result (out.new ≡ out.old ++ spec.device_text dev) }
 {
     out.add_all(b" %")?;
@@ -56,31 +59,8 @@ fn put_device(alloc: Global, out: &mut Bytes, dev: Dev) -> Result<(), AllocError
     Ok(())
 }
 
-/// A value of a small program; none of the others has a text here.
-#[tactic(auto, unfolding(world_laws::specs::Texts::value_text))]
-fn put_value(out: &mut Bytes, value: &Value) -> Result<(), AllocError>
-    ensures { OnOk result (out.new ≡ out.old ++ spec.value_text value.now) }
-{
-    match value {
-        Value::Unit => out.add_all(b"()")?,
-        Value::Str(text) => put_quoted(out, text.as_slice())?,
-        _ => (),
-    }
-    Ok(())
-}
-
-/// A string in its quotes.
-fn put_quoted(out: &mut Bytes, text: &[u8]) -> Result<(), AllocError>
-    ensures { OnOk result (out.new ≡ out.old ++ (codes "\"" ++ (text.now ++ codes "\""))) }
-{
-    out.add_all(b"\"")?;
-    out.add_all(text)?;
-    out.add_all(b"\"")?;
-    Ok(())
-}
-
 /// What a visit left.
-fn put_rest(alloc: Global, out: &mut Bytes, evals: u32, left: u32) -> Result<(), AllocError>
+fn put_rest(alloc: Global, out: &mut Bytes, evals: u32, left: u32) -> Result<(), NoMemory>
     ensures { OnOk result (out.new ≡ out.old ++ spec.rest_text evals left) }
 {
     out.add_all(b" evals ")?;
@@ -91,7 +71,7 @@ fn put_rest(alloc: Global, out: &mut Bytes, evals: u32, left: u32) -> Result<(),
 }
 
 /// A note.
-fn put_note(alloc: Global, out: &mut Bytes, host: Host, note: &Note) -> Result<(), AllocError>
+fn put_note(alloc: Global, out: &mut Bytes, host: Host, note: &Note) -> Result<(), NoMemory>
     ensures { OnOk result (out.new ≡ out.old ++ spec.note_text host note.now) }
 {
     match note {
@@ -101,12 +81,12 @@ fn put_note(alloc: Global, out: &mut Bytes, host: Host, note: &Note) -> Result<(
     Ok(())
 }
 
-fn put_print(alloc: Global, out: &mut Bytes, host: Host, value: &Value) -> Result<(), AllocError>
-    ensures { OnOk result (out.new ≡ out.old ++ (spec.head_text (codes "print") host ++ (codes " " ++ spec.value_text value.now))) }
+fn put_print(alloc: Global, out: &mut Bytes, host: Host, value: &Value) -> Result<(), NoMemory>
+    ensures { OnOk result (out.new ≡ out.old ++ (spec.head_text (codes "print") host ++ (codes " " ++ value_text value.now))) }
 {
     put_head(alloc, out, b"print", host)?;
     out.add_all(b" ")?;
-    put_value(out, value)?;
+    print_value(alloc, value, out)?;
     Ok(())
 }
 
@@ -116,14 +96,14 @@ fn put_port(
     host: Host,
     port: u16,
     value: &Value,
-) -> Result<(), AllocError>
-    ensures { OnOk result (out.new ≡ out.old ++ (spec.head_text (codes "port") host ++ (codes " " ++ (decimal port ++ (codes " " ++ spec.value_text value.now))))) }
+) -> Result<(), NoMemory>
+    ensures { OnOk result (out.new ≡ out.old ++ (spec.head_text (codes "port") host ++ (codes " " ++ (decimal port ++ (codes " " ++ value_text value.now))))) }
 {
     put_head(alloc, out, b"port", host)?;
     out.add_all(b" ")?;
     put_number(alloc, out, u64::from(port))?;
     out.add_all(b" ")?;
-    put_value(out, value)?;
+    print_value(alloc, value, out)?;
     Ok(())
 }
 
@@ -136,7 +116,7 @@ fn put_end(
     outcome: &Outcome,
     evals: u32,
     left: u32,
-) -> Result<(), AllocError>
+) -> Result<(), NoMemory>
     ensures { OnOk result (out.new ≡ out.old ++ spec.end_text host f outcome.now evals left) }
 {
     match outcome {
@@ -155,14 +135,14 @@ fn put_ended(
     value: &Value,
     evals: u32,
     left: u32,
-) -> Result<(), AllocError>
-    ensures { OnOk result (out.new ≡ out.old ++ (spec.head_text (codes "value") host ++ (codes " " ++ (spec.family_text f ++ (codes " " ++ (spec.value_text value.now ++ spec.rest_text evals left)))))) }
+) -> Result<(), NoMemory>
+    ensures { OnOk result (out.new ≡ out.old ++ (spec.head_text (codes "value") host ++ (codes " " ++ (spec.family_text f ++ (codes " " ++ (value_text value.now ++ spec.rest_text evals left)))))) }
 {
     put_head(alloc, out, b"value", host)?;
     out.add_all(b" ")?;
     put_family(alloc, out, f)?;
     out.add_all(b" ")?;
-    put_value(out, value)?;
+    print_value(alloc, value, out)?;
     put_rest(alloc, out, evals, left)?;
     Ok(())
 }
@@ -175,7 +155,7 @@ fn put_raised(
     name: &[u8],
     evals: u32,
     left: u32,
-) -> Result<(), AllocError>
+) -> Result<(), NoMemory>
     ensures { OnOk result (out.new ≡ out.old ++ (spec.head_text (codes "raised") host ++ (codes " " ++ (spec.family_text f ++ (codes " " ++ (name.now ++ spec.rest_text evals left)))))) }
 {
     put_head(alloc, out, b"raised", host)?;
@@ -193,7 +173,7 @@ fn put_spent(
     host: Host,
     f: Family,
     left: u32,
-) -> Result<(), AllocError>
+) -> Result<(), NoMemory>
     ensures { OnOk result (out.new ≡ out.old ++ (spec.head_text (codes "spent") host ++ (codes " " ++ (spec.family_text f ++ (codes " left " ++ decimal left))))) }
 {
     put_head(alloc, out, b"spent", host)?;
@@ -222,7 +202,7 @@ fn put_injected(
     host: Host,
     f: Family,
     bound: u32,
-) -> Result<(), AllocError>
+) -> Result<(), NoMemory>
     ensures { OnOk result (out.new ≡ out.old ++ (spec.head_text (codes "inject") host ++ spec.bound_text f bound)) }
 {
     put_head(alloc, out, b"inject", host)?;
@@ -230,7 +210,7 @@ fn put_injected(
     Ok(())
 }
 
-fn put_arrived(alloc: Global, out: &mut Bytes, host: Host, dev: Dev) -> Result<(), AllocError>
+fn put_arrived(alloc: Global, out: &mut Bytes, host: Host, dev: Dev) -> Result<(), NoMemory>
     ensures { OnOk result (out.new ≡ out.old ++ (spec.head_text (codes "arrive") host ++ spec.device_text dev)) }
 {
     put_head(alloc, out, b"arrive", host)?;
@@ -245,7 +225,7 @@ fn put_queued(
     dev: Dev,
     f: Family,
     bound: u32,
-) -> Result<(), AllocError>
+) -> Result<(), NoMemory>
     ensures { OnOk result (out.new ≡ out.old ++ (spec.head_text (codes "queue") host ++ (spec.device_text dev ++ spec.bound_text f bound))) }
 {
     put_head(alloc, out, b"queue", host)?;
@@ -261,7 +241,7 @@ fn put_dropped(
     reason: Reason,
     f: Family,
     bound: u32,
-) -> Result<(), AllocError>
+) -> Result<(), NoMemory>
     ensures { OnOk result (out.new ≡ out.old ++ (spec.head_text (codes "drop") host ++ (codes " " ++ (spec.reason_text reason ++ spec.bound_text f bound)))) }
 {
     put_head(alloc, out, b"drop", host)?;
@@ -277,7 +257,7 @@ fn put_taken(
     host: Host,
     dev: Dev,
     f: Family,
-) -> Result<(), AllocError>
+) -> Result<(), NoMemory>
     ensures { OnOk result (out.new ≡ out.old ++ (spec.head_text (codes "send") host ++ (spec.device_text dev ++ (codes " " ++ spec.family_text f)))) }
 {
     put_head(alloc, out, b"send", host)?;
@@ -287,7 +267,7 @@ fn put_taken(
     Ok(())
 }
 
-fn put_serials_spent(alloc: Global, out: &mut Bytes, host: Host) -> Result<(), AllocError>
+fn put_serials_spent(alloc: Global, out: &mut Bytes, host: Host) -> Result<(), NoMemory>
     ensures { OnOk result (out.new ≡ out.old ++ (spec.head_text (codes "drop") host ++ codes " SerialsSpent")) }
 {
     put_head(alloc, out, b"drop", host)?;
@@ -297,7 +277,7 @@ fn put_serials_spent(alloc: Global, out: &mut Bytes, host: Host) -> Result<(), A
 
 /// The line of an act at a host, without its number.
 #[tactic(auto, unfolding(world_laws::specs::Texts::act_text))]
-fn put_act_text(alloc: Global, out: &mut Bytes, host: Host, act: &Act) -> Result<(), AllocError>
+fn put_act_text(alloc: Global, out: &mut Bytes, host: Host, act: &Act) -> Result<(), NoMemory>
     ensures { OnOk result (out.new ≡ out.old ++ spec.act_text host act.now) }
 {
     match act {
@@ -316,7 +296,7 @@ fn put_act_text(alloc: Global, out: &mut Bytes, host: Host, act: &Act) -> Result
 }
 
 /// A word and a number.
-fn put_numbered(alloc: Global, out: &mut Bytes, word: &[u8], number: u32) -> Result<(), AllocError>
+fn put_numbered(alloc: Global, out: &mut Bytes, word: &[u8], number: u32) -> Result<(), NoMemory>
     ensures { OnOk result (out.new ≡ out.old ++ (word.now ++ decimal number)) }
 {
     out.add_all(word)?;
@@ -324,7 +304,7 @@ fn put_numbered(alloc: Global, out: &mut Bytes, word: &[u8], number: u32) -> Res
     Ok(())
 }
 
-fn put_lost(alloc: Global, out: &mut Bytes, f: Family, bound: u32) -> Result<(), AllocError>
+fn put_lost(alloc: Global, out: &mut Bytes, f: Family, bound: u32) -> Result<(), NoMemory>
     ensures { OnOk result (out.new ≡ out.old ++ (codes "lost" ++ spec.bound_text f bound)) }
 {
     out.add_all(b"lost")?;
@@ -334,7 +314,7 @@ fn put_lost(alloc: Global, out: &mut Bytes, f: Family, bound: u32) -> Result<(),
 
 /// A line without its number.
 #[tactic(auto, unfolding(world_laws::specs::Texts::line_text))]
-fn put_line_text(alloc: Global, out: &mut Bytes, line: &Line) -> Result<(), AllocError>
+fn put_line_text(alloc: Global, out: &mut Bytes, line: &Line) -> Result<(), NoMemory>
     ensures { OnOk result (out.new ≡ out.old ++ spec.line_text line.now) }
 {
     match line {
@@ -349,7 +329,7 @@ fn put_line_text(alloc: Global, out: &mut Bytes, line: &Line) -> Result<(), Allo
 
 /// A whole line.
 #[tactic(auto, unfolding(world_laws::specs::Texts::entry_text))]
-fn put_entry(alloc: Global, out: &mut Bytes, entry: &Entry) -> Result<(), AllocError>
+fn put_entry(alloc: Global, out: &mut Bytes, entry: &Entry) -> Result<(), NoMemory>
     ensures { OnOk result (out.new ≡ out.old ++ spec.entry_text entry.now) }
 {
     put_number(alloc, out, u64::from(entry.event))?;
@@ -361,7 +341,7 @@ fn put_entry(alloc: Global, out: &mut Bytes, entry: &Entry) -> Result<(), AllocE
 
 /// The lines of entries.
 #[tactic(auto, using(crate::proofs::TextLaws::entries_none, crate::proofs::TextLaws::entries_more))]
-pub fn put_entries(alloc: Global, out: &mut Bytes, entries: &[Entry]) -> Result<(), AllocError>
+pub fn put_entries(alloc: Global, out: &mut Bytes, entries: &[Entry]) -> Result<(), NoMemory>
     ensures { OnOk result (out.new ≡ out.old ++ spec.entries_text entries.now) }
 {
     for entry in entries {
@@ -386,7 +366,7 @@ pub struct Row {
 }
 
 /// A word and a number of a ledger's row.
-fn put_count(alloc: Global, out: &mut Bytes, word: &[u8], n: u64) -> Result<(), AllocError>
+fn put_count(alloc: Global, out: &mut Bytes, word: &[u8], n: u64) -> Result<(), NoMemory>
     ensures { OnOk result (out.new ≡ out.old ++ (word.now ++ decimal n)) }
 {
     out.add_all(word)?;
@@ -395,7 +375,7 @@ fn put_count(alloc: Global, out: &mut Bytes, word: &[u8], n: u64) -> Result<(), 
 }
 
 /// A row of a ledger.
-pub fn put_row(alloc: Global, out: &mut Bytes, f: Family, row: Row) -> Result<(), AllocError>
+pub fn put_row(alloc: Global, out: &mut Bytes, f: Family, row: Row) -> Result<(), NoMemory>
     ensures { OnOk result (out.new ≡ out.old ++ spec.counts_text f row.granted row.hops row.evals row.live row.left) }
 {
     put_family(alloc, out, f)?;

@@ -1,17 +1,21 @@
-ghost use Rattle.std.specs.Prelude.{◌≡◌, ◌<◌, ◌-◌, ◌^◌, ◌∷◌, ◌++◌, ◌+◌, [], length, position, IfOk, OnOk, IfSome, None, map};
-ghost use Rattle.world_laws.specs.SmallVisit.{is_host};
+ghost use Rattle.std.specs.Prelude.{◌≡◌, ◌≤◌, ◌<◌, ◌-◌, ◌^◌, ◌∷◌, ◌++◌, ◌+◌, [], length, position, IfOk, OnOk, IfSome, None, All, map};
+ghost use Rattle.world_laws.specs.State.{is_host};
 ghost use Rattle.world_laws.specs.World as spec;
 ghost use Rattle.world_laws.specs.Node.{inject_step, arrive_step, take_step};
-ghost use Rattle.world_laws.specs.Counts.{event_fits, IsSound};
+ghost use Rattle.plan_base.specs.declared.ids.Family.{Family};
+ghost use Rattle.world_laws.specs.Counts.{GrowsInBalance};
+ghost use Rattle.world_laws.specs.Sound.{event_fits, NodeFits, PacketFits, IsSound};
 ghost use Rattle.world_laws.specs.declared.lines.Line.TheVariants as line;
 ghost use Rattle.net_world.specs.Stands.{node_state, states, world_state, StepsAt, IsHappened};
 
 use crate::node::Node;
-use plan_base::{Chunk, Dev, Host, NoMemory, Packet};
+use chunk_types::CheckedChunk;
+use plan_base::{Dev, Host, NoMemory, Packet};
 use plan_items::Items;
 use schedule_text::{HostSpec, Links, Topology, WorldEvent};
+use service_api::Neighbours;
 use std::alloc::Global;
-use world_laws::{ActList, Acts, Line, Lines, LinkEnd, Neighbours, What, Wire, Wired};
+use world_laws::{ActList, Acts, Line, Lines, LinkEnd, What, Wire, Wired};
 
 /// The number of frames that the wire holds.
 const WIRE_ROOM: usize = 4096;
@@ -129,10 +133,12 @@ fn inject_at(
     alloc: Global,
     nodes: &mut [Node],
     at: usize,
-    chunk: &Chunk,
+    chunk: &CheckedChunk,
     bound: u32,
 ) -> Result<Acts, NoMemory>
-    requires { at < length nodes.old }
+    requires within { at < length nodes.old }
+    requires nodes { All NodeFits (states nodes.old) }
+    requires small { bound ≤ 65535 }
     ensures { IfOk result (λ acts. StepsAt (λ node. inject_step node chunk.now bound) (states nodes.old) at acts (states nodes.new)) }
 {
     nodes[at].inject(alloc, chunk, bound)
@@ -146,7 +152,9 @@ fn arrive_at(
     dev: Dev,
     packet: &Packet,
 ) -> Result<Acts, NoMemory>
-    requires { at < length nodes.old }
+    requires within { at < length nodes.old }
+    requires nodes { All NodeFits (states nodes.old) }
+    requires fits { PacketFits packet.now }
     ensures { IfOk result (λ acts. StepsAt (λ node. arrive_step node dev packet.now) (states nodes.old) at acts (states nodes.new)) }
 {
     nodes[at].arrive(alloc, dev, packet)
@@ -230,9 +238,11 @@ impl World {
         &mut self,
         alloc: Global,
         host: Host,
-        chunk: &Chunk,
+        chunk: &CheckedChunk,
         bound: u32,
     ) -> Result<Lines, NoMemory>
+        requires sound { IsSound (world_state self.old) }
+        requires small { bound ≤ 65535 }
         ensures ok { IfOk result (λ lines. IsHappened (spec.injects (world_state self.old) host chunk.now bound) lines (world_state self.new)) }
         ensures made { self.new.made ≡ self.old.made }
     {
@@ -278,6 +288,7 @@ impl World {
 
     #[tactic(auto, unfolding(world_laws::specs::World::delivers, world_laws::specs::World::deliver_place, world_laws::specs::World::deliver_frame, world_laws::specs::World::deliver_to, world_laws::specs::World::deliver_at))]
     fn deliver(&mut self, alloc: Global, number: u32) -> Result<Lines, NoMemory>
+        requires sound { IsSound (world_state self.old) }
         ensures ok { IfOk result (λ lines. IsHappened (spec.delivers (world_state self.old) number) lines (world_state self.new)) }
         ensures made { self.new.made ≡ self.old.made }
     {
@@ -309,7 +320,9 @@ impl World {
     }
 
     fn act(&mut self, alloc: Global, event: &WorldEvent) -> Result<Lines, NoMemory>
-        requires { self.old.next < 2 ^ 32 - 1 }
+        requires sound { IsSound (world_state self.old) }
+        requires fits { event_fits event.now }
+        requires few { self.old.next < 2 ^ 32 - 1 }
         ensures ok { IfOk result (λ lines. IsHappened (spec.acted (world_state self.old) event.now) lines (world_state self.new)) }
         ensures made { self.new.made ≡ self.old.made }
     {
@@ -321,13 +334,14 @@ impl World {
         }
     }
 
-    /// One event, and its lines. Conditions: an injected bound is at most 65,535, and fewer than
-    /// 2^32 - 2 events were made. After `NoMemory` the network isn't used again.
+    /// One event, and its lines. Conditions: the network is sound, an injected bound is at most 65,535,
+    /// and fewer than 2^32 - 2 events were made. After `NoMemory` the network isn't used again.
     pub fn step(&mut self, alloc: Global, event: &WorldEvent) -> Result<Lines, NoMemory>
         requires sound { IsSound (world_state self.old) }
         requires fits { event_fits event.now }
         requires few { (world_state self.old).made < 2 ^ 32 - 2 }
         ensures ok { IfOk result (λ lines. IsHappened (spec.happens (world_state self.old) event.now) lines (world_state self.new)) }
+        ensures balance { (f : Family) → GrowsInBalance f (world_state self.old) (spec.entries (world_state self.old) event.now) (spec.happens (world_state self.old) event.now).world }
         ensures sound { OnOk result (IsSound (world_state self.new)) }
         ensures made { OnOk result ((world_state self.new).made ≡ (world_state self.old).made + 1) }
     {

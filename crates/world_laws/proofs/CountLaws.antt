@@ -12,8 +12,8 @@ use Rattle.world_laws.specs.declared.lines.Line.{Line}
 use Rattle.world_laws.specs.declared.lines.Line.TheVariants.{At}
 use Rattle.world_laws.specs.declared.lines.Entry.{Entry}
 use Rattle.world_laws.specs.declared.lines.Wired.{Wired}
-use Rattle.world_laws.specs.declared.visits.Sent.{Sent}
-use Rattle.world_laws.specs.Node.{NodeState}
+use Rattle.plan_meaning.specs.declared.sent.Sent.{Sent}
+use Rattle.world_laws.specs.State.{NodeState}
 use Rattle.world_laws.specs.World.{entry_at, lines_at}
 use Rattle.world_laws.specs.Counts.{only, is_family, act_sum, line_sum, tally, packet_live, queue_live, queues_live, node_live, nodes_live, wired_live, wire_live}
 

@@ -1,9 +1,8 @@
 -- A family is injected at most once, and with at most 65,535.
 use Rattle.std.proofs.Common.{◌≡◌, ℕ, zero, suc, ◌+◌, ◌-◌, ◌*◌, ◌<◌, ◌≤◌, Bool, true, false, cond, List, [], ◌∷◌, ◌++◌, refl, sym, ap, ◌∙◌, arith, length}
 use Rattle.std.specs.Prelude.{sum_by, map, slice_set, slice_get, nat_lt, nat_le, ◌==◌, ◌&&◌, ◌||◌, Option, Some, None, All}
-use Rattle.std.specs.Str.{bytes_eq}
 use Rattle.std.proofs.lemmas.List.Sums.{sum_by-cons, sum_by-set}
-use Rattle.std.proofs.lemmas.List.Elements.{All-head, All-tail}
+use Rattle.std.proofs.lemmas.List.Elements.{All-nil, All-cons, All-head, All-tail}
 use Rattle.std.proofs.lemmas.Option.{slice_get_within, get_or_from_slice_get}
 use Rattle.std.proofs.lemmas.Bool.Decides.{nat_tests}
 use Rattle.plan_base.specs.declared.ids.Host.{Host}
@@ -15,10 +14,10 @@ use Rattle.schedule_text.specs.declared.schedule.HostSpec.{HostSpec}
 use Rattle.schedule_text.specs.declared.schedule.Topology.{Topology}
 use Rattle.schedule_text.specs.declared.schedule.WorldEvent.{WorldEvent}
 use Rattle.schedule_text.specs.declared.schedule.WorldEvent.TheVariants.{Inject, Send, Deliver, Lose}
-use Rattle.world_laws.specs.declared.visits.Sent.{Sent}
-use Rattle.world_laws.specs.declared.visits.Note.{Note}
-use Rattle.world_laws.specs.declared.visits.Visit.{Visit}
-use Rattle.world_laws.specs.declared.visits.Outcome.{Outcome}
+use Rattle.plan_meaning.specs.declared.sent.Sent.{Sent}
+use Rattle.service_api.specs.declared.answer.Note.{Note}
+use Rattle.plan_meaning.specs.declared.outcome.Visit.{Visit}
+use Rattle.plan_meaning.specs.declared.outcome.Outcome.{Outcome}
 use Rattle.world_laws.specs.declared.acts.Act.{Act}
 use Rattle.world_laws.specs.declared.acts.Act.TheVariants.{Injected, Arrived, Noted, Ended, Queued, Dropped, Taken, SerialsSpent}
 use Rattle.world_laws.specs.declared.acts.Reason.{Reason}
@@ -28,10 +27,15 @@ use Rattle.world_laws.specs.declared.lines.Line.TheVariants.{At, Wire, Off, Lost
 use Rattle.world_laws.specs.declared.lines.LinkEnd.{LinkEnd}
 use Rattle.world_laws.specs.declared.lines.Entry.{Entry}
 use Rattle.world_laws.specs.declared.lines.Wired.{Wired}
-use Rattle.world_laws.specs.SmallVisit.{is_host, default_route, visit_of}
-use Rattle.world_laws.specs.Node.{Queues, NodeState, Step, stepped, has_room, send_act, send_queues, sends_acts, visit_acts, visited, next_serial, injected_packet, inject_step, forward_over, forward_step, route_to, arrive_step, take_from, take_step, what_of}
+use Rattle.service_api.specs.declared.router.Hop.{Hop}
+use Rattle.service_api.specs.declared.router.Hop.TheVariants.{To, NoService, NoRoute}
+use Rattle.service_api.specs.Routes.{hop}
+use Rattle.world_laws.specs.State.{Queues, NodeState, is_host}
+use Rattle.world_laws.specs.Visits.{visit_at}
+use Rattle.world_laws.specs.Node.{Step, stepped, has_room, send_act, send_queues, sends_acts, visit_acts, visited, next_serial, injected_packet, inject_step, forward_by, forward_step, arrive_step, take_from, take_step, what_of}
 use Rattle.world_laws.specs.World.{Cables, WorldState, Happened, nothing, lines_at, inject_at, inject_place, injects, send_taken, send_at, send_over, send_place, sends, place_of, far_end, wire_place, deliver_at, deliver_to, deliver_frame, deliver_place, delivers, lose_frame, lose_place, loses, acted, happens, entries, world_after, history_of, opening_node, opening}
-use Rattle.world_laws.specs.Counts.{only, is_family, act_sum, act_granted, act_injections, line_sum, line_granted, line_injections, tally, granted, injections, event_fits, EventsFit, HostsDiffer, has_host}
+use Rattle.world_laws.specs.Counts.{only, is_family, act_sum, act_granted, act_injections, line_sum, line_granted, line_injections, tally, granted, injections}
+use Rattle.world_laws.specs.Sound.{event_fits, EventsFit, HostsDiffer, has_host}
 use Rattle.world_laws.proofs.CountLaws.{act_sum-nil, act_sum-cons, act_sum-append, line_sum-nil, line_sum-cons, line_sum-append, line_sum-at, tally-nil, tally-append, tally-entries}
 
 -- acts that no visit, send or arrival has
@@ -64,18 +68,12 @@ module _ (c : Act → ℕ) (z : OnlyInjects c) where
 
   visit_none : (queues : Queues) (p : Packet) (v : Visit) → act_sum c (visit_acts queues p v) ≡ 0
   unfolding visit_acts
-  visit_none queues p v = omega (
-    arith,
-    act_sum-append c (map Noted v.notes) (Ended p.family v.outcome v.evals v.left ∷ sends_acts queues v.outbox),
-    act_sum-cons c (Ended p.family v.outcome v.evals v.left) (sends_acts queues v.outbox),
-    notes_none v.notes,
-    z.ended p.family v.outcome v.evals v.left,
-    sends_none queues v.outbox,
-  )
+  visit_none queues p v = omega (arith, act_sum-append c (map Noted v.notes) (Ended p.family v.outcome v.evals v.left ∷ sends_acts queues v.outbox),
+      act_sum-cons c (Ended p.family v.outcome v.evals v.left) (sends_acts queues v.outbox), notes_none v.notes, z.ended p.family v.outcome v.evals v.left, sends_none queues v.outbox)
 
-  visited_count : (act : Act) (node : NodeState) (p : Packet) → act_sum c (visited (act ∷ []) node p).acts ≡ c act
+  pub visited_count : (act : Act) (node : NodeState) (p : Packet) → act_sum c (visited (act ∷ []) node p).acts ≡ c act
   unfolding visited
-  visited_count act node p = let v = visit_of node.here node.neighbours p in
+  visited_count act node p = let v = visit_at node p in
       omega (arith, act_sum-append c (act ∷ []) (visit_acts node.queues p v), act_sum-cons c act [], act_sum-nil c, visit_none node.queues p v)
 
   step_cases : (t : Bool) (a b : Step) → act_sum c a.acts ≡ 0 → act_sum c b.acts ≡ 0 → act_sum c (cond t a b).acts ≡ 0
@@ -85,15 +83,16 @@ module _ (c : Act → ℕ) (z : OnlyInjects c) where
   two_none : (a b : Act) → c a ≡ 0 → c b ≡ 0 → act_sum c (a ∷ b ∷ []) ≡ 0
   two_none a b x y = omega (arith, act_sum-cons c a (b ∷ []), act_sum-cons c b [], act_sum-nil c)
 
-  over_none : (node : NodeState) (d : Dev) (p : Packet) (o : Option Dev) → act_sum c (forward_over node d p o).acts ≡ 0
-  unfolding forward_over
-  over_none node d p None = two_none _ _ (z.arrived d) (z.dropped reason.NoRoute p.family p.bound)
-  over_none node d p (Some over) = two_none _ _ (z.arrived d) (send_none node.queues (record { dev = over; packet = p }))
+  by_none : (node : NodeState) (d : Dev) (p : Packet) (o : Hop) → act_sum c (forward_by node d p o).acts ≡ 0
+  unfolding forward_by
+  by_none node d p (To host over) = two_none _ _ (z.arrived d) (send_none node.queues (record { dev = over; packet = p }))
+  by_none node d p NoService = two_none _ _ (z.arrived d) (z.dropped reason.NoService p.family p.bound)
+  by_none node d p NoRoute = two_none _ _ (z.arrived d) (z.dropped reason.NoRoute p.family p.bound)
 
   forward_none : (node : NodeState) (d : Dev) (p : Packet) → act_sum c (forward_step node d p).acts ≡ 0
   unfolding forward_step
-  forward_none node d p = step_cases (p.bound == 0) _ _ (two_none _ _ (z.arrived d) (z.dropped reason.NoBound p.family 0))
-      (step_cases (bytes_eq p.route default_route) _ _ (over_none node d p (route_to node.neighbours p.dest)) (two_none _ _ (z.arrived d) (z.dropped reason.NoService p.family p.bound)))
+  forward_none node d p =
+      step_cases (p.bound == 0) _ _ (two_none _ _ (z.arrived d) (z.dropped reason.NoBound p.family 0)) (by_none node d p (hop node.routes p.route node.here p.dest))
 
   pub arrive_none : (node : NodeState) (d : Dev) (p : Packet) → act_sum c (arrive_step node d p).acts ≡ 0
   unfolding arrive_step
@@ -112,7 +111,7 @@ module _ (f : Family) where
   granted_injects : OnlyInjects (act_granted f)
   granted_injects = record { noted = λ n. refl; ended = λ g o e r. refl; queued = λ d g b. refl; dropped = λ r g b. refl; arrived = λ d. refl; taken = λ d p. refl; spent = refl }
 
-  injections_injects : OnlyInjects (act_injections f)
+  pub injections_injects : OnlyInjects (act_injections f)
   injections_injects = record { noted = λ n. refl; ended = λ g o e r. refl; queued = λ d g b. refl; dropped = λ r g b. refl; arrived = λ d. refl; taken = λ d p. refl; spent = refl }
 
   -- whether a node may yet give this family
@@ -161,9 +160,8 @@ module _ (f : Family) where
   inject_cases : (t : Bool) (node : NodeState) (chunk : Chunk) (bound : ℕ) → bound ≤ 65535
       → StepGives node (cond t (stepped (SerialsSpent ∷ []) None node) (visited (Injected (record { source = node.here; serial = node.serial }) bound ∷ []) (next_serial node) (injected_packet node chunk bound)))
   inject_cases true node chunk bound h = record {
-    once = omega (arith, act_sum-cons (act_injections f) SerialsSpent [], act_sum-nil (act_injections f));
-    limit = omega (arith, act_sum-cons (act_granted f) SerialsSpent [], act_sum-nil (act_granted f));
-  }
+      once = omega (arith, act_sum-cons (act_injections f) SerialsSpent [], act_sum-nil (act_injections f));
+      limit = omega (arith, act_sum-cons (act_granted f) SerialsSpent [], act_sum-nil (act_granted f)) }
   inject_cases false node chunk bound h =
       let g : Family = record { source = node.here; serial = node.serial } in
       let act = Injected g bound in
@@ -186,15 +184,15 @@ module _ (f : Family) where
   same_cases true old a b x y = x
   same_cases false old a b x y = y
 
-  over_same : (node : NodeState) (d : Dev) (p : Packet) (o : Option Dev) → SameGiver node (forward_over node d p o).node
-  unfolding forward_over
-  over_same node d p None = record { here = refl; serial = refl }
-  over_same node d p (Some over) = record { here = refl; serial = refl }
+  by_same : (node : NodeState) (d : Dev) (p : Packet) (o : Hop) → SameGiver node (forward_by node d p o).node
+  unfolding forward_by
+  by_same node d p (To host over) = record { here = refl; serial = refl }
+  by_same node d p NoService = record { here = refl; serial = refl }
+  by_same node d p NoRoute = record { here = refl; serial = refl }
 
   forward_same : (node : NodeState) (d : Dev) (p : Packet) → SameGiver node (forward_step node d p).node
   unfolding forward_step
-  forward_same node d p = same_cases (p.bound == 0) node _ _ (record { here = refl; serial = refl })
-      (same_cases (bytes_eq p.route default_route) node _ _ (over_same node d p (route_to node.neighbours p.dest)) (record { here = refl; serial = refl }))
+  forward_same node d p = same_cases (p.bound == 0) node _ _ (record { here = refl; serial = refl }) (by_same node d p (hop node.routes p.route node.here p.dest))
 
   arrive_same : (node : NodeState) (d : Dev) (p : Packet) → SameGiver node (arrive_step node d p).node
   unfolding arrive_step
@@ -211,15 +209,13 @@ module _ (f : Family) where
 
   arrive_gives : (node : NodeState) (d : Dev) (p : Packet) → StepGives node (arrive_step node d p)
   arrive_gives node d p = let s = arrive_same node d p in record {
-    once = omega (arith, arrive_none (act_injections f) injections_injects node d p, same_gives node (arrive_step node d p).node s.here s.serial);
-    limit = omega (arith, arrive_none (act_granted f) granted_injects node d p);
-  }
+      once = omega (arith, arrive_none (act_injections f) injections_injects node d p, same_gives node (arrive_step node d p).node s.here s.serial);
+      limit = omega (arith, arrive_none (act_granted f) granted_injects node d p) }
 
   take_gives : (node : NodeState) (d : Dev) → StepGives node (take_step node d)
   take_gives node d = let s = take_same node d in record {
-    once = omega (arith, take_none (act_injections f) injections_injects node d, same_gives node (take_step node d).node s.here s.serial);
-    limit = omega (arith, take_none (act_granted f) granted_injects node d);
-  }
+      once = omega (arith, take_none (act_injections f) injections_injects node d, same_gives node (take_step node d).node s.here s.serial);
+      limit = omega (arith, take_none (act_granted f) granted_injects node d) }
 
   -- the same for an event
   record EventGives (w : WorldState) (h : Happened) : Type 0 where
@@ -228,9 +224,8 @@ module _ (f : Family) where
 
   nothing_gives : (w : WorldState) → EventGives w (nothing w)
   nothing_gives w = record {
-    once = omega (arith, line_sum-cons (line_injections f) Nothing [], line_sum-nil (line_injections f));
-    limit = omega (arith, line_sum-cons (line_granted f) Nothing [], line_sum-nil (line_granted f));
-  }
+      once = omega (arith, line_sum-cons (line_injections f) Nothing [], line_sum-nil (line_injections f));
+      limit = omega (arith, line_sum-cons (line_granted f) Nothing [], line_sum-nil (line_granted f)) }
 
   inject_at_gives : (w : WorldState) (h : Host) (chunk : Chunk) (bound at : ℕ) (o : Option NodeState) → bound ≤ 65535 → slice_get w.nodes at ≡ o → EventGives w (inject_at w h chunk bound at o)
   unfolding inject_at
@@ -238,10 +233,8 @@ module _ (f : Family) where
   inject_at_gives w h chunk bound at (Some node) b e =
       let step = inject_step node chunk bound in
       let g = inject_gives node chunk bound b in
-      record {
-        once = omega (arith, g.once, line_sum-at (line_injections f) h step.acts, may_give_all-set w.nodes at node step.node e);
-        limit = omega (arith, g.limit, line_sum-at (line_injections f) h step.acts, line_sum-at (line_granted f) h step.acts);
-      }
+      record { once = omega (arith, g.once, line_sum-at (line_injections f) h step.acts, may_give_all-set w.nodes at node step.node e);
+        limit = omega (arith, g.limit, line_sum-at (line_injections f) h step.acts, line_sum-at (line_granted f) h step.acts) }
 
   inject_place_gives : (w : WorldState) (h : Host) (chunk : Chunk) (bound : ℕ) (o : Option ℕ) → bound ≤ 65535 → EventGives w (inject_place w h chunk bound o)
   unfolding inject_place
@@ -259,29 +252,11 @@ module _ (f : Family) where
   send_taken_gives w h d at to node step (Some p) e g =
       let lines = lines_at h step.acts in
       let wire = Wire w.next in
-      record {
-        once = omega (
-          arith,
-          g.once,
-          line_sum-at (line_injections f) h step.acts,
-          may_give_all-set w.nodes at node step.node e,
-          line_sum-append (line_injections f) lines (wire ∷ []),
-          line_sum-cons (line_injections f) wire [],
-          line_sum-nil (line_injections f),
-        );
-        limit = omega (
-          arith,
-          g.limit,
-          line_sum-at (line_injections f) h step.acts,
-          line_sum-at (line_granted f) h step.acts,
-          line_sum-append (line_injections f) lines (wire ∷ []),
-          line_sum-cons (line_injections f) wire [],
-          line_sum-nil (line_injections f),
-          line_sum-append (line_granted f) lines (wire ∷ []),
-          line_sum-cons (line_granted f) wire [],
-          line_sum-nil (line_granted f),
-        );
-      }
+      record { once = omega (arith, g.once, line_sum-at (line_injections f) h step.acts, may_give_all-set w.nodes at node step.node e,
+          line_sum-append (line_injections f) lines (wire ∷ []), line_sum-cons (line_injections f) wire [], line_sum-nil (line_injections f));
+        limit = omega (arith, g.limit, line_sum-at (line_injections f) h step.acts, line_sum-at (line_granted f) h step.acts,
+          line_sum-append (line_injections f) lines (wire ∷ []), line_sum-cons (line_injections f) wire [], line_sum-nil (line_injections f),
+          line_sum-append (line_granted f) lines (wire ∷ []), line_sum-cons (line_granted f) wire [], line_sum-nil (line_granted f)) }
 
   send_at_gives : (w : WorldState) (h : Host) (d : Dev) (at : ℕ) (to : LinkEnd) (o : Option NodeState) → slice_get w.nodes at ≡ o → EventGives w (send_at w h d at to o)
   unfolding send_at
@@ -314,17 +289,9 @@ module _ (f : Family) where
       let g = arrive_gives node x.to.dev x.packet in
       let lines = lines_at x.to.host step.acts in
       let off = Off x.number in
-      record {
-        once = omega (arith, g.once, line_sum-at (line_injections f) x.to.host step.acts, may_give_all-set w.nodes at node step.node e, line_sum-cons (line_injections f) off lines);
-        limit = omega (
-          arith,
-          g.limit,
-          line_sum-at (line_injections f) x.to.host step.acts,
-          line_sum-at (line_granted f) x.to.host step.acts,
-          line_sum-cons (line_injections f) off lines,
-          line_sum-cons (line_granted f) off lines,
-        );
-      }
+      record { once = omega (arith, g.once, line_sum-at (line_injections f) x.to.host step.acts, may_give_all-set w.nodes at node step.node e, line_sum-cons (line_injections f) off lines);
+        limit = omega (arith, g.limit, line_sum-at (line_injections f) x.to.host step.acts, line_sum-at (line_granted f) x.to.host step.acts,
+          line_sum-cons (line_injections f) off lines, line_sum-cons (line_granted f) off lines) }
 
   deliver_to_gives : (w : WorldState) (place : ℕ) (x : Wired) (o : Option ℕ) → EventGives w (deliver_to w place x o)
   unfolding deliver_to
@@ -353,8 +320,7 @@ module _ (f : Family) where
       let lost = Lost (what_of x.packet) in
       record {
         once = omega (arith, line_sum-cons (line_injections f) off (lost ∷ []), line_sum-cons (line_injections f) lost [], line_sum-nil (line_injections f));
-        limit = omega (arith, line_sum-cons (line_granted f) off (lost ∷ []), line_sum-cons (line_granted f) lost [], line_sum-nil (line_granted f));
-      }
+        limit = omega (arith, line_sum-cons (line_granted f) off (lost ∷ []), line_sum-cons (line_granted f) lost [], line_sum-nil (line_granted f)) }
 
   lose_place_gives : (w : WorldState) (o : Option ℕ) → EventGives w (lose_place w o)
   unfolding lose_place
@@ -366,7 +332,7 @@ module _ (f : Family) where
   loses_gives w number = lose_place_gives w (wire_place w.wire number)
 
   acted_gives : (w : WorldState) (e : WorldEvent) → event_fits e → EventGives w (acted w e)
-  acted_gives w (Inject h chunk bound) b = injects_gives w h chunk bound b
+  acted_gives w (Inject h chunk bound) b = injects_gives w h chunk bound b.0
   acted_gives w (Send h d) b = sends_gives w h d
   acted_gives w (Deliver number) b = delivers_gives w number
   acted_gives w (Lose number) b = loses_gives w number
@@ -381,10 +347,8 @@ module _ (f : Family) where
   event_gives w e b =
       let g = acted_gives w e b in
       let lines = (acted w e).lines in
-      record {
-        once = omega (arith, g.once, tally-entries (line_injections f) (w.made + 1) lines);
-        limit = omega (arith, g.limit, tally-entries (line_injections f) (w.made + 1) lines, tally-entries (line_granted f) (w.made + 1) lines);
-      }
+      record { once = omega (arith, g.once, tally-entries (line_injections f) (w.made + 1) lines);
+        limit = omega (arith, g.limit, tally-entries (line_injections f) (w.made + 1) lines, tally-entries (line_granted f) (w.made + 1) lines) }
 
   run_gives : (es : List WorldEvent) (w : WorldState) → EventsFit es → RunGives (history_of es w) w (world_after es w)
   unfolding history_of world_after
@@ -394,10 +358,8 @@ module _ (f : Family) where
       let more = run_gives es (happens w e).world (All-tail event_fits e es b) in
       let first = entries w e in
       let rest = history_of es (happens w e).world in
-      record {
-        once = omega (arith, one.once, more.once, tally-append (line_injections f) first rest);
-        limit = omega (arith, one.limit, more.limit, tally-append (line_injections f) first rest, tally-append (line_granted f) first rest);
-      }
+      record { once = omega (arith, one.once, more.once, tally-append (line_injections f) first rest);
+        limit = omega (arith, one.limit, more.limit, tally-append (line_injections f) first rest, tally-append (line_granted f) first rest) }
 
   other_host : (n m s t : ℕ) → (n == m) ≡ false → ◌≡◌ {A = ℕ} (cond ((n == m) && nat_le s t) 1 0) 0
   other_host n m s t e = grind (arith, nat_tests)
@@ -459,3 +421,24 @@ module _ (f : Family) where
       let g = run_gives es (opening t) b in
       let o = opening_nodes_give t d in
       (omega (arith, g.once, o), omega (arith, g.once, g.limit, o))
+
+  later_one : (h fh s fs : ℕ) → ◌≡◌ {A = ℕ} (cond ((h == fh) && nat_le s fs) 1 0) 0 → h ≡ fh → fs < s
+  later_one h fh s fs e q = grind (arith, nat_tests)
+
+  gives_later : (n : NodeState) → may_give n ≡ 0 → n.here.0 ≡ f.source.0 → f.serial < n.serial
+  unfolding may_give
+  gives_later n e q = later_one n.here.0 f.source.0 n.serial f.serial e q
+
+  later_serials : (nodes : List NodeState) → may_give_all nodes ≡ 0 → All (λ node. node.here.0 ≡ f.source.0 → f.serial < node.serial) nodes
+  later_serials [] e = All-nil (λ node. node.here.0 ≡ f.source.0 → f.serial < node.serial)
+  later_serials (n ∷ ns) e =
+      let split = may_give_all-cons n ns in
+      All-cons (λ node. node.here.0 ≡ f.source.0 → f.serial < node.serial) n ns (gives_later n (omega arith)) (later_serials ns (omega arith))
+
+  -- once a family is injected, the nodes of its host go on with later serial numbers
+  pub opening_later : (t : Topology) (es : List WorldEvent) → HostsDiffer t.hosts → EventsFit es → 0 < injections f (history_of es (opening t))
+      → All (λ node. node.here.0 ≡ f.source.0 → f.serial < node.serial) (world_after es (opening t)).nodes
+  opening_later t es d b h =
+      let g = run_gives es (opening t) b in
+      let o = opening_nodes_give t d in
+      later_serials (world_after es (opening t)).nodes (omega (arith, g.once))

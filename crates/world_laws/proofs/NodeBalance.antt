@@ -1,7 +1,6 @@
 -- Each step of a node is in balance.
 use Rattle.std.proofs.Common.{◌≡◌, ℕ, zero, suc, ◌+◌, ◌-◌, ◌<◌, ◌≤◌, Bool, true, false, cond, List, [], ◌∷◌, ◌++◌, refl, sym, ap, ◌∙◌, arith}
 use Rattle.std.specs.Prelude.{sum_by, map, All, slice_set, slice_get, length, nat_lt, ◌==◌, Option, Some, None}
-use Rattle.std.specs.Str.{bytes_eq}
 use Rattle.std.proofs.lemmas.List.Sums.{sum_by-cons}
 use Rattle.std.proofs.lemmas.List.Elements.{All-head, All-tail}
 use Rattle.std.proofs.lemmas.Bool.Decides.{nat_tests}
@@ -10,16 +9,20 @@ use Rattle.plan_base.specs.declared.ids.Dev.{Dev}
 use Rattle.plan_base.specs.declared.ids.Family.{Family}
 use Rattle.plan_base.specs.declared.tree.Chunk.{Chunk}
 use Rattle.plan_base.specs.declared.tree.Packet.{Packet}
-use Rattle.world_laws.specs.declared.visits.Sent.{Sent}
-use Rattle.world_laws.specs.declared.visits.Note.{Note}
-use Rattle.world_laws.specs.declared.visits.Visit.{Visit}
+use Rattle.plan_meaning.specs.declared.sent.Sent.{Sent}
+use Rattle.service_api.specs.declared.answer.Note.{Note}
+use Rattle.plan_meaning.specs.declared.outcome.Visit.{Visit}
 use Rattle.world_laws.specs.declared.acts.Act.{Act}
 use Rattle.world_laws.specs.declared.acts.Act.TheVariants.{Injected, Arrived, Noted, Ended, Queued, Dropped, Taken, SerialsSpent}
 use Rattle.world_laws.specs.declared.acts.Event.{Event}
 use Rattle.world_laws.specs.declared.acts.Event.TheVariants as event
 use Rattle.world_laws.specs.declared.acts.Reason.TheVariants as reason
-use Rattle.world_laws.specs.SmallVisit.{Links, is_host, default_route, visit_of, VisitKeeps}
-use Rattle.world_laws.specs.Node.{Queues, NodeState, Step, stepped, queue_room, has_room, queue_push, hop_packet, send_act, send_queues, sends_acts, sends_queues, with_queues, visit_acts, visited, injected_packet, next_serial, inject_step, route_to, forward_over, forward_step, arrive_step, what_of, take_from, take_step, node_step}
+use Rattle.service_api.specs.declared.router.Hop.{Hop}
+use Rattle.service_api.specs.declared.router.Hop.TheVariants.{To, NoService, NoRoute}
+use Rattle.service_api.specs.Routes.{hop}
+use Rattle.world_laws.specs.State.{Queues, NodeState, is_host}
+use Rattle.world_laws.specs.Visits.{visit_at, VisitKeeps}
+use Rattle.world_laws.specs.Node.{Step, stepped, queue_room, has_room, queue_push, hop_packet, send_act, send_queues, sends_acts, sends_queues, with_queues, visit_acts, visited, injected_packet, next_serial, inject_step, forward_by, forward_step, arrive_step, what_of, take_from, take_step, node_step}
 use Rattle.world_laws.specs.Counts.{only, act_sum, act_granted, act_hops, act_evals, act_left, packet_live, queues_live, node_live, frame_live, came, StepBalances}
 use Rattle.world_laws.proofs.CountLaws.{only-plus, only-zero, only_hop, act_sum-nil, act_sum-cons, act_sum-append, queue_live-push, queue_live-cons, queues_live-set, sent_live}
 use Rattle.world_laws.proofs.VisitLaws.{visit_keeps}
@@ -130,9 +133,9 @@ module _ (f : Family) where
       → act_granted f act + arrived ≡ packet_live f p → StepBalances f arrived node (visited (act ∷ []) node p)
   unfolding visited
   visited_balances act arrived node p h e l g =
-      let v = visit_of node.here node.neighbours p in
+      let v = visit_at node p in
       let acts = visit_acts node.queues p v in
-      let b = visit_balance node.queues p v (visit_keeps node.here node.neighbours p) in
+      let b = visit_balance node.queues p v (visit_keeps node p) in
       record {
         law = omega (
           arith,
@@ -210,21 +213,16 @@ module _ (f : Family) where
   drop_balance : (act : Act) (live : ℕ) (p : Packet) → act_granted f act ≡ 0 → act_evals f act ≡ 0 → act_hops f act ≡ 0 → act_left f act ≡ packet_live f p → SendBalance act live live (packet_live f p)
   drop_balance act live p g e h l = record { granted = g; evals = e; moved = omega arith }
 
-  forward_over_balances : (node : NodeState) (d : Dev) (p : Packet) (o : Option Dev) → 0 < p.bound → StepBalances f (packet_live f p) node (forward_over node d p o)
-  unfolding forward_over
-  forward_over_balances node d p None h = two_acts d (Dropped reason.NoRoute p.family p.bound) node node.queues p (drop_balance _ (queues_live f node.queues) p refl refl refl refl)
-  forward_over_balances node d p (Some over) h = two_acts d _ node (send_queues node.queues (record { dev = over; packet = p })) p (send_balance node.queues (record { dev = over; packet = p }) h)
+  forward_by_balances : (node : NodeState) (d : Dev) (p : Packet) (o : Hop) → 0 < p.bound → StepBalances f (packet_live f p) node (forward_by node d p o)
+  unfolding forward_by
+  forward_by_balances node d p (To host over) h = two_acts d _ node (send_queues node.queues (record { dev = over; packet = p })) p (send_balance node.queues (record { dev = over; packet = p }) h)
+  forward_by_balances node d p NoService h = two_acts d (Dropped reason.NoService p.family p.bound) node node.queues p (drop_balance _ (queues_live f node.queues) p refl refl refl refl)
+  forward_by_balances node d p NoRoute h = two_acts d (Dropped reason.NoRoute p.family p.bound) node node.queues p (drop_balance _ (queues_live f node.queues) p refl refl refl refl)
 
-  route_cases : (t : Bool) (node : NodeState) (d : Dev) (p : Packet) → 0 < p.bound
-      → StepBalances f (packet_live f p) node (cond t (forward_over node d p (route_to node.neighbours p.dest)) (stepped (Arrived d ∷ Dropped reason.NoService p.family p.bound ∷ []) None node))
-  route_cases true node d p h = forward_over_balances node d p (route_to node.neighbours p.dest) h
-  route_cases false node d p h = two_acts d (Dropped reason.NoService p.family p.bound) node node.queues p (drop_balance _ (queues_live f node.queues) p refl refl refl refl)
-
-  forward_cases : (t : Bool) (node : NodeState) (d : Dev) (p : Packet) → (t ≡ true → p.bound ≡ 0) → (t ≡ false → 0 < p.bound)
-      → StepBalances f (packet_live f p) node (cond t (stepped (Arrived d ∷ Dropped reason.NoBound p.family 0 ∷ []) None node)
-      (cond (bytes_eq p.route default_route) (forward_over node d p (route_to node.neighbours p.dest)) (stepped (Arrived d ∷ Dropped reason.NoService p.family p.bound ∷ []) None node)))
-  forward_cases true node d p z h = two_acts d (Dropped reason.NoBound p.family 0) node node.queues p (drop_balance _ (queues_live f node.queues) p refl refl refl (sym (ap (only f p.family) (z refl))))
-  forward_cases false node d p z h = route_cases (bytes_eq p.route default_route) node d p (h refl)
+  forward_cases : (t : Bool) (o : Hop) (node : NodeState) (d : Dev) (p : Packet) → (t ≡ true → p.bound ≡ 0) → (t ≡ false → 0 < p.bound)
+      → StepBalances f (packet_live f p) node (cond t (stepped (Arrived d ∷ Dropped reason.NoBound p.family 0 ∷ []) None node) (forward_by node d p o))
+  forward_cases true o node d p z h = two_acts d (Dropped reason.NoBound p.family 0) node node.queues p (drop_balance _ (queues_live f node.queues) p refl refl refl (sym (ap (only f p.family) (z refl))))
+  forward_cases false o node d p z h = forward_by_balances node d p o (h refl)
 
   zero_true : (n : ℕ) → (n == 0) ≡ true → n ≡ 0
   zero_true n e = grind (arith, nat_tests)
@@ -234,7 +232,7 @@ module _ (f : Family) where
 
   forward_balances : (node : NodeState) (d : Dev) (p : Packet) → StepBalances f (packet_live f p) node (forward_step node d p)
   unfolding forward_step
-  forward_balances node d p = forward_cases (p.bound == 0) node d p (zero_true p.bound) (zero_false p.bound)
+  forward_balances node d p = forward_cases (p.bound == 0) (hop node.routes p.route node.here p.dest) node d p (zero_true p.bound) (zero_false p.bound)
 
   arrive_cases : (t : Bool) (node : NodeState) (d : Dev) (p : Packet) → StepBalances f (packet_live f p) node (cond t (visited (Arrived d ∷ []) node p) (forward_step node d p))
   arrive_cases true node d p = visited_balances (Arrived d) (packet_live f p) node p refl refl refl (omega arith)

@@ -1,117 +1,120 @@
--- The small visit keeps its balance.
-use Rattle.std.proofs.Common.{◌≡◌, ℕ, zero, suc, ◌+◌, ◌-◌, ◌<◌, ◌≤◌, Bool, true, false, cond, ◌||◌, eqb, ltb, List, [], ◌∷◌, ◌++◌, refl, sym, ap, ◌∙◌, arith}
-use Rattle.std.specs.Prelude.{ℤ, ◌==◌, nat_lt, sum_by, All, Option, Some, None, codes}
-use Rattle.std.specs.Str.{bytes_eq}
-use Rattle.std.proofs.lemmas.List.Sums.{sum_by_push}
-use Rattle.std.proofs.lemmas.List.Elements.{All-nil, All-push}
-use Rattle.std.proofs.lemmas.Bool.Decides.{nat_tests}
-use Rattle.plan_base.specs.declared.ids.Host.{Host}
-use Rattle.plan_base.specs.declared.ids.Dev.{Dev}
-use Rattle.plan_base.specs.declared.tree.Expr.{Expr, out-Expr}
-use Rattle.plan_base.specs.declared.tree.Expr.TheOpen.{Expr-F}
-use Rattle.plan_base.specs.declared.tree.Clause.{Clause}
-use Rattle.plan_base.specs.declared.tree.Fun.{Fun}
+-- Each visit keeps its balance; with good services and a typed chunk it never is without a case, and what it sends and leaves is good.
+use Rattle.std.proofs.Common.{◌≡◌, ◌≢◌, ℕ, ◌+◌, ◌<◌, false, List, [], refl, sym, ◌∙◌, subst, arith}
+use Rattle.std.specs.Prelude.{All, None}
+use Rattle.std.proofs.lemmas.List.Elements.{All-nil}
+use Rattle.plan_base.specs.declared.tree.Chunk.{Chunk}
 use Rattle.plan_base.specs.declared.tree.Packet.{Packet}
-use Rattle.plan_base.specs.declared.tree.Param.{Param}
 use Rattle.plan_base.specs.declared.tree.Value.{Value}
-use Rattle.plan_base.specs.declared.tree.Value.TheVariants as value
-use Rattle.world_laws.specs.declared.visits.Doing.{Doing}
-use Rattle.world_laws.specs.declared.visits.Note.{Note}
-use Rattle.world_laws.specs.declared.visits.Note.TheVariants.{Print}
-use Rattle.world_laws.specs.declared.visits.Sent.{Sent}
-use Rattle.world_laws.specs.SmallVisit.{Links, Went, on, stopped, outside, paid, is_neighbour, sent_packet, sends, send_form, print_text, print_arguments, and_then, form, statement, body_run, function_run, entry_of, entry_run, visit_end, visit_of, VisitKeeps}
+use Rattle.plan_base.specs.Typing.{IsTypedChunk, within}
+use Rattle.plan_base.specs.WellFormed.{IsWellFormedChunk}
+use Rattle.service_api.specs.Services.{Standing, IsGood, IsGoodChunk, IsGoodNote, kept, abandoned, begun_now}
+use Rattle.service_api.specs.Prints.{standing}
+use Rattle.service_api.specs.PrintsGood.{is_good}
+use Rattle.plan_meaning.specs.declared.sent.Sent.{Sent}
+use Rattle.plan_meaning.specs.declared.stop.Stop.{Stop}
+use Rattle.plan_meaning.specs.declared.stop.Stop.TheVariants.{Raised, WorkSpent, Wrong, NoMemory}
+use Rattle.plan_meaning.specs.declared.outcome.Visit.{Visit}
+use Rattle.plan_meaning.specs.State.{VisitState}
+use Rattle.plan_meaning.specs.Run.{After, gave, stopped}
+use Rattle.plan_meaning.specs.Meaning.{meaning, visited}
+use Rattle.plan_meaning.specs.Safe.{AreGoodPackets, IsGoodState, Holds}
+use Rattle.plan_meaning.specs.Visit.{allowance, begun, spent, bounds}
+use Rattle.meaning_laws.specs.Laws.{left_by, total}
+use Rattle.meaning_laws.proofs.Even as even
+use Rattle.meaning_laws.proofs.Sound.{visit_soundness}
+use Rattle.world_laws.specs.State.{NodeState}
+use Rattle.world_laws.specs.Visits.{around, evaluated, visit_end, visit_of, visit_at, services_end, services_after, VisitKeeps, HasCase}
+use Rattle.world_laws.specs.World.{opening_services}
+use Rattle.world_laws.specs.Sound.{ServicesFit}
+use Rattle.world_laws.proofs.Outgoing.{Outgoing, Out, visit_sends}
 
-abbrev sent_bound : Sent → ℕ
-sent_bound s = s.packet.bound
+abbrev start : NodeState → Packet → VisitState
+start node p = begun allowance (around node p) p.family (begun_now node.services)
 
--- what stands throughout a visit
-record DoingKeeps (p : Packet) (d : Doing) : Type 0 where
-  balance : d.purse + sum_by sent_bound d.outbox ≡ p.bound
-  family : All (λ s. s.packet.family ≡ p.family) d.outbox
-  paid_each : All (λ s. 0 < s.packet.bound) d.outbox
+balance_of : (purse evals sent bound : ℕ) → purse + evals + sent ≡ bound + 0 + 0 → evals + purse + sent ≡ bound
+balance_of purse evals sent bound e = omega arith
 
-abbrev WentKeeps : Packet → Went → Type 0
-WentKeeps p (on d) = DoingKeeps p d
-WentKeeps p (stopped x d) = DoingKeeps p d
-WentKeeps p outside = Unit {0}
+spent_keeps : (p : Packet) → VisitKeeps p (spent allowance p.bound)
+spent_keeps p = record { balance = omega arith; family = All-nil (λ s. s.packet.family ≡ p.family); paid_each = All-nil (λ s. 0 < s.packet.bound) }
 
-paid_range : (n m : ℕ) → ((n == 0) || nat_lt m n) ≡ false → (0 < n) × (n ≤ m)
-paid_range n m e = grind (arith, nat_tests)
+end_keeps : (p : Packet) (a : After Value) → total (left_by a) ≡ p.bound + 0 + 0 → Out p.family a → VisitKeeps p (visit_end p.bound a)
+end_keeps p (gave v s) t o = record { balance = balance_of s.ctx.purse s.evals (bounds s.outbox) p.bound t; family = o.family; paid_each = o.paid }
+end_keeps p (stopped (Raised x) s) t o = record { balance = balance_of s.ctx.purse s.evals (bounds s.outbox) p.bound t; family = o.family; paid_each = o.paid }
+end_keeps p (stopped WorkSpent s) t o = spent_keeps p
+end_keeps p (stopped Wrong s) t o = spent_keeps p
+end_keeps p (stopped NoMemory s) t o = spent_keeps p
 
-module _ (here : Host) (links : Links) (p : Packet) where
-  sent_keeps : (f : List ℕ) (h : Host) (n : ℕ) (d : Dev) (doing : Doing) → 0 < n → n ≤ doing.purse → DoingKeeps p doing
-      → DoingKeeps p (record { purse = doing.purse - n; outbox = doing.outbox ++ record { dev = d; packet = sent_packet p f h n } ∷ []; notes = doing.notes })
-  sent_keeps f h n d doing low high k = record {
-    balance = let e = sum_by_push sent_bound doing.outbox (record { dev = d; packet = sent_packet p f h n }) in omega (arith, k.balance);
-    family = All-push (λ s. s.packet.family ≡ p.family) doing.outbox _ k.family refl;
-    paid_each = All-push (λ s. 0 < s.packet.bound) doing.outbox _ k.paid_each low;
-  }
+none_sent : (p : Packet) → Outgoing p.family p.family []
+none_sent p = record { same = refl; family = All-nil (λ s. s.packet.family ≡ p.family); paid = All-nil (λ s. 0 < s.packet.bound) }
 
-  sends_cases : (t u : Bool) (f : List ℕ) (h : Host) (n : ℕ) (d : Dev) (doing : Doing) → (t ≡ false → (0 < n) × (n ≤ doing.purse)) → DoingKeeps p doing
-      → WentKeeps p (cond t (stopped (codes "NoBound") doing)
-      (cond u (on (record { purse = doing.purse - n; outbox = doing.outbox ++ record { dev = d; packet = sent_packet p f h n } ∷ []; notes = doing.notes })) (stopped (codes "NotNeighbor") doing)))
-  sends_cases true u f h n d doing r k = k
-  sends_cases false true f h n d doing r k = sent_keeps f h n d doing (r refl).0 (r refl).1 k
-  sends_cases false false f h n d doing r k = k
+-- each visit keeps its balance
+pub visit_keeps : (node : NodeState) (p : Packet) → VisitKeeps p (visit_at node p)
+unfolding visit_of evaluated
+visit_keeps node p = end_keeps p (visited meaning p.chunk (start node p)).after (even.visit_balance p.chunk (start node p)) (visit_sends p.family p.chunk (start node p) (none_sent p))
 
-  sends_keeps : (f : List ℕ) (h : Host) (n : ℤ) (d : Dev) (doing : Doing) → DoingKeeps p doing → WentKeeps p (sends here links p f h n d doing)
-  unfolding sends
-  sends_keeps f h n d doing k = sends_cases ((paid n == 0) || nat_lt doing.purse (paid n)) (is_neighbour here links h d) f h (paid n) d doing (paid_range (paid n) doing.purse) k
+-- ---- good services and a good chunk
 
-  send_form_keeps : (a b c e : Expr-F Expr Clause) (doing : Doing) → DoingKeeps p doing → WentKeeps p (send_form here links p a b c e doing)
-  send_form_keeps (Expr-F.ChunkOf f []) (Expr-F.Host h) (Expr-F.Int n) (Expr-F.Dev d) doing k = sends_keeps f h n d doing k
-  send_form_keeps _ _ _ _ doing k = tt
+good_start : (node : NodeState) (p : Packet) → IsGood node.services → IsGoodState (start node p)
+good_start node p g = record {
+  services = record { serve = g.serve; rows = g.rows };
+  notes = All-nil IsGoodNote;
+  outbox = All-nil (λ s. IsGoodChunk s.packet.chunk);
+}
 
-  print_text_keeps : (a : Expr-F Expr Clause) (doing : Doing) → DoingKeeps p doing → WentKeeps p (print_text a doing)
-  print_text_keeps (Expr-F.Str t) doing k = record { balance = k.balance; family = k.family; paid_each = k.paid_each }
-  print_text_keeps _ doing k = tt
+-- what holds of an evaluation, whatever the type of its value
+record Ends (a : After Value) : Type 0 where
+  case : HasCase a
+  state : IsGoodState (left_by a)
 
-  print_keeps : (args : List Expr) (doing : Doing) → DoingKeeps p doing → WentKeeps p (print_arguments args doing)
-  print_keeps [] doing k = tt
-  print_keeps (e ∷ []) doing k = print_text_keeps (out-Expr e) doing k
-  print_keeps (e ∷ f ∷ es) doing k = tt
+holds_case : (P : Value → Type 0) (a : After Value) → Holds P a → HasCase a
+holds_case P a h s e = (subst (Holds P) e h).0 refl
 
-  then_keeps : (w : Went) (next : Doing → Went) → ((d : Doing) → DoingKeeps p d → WentKeeps p (next d)) → WentKeeps p w → WentKeeps p (and_then w next)
-  then_keeps (on d) next h k = h d k
-  then_keeps (stopped x d) next h k = k
-  then_keeps outside next h k = tt
+holds_state : (P : Value → Type 0) (a : After Value) → Holds P a → IsGoodState (left_by a)
+holds_state P (gave v s) h = h.1
+holds_state P (stopped e s) h = h.1
 
-  choice_keeps : (t : Bool) (w : Went) → WentKeeps p w → WentKeeps p (cond t w outside)
-  choice_keeps true w k = k
-  choice_keeps false w k = tt
+holds_ends : (P : Value → Type 0) (a : After Value) → Holds P a → Ends a
+holds_ends P a h = record { case = holds_case P a h; state = holds_state P a h }
 
-  form_keeps : (run : Expr → Doing → Went) → ((e : Expr) (d : Doing) → DoingKeeps p d → WentKeeps p (run e d))
-      → (a : Expr-F Expr Clause) (doing : Doing) → DoingKeeps p doing → WentKeeps p (form here links p run a doing)
-  unfolding form
-  form_keeps run h (Expr-F.Then a b) doing k = then_keeps (run a doing) (run b) (h b) (h a doing k)
-  form_keeps run h (Expr-F.Call f args) doing k = choice_keeps (bytes_eq f (codes "print")) (print_arguments args doing) (print_keeps args doing k)
-  form_keeps run h (Expr-F.OnNeighbor c g n d) doing k = send_form_keeps (out-Expr c) (out-Expr g) (out-Expr n) (out-Expr d) doing k
-  form_keeps run h _ doing k = tt
+typed_ends : (k : Chunk) → IsTypedChunk k → IsWellFormedChunk k → (s : VisitState) → IsGoodState s → Ends (visited meaning k s).after
+typed_ends k (within at d t p g h n w) f s i =
+    holds_ends _ (visited meaning k s).after (visit_soundness k at d (record { typed = within at d t p g h n w; formed = f }) p g s i).holds
 
-  statement_keeps : (levels : ℕ) (e : Expr) (doing : Doing) → DoingKeeps p doing → WentKeeps p (statement here links p levels e doing)
-  unfolding statement
-  statement_keeps zero e doing k = tt
-  statement_keeps (suc levels) e doing k = form_keeps (statement here links p levels) (statement_keeps levels) (out-Expr e) doing k
+ends : (node : NodeState) (p : Packet) → IsGood node.services → IsGoodChunk p.chunk → Ends (evaluated (around node p) (begun_now node.services) p)
+unfolding evaluated
+ends node p g k = typed_ends p.chunk k.typed k.formed (start node p) (good_start node p g)
 
-  body_keeps : (params : List Param) (args : List Value) (body : Expr) (doing : Doing) → DoingKeeps p doing → WentKeeps p (body_run here links p params args body doing)
-  body_keeps [] [] body doing k = statement_keeps 64 body doing k
-  body_keeps [] (a ∷ args) body doing k = tt
-  body_keeps (q ∷ params) args body doing k = tt
+-- the evaluation of a typed chunk never is without a case
+pub has_case : (node : NodeState) (p : Packet) → IsGood node.services → IsGoodChunk p.chunk → HasCase (evaluated (around node p) (begun_now node.services) p)
+has_case node p g k = (ends node p g k).case
 
-  function_keeps : (f : Option Fun) (doing : Doing) → DoingKeeps p doing → WentKeeps p (function_run here links p f doing)
-  function_keeps None doing k = tt
-  function_keeps (Some f) doing k = body_keeps f.params p.chunk.args f.body doing k
+-- what a visit sends is good, and so are the services after it
+pub record VisitFits (v : Visit) (after : Standing) : Type 0 where
+  pub packets : AreGoodPackets v.outbox
+  pub services : ServicesFit after
 
-  entry_keeps : (doing : Doing) → DoingKeeps p doing → WentKeeps p (entry_run here links p doing)
-  unfolding entry_run
-  entry_keeps doing k = function_keeps _ doing k
+kept_fits : (n : Standing) → IsGood n → ServicesFit (kept n)
+kept_fits n g = record { good = record { serve = g.serve; rows = g.rows }; closed = refl; waits = refl }
 
-  end_keeps : (w : Went) → WentKeeps p w → VisitKeeps p (visit_end here links p w)
-  end_keeps (on d) k = record { balance = omega (arith, k.balance); family = k.family; paid_each = k.paid_each }
-  end_keeps (stopped x d) k = record { balance = omega (arith, k.balance); family = k.family; paid_each = k.paid_each }
-  end_keeps outside k = record { balance = omega arith; family = All-nil (λ s. s.packet.family ≡ p.family); paid_each = All-nil (λ s. 0 < s.packet.bound) }
+-- services without a visit are as they were where one is undone
+undone_fits : (n : Standing) → IsGood n → ServicesFit (abandoned (begun_now n))
+undone_fits n g = record { good = record { serve = g.serve; rows = g.rows }; closed = refl; waits = refl }
 
-  -- each visit keeps its balance
-  pub visit_keeps : VisitKeeps p (visit_of here links p)
-  unfolding visit_of
-  visit_keeps = end_keeps _ (entry_keeps _ (record { balance = omega arith; family = All-nil (λ s. s.packet.family ≡ p.family); paid_each = All-nil (λ s. 0 < s.packet.bound) }))
+spent_fits : (bound : ℕ) (n : Standing) → IsGood n → VisitFits (spent allowance bound) (abandoned (begun_now n))
+spent_fits bound n g = record { packets = All-nil (λ s. IsGoodChunk s.packet.chunk); services = undone_fits n g }
+
+end_fits : (bound : ℕ) (n : Standing) (a : After Value) → IsGood n → IsGoodState (left_by a) → VisitFits (visit_end bound a) (services_end (begun_now n) a)
+end_fits bound n (gave v s) o g = record { packets = g.outbox; services = kept_fits s.services g.services }
+end_fits bound n (stopped (Raised x) s) o g = record { packets = g.outbox; services = kept_fits s.services g.services }
+end_fits bound n (stopped WorkSpent s) o g = spent_fits bound n o
+end_fits bound n (stopped Wrong s) o g = spent_fits bound n o
+end_fits bound n (stopped NoMemory s) o g = spent_fits bound n o
+
+pub visit_fits : (node : NodeState) (p : Packet) → IsGood node.services → IsGoodChunk p.chunk
+    → VisitFits (visit_at node p) (services_after (around node p) (begun_now node.services) p)
+unfolding visit_of services_after
+visit_fits node p g k = end_fits p.bound node.services (evaluated (around node p) (begun_now node.services) p) g (ends node p g k).state
+
+-- at the beginning
+pub opening_services_fit : ServicesFit opening_services
+opening_services_fit = record { good = is_good false false; closed = refl; waits = refl }

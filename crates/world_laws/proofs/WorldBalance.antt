@@ -1,7 +1,6 @@
 -- Each event of a network, and each run, is in balance.
 use Rattle.std.proofs.Common.{◌≡◌, ℕ, zero, suc, ◌+◌, ◌-◌, ◌<◌, ◌≤◌, Bool, true, false, cond, List, [], ◌∷◌, ◌++◌, refl, sym, ap, ◌∙◌, arith, length}
 use Rattle.std.specs.Prelude.{sum_by, map, slice_set, slice_get, remove, replicate, nat_lt, ◌==◌, Option, Some, None}
-use Rattle.std.specs.Str.{bytes_eq}
 use Rattle.std.proofs.lemmas.List.Sums.{sum_by-cons}
 use Rattle.plan_base.specs.declared.ids.Host.{Host}
 use Rattle.plan_base.specs.declared.ids.Dev.{Dev}
@@ -20,8 +19,11 @@ use Rattle.world_laws.specs.declared.lines.Line.TheVariants.{At, Wire, Off, Lost
 use Rattle.world_laws.specs.declared.lines.LinkEnd.{LinkEnd}
 use Rattle.world_laws.specs.declared.lines.Wired.{Wired}
 use Rattle.world_laws.specs.declared.lines.Entry.{Entry}
-use Rattle.world_laws.specs.SmallVisit.{is_host, default_route}
-use Rattle.world_laws.specs.Node.{NodeState, Step, stepped, visited, next_serial, injected_packet, inject_step, forward_over, forward_step, route_to, arrive_step, take_step, what_of}
+use Rattle.service_api.specs.declared.router.Hop.{Hop}
+use Rattle.service_api.specs.declared.router.Hop.TheVariants.{To, NoService, NoRoute}
+use Rattle.service_api.specs.Routes.{hop}
+use Rattle.world_laws.specs.State.{NodeState, is_host}
+use Rattle.world_laws.specs.Node.{Step, stepped, visited, next_serial, injected_packet, inject_step, forward_by, forward_step, arrive_step, take_step, what_of}
 use Rattle.world_laws.specs.World.{Cables, WorldState, Happened, nothing, with_node, lines_at, inject_at, inject_place, injects, send_taken, send_at, send_over, send_place, sends, place_of, far_end, without_frame, wire_place, deliver_at, deliver_to, deliver_frame, deliver_place, delivers, lose_frame, lose_place, loses, acted, happens, entry_at, entries, world_after, history_of, no_queues, opening_node, opening}
 use Rattle.world_laws.specs.Counts.{only, act_sum, act_granted, act_hops, act_evals, act_left, line_sum, line_granted, line_hops, line_evals, line_left, tally, granted, hops, evals, left, packet_live, queue_live, queues_live, node_live, nodes_live, wired_live, wire_live, frame_live, live, StepBalances, GrowsInBalance, Balanced}
 use Rattle.world_laws.proofs.CountLaws.{line_sum-nil, line_sum-cons, line_sum-append, line_sum-at, tally-nil, tally-append, tally-entries, nodes_live-set, wire_live-push, wire_live-remove, queue_live-nil, queues_live-nil, queues_live-cons}
@@ -40,14 +42,15 @@ pub inject_frame : (node : NodeState) (chunk : Chunk) (bound : ℕ) → (inject_
 unfolding inject_step
 inject_frame node chunk bound = frame_cases (node.serial == 18446744073709551615) _ _ refl (visited_frame _ (next_serial node) (injected_packet node chunk bound))
 
-over_frame : (node : NodeState) (d : Dev) (p : Packet) (o : Option Dev) → (forward_over node d p o).frame ≡ None
-unfolding forward_over
-over_frame node d p None = refl
-over_frame node d p (Some over) = refl
+by_frame : (node : NodeState) (d : Dev) (p : Packet) (o : Hop) → (forward_by node d p o).frame ≡ None
+unfolding forward_by
+by_frame node d p (To host over) = refl
+by_frame node d p NoService = refl
+by_frame node d p NoRoute = refl
 
 forward_frame : (node : NodeState) (d : Dev) (p : Packet) → (forward_step node d p).frame ≡ None
 unfolding forward_step
-forward_frame node d p = frame_cases (p.bound == 0) _ _ refl (frame_cases (bytes_eq p.route default_route) _ _ (over_frame node d p (route_to node.neighbours p.dest)) refl)
+forward_frame node d p = frame_cases (p.bound == 0) _ _ refl (by_frame node d p (hop node.routes p.route node.here p.dest))
 
 pub arrive_frame : (node : NodeState) (d : Dev) (p : Packet) → (arrive_step node d p).frame ≡ None
 unfolding arrive_step

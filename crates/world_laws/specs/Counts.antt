@@ -1,12 +1,8 @@
 -- What a family has paid and what it still has, counted anew from the history and the network.
 use Rattle.std.specs.Prelude.{◌≡◌, ◌≢◌, ℕ, ◌+◌, ◌≤◌, ◌<◌, Bool, true, false, ◌==◌, ◌&&◌, ◌||◌, if◌then◌else◌, List, [], ◌∷◌, ◌++◌, length, sum_by, Contains, All, Option, Some, None}
-use Rattle.std.specs.List.{list_any}
 use Rattle.plan_base.specs.declared.ids.Family.{Family}
 use Rattle.plan_base.specs.declared.ids.Host.{Host}
 use Rattle.plan_base.specs.declared.tree.Packet.{Packet}
-use Rattle.schedule_text.specs.declared.schedule.HostSpec.{HostSpec}
-use Rattle.schedule_text.specs.declared.schedule.WorldEvent.{WorldEvent}
-use Rattle.schedule_text.specs.declared.schedule.WorldEvent.TheVariants.{Inject, Send, Deliver, Lose}
 use Rattle.world_laws.specs.declared.acts.Act.{Act}
 use Rattle.world_laws.specs.declared.acts.Act.TheVariants.{Injected, Ended, Queued, Dropped}
 use Rattle.world_laws.specs.declared.acts.Event.{Event}
@@ -17,7 +13,8 @@ use Rattle.world_laws.specs.declared.lines.Line.{Line}
 use Rattle.world_laws.specs.declared.lines.Line.TheVariants.{At, Lost}
 use Rattle.world_laws.specs.declared.lines.Entry.{Entry}
 use Rattle.world_laws.specs.declared.lines.Wired.{Wired}
-use Rattle.world_laws.specs.Node.{NodeState, Step}
+use Rattle.world_laws.specs.State.{NodeState}
+use Rattle.world_laws.specs.Node.{Step}
 use Rattle.world_laws.specs.World.{WorldState}
 
 -- whether these are the same family
@@ -158,45 +155,3 @@ pub record StepBalances (f : Family) (arrived : ℕ) (old : NodeState) (step : S
 -- what an event adds to a history is in balance with what it changes
 pub record GrowsInBalance (f : Family) (old : WorldState) (history : List Entry) (new : WorldState) : Type 0 where
   pub law : granted f history + live f old ≡ hops f history + evals f history + live f new + left f history
-
-abbrev pub packet_fits : Packet → Type 0
-packet_fits p = p.bound ≤ 65535
-
--- queues keep their room, and their packets the limit of bounds
-pub record QueuesFit (queues : List (List Packet)) : Type 0 where
-  pub room : All (λ queue. length queue ≤ 64) queues
-  pub bounds : All (λ queue. All packet_fits queue) queues
-
-abbrev pub NodeFits : NodeState → Type 0
-NodeFits node = QueuesFit node.queues
-
--- a frame's number is below the next one, and its packet keeps the limit of bounds
-pub record WiredFits (next : ℕ) (x : Wired) : Type 0 where
-  pub number : x.number < next
-  pub bound : packet_fits x.packet
-
--- what every network keeps
-pub record IsSound (w : WorldState) : Type 0 where
-  pub nodes : All NodeFits w.nodes
-  pub wire : All (WiredFits w.next) w.wire
-  pub room : length w.wire ≤ 4096
-  pub numbers : w.next ≤ w.made + 1
-
-abbrev pub event_fits : WorldEvent → Type 0
-event_fits (Inject h chunk bound) = bound ≤ 65535
-event_fits (Send h d) = Unit {0}
-event_fits (Deliver number) = Unit {0}
-event_fits (Lose number) = Unit {0}
-
--- every injected bound is at most 65,535
-abbrev pub EventsFit : List WorldEvent → Type 0
-EventsFit events = All event_fits events
-
-abbrev pub has_host : Host → List HostSpec → Bool
-has_host h [] = false
-has_host h (g ∷ gs) = (g.host.0 == h.0) || has_host h gs
-
--- no host is named twice
-abbrev pub HostsDiffer : List HostSpec → Type 0
-HostsDiffer [] = Unit {0}
-HostsDiffer (h ∷ hs) = (has_host h.host hs ≡ false) × HostsDiffer hs

@@ -1,5 +1,8 @@
-pub mod SmallVisit
+pub mod State
+pub mod Visits
 pub mod Node
 pub mod World
 pub mod Counts
+pub mod Sound
+pub mod Packets
 pub mod Texts

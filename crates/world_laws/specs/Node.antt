@@ -1,13 +1,16 @@
 -- What a node does at each event.
-use Rattle.std.specs.Prelude.{◌≡◌, ℕ, ◌+◌, ◌-◌, Bool, true, false, ◌==◌, nat_lt, if◌then◌else◌, List, [], ◌∷◌, ◌++◌, length, map, slice_get, slice_set, position, Option, Some, None}
-use Rattle.std.specs.Str.{bytes_eq}
+use Rattle.std.specs.Prelude.{◌≡◌, ℕ, ◌+◌, ◌-◌, Bool, true, false, ◌==◌, nat_lt, if◌then◌else◌, List, [], ◌∷◌, ◌++◌, length, map, slice_get, slice_set, Option, Some, None}
 use Rattle.plan_base.specs.declared.ids.Host.{Host}
 use Rattle.plan_base.specs.declared.ids.Dev.{Dev}
 use Rattle.plan_base.specs.declared.ids.Family.{Family}
 use Rattle.plan_base.specs.declared.tree.Chunk.{Chunk}
 use Rattle.plan_base.specs.declared.tree.Packet.{Packet}
-use Rattle.world_laws.specs.declared.visits.Sent.{Sent}
-use Rattle.world_laws.specs.declared.visits.Visit.{Visit}
+use Rattle.service_api.specs.declared.router.Hop.{Hop}
+use Rattle.service_api.specs.declared.router.Hop.TheVariants.{To, NoService, NoRoute}
+use Rattle.service_api.specs.Routes.{hop, default_route}
+use Rattle.service_api.specs.Services.{Standing, begun_now}
+use Rattle.plan_meaning.specs.declared.sent.Sent.{Sent}
+use Rattle.plan_meaning.specs.declared.outcome.Visit.{Visit}
 use Rattle.world_laws.specs.declared.acts.Act.{Act}
 use Rattle.world_laws.specs.declared.acts.Act.TheVariants.{Injected, Arrived, Noted, Ended, Queued, Dropped, Taken, SerialsSpent}
 use Rattle.world_laws.specs.declared.acts.Event.{Event}
@@ -15,18 +18,8 @@ use Rattle.world_laws.specs.declared.acts.Event.TheVariants as event
 use Rattle.world_laws.specs.declared.acts.Reason.TheVariants as reason
 use Rattle.world_laws.specs.declared.acts.What.{What}
 use Rattle.world_laws.specs.declared.acts.What.TheVariants as what
-use Rattle.world_laws.specs.SmallVisit.{Links, is_host, default_route, visit_of}
-
--- the packets queued on each device, from device 0
-abbrev pub Queues : Type 0
-Queues = List (List Packet)
-
--- a node: its host, its neighbours by device, its queues, and the serial number of its next injection
-pub record NodeState : Type 0 where
-  pub here : Host
-  pub neighbours : Links
-  pub queues : Queues
-  pub serial : ℕ
+use Rattle.world_laws.specs.State.{Queues, NodeState, is_host}
+use Rattle.world_laws.specs.Visits.{around, visit_at, services_after}
 
 -- what a step gives: the acts in order, the frame that was taken, and the node afterwards
 pub record Step : Type 0 where
@@ -73,7 +66,10 @@ sends_queues queues [] = queues
 sends_queues queues (s ∷ ss) = sends_queues (send_queues queues s) ss
 
 abbrev pub with_queues : NodeState → Queues → NodeState
-with_queues node queues = record { here = node.here; neighbours = node.neighbours; queues = queues; serial = node.serial }
+with_queues node queues = record node { queues = queues }
+
+abbrev pub with_services : NodeState → Standing → NodeState
+with_services node services = record node { services = services }
 
 -- the acts of a visit: its notes, its end, and its sends
 unfoldable pub visit_acts : Queues → Packet → Visit → List Act
@@ -81,45 +77,33 @@ visit_acts queues p v = map Noted v.notes ++ (Ended p.family v.outcome v.evals v
 
 -- a visit at a node, after these acts
 unfoldable pub visited : List Act → NodeState → Packet → Step
-visited acts node p = stepped (acts ++ visit_acts node.queues p (visit_of node.here node.neighbours p)) None
-    (with_queues node (sends_queues node.queues (visit_of node.here node.neighbours p).outbox))
+visited acts node p = stepped (acts ++ visit_acts node.queues p (visit_at node p)) None
+    (with_services (with_queues node (sends_queues node.queues (visit_at node p).outbox)) (services_after (around node p) (begun_now node.services) p))
 
 -- the packet of an injection
 abbrev pub injected_packet : NodeState → Chunk → ℕ → Packet
 injected_packet node chunk bound = record { family = record { source = node.here; serial = node.serial }; dest = node.here; bound = bound; route = default_route; chunk = chunk }
 
 abbrev pub next_serial : NodeState → NodeState
-next_serial node = record { here = node.here; neighbours = node.neighbours; queues = node.queues; serial = node.serial + 1 }
+next_serial node = record node { serial = node.serial + 1 }
 
 -- an injection, which is refused where the last serial number would be given
 unfoldable pub inject_step : NodeState → Chunk → ℕ → Step
 inject_step node chunk bound = if node.serial == 18446744073709551615 then stepped (SerialsSpent ∷ []) None node
     else visited (Injected (record { source = node.here; serial = node.serial }) bound ∷ []) (next_serial node) (injected_packet node chunk bound)
 
-abbrev pub link_dev : Option (Host × Dev) → Option Dev
-link_dev None = None
-link_dev (Some l) = Some l.1
-
-abbrev pub route_at : Links → Option ℕ → Option Dev
-route_at links None = None
-route_at links (Some at) = link_dev (slice_get links at)
-
--- the device of the route to a host: the lowest one whose neighbour it is
-unfoldable pub route_to : Links → Host → Option Dev
-route_to links h = route_at links (position (λ l. is_host l.0 h) links)
-
--- a packet that goes on over this device
-unfoldable pub forward_over : NodeState → Dev → Packet → Option Dev → Step
-forward_over node d p None = stepped (Arrived d ∷ Dropped reason.NoRoute p.family p.bound ∷ []) None node
-forward_over node d p (Some over) = stepped (Arrived d ∷ send_act node.queues (record { dev = over; packet = p }) ∷ []) None
+-- a packet that goes on by a hop
+unfoldable pub forward_by : NodeState → Dev → Packet → Hop → Step
+forward_by node d p (To host over) = stepped (Arrived d ∷ send_act node.queues (record { dev = over; packet = p }) ∷ []) None
     (with_queues node (send_queues node.queues (record { dev = over; packet = p })))
+forward_by node d p NoService = stepped (Arrived d ∷ Dropped reason.NoService p.family p.bound ∷ []) None node
+forward_by node d p NoRoute = stepped (Arrived d ∷ Dropped reason.NoRoute p.family p.bound ∷ []) None node
 
--- a packet for another host
+-- a packet for another host goes on by its routing function
 unfoldable pub forward_step : NodeState → Dev → Packet → Step
 forward_step node d p =
     if p.bound == 0 then stepped (Arrived d ∷ Dropped reason.NoBound p.family 0 ∷ []) None node
-    else (if bytes_eq p.route default_route then forward_over node d p (route_to node.neighbours p.dest)
-    else stepped (Arrived d ∷ Dropped reason.NoService p.family p.bound ∷ []) None node)
+    else forward_by node d p (hop node.routes p.route node.here p.dest)
 
 -- an arrival: a packet for this host is visited
 unfoldable pub arrive_step : NodeState → Dev → Packet → Step

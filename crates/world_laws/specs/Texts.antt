@@ -5,14 +5,12 @@ use Rattle.std.specs.Fmt.{decimal}
 use Rattle.plan_base.specs.declared.ids.Host.{Host}
 use Rattle.plan_base.specs.declared.ids.Dev.{Dev}
 use Rattle.plan_base.specs.declared.ids.Family.{Family}
-use Rattle.plan_base.specs.declared.tree.Value.{Value, out-Value}
-use Rattle.plan_base.specs.declared.tree.Value.TheOpen.{Value-F}
-use Rattle.plan_base.specs.declared.tree.Chunk.{Chunk}
+use Rattle.plan_printer.specs.Printed.{value_text}
 use Rattle.schedule_text.specs.declared.schedule.WorldEvent.{WorldEvent}
-use Rattle.world_laws.specs.declared.visits.Note.{Note}
-use Rattle.world_laws.specs.declared.visits.Note.TheVariants.{Print, Port}
-use Rattle.world_laws.specs.declared.visits.Outcome.{Outcome}
-use Rattle.world_laws.specs.declared.visits.Outcome.TheVariants as outcome
+use Rattle.service_api.specs.declared.answer.Note.{Note}
+use Rattle.service_api.specs.declared.answer.Note.TheVariants.{Print, Port}
+use Rattle.plan_meaning.specs.declared.outcome.Outcome.{Outcome}
+use Rattle.plan_meaning.specs.declared.outcome.Outcome.TheVariants as outcome
 use Rattle.world_laws.specs.declared.acts.Act.{Act}
 use Rattle.world_laws.specs.declared.acts.Act.TheVariants.{Injected, Arrived, Noted, Ended, Queued, Dropped, Taken, SerialsSpent}
 use Rattle.world_laws.specs.declared.acts.Reason.{Reason}
@@ -28,16 +26,6 @@ use Rattle.world_laws.specs.Counts.{is_family, granted, hops, evals, live, left}
 -- a family: its host and its serial number
 abbrev pub family_text : Family → List ℕ
 family_text f = decimal f.source.0 ++ (codes "." ++ decimal f.serial)
-
--- a value of a small program: `()` or a string whose bytes stand for themselves. Other values have
--- no text here before values are printed.
-abbrev pub value_layer_text : Value-F Value Chunk → List ℕ
-value_layer_text Value-F.Unit = codes "()"
-value_layer_text (Value-F.Str t) = codes "\"" ++ (t ++ codes "\"")
-value_layer_text _ = []
-
-unfoldable pub value_text : Value → List ℕ
-value_text v = value_layer_text (out-Value v)
 
 abbrev pub reason_text : Reason → List ℕ
 reason_text reason.NoBound = codes "NoBound"

@@ -15,8 +15,10 @@ use Rattle.world_laws.specs.declared.lines.Line.TheVariants.{At, Wire, Off, Lost
 use Rattle.world_laws.specs.declared.lines.Entry.{Entry}
 use Rattle.world_laws.specs.declared.lines.LinkEnd.{LinkEnd}
 use Rattle.world_laws.specs.declared.lines.Wired.{Wired}
-use Rattle.world_laws.specs.SmallVisit.{Links, is_host}
-use Rattle.world_laws.specs.Node.{NodeState, Step, inject_step, arrive_step, take_step, what_of}
+use Rattle.service_api.specs.Services.{Standing}
+use Rattle.service_api.specs.Prints.{standing}
+use Rattle.world_laws.specs.State.{Links, NodeState, is_host, link_routes}
+use Rattle.world_laws.specs.Node.{Step, inject_step, arrive_step, take_step, what_of}
 
 -- links, each from a device of one host to a device of another
 abbrev pub Cables : Type 0
@@ -200,14 +202,16 @@ neighbours_to links h (suc n) = neighbours_to links h n ++ neighbour_at (record 
 abbrev pub no_queues : List (List Packet)
 no_queues = replicate 9 []
 
--- a node at the beginning: nothing queued, and 1 as its next serial number
+-- the services of a node, outside a visit: `print` alone
+abbrev pub opening_services : Standing
+opening_services = standing false false
+
+-- a node at the beginning: it knows its neighbours, nothing is queued, and its next serial number is 1
+abbrev pub new_node : Host → Links → NodeState
+new_node h links = record { here = h; neighbours = links; routes = link_routes links; services = opening_services; queues = no_queues; serial = 1 }
+
 unfoldable pub opening_node : Cables → HostSpec → NodeState
-opening_node links spec = record {
-  here = spec.host;
-  neighbours = neighbours_to links spec.host 8;
-  queues = no_queues;
-  serial = 1;
-}
+opening_node links spec = new_node spec.host (neighbours_to links spec.host 8)
 
 -- a network at the beginning
 unfoldable pub opening : Topology → WorldState

@@ -1,12 +1,14 @@
-use crate::{Note, Outcome};
-use plan_base::{Chunk, Dev, Family, Packet};
+use chunk_types::CheckedChunk;
+use plan_base::{Dev, Family, Packet};
 use plan_items::Items;
+use plan_meaning::Outcome;
+use service_api::Note;
 
 /// What happens at a node.
 #[derive(Debug, Drop)]
 pub enum Event {
-    /// A chunk is injected with a bound of at most 65,535.
-    Inject(Chunk, u32),
+    /// A typed chunk is injected with a bound of at most 65,535.
+    Inject(CheckedChunk, u32),
     /// A frame arrives over a device.
     Frame(Dev, Packet),
     /// The first frame queued on a device is taken.

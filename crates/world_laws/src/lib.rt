@@ -5,9 +5,7 @@
 mod acts;
 mod laws;
 mod lines;
-mod visits;
 
 pub use acts::{Act, ActList, Acts, Event, Reason, What};
-pub use laws::{step_balance, visit_balance};
+pub use laws::{step_balance, visit_balance, visit_has_case};
 pub use lines::{Entries, Entry, Line, Lines, LinkEnd, Wire, Wired};
-pub use visits::{Doing, Neighbours, Note, Notes, Outbox, Outcome, Sent, Visit};

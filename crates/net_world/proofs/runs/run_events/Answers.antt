@@ -1,7 +1,7 @@
 use Rattle.std.proofs.Common.{◌≡◌, ◌+◌, ◌<◌, ◌++◌, [], get_or, take, refl, sym, ap, ◌∙◌, arith}
 use Rattle.std.proofs.lemmas.List.{append-nil}
 use Rattle.std.proofs.lemmas.List.Elements.{All-get_or}
-use Rattle.world_laws.specs.Counts.{event_fits}
+use Rattle.world_laws.specs.Sound.{event_fits}
 use Rattle.world_laws.specs.Texts.{entries_text}
 use Rattle.net_world.specs.Stands.{world_state}
 use Rattle.net_world.proofs.RunLaws.{events_none, text_none, events_more, written_more, front_event, events_all, text_all, front_all}

@@ -1,6 +1,6 @@
 use Rattle.std.proofs.Common.{◌≡◌, ◌+◌, ◌≤◌, ◌++◌, take, IsTrue}
 use Rattle.world_laws.specs.World.{history_of}
-use Rattle.world_laws.specs.Counts.{IsSound}
+use Rattle.world_laws.specs.Sound.{IsSound}
 use Rattle.world_laws.specs.Texts.{entries_text}
 use Rattle.net_world.specs.Stands.{world_state}
 use Rattle.net_world.specs.Running.{IsAfterEvents}

@@ -1,0 +1,25 @@
+-- A visit that was made, of which nothing stands yet.
+use Rattle.std.specs.Prelude.{◌≡◌, ◌+◌, ◌≤◌, Bool, true, false, if◌then◌else◌, [], ◌∷◌, ◌++◌, length, map, vec_len, vec_capacity}
+use Rattle.plan_base.specs.declared.tree.Packet.{Packet}
+use Rattle.service_api.specs.Services.{Standing, kept, abandoned}
+use Rattle.plan_meaning.specs.declared.outcome.Outcome.{Outcome}
+use Rattle.plan_meaning.specs.declared.outcome.Outcome.TheVariants.{WorkSpent}
+use Rattle.plan_meaning.specs.declared.outcome.Visit.{Visit}
+use Rattle.world_laws.specs.declared.acts.Act.{Act}
+use Rattle.world_laws.specs.declared.acts.Act.TheVariants.{Noted, Ended}
+use Rattle.net_world.specs.declared.turns.Turn.{Turn}
+
+-- whether an outcome is that of spent work
+abbrev pub is_spent : Outcome → Bool
+is_spent WorkSpent = true
+is_spent _ = false
+
+-- the services once a visit is closed
+abbrev pub closed : Bool → Standing → Standing
+closed spent n = if spent then abandoned n else kept n
+
+-- the acts of a visit up to its end, its sends, and room for their acts
+pub record IsOpen (first : Act) (p : Packet) (v : Visit) (turn : Turn) : Type 0 where
+  pub acts : turn.acts.items ≡ (first ∷ []) ++ (map Noted v.notes ++ Ended p.family v.outcome v.evals v.left ∷ [])
+  pub outbox : turn.outbox ≡ v.outbox
+  pub room : vec_len turn.acts + length turn.outbox ≤ vec_capacity turn.acts
