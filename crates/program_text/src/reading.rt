@@ -121,7 +121,7 @@ pub fn read_program(alloc: Global, text: &[u8]) -> Result<Checked, TextFault>
 }
 
 /// The arguments that a text of at most 65,536 bytes is, or none where it is no arguments.
-#[tactic(auto, using(crate::proofs::Readings::none_by))]
+#[tactic(auto, using(crate::proofs::Readings::args_read, crate::proofs::Readings::none_by))]
 pub fn read_args(alloc: Global, text: &[u8]) -> Result<Option<Values>, NoMemory>
     requires { length text.now ≤ 65536 }
     ensures { IfOk result (λ args. args ≡ args_of_text text.now) }
