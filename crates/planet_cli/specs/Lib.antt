@@ -5,4 +5,5 @@ pub mod Outcomes
 pub mod Files
 pub mod Notes
 pub mod Schedules
+pub mod Shows
 pub mod Replays

@@ -3,10 +3,11 @@ use Rattle.std.specs.Prelude.{ℕ, ◌≡◌, ◌≢◌, List, [], ◌++◌}
 use Rattle.std.specs.Fmt.{decimal}
 use lib.Chars.{codes}
 use Rattle.node_io.specs.Pieces.{AppendsFront}
+use Rattle.frame_text.specs.Reasons as frames
 use Rattle.planet_cli.specs.declared.status.Cause.{Cause}
 use Rattle.planet_cli.specs.declared.status.Cause.TheVariants.{Done, Usage, Refused, ReadFault, WriteFault, LinkFault, SpawnFault, NoMemory, NodesFailed}
 use Rattle.planet_cli.specs.declared.status.Refusal.{Refusal}
-use Rattle.planet_cli.specs.declared.status.Refusal.TheVariants.{Line, TooLong}
+use Rattle.planet_cli.specs.declared.status.Refusal.TheVariants.{Line, Frame, BadHex, TooLong}
 use Rattle.schedule_text.specs.declared.fault.LineReason.{LineReason}
 use Rattle.schedule_text.specs.declared.fault.LineReason.TheVariants.{BadHeader, BadWord, BadNumber, UnknownHost, UnknownProgram, TwiceNamed, TooMany, BadArgument, NotYet}
 
@@ -25,6 +26,8 @@ reason_text NotYet = codes "NotYet"
 -- the note of a refusal
 abbrev pub refusal_text : Refusal → List ℕ
 refusal_text (Line n reason) = codes "planet: line " ++ (decimal n ++ (codes ": " ++ (reason_text reason ++ codes "\n")))
+refusal_text (Frame refusal) = codes "planet: frame " ++ (frames.reason_text refusal ++ codes "\n")
+refusal_text BadHex = codes "planet: BadHex\n"
 refusal_text TooLong = codes "planet: TooLong\n"
 
 -- the note of a cause

@@ -69,6 +69,7 @@ named_by _ = None
 -- a command that is built
 abbrev pub built : Option Request → Option Request
 built (Some (replay file)) = Some (replay file)
+built (Some (show file)) = Some (show file)
 built _ = None
 
 -- what words ask for, of the commands that are built

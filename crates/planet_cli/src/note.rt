@@ -1,13 +1,15 @@
 ghost use Rattle.std.specs.Prelude.{◌≡◌, ◌≤◌, ◌⊎◌, IsTrue, IfOk};
-ghost use Rattle.std.specs.String.{string_bytes};
 ghost use Rattle.node_io.specs.Causes.{Rose};
 ghost use Rattle.planet_cli.specs.Notes.{reason_text, refusal_text, note_text, Noted};
 ghost use Rattle.planet_cli.specs.Refusals.{Gives};
 
 use crate::status::{Cause, Refusal};
+use frame_text::put_reason;
 use node_io::{Sink, put_all};
+use packet_frame::FrameRefusal;
+use plan_base::{Bytes, Host, NoMemory};
 use schedule_text::LineReason;
-use std::alloc::{AllocError, Global};
+use std::alloc::Global;
 
 fn reason_name(reason: &LineReason) -> &'static str
     ensures { result.now ≡ reason_text reason.now }
@@ -25,39 +27,70 @@ fn reason_name(reason: &LineReason) -> &'static str
     }
 }
 
+// The note of a refused line with its line feed.
+fn line_note(alloc: Global, line: u32, reason: &LineReason) -> Result<Bytes, NoMemory>
+    ensures { IfOk result (λ note. note ≡ refusal_text (Refusal.Line line reason.now)) }
+{
+    let name = reason_name(reason);
+    let text = format!(in alloc; "planet: line {line}: {name}\n")?;
+    bytes_of(alloc, text.as_bytes())
+}
+
+// The note of a refused frame with its line feed.
+fn frame_note(alloc: Global, refused: &FrameRefusal) -> Result<Bytes, NoMemory>
+    ensures { IfOk result (λ note. note ≡ refusal_text (Refusal.Frame refused.now)) }
+{
+    let mut note = bytes_of(alloc, b"planet: frame ")?;
+    put_reason(alloc, refused, &mut note)?;
+    note.add_all(b"\n")?;
+    Ok(note)
+}
+
+fn bytes_of(alloc: Global, text: &[u8]) -> Result<Bytes, NoMemory>
+    ensures { IfOk result (λ bytes. bytes ≡ text.now) }
+{
+    let mut bytes = Bytes::new(alloc);
+    bytes.add_all(text)?;
+    Ok(bytes)
+}
+
 // The note of a refusal with its line feed.
-fn refusal_note(alloc: Global, refusal: &Refusal) -> Result<String, AllocError>
-    ensures { IfOk result (λ note. string_bytes note ≡ refusal_text refusal.now) }
+fn refusal_note(alloc: Global, refusal: &Refusal) -> Result<Bytes, NoMemory>
+    ensures { IfOk result (λ note. note ≡ refusal_text refusal.now) }
 {
     match refusal {
-        Refusal::Line(line, reason) => {
-            let name = reason_name(reason);
-            format!(in alloc; "planet: line {line}: {name}\n")
-        }
-        Refusal::TooLong => format!(in alloc; "planet: TooLong\n"),
+        Refusal::Line(line, reason) => line_note(alloc, *line, reason),
+        Refusal::Frame(refused) => frame_note(alloc, refused),
+        Refusal::BadHex => bytes_of(alloc, b"planet: BadHex\n"),
+        Refusal::TooLong => bytes_of(alloc, b"planet: TooLong\n"),
     }
 }
 
+// The note of a failed child with its line feed.
+fn node_note(alloc: Global, host: &Host, status: u8) -> Result<Bytes, NoMemory>
+    ensures { IfOk result (λ note. note ≡ note_text (Cause.NodesFailed host.now status)) }
+{
+    let text = format!(in alloc; "planet: node @{} failed with {status}\n", host.0)?;
+    bytes_of(alloc, text.as_bytes())
+}
+
 // The note of a cause with its line feed; `Done` has none.
-fn note_of(alloc: Global, cause: &Cause) -> Result<String, AllocError>
-    ensures { IfOk result (λ note. string_bytes note ≡ note_text cause.now) }
+fn note_of(alloc: Global, cause: &Cause) -> Result<Bytes, NoMemory>
+    ensures { IfOk result (λ note. note ≡ note_text cause.now) }
 {
     match cause {
-        Cause::Done => Ok(String::new(alloc)),
-        Cause::Usage => String::from_str(
+        Cause::Done => Ok(Bytes::new(alloc)),
+        Cause::Usage => bytes_of(
             alloc,
-            "planet: usage: check FILE | show FILE | replay FILE | node FILE TURNS | inject FILE | fleet FILE | grow SEED N\n",
+            b"planet: usage: check FILE | show FILE | replay FILE | node FILE TURNS | inject FILE | fleet FILE | grow SEED N\n",
         ),
         Cause::Refused(refusal) => refusal_note(alloc, refusal),
-        Cause::ReadFault => String::from_str(alloc, "planet: read fault\n"),
-        Cause::WriteFault => String::from_str(alloc, "planet: write fault\n"),
-        Cause::LinkFault => String::from_str(alloc, "planet: link fault\n"),
-        Cause::SpawnFault => String::from_str(alloc, "planet: spawn fault\n"),
-        Cause::NoMemory => String::from_str(alloc, "planet: no memory\n"),
-        Cause::NodesFailed(host, status) => format!(in alloc;
-            "planet: node @{} failed with {status}\n",
-            host.0
-        ),
+        Cause::ReadFault => bytes_of(alloc, b"planet: read fault\n"),
+        Cause::WriteFault => bytes_of(alloc, b"planet: write fault\n"),
+        Cause::LinkFault => bytes_of(alloc, b"planet: link fault\n"),
+        Cause::SpawnFault => bytes_of(alloc, b"planet: spawn fault\n"),
+        Cause::NoMemory => bytes_of(alloc, b"planet: no memory\n"),
+        Cause::NodesFailed(host, status) => node_note(alloc, host, *status),
     }
 }
 
@@ -84,7 +117,7 @@ pub fn settle<N: Sink>(alloc: Global, cause: Cause, notes: &mut N) -> Cause
     ensures later { N.faults notes.old ≤ N.faults notes.new }
 {
     match note_of(alloc, &cause) {
-        Ok(note) => push_note(notes, cause, note.as_bytes()),
+        Ok(note) => push_note(notes, cause, note.as_slice()),
         Err(_) => push_note(notes, Cause::NoMemory, b"planet: no memory\n"),
     }
 }

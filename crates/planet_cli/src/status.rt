@@ -1,3 +1,4 @@
+use packet_frame::FrameRefusal;
 use plan_base::Host;
 use schedule_text::LineReason;
 
@@ -38,6 +39,10 @@ pub enum Cause {
 pub enum Refusal {
     /// The first line outside the format, from 1, and the reason.
     Line(u32, LineReason),
+    /// The bytes are no frame whose chunk is typed.
+    Frame(FrameRefusal),
+    /// The file is no hex.
+    BadHex,
     /// The file has more bytes than its limit.
     TooLong,
 }

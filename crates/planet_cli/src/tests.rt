@@ -1,5 +1,5 @@
 use crate::status::Status;
-use crate::{planet, rows};
+use crate::{planet, rows, show_rows};
 use node_io::{
     Arrivals, Calls, FileList, MemClock, MemFiles, MemLink, MemSink, MemSpawner, Moments, Statuses,
 };
@@ -106,6 +106,51 @@ fn files_outside_the_format_are_refused(rt: HostRuntime) -> Result<(), Fail> {
         ),
     ] {
         let (code, out, notes) = replay(rt.alloc(), schedule)?;
+        assert_eq!(rt; code, 2);
+        assert_eq!(rt; out.taken().as_slice(), b"".as_slice());
+        assert_eq!(rt; notes.taken().as_slice(), note);
+    }
+    Ok(())
+}
+
+// The code, the output and the notes of `show` on this hex.
+fn show(alloc: Global, hex: &[u8]) -> Result<(u8, MemSink, MemSink), Fail> {
+    let mut files = files_of(alloc, hex, &[])?;
+    let mut out = sink(alloc)?;
+    let mut notes = sink(alloc)?;
+    let status = call(
+        alloc,
+        &["show", "schedule.txt"],
+        &mut files,
+        &mut out,
+        &mut notes,
+    )?;
+    Ok((status.code, out, notes))
+}
+
+#[test]
+fn frames_say_what_they_carry(rt: HostRuntime) -> Result<(), Fail> {
+    for (hex, output) in show_rows::SHOWN {
+        let (code, out, notes) = show(rt.alloc(), hex)?;
+        assert_eq!(rt; code, 0);
+        assert_eq!(rt; out.taken().as_slice(), output);
+        assert_eq!(rt; notes.taken().as_slice(), b"".as_slice());
+    }
+    Ok(())
+}
+
+#[test]
+fn hex_digits_may_be_of_either_case(rt: HostRuntime) -> Result<(), Fail> {
+    let (code, out, _notes) = show(rt.alloc(), show_rows::UPPER)?;
+    assert_eq!(rt; code, 0);
+    assert_eq!(rt; out.taken().as_slice(), show_rows::SHOWN[0].1);
+    Ok(())
+}
+
+#[test]
+fn what_is_no_frame_is_refused(rt: HostRuntime) -> Result<(), Fail> {
+    for (hex, note) in show_rows::UNSHOWN {
+        let (code, out, notes) = show(rt.alloc(), hex)?;
         assert_eq!(rt; code, 2);
         assert_eq!(rt; out.taken().as_slice(), b"".as_slice());
         assert_eq!(rt; notes.taken().as_slice(), note);

@@ -1,6 +1,6 @@
 ghost use Rattle.std.specs.Prelude.{◌≡◌, true, false, MatchOption};
 ghost use Rattle.std.specs.Str.{bytes_eq, is_utf8};
-ghost use Rattle.planet_cli.specs.Requests.{is_file_name, request_of};
+ghost use Rattle.planet_cli.specs.Requests.{built, with_file, is_file_name, request_of};
 ghost use Rattle.planet_cli.specs.Commands.{request_for};
 
 use plan_base::Texts;
@@ -14,6 +14,8 @@ const NAME_MAX: usize = 255;
 pub enum Command<'a> {
     /// `replay FILE`
     Replay(&'a str),
+    /// `show FILE`
+    Show(&'a str),
 }
 
 fn utf8_text(bytes: &[u8]) -> Option<&str>
@@ -41,6 +43,19 @@ fn is(word: &[u8], name: &[u8]) -> bool
     word == name
 }
 
+// The command of that name on a file, or `None` where there is none that is built.
+fn command_on<'a>(name: &[u8], file: &'a str) -> Option<Command<'a>>
+    ensures { MatchOption result (built (with_file name.now file.now) ≡ None) (λ c. built (with_file name.now file.now) ≡ Some (request_for c)) }
+{
+    if is(name, b"replay") {
+        return Some(Command::Replay(file));
+    }
+    if is(name, b"show") {
+        return Some(Command::Show(file));
+    }
+    None
+}
+
 /// What the words ask for, or `None` where they are none of the commands.
 pub fn read_words(words: &Texts) -> Option<Command<'_>>
     ensures { MatchOption result (request_of words.now ≡ None) (λ c. request_of words.now ≡ Some (request_for c)) }
@@ -48,11 +63,5 @@ pub fn read_words(words: &Texts) -> Option<Command<'_>>
     if words.len() != 2 {
         return None;
     }
-    if !is(words.at(0).as_slice(), b"replay") {
-        return None;
-    }
-    match file_name(words.at(1).as_slice()) {
-        None => None,
-        Some(file) => Some(Command::Replay(file)),
-    }
+    command_on(words.at(0).as_slice(), file_name(words.at(1).as_slice())?)
 }
