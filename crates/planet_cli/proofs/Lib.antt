@@ -1,3 +1,4 @@
 pub mod RequestLemmas
 pub mod RuleLemmas
 pub mod Headline
+pub mod ShowLemmas

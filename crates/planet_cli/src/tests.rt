@@ -1,5 +1,5 @@
 use crate::status::Status;
-use crate::{planet, rows};
+use crate::{planet, rows, show_rows};
 use node_io::{
     Arrivals, Calls, FileList, MemClock, MemFiles, MemLink, MemSink, MemSpawner, Moments, Statuses,
 };
@@ -52,14 +52,18 @@ fn call(
     ))
 }
 
-// The code, the output and the notes of `replay schedule.txt` on these bytes.
-fn replay(alloc: Global, bytes: &[u8]) -> Result<(u8, MemSink, MemSink), Fail> {
+// The code, the output and the notes of a command on a file of these bytes.
+fn on_bytes(
+    alloc: Global,
+    command: &str,
+    bytes: &[u8],
+) -> Result<(u8, MemSink, MemSink), Fail> {
     let mut files = files_of(alloc, bytes, &[])?;
     let mut out = sink(alloc)?;
     let mut notes = sink(alloc)?;
     let status = call(
         alloc,
-        &["replay", "schedule.txt"],
+        &[command, "schedule.txt"],
         &mut files,
         &mut out,
         &mut notes,
@@ -84,7 +88,7 @@ fn schedules_give_their_output(rt: HostRuntime) -> Result<(), Fail> {
         (rows::SMALLEST_SCHEDULE, rows::SMALLEST_SCHEDULE_OUTPUT),
         (rows::DELIVER_NOTHING, rows::DELIVER_NOTHING_OUTPUT),
     ] {
-        let (code, out, notes) = replay(rt.alloc(), schedule)?;
+        let (code, out, notes) = on_bytes(rt.alloc(), "replay", schedule)?;
         assert_eq!(rt; code, 0);
         assert_eq!(rt; out.taken().as_slice(), output);
         assert_eq!(rt; notes.taken().as_slice(), b"".as_slice());
@@ -137,27 +141,12 @@ fn files_outside_the_format_are_refused(rt: HostRuntime) -> Result<(), Fail> {
             b"planet: line 3: ProgramRefused at 16: Mismatch int bool\n".as_slice(),
         ),
     ] {
-        let (code, out, notes) = replay(rt.alloc(), schedule)?;
+        let (code, out, notes) = on_bytes(rt.alloc(), "replay", schedule)?;
         assert_eq!(rt; code, 2);
         assert_eq!(rt; out.taken().as_slice(), b"".as_slice());
         assert_eq!(rt; notes.taken().as_slice(), note);
     }
     Ok(())
-}
-
-// The code, the output and the notes of `check` on this text.
-fn check(alloc: Global, program: &[u8]) -> Result<(u8, MemSink, MemSink), Fail> {
-    let mut files = files_of(alloc, program, &[])?;
-    let mut out = sink(alloc)?;
-    let mut notes = sink(alloc)?;
-    let status = call(
-        alloc,
-        &["check", "schedule.txt"],
-        &mut files,
-        &mut out,
-        &mut notes,
-    )?;
-    Ok((status.code, out, notes))
 }
 
 #[test]
@@ -172,7 +161,18 @@ fn typed_programs_give_their_sizes(rt: HostRuntime) -> Result<(), Fail> {
             b"ok functions 1 nodes 3 code 18\n".as_slice(),
         ),
     ] {
-        let (code, out, notes) = check(rt.alloc(), program)?;
+        let (code, out, notes) = on_bytes(rt.alloc(), "check", program)?;
+        assert_eq!(rt; code, 0);
+        assert_eq!(rt; out.taken().as_slice(), output);
+        assert_eq!(rt; notes.taken().as_slice(), b"".as_slice());
+    }
+    Ok(())
+}
+
+#[test]
+fn frames_say_what_they_carry(rt: HostRuntime) -> Result<(), Fail> {
+    for (hex, output) in show_rows::SHOWN {
+        let (code, out, notes) = on_bytes(rt.alloc(), "show", hex)?;
         assert_eq!(rt; code, 0);
         assert_eq!(rt; out.taken().as_slice(), output);
         assert_eq!(rt; notes.taken().as_slice(), b"".as_slice());
@@ -196,7 +196,26 @@ fn other_programs_are_refused_at_their_byte(rt: HostRuntime) -> Result<(), Fail>
             b"planet: at 19: NeedsType\n".as_slice(),
         ),
     ] {
-        let (code, out, notes) = check(rt.alloc(), program)?;
+        let (code, out, notes) = on_bytes(rt.alloc(), "check", program)?;
+        assert_eq!(rt; code, 2);
+        assert_eq!(rt; out.taken().as_slice(), b"".as_slice());
+        assert_eq!(rt; notes.taken().as_slice(), note);
+    }
+    Ok(())
+}
+
+#[test]
+fn hex_digits_may_be_of_either_case(rt: HostRuntime) -> Result<(), Fail> {
+    let (code, out, _notes) = on_bytes(rt.alloc(), "show", show_rows::UPPER)?;
+    assert_eq!(rt; code, 0);
+    assert_eq!(rt; out.taken().as_slice(), show_rows::SHOWN[0].1);
+    Ok(())
+}
+
+#[test]
+fn what_is_no_frame_is_refused(rt: HostRuntime) -> Result<(), Fail> {
+    for (hex, note) in show_rows::UNSHOWN {
+        let (code, out, notes) = on_bytes(rt.alloc(), "show", hex)?;
         assert_eq!(rt; code, 2);
         assert_eq!(rt; out.taken().as_slice(), b"".as_slice());
         assert_eq!(rt; notes.taken().as_slice(), note);
@@ -221,7 +240,7 @@ fn words_that_name_no_command_are_usage(rt: HostRuntime) -> Result<(), Fail> {
     let (code, written, notes) = refused_words(rt.alloc(), &["replay"])?;
     assert_eq!(rt; (code, written), (1, 0));
     assert_eq!(rt; notes.taken().as_slice(), USAGE);
-    let (code, written, notes) = refused_words(rt.alloc(), &["show", "schedule.txt"])?;
+    let (code, written, notes) = refused_words(rt.alloc(), &["grow", "schedule.txt"])?;
     assert_eq!(rt; (code, written), (1, 0));
     assert_eq!(rt; notes.taken().as_slice(), USAGE);
     Ok(())
@@ -264,7 +283,7 @@ fn a_file_of_one_byte_too_many_is_too_long(rt: HostRuntime) -> Result<(), Fail> 
     let alloc = rt.alloc();
     let mut bytes = Vec::new(alloc);
     bytes.resize(4_194_305, b'#')?;
-    let (code, out, notes) = replay(alloc, bytes.as_slice())?;
+    let (code, out, notes) = on_bytes(alloc, "replay", bytes.as_slice())?;
     assert_eq!(rt; code, 2);
     assert_eq!(rt; out.taken().len(), 0);
     assert_eq!(rt; notes.taken().as_slice(), b"planet: TooLong\n".as_slice());
@@ -334,7 +353,7 @@ fn a_stopping_output_has_taken_a_front(rt: HostRuntime) -> Result<(), Fail> {
             b"planet: write fault\n".as_slice()
         );
     }
-    let (code, out, _) = replay(alloc, rows::FIRST_RUN)?;
+    let (code, out, _) = on_bytes(alloc, "replay", rows::FIRST_RUN)?;
     assert_eq!(rt; code, 0);
     assert_eq!(rt; out.taken().as_slice(), output);
     Ok(())

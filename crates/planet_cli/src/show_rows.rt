@@ -1,0 +1,75 @@
+// Frames in hex, what `show` says of them, and why it refuses others.
+
+/// Frames, and what they say.
+pub const SHOWN: [(&[u8], &[u8]); 6] = [
+    (
+        b"504c414e010100000001000000000000000100000002000000090c64656661756c74526f7574650000010166000020016600\n",
+        b"packet 1.1 dest @2 bound 9 route defaultRoute\n|f|()\nfun f() : unit = ()\n",
+    ),
+    (
+        b"504c414e0102000000020003000000010000000100000002000000000000000300000001\n",
+        b"advert @2\n@1 1\n@2 0\n@3 1\n",
+    ),
+    (
+        b"504c414e01030000000a0000010166000020016600\n",
+        b"ask bound 10\n|f|()\nfun f() : unit = ()\n",
+    ),
+    (
+        b"504c414e010100000001000000000000000100000002000000010c64656661756c74526f75746501057072696e74010400000202686900002b057072696e7401240002686902676f00002e2b057072696e7401240002676f3b38026869002600000002220000000000000002270000000102686900\n",
+        b"packet 1.1 dest @2 bound 1 route defaultRoute\n|hi|()\nsvc print : (string) -> unit\nfun hi() : unit = print(\"hi\")\nfun go() : unit = (print(\"go\"); OnNeighbor(|hi|(), @2, 2, %1))\n",
+    ),
+    (
+        b"504c414e01030000000a030a74686973486f7374497301060105676574524200020764656c6976657202020a040202020500000104706172740604646573740604706f727402036b65790205696e6465780205636f756e7402046461746105002c2b0a74686973486f73744973012904646573742b0764656c69766572022904706f72742a0429036b65792905696e6465782905636f756e742904646174613a380470617274062904646573742904706f727429036b65792905696e6465782905636f756e742904646174612904646573742b056765745242000c64656661756c74526f75746504706172740616000000011200000000000000071200000000000000051200000000000000001200000000000000011500020102\n",
+        b"ask bound 10\n|part|(@1, 7, 5, 0, 1, #\"0102\")\nsvc thisHostIs : (host) -> bool\nsvc getRB : () -> int\nsvc deliver : (int, (int * int * int * blob)) -> unit\nfun part(dest : host, port : int, key : int, index : int, count : int, data : blob) : unit = (if thisHostIs(dest) then deliver(port, (key, index, count, data)) else OnRemote(|part|(dest, port, key, index, count, data), dest, getRB(), defaultRoute))\n",
+    ),
+    (
+        b"504c414e010300000001000001016601017802022c320829017822000000000000000132012200000000000000002901783202290178220000000000000002016601120000000000000005\n",
+        b"ask bound 1\n|f|(5)\nfun f(x : int) : int = (if (x < 1) then (0 - x) else (x * 2))\n",
+    ),
+];
+
+/// Texts that are no frame, and their notes.
+pub const UNSHOWN: [(&[u8], &[u8]); 11] = [
+    (
+        b"504c414e010100000001000000000000000100000002000000090c64656661756c74526f757465000001016601017802002001660114000161\n",
+        b"planet: frame IllTyped Argument 0\n",
+    ),
+    (
+        b"504c414e010100000001000000000000000100000002000000090c64656661756c74526f757465000001016600002001660000\n",
+        b"planet: frame Trailing 50\n",
+    ),
+    (
+        b"\n",
+        b"planet: frame Truncated 0\n",
+    ),
+    (
+        b"504c41\n",
+        b"planet: frame Truncated 0\n",
+    ),
+    (
+        b"504c414e\n",
+        b"planet: frame Truncated 4\n",
+    ),
+    (
+        b"504c414e010100000001000000000000000100000002000000090c646566\n",
+        b"planet: frame Truncated 27\n",
+    ),
+    (
+        b"504c414e010100000001000000000000000100000002000000090c64656661756c74526f757465000001016600\n",
+        b"planet: frame Truncated 45\n",
+    ),
+    (
+        b"504c414e02010000000000000001000000000000000100000001000000000000000100000002000000090c64656661756c74526f7574650000010166000020016600\n",
+        b"planet: frame BadVersion\n",
+    ),
+    // a second line feed, an odd number of digits, and no digit
+    (
+        b"504c414e010100000001000000000000000100000002000000090c64656661756c74526f7574650000010166000020016600\n\n",
+        b"planet: BadHex\n",
+    ),
+    (b"504\n", b"planet: BadHex\n"),
+    (b"50 c\n", b"planet: BadHex\n"),
+];
+
+/// A frame in hex of upper case without a line feed.
+pub const UPPER: &[u8] = b"504C414E010100000001000000000000000100000002000000090C64656661756C74526F7574650000010166000020016600";
