@@ -1,0 +1,5 @@
+pub mod Signatures
+pub mod Programs
+pub mod Values
+pub mod InsideValues
+pub mod ReadTexts

@@ -1,0 +1,224 @@
+//! Reading declarations.
+ghost use Rattle.std.specs.Prelude.{◌≡◌, ◌≤◌, ◌<◌, ◌-◌, ◌∷◌, ◌++◌, [], length, Result, Ok, Err, IfErr, OnOk};
+ghost use Rattle.plan_grammar.specs.Ahead.{Gives, Answers};
+ghost use Rattle.plan_grammar.specs.Nodes.{all_at};
+ghost use Rattle.plan_parser.specs.Programs as spec;
+
+use crate::program::Gathered;
+use crate::signature::{Head, MOST_OPEN, head_at, service_at};
+use plan_base::{Draft, Fun, Limit, Places, Program};
+use plan_grammar::{Ahead, Level, Node, ParseFault, Wanted, expr_to, name_at};
+use plan_items::Items;
+use plan_lexer::{Key, Token};
+use std::alloc::Global;
+
+/// The services, exceptions or functions that a program may have.
+const MOST_DECLARATIONS: usize = 64;
+/// The expressions that a program may have.
+const MOST_NODES: usize = 4096;
+/// The deepest expression of a function.
+const MOST_DEPTH: u32 = 64;
+
+/// Refuses the declaration past the limit.
+#[tactic(auto, unfolding(crate::specs::Programs::one_more))]
+fn one_more(count: usize, limit: Limit, ahead: &Ahead<'_>) -> Result<(), ParseFault>
+    ensures { Gives (spec.one_more count limit ahead.now) result ahead.now }
+{
+    if count >= MOST_DECLARATIONS {
+        return Err(ParseFault::TooMany(limit, ahead.place()));
+    }
+    Ok(())
+}
+
+#[tactic(auto, unfolding(crate::specs::Programs::with_service))]
+fn with_service(
+    alloc: Global,
+    ahead: &mut Ahead<'_>,
+    gathered: Gathered,
+) -> Result<Gathered, ParseFault>
+    ensures { Gives (spec.with_service gathered ahead.old) result ahead.new }
+{
+    let mut gathered = gathered;
+    one_more(gathered.svcs.len(), Limit::Services, ahead)?;
+    let at = ahead.place();
+    ahead.skip();
+    gathered.svcs.add(service_at(alloc, ahead)?)?;
+    gathered.svc_at.add(at)?;
+    Ok(gathered)
+}
+
+#[tactic(auto, unfolding(crate::specs::Programs::with_exception))]
+fn with_exception(
+    alloc: Global,
+    ahead: &mut Ahead<'_>,
+    gathered: Gathered,
+) -> Result<Gathered, ParseFault>
+    ensures { Gives (spec.with_exception gathered ahead.old) result ahead.new }
+{
+    let mut gathered = gathered;
+    one_more(gathered.exns.len(), Limit::Exceptions, ahead)?;
+    let at = ahead.place();
+    ahead.skip();
+    gathered.exns.add(name_at(alloc, ahead)?)?;
+    gathered.exn_at.add(at)?;
+    Ok(gathered)
+}
+
+/// Judges a function that was read: its depth, and then the number of all expressions.
+#[tactic(auto, unfolding(crate::specs::Programs::judged))]
+fn judged(at: u32, depth: u32, nodes: usize, ahead: &Ahead<'_>) -> Result<(), ParseFault>
+    ensures { Gives (spec.judged at depth nodes ahead.now) result ahead.now }
+{
+    if depth > MOST_DEPTH {
+        return Err(ParseFault::TooDeep(at));
+    }
+    if nodes > MOST_NODES {
+        return Err(ParseFault::TooMany(Limit::Nodes, at));
+    }
+    Ok(())
+}
+
+/// Adds the places of an expression behind others.
+fn add_places(places: &mut Places, at: u32, below: Places) -> Result<(), ParseFault>
+    ensures whole { OnOk result (places.new ≡ places.old ++ at ∷ below) }
+    ensures fault { IfErr result (λ e. e ≡ ParseFault.NoMemory) }
+{
+    places.add(at)?;
+    places.append(below)?;
+    Ok(())
+}
+
+/// Adds a function that was read, whose word stands at `start`, where it isn't too large.
+#[tactic(auto, unfolding(crate::specs::Programs::with_body))]
+fn with_body(
+    gathered: Gathered,
+    start: u32,
+    head: Head,
+    body: Node,
+    ahead: &Ahead<'_>,
+) -> Result<Gathered, ParseFault>
+    ensures { Gives (spec.with_body start gathered head body ahead.now) result ahead.now }
+{
+    let Head {
+        name,
+        params,
+        result,
+    } = head;
+    let Node {
+        tree,
+        at,
+        below,
+        depth,
+    } = body;
+    let mut gathered = gathered;
+    add_places(&mut gathered.node_at, at, below)?;
+    judged(start, depth, gathered.node_at.len(), ahead)?;
+    gathered.funs.add(Fun {
+        name,
+        params,
+        result,
+        body: tree,
+    })?;
+    gathered.fun_at.add(start)?;
+    Ok(gathered)
+}
+
+#[tactic(auto, unfolding(crate::specs::Programs::with_function))]
+fn with_function(
+    alloc: Global,
+    ahead: &mut Ahead<'_>,
+    gathered: Gathered,
+) -> Result<Gathered, ParseFault>
+    ensures { Gives (spec.with_function gathered ahead.old) result ahead.new }
+{
+    one_more(gathered.funs.len(), Limit::Functions, ahead)?;
+    let start = ahead.place();
+    ahead.skip();
+    let head = head_at(alloc, ahead)?;
+    let body = expr_to(alloc, MOST_OPEN + 1, Level::Whole, ahead)?;
+    with_body(gathered, start, head, body, ahead)
+}
+
+/// One more declaration.
+#[tactic(auto, unfolding(crate::specs::Programs::with_declaration))]
+fn with_declaration(
+    alloc: Global,
+    ahead: &mut Ahead<'_>,
+    gathered: Gathered,
+) -> Result<Gathered, ParseFault>
+    ensures { Gives (spec.with_declaration gathered ahead.old) result ahead.new }
+{
+    if ahead.is_key(Key::Svc) {
+        return with_service(alloc, ahead, gathered);
+    }
+    if ahead.is_key(Key::Exception) {
+        return with_exception(alloc, ahead, gathered);
+    }
+    if ahead.is_key(Key::Fun) {
+        return with_function(alloc, ahead, gathered);
+    }
+    Err(ParseFault::Expected(Wanted::ADecl, ahead.place()))
+}
+
+fn nothing(alloc: Global) -> Gathered
+    ensures { result ≡ spec.nothing }
+{
+    Gathered {
+        svcs: Items::new(alloc),
+        exns: Items::new(alloc),
+        funs: Items::new(alloc),
+        svc_at: Items::new(alloc),
+        exn_at: Items::new(alloc),
+        fun_at: Items::new(alloc),
+        node_at: Items::new(alloc),
+    }
+}
+
+/// The declarations up to the end, of which there are no more than tokens.
+#[tactic(auto, using(crate::proofs::DeclarationSteps::declarations_done, crate::proofs::DeclarationSteps::declarations_end, crate::proofs::DeclarationSteps::declarations_stop, crate::proofs::DeclarationSteps::declarations_step))]
+pub fn declarations(alloc: Global, tokens: &[Token], end: u32) -> Result<Gathered, ParseFault>
+    ensures { Answers (spec.declarations (length tokens.now) spec.nothing (record { tokens = tokens.now; end = end })) result }
+{
+    let mut ahead = Ahead::over(tokens, end);
+    let mut gathered = nothing(alloc);
+    for _ in 0..tokens.len() {
+        if ahead.left() == 0 {
+            return Ok(gathered);
+        }
+        gathered = with_declaration(alloc, &mut ahead, gathered)?;
+    }
+    Ok(gathered)
+}
+
+fn draft_of(gathered: Gathered) -> Result<Draft, ParseFault>
+    ensures { Answers (Ok (spec.draft_of gathered)) result }
+{
+    let Gathered {
+        svcs,
+        exns,
+        funs,
+        svc_at,
+        mut exn_at,
+        fun_at,
+        node_at,
+    } = gathered;
+    let mut decl_at = svc_at;
+    exn_at.append(fun_at)?;
+    decl_at.append(exn_at)?;
+    Ok(Draft {
+        program: Program { svcs, exns, funs },
+        decl_at,
+        node_at,
+    })
+}
+
+/// The whole draft; at the end there must be a function.
+#[tactic(auto, unfolding(crate::specs::Programs::finished))]
+pub fn finished(end: u32, gathered: Gathered) -> Result<Draft, ParseFault>
+    ensures { Answers (spec.finished end gathered) result }
+{
+    if gathered.funs.is_empty() {
+        return Err(ParseFault::Expected(Wanted::Key(Key::Fun), end));
+    }
+    draft_of(gathered)
+}

@@ -1,0 +1,113 @@
+//! Values with their types.
+ghost use Rattle.std.specs.Prelude.{◌≡◌, [], ◌∷◌, ◌++◌, Result, Ok, Err, Some, None, is_some};
+ghost use Rattle.plan_grammar.specs.Ahead.{Gives, Answers, next_kind};
+ghost use Rattle.plan_parser.specs.Values as spec;
+
+use plan_base::{Dev, Host, Ty, Value, Values};
+use plan_grammar::{Ahead, ParseFault, Wanted};
+use plan_items::{Boxed, Items};
+use plan_lexer::{Key, Symbol, TokenKind};
+use std::alloc::Global;
+
+/// A value with its type.
+#[derive(Drop)]
+pub struct Item {
+    pub value: Value,
+    pub ty: Ty,
+}
+
+pub fn typed(value: Value, ty: Ty) -> Item
+    ensures { result ≡ spec.typed value ty }
+{
+    Item { value, ty }
+}
+
+fn literal_key(key: Key) -> Option<Item>
+    ensures { result ≡ spec.literal_key key }
+{
+    match key {
+        Key::True => Some(typed(Value::Bool(true), Ty::Bool)),
+        Key::False => Some(typed(Value::Bool(false), Ty::Bool)),
+        _ => None,
+    }
+}
+
+/// The value that the next token is by itself.
+fn literal(alloc: Global, ahead: &Ahead<'_>) -> Result<Option<Item>, ParseFault>
+    ensures { Answers (Ok (spec.literal (next_kind ahead.now))) result }
+{
+    match ahead.next() {
+        Some(TokenKind::Int(number)) => Ok(Some(typed(Value::Int(*number), Ty::Int))),
+        Some(TokenKind::Host(number)) => Ok(Some(typed(Value::Host(Host(*number)), Ty::Host))),
+        Some(TokenKind::Dev(number)) => Ok(Some(typed(Value::Dev(Dev(*number)), Ty::Dev))),
+        Some(TokenKind::Char(scalar)) => Ok(Some(typed(Value::Char(*scalar), Ty::Char))),
+        Some(TokenKind::Str(text)) => Ok(Some(typed(Value::Str(text.copy(alloc)?), Ty::Str))),
+        Some(TokenKind::Blob(bytes)) => Ok(Some(typed(Value::Blob(bytes.copy(alloc)?), Ty::Blob))),
+        Some(TokenKind::Key(key)) => Ok(literal_key(*key)),
+        _ => Ok(None),
+    }
+}
+
+/// Whether the next token is a value by itself.
+fn is_literal(ahead: &Ahead<'_>) -> bool
+    ensures { result ≡ is_some (spec.literal (next_kind ahead.now)) }
+{
+    match ahead.next() {
+        Some(TokenKind::Int(_)) => true,
+        Some(TokenKind::Host(_)) => true,
+        Some(TokenKind::Dev(_)) => true,
+        Some(TokenKind::Char(_)) => true,
+        Some(TokenKind::Str(_)) => true,
+        Some(TokenKind::Blob(_)) => true,
+        Some(TokenKind::Key(key)) => literal_key(*key).is_some(),
+        _ => false,
+    }
+}
+
+/// Whether a value may begin here.
+#[tactic(auto, unfolding(crate::specs::Values::begins_value))]
+pub fn begins_value(ahead: &Ahead<'_>) -> bool
+    ensures { result ≡ spec.begins_value ahead.now }
+{
+    is_literal(ahead)
+        || (ahead.is_symbol(Symbol::ParenOpen) || ahead.is_symbol(Symbol::BracketOpen))
+}
+
+/// Takes the literal that must stand next.
+pub fn literal_at(alloc: Global, ahead: &mut Ahead<'_>) -> Result<Item, ParseFault>
+    ensures { Gives (spec.literal_from ahead.old (spec.literal (next_kind ahead.old))) result ahead.new }
+{
+    let Some(item) = literal(alloc, ahead)? else {
+        return Err(ParseFault::Expected(Wanted::AValue, ahead.place()));
+    };
+    ahead.skip();
+    Ok(item)
+}
+
+/// Several values as a tuple.
+#[tactic(auto, using(crate::proofs::Items::values_last, crate::proofs::Items::types_last))]
+pub fn tuple_of(alloc: Global, items: Items<Item>) -> Result<Item, ParseFault>
+    ensures { Answers (Ok (spec.tuple_of items)) result }
+{
+    let mut values = Items::new(alloc);
+    let mut types = Items::new(alloc);
+    for item in items.into_vec() {
+        values.add(item.value)?;
+        types.add(item.ty)?;
+    }
+    Ok(Item {
+        value: Value::Tuple(values),
+        ty: Ty::Tuple(types),
+    })
+}
+
+/// Values of one type as a list.
+pub fn list_of(alloc: Global, ty: Ty, values: Values) -> Result<Item, ParseFault>
+    ensures { Answers (Ok (spec.list_of ty values)) result }
+{
+    let of = ty.copy(alloc)?;
+    Ok(Item {
+        value: Value::List(of, values),
+        ty: Ty::List(Boxed::new(alloc, ty)?),
+    })
+}

@@ -1,0 +1,4 @@
+pub mod Within
+pub mod HeadsRead
+pub mod Declarations
+pub mod ValuesRead

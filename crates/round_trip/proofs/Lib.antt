@@ -1,0 +1,9 @@
+pub mod Steps
+pub mod TypesRead
+pub mod Ladder
+pub mod Forms
+pub mod Bracketing
+pub mod Applied
+pub mod Words
+pub mod Tries
+pub mod ExprsRead
