@@ -2,8 +2,11 @@ use crate::read_args;
 use std::alloc::Global;
 use std::test::Fail;
 
-// How many arguments a text is, or none.
+// How many arguments a text of few bytes is, or none.
 fn count(alloc: Global, text: &[u8]) -> Result<Option<usize>, Fail> {
+    if text.len() > 100 {
+        return Ok(None);
+    }
     match read_args(alloc, text)? {
         Some(args) => Ok(Some(args.len())),
         None => Ok(None),
