@@ -37,6 +37,15 @@ impl Model for CheckedChunk {
 }
 
 impl CheckedChunk {
+    /// A chunk that is known to be typed, so that nothing is tested again. Condition: it is typed, well formed and within
+    /// the limits of size. Takes no memory.
+    pub fn of(chunk: Chunk) -> CheckedChunk
+        requires { IsCheckedChunk chunk }
+        ensures { result ≡ chunk }
+    {
+        CheckedChunk { chunk }
+    }
+
     /// The chunk. Takes no memory.
     pub fn chunk(&self) -> &Chunk
         ensures value { result.now ≡ self.now }

@@ -162,7 +162,7 @@ all_behind P xs x h k = All-append P xs (x ∷ []) h (λ i d l. alone P x k i d 
 
 sent_right : (dev : Dev) (k : Chunk) (h : Host) (n : ℕ) (r : Name) → IsGoodChunk k → Yields {A = Unit {0}} (λ _. Unit {0}) (sent dev k h n r)
 sent_right dev k h n r t s g =
-    record { safe = tt; holds = (tt, record { services = g.services; notes = g.notes; outbox = all_behind (λ (p : Sent). IsGoodChunk p.packet.chunk) s.outbox _ g.outbox t }) }
+    record { safe = t; holds = (tt, record { services = g.services; notes = g.notes; outbox = all_behind (λ (p : Sent). IsGoodChunk p.packet.chunk) s.outbox _ g.outbox t }) }
 
 sent_by_right : (hop : Hop) (k : Chunk) (h : Host) (n : ℕ) (r : Name) → IsGoodChunk k → Yields {A = Unit {0}} (λ _. Unit {0}) (sent_by hop k h n r)
 sent_by_right (To via dev) k h n r t = sent_right dev k h n r t

@@ -29,7 +29,7 @@ use Rattle.plan_meaning.specs.declared.binding.Binding.{Binding}
 use Rattle.plan_meaning.specs.declared.sent.Sent.{Sent}
 use Rattle.plan_meaning.specs.declared.stop.Stop.TheVariants.{WorkSpent}
 use Rattle.plan_meaning.specs.State.{VisitState}
-use Rattle.plan_meaning.specs.Run.{Run, ◌>>=◌, ◌>>◌, pure, stop, raise, quiet, gave, or_wrong, wrong, given, rescue, whole, serve}
+use Rattle.plan_meaning.specs.Run.{Run, ◌>>=◌, ◌>>◌, pure, stop, raise, quiet, gave, or_wrong, wrong, given, rescue, whole, serve, sends}
 
 -- ---- what values are taken for
 
@@ -132,7 +132,10 @@ packet s k h n r = record { family = s.family; dest = h; bound = n; route = r; c
 
 -- a packet of this family with that bound, which the purse pays
 abbrev pub sent : Dev → Chunk → Host → ℕ → Name → Run (Unit {0})
-sent dev k h n r = λ s. quiet (gave tt (record s { ctx = record s.ctx { purse = s.ctx.purse - n }; outbox = s.outbox ++ record { dev = dev; packet = packet s k h n r } ∷ [] }))
+sent dev k h n r = λ s. record {
+  after = gave tt (record s { ctx = record s.ctx { purse = s.ctx.purse - n }; outbox = s.outbox ++ record { dev = dev; packet = packet s k h n r } ∷ [] });
+  asks = sends k;
+}
 
 abbrev pub sent_by : Hop → Chunk → Host → ℕ → Name → Run (Unit {0})
 sent_by (To via dev) k h n r = sent dev k h n r

@@ -1,5 +1,6 @@
--- Evaluations: what they give, how they leave the state, and what they ask of services.
+-- Evaluations: what they give, how they leave the state, what they ask of services and which chunks they send.
 use Rattle.std.specs.Prelude.{◌≡◌, ℕ, ◌+◌, ◌-◌, Bool, ◌||◌, if◌then◌else◌, nat_lt, List, [], ◌∷◌, ◌++◌, Option, Some, None}
+use Rattle.plan_base.specs.declared.tree.Chunk.{Chunk}
 use Rattle.plan_base.specs.declared.tree.Exn.{Exn}
 use Rattle.plan_base.specs.declared.tree.Svc.{Svc}
 use Rattle.plan_base.specs.declared.tree.Value.{Value}
@@ -18,11 +19,12 @@ pub data After (A : Type 0) : Type 0 where
   gave : A → VisitState → After A
   stopped : Stop → VisitState → After A
 
--- what an evaluation asks of services; `never` stands where no case of the meaning applies
+-- what an evaluation asks of services and which chunks it sends; `never` stands where no case of the meaning applies
 pub data Asks : Type 0 where
   nothing : Asks
   never : Asks
   service : Svc → List Value → Asks
+  sends : Chunk → Asks
   both : Asks → Asks → Asks
 
 pub record Step (A : Type 0) : Type 0 where

@@ -13,13 +13,14 @@ use Rattle.plan_meaning.specs.declared.sent.Sent.{Sent}
 use Rattle.plan_meaning.specs.declared.stop.Stop.{Stop}
 use Rattle.plan_meaning.specs.declared.stop.Stop.TheVariants.{Wrong}
 use Rattle.plan_meaning.specs.State.{VisitState}
-use Rattle.plan_meaning.specs.Run.{After, gave, stopped, Asks, nothing, never, service, both, Step, Run}
+use Rattle.plan_meaning.specs.Run.{After, gave, stopped, Asks, nothing, never, service, sends, both, Step, Run}
 
--- services are asked only with good arguments of the declared types, and no step is without a case
+-- services are asked only with good arguments of the declared types, only good chunks are sent, and no step is without a case
 abbrev pub IsSafe : Asks → Type 0
 IsSafe nothing = Unit {0}
 IsSafe never = ⊥
 IsSafe (service d args) = AreGoodValues d.params args
+IsSafe (sends k) = IsGoodChunk k
 IsSafe (both a b) = IsSafe a × IsSafe b
 
 -- the values of the notes and the chunks of the packets are typed, are well formed and keep the limits
