@@ -1,4 +1,5 @@
-use plan_base::{Dev, Packet};
+use packet_frame::CheckedPacket;
+use plan_base::Dev;
 use plan_items::Items;
 
 /// A packet that a visit sends, with the device that it leaves by.
@@ -6,8 +7,8 @@ use plan_items::Items;
 pub struct Sent {
     /// The device.
     pub dev: Dev,
-    /// The packet; its bound was paid.
-    pub packet: Packet,
+    /// The packet, whose chunk is typed; its bound was paid.
+    pub packet: CheckedPacket,
 }
 
 /// What a visit sends, in order.
