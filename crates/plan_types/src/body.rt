@@ -1,6 +1,6 @@
 //! An expression by its form, to a depth.
 
-ghost use Rattle.std.specs.Prelude.{◌≡◌};
+ghost use Rattle.std.specs.Prelude.{◌≡◌, ℕ, option_and_then};
 ghost use Rattle.std.specs.Option.{option_copied};
 ghost use Rattle.plan_base.specs.declared.tree.Expr.{out-Expr};
 ghost use Rattle.plan_base.specs.TypingOrder as spec;
@@ -46,6 +46,16 @@ fn variable(
     }
 }
 
+/// The type of the items of an empty list, where a list is wanted.
+fn item_type(alloc: Global, at: u32, want: Option<&Ty>) -> Result<Ty, TypeFault>
+    ensures { (node : ℕ) → Meets (spec.or_refuse (option_and_then spec.items_of (option_copied want.entry)) (TypeFault.NeedsType (Place.Node at)) node) result node }
+{
+    match items_of(want) {
+        Some(item) => Ok(item.copy(alloc)?),
+        None => Err(TypeFault::NeedsType(Place::Node(at))),
+    }
+}
+
 /// An empty list.
 #[tactic(auto, unfolding(plan_base::specs::TypingOrder::empty))]
 fn empty(
@@ -62,14 +72,10 @@ fn empty(
         let ty = list_of(alloc, item.copy(alloc)?)?;
         return shallow(alloc, at, node, want, e.copy(alloc)?, ty);
     }
-    match items_of(want) {
-        Some(item) => {
-            let whole = Expr::Nil(Some(item.copy(alloc)?));
-            let ty = list_of(alloc, item.copy(alloc)?)?;
-            shallow(alloc, at, node, want, whole, ty)
-        }
-        None => Err(TypeFault::NeedsType(Place::Node(at))),
-    }
+    let item = item_type(alloc, at, want)?;
+    let whole = Expr::Nil(Some(item.copy(alloc)?));
+    let ty = list_of(alloc, item)?;
+    shallow(alloc, at, node, want, whole, ty)
 }
 
 /// An exception raised.
