@@ -3,6 +3,7 @@
 
 mod ledger;
 mod node;
+mod outgoing;
 mod runs;
 mod sends;
 mod text;
