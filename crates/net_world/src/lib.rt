@@ -3,6 +3,7 @@
 
 mod ledger;
 mod node;
+mod rows;
 mod runs;
 mod sends;
 mod text;
