@@ -4,6 +4,7 @@
 mod ledger;
 mod node;
 mod outgoing;
+mod rows;
 mod runs;
 mod sends;
 mod text;
