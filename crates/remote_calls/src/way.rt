@@ -1,6 +1,7 @@
 //! Whether a send is paid, and where it leads.
-ghost use Rattle.std.specs.Prelude.{◌≡◌, ◌↔◌, ◌≤◌, IsTrue, false, Err, IfOk};
+ghost use Rattle.std.specs.Prelude.{◌≡◌, ◌↔◌, ◌≤◌, IsTrue, false, Err, IfOk, IsOk};
 ghost use Rattle.plan_base.specs.declared.ids.Host.{Host as AHost};
+ghost use Rattle.plan_base.specs.declared.ids.Dev.{Dev as ADev};
 ghost use Rattle.service_api.specs.Routes.{hop};
 ghost use Rattle.plan_meaning.specs.Meaning as spec;
 ghost use Rattle.plan_meaning.specs.Meaning.{is_paid, bound_of};
@@ -31,6 +32,7 @@ pub fn remote_way(
 ) -> Result<Way, SendFault>
     ensures found { IfOk result (λ w. IsTrue (is_paid n purse.now) × (w.bound ≡ bound_of n) × ((via : AHost) × (hop ctx.entry.now.router route.now ctx.entry.now.here host ≡ Hop.To via w.dev))) }
     ensures small { IfOk result (λ w. w.bound ≤ 65535) }
+    ensures only { (via : AHost) (dev : ADev) → IsTrue (is_paid n purse.now) → hop ctx.entry.now.router route.now ctx.entry.now.here host ≡ Hop.To via dev → IsOk result }
     ensures no_bound { (result ≡ Err SendFault.NoBound) ↔ (is_paid n purse.now ≡ false) }
     ensures no_service { (result ≡ Err SendFault.NoService) ↔ (IsTrue (is_paid n purse.now) × (hop ctx.entry.now.router route.now ctx.entry.now.here host ≡ Hop.NoService)) }
     ensures no_route { (result ≡ Err SendFault.NoRoute) ↔ (IsTrue (is_paid n purse.now) × (hop ctx.entry.now.router route.now ctx.entry.now.here host ≡ Hop.NoRoute)) }
@@ -81,6 +83,7 @@ pub fn neighbour_way(
 ) -> Result<Way, SendFault>
     ensures found { IfOk result (λ w. IsTrue (is_paid n purse.now) × (w.bound ≡ bound_of n) × (w.dev ≡ dev) × IsTrue (leads ctx.entry.now dev host)) }
     ensures small { IfOk result (λ w. w.bound ≤ 65535) }
+    ensures only { IsTrue (is_paid n purse.now) → IsTrue (leads ctx.entry.now dev host) → IsOk result }
     ensures no_bound { (result ≡ Err SendFault.NoBound) ↔ (is_paid n purse.now ≡ false) }
     ensures not_neighbour { (result ≡ Err SendFault.NotNeighbor) ↔ (IsTrue (is_paid n purse.now) × (leads ctx.entry.now dev host ≡ false)) }
 {
