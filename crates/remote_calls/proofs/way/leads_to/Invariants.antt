@@ -1,6 +1,6 @@
-use Rattle.std.proofs.Common.{◌≡◌, List, [], ◌∷◌, length, IsSome, Option, Some, None, option_copied}
+use Rattle.std.proofs.Common.{◌≡◌, length}
 use Rattle.plan_meaning.specs.Meaning as spec
-use Rattle.visit_state.proofs.state.leads_to.Given as goal
+use Rattle.remote_calls.proofs.way.leads_to.Given as goal
 
 abbrev pub invariant-loop-rest : goal.invariant-loop-rest
 invariant-loop-rest l =
