@@ -26,6 +26,7 @@ use Rattle.net_world.specs.Rows.{key_of, family_of, capped, plus, still_live, li
 use Rattle.net_world.specs.contracts.rows.FamilyKeyPartialEq.TheImpl as key_eq
 use Rattle.net_world.specs.contracts.rows.FamilyKeyEq.TheImpl.Laws.{laws-law}
 
+-- the equality of keys, which is that of their families
 abbrev pub same_key : FamilyKey → FamilyKey → Bool
 same_key = (key_eq.ghosts).eq
 
@@ -33,6 +34,7 @@ pub same_key-is : (f g : Family) → same_key (key_of f) (key_of g) ≡ is_famil
 unfolding is_family
 same_key-is f g = refl
 
+-- a row begins with no counts
 abbrev pub nothing : Counts
 nothing = record { granted = 0; hops = 0; evals = 0; left = 0 }
 
@@ -60,6 +62,7 @@ module _ (eq : FamilyKey → FamilyKey → Bool) (same : (f g : Family) → eq (
           ∙ pull (list_any (is_family f) gs)
           ∙ sym (ap (λ b. rows [] (if b || list_any (is_family f) gs then g ∷ gs else g ∷ (gs ++ f ∷ []))) e)
 
+-- the same as `begin_row` needs it
 pub begun : (f : Family) (key : FamilyKey) (old new : List (FamilyKey × Counts)) (fs : List Family) → key ≡ key_of f → new ≡ insert_entry same_key old key nothing → old ≡ rows [] fs → new ≡ rows [] (with_family fs f)
 begun f key old new fs k h e = h ∙ (λ i. insert_entry same_key (e i) (k i) nothing) ∙ insert_row same_key same_key-is fs f
 
@@ -93,6 +96,7 @@ module _ {eq : FamilyKey → FamilyKey → Bool} (laws : IsEquivalence eq) (s : 
       by false t rest = ap (λ b. cond b ((e.0, plus v s.counts) ∷ es) (e ∷ set_value (eq k) es (plus v s.counts))) t
           ∙ (λ i. sym (with_row s e false (sym (is e.0) ∙ t)) i ∷ rest t i)
 
+-- a share goes to the one row of its family, and to none where there is none
 same_key-turned : (f : Family) (k : FamilyKey) → same_key (key_of f) k ≡ is_family (family_of k) f
 same_key-turned f k = laws-law.symm (key_of f) k ∙ same_key-is (family_of k) f
 
@@ -109,6 +113,7 @@ share_left s key old k none = rows_none s (same_key (key_of s.family)) (same_key
 abbrev line_counts : Line → Family → Counts
 line_counts line f = record { granted = line_granted f line; hops = line_hops f line; evals = line_evals f line; left = line_left f line }
 
+-- what a share counts for a family, and what may be a share
 abbrev share_counts : Share → Family → Counts
 share_counts s f = record { granted = only f s.family s.counts.granted; hops = only f s.family s.counts.hops; evals = only f s.family s.counts.evals; left = only f s.family s.counts.left }
 
@@ -156,6 +161,7 @@ plus-nothing history f = λ i. record {
   left = capped-same (left f history) i;
 }
 
+-- a share counts for its own family alone
 share_counts-own : (s : Share) (f : Family) (b : Bool) → is_family f s.family ≡ b → share_counts s f ≡ (if b then s.counts else nothing)
 unfolding only
 share_counts-own s f b h = (λ i. record {
