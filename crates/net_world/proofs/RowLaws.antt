@@ -130,7 +130,7 @@ line_shared (At h (Arrived d)) f = refl
 line_shared (At h (Taken d w)) f = refl
 line_shared (At h SerialsSpent) f = refl
 line_shared (Lost (what.Packet g bound)) f = λ i. record { granted = sym (only-zero f g) i; hops = sym (only-zero f g) i; evals = sym (only-zero f g) i; left = only f g bound }
-line_shared (Wire n) f = refl
+line_shared (Wire n frame) f = refl
 line_shared (Off n) f = refl
 line_shared Nothing f = refl
 
