@@ -1,5 +1,5 @@
-pub mod LedgerLaws
 pub mod NodeLaws
+pub mod RowLaws
 pub mod RunLaws
 pub mod SendLaws
 pub mod StateLaws

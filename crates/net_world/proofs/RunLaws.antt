@@ -1,5 +1,5 @@
 -- Runs of one event more, and fronts of what they write.
-use Rattle.std.proofs.Common.{◌≡◌, ℕ, zero, suc, ◌+◌, ◌-◌, ◌<◌, ◌≤◌, List, [], ◌∷◌, ◌++◌, length, take, drop, get_or, refl, sym, ap, ◌∙◌, append_assoc, arith, subst}
+use Rattle.std.proofs.Common.{Bool, ◌≡◌, ℕ, zero, suc, ◌+◌, ◌-◌, ◌<◌, ◌≤◌, List, [], ◌∷◌, ◌++◌, length, take, drop, get_or, refl, sym, ap, ◌∙◌, append_assoc, arith, subst}
 use Rattle.std.specs.Prelude.{min, codes}
 use Rattle.std.specs.List.{flat_map}
 use Rattle.std.proofs.lemmas.List.Concat.{flat_map-append}
@@ -81,10 +81,10 @@ pub front_so_far : (old mid done rest whole : List ℕ) → mid ≡ old ++ done 
 front_so_far old mid done rest whole a b = record { count = length done; is = a ∙ ap (λ x. old ++ x) (sym (take-append_seam done rest) ∙ ap (take (length done)) (sym b)) }
 
 -- the families of a run are bounded
-pub opening_bounded : (f : Family) (t : Topology) (es : List WorldEvent) → HostsDiffer t.hosts → EventsFit es → IsBounded f (history_of es (opening t)) (world_after es (opening t))
-opening_bounded f t es d b =
-    let g = opening_once_given f t es d b in
-    let law = (opening_balances f t es).law in
+pub opening_bounded : (f : Family) (t : Topology) (shown : Bool) (es : List WorldEvent) → HostsDiffer t.hosts → EventsFit es → IsBounded f (history_of es (opening t shown)) (world_after es (opening t shown))
+opening_bounded f t shown es d b =
+    let g = opening_once_given f t shown es d b in
+    let law = (opening_balances f t shown es).law in
     record { once = g.0; limit = g.1; within = omega arith }
 
 -- before the first event
@@ -147,38 +147,38 @@ pub after_ledger : (w : WorldState) (es : List WorldEvent) (now : WorldState) (h
     → ledger_text history now ≡ ledger_text (history_of es w) (world_after es w)
 after_ledger w es now history a = ap (λ h. ledger_text h now) a.entries_of ∙ ap (ledger_text (history_of es w)) a.world
 
-pub opening_made : (t : Topology) → (opening t).made ≡ 0
+pub opening_made : (t : Topology) (shown : Bool) → (opening t shown).made ≡ 0
 unfolding opening
-opening_made t = refl
+opening_made t shown = refl
 
 -- what is known of a network that begins as the opening
-pub start_sound : (w : WorldState) (t : Topology) → w ≡ opening t → IsSound w
-start_sound w t e = let P : WorldState → Type 0 = λ x. IsSound x in subst P (sym e) (opening_sound t)
+pub start_sound : (w : WorldState) (t : Topology) (shown : Bool) → w ≡ opening t shown → IsSound w
+start_sound w t shown e = let P : WorldState → Type 0 = λ x. IsSound x in subst P (sym e) (opening_sound t shown)
 
-pub start_made : (w : WorldState) (t : Topology) → w ≡ opening t → w.made ≡ 0
-start_made w t e = ap (λ (x : WorldState). x.made) e ∙ opening_made t
+pub start_made : (w : WorldState) (t : Topology) (shown : Bool) → w ≡ opening t shown → w.made ≡ 0
+start_made w t shown e = ap (λ (x : WorldState). x.made) e ∙ opening_made t shown
 
-pub start_law : (w : WorldState) (t : Topology) (es : List WorldEvent) → w ≡ opening t → (f : Family) → Balanced f (history_of es w) (world_after es w)
-start_law w t es e f = let P : WorldState → Type 0 = λ x. Balanced f (history_of es x) (world_after es x) in subst P (sym e) (opening_balances f t es)
+pub start_law : (w : WorldState) (t : Topology) (shown : Bool) (es : List WorldEvent) → w ≡ opening t shown → (f : Family) → Balanced f (history_of es w) (world_after es w)
+start_law w t shown es e f = let P : WorldState → Type 0 = λ x. Balanced f (history_of es x) (world_after es x) in subst P (sym e) (opening_balances f t shown es)
 
-pub start_small : (w : WorldState) (t : Topology) (es : List WorldEvent) → HostsDiffer t.hosts → EventsFit es → w ≡ opening t → (f : Family) → granted f (history_of es w) ≤ 65535
-start_small w t es d b e f = let P : WorldState → Type 0 = λ x. granted f (history_of es x) ≤ 65535 in subst P (sym e) (opening_once_given f t es d b).1
+pub start_small : (w : WorldState) (t : Topology) (shown : Bool) (es : List WorldEvent) → HostsDiffer t.hosts → EventsFit es → w ≡ opening t shown → (f : Family) → granted f (history_of es w) ≤ 65535
+start_small w t shown es d b e f = let P : WorldState → Type 0 = λ x. granted f (history_of es x) ≤ 65535 in subst P (sym e) (opening_once_given f t shown es d b).1
 
-pub start_front : (w : WorldState) (t : Topology) (es : List WorldEvent) (old new : List ℕ) → w ≡ opening t → AppendsFront old new (run_text es w) → AppendsFront old new (run_text es (opening t))
-start_front w t es old new e f = let P : WorldState → Type 0 = λ x. AppendsFront old new (run_text es x) in subst P e f
+pub start_front : (w : WorldState) (t : Topology) (shown : Bool) (es : List WorldEvent) (old new : List ℕ) → w ≡ opening t shown → AppendsFront old new (run_text es w) → AppendsFront old new (run_text es (opening t shown))
+start_front w t shown es old new e f = let P : WorldState → Type 0 = λ x. AppendsFront old new (run_text es x) in subst P e f
 
-pub start_whole : (w : WorldState) (t : Topology) (es : List WorldEvent) (old new : List ℕ) → w ≡ opening t → new ≡ old ++ run_text es w → new ≡ old ++ run_text es (opening t)
-start_whole w t es old new e n = n ∙ ap (λ x. old ++ run_text es x) e
+pub start_whole : (w : WorldState) (t : Topology) (shown : Bool) (es : List WorldEvent) (old new : List ℕ) → w ≡ opening t shown → new ≡ old ++ run_text es w → new ≡ old ++ run_text es (opening t shown)
+start_whole w t shown es old new e n = n ∙ ap (λ x. old ++ run_text es x) e
 
 -- after every prefix of the events
-pub prefix_bounded : (t : Topology) (es : List WorldEvent) → HostsDiffer t.hosts → EventsFit es → (k : ℕ) (f : Family) → IsBounded f (history_of (take k es) (opening t)) (world_after (take k es) (opening t))
-prefix_bounded t es d b k f = opening_bounded f t (take k es) d (All-take event_fits k es b)
+pub prefix_bounded : (t : Topology) (shown : Bool) (es : List WorldEvent) → HostsDiffer t.hosts → EventsFit es → (k : ℕ) (f : Family) → IsBounded f (history_of (take k es) (opening t shown)) (world_after (take k es) (opening t shown))
+prefix_bounded t shown es d b k f = opening_bounded f t shown (take k es) d (All-take event_fits k es b)
 
-pub prefix_granted : (t : Topology) (es : List WorldEvent) → HostsDiffer t.hosts → EventsFit es → (k : ℕ) (f : Family) → IsGranted f (history_of (take k es) (opening t)) (world_after (take k es) (opening t))
-prefix_granted t es d b k f = opening_grants f t (take k es) d (All-take event_fits k es b)
+pub prefix_granted : (t : Topology) (shown : Bool) (es : List WorldEvent) → HostsDiffer t.hosts → EventsFit es → (k : ℕ) (f : Family) → IsGranted f (history_of (take k es) (opening t shown)) (world_after (take k es) (opening t shown))
+prefix_granted t shown es d b k f = opening_grants f t shown (take k es) d (All-take event_fits k es b)
 
-pub prefix_sound : (t : Topology) (es : List WorldEvent) → EventsFit es → (k : ℕ) → IsSound (world_after (take k es) (opening t))
-prefix_sound t es b k = run_sound (take k es) (opening t) (All-take event_fits k es b) (opening_sound t)
+pub prefix_sound : (t : Topology) (shown : Bool) (es : List WorldEvent) → EventsFit es → (k : ℕ) → IsSound (world_after (take k es) (opening t shown))
+prefix_sound t shown es b k = run_sound (take k es) (opening t shown) (All-take event_fits k es b) (opening_sound t shown)
 
 abbrev header : List ℕ
 header = codes "planet trace 1\n"

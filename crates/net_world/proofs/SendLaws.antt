@@ -1,10 +1,14 @@
--- Sends one more, and a device from which nothing is taken.
-use Rattle.std.proofs.Common.{◌≡◌, ℕ, List, [], ◌∷◌, ◌++◌, refl, ap, ◌∙◌}
+-- A packet as it goes on, sends one more, and a device from which nothing is taken.
+use Rattle.std.proofs.Common.{◌≡◌, ◌-◌, ℕ, List, [], ◌∷◌, ◌++◌, refl, ap, ◌∙◌}
 use Rattle.std.specs.Prelude.{slice_set, slice_get, Option, Some, None}
 use Rattle.plan_base.specs.declared.tree.Packet.{Packet}
 use Rattle.plan_meaning.specs.declared.sent.Sent.{Sent}
 use Rattle.world_laws.specs.State.{Queues}
-use Rattle.world_laws.specs.Node.{send_act, send_queues, sends_acts, sends_queues}
+use Rattle.world_laws.specs.Node.{hop_packet, send_act, send_queues, sends_acts, sends_queues}
+
+-- a packet with 1 paid is the one that goes on
+pub as_it_goes : (p : Packet) (bound : ℕ) → p.bound ≡ bound - 1 → p ≡ hop_packet (record p { bound = bound })
+as_it_goes p bound e = ap (λ n. record p { bound = n }) e
 
 pub sends_acts_none : (queues : Queues) → sends_acts queues [] ≡ []
 unfolding sends_acts

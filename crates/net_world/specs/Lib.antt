@@ -1,5 +1,5 @@
-pub mod Counted
 pub mod Queued
+pub mod Rows
 pub mod Running
 pub mod Stands
 pub mod Turns

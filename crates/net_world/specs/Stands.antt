@@ -33,7 +33,7 @@ pub record StepsAt (step : NodeState → Step) (old : List NodeState) (at : ℕ)
 
 -- the network
 abbrev pub world_state : World → WorldState
-world_state w = record { nodes = states w.nodes.items; links = w.links; wire = w.wire; next = w.next; made = w.made }
+world_state w = record { frames = w.frames; nodes = states w.nodes.items; links = w.links; wire = w.wire; next = w.next; made = w.made }
 
 -- the lines of an event are those of its definition, and so is the network afterwards
 pub record IsHappened (event : Happened) (lines : List Line) (new : WorldState) : Type 0 where

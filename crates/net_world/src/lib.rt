@@ -3,6 +3,8 @@
 
 mod ledger;
 mod node;
+mod outgoing;
+mod rows;
 mod runs;
 mod sends;
 mod text;

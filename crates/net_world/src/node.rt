@@ -9,14 +9,16 @@ ghost use Rattle.world_laws.specs.Sound.{NodeFits, PacketFits, comes_fit};
 ghost use Rattle.net_world.specs.Queued.{has_first, TakesFirst};
 ghost use Rattle.net_world.specs.Stands.{node_state, IsStep};
 
+use crate::outgoing::Outgoing;
 use crate::sends::send_one;
 use crate::turns::visit_turn;
 use chunk_types::CheckedChunk;
 use link_queue::Queue;
-use plan_base::{Dev, Family, Host, Name, NoMemory, Packet};
+use packet_frame::CheckedPacket;
+use plan_base::{Dev, Family, Host, Name, NoMemory};
 use plan_items::Items;
-use plan_meaning::Sent;
 use service_api::{Ctx, Hop, Neighbours, Prints, RouteRow, Router};
+use spelled_packet::SpelledPacket;
 use std::alloc::Global;
 use world_laws::{Act, ActList, Acts, Event, Reason, What};
 
@@ -31,7 +33,7 @@ pub struct Node {
     neighbours: Neighbours,
     router: Router,
     services: Prints,
-    queues: Vec<Queue<Packet>>,
+    queues: Vec<Queue<SpelledPacket>>,
     serial: u64,
 }
 
@@ -86,7 +88,7 @@ fn default_route(alloc: Global) -> Result<Name, NoMemory>
 }
 
 /// A queue for each device, with nothing queued.
-fn open_queues(alloc: Global) -> Result<Vec<Queue<Packet>>, NoMemory>
+fn open_queues(alloc: Global) -> Result<Vec<Queue<SpelledPacket>>, NoMemory>
     ensures { IfOk result (λ queues. queues.items ≡ no_queues) }
 {
     let mut queues = Items::new(alloc);
@@ -97,7 +99,7 @@ fn open_queues(alloc: Global) -> Result<Vec<Queue<Packet>>, NoMemory>
 }
 
 /// Whether a frame is queued on a device.
-fn has_frame(queues: &[Queue<Packet>], at: usize) -> bool
+fn has_frame(queues: &[Queue<SpelledPacket>], at: usize) -> bool
     ensures { result ≡ has_first (slice_get queues.now at) }
 {
     match queues.get(at) {
@@ -107,7 +109,7 @@ fn has_frame(queues: &[Queue<Packet>], at: usize) -> bool
 }
 
 /// Takes the first frame of a device off. Condition: a frame is queued there.
-fn take_first(queues: &mut [Queue<Packet>], at: usize) -> Packet
+fn take_first(queues: &mut [Queue<SpelledPacket>], at: usize) -> SpelledPacket
     requires { IsTrue (has_first (slice_get queues.old at)) }
     ensures { TakesFirst queues.old at result queues.new }
 {
@@ -140,13 +142,13 @@ impl Node {
     }
 
     /// What stands around the visit of a packet.
-    fn around(&self, alloc: Global, packet: &Packet) -> Result<Ctx, NoMemory>
+    fn around(&self, alloc: Global, packet: &CheckedPacket) -> Result<Ctx, NoMemory>
         ensures { IfOk result (λ ctx. ctx ≡ around (node_state self.now) packet.now) }
     {
         Ok(Ctx {
             here: self.here,
-            source: packet.family.source,
-            purse: packet.bound,
+            source: packet.family().source,
+            purse: packet.bound(),
             now: 0,
             neighbours: Items::from_slice(alloc, self.neighbours.as_slice())?,
             router: self.router.copy(alloc)?,
@@ -155,7 +157,7 @@ impl Node {
 
     /// The visit of a packet, after an act.
     #[tactic(auto, unfolding(world_laws::specs::Node::visited))]
-    fn visit(&mut self, alloc: Global, first: Act, packet: &Packet) -> Result<Acts, NoMemory>
+    fn visit(&mut self, alloc: Global, first: Act, packet: &CheckedPacket) -> Result<Acts, NoMemory>
         requires node { NodeFits (node_state self.old) }
         requires fits { PacketFits packet.now }
         ensures ok { IfOk result (λ acts. IsStep (spec.visited (first ∷ []) (node_state self.old) packet.now) acts (node_state self.new)) }
@@ -194,13 +196,8 @@ impl Node {
             source: self.here,
             serial: self.serial,
         };
-        let packet = Packet {
-            family,
-            dest: self.here,
-            bound,
-            route: default_route(alloc)?,
-            chunk: chunk.chunk().copy(alloc)?,
-        };
+        let route = default_route(alloc)?;
+        let packet = CheckedPacket::of(family, self.here, bound, route, chunk.copy(alloc)?);
         let acts = self.visit(alloc, Act::Injected(family, bound), &packet)?;
         self.serial += 1;
         Ok(acts)
@@ -211,7 +208,7 @@ impl Node {
         &mut self,
         alloc: Global,
         dev: Dev,
-        packet: &Packet,
+        packet: &CheckedPacket,
         over: Dev,
     ) -> Result<Acts, NoMemory>
         ensures list { IfOk result (λ acts. acts.list ≡ act.Arrived dev ∷ spec.send_act self.old.queues.items (record { dev = over; packet = packet.now }) ∷ []) }
@@ -220,10 +217,7 @@ impl Node {
         ensures err { OnErr result (node_state self.new ≡ node_state self.old) }
     {
         let mut list = Vec::with_capacity(alloc, 2)?;
-        let sent = Sent {
-            dev: over,
-            packet: packet.copy(alloc)?,
-        };
+        let sent = Outgoing::of(alloc, over, packet)?;
         let act = send_one(&mut self.queues, sent);
         list.push_reserved(Act::Arrived(dev));
         list.push_reserved(act);
@@ -239,7 +233,7 @@ impl Node {
         &mut self,
         alloc: Global,
         dev: Dev,
-        packet: &Packet,
+        packet: &CheckedPacket,
         hop: Hop,
     ) -> Result<Acts, NoMemory>
         ensures ok { IfOk result (λ acts. IsStep (spec.forward_by (node_state self.old) dev packet.now hop) acts (node_state self.new)) }
@@ -250,34 +244,35 @@ impl Node {
             Hop::NoService => Reason::NoService,
             Hop::NoRoute => Reason::NoRoute,
         };
-        dropped(alloc, dev, reason, packet.family, packet.bound)
+        dropped(alloc, dev, reason, packet.family(), packet.bound())
     }
 
     /// A packet for another host.
     #[tactic(auto, unfolding(world_laws::specs::Node::forward_step))]
-    fn forward(&mut self, alloc: Global, dev: Dev, packet: &Packet) -> Result<Acts, NoMemory>
+    fn forward(&mut self, alloc: Global, dev: Dev, packet: &CheckedPacket) -> Result<Acts, NoMemory>
         ensures ok { IfOk result (λ acts. IsStep (spec.forward_step (node_state self.old) dev packet.now) acts (node_state self.new)) }
         ensures err { OnErr result (node_state self.new ≡ node_state self.old) }
     {
-        if packet.bound == 0 {
-            return dropped(alloc, dev, Reason::NoBound, packet.family, 0);
+        if packet.bound() == 0 {
+            return dropped(alloc, dev, Reason::NoBound, packet.family(), 0);
         }
-        let hop = self.router.next(&packet.route, self.here, packet.dest);
+        let hop = self.router.next(packet.route(), self.here, packet.dest());
         self.forward_by(alloc, dev, packet, hop)
     }
 
-    /// A frame arrives over a device. Where memory is refused, the node stays.
+    /// A frame arrives over a device: it is read and its chunk checked. Where memory is refused, the node stays.
     #[tactic(auto, unfolding(world_laws::specs::Node::arrive_step))]
-    pub fn arrive(&mut self, alloc: Global, dev: Dev, packet: &Packet) -> Result<Acts, NoMemory>
+    pub fn arrive(&mut self, alloc: Global, dev: Dev, frame: &SpelledPacket) -> Result<Acts, NoMemory>
         requires node { NodeFits (node_state self.old) }
-        requires fits { PacketFits packet.now }
-        ensures ok { IfOk result (λ acts. IsStep (spec.arrive_step (node_state self.old) dev packet.now) acts (node_state self.new)) }
+        requires fits { PacketFits frame.now }
+        ensures ok { IfOk result (λ acts. IsStep (spec.arrive_step (node_state self.old) dev frame.now) acts (node_state self.new)) }
         ensures err { OnErr result (node_state self.new ≡ node_state self.old) }
     {
-        if packet.dest.0 != self.here.0 {
-            return self.forward(alloc, dev, packet);
+        let packet = frame.open(alloc)?;
+        if packet.dest().0 != self.here.0 {
+            return self.forward(alloc, dev, &packet);
         }
-        self.visit(alloc, Act::Arrived(dev), packet)
+        self.visit(alloc, Act::Arrived(dev), &packet)
     }
 
     /// Takes the first frame of a device. Where memory is refused, the node stays.
@@ -295,7 +290,8 @@ impl Node {
             });
         }
         let packet = take_first(&mut self.queues, at);
-        list.push_reserved(Act::Taken(dev, What::Packet(packet.family, packet.bound)));
+        let what = What::Packet(packet.family(), packet.bound());
+        list.push_reserved(Act::Taken(dev, what));
         Ok(Acts {
             list: Items::from_vec(list),
             frame: Some(packet),
@@ -312,7 +308,7 @@ impl Node {
     {
         match event {
             Event::Inject(chunk, bound) => self.inject(alloc, chunk, *bound),
-            Event::Frame(dev, packet) => self.arrive(alloc, *dev, packet),
+            Event::Frame(dev, frame) => self.arrive(alloc, *dev, frame),
             Event::Take(dev) => self.take(alloc, *dev),
         }
     }

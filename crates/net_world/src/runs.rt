@@ -186,12 +186,12 @@ fn run_schedule<K: Sink>(alloc: Global, schedule: &Schedule, out: &mut K) -> Res
     requires hosts { HostsDiffer schedule.now.topology.hosts }
     requires few { length schedule.now.events ≤ 50000 }
     requires fits { EventsFit schedule.now.events }
-    ensures whole { IsTrue K.tells → OnOk result (K.taken out.new ≡ K.taken out.old ++ run_text schedule.now.events (spec.opening schedule.now.topology)) }
-    ensures front { IsTrue K.tells → AppendsFront (K.taken out.old) (K.taken out.new) (run_text schedule.now.events (spec.opening schedule.now.topology)) }
+    ensures whole { IsTrue K.tells → OnOk result (K.taken out.new ≡ K.taken out.old ++ run_text schedule.now.events (spec.opening schedule.now.topology schedule.now.frames)) }
+    ensures front { IsTrue K.tells → AppendsFront (K.taken out.old) (K.taken out.new) (run_text schedule.now.events (spec.opening schedule.now.topology schedule.now.frames)) }
     ensures write { IsErrOf result RunFault.WriteFault → Rose (K.faults out.old) (K.faults out.new) }
     ensures later { K.faults out.old ≤ K.faults out.new }
 {
-    let mut world = World::new(alloc, &schedule.topology)?;
+    let mut world = World::new(alloc, &schedule.topology, schedule.frames)?;
     write_run(alloc, &mut world, schedule.events.as_slice(), out)?;
     Ok(())
 }
@@ -202,14 +202,14 @@ pub fn run<K: Sink>(alloc: Global, schedule: &Schedule, out: &mut K) -> Result<(
     requires hosts { HostsDiffer schedule.now.topology.hosts }
     requires few { length schedule.now.events ≤ 50000 }
     requires fits { EventsFit schedule.now.events }
-    ensures whole { IsTrue K.tells → OnOk result (K.taken out.new ≡ K.taken out.old ++ run_text schedule.now.events (spec.opening schedule.now.topology)) }
-    ensures front { IsTrue K.tells → AppendsFront (K.taken out.old) (K.taken out.new) (run_text schedule.now.events (spec.opening schedule.now.topology)) }
+    ensures whole { IsTrue K.tells → OnOk result (K.taken out.new ≡ K.taken out.old ++ run_text schedule.now.events (spec.opening schedule.now.topology schedule.now.frames)) }
+    ensures front { IsTrue K.tells → AppendsFront (K.taken out.old) (K.taken out.new) (run_text schedule.now.events (spec.opening schedule.now.topology schedule.now.frames)) }
     ensures write { IsErrOf result RunFault.WriteFault → Rose (K.faults out.old) (K.faults out.new) }
     ensures later { K.faults out.old ≤ K.faults out.new }
-    ensures law { (k : ℕ) (f : FamilyOf) → Balanced f (spec.history_of (take k schedule.now.events) (spec.opening schedule.now.topology)) (spec.world_after (take k schedule.now.events) (spec.opening schedule.now.topology)) }
-    ensures bounded { (k : ℕ) (f : FamilyOf) → IsBounded f (spec.history_of (take k schedule.now.events) (spec.opening schedule.now.topology)) (spec.world_after (take k schedule.now.events) (spec.opening schedule.now.topology)) }
-    ensures granted { (k : ℕ) (f : FamilyOf) → IsGranted f (spec.history_of (take k schedule.now.events) (spec.opening schedule.now.topology)) (spec.world_after (take k schedule.now.events) (spec.opening schedule.now.topology)) }
-    ensures sound { (k : ℕ) → IsSound (spec.world_after (take k schedule.now.events) (spec.opening schedule.now.topology)) }
+    ensures law { (k : ℕ) (f : FamilyOf) → Balanced f (spec.history_of (take k schedule.now.events) (spec.opening schedule.now.topology schedule.now.frames)) (spec.world_after (take k schedule.now.events) (spec.opening schedule.now.topology schedule.now.frames)) }
+    ensures bounded { (k : ℕ) (f : FamilyOf) → IsBounded f (spec.history_of (take k schedule.now.events) (spec.opening schedule.now.topology schedule.now.frames)) (spec.world_after (take k schedule.now.events) (spec.opening schedule.now.topology schedule.now.frames)) }
+    ensures granted { (k : ℕ) (f : FamilyOf) → IsGranted f (spec.history_of (take k schedule.now.events) (spec.opening schedule.now.topology schedule.now.frames)) (spec.world_after (take k schedule.now.events) (spec.opening schedule.now.topology schedule.now.frames)) }
+    ensures sound { (k : ℕ) → IsSound (spec.world_after (take k schedule.now.events) (spec.opening schedule.now.topology schedule.now.frames)) }
 {
     run_schedule(alloc, schedule, out)
 }

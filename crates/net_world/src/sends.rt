@@ -2,10 +2,11 @@ ghost use Rattle.std.specs.Prelude.{◌≡◌, ◌∷◌, ◌++◌, map, IfOk, O
 ghost use Rattle.world_laws.specs.declared.acts.Act.TheVariants.{Noted};
 ghost use Rattle.world_laws.specs.Node as spec;
 
+use crate::outgoing::{Outgoing, Outgoings};
 use link_queue::Queue;
-use plan_base::{Dev, Packet};
-use plan_meaning::{Outbox, Sent};
+use plan_base::Dev;
 use service_api::Notes;
+use spelled_packet::SpelledPacket;
 use std::alloc::{AllocError, Global};
 use world_laws::{Act, Reason};
 
@@ -14,7 +15,7 @@ const ROOM: u32 = link_queue::ROOM;
 
 /// Whether a device has room for one more frame.
 #[tactic(auto, unfolding(world_laws::specs::Node::has_room))]
-fn has_room(queues: &[Queue<Packet>], dev: Dev) -> bool
+fn has_room(queues: &[Queue<SpelledPacket>], dev: Dev) -> bool
     ensures { result ≡ spec.has_room queues.now dev }
 {
     match queues.get(dev.0 as usize) {
@@ -23,40 +24,27 @@ fn has_room(queues: &[Queue<Packet>], dev: Dev) -> bool
     }
 }
 
-/// Puts a packet into the queue of a device that has room, with 1 paid for the hop.
+/// Puts a packet into the queue of a device that has room.
 #[tactic(auto, unfolding(world_laws::specs::Node::has_room))]
-fn queue_packet(queues: &mut [Queue<Packet>], dev: Dev, packet: Packet)
+fn queue_packet(queues: &mut [Queue<SpelledPacket>], dev: Dev, packet: SpelledPacket)
     requires { IsTrue (spec.has_room queues.old dev) }
-    ensures { queues.new ≡ spec.queue_push queues.old dev (spec.hop_packet packet) (slice_get queues.old dev.0) }
+    ensures { queues.new ≡ spec.queue_push queues.old dev packet (slice_get queues.old dev.0) }
 {
-    let Packet {
-        family,
-        dest,
-        bound,
-        route,
-        chunk,
-    } = packet;
-    let packet = Packet {
-        family,
-        dest,
-        bound: bound.saturating_sub(1),
-        route,
-        chunk,
-    };
     let _ = queues[dev.0 as usize].push(packet);
 }
 
 /// Queues a packet with the bound less one, or drops it where its device has no room. Takes no memory.
 #[tactic(auto, unfolding(world_laws::specs::Node::send_act, world_laws::specs::Node::send_queues))]
-pub fn send_one(queues: &mut [Queue<Packet>], sent: Sent) -> Act
+pub fn send_one(queues: &mut [Queue<SpelledPacket>], sent: Outgoing) -> Act
     ensures act { result ≡ spec.send_act queues.old sent }
     ensures queues { queues.new ≡ spec.send_queues queues.old sent }
 {
-    let Sent { dev, packet } = sent;
-    let (family, bound) = (packet.family, packet.bound);
+    let (dev, bound) = (sent.dev(), sent.bound());
+    let packet = sent.into_packet();
+    let (family, left) = (packet.family(), packet.bound());
     if has_room(queues, dev) {
         queue_packet(queues, dev, packet);
-        Act::Queued(dev, family, bound.saturating_sub(1))
+        Act::Queued(dev, family, left)
     } else {
         Act::Dropped(Reason::QueueFull, family, bound)
     }
@@ -64,7 +52,7 @@ pub fn send_one(queues: &mut [Queue<Packet>], sent: Sent) -> Act
 
 /// Makes the sends one after the other, and adds their acts. Takes no memory.
 #[tactic(auto, using(crate::proofs::SendLaws::sends_acts_none, crate::proofs::SendLaws::sends_queues_none, crate::proofs::SendLaws::sends_acts_more, crate::proofs::SendLaws::sends_queues_more))]
-pub fn send_all(acts: &mut Vec<Act>, queues: &mut [Queue<Packet>], outbox: Outbox)
+pub fn send_all(acts: &mut Vec<Act>, queues: &mut [Queue<SpelledPacket>], outbox: Outgoings)
     requires { vec_len acts.old + length outbox ≤ vec_capacity acts.old }
     ensures acts { acts.new.items ≡ acts.old.items ++ spec.sends_acts queues.old outbox }
     ensures queues { queues.new ≡ spec.sends_queues queues.old outbox }

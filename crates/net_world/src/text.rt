@@ -3,6 +3,7 @@ ghost use Rattle.std.specs.Fmt.{decimal};
 ghost use Rattle.plan_printer.specs.Printed.{value_text};
 ghost use Rattle.world_laws.specs.Texts as spec;
 
+use hex::encode;
 use plan_base::{Bytes, Dev, Family, Host, NoMemory, Value};
 use plan_meaning::Outcome;
 use plan_printer::print_value;
@@ -312,6 +313,30 @@ fn put_lost(alloc: Global, out: &mut Bytes, f: Family, bound: u32) -> Result<(),
     Ok(())
 }
 
+/// A frame in hex, where it is shown.
+fn put_shown(alloc: Global, out: &mut Bytes, frame: &Option<Bytes>) -> Result<(), NoMemory>
+    ensures { OnOk result (out.new ≡ out.old ++ spec.shown_text frame.now) }
+{
+    if let Some(bytes) = frame {
+        out.add_all(b" ")?;
+        out.add_all(encode(alloc, bytes.as_slice())?.as_bytes())?;
+    }
+    Ok(())
+}
+
+fn put_wired(
+    alloc: Global,
+    out: &mut Bytes,
+    number: u32,
+    frame: &Option<Bytes>,
+) -> Result<(), NoMemory>
+    ensures { OnOk result (out.new ≡ out.old ++ (codes "wire " ++ (decimal number ++ spec.shown_text frame.now))) }
+{
+    put_numbered(alloc, out, b"wire ", number)?;
+    put_shown(alloc, out, frame)?;
+    Ok(())
+}
+
 /// A line without its number.
 #[tactic(auto, unfolding(world_laws::specs::Texts::line_text))]
 fn put_line_text(alloc: Global, out: &mut Bytes, line: &Line) -> Result<(), NoMemory>
@@ -319,7 +344,7 @@ fn put_line_text(alloc: Global, out: &mut Bytes, line: &Line) -> Result<(), NoMe
 {
     match line {
         Line::At(host, act) => put_act_text(alloc, out, *host, act)?,
-        Line::Wire(number) => put_numbered(alloc, out, b"wire ", *number)?,
+        Line::Wire(number, frame) => put_wired(alloc, out, *number, frame)?,
         Line::Off(number) => put_numbered(alloc, out, b"off ", *number)?,
         Line::Lost(What::Packet(f, bound)) => put_lost(alloc, out, *f, *bound)?,
         Line::Nothing => out.add_all(b"nothing")?,

@@ -5,22 +5,25 @@ ghost use Rattle.world_laws.specs.Visits.{visit_of, services_after};
 ghost use Rattle.world_laws.specs.Node as spec;
 ghost use Rattle.net_world.specs.Turns.{IsOpen, closed, is_spent as spent};
 
+use crate::outgoing::{Outgoings, spelled};
 use crate::sends::{begin_acts, send_all};
 use link_queue::Queue;
-use plan_base::{NoMemory, Packet};
+use packet_frame::CheckedPacket;
+use plan_base::NoMemory;
 use plan_eval::visit;
 use plan_items::Items;
-use plan_meaning::{Outbox, Outcome, Visit};
+use plan_meaning::{Outcome, Visit};
 use service_api::{Ctx, Services};
+use spelled_packet::SpelledPacket;
 use std::alloc::Global;
 use world_laws::{Act, ActList};
 
 /// A visit that was made, of which nothing stands yet: the acts up to its end with room for those of
-/// its sends, its sends, and whether its work was spent.
+/// its sends, its sends as they go on, and whether its work was spent.
 #[derive(Drop)]
 struct Turn {
     acts: Vec<Act>,
-    outbox: Outbox,
+    outbox: Outgoings,
     is_spent: bool,
 }
 
@@ -40,7 +43,7 @@ fn open_turn<S: Services>(
     alloc: Global,
     services: &mut S,
     ctx: &Ctx,
-    packet: &Packet,
+    packet: &CheckedPacket,
     first: Act,
 ) -> Result<Turn, NoMemory>
     requires fits { PacketFits packet.now }
@@ -62,7 +65,8 @@ fn open_turn<S: Services>(
         work: _work,
     } = visit(alloc, packet, services, ctx)?;
     let is_spent = is_spent(&outcome);
-    let end = Act::Ended(packet.family, outcome, evals, left);
+    let end = Act::Ended(packet.family(), outcome, evals, left);
+    let outbox = spelled(alloc, outbox)?;
     let acts = begin_acts(alloc, first, notes, end, outbox.len())?;
     services.ready(alloc)?;
     Ok(Turn {
@@ -92,9 +96,9 @@ pub fn visit_turn<S: Services>(
     alloc: Global,
     services: &mut S,
     ctx: &Ctx,
-    queues: &mut [Queue<Packet>],
+    queues: &mut [Queue<SpelledPacket>],
     first: Act,
-    packet: &Packet,
+    packet: &CheckedPacket,
 ) -> Result<ActList, NoMemory>
     requires fits { PacketFits packet.now }
     requires bound { ctx.now.purse ≡ packet.now.bound }

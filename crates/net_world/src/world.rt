@@ -10,10 +10,11 @@ ghost use Rattle.net_world.specs.Stands.{node_state, states, world_state, StepsA
 
 use crate::node::Node;
 use chunk_types::CheckedChunk;
-use plan_base::{Dev, Host, NoMemory, Packet};
+use plan_base::{Bytes, Dev, Host, NoMemory};
 use plan_items::Items;
 use schedule_text::{HostSpec, Links, Topology, WorldEvent};
 use service_api::Neighbours;
+use spelled_packet::SpelledPacket;
 use std::alloc::Global;
 use world_laws::{ActList, Acts, Line, Lines, LinkEnd, What, Wire, Wired};
 
@@ -23,10 +24,11 @@ const WIRE_ROOM: usize = 4096;
 /// The number of devices of a node that links may use.
 const LINK_DEVICES: u32 = 8;
 
-/// A network: its nodes, its links, the frames on the wire, the number of the next frame and the
-/// number of events so far.
+/// A network: whether its lines show frames, its nodes, its links, the frames on the wire, the number of
+/// the next frame and the number of events so far.
 #[derive(Drop)]
 pub struct World {
+    frames: bool,
     nodes: Vec<Node>,
     links: Links,
     wire: Wire,
@@ -150,7 +152,7 @@ fn arrive_at(
     nodes: &mut [Node],
     at: usize,
     dev: Dev,
-    packet: &Packet,
+    packet: &SpelledPacket,
 ) -> Result<Acts, NoMemory>
     requires within { at < length nodes.old }
     requires nodes { All NodeFits (states nodes.old) }
@@ -175,6 +177,22 @@ fn wire_place(wire: &[Wired], number: u32) -> Option<usize>
     ensures within { IfSome result (λ at. at < length wire.now) }
 {
     wire.iter().position(|x| x.number == number)
+}
+
+/// The bytes of a packet's frame, where frames are shown.
+fn shown_frame(
+    alloc: Global,
+    frames: bool,
+    packet: &SpelledPacket,
+) -> Result<Option<Bytes>, NoMemory>
+    ensures { IfOk result (λ bytes. bytes ≡ spec.shown_frame frames packet.now) }
+{
+    if !frames {
+        return Ok(None);
+    }
+    let mut bytes = Bytes::new(alloc);
+    bytes.add_all(packet.bytes())?;
+    Ok(Some(bytes))
 }
 
 /// Adds the neighbour on a device, where there is one.
@@ -210,14 +228,15 @@ fn neighbours_of(
 
 impl World {
     /// The network of a topology, in which every node has serial 1, nothing queued and nothing on
-    /// the wire.
+    /// the wire; and whether its lines show frames.
     #[tactic(auto, unfolding(world_laws::specs::World::opening))]
-    pub fn new(alloc: Global, t: &Topology) -> Result<World, NoMemory>
-        ensures { IfOk result (λ w. world_state w ≡ spec.opening t.now) }
+    pub fn new(alloc: Global, t: &Topology, frames: bool) -> Result<World, NoMemory>
+        ensures { IfOk result (λ w. world_state w ≡ spec.opening t.now frames) }
     {
         let links = Items::from_slice(alloc, t.links.as_slice())?;
         let nodes = open_nodes(alloc, links.as_slice(), t.hosts.as_slice())?;
         Ok(World {
+            frames,
             nodes,
             links,
             wire: Items::new(alloc),
@@ -273,7 +292,7 @@ impl World {
             return nothing(alloc);
         };
         let mut lines = lines_at(alloc, host, list)?;
-        lines.add(Line::Wire(self.next))?;
+        lines.add(Line::Wire(self.next, shown_frame(alloc, self.frames, &packet)?))?;
         let from = LinkEnd { host, dev };
         let number = self.next;
         self.wire.add(Wired {
@@ -315,7 +334,8 @@ impl World {
         let lost = self.wire.remove(place);
         let mut lines = Items::new(alloc);
         lines.add(Line::Off(lost.number))?;
-        lines.add(Line::Lost(What::Packet(lost.packet.family, lost.packet.bound)))?;
+        let what = What::Packet(lost.packet.family(), lost.packet.bound());
+        lines.add(Line::Lost(what))?;
         Ok(lines)
     }
 

@@ -7,7 +7,9 @@ use Rattle.plan_base.specs.declared.tree.Program.{Program}
 use Rattle.plan_base.specs.declared.tree.Value.{Value}
 use Rattle.plan_base.specs.Trees.{ExprLayer}
 use Rattle.plan_meaning.specs.declared.stop.Stop.{Stop}
-use Rattle.plan_meaning.specs.State.{VisitState}
+use Rattle.service_api.specs.Services.{Standing}
+use Rattle.plan_meaning.specs.Meaning.{Env}
+use Rattle.plan_meaning.specs.State.{VisitState, Own, joined}
 use Rattle.plan_meaning.specs.Run.{gave, quiet, weighed}
 use Rattle.plan_meaning.specs.Safe.{IsSafe}
 use Rattle.plan_eval.specs.declared.frame.Frame.TheVariants as frame
@@ -15,7 +17,7 @@ use Rattle.plan_eval.specs.declared.frame.Activation.{Activation}
 use Rattle.plan_eval.specs.declared.next.Next.{Next}
 use Rattle.plan_eval.specs.Stack.{Spot, resume, spot_in}
 use Rattle.plan_eval.specs.Leads.{Leads}
-use Rattle.plan_eval.specs.Nexts.{Decides, part_gave, fold_on, call_of}
+use Rattle.plan_eval.specs.Nexts.{Decides, part_gave, fold_on, call_of, RemoteIsSafe, NeighbourIsSafe}
 use Rattle.plan_eval.specs.Turns.{IsAt, spot_at}
 use Rattle.plan_eval.proofs.Leading.{given_on}
 use Rattle.plan_eval.proofs.Delivering.{part_given, item_given}
@@ -66,13 +68,31 @@ pub by_item : (code : Program) (seen : ℕ) (at : Spot) (left : List Value) (v :
     → Decides code seen at (fold_on code seen at v left s) r t → Decides code seen at (resume code seen at (frame.Items left) (quiet (gave v s))) r t
 by_item code seen at left v s r t h = carries_from code seen at _ _ r t (item_given code seen at s left v) h
 
--- the arguments of a call are good where its expression is safe
-pub safe_call : (codes : List Program) (a : Activation) (code : Program) (g : Fun) (e : Expr) (n : ℕ) (held : List Value) (v : Value) (s : VisitState)
+-- ---- what a part that gave a value lets its expression do
+
+-- where the frame's evaluation is safe, so is the expression's
+pub safe_part : (codes : List Program) (a : Activation) (code : Program) (g : Fun) (e : Expr) (n : ℕ) (held : List Value) (v : Value) (s : VisitState)
     → IsAt codes a code g e → IsSome (spot_in codes a)
     → ((c : Program) (at : Spot) → slice_get codes a.code ≡ Some c → spot_in codes a ≡ Some at → IsSafe (resume c a.fun at (frame.Part n held) (quiet (gave v s))).asks)
-    → (f : Name) (es : List Expr) → out-Expr e ≡ Expr-F.Call f es → drop (n + 1) es ≡ [] → IsSafe (call_of code a.fun f (held ++ v ∷ []) s).asks
-safe_call codes a code g e n held v s here linked safe f es form done =
+    → (env : Env) × IsSafe (part_gave code a.fun (record { expr = e; env = env }) n held v s).asks
+safe_part codes a code g e n held v s here linked safe =
     let stands = stands_at codes a code g e here linked in
     let at = spot_at g a.frames stands.0 e in
-    (last_of_call code a.fun e at.env s f es n held v form done).safe
-    ((part_given code a.fun at s (out-Expr e) n held v).safe (safe code at here.program stands.2))
+    (at.env, (part_given code a.fun at s (out-Expr e) n held v).safe (safe code at here.program stands.2))
+
+module _ (code : Program) (seen : ℕ) (e : Expr) (n : ℕ) (held : List Value) (v : Value) (o : Own) (t : Standing)
+    (safe : (env : Env) × IsSafe (part_gave code seen (record { expr = e; env = env }) n held v (joined o t)).asks) where
+  -- a call with all its arguments
+  pub safe_call : (f : Name) (es : List Expr) → out-Expr e ≡ Expr-F.Call f es → drop (n + 1) es ≡ [] → IsSafe (call_of code seen f (held ++ v ∷ []) (joined o t)).asks
+  safe_call f es form done = (last_of_call code seen e safe.0 (joined o t) f es n held v form done).safe safe.1
+
+  -- sends with all their parts
+  pub safe_remote : (a h b : Expr) (r : Name) → out-Expr e ≡ Expr-F.OnRemote a h b r → (c w : Value) (more : List Value) → held ≡ c ∷ w ∷ more → RemoteIsSafe r c w v o
+  safe_remote a h b r form c w more has k host i is there much =
+      let all = rw (form, has, is, there, much) at safe.1 in
+      (t, all.0.1.1.1.0)
+
+  pub safe_neighbour : (a h b d : Expr) → out-Expr e ≡ Expr-F.OnNeighbor a h b d → (c w u : Value) (more : List Value) → held ≡ c ∷ w ∷ u ∷ more → NeighbourIsSafe c w u v o
+  safe_neighbour a h b d form c w u more has k host i dev is there much way =
+      let all = rw (form, has, is, there, much, way) at safe.1 in
+      (t, all.0.1.1.1.1.0)

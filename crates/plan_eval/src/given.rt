@@ -1,14 +1,12 @@
 //! What an open expression does when a part has given a value, or an activation on top has.
-ghost use Rattle.std.specs.Prelude.{◌≡◌, ◌≤◌, ◌+◌, ◌∷◌, ◌++◌, [], List, drop, IsSome, Some, slice_get};
-ghost use Rattle.plan_base.specs.declared.name.Name.{Name};
-ghost use Rattle.plan_base.specs.declared.tree.Expr.{Expr, Expr-F, out-Expr};
+ghost use Rattle.std.specs.Prelude.{◌≡◌, ◌≤◌, IsSome, Some, slice_get};
 ghost use Rattle.plan_base.specs.declared.tree.Program.{Program};
 ghost use Rattle.plan_meaning.specs.State.{joined};
 ghost use Rattle.plan_meaning.specs.Run.{gave, quiet};
 ghost use Rattle.plan_meaning.specs.Meaning.{Env};
 ghost use Rattle.plan_meaning.specs.Safe.{IsSafe};
 ghost use Rattle.plan_eval.specs.Stack.{Spot, resume, spot_in};
-ghost use Rattle.plan_eval.specs.Nexts.{Decides, IsDone, part_gave, call_of};
+ghost use Rattle.plan_eval.specs.Nexts.{Decides, IsDone, part_gave};
 
 use crate::fold::{item_gave, left_part, right_part};
 use crate::frame::{Activation, Frame};
@@ -38,8 +36,7 @@ fn after_part<S: Services>(
     svc: &mut S,
 ) -> Result<Next, Stop>
     requires open { IsSome (S.stands svc.old).begun }
-    requires safe { (f : Name) (es : List Expr) → out-Expr e.now ≡ Expr-F.Call f es → drop (n + 1) es ≡ []
-        → IsSafe (call_of code.now seen f (held ++ v ∷ []) (joined state.old (S.stands svc.old))).asks }
+    requires safe { (env : Env) × IsSafe (part_gave code.now seen (record { expr = e.now; env = env }) n held v (joined state.old (S.stands svc.old))).asks }
     ensures decides { (env : Env) → Decides code.now seen (record { expr = e.now; env = env })
         (part_gave code.now seen (record { expr = e.now; env = env }) n held v (joined state.old (S.stands svc.old)))
         result (joined state.new (S.stands svc.new)) }
@@ -71,7 +68,7 @@ fn after_part<S: Services>(
 }
 
 /// What an activation does when its innermost frame, which is off it, is given a value.
-#[tactic(auto, using(crate::proofs::Naming::at_place, crate::proofs::Giving::by_part, crate::proofs::Giving::safe_call, crate::proofs::Delivering::last_given, crate::proofs::Delivering::bound_given, crate::proofs::Delivering::body_given, crate::proofs::Delivering::chunk_given, crate::proofs::Giving::by_item))]
+#[tactic(auto, using(crate::proofs::Naming::at_place, crate::proofs::Giving::by_part, crate::proofs::Delivering::last_given, crate::proofs::Delivering::bound_given, crate::proofs::Delivering::body_given, crate::proofs::Delivering::chunk_given, crate::proofs::Giving::by_item))]
 pub fn give_top<S: Services>(
     alloc: Global,
     codes: &[Program],

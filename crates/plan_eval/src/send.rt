@@ -7,7 +7,7 @@ ghost use Rattle.service_api.specs.Services.{Standing};
 ghost use Rattle.plan_meaning.specs.State.{joined};
 ghost use Rattle.plan_meaning.specs.Meaning as spec;
 ghost use Rattle.plan_eval.specs.declared.frame.Frame.TheVariants as frame;
-ghost use Rattle.plan_eval.specs.Nexts.{Continues};
+ghost use Rattle.plan_eval.specs.Nexts.{Continues, RemoteIsSafe, NeighbourIsSafe};
 
 use crate::frame::Frame;
 use crate::next::Next;
@@ -61,6 +61,7 @@ fn send_remote(
     v: &Value,
     state: &mut State,
 ) -> Result<Next, Stop>
+    requires safe { RemoteIsSafe r.now c.now w.now v.now state.old }
     ensures decides { (code : Program) (seen : ℕ) (a h b : Expr) (n : ℕ) (held : List Value) (s : Standing)
         → Continues code seen (Expr-F.OnRemote a h b r.now) n (c.now ∷ w.now ∷ held) v.now (joined state.old s) result (joined state.new s) }
     ensures falls { state.new.work ≤ state.old.work }
@@ -87,6 +88,7 @@ pub fn remote_part(
     v: Value,
     state: &mut State,
 ) -> Result<Next, Stop>
+    requires safe { (c w : Value) (more : List Value) → held ≡ c ∷ w ∷ more → RemoteIsSafe r.now c w v state.old }
     ensures decides { (code : Program) (seen : ℕ) (a h b : Expr) (n : ℕ) (s : Standing)
         → Continues code seen (Expr-F.OnRemote a h b r.now) n held v (joined state.old s) result (joined state.new s) }
     ensures falls { state.new.work ≤ state.old.work }
@@ -121,6 +123,7 @@ fn send_neighbour(
     v: &Value,
     state: &mut State,
 ) -> Result<Next, Stop>
+    requires safe { NeighbourIsSafe c.now w.now u.now v.now state.old }
     ensures decides { (code : Program) (seen : ℕ) (a h b d : Expr) (n : ℕ) (held : List Value) (s : Standing)
         → Continues code seen (Expr-F.OnNeighbor a h b d) n (c.now ∷ w.now ∷ u.now ∷ held) v.now (joined state.old s) result (joined state.new s) }
     ensures falls { state.new.work ≤ state.old.work }
@@ -149,6 +152,7 @@ pub fn neighbour_part(
     v: Value,
     state: &mut State,
 ) -> Result<Next, Stop>
+    requires safe { (c w u : Value) (more : List Value) → held ≡ c ∷ w ∷ u ∷ more → NeighbourIsSafe c w u v state.old }
     ensures decides { (code : Program) (seen : ℕ) (a h b d : Expr) (n : ℕ) (s : Standing)
         → Continues code seen (Expr-F.OnNeighbor a h b d) n held v (joined state.old s) result (joined state.new s) }
     ensures falls { state.new.work ≤ state.old.work }

@@ -1,6 +1,5 @@
 //! The visit of a packet.
 ghost use Rattle.std.specs.Prelude.{◌≡◌, ◌+◌, ◌≤◌, ◌∷◌, [], length, IfOk, IsSome};
-ghost use Rattle.service_api.specs.Services.{IsGoodChunk};
 ghost use Rattle.plan_meaning.specs.Visit.{IsVisit, allowance, bounds, spent};
 ghost use Rattle.plan_meaning.specs.State.{joined};
 ghost use Rattle.plan_meaning.specs.Meaning.{meaning, visited};
@@ -11,7 +10,8 @@ ghost use Rattle.plan_eval.specs.Turns.{entry};
 use crate::frame::{Activation, Activations, Codes};
 use crate::machine::run;
 use crate::place::enters;
-use plan_base::{Chunk, NoMemory, Packet, Value, copy_values, place_of};
+use packet_frame::CheckedPacket;
+use plan_base::{Chunk, NoMemory, Value, copy_values, place_of};
 use plan_items::Items;
 use plan_meaning::{Outcome, Stop, Visit};
 use service_api::{Ctx, Services};
@@ -80,17 +80,15 @@ fn visited<S: Services>(
 }
 
 /// What the visit of a packet ends with, on a stack of its own: nothing recurses over expressions, calls or evals.
-/// Conditions: its chunk is typed and well formed, the purse of the surroundings is its bound, which is at most 65,535, there
-/// are at most 8 neighbours, and a `begin` is open. After `WorkSpent` and `NoMemory` the caller abandons.
+/// Conditions: the purse of the surroundings is its bound, there are at most 8 neighbours, and a `begin` is open. After
+/// `WorkSpent` and `NoMemory` the caller abandons.
 pub fn visit<S: Services>(
     alloc: Global,
-    p: &Packet,
+    p: &CheckedPacket,
     svc: &mut S,
     ctx: &Ctx,
 ) -> Result<Visit, NoMemory>
-    requires good { IsGoodChunk p.now.chunk }
     requires bound { ctx.now.purse ≡ p.now.bound }
-    requires small { p.now.bound ≤ 65535 }
     requires near { length ctx.now.neighbours ≤ 8 }
     requires open { IsSome (S.stands svc.old).begun }
     ensures visits { IfOk result (λ r. IsVisit allowance p.now.chunk ctx.entry.now p.now.family (S.stands svc.old) r (S.stands svc.new)) }
@@ -98,12 +96,14 @@ pub fn visit<S: Services>(
     ensures begun { (S.stands svc.new).begun ≡ (S.stands svc.old).begun }
     ensures balance { IfOk result (λ r. r.evals + r.left + bounds r.outbox ≡ p.now.bound) }
 {
+    let bound = p.bound();
+    let chunk = p.chunk().chunk();
     let around = ctx.copy(alloc)?;
-    let mut state = State::new(alloc, around, p.family, ALLOWANCE);
-    match visited(alloc, &p.chunk, &mut state, svc) {
+    let mut state = State::new(alloc, around, p.family(), ALLOWANCE);
+    match visited(alloc, chunk, &mut state, svc) {
         Ok(v) => Ok(state.ended(Outcome::Value(v))),
         Err(Stop::Raised(x)) => Ok(state.ended(Outcome::Raised(x))),
-        Err(Stop::WorkSpent) => Ok(spent(alloc, p.bound)),
+        Err(Stop::WorkSpent) => Ok(spent(alloc, bound)),
         Err(Stop::NoMemory) => Err(NoMemory),
         Err(Stop::Wrong) => unreachable!(),
     }

@@ -47,13 +47,13 @@ asked_outcome : (words : List (List ℕ)) (files : FileMap) (s : Schedule) (r : 
 asked_outcome words files s r =
     ap (λ q. answered q files) r.asked ∙ ap (λ o. outcome_at schedule_limit schedule_refusal schedule_output o) r.there
 
-output_said : (bytes : List ℕ) (s : Schedule) → schedule_of bytes ≡ Ok s → schedule_output bytes ≡ run_text s.events (opening s.topology)
+output_said : (bytes : List ℕ) (s : Schedule) → schedule_of bytes ≡ Ok s → schedule_output bytes ≡ run_text s.events (opening s.topology s.frames)
 unfolding schedule_output
 output_said bytes s e = ap output_in e
 
 -- the whole output of a replay is the run of its schedule
 pub replay_output : (words : List (List ℕ)) (files : FileMap) (s : Schedule) → IsReplayOf words files s → IsWhole (outcome_of words files)
-    → output_of (outcome_of words files) ≡ run_text s.events (opening s.topology)
+    → output_of (outcome_of words files) ≡ run_text s.events (opening s.topology s.frames)
 replay_output words files s r h =
     let e = asked_outcome words files s r in
     let P : Outcome → Type 0 = λ o. IsWhole o in
@@ -65,10 +65,10 @@ replay_ledger words files s r =
     let keeps = schedule_keeps r.bytes s r.says in
     let fits = events_fit s keeps in
     record {
-      balance = λ k f. opening_balances f s.topology (take k s.events);
-      bounded = λ k f. opening_bounded f s.topology (take k s.events) (hosts_differ s keeps) (All-take event_fits k s.events fits);
-      granted = λ k f. opening_grants f s.topology (take k s.events) (hosts_differ s keeps) (All-take event_fits k s.events fits);
-      sound = λ k. run_sound (take k s.events) (opening s.topology) (All-take event_fits k s.events fits) (opening_sound s.topology);
+      balance = λ k f. opening_balances f s.topology s.frames (take k s.events);
+      bounded = λ k f. opening_bounded f s.topology s.frames (take k s.events) (hosts_differ s keeps) (All-take event_fits k s.events fits);
+      granted = λ k f. opening_grants f s.topology s.frames (take k s.events) (hosts_differ s keeps) (All-take event_fits k s.events fits);
+      sound = λ k. run_sound (take k s.events) (opening s.topology s.frames) (All-take event_fits k s.events fits) (opening_sound s.topology s.frames);
     }
 
 checked_outcome : (words : List (List ℕ)) (files : FileMap) (p : Program) (c : IsCheckOf words files p) → outcome_of words files ≡ judged program_limit program_refusal program_output c.bytes

@@ -21,7 +21,7 @@ pub record IsReplayOf (words : List (List ℕ)) (files : FileMap) (s : Schedule)
 -- after every number of events: what was granted is what was paid, is live or was left; no family has more than one grant,
 -- nor paid and live more than it; only granted families have packets; and the network is sound, so the chunk of every packet is typed
 pub record KeepsLedger (s : Schedule) : Type 0 where
-  pub balance : (k : ℕ) (f : Family) → Balanced f (history_of (take k s.events) (opening s.topology)) (world_after (take k s.events) (opening s.topology))
-  pub bounded : (k : ℕ) (f : Family) → IsBounded f (history_of (take k s.events) (opening s.topology)) (world_after (take k s.events) (opening s.topology))
-  pub granted : (k : ℕ) (f : Family) → IsGranted f (history_of (take k s.events) (opening s.topology)) (world_after (take k s.events) (opening s.topology))
-  pub sound : (k : ℕ) → IsSound (world_after (take k s.events) (opening s.topology))
+  pub balance : (k : ℕ) (f : Family) → Balanced f (history_of (take k s.events) (opening s.topology s.frames)) (world_after (take k s.events) (opening s.topology s.frames))
+  pub bounded : (k : ℕ) (f : Family) → IsBounded f (history_of (take k s.events) (opening s.topology s.frames)) (world_after (take k s.events) (opening s.topology s.frames))
+  pub granted : (k : ℕ) (f : Family) → IsGranted f (history_of (take k s.events) (opening s.topology s.frames)) (world_after (take k s.events) (opening s.topology s.frames))
+  pub sound : (k : ℕ) → IsSound (world_after (take k s.events) (opening s.topology s.frames))

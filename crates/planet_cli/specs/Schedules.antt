@@ -21,7 +21,7 @@ refusal_in (Err faults.NoMemory) = None
 
 -- the trace and the ledger of what was read
 abbrev pub output_in : Result Schedule LineFault → List ℕ
-output_in (Ok s) = run_text s.events (opening s.topology)
+output_in (Ok s) = run_text s.events (opening s.topology s.frames)
 output_in (Err fault) = []
 
 -- the first refusal of a schedule

@@ -26,9 +26,9 @@ fn run_read<K: Sink>(alloc: Global, schedule: &Schedule, out: &mut K) -> Result<
     requires { KeepsRules schedule.now }
     ensures unrefused { IfStoppedRefused result (λ _. ⊥) }
     ensures whole { IsTrue K.tells
-        → OnOk result (K.taken out.new ≡ K.taken out.old ++ run_text schedule.now.events (opening schedule.now.topology)) }
+        → OnOk result (K.taken out.new ≡ K.taken out.old ++ run_text schedule.now.events (opening schedule.now.topology schedule.now.frames)) }
     ensures front { IsTrue K.tells
-        → AppendsFront (K.taken out.old) (K.taken out.new) (run_text schedule.now.events (opening schedule.now.topology)) }
+        → AppendsFront (K.taken out.old) (K.taken out.new) (run_text schedule.now.events (opening schedule.now.topology schedule.now.frames)) }
     ensures write_fault { IsErrOf result Stop.WriteFault → Rose (K.faults out.old) (K.faults out.new) }
     ensures later { K.faults out.old ≤ K.faults out.new }
 {

@@ -29,6 +29,36 @@ ledger\n\
 1.1 granted 5 hops 1 evals 0 live 0 left 4\n\
 end\n";
 
+pub const FIRST_RUN_WITH_FRAMES: &[u8] = b"planet schedule 1\n\
+frames\n\
+host 1\n\
+host 2\n\
+link 1 1 2 1\n\
+program hello\n\
+svc print : (string) -> unit\n\
+fun hi() : unit = print(\"hi\")\n\
+fun go() : unit = print(\"go\"); OnNeighbor(|hi|(), @2, 2, %1)\n\
+end program\n\
+events\n\
+inject 1 hello go 5 ()\n\
+send 1 1\n\
+deliver 1\n";
+
+pub const FIRST_RUN_WITH_FRAMES_OUTPUT: &[u8] = b"planet trace 1\n\
+1 inject @1 1.1 bound 5\n\
+1 print @1 \"go\"\n\
+1 value @1 1.1 () evals 0 left 3\n\
+1 queue @1 %1 1.1 bound 1\n\
+2 send @1 %1 1.1\n\
+2 wire 1 504c414e010100000001000000000000000100000002000000010c64656661756c74526f75746501057072696e74010400000202686900002b057072696e7401240002686902676f00002e2b057072696e7401240002676f3b38026869002600000002220000000000000002270000000102686900\n\
+3 off 1\n\
+3 arrive @2 %1\n\
+3 print @2 \"hi\"\n\
+3 value @2 1.1 () evals 0 left 1\n\
+ledger\n\
+1.1 granted 5 hops 1 evals 0 live 0 left 4\n\
+end\n";
+
 pub const FIRST_RUN_LOST: &[u8] = b"planet schedule 1\n\
 host 1\n\
 host 2\n\

@@ -71,6 +71,10 @@ fn on_bytes(alloc: Global, command: &str, bytes: &[u8]) -> Result<(u8, MemSink, 
 fn schedules_give_their_output(rt: HostRuntime) -> Result<(), Fail> {
     for (schedule, output) in [
         (rows::FIRST_RUN, rows::FIRST_RUN_OUTPUT),
+        (
+            rows::FIRST_RUN_WITH_FRAMES,
+            rows::FIRST_RUN_WITH_FRAMES_OUTPUT,
+        ),
         (rows::FIRST_RUN_LOST, rows::FIRST_RUN_LOST_OUTPUT),
         (
             rows::REORDERED_DELIVERIES,

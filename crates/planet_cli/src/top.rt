@@ -90,7 +90,7 @@ pub fn planet<F: Files, K: Sink, N: Sink, L: Link, C: Clock, P: Spawner>(
         → (s : Schedule)
         → IsReplayOf words.now (F.files files.old) s
         → result.cause ≡ Cause.Done
-        → K.taken out.new ≡ K.taken out.old ++ run_text s.events (opening s.topology) }
+        → K.taken out.new ≡ K.taken out.old ++ run_text s.events (opening s.topology s.frames) }
     ensures ledger { IsTrue F.tells → (s : Schedule) → IsReplayOf words.now (F.files files.old) s → KeepsLedger s }
     // The same of `check`: where it is done it wrote the sizes of its typed program.
     ensures checked { IsTrue F.tells

@@ -36,7 +36,7 @@ use Rattle.schedule_text.specs.declared.schedule.Schedule.{Schedule}
 use Rattle.schedule_text.specs.declared.schedule.WorldEvent.{WorldEvent}
 use Rattle.schedule_text.specs.declared.schedule.WorldEvent.TheVariants as happens
 use Rattle.schedule_text.proofs.TextLaws.{program_checked, args_good, chunk_checked}
-use Rattle.schedule_text.specs.Built.{is_built, with_frames, lacking, carrying, a_tick}
+use Rattle.schedule_text.specs.Built.{is_built, lacking, carrying, a_tick}
 use Rattle.schedule_text.specs.Lines.{lines, words}
 use Rattle.schedule_text.specs.Numbers.{spelled, ranged, number_at}
 use Rattle.schedule_text.specs.Packages.{packages_at}
@@ -279,13 +279,16 @@ link_line_keeps ws s k =
     (add_link s n.0 d.0 m.0 e.0 k (host_is s.hosts ws n hn) (device_is s.links n.0 n.1 d hd) (host_is s.hosts d.1 m hm)
     (not-true (eqb m.0 n.0) (allowed_true (not (eqb m.0 n.0)) BadArgument u apart)) (device_is s.links m.0 m.1 e he))))))))
 
+-- what was read says that frames are shown
+shown_keeps : (s : Reading) → Keeps s → Keeps (record s { frames = true })
+shown_keeps s k = record { few_hosts = k.few_hosts; hosts = k.hosts; links = k.links; apart = k.apart; programs = k.programs; few_events = k.few_events; events = k.events }
+
 frames_keeps : (ws : List (List ℕ)) (s : Reading) → Keeps s → IfRead Keeps (frames_line ws s)
 unfolding frames_line
 frames_keeps ws s k =
     then_keeps Keeps (allowed (is_first s) BadWord) _ (λ u hu.
     then_keeps Keeps (end_at ws) _ (λ v hv.
-    then_keeps Keeps (allowed (is_built with_frames) NotYet) _ (λ w hw.
-    done_keeps Keeps s k)))
+    done_keeps Keeps (record s { frames = true }) (shown_keeps s k)))
 
 abbrev KeepsBoth : Stage × Reading → Type 0
 KeepsBoth x = Keeps x.1

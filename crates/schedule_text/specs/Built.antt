@@ -6,8 +6,6 @@ use Rattle.schedule_text.specs.Calls.{calls_print_only}
 
 -- a form of a line that may not be built
 pub data Form : Type 0 where
-  -- a trace that shows frames
-  with_frames : Form
   -- a host that lacks these packages
   lacking : List Package → Form
   -- a program
@@ -17,7 +15,6 @@ pub data Form : Type 0 where
 
 -- whether a form is built
 abbrev pub is_built : Form → Bool
-is_built with_frames = false
 is_built (lacking []) = true
 is_built (lacking (p ∷ ps)) = false
 is_built (carrying program) = calls_print_only program

@@ -32,7 +32,7 @@ use Rattle.schedule_text.specs.Reads.{◌>>=◌, and_then, Part, word_at, end_at
 use Rattle.schedule_text.specs.Numbers.{number_at}
 use Rattle.schedule_text.specs.Packages.{packages_at}
 use Rattle.schedule_text.specs.Parts.{Link, host_of, dev_of, is_host, host_at, free_device_at, is_called, program_at, entry_at, named_word}
-use Rattle.schedule_text.specs.Built.{is_built, with_frames, lacking, a_tick}
+use Rattle.schedule_text.specs.Built.{is_built, lacking, a_tick}
 use Rattle.schedule_text.specs.Programs.{program_in, args_at, chunk_with, typed_chunk}
 
 abbrev pub host_spec : ℕ → HostSpec
@@ -46,17 +46,16 @@ network_word w = if bytes_eq w (codes "frames") then Some network.Frames else (i
 abbrev pub event_word : List ℕ → Option EventWord
 event_word w = if bytes_eq w (codes "inject") then Some event.Inject else (if bytes_eq w (codes "send") then Some event.Send else (if bytes_eq w (codes "deliver") then Some event.Deliver else (if bytes_eq w (codes "lose") then Some event.Lose else (if bytes_eq w (codes "tick") then Some event.Tick else None))))
 
--- whether no host and no program was read; a link needs hosts
+-- whether no line of the network was read; a link needs hosts
 abbrev pub is_first : Reading → Bool
-is_first s = length s.hosts == 0 && length s.programs == 0
+is_first s = not s.frames && (length s.hosts == 0 && length s.programs == 0)
 
--- `frames`, in front of the other lines of the network
+-- `frames`, once and in front of the other lines of the network
 unfoldable pub frames_line : List (List ℕ) → Reading → Result Reading LineReason
 frames_line ws s = do
   _ ← allowed (is_first s) BadWord
   _ ← end_at ws
-  _ ← allowed (is_built with_frames) NotYet
-  Ok s
+  Ok (record s { frames = true })
 
 -- `host N`, then `without PACKAGE` any number of times
 unfoldable pub host_line : List (List ℕ) → Reading → Result Reading LineReason
@@ -253,7 +252,7 @@ step number line (stages.Inside begun) s = program_step line begun s
 step number line stages.Events s = event_step number line s
 
 abbrev pub schedule_of_reading : Reading → Schedule
-schedule_of_reading s = record { topology = record { hosts = s.hosts; links = s.links }; events = s.events }
+schedule_of_reading s = record { frames = s.frames; topology = record { hosts = s.hosts; links = s.links }; events = s.events }
 
 -- what the lines so far say where the file ends in front of the line with a number
 abbrev pub finish : ℕ → Stage → Reading → Result Schedule LineFault
@@ -268,7 +267,7 @@ read_on number (line ∷ more) stage s = and_then (step number line stage s) (λ
 
 -- nothing read yet
 abbrev pub nothing_read : Reading
-nothing_read = record { hosts = []; links = []; programs = []; events = []; weight = 0 }
+nothing_read = record { frames = false; hosts = []; links = []; programs = []; events = []; weight = 0 }
 
 -- what a file says: its schedule, or its first line outside the format with the reason
 unfoldable pub schedule_of : List ℕ → Result Schedule LineFault

@@ -15,21 +15,22 @@ use crate::words::{Words, allow};
 use plan_base::{Bytes, Dev, Host};
 use std::alloc::Global;
 
-/// Whether no host and no program was read.
+/// Whether no line of the network was read.
 fn is_first(reading: &Reading) -> bool
     ensures { result ≡ is_first reading.now }
 {
-    reading.hosts.is_empty() && reading.programs.is_empty()
+    !reading.frames && reading.hosts.is_empty() && reading.programs.is_empty()
 }
 
-/// `frames` behind the first word. Reasons: `BadWord`, `NotYet`.
+/// `frames` behind the first word. Reason: `BadWord`.
 #[tactic(auto, unfolding(crate::specs::Schedules::frames_line))]
 fn read_frames(reading: &mut Reading, words: &mut Words<'_>) -> Result<(), Stop>
     ensures { Leaves result reading.new (frames_line words.old reading.old) }
 {
     allow(is_first(reading), LineReason::BadWord)?;
     words.end()?;
-    Err(Stop::Reason(LineReason::NotYet))
+    reading.frames = true;
+    Ok(())
 }
 
 /// `host N` and the packages that it lacks, behind the first word. Reasons: `TooMany`, `BadWord`,

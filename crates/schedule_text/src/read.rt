@@ -137,6 +137,7 @@ fn end_file(number: u32, stage: Stage, reading: Reading) -> Result<Schedule, Lin
     ensures { result ≡ finish number stage reading }
 {
     let Reading {
+        frames,
         hosts,
         links,
         programs: _,
@@ -146,6 +147,7 @@ fn end_file(number: u32, stage: Stage, reading: Reading) -> Result<Schedule, Lin
     match stage {
         Stage::Header => Err(LineFault::Line(number, LineReason::BadHeader)),
         Stage::Events => Ok(Schedule {
+            frames,
             topology: Topology { hosts, links },
             events,
         }),
@@ -158,6 +160,7 @@ fn start(alloc: Global) -> Reading
     ensures { result ≡ nothing_read }
 {
     Reading {
+        frames: false,
         hosts: Items::new(alloc),
         links: Items::new(alloc),
         programs: Items::new(alloc),

@@ -18,6 +18,8 @@ pub type NamedPrograms = Items<NamedProgram>;
 /// What the lines read so far have said.
 #[derive(Debug, Drop)]
 pub struct Reading {
+    /// Whether the trace shows frames.
+    pub frames: bool,
     /// The hosts.
     pub hosts: HostSpecs,
     /// The links.

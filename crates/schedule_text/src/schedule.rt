@@ -5,6 +5,8 @@ use plan_items::Items;
 /// A schedule: a network and what happens to it, one event after the other.
 #[derive(Debug, Drop)]
 pub struct Schedule {
+    /// Whether the trace shows the frames that go onto the wire.
+    pub frames: bool,
     /// The network.
     pub topology: Topology,
     /// The events in order, at most 50,000.

@@ -1,3 +1,4 @@
 pub mod Options
 pub mod Paying
 pub mod Handling
+pub mod Sending

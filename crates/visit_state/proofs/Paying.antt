@@ -1,23 +1,11 @@
--- Whether a bound is paid, by natural numbers.
-use Rattle.std.proofs.Common.{◌≡◌, ℕ, zero, suc, ◌≤◌, ◌<◌, if◌then◌else◌, Option, Some, None, refl, arith}
-use Rattle.std.specs.Prelude.{ℤ, pos, negsuc, ◌<ℤ◌, ◌≤ℤ◌, unsigned_abs}
-use Rattle.std.proofs.lemmas.Bool.{le-leb, lt-leb}
-use Rattle.std.proofs.lemmas.Int.{ints}
-use Rattle.plan_meaning.specs.Meaning.{is_paid, bound_of}
+-- Whether an eval is paid.
+use Rattle.std.proofs.Common.{◌≡◌, ℕ, true, false, ◌==◌, arith}
+use Rattle.std.specs.Prelude.{pos}
+use Rattle.std.proofs.lemmas.Bool.Decides.{nat_tests}
+use Rattle.plan_meaning.specs.Meaning.{is_paid}
 
-pub paid_below : (n : ℤ) (purse : ℕ) → n <ℤ pos 1 → (if is_paid n purse then Some (bound_of n) else None) ≡ None
-paid_below (pos zero) purse h = refl
-paid_below (pos (suc n)) purse h = absurd (omega (arith, ints))
-paid_below (negsuc n) purse h = refl
+pub eval_is_paid : (purse : ℕ) → is_paid (pos 1) purse ≡ true → (purse == 0) ≡ false
+eval_is_paid purse h = grind (arith, nat_tests)
 
-pub paid_above : (n : ℤ) (purse : ℕ) → pos 1 ≤ℤ n → purse < unsigned_abs n → (if is_paid n purse then Some (bound_of n) else None) ≡ None
-paid_above (pos zero) purse g h = refl
-paid_above (pos (suc n)) purse g h = rw (le-leb 1 (suc n) (omega arith), lt-leb (suc n) purse h) refl
-paid_above (negsuc n) purse g h = refl
-
-pub paid_within : (n : ℤ) (purse : ℕ) → pos 1 ≤ℤ n → unsigned_abs n ≤ purse → (if is_paid n purse then Some (bound_of n) else None) ≡ Some (unsigned_abs n)
-paid_within (pos zero) purse g h = absurd (omega (arith, g))
-paid_within (pos (suc n)) purse g h = rw (le-leb 1 (suc n) (omega arith), le-leb (suc n) purse h) refl
-paid_within (negsuc n) purse g h = absurd (omega (arith, g))
-
-pub ruleset paying = (paid_below, paid_above, paid_within)
+pub eval_is_unpaid : (purse : ℕ) → is_paid (pos 1) purse ≡ false → (purse == 0) ≡ true
+eval_is_unpaid purse h = grind (arith, nat_tests)

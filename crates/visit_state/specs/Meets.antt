@@ -3,9 +3,12 @@ use Rattle.std.specs.Prelude.{◌≡◌, ◌≢◌, Result, Ok, Err}
 use Rattle.plan_base.specs.declared.tree.Exn.{Exn}
 use Rattle.plan_base.specs.declared.tree.Value.{Value}
 use Rattle.value_rules.specs.Rules.{Given, gives, raises, unfit}
+use Rattle.remote_calls.specs.declared.fault.SendFault.{SendFault}
+use Rattle.remote_calls.specs.declared.fault.SendFault.TheVariants as fault
 use Rattle.plan_meaning.specs.declared.stop.Stop.{Stop}
 use Rattle.plan_meaning.specs.declared.stop.Stop.TheVariants.{Raised, Wrong, NoMemory}
 use Rattle.plan_meaning.specs.State.{VisitState}
+use Rattle.plan_meaning.specs.Meaning.{no_bound, no_service, no_route, not_neighbour}
 use Rattle.plan_meaning.specs.Run.{gave, stopped, Step}
 
 -- the value and the state, or the stop and the state; of want of memory nothing is said
@@ -24,3 +27,11 @@ MeetsGiven want (Err _) = ⊥
 -- the exception, or want of memory
 abbrev pub RaisesOnly : Exn → Stop → Type 0
 RaisesOnly x e = e ≢ NoMemory → e ≡ Raised x
+
+-- how a refused send stops an evaluation
+abbrev pub StopsBy : SendFault → Stop → Type 0
+StopsBy fault.NoBound e = RaisesOnly no_bound e
+StopsBy fault.NoService e = RaisesOnly no_service e
+StopsBy fault.NoRoute e = RaisesOnly no_route e
+StopsBy fault.NotNeighbor e = RaisesOnly not_neighbour e
+StopsBy fault.NoMemory e = e ≡ NoMemory

@@ -1,18 +1,23 @@
-ghost use Rattle.std.specs.Prelude.{◌≡◌, ◌+◌, ◌≤◌, length, [], if◌then◌else◌, Some, None, IfOk, OnOk};
+ghost use Rattle.std.specs.Prelude.{◌≡◌, ◌+◌, ◌≤◌, length, [], OnOk};
 ghost use Rattle.plan_base.specs.declared.tree.Value.{Value};
-ghost use Rattle.service_api.specs.Routes.{default_route};
-ghost use Rattle.service_api.specs.Services.{Standing};
+ghost use Rattle.service_api.specs.Services.{Standing, IsGoodChunk};
+ghost use Rattle.plan_meaning.specs.Safe.{IsSafe};
 ghost use Rattle.plan_meaning.specs.State.{Own, joined};
 ghost use Rattle.plan_meaning.specs.Run as run;
 ghost use Rattle.plan_meaning.specs.Visit.{allowance, ended};
 ghost use Rattle.plan_meaning.specs.Meaning as spec;
-ghost use Rattle.visit_state.specs.Meets.{Meets};
+ghost use Rattle.visit_state.specs.Meets.{Meets, StopsBy};
 
 use crate::raised::{no_bound, no_route, no_service, not_neighbour, too_large};
-use plan_base::{Chunk, Dev, Family, Host, Name, NoMemory, Packet, Value, nesting, weight};
+use chunk_types::CheckedChunk;
+use packet_frame::CheckedPacket;
+use plan_base::{Chunk, Dev, Family, Host, Name, NoMemory, Value, nesting, weight};
 use plan_items::Items;
-use plan_meaning::{Outbox, Outcome, Sent, Stop, Visit};
-use service_api::{Ctx, Hop, Note, Notes};
+use plan_meaning::{Outbox, Outcome, Stop, Visit};
+use remote_calls::{
+    NoBound, Purse, SendFault, Way, default_route, neighbour_way, remote_way, send,
+};
+use service_api::{Ctx, Note, Notes};
 use std::alloc::Global;
 use std::marker::Model;
 
@@ -31,7 +36,7 @@ pub struct State {
 }
 
 impl Model for State {
-    ghost use Rattle.std.specs.Prelude.{◌+◌, ◌<◌, ◌≤◌, ◌^◌, length};
+    ghost use Rattle.std.specs.Prelude.{◌+◌, ◌≤◌, length};
     ghost use Rattle.plan_meaning.specs.State.{Own};
     ghost use Rattle.visit_state.specs.Stored.{own_code};
 
@@ -41,7 +46,7 @@ impl Model for State {
 
     ghost view = { λ s. record { ctx = s.ctx; family = s.family; work = s.work; evals = s.evals; outbox = s.outbox; notes = s.notes } };
 
-    ghost invariant = { λ s. (s.ctx.purse + s.evals < 2 ^ 32) × (length s.ctx.neighbours ≤ 8) };
+    ghost invariant = { λ s. (s.ctx.purse + s.evals ≤ 65535) × (length s.ctx.neighbours ≤ 8) };
 }
 
 /// Whether a value passes the limits: weight 16,384 and nesting 4.
@@ -52,41 +57,17 @@ fn is_too_large(v: &Value) -> bool
     weight(v) > 16384 || nesting(v) > 4
 }
 
-/// A bound that the purse pays: at least 1 and at most the purse.
-#[tactic(auto, using(crate::proofs::Paying::paying))]
-fn paid(n: i64, purse: u32) -> Option<u32>
-    ensures { result ≡ (if spec.is_paid n purse then Some (spec.bound_of n) else None) }
+/// How an evaluation stops where a send is refused.
+fn unsent(alloc: Global, fault: SendFault) -> Stop
+    ensures { StopsBy fault result }
 {
-    if n < 1 {
-        return None;
+    match fault {
+        SendFault::NoBound => no_bound(alloc),
+        SendFault::NoService => no_service(alloc),
+        SendFault::NoRoute => no_route(alloc),
+        SendFault::NotNeighbor => not_neighbour(alloc),
+        SendFault::NoMemory => Stop::NoMemory,
     }
-    let bound = n.unsigned_abs();
-    if bound > u64::from(purse) {
-        return None;
-    }
-    Some(bound as u32)
-}
-
-/// Whether the host is the first neighbour on the device.
-fn leads_to(neighbours: &[(Host, Dev)], dev: Dev, host: Host) -> bool
-    ensures { result ≡ spec.leads_to neighbours.now dev host }
-{
-    let mut rest = neighbours;
-    while let [(h, d), more @ ..] = rest {
-        if d.0 == dev.0 {
-            return h.0 == host.0;
-        }
-        rest = more;
-    }
-    false
-}
-
-/// The name of the one routing function that there is.
-#[tactic(auto, unfolding(plan_base::specs::Words::is_name, plan_base::specs::Words::is_word, plan_base::specs::Words::is_reserved))]
-fn default_route(alloc: Global) -> Result<Name, NoMemory>
-    ensures { IfOk result (λ n. n ≡ default_route) }
-{
-    Name::of(alloc, b"defaultRoute")
 }
 
 impl State {
@@ -164,46 +145,46 @@ impl State {
     }
 
     /// Pays for an eval.
-    #[tactic(auto, unfolding(plan_meaning::specs::Meaning::pay_eval))]
+    #[tactic(auto, unfolding(plan_meaning::specs::Meaning::pay_eval), using(crate::proofs::Paying::eval_is_paid, crate::proofs::Paying::eval_is_unpaid))]
     pub fn pay_eval(&mut self, alloc: Global) -> Result<(), Stop>
         ensures meets { (s : Standing) → Meets (spec.pay_eval (joined self.old s)) result (joined self.new s) }
         ensures falls { self.new.work ≤ self.old.work }
     {
-        if self.ctx.purse == 0 {
-            return Err(no_bound(alloc));
+        let mut purse = Purse::of(self.ctx.purse);
+        match purse.pay(1) {
+            Ok(()) => {
+                self.ctx.purse = purse.left();
+                self.evals += 1;
+                Ok(())
+            }
+            Err(NoBound) => Err(no_bound(alloc)),
         }
-        self.ctx.purse -= 1;
-        self.evals += 1;
-        Ok(())
     }
 
+    /// Sends a typed chunk on a way that is there.
+    #[tactic(auto, using(crate::proofs::Sending::checked))]
     fn sent(
         &mut self,
         alloc: Global,
-        dev: Dev,
+        way: Way,
         chunk: &Chunk,
         host: Host,
-        n: u32,
-        route: &Name,
+        route: Name,
     ) -> Result<(), Stop>
-        requires { n ≤ self.old.ctx.purse }
-        ensures meets { (s : Standing) → Meets (spec.sent dev chunk.now host n route.now (joined self.old s)) result (joined self.new s) }
+        requires good { IsGoodChunk chunk.now }
+        requires paid { way.bound ≤ self.old.ctx.purse }
+        ensures meets { (s : Standing) → Meets (spec.sent way.dev chunk.now host way.bound route (joined self.old s)) result (joined self.new s) }
         ensures falls { self.new.work ≤ self.old.work }
     {
-        let packet = Packet {
-            family: self.family,
-            dest: host,
-            bound: n,
-            route: route.copy(alloc)?,
-            chunk: chunk.copy(alloc)?,
-        };
-        self.outbox.add(Sent { dev, packet })?;
-        self.ctx.purse -= n;
+        let chunk = CheckedChunk::of(chunk.copy(alloc)?);
+        let mut purse = Purse::of(self.ctx.purse);
+        let packet = CheckedPacket::of(self.family, host, way.bound, route, chunk);
+        send(&mut purse, &mut self.outbox, way.dev, packet)?;
+        self.ctx.purse = purse.left();
         Ok(())
     }
 
-    /// Sends a chunk to a host by a routing function.
-    #[tactic(auto, unfolding(plan_meaning::specs::Meaning::send_remote))]
+    /// Sends a chunk to a host by a routing function. Condition: where it is sent, it is typed and well formed.
     pub fn send_remote(
         &mut self,
         alloc: Global,
@@ -212,32 +193,18 @@ impl State {
         n: i64,
         route: &Name,
     ) -> Result<(), Stop>
+        requires safe { (s : Standing) × IsSafe (spec.send_remote chunk.now host n route.now (joined self.old s)).asks }
         ensures meets { (s : Standing) → Meets (spec.send_remote chunk.now host n route.now (joined self.old s)) result (joined self.new s) }
         ensures falls { self.new.work ≤ self.old.work }
     {
-        let Some(bound) = paid(n, self.ctx.purse) else {
-            return Err(no_bound(alloc));
-        };
-        match self.ctx.router.next(route, self.ctx.here, host) {
-            Hop::To(_, dev) => self.sent(alloc, dev, chunk, host, bound, route),
-            Hop::NoService => Err(no_service(alloc)),
-            Hop::NoRoute => Err(no_route(alloc)),
+        let purse = Purse::of(self.ctx.purse);
+        match remote_way(&purse, &self.ctx, host, n, route) {
+            Ok(way) => self.sent(alloc, way, chunk, host, route.copy(alloc)?),
+            Err(fault) => Err(unsent(alloc, fault)),
         }
     }
 
-    /// Whether the host is next over the device.
-    #[tactic(auto, unfolding(plan_meaning::specs::Meaning::is_next))]
-    fn is_next(&self, dev: Dev, host: Host) -> bool
-        ensures { (s : Standing) → result ≡ spec.is_next (joined self.now s) dev host }
-    {
-        if dev.0 == 0 {
-            return self.ctx.here.0 == host.0;
-        }
-        leads_to(self.ctx.neighbours.as_slice(), dev, host)
-    }
-
-    /// Sends a chunk to a neighbour.
-    #[tactic(auto, unfolding(plan_meaning::specs::Meaning::send_neighbour))]
+    /// Sends a chunk to a neighbour. Condition: where it is sent, it is typed and well formed.
     pub fn send_neighbour(
         &mut self,
         alloc: Global,
@@ -246,17 +213,15 @@ impl State {
         n: i64,
         dev: Dev,
     ) -> Result<(), Stop>
+        requires safe { (s : Standing) × IsSafe (spec.send_neighbour chunk.now host n dev (joined self.old s)).asks }
         ensures meets { (s : Standing) → Meets (spec.send_neighbour chunk.now host n dev (joined self.old s)) result (joined self.new s) }
         ensures falls { self.new.work ≤ self.old.work }
     {
-        let Some(bound) = paid(n, self.ctx.purse) else {
-            return Err(no_bound(alloc));
-        };
-        if !self.is_next(dev, host) {
-            return Err(not_neighbour(alloc));
+        let purse = Purse::of(self.ctx.purse);
+        match neighbour_way(&purse, &self.ctx, host, n, dev) {
+            Ok(way) => self.sent(alloc, way, chunk, host, default_route(alloc)?),
+            Err(fault) => Err(unsent(alloc, fault)),
         }
-        let route = default_route(alloc)?;
-        self.sent(alloc, dev, chunk, host, bound, &route)
     }
 
     /// Keeps the note of a service, if it made one.

@@ -320,9 +320,9 @@ opening_nodes_fit links [] = All-nil NodeFits
 opening_nodes_fit links (h ∷ hs) = All-cons NodeFits (opening_node links h) (map (opening_node links) hs) (opening_node_fits links h) (opening_nodes_fit links hs)
 
 -- the limits stand at the beginning
-pub opening_sound : (t : Topology) → IsSound (opening t)
+pub opening_sound : (t : Topology) (shown : Bool) → IsSound (opening t shown)
 unfolding opening
-opening_sound t = record { nodes = opening_nodes_fit t.links t.hosts; wire = All-nil (WiredFits 1); room = omega arith; numbers = omega arith }
+opening_sound t shown = record { nodes = opening_nodes_fit t.links t.hosts; wire = All-nil (WiredFits 1); room = omega arith; numbers = omega arith }
 
 -- the number of events
 pub run_made : (es : List WorldEvent) (w : WorldState) → EventsFit es → IsSound w → (world_after es w).made ≡ w.made + length es

@@ -278,14 +278,14 @@ module _ (f : Family) where
   opening_nodes_none links [] = refl
   opening_nodes_none links (h ∷ hs) = omega (arith, sum_by-cons (λ (n : NodeState). queues_packets f n.queues) (opening_node links h) (map (opening_node links) hs), none_queued 9, opening_nodes_none links hs)
 
-  opening_none : (t : Topology) → packets f (opening t) ≡ 0
+  opening_none : (t : Topology) (shown : Bool) → packets f (opening t shown) ≡ 0
   unfolding opening wire_packets
-  opening_none t = omega (arith, opening_nodes_none t.links t.hosts)
+  opening_none t shown = omega (arith, opening_nodes_none t.links t.hosts)
 
   -- a family that was never injected has no packet
-  opening_granted : (t : Topology) (es : List WorldEvent) → injections f (history_of es (opening t)) ≡ 0 → packets f (world_after es (opening t)) ≡ 0
-  opening_granted t es z = run_leaves es (opening t) z (opening_none t)
+  opening_granted : (t : Topology) (shown : Bool) (es : List WorldEvent) → injections f (history_of es (opening t shown)) ≡ 0 → packets f (world_after es (opening t shown)) ≡ 0
+  opening_granted t shown es z = run_leaves es (opening t shown) z (opening_none t shown)
 
   -- from the beginning on, only injected families have packets, and serial numbers only grow
-  pub opening_grants : (t : Topology) (es : List WorldEvent) → HostsDiffer t.hosts → EventsFit es → IsGranted f (history_of es (opening t)) (world_after es (opening t))
-  opening_grants t es d b = record { packet = opening_granted t es; serial = opening_later f t es d b }
+  pub opening_grants : (t : Topology) (shown : Bool) (es : List WorldEvent) → HostsDiffer t.hosts → EventsFit es → IsGranted f (history_of es (opening t shown)) (world_after es (opening t shown))
+  opening_grants t shown es d b = record { packet = opening_granted t shown es; serial = opening_later f t shown es d b }

@@ -33,7 +33,7 @@ use Rattle.service_api.specs.Routes.{hop}
 use Rattle.world_laws.specs.State.{Queues, NodeState, is_host}
 use Rattle.world_laws.specs.Visits.{visit_at}
 use Rattle.world_laws.specs.Node.{Step, stepped, has_room, send_act, send_queues, sends_acts, visit_acts, visited, next_serial, injected_packet, inject_step, forward_by, forward_step, arrive_step, take_from, take_step, what_of}
-use Rattle.world_laws.specs.World.{Cables, WorldState, Happened, nothing, lines_at, inject_at, inject_place, injects, send_taken, send_at, send_over, send_place, sends, place_of, far_end, wire_place, deliver_at, deliver_to, deliver_frame, deliver_place, delivers, lose_frame, lose_place, loses, acted, happens, entries, world_after, history_of, opening_node, opening}
+use Rattle.world_laws.specs.World.{Cables, WorldState, Happened, nothing, lines_at, inject_at, inject_place, injects, shown_frame, send_taken, send_at, send_over, send_place, sends, place_of, far_end, wire_place, deliver_at, deliver_to, deliver_frame, deliver_place, delivers, lose_frame, lose_place, loses, acted, happens, entries, world_after, history_of, opening_node, opening}
 use Rattle.world_laws.specs.Counts.{only, is_family, act_sum, act_granted, act_injections, line_sum, line_granted, line_injections, tally, granted, injections}
 use Rattle.world_laws.specs.Sound.{event_fits, EventsFit, HostsDiffer, has_host}
 use Rattle.world_laws.proofs.CountLaws.{act_sum-nil, act_sum-cons, act_sum-append, line_sum-nil, line_sum-cons, line_sum-append, line_sum-at, tally-nil, tally-append, tally-entries}
@@ -263,7 +263,7 @@ module _ (f : Family) where
   send_taken_gives w h d at to node step None e g = nothing_gives w
   send_taken_gives w h d at to node step (Some p) e g =
       let lines = lines_at h step.acts in
-      let wire = Wire w.next in
+      let wire = Wire w.next (shown_frame w.frames p) in
       record {
         once = omega (
           arith,
@@ -453,16 +453,16 @@ module _ (f : Family) where
   opening_gives links [] d = omega (arith, may_give_all-nil)
   opening_gives links (h ∷ hs) d = opening_cases (h.host.0 == f.source.0) links h hs refl d.0 (opening_gives links hs d.1)
 
-  opening_nodes_give : (t : Topology) → HostsDiffer t.hosts → may_give_all (opening t).nodes ≤ 1
+  opening_nodes_give : (t : Topology) (shown : Bool) → HostsDiffer t.hosts → may_give_all (opening t shown).nodes ≤ 1
   unfolding opening
-  opening_nodes_give t d = opening_gives t.links t.hosts d
+  opening_nodes_give t shown d = opening_gives t.links t.hosts d
 
   -- from the beginning on, a family is injected at most once, with at most 65,535
-  pub opening_once_given : (t : Topology) (es : List WorldEvent) → HostsDiffer t.hosts → EventsFit es
-      → (injections f (history_of es (opening t)) ≤ 1) × (granted f (history_of es (opening t)) ≤ 65535)
-  opening_once_given t es d b =
-      let g = run_gives es (opening t) b in
-      let o = opening_nodes_give t d in
+  pub opening_once_given : (t : Topology) (shown : Bool) (es : List WorldEvent) → HostsDiffer t.hosts → EventsFit es
+      → (injections f (history_of es (opening t shown)) ≤ 1) × (granted f (history_of es (opening t shown)) ≤ 65535)
+  opening_once_given t shown es d b =
+      let g = run_gives es (opening t shown) b in
+      let o = opening_nodes_give t shown d in
       (omega (arith, g.once, o), omega (arith, g.once, g.limit, o))
 
   later_one : (h fh s fs : ℕ) → ◌≡◌ {A = ℕ} (cond ((h == fh) && nat_le s fs) 1 0) 0 → h ≡ fh → fs < s
@@ -479,9 +479,9 @@ module _ (f : Family) where
       All-cons (λ node. node.here.0 ≡ f.source.0 → f.serial < node.serial) n ns (gives_later n (omega arith)) (later_serials ns (omega arith))
 
   -- once a family is injected, the nodes of its host go on with later serial numbers
-  pub opening_later : (t : Topology) (es : List WorldEvent) → HostsDiffer t.hosts → EventsFit es → 0 < injections f (history_of es (opening t))
-      → All (λ node. node.here.0 ≡ f.source.0 → f.serial < node.serial) (world_after es (opening t)).nodes
-  opening_later t es d b h =
-      let g = run_gives es (opening t) b in
-      let o = opening_nodes_give t d in
-      later_serials (world_after es (opening t)).nodes (omega (arith, g.once))
+  pub opening_later : (t : Topology) (shown : Bool) (es : List WorldEvent) → HostsDiffer t.hosts → EventsFit es → 0 < injections f (history_of es (opening t shown))
+      → All (λ node. node.here.0 ≡ f.source.0 → f.serial < node.serial) (world_after es (opening t shown)).nodes
+  opening_later t shown es d b h =
+      let g = run_gives es (opening t shown) b in
+      let o = opening_nodes_give t shown d in
+      later_serials (world_after es (opening t shown)).nodes (omega (arith, g.once))

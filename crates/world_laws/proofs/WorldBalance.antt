@@ -24,7 +24,7 @@ use Rattle.service_api.specs.declared.router.Hop.TheVariants.{To, NoService, NoR
 use Rattle.service_api.specs.Routes.{hop}
 use Rattle.world_laws.specs.State.{NodeState, is_host}
 use Rattle.world_laws.specs.Node.{Step, stepped, visited, next_serial, injected_packet, inject_step, forward_by, forward_step, arrive_step, take_step, what_of}
-use Rattle.world_laws.specs.World.{Cables, WorldState, Happened, nothing, with_node, lines_at, inject_at, inject_place, injects, send_taken, send_at, send_over, send_place, sends, place_of, far_end, without_frame, wire_place, deliver_at, deliver_to, deliver_frame, deliver_place, delivers, lose_frame, lose_place, loses, acted, happens, entry_at, entries, world_after, history_of, no_queues, opening_node, opening}
+use Rattle.world_laws.specs.World.{Cables, WorldState, Happened, nothing, with_node, lines_at, inject_at, inject_place, injects, shown_frame, send_taken, send_at, send_over, send_place, sends, place_of, far_end, without_frame, wire_place, deliver_at, deliver_to, deliver_frame, deliver_place, delivers, lose_frame, lose_place, loses, acted, happens, entry_at, entries, world_after, history_of, no_queues, opening_node, opening}
 use Rattle.world_laws.specs.Counts.{only, act_sum, act_granted, act_hops, act_evals, act_left, line_sum, line_granted, line_hops, line_evals, line_left, tally, granted, hops, evals, left, packet_live, queue_live, queues_live, node_live, nodes_live, wired_live, wire_live, frame_live, live, StepBalances, GrowsInBalance, Balanced}
 use Rattle.world_laws.proofs.CountLaws.{line_sum-nil, line_sum-cons, line_sum-append, line_sum-at, tally-nil, tally-append, tally-entries, nodes_live-set, wire_live-push, wire_live-remove, queue_live-nil, queues_live-nil, queues_live-cons}
 use Rattle.world_laws.proofs.NodeBalance.{inject_balances, arrive_balances, take_balances}
@@ -161,7 +161,7 @@ module _ (f : Family) where
   send_taken_balances w h d at to node step None e b q = nothing_balances w
   send_taken_balances w h d at to node step (Some p) e b q =
       let x : Wired = record { number = w.next; from = record { host = h; dev = d }; to = to; packet = p } in
-      let acts = with_line (lines_at h step.acts) (Wire w.next) (node_live f node) (node_live f step.node + packet_live f p) refl refl refl refl
+      let acts = with_line (lines_at h step.acts) (Wire w.next (shown_frame w.frames p)) (node_live f node) (node_live f step.node + packet_live f p) refl refl refl refl
       (let c = acts_balance h 0 (packet_live f p) node step b (ap (frame_live f) q) in record { law = omega (arith, c.law) }) in
       record { law = omega (arith, acts.law, nodes_live-set f w.nodes at node step.node e, wire_live-push f w.wire x) }
 
@@ -287,10 +287,10 @@ module _ (f : Family) where
   opening_nodes_live links (h ∷ hs) = omega (arith, sum_by-cons (node_live f) (opening_node links h) (map (opening_node links) hs), none_live 9, opening_nodes_live links hs)
 
   -- at the beginning nothing is live
-  pub opening_live : (t : Topology) → live f (opening t) ≡ 0
+  pub opening_live : (t : Topology) (shown : Bool) → live f (opening t shown) ≡ 0
   unfolding opening wire_live
-  opening_live t = omega (arith, opening_nodes_live t.links t.hosts)
+  opening_live t shown = omega (arith, opening_nodes_live t.links t.hosts)
 
   -- the law of the ledger, from the beginning on
-  pub opening_balances : (t : Topology) (es : List WorldEvent) → Balanced f (history_of es (opening t)) (world_after es (opening t))
-  opening_balances t es = record { law = let b = (run_balances es (opening t)).law in omega (arith, opening_live t) }
+  pub opening_balances : (t : Topology) (shown : Bool) (es : List WorldEvent) → Balanced f (history_of es (opening t shown)) (world_after es (opening t shown))
+  opening_balances t shown es = record { law = let b = (run_balances es (opening t shown)).law in omega (arith, opening_live t shown) }

@@ -1,7 +1,8 @@
 -- The text of a trace and of its ledger.
-use Rattle.std.specs.Prelude.{ℕ, if◌then◌else◌, List, [], ◌∷◌, ◌++◌, fold, codes}
+use Rattle.std.specs.Prelude.{ℕ, if◌then◌else◌, List, [], ◌∷◌, ◌++◌, fold, codes, Option, Some, None}
 use Rattle.std.specs.List.{list_any, flat_map}
 use Rattle.std.specs.Fmt.{decimal}
+use Rattle.hex.specs.Hex.{encode_lower}
 use Rattle.plan_base.specs.declared.ids.Host.{Host}
 use Rattle.plan_base.specs.declared.ids.Dev.{Dev}
 use Rattle.plan_base.specs.declared.ids.Family.{Family}
@@ -68,10 +69,15 @@ act_text h (Dropped r f bound) = head_text (codes "drop") h ++ (codes " " ++ (re
 act_text h (Taken d (what.Packet f bound)) = head_text (codes "send") h ++ (device_text d ++ (codes " " ++ family_text f))
 act_text h SerialsSpent = head_text (codes "drop") h ++ codes " SerialsSpent"
 
+-- a frame in hex, where it is shown
+abbrev pub shown_text : Option (List ℕ) → List ℕ
+shown_text None = []
+shown_text (Some bytes) = codes " " ++ encode_lower bytes
+
 -- a line of a trace, without its number
 unfoldable pub line_text : Line → List ℕ
 line_text (At h act) = act_text h act
-line_text (Wire number) = codes "wire " ++ decimal number
+line_text (Wire number frame) = codes "wire " ++ (decimal number ++ shown_text frame)
 line_text (Off number) = codes "off " ++ decimal number
 line_text (Lost (what.Packet f bound)) = codes "lost" ++ bound_text f bound
 line_text Nothing = codes "nothing"

@@ -15,6 +15,8 @@ use Rattle.world_laws.specs.declared.lines.Line.TheVariants.{At, Wire, Off, Lost
 use Rattle.world_laws.specs.declared.lines.Entry.{Entry}
 use Rattle.world_laws.specs.declared.lines.LinkEnd.{LinkEnd}
 use Rattle.world_laws.specs.declared.lines.Wired.{Wired}
+use Rattle.packet_frame.specs.declared.frame.PlainFrame.{PlainFrame}
+use Rattle.packet_frame.specs.Bytes.{frame_bytes}
 use Rattle.service_api.specs.Services.{Standing}
 use Rattle.service_api.specs.Prints.{standing}
 use Rattle.world_laws.specs.State.{Links, NodeState, is_host, link_routes}
@@ -24,9 +26,10 @@ use Rattle.world_laws.specs.Node.{Step, inject_step, arrive_step, take_step, wha
 abbrev pub Cables : Type 0
 Cables = List (Host × Dev × Host × Dev)
 
--- a network: its nodes, its links, the frames on the wire by number, the number of the next frame,
--- and the number of events so far
+-- a network: whether its history shows frames, its nodes, its links, the frames on the wire by number, the number of the
+-- next frame, and the number of events so far
 pub record WorldState : Type 0 where
+  pub frames : Bool
   pub nodes : List NodeState
   pub links : Cables
   pub wire : List Wired
@@ -73,7 +76,7 @@ unfoldable pub far_end : Cables → Host → Dev → Option LinkEnd
 far_end links h d = if d.0 == 0 then Some (record { host = h; dev = d }) else peer_of links h d
 
 abbrev pub with_node : WorldState → ℕ → NodeState → WorldState
-with_node w at node = record { nodes = slice_set w.nodes at node; links = w.links; wire = w.wire; next = w.next; made = w.made }
+with_node w at node = record { frames = w.frames; nodes = slice_set w.nodes at node; links = w.links; wire = w.wire; next = w.next; made = w.made }
 
 -- what a node did at its step
 unfoldable pub lines_at : Host → List Act → List Line
@@ -91,11 +94,16 @@ inject_place w h chunk bound (Some at) = inject_at w h chunk bound at (slice_get
 unfoldable pub injects : WorldState → Host → Chunk → ℕ → Happened
 injects w h chunk bound = inject_place w h chunk bound (place_of w.nodes h)
 
+-- the bytes of a packet's frame, where frames are shown
+abbrev pub shown_frame : Bool → Packet → Option (List ℕ)
+shown_frame frames p = if frames then Some (frame_bytes (PlainFrame.Packet p)) else None
+
 -- the frame that the node took goes onto the wire under the next number
 unfoldable pub send_taken : WorldState → Host → Dev → ℕ → LinkEnd → Step → Option Packet → Happened
 send_taken w h d at to step None = nothing w
-send_taken w h d at to step (Some p) = happened (lines_at h step.acts ++ Wire w.next ∷ [])
+send_taken w h d at to step (Some p) = happened (lines_at h step.acts ++ Wire w.next (shown_frame w.frames p) ∷ [])
     (record {
+      frames = w.frames;
       nodes = slice_set w.nodes at step.node;
       links = w.links;
       wire = w.wire ++ record { number = w.next; from = record { host = h; dev = d }; to = to; packet = p } ∷ [];
@@ -119,7 +127,7 @@ unfoldable pub sends : WorldState → Host → Dev → Happened
 sends w h d = send_place w h d (place_of w.nodes h)
 
 abbrev pub without_frame : WorldState → ℕ → WorldState
-without_frame w place = record { nodes = w.nodes; links = w.links; wire = remove w.wire place; next = w.next; made = w.made }
+without_frame w place = record { frames = w.frames; nodes = w.nodes; links = w.links; wire = remove w.wire place; next = w.next; made = w.made }
 
 -- the place of a frame number on the wire
 abbrev pub wire_place : List Wired → ℕ → Option ℕ
@@ -165,7 +173,7 @@ acted w (Lose number) = loses w number
 
 -- one event more was made
 abbrev pub counted : WorldState → WorldState
-counted w = record { nodes = w.nodes; links = w.links; wire = w.wire; next = w.next; made = w.made + 1 }
+counted w = record { frames = w.frames; nodes = w.nodes; links = w.links; wire = w.wire; next = w.next; made = w.made + 1 }
 
 -- one event; one that names nothing gives the line `nothing` and changes nothing
 abbrev pub happens : WorldState → WorldEvent → Happened
@@ -213,6 +221,6 @@ new_node h links = record { here = h; neighbours = links; routes = link_routes l
 unfoldable pub opening_node : Cables → HostSpec → NodeState
 opening_node links spec = new_node spec.host (neighbours_to links spec.host 8)
 
--- a network at the beginning
-unfoldable pub opening : Topology → WorldState
-opening t = record { nodes = map (opening_node t.links) t.hosts; links = t.links; wire = []; next = 1; made = 0 }
+-- a network at the beginning, whose history shows frames or doesn't
+unfoldable pub opening : Topology → Bool → WorldState
+opening t frames = record { frames = frames; nodes = map (opening_node t.links) t.hosts; links = t.links; wire = []; next = 1; made = 0 }

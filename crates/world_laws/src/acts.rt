@@ -1,16 +1,17 @@
 use chunk_types::CheckedChunk;
-use plan_base::{Dev, Family, Packet};
+use plan_base::{Dev, Family};
 use plan_items::Items;
 use plan_meaning::Outcome;
 use service_api::Note;
+use spelled_packet::SpelledPacket;
 
 /// What happens at a node.
 #[derive(Debug, Drop)]
 pub enum Event {
     /// A typed chunk is injected with a bound of at most 65,535.
     Inject(CheckedChunk, u32),
-    /// A frame arrives over a device.
-    Frame(Dev, Packet),
+    /// The frame of a packet arrives over a device.
+    Frame(Dev, SpelledPacket),
     /// The first frame queued on a device is taken.
     Take(Dev),
 }
@@ -65,5 +66,5 @@ pub struct Acts {
     /// The acts in order.
     pub list: ActList,
     /// The frame, where the step took one.
-    pub frame: Option<Packet>,
+    pub frame: Option<SpelledPacket>,
 }

@@ -1,6 +1,7 @@
 use crate::{Act, What};
-use plan_base::{Dev, Host, Packet};
+use plan_base::{Bytes, Dev, Host};
 use plan_items::Items;
+use spelled_packet::SpelledPacket;
 
 /// A list of lines.
 pub type Lines = Items<Line>;
@@ -10,8 +11,8 @@ pub type Lines = Items<Line>;
 pub enum Line {
     /// A host did this.
     At(Host, Act),
-    /// A frame was put on the wire under this number.
-    Wire(u32),
+    /// A frame was put on the wire under this number; its bytes, where frames are asked for.
+    Wire(u32, Option<Bytes>),
     /// The frame with this number was taken off the wire.
     Off(u32),
     /// A frame was lost.
@@ -53,6 +54,6 @@ pub struct Wired {
     pub from: LinkEnd,
     /// The end that is to receive it.
     pub to: LinkEnd,
-    /// The packet that it holds.
-    pub packet: Packet,
+    /// The packet, as the bytes of its frame.
+    pub packet: SpelledPacket,
 }

@@ -1,7 +1,6 @@
-use Rattle.std.proofs.Common.{◌≡◌, ◌++◌, take}
-use Rattle.world_laws.specs.Texts.{rows_text}
-use Rattle.net_world.specs.Stands.{world_state}
+use Rattle.std.proofs.Common.{◌≡◌, ◌++◌}
+use Rattle.net_world.specs.Rows.{all_printed}
 use Rattle.net_world.proofs.ledger.put_rows.Given as goal
 
-abbrev pub invariant-loop-f : goal.invariant-loop-f
-invariant-loop-f l = l.out ≡ l.initial.out ++ rows_text l.history (world_state l.world) (take l.f-index l.families)
+abbrev pub invariant-loop-key : goal.invariant-loop-key
+invariant-loop-key l = l.out ++ all_printed l.key-iterator ≡ l.initial.out ++ all_printed l.rows.entries

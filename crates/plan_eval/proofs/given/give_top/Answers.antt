@@ -6,12 +6,12 @@ use Rattle.plan_eval.specs.Stack.{Spot, env_from, resume}
 use Rattle.plan_eval.specs.Nexts.{Decides, IsDone}
 use Rattle.plan_eval.specs.Turns.{spot_at}
 use Rattle.plan_eval.proofs.Naming.{at_place}
-use Rattle.plan_eval.proofs.Giving.{by_part, by_item, safe_call}
+use Rattle.plan_eval.proofs.Giving.{by_part, by_item, safe_part}
 use Rattle.plan_eval.proofs.given.give_top.Goals as goal
 
 pub after_part-decided-requires-clause-safe : goal.after_part-decided-requires-clause-safe
 after_part-decided-requires-clause-safe g c =
-    safe_call c.args.codes.now c.args.top.now c.in-Some.place.code.now c.in-Some.place.function.now c.in-Some.place.expr.now c.in-Part.n c.in-Part.held c.args.v
+    safe_part c.args.codes.now c.args.top.now c.in-Some.place.code.now c.in-Some.place.function.now c.in-Some.place.expr.now c.in-Part.n c.in-Part.held c.args.v
     (joined c.args.state.now (g.S.Services.stands c.args.svc.now)) c.in-Some.ensures c.requires.linked
     (λ code at is there. rw c.in-Part.is at (c.requires.safe code at is there))
 

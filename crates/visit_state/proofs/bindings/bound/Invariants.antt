@@ -1,4 +1,4 @@
-use Rattle.std.proofs.Common.{◌≡◌, List, [], ◌∷◌, length, IsSome, Option, Some, None, option_copied}
+use Rattle.std.proofs.Common.{◌≡◌, [], length}
 use Rattle.plan_meaning.specs.Meaning as spec
 use Rattle.visit_state.proofs.bindings.bound.Given as goal
 

@@ -1,0 +1,3 @@
+pub mod Frames
+pub mod Reasons
+pub mod Reads

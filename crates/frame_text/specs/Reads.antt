@@ -1,0 +1,37 @@
+-- The frame that bytes spell, or why they are none, as one answer.
+use Rattle.std.specs.Prelude.{ℕ, nat_le, List, length, Option, Some, None, Result, Ok, Err, if◌then◌else◌}
+use Rattle.chunk_spelling.specs.Scan.{Scan}
+use Rattle.chunk_types.specs.declared.fault.Ill.{Ill}
+use Rattle.chunk_types.specs.Chunks.{illness}
+use Rattle.plan_base.specs.declared.tree.Chunk.{Chunk}
+use Rattle.packet_frame.specs.declared.fault.FrameFault.{FrameFault}
+use Rattle.packet_frame.specs.declared.frame.PlainFrame.{PlainFrame}
+use Rattle.packet_frame.specs.declared.refusal.FrameRefusal.{FrameRefusal}
+use Rattle.packet_frame.specs.Forms.{frame_at}
+use Rattle.packet_frame.specs.Frames.{begins, carried}
+
+-- nothing may be left behind what was read
+abbrev pub all_read : ℕ → Result (PlainFrame × Scan) FrameFault → Result PlainFrame FrameFault
+all_read count (Ok x) = if nat_le count x.1.front.at then Ok x.0 else Err (FrameFault.Trailing x.1.front.at)
+all_read count (Err e) = Err e
+
+-- the frame that the bytes spell, or the first fault of their spelling
+abbrev pub spelled_of : List ℕ → Result PlainFrame FrameFault
+spelled_of bytes = if nat_le (length bytes) 16512 then all_read (length bytes) (frame_at (begins bytes)) else Err FrameFault.TooLong
+
+abbrev pub or_ill : PlainFrame → Option Ill → Result PlainFrame FrameRefusal
+or_ill x None = Ok x
+or_ill x (Some i) = Err (FrameRefusal.IllTyped i)
+
+-- what is wrong with a chunk, if there is one
+abbrev pub illness_in : Option Chunk → Option Ill
+illness_in None = None
+illness_in (Some c) = illness c
+
+abbrev pub typed_of : Result PlainFrame FrameFault → Result PlainFrame FrameRefusal
+typed_of (Ok x) = or_ill x (illness_in (carried x))
+typed_of (Err f) = Err (FrameRefusal.Misspelled f)
+
+-- the frame that the bytes spell, whose chunk is typed, or the first refusal
+unfoldable pub frame_of : List ℕ → Result PlainFrame FrameRefusal
+frame_of bytes = typed_of (spelled_of bytes)

@@ -1,0 +1,6 @@
+//! Packets kept as the bytes of their frames.
+#![tactic(auto)]
+
+mod spelled;
+
+pub use spelled::SpelledPacket;
