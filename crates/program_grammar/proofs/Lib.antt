@@ -1,0 +1,3 @@
+pub mod Shorters
+pub mod HeadsRead
+pub mod ProgramsRead

@@ -1,0 +1,15 @@
+//! The written grammar of declarations and programs, and the laws that the readers keep to it.
+//!
+//! Each law stands on a function without code, so that contracts of other crates can name it.
+#![tactic(auto)]
+
+ghost use Rattle.std.specs.Prelude.{◌≡◌, ℕ, List, Ok};
+ghost use Rattle.plan_base.specs.declared.tree.Draft.{Draft};
+ghost use Rattle.plan_lexer.specs.declared.token.Token.{Token};
+ghost use Rattle.plan_parser.specs.Programs.{program_of};
+ghost use Rattle.program_grammar.specs.Grammar.{ProgramAt};
+
+/// What is read as a program is one by the grammar, with the places of its declarations and expressions.
+pub fn what_is_read_is_written()
+    ensures { (tokens : List Token) (end : ℕ) (d : Draft) → program_of tokens end ≡ Ok d → ProgramAt tokens end d }
+{}
