@@ -1,3 +1,6 @@
+pub mod Starts
 pub mod Shorters
 pub mod HeadsRead
 pub mod ProgramsRead
+pub mod HeadsAre
+pub mod ProgramsAre

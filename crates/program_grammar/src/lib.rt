@@ -13,3 +13,13 @@ ghost use Rattle.program_grammar.specs.Grammar.{ProgramAt};
 pub fn what_is_read_is_written()
     ensures { (tokens : List Token) (end : ℕ) (d : Draft) → program_of tokens end ≡ Ok d → ProgramAt tokens end d }
 {}
+
+/// A program of the grammar is read.
+pub fn what_is_written_is_read()
+    ensures { (tokens : List Token) (end : ℕ) (d : Draft) → ProgramAt tokens end d → program_of tokens end ≡ Ok d }
+{}
+
+/// Tokens are at most one program.
+pub fn one_reading()
+    ensures { (tokens : List Token) (end : ℕ) (d e : Draft) → ProgramAt tokens end d → ProgramAt tokens end e → d ≡ e }
+{}
