@@ -4,3 +4,5 @@ pub mod HeadsRead
 pub mod ProgramsRead
 pub mod HeadsAre
 pub mod ProgramsAre
+pub mod HeadsWork
+pub mod ProgramsWork

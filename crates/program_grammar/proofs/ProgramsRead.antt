@@ -48,9 +48,9 @@ fits_then Q at depth nodes f h k = go (TooDeep at) (TooMany limits.Nodes at) (na
     go d e false false i j = k (ltb-false _ _ i) (ltb-false _ _ j)
 
 -- declarations of which the last begins at f
-record Onward (start f : Front) (all : Gathered) (g : Front) : Type 0 where
-  declared : DeclarationsAt start all g
-  fewer : Shorter f g
+pub record Onward (start f : Front) (all : Gathered) (g : Front) : Type 0 where
+  pub declared : DeclarationsAt start all g
+  pub fewer : Shorter f g
 
 module _ (start : Front) (all : Gathered) (f : Front) (so_far : DeclarationsAt start all f) where
   service_adds : Word keys.Svc f → Reads (Onward start f) (with_service all f)
@@ -84,7 +84,7 @@ module _ (start : Front) (all : Gathered) (f : Front) (so_far : DeclarationsAt s
       (λ x g d. after (ExprAt 160 g) (Onward start f) (expr_to 161 levels.Whole g) _ (exprs_read 160 levels.Whole g)
       (λ n h e. body_adds w room x g h n d e)))
 
-  declaration_adds : Reads (Onward start f) (with_declaration all f)
+  pub declaration_adds : Reads (Onward start f) (with_declaration all f)
   unfolding with_declaration
   declaration_adds =
       if_key (Onward start f) keys.Svc f _ _ service_adds
