@@ -61,7 +61,7 @@ unfolding Reads
 itself (Ok x) = refl
 itself (Err e) = tt
 
-size_is : (f g : Front) (n : Node) → expr_to 161 levels.Whole f ≡ Ok (n, g) → body_size f ≡ (n.depth, length (all_at n))
+pub size_is : (f g : Front) (n : Node) → expr_to 161 levels.Whole f ≡ Ok (n, g) → body_size f ≡ (n.depth, length (all_at n))
 unfolding body_size
 size_is f g n e = ap size_of e
 

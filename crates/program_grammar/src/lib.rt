@@ -7,9 +7,13 @@ ghost use Rattle.std.specs.Prelude.{◌≡◌, ◌↔◌, ℕ, List, Ok, Err};
 ghost use Rattle.plan_base.specs.declared.tree.Draft.{Draft};
 ghost use Rattle.plan_lexer.specs.declared.token.Token.{Token};
 ghost use Rattle.plan_grammar.specs.declared.fault.ParseFault.{ParseFault};
+ghost use Rattle.plan_grammar.specs.declared.node.Node.{Node};
+ghost use Rattle.plan_grammar.specs.Ahead.{Front};
+ghost use Rattle.grammar_laws.specs.Grammar.{ExprAt};
+ghost use Rattle.grammar_laws.specs.Follow.{EndsExpr};
 ghost use Rattle.plan_parser.specs.Programs.{program_of};
 ghost use Rattle.program_grammar.specs.Grammar.{ProgramAt};
-ghost use Rattle.program_grammar.specs.Agenda.{FirstProgramRefusal, IsProgramOrRefused};
+ghost use Rattle.program_grammar.specs.Agenda.{FirstProgramRefusal, IsProgramOrRefused, IsJudgedBy, IsSized};
 
 /// What is read as a program is one by the grammar, with the places of its declarations and expressions.
 pub fn what_is_read_is_written()
@@ -36,4 +40,10 @@ pub fn refusals_are_first()
 pub fn one_answer()
     ensures some { (tokens : List Token) (end : ℕ) → IsProgramOrRefused tokens end }
     ensures apart { (tokens : List Token) (end : ℕ) (d : Draft) (e : ParseFault) → ProgramAt tokens end d → FirstProgramRefusal e tokens end → ⊥ }
+{}
+
+/// The agenda judges a body by the depth and the number of the expressions that the grammar gives it.
+pub fn what_is_judged()
+    ensures body { (f g : Front) (n : Node) → ExprAt 160 f n g → EndsExpr g → IsJudgedBy f n }
+    ensures some { (f : Front) → IsSized f }
 {}
