@@ -19,7 +19,7 @@ use Rattle.packet_frame.specs.Frames.{SpellsFrame, SpellingFault, too_long, begi
 use Rattle.packet_frame.specs.Typed.{CarriesTyped, Accepts, FrameFirst, misspelled, ill_typed}
 use Rattle.packet_frame.proofs.Carried.{chunk_is_formed, chunk_is_full, chunk_is_small}
 use Rattle.packet_frame.proofs.FrameLaws.{spelled_read, found_whole, trailing_fault, refused_fault, one_fault_is, either_is, never_both_is}
-use Rattle.frame_text.specs.Reads.{all_read, spelled_of, or_ill, illness_in, typed_of, frame_of}
+use Rattle.frame_text.specs.Decoding.{all_read, spelled_of, or_ill, illness_in, typed_of, frame_of}
 
 -- ---- spellings
 
