@@ -146,6 +146,7 @@ fn programs_of_the_whole_language_run(rt: HostRuntime) -> Result<(), Fail> {
             visit_rows::LONG_SUM_THROUGH_MANY_FUNCTIONS,
             visit_rows::LONG_SUM_THROUGH_MANY_FUNCTIONS_OUTPUT,
         ),
+        (visit_rows::DEEP_EVALS, visit_rows::DEEP_EVALS_OUTPUT),
     ] {
         let (code, out, notes) = on_bytes(rt.alloc(), "replay", schedule)?;
         assert_eq!(rt; code, 0);
