@@ -10,7 +10,7 @@ use Rattle.std.proofs.lemmas.Grind.{take_at_read}
 use Rattle.std.proofs.lemmas.List.{append-nil}
 use Rattle.indexmap.specs.IndexMap.{insert_entry}
 use Rattle.plan_base.specs.declared.ids.Family.{Family}
-use Rattle.world_laws.specs.declared.acts.Act.TheVariants.{Injected, Arrived, Ended, Queued, Dropped, Taken, SerialsSpent}
+use Rattle.world_laws.specs.declared.acts.Act.TheVariants.{Injected, Arrived, Noted, Ended, Queued, Dropped, Taken, SerialsSpent}
 use Rattle.world_laws.specs.declared.acts.What.TheVariants as what
 use Rattle.world_laws.specs.declared.lines.Line.{Line}
 use Rattle.world_laws.specs.declared.lines.Line.TheVariants.{At, Wire, Off, Lost, Nothing}
@@ -127,6 +127,7 @@ line_shared (At h (Queued d g bound)) f = λ i. record { granted = sym (only-zer
 line_shared (At h (Ended g o evals rest)) f = λ i. record { granted = sym (only-zero f g) i; hops = sym (only-zero f g) i; evals = only f g evals; left = only f g rest }
 line_shared (At h (Dropped r g bound)) f = λ i. record { granted = sym (only-zero f g) i; hops = sym (only-zero f g) i; evals = sym (only-zero f g) i; left = only f g bound }
 line_shared (At h (Arrived d)) f = refl
+line_shared (At h (Noted n)) f = refl
 line_shared (At h (Taken d w)) f = refl
 line_shared (At h SerialsSpent) f = refl
 line_shared (Lost (what.Packet g bound)) f = λ i. record { granted = sym (only-zero f g) i; hops = sym (only-zero f g) i; evals = sym (only-zero f g) i; left = only f g bound }

@@ -1,5 +1,6 @@
 //! The visit of a packet.
 ghost use Rattle.std.specs.Prelude.{◌≡◌, ◌+◌, ◌≤◌, ◌∷◌, [], length, IfOk, IsSome};
+ghost use Rattle.service_api.specs.Services.{IsGoodChunk};
 ghost use Rattle.plan_meaning.specs.Visit.{IsVisit, allowance, bounds, spent};
 ghost use Rattle.plan_meaning.specs.State.{joined};
 ghost use Rattle.plan_meaning.specs.Meaning.{meaning, visited};
@@ -11,7 +12,7 @@ use crate::frame::{Activation, Activations, Codes};
 use crate::machine::run;
 use crate::place::enters;
 use packet_frame::CheckedPacket;
-use plan_base::{Chunk, NoMemory, Value, copy_values, place_of};
+use plan_base::{Chunk, Family, NoMemory, Value, copy_values, place_of};
 use plan_items::Items;
 use plan_meaning::{Outcome, Stop, Visit};
 use service_api::{Ctx, Services};
@@ -79,9 +80,40 @@ fn visited<S: Services>(
     run(alloc, codes, activations, state, svc)
 }
 
+/// What the visit of a chunk ends with.
+fn visit_chunk<S: Services>(
+    alloc: Global,
+    chunk: &Chunk,
+    family: Family,
+    bound: u32,
+    svc: &mut S,
+    ctx: &Ctx,
+) -> Result<Visit, NoMemory>
+    requires good { IsGoodChunk chunk.now }
+    requires bound { ctx.now.purse ≡ bound }
+    requires small { bound ≤ 65535 }
+    requires near { length ctx.now.neighbours ≤ 8 }
+    requires open { IsSome (S.stands svc.old).begun }
+    ensures visits { IfOk result (λ r. IsVisit allowance chunk.now ctx.entry.now family (S.stands svc.old) r (S.stands svc.new)) }
+    ensures offer { (S.stands svc.new).offer ≡ (S.stands svc.old).offer }
+    ensures begun { (S.stands svc.new).begun ≡ (S.stands svc.old).begun }
+    ensures balance { IfOk result (λ r. r.evals + r.left + bounds r.outbox ≡ bound) }
+{
+    let around = ctx.copy(alloc)?;
+    let mut state = State::new(alloc, around, family, ALLOWANCE);
+    match visited(alloc, chunk, &mut state, svc) {
+        Ok(v) => Ok(state.ended(Outcome::Value(v))),
+        Err(Stop::Raised(x)) => Ok(state.ended(Outcome::Raised(x))),
+        Err(Stop::WorkSpent) => Ok(spent(alloc, bound)),
+        Err(Stop::NoMemory) => Err(NoMemory),
+        Err(Stop::Wrong) => unreachable!(),
+    }
+}
+
 /// What the visit of a packet ends with, on a stack of its own: nothing recurses over expressions, calls or evals.
 /// Conditions: the purse of the surroundings is its bound, there are at most 8 neighbours, and a `begin` is open. After
 /// `WorkSpent` and `NoMemory` the caller abandons.
+#[tactic(auto, using(crate::proofs::Visits::good_chunk))]
 pub fn visit<S: Services>(
     alloc: Global,
     p: &CheckedPacket,
@@ -96,15 +128,5 @@ pub fn visit<S: Services>(
     ensures begun { (S.stands svc.new).begun ≡ (S.stands svc.old).begun }
     ensures balance { IfOk result (λ r. r.evals + r.left + bounds r.outbox ≡ p.now.bound) }
 {
-    let bound = p.bound();
-    let chunk = p.chunk().chunk();
-    let around = ctx.copy(alloc)?;
-    let mut state = State::new(alloc, around, p.family(), ALLOWANCE);
-    match visited(alloc, chunk, &mut state, svc) {
-        Ok(v) => Ok(state.ended(Outcome::Value(v))),
-        Err(Stop::Raised(x)) => Ok(state.ended(Outcome::Raised(x))),
-        Err(Stop::WorkSpent) => Ok(spent(alloc, bound)),
-        Err(Stop::NoMemory) => Err(NoMemory),
-        Err(Stop::Wrong) => unreachable!(),
-    }
+    visit_chunk(alloc, p.chunk().chunk(), p.family(), p.bound(), svc, ctx)
 }
