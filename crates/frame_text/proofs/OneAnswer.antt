@@ -1,10 +1,15 @@
 -- The one answer of a reading is the frame that the bytes spell, or the first refusal.
-use Rattle.std.proofs.Common.{◌≡◌, ℕ, ◌≤◌, Bool, true, false, List, length, None, Result, Ok, Err, refl, sym, ◌∙◌, ap, arith}
+use Rattle.std.proofs.Common.{◌≡◌, ◌⊎◌, inl, inr, subst, Option, Some, ℕ, ◌≤◌, Bool, true, false, List, length, None, Result, Ok, Err, refl, sym, ◌∙◌, ap, arith}
 use Rattle.std.specs.Prelude.{nat_le, if◌then◌else◌}
 use Rattle.std.proofs.lemmas.Bool.{leb-true, leb-false, le-leb}
+use Rattle.plan_base.specs.declared.tree.Chunk.{Chunk}
+use Rattle.plan_base.specs.Typing.{IsTypedChunk}
+use Rattle.chunk_spelling.specs.Spelling.{a_whole_chunk}
+use Rattle.chunk_types.specs.declared.fault.Ill.{Ill}
 use Rattle.wire_bytes.specs.Fields.{IsBytes}
 use Rattle.chunk_spelling.specs.Scan.{Scan}
-use Rattle.chunk_types.proofs.Values.{chunk_only}
+use Rattle.chunk_types.specs.Chunks.{illness}
+use Rattle.chunk_types.proofs.Values.{chunk_only, chunk_found}
 use Rattle.packet_frame.specs.declared.fault.FrameFault.{FrameFault}
 use Rattle.packet_frame.specs.declared.frame.PlainFrame.{PlainFrame}
 use Rattle.packet_frame.specs.declared.refusal.FrameRefusal.{FrameRefusal}
@@ -12,9 +17,9 @@ use Rattle.packet_frame.specs.Bytes.{frame_bytes}
 use Rattle.packet_frame.specs.Forms.{FrameFits, frame_at}
 use Rattle.packet_frame.specs.Frames.{SpellsFrame, SpellingFault, too_long, begins, carried}
 use Rattle.packet_frame.specs.Typed.{CarriesTyped, Accepts, FrameFirst, misspelled, ill_typed}
-use Rattle.packet_frame.proofs.Carried.{chunk_is_formed}
-use Rattle.packet_frame.proofs.FrameLaws.{spelled_read, found_whole, trailing_fault, refused_fault, one_fault_is, never_both_is}
-use Rattle.frame_text.specs.Reads.{all_read, spelled_of, or_ill, illness_in, typed_of, frame_of}
+use Rattle.packet_frame.proofs.Carried.{chunk_is_formed, chunk_is_full, chunk_is_small}
+use Rattle.packet_frame.proofs.FrameLaws.{spelled_read, found_whole, trailing_fault, refused_fault, one_fault_is, either_is, never_both_is}
+use Rattle.frame_text.specs.Decoding.{all_read, spelled_of, or_ill, illness_in, typed_of, frame_of}
 
 -- ---- spellings
 
@@ -58,3 +63,29 @@ pub first_is : (bytes : List ℕ) (e : FrameRefusal) → IsBytes bytes → Frame
 unfolding frame_of
 first_is bytes e h (misspelled f s is) = ap typed_of (fault_is bytes h f s) ∙ ap Err (sym is)
 first_is bytes e h (ill_typed x spells c) = ap typed_of (spelled_is bytes x spells) ∙ ap (or_ill x) (ap illness_in c.is_carried ∙ c.first) ∙ ap Err (sym c.is)
+
+-- ---- and the answer is a frame only where the bytes spell it and its chunk is typed
+
+found_chunk : (c : Chunk) → a_whole_chunk.Fits c → illness c ≡ None → IsTypedChunk c
+found_chunk c fits well = (chunk_found c (chunk_is_formed c fits) (chunk_is_full c fits) (chunk_is_small c fits) well).typed
+
+found_typed : (x : PlainFrame) → FrameFits x → illness_in (carried x) ≡ None → CarriesTyped x
+found_typed (PlainFrame.Packet p) fits well = found_chunk p.chunk fits.1.1.1.1.1.0 well
+found_typed (PlainFrame.Advert a) fits well = tt
+found_typed (PlainFrame.Ask bound c) fits well = found_chunk c fits.1.0 well
+
+module _ (bytes : List ℕ) (x : PlainFrame) where
+  by_illness : (y : PlainFrame) → SpellsFrame bytes y → (o : Option Ill) → illness_in (carried y) ≡ o → or_ill y o ≡ Ok x → Accepts bytes x
+  by_illness y spells None well e = let same : y ≡ x = cc in subst (Accepts bytes) same (record { spells = spells; typed = found_typed y spells.fits well })
+  by_illness y spells (Some i) well e = absurd (cc)
+
+  by_spelling : IsBytes bytes → ((y : PlainFrame) × SpellsFrame bytes y) ⊎ ((f : FrameFault) × SpellingFault f bytes) → typed_of (spelled_of bytes) ≡ Ok x → Accepts bytes x
+  by_spelling h (inl (y, spells)) e = by_illness y spells (illness_in (carried y)) refl (sym (ap typed_of (spelled_is bytes y spells)) ∙ e)
+  by_spelling h (inr (f, first)) e = absurd (err_is_no_ok (sym (ap typed_of (fault_is bytes h f first)) ∙ e))
+    where
+      err_is_no_ok : {r : FrameRefusal} → Err r ≡ Ok x → ⊥
+      err_is_no_ok q = cc
+
+pub found_is : (bytes : List ℕ) (x : PlainFrame) → IsBytes bytes → frame_of bytes ≡ Ok x → Accepts bytes x
+unfolding frame_of
+found_is bytes x h e = by_spelling bytes x h (either_is bytes h) e

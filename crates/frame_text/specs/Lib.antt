@@ -1,3 +1,3 @@
 pub mod Frames
 pub mod Reasons
-pub mod Reads
+pub mod Decoding

@@ -3,10 +3,11 @@ ghost use Rattle.wire_bytes.specs.Fields.{IsBytes};
 ghost use Rattle.packet_frame.specs.Typed.{Accepts, FrameFirst};
 ghost use Rattle.packet_frame.specs.declared.frame.PlainFrame.{PlainFrame};
 ghost use Rattle.packet_frame.specs.declared.refusal.FrameRefusal.{FrameRefusal};
-ghost use Rattle.frame_text.specs.Reads.{frame_of};
+ghost use Rattle.frame_text.specs.Decoding.{frame_of};
 
-/// Laws of the one answer: it is the frame where the bytes spell a typed one, and else the first refusal.
+/// Laws of the one answer: it is the frame exactly where the bytes spell a typed one, and else the first refusal.
 pub fn reading_laws()
     ensures frame { (bytes : List ℕ) (x : PlainFrame) → Accepts bytes x → frame_of bytes ≡ Ok x }
+    ensures only { (bytes : List ℕ) (x : PlainFrame) → IsBytes bytes → frame_of bytes ≡ Ok x → Accepts bytes x }
     ensures refusal { (bytes : List ℕ) (e : FrameRefusal) → IsBytes bytes → FrameFirst e bytes → frame_of bytes ≡ Err e }
 {}

@@ -1,5 +1,5 @@
 -- What must be read, in order, and what the first step that fails answers.
-use Rattle.std.specs.Prelude.{◌+◌, ℕ, zero, suc, max, Bool, List, [], ◌∷◌, nat_lt, Option, Some, None, is_some, Result, Ok, Err, if◌then◌else◌}
+use Rattle.std.specs.Prelude.{◌+◌, ℕ, zero, suc, max, Bool, List, [], ◌∷◌, length, nat_lt, Option, Some, None, is_some, Result, Ok, Err, if◌then◌else◌}
 use Rattle.read_laws.specs.Agenda.{FirstFault}
 use Rattle.plan_base.specs.declared.limit.Limit.{Limit}
 use Rattle.plan_base.specs.declared.limit.Limit.TheVariants as limits
@@ -12,16 +12,19 @@ use Rattle.plan_lexer.specs.declared.token.Key.TheVariants as keys
 use Rattle.plan_lexer.specs.declared.token.Symbol.{Symbol}
 use Rattle.plan_lexer.specs.declared.token.Symbol.TheVariants as symbols
 use Rattle.plan_grammar.specs.declared.fault.ParseFault.{ParseFault}
-use Rattle.plan_grammar.specs.declared.fault.ParseFault.TheVariants.{Expected, TooDeep}
+use Rattle.plan_grammar.specs.declared.fault.ParseFault.TheVariants.{Expected, TooDeep, TooMany}
 use Rattle.plan_grammar.specs.declared.fault.Wanted.{Wanted}
 use Rattle.plan_grammar.specs.declared.fault.Wanted.TheVariants as wanted
 use Rattle.plan_grammar.specs.declared.joint.Chain.{Chain}
 use Rattle.plan_grammar.specs.declared.joint.Chain.TheVariants as chains
-use Rattle.plan_grammar.specs.Ahead.{Front, place, behind, next_kind, is_symbol, is_key}
+use Rattle.plan_grammar.specs.declared.level.Level.TheVariants as levels
+use Rattle.plan_grammar.specs.declared.node.Node.{Node}
+use Rattle.plan_grammar.specs.Ahead.{Front, place, behind, next_kind, is_symbol, is_key, is_word}
 use Rattle.plan_grammar.specs.Begins.{kind_type, begins_type, begins_operand, begins_expr}
 use Rattle.plan_grammar.specs.Types.{past}
 use Rattle.plan_grammar.specs.Joints.{joint_of}
-use Rattle.plan_grammar.specs.Exprs.{begins_clause}
+use Rattle.plan_grammar.specs.Nodes.{all_at}
+use Rattle.plan_grammar.specs.Exprs.{begins_clause, expr_to}
 
 -- what an opening bracket may belong to
 pub data Form : Type 0 where
@@ -30,6 +33,14 @@ pub data Form : Type 0 where
   an_eval : Form
   on_remote : Form
   on_neighbor : Form
+
+-- what is declared so far, and where the text ends
+pub record Counted : Type 0 where
+  pub svcs : ℕ
+  pub exns : ℕ
+  pub funs : ℕ
+  pub exprs : ℕ
+  pub end : ℕ
 
 -- what must be read; r constructs may still open, and `left` more items may follow
 pub data Item : Type 0 where
@@ -69,6 +80,16 @@ pub data Item : Type 0 where
   more_vals : ℕ → Item
   clauses : ℕ → ℕ → Item
   maybe_clause : ℕ → ℕ → Item
+  -- behind the bracket of a head: types or parameters, and further ones
+  types : Item
+  more_types : ℕ → Item
+  params : Item
+  more_params : ℕ → Item
+  -- further declarations; one; the body of a function that began there, and the judgement of the body that began at a front
+  declarations : Counted → Item
+  declaration : Counted → Item
+  body : ℕ → Counted → Item
+  judgement : ℕ → Front → Counted → Item
 
 -- what was taken, and where the reading goes on
 abbrev pub Step : Type 0
@@ -151,6 +172,38 @@ type_step more f None = expected wanted.AType f
 abbrev pub right_side : (Front → Bool) → ℕ → (ℕ → List Item) → Front → Step
 right_side begins r items f = if begins f then enter r f items f else expected wanted.AnExpr f
 
+-- the depth and the number of the expressions of the body that begins there
+abbrev pub size_of : Result (Node × Front) ParseFault → ℕ × ℕ
+size_of (Ok x) = (x.0.depth, length (all_at x.0))
+size_of (Err e) = (0, 0)
+
+unfoldable pub body_size : Front → ℕ × ℕ
+body_size f = size_of (expr_to 161 levels.Whole f)
+
+-- a function keeps the limits of depth and, with those before it, of expressions
+abbrev pub judge : ℕ → ℕ × ℕ → Counted → List Item → Front → Step
+judge at size c more f =
+    if nat_lt 64 size.0 then Err (TooDeep at)
+    else if nat_lt 4096 (c.exprs + size.1) then Err (TooMany limits.Nodes at)
+    else Ok (declarations (record c { funs = c.funs + 1; exprs = c.exprs + size.1 }) ∷ more, f)
+
+-- one more of a kind, behind its word
+abbrev pub another : ℕ → Limit → List Item → Front → Step
+another count limit items f = if nat_lt count 64 then Ok (items, behind f) else Err (TooMany limit (place f))
+
+abbrev pub a_service : Counted → List Item → List Item
+a_service c more =
+    a_name ∷ sym symbols.Colon ∷ sym symbols.ParenOpen ∷ types ∷ sym symbols.Arrow ∷ a_type 160 ∷ declarations (record c { svcs = c.svcs + 1 }) ∷ more
+
+abbrev pub a_function : ℕ → Counted → List Item → List Item
+a_function at c more = a_name ∷ sym symbols.ParenOpen ∷ params ∷ sym symbols.Colon ∷ a_type 160 ∷ sym symbols.Equal ∷ body at c ∷ more
+
+abbrev pub a_param : List Item → List Item
+a_param more = a_name ∷ sym symbols.Colon ∷ a_type 159 ∷ more
+
+unfoldable pub begins_name : Front → Bool
+begins_name f = is_word (next_kind f)
+
 -- what is read from the first item of the agenda
 unfoldable pub step : Item → List Item → Front → Step
 step (sym w) more f = if is_symbol w f then Ok (more, behind f) else expected (wanted.Symbol w) f
@@ -210,6 +263,29 @@ step (clauses r (suc left)) more f =
     if is_symbol symbols.Underscore f then Ok (sym symbols.FatArrow ∷ whole r ∷ more, behind f)
     else Ok (a_name ∷ sym symbols.FatArrow ∷ whole r ∷ maybe_clause r left ∷ more, f)
 step (maybe_clause r left) more f = if is_symbol symbols.Bar f then Ok (clauses r left ∷ more, behind f) else Ok (more, f)
+step types more f =
+    if is_symbol symbols.ParenClose f then Ok (more, behind f)
+    else if begins_type f then Ok (a_type 159 ∷ more_types 7 ∷ sym symbols.ParenClose ∷ more, f)
+    else expected (wanted.Symbol symbols.ParenClose) f
+step (more_types zero) more f = if is_symbol symbols.Comma f then Err (past begins_type limits.Parameters wanted.AType (behind f)) else Ok (more, f)
+step (more_types (suc left)) more f = if is_symbol symbols.Comma f then Ok (a_type 159 ∷ more_types left ∷ more, behind f) else Ok (more, f)
+step params more f =
+    if is_symbol symbols.ParenClose f then Ok (more, behind f)
+    else if begins_name f then Ok (a_param (more_params 7 ∷ sym symbols.ParenClose ∷ more), f)
+    else expected (wanted.Symbol symbols.ParenClose) f
+step (more_params zero) more f = if is_symbol symbols.Comma f then Err (past begins_name limits.Parameters wanted.AName (behind f)) else Ok (more, f)
+step (more_params (suc left)) more f = if is_symbol symbols.Comma f then Ok (a_param (more_params left ∷ more), behind f) else Ok (more, f)
+step (declarations c) more f =
+    if nat_lt 0 (length f.tokens) then Ok (declaration c ∷ more, f)
+    else if nat_lt 0 c.funs then Ok (more, f)
+    else Err (Expected (wanted.Key keys.Fun) c.end)
+step (declaration c) more f =
+    if is_key keys.Svc f then another c.svcs limits.Services (a_service c more) f
+    else if is_key keys.Exception f then another c.exns limits.Exceptions (a_name ∷ declarations (record c { exns = c.exns + 1 }) ∷ more) f
+    else if is_key keys.Fun f then another c.funs limits.Functions (a_function (place f) c more) f
+    else expected wanted.ADecl f
+step (body at c) more f = Ok (whole 160 ∷ judgement at f c ∷ more, f)
+step (judgement at start c) more f = judge at (body_size start) c more f
 
 -- the first refusal of an agenda that begins with that item alone
 abbrev pub FirstRefusal : ParseFault → Item → Front → Type 0

@@ -1,4 +1,5 @@
-//! The written grammar of types and expressions, and the laws that the readers keep to it.
+//! The written grammar of types and expressions, the agenda of a reading, and the laws that the readers keep to both.
+//! The agenda goes up to whole programs; what it says of declarations is proved in `program_grammar`.
 //!
 //! Each law stands on a function without code, so that contracts of other crates can name it.
 #![tactic(auto)]

@@ -7,6 +7,7 @@ use Rattle.plan_base.specs.declared.tree.Chunk.{Chunk}
 use Rattle.plan_base.specs.declared.tree.Value.{Value}
 use Rattle.plan_base.specs.Typing.{IsTypedChunk, within}
 use Rattle.plan_base.specs.WellFormed.{IsWellFormedChunk}
+use Rattle.chunk_types.specs.Chunks.{IsCheckedChunk}
 use Rattle.service_api.specs.declared.ctx.Ctx.{Ctx}
 use Rattle.service_api.specs.Services.{Standing, IsGood, IsGoodChunk}
 use Rattle.plan_meaning.specs.declared.stop.Stop.{Stop}
@@ -25,6 +26,10 @@ use Rattle.meaning_laws.proofs.Sound.{visit_soundness}
 
 balance_of : (s : VisitState) (bound : ℕ) → total s ≡ bound + 0 + 0 → s.evals + s.ctx.purse + bounds s.outbox ≡ bound
 balance_of s bound e = omega arith
+
+-- what was checked is good
+pub good_chunk : (k : Chunk) → IsCheckedChunk k → IsGoodChunk k
+good_chunk k h = record { typed = h.typed; formed = h.formed }
 
 module _ (k : Chunk) (ctx : Ctx) (family : Family) (old : Standing) where
   abbrev pub start : VisitState

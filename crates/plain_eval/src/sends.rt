@@ -24,6 +24,7 @@ fn sent_next(
     bound: i64,
     dev: Dev,
 ) -> Result<Value, Stop>
+    requires safe { (s : Standing) × IsSafe (spec.send_neighbour chunk.now host bound dev (joined state.old s)).asks }
     ensures { (s : Standing) → Meets (and_unit (spec.send_neighbour chunk.now host bound dev) (joined state.old s)) result (joined state.new s) }
 {
     state.send_neighbour(alloc, chunk, host, bound, dev)?;

@@ -3,7 +3,8 @@ ghost use Rattle.service_api.specs.Services.{IsGoodChunk};
 ghost use Rattle.plan_meaning.specs.Visit.{IsVisit, allowance, bounds, spent};
 
 use crate::evaluator::{Evaluator, run_to};
-use plan_base::{NoMemory, Packet};
+use packet_frame::CheckedPacket;
+use plan_base::{Chunk, Family, NoMemory};
 use plan_items::Items;
 use plan_meaning::{Outcome, Stop, Visit};
 use service_api::{Ctx, Services};
@@ -24,18 +25,52 @@ fn spent(alloc: Global, bound: u32) -> Visit
     }
 }
 
-/// What the visit of a packet ends with. Conditions: its chunk is typed and well formed, the purse of the surroundings is its bound, which
-/// is at most 65,535, there are at most 8 neighbours, and a `begin` is open. After `WorkSpent` and `NoMemory` the caller
-/// abandons.
-pub fn visit<S: Services>(
+/// What the visit of a chunk ends with.
+fn visit_chunk<S: Services>(
     alloc: Global,
-    p: &Packet,
+    chunk: &Chunk,
+    family: Family,
+    bound: u32,
     svc: &mut S,
     ctx: &Ctx,
 ) -> Result<Visit, NoMemory>
-    requires good { IsGoodChunk p.now.chunk }
+    requires good { IsGoodChunk chunk.now }
+    requires bound { ctx.now.purse ≡ bound }
+    requires small { bound ≤ 65535 }
+    requires near { length ctx.now.neighbours ≤ 8 }
+    requires open { IsSome (S.stands svc.old).begun }
+    ensures visits { IfOk result (λ r. IsVisit allowance chunk.now ctx.entry.now family (S.stands svc.old) r (S.stands svc.new)) }
+    ensures offer { (S.stands svc.new).offer ≡ (S.stands svc.old).offer }
+    ensures begun { (S.stands svc.new).begun ≡ (S.stands svc.old).begun }
+    ensures balance { IfOk result (λ r. r.evals + r.left + bounds r.outbox ≡ bound) }
+{
+    let around = ctx.copy(alloc)?;
+    let mut state = State::new(alloc, around, family, ALLOWANCE);
+    let evaluator = Evaluator {
+        alloc,
+        fuel: ALLOWANCE + 1,
+        run: run_to,
+        of: PhantomData,
+    };
+    match evaluator.visited(&mut state, svc, chunk) {
+        Ok(v) => Ok(state.ended(Outcome::Value(v))),
+        Err(Stop::Raised(x)) => Ok(state.ended(Outcome::Raised(x))),
+        Err(Stop::WorkSpent) => Ok(spent(alloc, bound)),
+        Err(Stop::NoMemory) => Err(NoMemory),
+        Err(Stop::Wrong) => unreachable!(),
+    }
+}
+
+/// What the visit of a packet ends with. Conditions: the purse of the surroundings is its bound, there are at most 8
+/// neighbours, and a `begin` is open. After `WorkSpent` and `NoMemory` the caller abandons.
+#[tactic(auto, using(crate::proofs::Visits::good_chunk))]
+pub fn visit<S: Services>(
+    alloc: Global,
+    p: &CheckedPacket,
+    svc: &mut S,
+    ctx: &Ctx,
+) -> Result<Visit, NoMemory>
     requires bound { ctx.now.purse ≡ p.now.bound }
-    requires small { p.now.bound ≤ 65535 }
     requires near { length ctx.now.neighbours ≤ 8 }
     requires open { IsSome (S.stands svc.old).begun }
     ensures visits { IfOk result (λ r. IsVisit allowance p.now.chunk ctx.entry.now p.now.family (S.stands svc.old) r (S.stands svc.new)) }
@@ -43,19 +78,5 @@ pub fn visit<S: Services>(
     ensures begun { (S.stands svc.new).begun ≡ (S.stands svc.old).begun }
     ensures balance { IfOk result (λ r. r.evals + r.left + bounds r.outbox ≡ p.now.bound) }
 {
-    let around = ctx.copy(alloc)?;
-    let mut state = State::new(alloc, around, p.family, ALLOWANCE);
-    let evaluator = Evaluator {
-        alloc,
-        fuel: ALLOWANCE + 1,
-        run: run_to,
-        of: PhantomData,
-    };
-    match evaluator.visited(&mut state, svc, &p.chunk) {
-        Ok(v) => Ok(state.ended(Outcome::Value(v))),
-        Err(Stop::Raised(x)) => Ok(state.ended(Outcome::Raised(x))),
-        Err(Stop::WorkSpent) => Ok(spent(alloc, p.bound)),
-        Err(Stop::NoMemory) => Err(NoMemory),
-        Err(Stop::Wrong) => unreachable!(),
-    }
+    visit_chunk(alloc, p.chunk().chunk(), p.family(), p.bound(), svc, ctx)
 }

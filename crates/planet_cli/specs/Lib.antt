@@ -6,4 +6,5 @@ pub mod Files
 pub mod Notes
 pub mod Schedules
 pub mod Checks
+pub mod Shows
 pub mod Replays

@@ -5,10 +5,11 @@ use lib.Chars.{codes}
 use Rattle.node_io.specs.Pieces.{AppendsFront}
 use Rattle.program_text.specs.declared.fault.TextFault.{TextFault}
 use Rattle.program_text.specs.Reasons as texts
+use Rattle.frame_text.specs.Reasons as frames
 use Rattle.planet_cli.specs.declared.status.Cause.{Cause}
 use Rattle.planet_cli.specs.declared.status.Cause.TheVariants.{Done, Usage, Refused, ReadFault, WriteFault, LinkFault, SpawnFault, NoMemory, NodesFailed}
 use Rattle.planet_cli.specs.declared.status.Refusal.{Refusal}
-use Rattle.planet_cli.specs.declared.status.Refusal.TheVariants.{Line, At, TooLong}
+use Rattle.planet_cli.specs.declared.status.Refusal.TheVariants.{Line, At, Frame, BadHex, TooLong}
 use Rattle.schedule_text.specs.declared.fault.LineReason.{LineReason}
 use Rattle.schedule_text.specs.declared.fault.LineReason.TheVariants.{BadHeader, BadWord, BadNumber, UnknownHost, UnknownProgram, TwiceNamed, TooMany, ProgramRefused, BadArgument, NotYet}
 
@@ -38,6 +39,8 @@ reason_text reason = reason_name reason
 abbrev pub refusal_text : Refusal → List ℕ
 refusal_text (Line n reason) = codes "planet: line " ++ (decimal n ++ (codes ": " ++ (reason_text reason ++ codes "\n")))
 refusal_text (At byte fault) = codes "planet: at " ++ (decimal byte ++ (codes ": " ++ (texts.reason_text fault ++ codes "\n")))
+refusal_text (Frame refusal) = codes "planet: frame " ++ (frames.reason_text refusal ++ codes "\n")
+refusal_text BadHex = codes "planet: BadHex\n"
 refusal_text TooLong = codes "planet: TooLong\n"
 
 -- the note of a cause

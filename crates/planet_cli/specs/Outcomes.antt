@@ -6,6 +6,7 @@ use Rattle.planet_cli.specs.declared.status.Refusal.TheVariants.{TooLong}
 use Rattle.planet_cli.specs.Requests.{Request, replay, check, show, inject, fleet, node, grow, request_of}
 use Rattle.planet_cli.specs.Schedules.{schedule_limit, schedule_refusal, schedule_output}
 use Rattle.planet_cli.specs.Checks.{program_limit, program_refusal, program_output}
+use Rattle.planet_cli.specs.Shows.{frame_limit, frame_refusal, frame_output}
 
 -- no command, a file that is missing, a file that is refused, or the whole output
 pub data Outcome : Type 0 where
@@ -32,6 +33,7 @@ outcome_at limit rule text (Some bytes) = judged limit rule text bytes
 abbrev pub answered : Option Request → FileMap → Outcome
 answered (Some (replay file)) files = outcome_at schedule_limit schedule_refusal schedule_output (file_at files file)
 answered (Some (check file)) files = outcome_at program_limit program_refusal program_output (file_at files file)
+answered (Some (show file)) files = outcome_at frame_limit frame_refusal frame_output (file_at files file)
 answered _ files = unasked
 
 -- what words make of the files

@@ -70,6 +70,7 @@ named_by _ = None
 abbrev pub built : Option Request → Option Request
 built (Some (replay file)) = Some (replay file)
 built (Some (check file)) = Some (check file)
+built (Some (show file)) = Some (show file)
 built _ = None
 
 -- what words ask for, of the commands that are built

@@ -10,6 +10,9 @@ mod replay;
 #[cfg(test)]
 mod rows;
 mod run;
+mod show;
+#[cfg(test)]
+mod show_rows;
 mod status;
 #[cfg(test)]
 mod tests;
@@ -29,6 +32,7 @@ pub use on_file::on_file;
 use plan_base::NoMemory;
 pub use replay::Replay;
 pub use run::run;
+pub use show::Show;
 pub use status::{Cause, Refusal, Status};
 use std::process::ExitCode;
 pub use top::planet;

@@ -5,6 +5,7 @@ ghost use Rattle.planet_cli.specs.Refusals.{Gives};
 
 use crate::status::{Cause, Refusal};
 use node_io::{Sink, put_all};
+use packet_frame::FrameRefusal;
 use plan_base::{Bytes, Host, NoMemory};
 use program_text::{TextFault, place_of, put_reason};
 use schedule_text::LineReason;
@@ -71,6 +72,16 @@ fn text_note(alloc: Global, byte: u32, fault: &TextFault) -> Result<Bytes, NoMem
     Ok(note)
 }
 
+// The note of a refused frame with its line feed.
+fn frame_note(alloc: Global, refused: &FrameRefusal) -> Result<Bytes, NoMemory>
+    ensures { IfOk result (λ note. note ≡ refusal_text (Refusal.Frame refused.now)) }
+{
+    let mut note = bytes_of(alloc, b"planet: frame ")?;
+    frame_text::put_reason(alloc, refused, &mut note)?;
+    note.add_all(b"\n")?;
+    Ok(note)
+}
+
 fn bytes_of(alloc: Global, text: &[u8]) -> Result<Bytes, NoMemory>
     ensures { IfOk result (λ bytes. bytes ≡ text.now) }
 {
@@ -86,6 +97,8 @@ fn refusal_note(alloc: Global, refusal: &Refusal) -> Result<Bytes, NoMemory>
     match refusal {
         Refusal::Line(line, reason) => line_note(alloc, *line, reason),
         Refusal::At(byte, fault) => text_note(alloc, *byte, fault),
+        Refusal::Frame(refused) => frame_note(alloc, refused),
+        Refusal::BadHex => bytes_of(alloc, b"planet: BadHex\n"),
         Refusal::TooLong => bytes_of(alloc, b"planet: TooLong\n"),
     }
 }

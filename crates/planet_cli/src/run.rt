@@ -10,6 +10,7 @@ ghost use Rattle.planet_cli.specs.declared.status.Refusal.{Refusal};
 use crate::check::Check;
 use crate::on_file::on_file;
 use crate::replay::Replay;
+use crate::show::Show;
 use crate::status::Cause;
 use crate::words::{Command, read_words};
 use node_io::{Files, Sink};
@@ -54,5 +55,6 @@ pub fn run<F: Files, K: Sink>(alloc: Global, words: &Texts, files: &mut F, out: 
         None => Cause::Usage,
         Some(Command::Replay(file)) => on_file::<Replay, F, K>(alloc, files, file, out),
         Some(Command::Check(file)) => on_file::<Check, F, K>(alloc, files, file, out),
+        Some(Command::Show(file)) => on_file::<Show, F, K>(alloc, files, file, out),
     }
 }

@@ -1,3 +1,4 @@
+use packet_frame::FrameRefusal;
 use plan_base::Host;
 use program_text::TextFault;
 use schedule_text::LineReason;
@@ -41,6 +42,10 @@ pub enum Refusal {
     Line(u32, LineReason),
     /// The text is no typed program: the byte of the first refusal, from 0, and the refusal.
     At(u32, TextFault),
+    /// The bytes are no frame whose chunk is typed.
+    Frame(FrameRefusal),
+    /// The file is no hex.
+    BadHex,
     /// The file has more bytes than its limit.
     TooLong,
 }

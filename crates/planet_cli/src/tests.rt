@@ -1,5 +1,5 @@
 use crate::status::Status;
-use crate::{planet, rows, visit_rows};
+use crate::{planet, rows, show_rows, visit_rows};
 use node_io::{
     Arrivals, Calls, FileList, MemClock, MemFiles, MemLink, MemSink, MemSpawner, Moments, Statuses,
 };
@@ -146,6 +146,7 @@ fn programs_of_the_whole_language_run(rt: HostRuntime) -> Result<(), Fail> {
             visit_rows::LONG_SUM_THROUGH_MANY_FUNCTIONS,
             visit_rows::LONG_SUM_THROUGH_MANY_FUNCTIONS_OUTPUT,
         ),
+        (visit_rows::DEEP_EVALS, visit_rows::DEEP_EVALS_OUTPUT),
     ] {
         let (code, out, notes) = on_bytes(rt.alloc(), "replay", schedule)?;
         assert_eq!(rt; code, 0);
@@ -252,6 +253,76 @@ fn other_programs_are_refused_at_their_byte(rt: HostRuntime) -> Result<(), Fail>
     Ok(())
 }
 
+#[test]
+fn frames_say_what_they_carry(rt: HostRuntime) -> Result<(), Fail> {
+    for (hex, output) in [
+        (show_rows::PACKET, show_rows::PACKET_OUTPUT),
+        (show_rows::UPPER, show_rows::PACKET_OUTPUT),
+        (show_rows::ASK, show_rows::ASK_OUTPUT),
+        (show_rows::ADVERT, show_rows::ADVERT_OUTPUT),
+        (
+            show_rows::FIRST_RUN_FRAME,
+            show_rows::FIRST_RUN_FRAME_OUTPUT,
+        ),
+        (
+            show_rows::PRINTED_OPERATORS,
+            show_rows::PRINTED_OPERATORS_OUTPUT,
+        ),
+        (show_rows::CUT_PART, show_rows::CUT_PART_OUTPUT),
+    ] {
+        let (code, out, notes) = on_bytes(rt.alloc(), "show", hex)?;
+        assert_eq!(rt; code, 0);
+        assert_eq!(rt; out.taken().as_slice(), output);
+        assert_eq!(rt; notes.taken().as_slice(), b"".as_slice());
+    }
+    Ok(())
+}
+
+#[test]
+fn what_is_no_frame_in_hex_is_refused(rt: HostRuntime) -> Result<(), Fail> {
+    for (hex, note) in [
+        (
+            show_rows::TRAILING_BYTE,
+            b"planet: frame Trailing 50\n".as_slice(),
+        ),
+        (
+            show_rows::ILL_TYPED,
+            b"planet: frame IllTyped Argument 0\n".as_slice(),
+        ),
+        (
+            show_rows::SECOND_VERSION_UNKNOWN,
+            b"planet: frame BadVersion\n".as_slice(),
+        ),
+        // an odd number of digits, a byte that is no digit, a second line feed
+        (b"504\n".as_slice(), b"planet: BadHex\n".as_slice()),
+        (b"50 c\n".as_slice(), b"planet: BadHex\n".as_slice()),
+        (b"504c\n\n".as_slice(), b"planet: BadHex\n".as_slice()),
+    ] {
+        let (code, out, notes) = on_bytes(rt.alloc(), "show", hex)?;
+        assert_eq!(rt; code, 2);
+        assert_eq!(rt; out.taken().as_slice(), b"".as_slice());
+        assert_eq!(rt; notes.taken().as_slice(), note);
+    }
+    Ok(())
+}
+
+#[test]
+fn every_beginning_of_a_frame_is_refused_where_it_is_cut(rt: HostRuntime) -> Result<(), Fail> {
+    let alloc = rt.alloc();
+    for count in 0..50 {
+        let mut hex = Vec::from_slice(alloc, show_rows::PACKET)?;
+        hex.truncate(2 * count);
+        hex.push(b'\n')?;
+        let at = show_rows::CUT_AT[count];
+        let note = format!(in alloc; "planet: frame Truncated {at}\n")?;
+        let (code, out, notes) = on_bytes(alloc, "show", hex.as_slice())?;
+        assert_eq!(rt; code, 2, "cut after {count}");
+        assert_eq!(rt; out.taken().len(), 0);
+        assert_eq!(rt; notes.taken().as_slice(), note.as_bytes());
+    }
+    Ok(())
+}
+
 // The code of these words on the first run, which wrote no output, and the notes.
 fn refused_words(alloc: Global, words: &[&str]) -> Result<(u8, usize, MemSink), Fail> {
     let mut files = files_of(alloc, rows::FIRST_RUN, &[])?;
@@ -269,7 +340,7 @@ fn words_that_name_no_command_are_usage(rt: HostRuntime) -> Result<(), Fail> {
     let (code, written, notes) = refused_words(rt.alloc(), &["replay"])?;
     assert_eq!(rt; (code, written), (1, 0));
     assert_eq!(rt; notes.taken().as_slice(), USAGE);
-    let (code, written, notes) = refused_words(rt.alloc(), &["show", "schedule.txt"])?;
+    let (code, written, notes) = refused_words(rt.alloc(), &["grow", "schedule.txt"])?;
     assert_eq!(rt; (code, written), (1, 0));
     assert_eq!(rt; notes.taken().as_slice(), USAGE);
     Ok(())
@@ -325,6 +396,18 @@ fn a_program_of_one_byte_too_many_is_too_long(rt: HostRuntime) -> Result<(), Fai
     let mut bytes = Vec::from_slice(alloc, b"fun f() : unit = ()\n")?;
     bytes.resize(65_537, b'\n')?;
     let (code, out, notes) = on_bytes(alloc, "check", bytes.as_slice())?;
+    assert_eq!(rt; code, 2);
+    assert_eq!(rt; out.taken().len(), 0);
+    assert_eq!(rt; notes.taken().as_slice(), b"planet: TooLong\n".as_slice());
+    Ok(())
+}
+
+#[test]
+fn a_frame_of_one_digit_too_many_is_too_long(rt: HostRuntime) -> Result<(), Fail> {
+    let alloc = rt.alloc();
+    let mut bytes = Vec::new(alloc);
+    bytes.resize(33_026, b'0')?;
+    let (code, out, notes) = on_bytes(alloc, "show", bytes.as_slice())?;
     assert_eq!(rt; code, 2);
     assert_eq!(rt; out.taken().len(), 0);
     assert_eq!(rt; notes.taken().as_slice(), b"planet: TooLong\n".as_slice());

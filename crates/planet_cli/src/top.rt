@@ -1,14 +1,17 @@
-ghost use Rattle.std.specs.Prelude.{◌≡◌, ◌++◌, ◌⊎◌, IsTrue, None};
+ghost use Rattle.std.specs.Prelude.{◌≡◌, ◌++◌, ◌⊎◌, List, ℕ, IsTrue, Some, None};
 ghost use Rattle.node_io.specs.Causes.{Rose};
 ghost use Rattle.node_io.specs.Pieces.{AppendsFront};
-ghost use Rattle.planet_cli.specs.Requests.{request_of};
+ghost use Rattle.planet_cli.specs.Requests.{show, request_of};
 ghost use Rattle.planet_cli.specs.Outcomes.{refused, outcome_of, output_of, IsWhole};
 ghost use Rattle.planet_cli.specs.Refusals.{IfRefused, IfNodesFailed, Gives, code_of};
 ghost use Rattle.planet_cli.specs.Notes.{Noted};
 ghost use Rattle.planet_cli.specs.Files.{AsksFor};
 ghost use Rattle.planet_cli.specs.Checks.{IsCheckOf, sizes_text};
+ghost use Rattle.planet_cli.specs.Shows.{IsShowOf};
 ghost use Rattle.planet_cli.specs.Replays.{IsReplayOf, KeepsLedger};
 ghost use Rattle.plan_base.specs.declared.tree.Program.{Program};
+ghost use Rattle.packet_frame.specs.declared.frame.PlainFrame.{PlainFrame};
+ghost use Rattle.frame_text.specs.Frames.{frame_text};
 ghost use Rattle.schedule_text.specs.declared.schedule.Schedule.{Schedule};
 ghost use Rattle.world_laws.specs.World.{opening};
 ghost use Rattle.world_laws.specs.Texts.{run_text};
@@ -99,6 +102,23 @@ pub fn planet<F: Files, K: Sink, N: Sink, L: Link, C: Clock, P: Spawner>(
         → IsCheckOf words.now (F.files files.old) p
         → result.cause ≡ Cause.Done
         → K.taken out.new ≡ K.taken out.old ++ sizes_text p }
+    // And of `show`: the hex of a frame whose chunk is typed has a whole output, nothing else is done, and what was
+    // written is what the frame says.
+    ensures shown_whole { IsTrue F.tells
+        → (x : PlainFrame)
+        → IsShowOf words.now (F.files files.old) x
+        → IsWhole (outcome_of words.now (F.files files.old)) }
+    ensures shown_only { IsTrue F.tells
+        → (file : List ℕ)
+        → request_of words.now ≡ Some (show file)
+        → result.cause ≡ Cause.Done
+        → (x : PlainFrame) × IsShowOf words.now (F.files files.old) x }
+    ensures shown { IsTrue F.tells
+        → IsTrue K.tells
+        → (x : PlainFrame)
+        → IsShowOf words.now (F.files files.old) x
+        → result.cause ≡ Cause.Done
+        → K.taken out.new ≡ K.taken out.old ++ frame_text x }
     ensures asked { IsTrue F.tells → AsksFor (request_of words.now) (F.asked files.old) (F.asked files.new) }
     ensures made { IsTrue F.tells → F.made files.new ≡ F.made files.old }
     ensures files { IsTrue F.tells → F.files files.new ≡ F.files files.old }

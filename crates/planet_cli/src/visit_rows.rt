@@ -378,3 +378,82 @@ pub const LONG_SUM_THROUGH_MANY_FUNCTIONS_OUTPUT: &[u8] = b"planet trace 1\n\
 ledger\n\
 1.1 granted 0 hops 0 evals 0 live 0 left 0\n\
 end\n";
+
+// 64 expressions deep, through 64 functions and a thousand evals inside each other, each of which costs 1 of the bound.
+pub const DEEP_EVALS: &[u8] = b"planet schedule 1\n\
+host 1\n\
+program p\n\
+fun f0() : bool = eval(|f63|()); true\n\
+fun f1() : bool = not not not not not not not not not not not not not not not not not not not f0()\n\
+fun f2() : bool = not not not not not not not not not not not not not not not not not not not f1()\n\
+fun f3() : bool = not not not not not not not not not not not not not not not not not not not f2()\n\
+fun f4() : bool = not not not not not not not not not not not not not not not not not not not f3()\n\
+fun f5() : bool = not not not not not not not not not not not not not not not not not not not f4()\n\
+fun f6() : bool = not not not not not not not not not not not not not not not not not not not f5()\n\
+fun f7() : bool = not not not not not not not not not not not not not not not not not not not f6()\n\
+fun f8() : bool = not not not not not not not not not not not not not not not not not not not f7()\n\
+fun f9() : bool = not not not not not not not not not not not not not not not not not not not f8()\n\
+fun f10() : bool = not not not not not not not not not not not not not not not not not not not f9()\n\
+fun f11() : bool = not not not not not not not not not not not not not not not not not not not f10()\n\
+fun f12() : bool = not not not not not not not not not not not not not not not not not not not f11()\n\
+fun f13() : bool = not not not not not not not not not not not not not not not not not not not f12()\n\
+fun f14() : bool = not not not not not not not not not not not not not not not not not not not f13()\n\
+fun f15() : bool = not not not not not not not not not not not not not not not not not not not f14()\n\
+fun f16() : bool = not not not not not not not not not not not not not not not not not not not f15()\n\
+fun f17() : bool = not not not not not not not not not not not not not not not not not not not f16()\n\
+fun f18() : bool = not not not not not not not not not not not not not not not not not not not f17()\n\
+fun f19() : bool = not not not not not not not not not not not not not not not not not not not f18()\n\
+fun f20() : bool = not not not not not not not not not not not not not not not not not not not f19()\n\
+fun f21() : bool = not not not not not not not not not not not not not not not not not not not f20()\n\
+fun f22() : bool = not not not not not not not not not not not not not not not not not not not f21()\n\
+fun f23() : bool = not not not not not not not not not not not not not not not not not not not f22()\n\
+fun f24() : bool = not not not not not not not not not not not not not not not not not not not f23()\n\
+fun f25() : bool = not not not not not not not not not not not not not not not not not not not f24()\n\
+fun f26() : bool = not not not not not not not not not not not not not not not not not not not f25()\n\
+fun f27() : bool = not not not not not not not not not not not not not not not not not not not f26()\n\
+fun f28() : bool = not not not not not not not not not not not not not not not not not not not f27()\n\
+fun f29() : bool = not not not not not not not not not not not not not not not not not not not f28()\n\
+fun f30() : bool = not not not not not not not not not not not not not not not not not not not f29()\n\
+fun f31() : bool = not not not not not not not not not not not not not not not not not not not f30()\n\
+fun f32() : bool = not not not not not not not not not not not not not not not not not not not f31()\n\
+fun f33() : bool = not not not not not not not not not not not not not not not not not not not f32()\n\
+fun f34() : bool = not not not not not not not not not not not not not not not not not not not f33()\n\
+fun f35() : bool = not not not not not not not not not not not not not not not not not not not f34()\n\
+fun f36() : bool = not not not not not not not not not not not not not not not not not not not f35()\n\
+fun f37() : bool = not not not not not not not not not not not not not not not not not not not f36()\n\
+fun f38() : bool = not not not not not not not not not not not not not not not not not not not f37()\n\
+fun f39() : bool = not not not not not not not not not not not not not not not not not not not f38()\n\
+fun f40() : bool = not not not not not not not not not not not not not not not not not not not f39()\n\
+fun f41() : bool = not not not not not not not not not not not not not not not not not not not f40()\n\
+fun f42() : bool = not not not not not not not not not not not not not not not not not not not f41()\n\
+fun f43() : bool = not not not not not not not not not not not not not not not not not not not f42()\n\
+fun f44() : bool = not not not not not not not not not not not not not not not not not not not f43()\n\
+fun f45() : bool = not not not not not not not not not not not not not not not not not not not f44()\n\
+fun f46() : bool = not not not not not not not not not not not not not not not not not not not f45()\n\
+fun f47() : bool = not not not not not not not not not not not not not not not not not not not f46()\n\
+fun f48() : bool = not not not not not not not not not not not not not not not not not not not f47()\n\
+fun f49() : bool = not not not not not not not not not not not not not not not not not not not f48()\n\
+fun f50() : bool = not not not not not not not not not not not not not not not not not not not f49()\n\
+fun f51() : bool = not not not not not not not not not not not not not not not not not not not f50()\n\
+fun f52() : bool = not not not not not not not not not not not not not not not not not not not f51()\n\
+fun f53() : bool = not not not not not not not not not not not not not not not not not not not f52()\n\
+fun f54() : bool = not not not not not not not not not not not not not not not not not not not f53()\n\
+fun f55() : bool = not not not not not not not not not not not not not not not not not not not f54()\n\
+fun f56() : bool = not not not not not not not not not not not not not not not not not not not f55()\n\
+fun f57() : bool = not not not not not not not not not not not not not not not not not not not f56()\n\
+fun f58() : bool = not not not not not not not not not not not not not not not not not not not f57()\n\
+fun f59() : bool = not not not not not not not not not not not not not not not not not not not f58()\n\
+fun f60() : bool = not not not not not not not not not not not not not not not not not not not f59()\n\
+fun f61() : bool = not not not not not not not not not not not not not not not not not not not f60()\n\
+fun f62() : bool = not not not not not not not not not not not not not not not not not not not f61()\n\
+fun f63() : bool = not not not not not not not not not not not not not not not not not not not not not not not not not not not not not not not not not not not not not not not not not not not not not not not not not not not not not not not not not not not not not not not f62()\n\
+end program\n\
+events\n\
+inject 1 p f63 1000 ()\n";
+
+pub const DEEP_EVALS_OUTPUT: &[u8] = b"planet trace 1\n\
+1 inject @1 1.1 bound 1000\n\
+1 raised @1 1.1 NoBound evals 1000 left 0\n\
+ledger\n\
+1.1 granted 1000 hops 0 evals 1000 live 0 left 0\n\
+end\n";

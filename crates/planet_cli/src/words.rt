@@ -16,6 +16,8 @@ pub enum Command<'a> {
     Replay(&'a str),
     /// `check FILE`
     Check(&'a str),
+    /// `show FILE`
+    Show(&'a str),
 }
 
 fn utf8_text(bytes: &[u8]) -> Option<&str>
@@ -52,6 +54,9 @@ fn command_on<'a>(name: &[u8], file: &'a str) -> Option<Command<'a>>
     }
     if is(name, b"check") {
         return Some(Command::Check(file));
+    }
+    if is(name, b"show") {
+        return Some(Command::Show(file));
     }
     None
 }

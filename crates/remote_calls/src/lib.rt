@@ -14,5 +14,5 @@ pub use purse::Purse;
 pub use sends::{default_route, on_neighbor, on_remote, send};
 pub use way::{Way, neighbour_way, remote_way};
 
-
-
+#[cfg(test)]
+mod tests;

@@ -50,8 +50,8 @@ impl SpelledPacket {
         })
     }
 
-    /// The packet: its bytes are read, and its chunk is checked. The other answers of the reading can't come, since the bytes
-    /// are the frame of a typed packet.
+    /// The packet: its bytes are read, and its chunk is checked. The bytes are the frame of a typed packet, so the reading
+    /// answers it or refuses memory; each other arm is proved never to be reached.
     #[tactic(auto, using(crate::proofs::Reading::is_accepted))]
     pub fn open(&self, alloc: Global) -> Result<CheckedPacket, NoMemory>
         ensures { IfOk result (λ p. p ≡ self.now) }
@@ -59,7 +59,8 @@ impl SpelledPacket {
         match get_frame(alloc, self.bytes.as_slice()) {
             Ok(Frame::Packet(packet)) => Ok(packet),
             Ok(Frame::Advert(_) | Frame::Ask(_, _)) => unreachable!(),
-            Err(_) => Err(NoMemory),
+            Err(FrameRefusal::NoMemory) => Err(NoMemory),
+            Err(_) => unreachable!(),
         }
     }
 

@@ -1,5 +1,6 @@
 use Rattle.std.proofs.Common.{ℕ, List, ◌++◌, ap, ◌∙◌}
 use Rattle.planet_cli.proofs.Headline.{done_found, replay_output, replay_ledger, check_output}
+use Rattle.planet_cli.proofs.Showing.{show_output, show_is_whole, show_found}
 use Rattle.planet_cli.proofs.top.planet.Goals as goal
 
 pub returns-clause-replayed : goal.returns-clause-replayed
@@ -16,3 +17,18 @@ returns-clause-checked g c =
     λ files_tell out_tells p checks done.
     let found = done_found _ _ _ c.settle-cause.ensures.gives done in
     c.run-found.ensures.whole files_tell out_tells found ∙ ap (λ text. g.K.Sink.taken c.args.out.now ++ text) (check_output _ _ p checks (c.run-found.ensures.accepted files_tell found))
+
+pub returns-clause-shown : goal.returns-clause-shown
+returns-clause-shown g c =
+    λ files_tell out_tells x shows done.
+    let found = done_found _ _ _ c.settle-cause.ensures.gives done in
+    c.run-found.ensures.whole files_tell out_tells found ∙ ap (λ text. g.K.Sink.taken c.args.out.now ++ text) (show_output _ _ x shows)
+
+pub returns-clause-shown_whole : goal.returns-clause-shown_whole
+returns-clause-shown_whole g c = λ files_tell x shows. show_is_whole _ _ x shows
+
+pub returns-clause-shown_only : goal.returns-clause-shown_only
+returns-clause-shown_only g c =
+    λ files_tell file asks done.
+    let found = done_found _ _ _ c.settle-cause.ensures.gives done in
+    show_found _ _ file asks (c.run-found.ensures.accepted files_tell found)

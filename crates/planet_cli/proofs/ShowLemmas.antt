@@ -1,0 +1,67 @@
+-- A text without the line feed that it may have at its end, and how long it is; a frame that is refused.
+use Rattle.std.proofs.Common.{◌≡◌, ◌≤◌, ◌⊎◌, inl, inr, Some, Result, Ok, Err, subst, ℕ, ◌+◌, ◌-◌, ◌==◌, Bool, true, false, List, [], ◌∷◌, length, take, get_or, refl, sym, ◌∙◌, ap, arith}
+use Rattle.std.specs.Prelude.{IsErrOf, nat_lt, if◌then◌else◌}
+use Rattle.std.proofs.lemmas.Bool.{eq-eqb, ne_eqb, le-ltb}
+use Rattle.std.proofs.lemmas.List.{length-take}
+use Rattle.hex.specs.Hex.{decode_of, IsBytes}
+use Rattle.hex.proofs.HexLemmas.{decode_of-ok}
+use Rattle.packet_frame.specs.declared.refusal.FrameRefusal.{FrameRefusal}
+use Rattle.packet_frame.specs.Typed.{FrameFirst}
+use Rattle.frame_text.specs.Decoding.{frame_of}
+use Rattle.frame_text.proofs.OneAnswer.{first_is}
+use Rattle.planet_cli.specs.declared.command.Stop.{Stop}
+use Rattle.planet_cli.specs.declared.command.Stop.TheVariants as stops
+use Rattle.planet_cli.specs.Refusals.{IfStoppedRefused}
+use Rattle.planet_cli.specs.Shows.{without_feed, stop_for, framed_refusal}
+
+pub no_text : (text : List ℕ) → length text ≡ 0 → text ≡ without_feed text
+no_text [] h = refl
+no_text (b ∷ bs) h = absurd (omega (arith, h))
+
+-- the text by its last byte
+by_last : (text : List ℕ) (last : ℕ) → last + 1 ≡ length text → without_feed text ≡ (if get_or text last 0 == 10 then take last text else text)
+by_last text last e = let i : length text - 1 ≡ last = omega (arith, e) in ap (λ k. if get_or text k 0 == 10 then take k text else text) i
+
+pub feed_off : (text : List ℕ) (last : ℕ) → last + 1 ≡ length text → get_or text last 0 ≡ 10 → take last text ≡ without_feed text
+feed_off text last e h = sym (by_last text last e ∙ ap (λ b. if b then take last text else text) (eq-eqb (get_or text last 0) 10 h))
+
+pub no_feed : (text : List ℕ) (last : ℕ) → last + 1 ≡ length text → (get_or text last 0 ≡ 10 → ⊥) → text ≡ without_feed text
+no_feed text last e h = sym (by_last text last e ∙ ap (λ b. if b then take last text else text) (ne_eqb (get_or text last 0) 10 h))
+
+-- ---- a text in hex that stands for few bytes is short
+
+one_less : (text : List ℕ) (b : Bool) → length text ≤ length (if b then take (length text - 1) text else text) + 1
+one_less text true = let e = length-take (length text - 1) text in omega (arith, e)
+one_less text false = omega arith
+
+pub short_hex : (text bytes : List ℕ) → decode_of (without_feed text) ≡ Ok bytes → length bytes ≤ 16512 → nat_lt 33025 (length text) ≡ false
+short_hex text bytes h short =
+    let even = (decode_of-ok (without_feed text) bytes h).2 in
+    let more = one_less text (get_or text (length text - 1) 0 == 10) in
+    le-ltb 33025 (length text) (omega (arith, even, more))
+
+pub decoded_bytes : (text bytes : List ℕ) → decode_of text ≡ Ok bytes → IsBytes bytes
+decoded_bytes text bytes h = (decode_of-ok text bytes h).3
+
+-- ---- a frame that is refused
+
+pub frame_stopped : (T : Type 0) (bytes : List ℕ) (e : FrameRefusal) (s : Stop) → s ≡ stop_for e → IsBytes bytes → (e ≡ FrameRefusal.NoMemory) ⊎ FrameFirst e bytes
+    → IfStoppedRefused {T = T} (Err s) (λ r. framed_refusal (frame_of bytes) ≡ Some r)
+frame_stopped T bytes e s is h fault =
+    let P : Stop → Type 0 = λ q. IfStoppedRefused {T = T} (Err q) (λ r. framed_refusal (frame_of bytes) ≡ Some r) in
+    subst P (sym is) (by_refusal e fault)
+  where
+    by_refusal : (d : FrameRefusal) → (d ≡ FrameRefusal.NoMemory) ⊎ FrameFirst d bytes → IfStoppedRefused {T = T} (Err (stop_for d)) (λ r. framed_refusal (frame_of bytes) ≡ Some r)
+    by_refusal (FrameRefusal.Misspelled f) (inl none) = absurd (cc)
+    by_refusal (FrameRefusal.Misspelled f) (inr first) = ap framed_refusal (first_is bytes (FrameRefusal.Misspelled f) h first)
+    by_refusal (FrameRefusal.IllTyped i) (inl none) = absurd (cc)
+    by_refusal (FrameRefusal.IllTyped i) (inr first) = ap framed_refusal (first_is bytes (FrameRefusal.IllTyped i) h first)
+    by_refusal FrameRefusal.NoMemory q = tt
+
+pub frame_unwritten : (T : Type 0) (e : FrameRefusal) (s : Stop) → s ≡ stop_for e → IsErrOf {T = T} (Err s) stops.WriteFault → ⊥
+frame_unwritten T e s is h = let P : Stop → Type 0 = λ q. IsErrOf {T = T} (Err q) stops.WriteFault in by_refusal e (subst P is h)
+  where
+    by_refusal : (d : FrameRefusal) → IsErrOf {T = T} (Err (stop_for d)) stops.WriteFault → ⊥
+    by_refusal (FrameRefusal.Misspelled f) q = cc
+    by_refusal (FrameRefusal.IllTyped i) q = cc
+    by_refusal FrameRefusal.NoMemory q = cc

@@ -1,0 +1,49 @@
+//! The written grammar of declarations and programs, and the laws that the readers keep to it.
+//!
+//! Each law stands on a function without code, so that contracts of other crates can name it.
+#![tactic(auto)]
+
+ghost use Rattle.std.specs.Prelude.{◌≡◌, ◌↔◌, ℕ, List, Ok, Err};
+ghost use Rattle.plan_base.specs.declared.tree.Draft.{Draft};
+ghost use Rattle.plan_lexer.specs.declared.token.Token.{Token};
+ghost use Rattle.plan_grammar.specs.declared.fault.ParseFault.{ParseFault};
+ghost use Rattle.plan_grammar.specs.declared.node.Node.{Node};
+ghost use Rattle.plan_grammar.specs.Ahead.{Front};
+ghost use Rattle.grammar_laws.specs.Grammar.{ExprAt};
+ghost use Rattle.grammar_laws.specs.Follow.{EndsExpr};
+ghost use Rattle.plan_parser.specs.Programs.{program_of};
+ghost use Rattle.program_grammar.specs.Grammar.{ProgramAt};
+ghost use Rattle.program_grammar.specs.Agenda.{FirstProgramRefusal, IsProgramOrRefused, IsJudgedBy, IsSized};
+
+/// What is read as a program is one by the grammar, with the places of its declarations and expressions.
+pub fn what_is_read_is_written()
+    ensures { (tokens : List Token) (end : ℕ) (d : Draft) → program_of tokens end ≡ Ok d → ProgramAt tokens end d }
+{}
+
+/// A program of the grammar is read.
+pub fn what_is_written_is_read()
+    ensures { (tokens : List Token) (end : ℕ) (d : Draft) → ProgramAt tokens end d → program_of tokens end ≡ Ok d }
+{}
+
+/// Tokens are at most one program.
+pub fn one_reading()
+    ensures { (tokens : List Token) (end : ℕ) (d e : Draft) → ProgramAt tokens end d → ProgramAt tokens end e → d ≡ e }
+{}
+
+/// A program is refused exactly with the first refusal of its agenda, and tokens have at most one.
+pub fn refusals_are_first()
+    ensures first { (tokens : List Token) (end : ℕ) (e : ParseFault) → (program_of tokens end ≡ Err e) ↔ FirstProgramRefusal e tokens end }
+    ensures one { (tokens : List Token) (end : ℕ) (d e : ParseFault) → FirstProgramRefusal d tokens end → FirstProgramRefusal e tokens end → d ≡ e }
+{}
+
+/// Tokens are a program or have a first refusal, and not both.
+pub fn one_answer()
+    ensures some { (tokens : List Token) (end : ℕ) → IsProgramOrRefused tokens end }
+    ensures apart { (tokens : List Token) (end : ℕ) (d : Draft) (e : ParseFault) → ProgramAt tokens end d → FirstProgramRefusal e tokens end → ⊥ }
+{}
+
+/// The agenda judges a body by the depth and the number of the expressions that the grammar gives it.
+pub fn what_is_judged()
+    ensures body { (f g : Front) (n : Node) → ExprAt 160 f n g → EndsExpr g → IsJudgedBy f n }
+    ensures some { (f : Front) → IsSized f }
+{}
