@@ -1,5 +1,5 @@
 -- Activations that come on top of a stack.
-use Rattle.std.proofs.Common.{◌≡◌, ℕ, List, [], ◌∷◌, ◌++◌, length, slice_get, Option, Some, None, IsSome, refl, ◌∙◌, ap}
+use Rattle.std.proofs.Common.{◌≡◌, ℕ, List, [], ◌∷◌, ◌++◌, length, slice_get, Option, Some, None, IsSome, refl, sym, ◌∙◌, ap, append-nil}
 use Rattle.plan_base.specs.declared.tree.Fun.{Fun}
 use Rattle.plan_base.specs.declared.tree.Program.{Program}
 use Rattle.plan_base.specs.declared.tree.Value.{Value}
@@ -16,7 +16,7 @@ use Rattle.plan_eval.specs.declared.next.Next.TheVariants as next
 use Rattle.plan_eval.specs.Stack.{Spot, deeper, resume, start_of, spot_in, ended_in, ended, all_ended, AreLinked, innermost, stands_for}
 use Rattle.plan_eval.specs.Leads.{Leads}
 use Rattle.plan_eval.specs.Nexts.{next_step}
-use Rattle.plan_eval.specs.Turns.{entry, under}
+use Rattle.plan_eval.specs.Turns.{IsPlaced, entry, under}
 use Rattle.plan_eval.proofs.Leading.{onward}
 use Rattle.plan_eval.proofs.Stacks.{resume_leads, all_ended_push, all_ended_leads, ended_leads, ended_push, spot_in_push}
 use Rattle.plan_eval.proofs.Applying.{innermost_top, spot_in_grown, ended_grown, all_ended_grown}
@@ -64,18 +64,22 @@ pub last_one : {A : Type 0} (xs : List A) (x : A) → slice_get (xs ++ x ∷ [])
 last_one [] x = refl
 last_one (y ∷ xs) x = last_one xs x
 
--- a chunk is evaluated
-pub visited_stack : (codes : List Program) (outer : List Activation) (code : Program) (a : Activation) (at : Spot) (k : Chunk) (fun : ℕ) (g : Fun) (env : Env) (s : VisitState)
-    → slice_get codes a.code ≡ Some code → spot_in codes a ≡ Some at → AreLinked codes outer
+-- a program that is there already
+pub placed_there : (codes : List Program) (code : Program) (n : ℕ) → slice_get codes n ≡ Some code → IsPlaced codes code n codes
+placed_there codes code n there = record { more = []; grown = sym (append-nil codes); there = there }
+
+-- a chunk is evaluated, whose program stands among these and more
+pub visited_stack : (codes more : List Program) (n : ℕ) (outer : List Activation) (code : Program) (a : Activation) (at : Spot) (k : Chunk) (fun : ℕ) (g : Fun) (env : Env) (s : VisitState)
+    → slice_get (codes ++ more) n ≡ Some k.code → slice_get codes a.code ≡ Some code → spot_in codes a ≡ Some at → AreLinked codes outer
     → place_of k.entry k.code.funs ≡ Some fun → slice_get k.code.funs fun ≡ Some g → bound g.params k.args ≡ Some env
     → Leads (all_ended codes outer (ended codes a (next_step code a.fun at (next.Visit k) s)))
-    (stands_for (codes ++ k.code ∷ []) ((outer ++ under a frame.Chunk ∷ []) ++ entry (length codes) fun k.args ∷ []) mode.Run s)
+    (stands_for (codes ++ more) ((outer ++ under a frame.Chunk ∷ []) ++ entry n fun k.args ∷ []) mode.Run s)
 unfolding deeper
-visited_stack codes outer code a at k fun g env s is there linked place has binds =
-    rw (on_top (codes ++ k.code ∷ []) outer (under a frame.Chunk) (length codes) fun k.args k.code g env s (last_one codes k.code) has binds)
+visited_stack codes more n outer code a at k fun g env s placed is there linked place has binds =
+    rw (on_top (codes ++ more) outer (under a frame.Chunk) n fun k.args k.code g env s placed has binds)
     (rw (
-      ended_grown codes (k.code ∷ []) (under a frame.Chunk) (meaning k.code fun env g.body s) stands,
-      all_ended_grown codes (k.code ∷ []) outer (ended codes (under a frame.Chunk) (meaning k.code fun env g.body s)) linked,
+      ended_grown codes more (under a frame.Chunk) (meaning k.code fun env g.body s) stands,
+      all_ended_grown codes more outer (ended codes (under a frame.Chunk) (meaning k.code fun env g.body s)) linked,
       ended_push codes code a at frame.Chunk (meaning k.code fun env g.body s) is there,
     )
     (all_ended_leads codes outer _ _ (ended_leads codes a _ _ (resume_leads code a.fun at frame.Chunk _ _ (onward _ _ _ (visited_on k fun s place) (entered_on k.code fun k.args g env s has binds))))))

@@ -1,5 +1,5 @@
 -- What was decided, done on the stack: each case leads on.
-use Rattle.std.proofs.Common.{◌≡◌, ◌≢◌, ℕ, List, [], ◌∷◌, ◌++◌, length, Option, Some, None, IsSome, refl, sym, ◌∙◌}
+use Rattle.std.proofs.Common.{◌≡◌, ◌≢◌, ℕ, List, [], ◌∷◌, ◌++◌, length, Option, Some, None, IsSome, refl, sym, subst, slice_get, ◌∙◌}
 use Rattle.plan_base.specs.declared.tree.Exn.{Exn}
 use Rattle.plan_base.specs.declared.tree.Program.{Program}
 use Rattle.plan_base.specs.declared.tree.Value.{Value}
@@ -18,12 +18,12 @@ use Rattle.plan_eval.specs.declared.next.Next.TheVariants as next
 use Rattle.plan_eval.specs.Stack.{Spot, deeper, resume, spot_in, ended, all_ended, AreLinked, stands_for}
 use Rattle.plan_eval.specs.Leads.{Leads}
 use Rattle.plan_eval.specs.Nexts.{Enters, next_step}
-use Rattle.plan_eval.specs.Turns.{Stands, entry, under}
+use Rattle.plan_eval.specs.Turns.{IsPlaced, Stands, entry, under}
 use Rattle.plan_eval.proofs.Leading.{onward}
 use Rattle.plan_eval.proofs.Stacks.{all_ended_leads, ended_leads, spot_in_push}
 use Rattle.plan_eval.proofs.Applying.{opened_on, given_to, raised_in}
 use Rattle.plan_eval.proofs.Delivering.{visited_on}
-use Rattle.plan_eval.proofs.Entering.{spot_in_entry, entered_stack, visited_stack, last_one, linked_push, linked_grown}
+use Rattle.plan_eval.proofs.Entering.{spot_in_entry, entered_stack, visited_stack, linked_push, linked_grown}
 use Rattle.plan_eval.proofs.Ending.{IsFinal, ended_stops, all_stop, resume_final}
 
 -- where a step gives or raises at once, it leads there
@@ -93,21 +93,31 @@ module _ (codes : List Program) (outer : List Activation) (code : Program) (a : 
         (is_some (spot_in_entry codes a.code fun args code enters.function enters.env here.program enters.has enters.binds)),
   )
 
-  -- a chunk is evaluated
-  pub turn_visit : (k : Chunk) (fun : ℕ) (s : VisitState) → Leads want (next_step code a.fun at (next.Visit k) s)
+  -- a chunk is evaluated, whose program stands among these and more
+  turn_visit_at : (more : List Program) (n : ℕ) (k : Chunk) (fun : ℕ) (s : VisitState) → slice_get (codes ++ more) n ≡ Some k.code → Leads want (next_step code a.fun at (next.Visit k) s)
       → place_of k.entry k.code.funs ≡ Some fun → Enters k.code fun k.args
-      → Leads whole_of (stands_for (codes ++ k.code ∷ []) ((outer ++ under a frame.Chunk ∷ []) ++ entry (length codes) fun k.args ∷ []) mode.Run s)
-      × AreLinked (codes ++ k.code ∷ []) ((outer ++ under a frame.Chunk ∷ []) ++ entry (length codes) fun k.args ∷ [])
+      → Leads whole_of (stands_for (codes ++ more) ((outer ++ under a frame.Chunk ∷ []) ++ entry n fun k.args ∷ []) mode.Run s)
+      × AreLinked (codes ++ more) ((outer ++ under a frame.Chunk ∷ []) ++ entry n fun k.args ∷ [])
   unfolding deeper
-  turn_visit k fun s h place enters = (
-    onward _ _ _ (inside _ h) (visited_stack codes outer code a at k fun enters.function enters.env s here.program here.spot here.linked place enters.has enters.binds),
-    linked_push (codes ++ k.code ∷ []) (outer ++ under a frame.Chunk ∷ []) (entry (length codes) fun k.args)
-        (linked_grown codes (k.code ∷ []) (outer ++ under a frame.Chunk ∷ []) (linked_push codes outer (under a frame.Chunk) here.linked chunk_deep))
-        (is_some (spot_in_entry (codes ++ k.code ∷ []) (length codes) fun k.args k.code enters.function enters.env (last_one codes k.code) enters.has enters.binds)),
+  turn_visit_at more n k fun s placed h place enters = (
+    onward _ _ _ (inside _ h) (visited_stack codes more n outer code a at k fun enters.function enters.env s placed here.program here.spot here.linked place enters.has enters.binds),
+    linked_push (codes ++ more) (outer ++ under a frame.Chunk ∷ []) (entry n fun k.args)
+        (linked_grown codes more (outer ++ under a frame.Chunk ∷ []) (linked_push codes outer (under a frame.Chunk) here.linked chunk_deep))
+        (is_some (spot_in_entry (codes ++ more) n fun k.args k.code enters.function enters.env placed enters.has enters.binds)),
   )
     where
       chunk_deep : IsSome (spot_in codes (under a frame.Chunk))
       chunk_deep = rw (spot_in_push codes a at frame.Chunk here.spot) refl
+
+  -- a chunk is evaluated, whose program was placed
+  pub turn_visit : (new : List Program) (n : ℕ) (k : Chunk) (fun : ℕ) (s : VisitState) → IsPlaced codes k.code n new → Leads want (next_step code a.fun at (next.Visit k) s)
+      → place_of k.entry k.code.funs ≡ Some fun → Enters k.code fun k.args
+      → Leads whole_of (stands_for new ((outer ++ under a frame.Chunk ∷ []) ++ entry n fun k.args ∷ []) mode.Run s)
+      × AreLinked new ((outer ++ under a frame.Chunk ∷ []) ++ entry n fun k.args ∷ [])
+  turn_visit new n k fun s p h place enters =
+      subst (λ (x : List Program). Leads whole_of (stands_for x ((outer ++ under a frame.Chunk ∷ []) ++ entry n fun k.args ∷ []) mode.Run s)
+      × AreLinked x ((outer ++ under a frame.Chunk ∷ []) ++ entry n fun k.args ∷ [])) (sym p.grown)
+      (turn_visit_at p.more n k fun s (subst (λ (x : List Program). slice_get x n ≡ Some k.code) p.grown p.there) h place enters)
 
   visit_ends : (k : Chunk) (s : VisitState) → Leads want (next_step code a.fun at (next.Visit k) s) → (visited meaning k s).after ≡ stopped Wrong s → whole_of.after ≡ stopped Wrong s
   visit_ends k s h none = ends_so Wrong s tt (h.same ∙ resume_final code a.fun Wrong s tt at frame.Chunk (visited meaning k s) none)

@@ -43,6 +43,12 @@ pub record Stands (codes : List Program) (outer : List Activation) (a : Activati
   pub spot : spot_in codes a ≡ Some at
   pub linked : AreLinked codes outer
 
+-- the program stands at the place, and the programs before it stay where they are
+pub record IsPlaced (old : List Program) (code : Program) (at : ℕ) (new : List Program) : Type 0 where
+  pub more : List Program
+  pub grown : new ≡ old ++ more
+  pub there : slice_get new at ≡ Some code
+
 -- a frame that can be added at a spot
 abbrev pub WaitsFor : Spot → Frame → Type 0
 WaitsFor at f = IsSome (deeper at f)

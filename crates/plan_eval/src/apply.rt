@@ -1,6 +1,6 @@
 //! What was decided, done on the stack.
-ghost use Rattle.std.specs.Prelude.{◌≡◌, ◌≢◌, ◌+◌, ◌≤◌, ◌∷◌, ◌++◌, [], ℕ, List, IfOk, OnOk};
-ghost use Rattle.plan_base.specs.declared.tree.Program.{Program};
+ghost use Rattle.std.specs.Prelude.{◌≡◌, ◌≢◌, ◌+◌, ◌≤◌, ◌∷◌, ◌++◌, [], ℕ, List, IfOk, OnOk, IsTrue, Some, slice_get};
+ghost use Rattle.plan_base.specs.declared.tree.Program.{Program as Code};
 ghost use Rattle.service_api.specs.Services.{Standing};
 ghost use Rattle.plan_meaning.specs.declared.stop.Stop.TheVariants as stops;
 ghost use Rattle.plan_meaning.specs.State.{VisitState, joined};
@@ -11,12 +11,12 @@ ghost use Rattle.plan_eval.specs.declared.next.Next.TheVariants as next;
 ghost use Rattle.plan_eval.specs.Leads.{Leads};
 ghost use Rattle.plan_eval.specs.Stack.{Spot, resume, ended, all_ended};
 ghost use Rattle.plan_eval.specs.Nexts.{CanDo, Decides, Enters, IsDone, next_step};
-ghost use Rattle.plan_eval.specs.Turns.{Stands, Turned, WaitsFor, entry, load, under};
+ghost use Rattle.plan_eval.specs.Turns.{IsPlaced, Stands, Turned, WaitsFor, entry, load, under};
 
 use crate::frame::{Activation, Activations, Codes, Frame, Mode};
 use crate::next::Next;
 use crate::place::enters;
-use plan_base::{Chunk, NoMemory, Value, Values, place_of};
+use plan_base::{Chunk, NoMemory, Program, Value, Values, place_of};
 use plan_items::Items;
 use plan_meaning::Stop;
 use std::alloc::Global;
@@ -49,7 +49,7 @@ fn enter(
 /// Opens a part, or enters a `let`.
 #[tactic(auto, using(crate::proofs::Loads::load_open))]
 fn open(outer: &mut Activations, top: Activation, frame: Frame) -> Result<Mode, Stop>
-    ensures turned { (codes : List Program) (code : Program) (at : Spot) (want : Step Value) (s : VisitState) → Stands codes outer.old top code at
+    ensures turned { (codes : List Code) (code : Code) (at : Spot) (want : Step Value) (s : VisitState) → Stands codes outer.old top code at
         → Leads want (next_step code top.fun at (next.Open frame) s) → CanDo code at (next.Open frame)
         → Turned (all_ended codes outer.old (ended codes top want)) result codes outer.new s }
     ensures bounded { (work : ℕ) → IfOk result (λ how. load how outer.new work ≤ load mode.Run (outer.old ++ top ∷ []) work + 3) }
@@ -70,7 +70,7 @@ fn enter_here(
     fun: usize,
     args: Values,
 ) -> Result<Mode, Stop>
-    ensures turned { (codes : List Program) (code : Program) (at : Spot) (want : Step Value) (s : VisitState) → Stands codes outer.old top code at
+    ensures turned { (codes : List Code) (code : Code) (at : Spot) (want : Step Value) (s : VisitState) → Stands codes outer.old top code at
         → WaitsFor at frame → Leads want (resume code top.fun at frame (entered meaning code fun args s)) → Enters code fun args
         → Turned (all_ended codes outer.old (ended codes top want)) result codes outer.new s }
     ensures bounded { (work : ℕ) → IfOk result (λ how. load how outer.new work ≤ load mode.Run (outer.old ++ top ∷ []) work + 3) }
@@ -89,7 +89,7 @@ fn weigh(
     v: Value,
     state: &mut State,
 ) -> Result<Mode, Stop>
-    ensures turned { (codes : List Program) (code : Program) (at : Spot) (want : Step Value) (n : Standing) → Stands codes outer.old top code at
+    ensures turned { (codes : List Code) (code : Code) (at : Spot) (want : Step Value) (n : Standing) → Stands codes outer.old top code at
         → Leads want (weighed v (joined state.old n))
         → Turned (all_ended codes outer.old (ended codes top want)) result codes outer.new (joined state.new n) }
     ensures bounded { IfOk result (λ how. load how outer.new state.new.work ≤ load mode.Run (outer.old ++ top ∷ []) state.old.work + 3) }
@@ -103,6 +103,30 @@ fn weigh(
     }
 }
 
+/// Whether the program at a place is this one.
+fn has_program(codes: &[Program], at: usize, code: &Program) -> bool
+    ensures { IsTrue result → slice_get codes.now at ≡ Some code.now }
+{
+    match codes.get(at) {
+        Some(other) => other.is(code),
+        None => false,
+    }
+}
+
+/// The place of a program among those of the visit: `at`, where it is the program there, or else a new one behind them. So a
+/// chunk that evaluates chunks of its own program doesn't keep a copy for each.
+#[tactic(auto, using(crate::proofs::Entering::last_one, crate::proofs::Entering::placed_there))]
+fn place_program(codes: &mut Codes, at: usize, code: Program) -> Result<usize, NoMemory>
+    ensures { IfOk result (λ n. IsPlaced codes.old code n codes.new) }
+{
+    if has_program(codes.as_slice(), at, &code) {
+        return Ok(at);
+    }
+    let number = codes.len();
+    codes.add(code)?;
+    Ok(number)
+}
+
 /// Begins the evaluation of a chunk.
 #[tactic(auto, using(crate::proofs::Turning::no_visit, crate::proofs::Loads::load_enter))]
 fn visit_chunk(
@@ -112,7 +136,7 @@ fn visit_chunk(
     top: Activation,
     chunk: Chunk,
 ) -> Result<Mode, Stop>
-    ensures turned { (code : Program) (at : Spot) (want : Step Value) (s : VisitState) → Stands codes.old outer.old top code at
+    ensures turned { (code : Code) (at : Spot) (want : Step Value) (s : VisitState) → Stands codes.old outer.old top code at
         → Leads want (next_step code top.fun at (next.Visit chunk) s)
         → Turned (all_ended codes.old outer.old (ended codes.old top want)) result codes.new outer.new s }
     ensures bounded { (work : ℕ) → IfOk result (λ how. load how outer.new work ≤ load mode.Run (outer.old ++ top ∷ []) work + 3) }
@@ -124,8 +148,7 @@ fn visit_chunk(
     if !enters(&code, fun, &args) {
         return Err(Stop::Wrong);
     }
-    let number = codes.len();
-    codes.add(code)?;
+    let number = place_program(codes, top.code, code)?;
     enter(alloc, outer, top, Frame::Chunk, number, fun, args)?;
     Ok(Mode::Run)
 }
@@ -133,7 +156,7 @@ fn visit_chunk(
 /// Raises the exception that an open expression ends with, or ends the visit.
 #[tactic(auto, using(crate::proofs::Loads::load_raise))]
 fn halt(outer: &mut Activations, top: Activation, stop: Stop) -> Result<Mode, Stop>
-    ensures turned { (codes : List Program) (code : Program) (at : Spot) (want : Step Value) (s : VisitState) → Stands codes outer.old top code at
+    ensures turned { (codes : List Code) (code : Code) (at : Spot) (want : Step Value) (s : VisitState) → Stands codes outer.old top code at
         → (stop ≢ stops.NoMemory → want.after ≡ stopped stop s)
         → Turned (all_ended codes outer.old (ended codes top want)) result codes outer.new s }
     ensures bounded { (work : ℕ) → IfOk result (λ how. load how outer.new work ≤ load mode.Run (outer.old ++ top ∷ []) work + 3) }
@@ -158,7 +181,7 @@ fn go_on(
     next: Next,
     state: &mut State,
 ) -> Result<Mode, Stop>
-    ensures turned { (code : Program) (at : Spot) (want : Step Value) (n : Standing) → Stands codes.old outer.old top code at
+    ensures turned { (code : Code) (at : Spot) (want : Step Value) (n : Standing) → Stands codes.old outer.old top code at
         → Leads want (next_step code top.fun at next (joined state.old n)) → CanDo code at next
         → Turned (all_ended codes.old outer.old (ended codes.old top want)) result codes.new outer.new (joined state.new n) }
     ensures bounded { IfOk result (λ how. load how outer.new state.new.work ≤ load mode.Run (outer.old ++ top ∷ []) state.old.work + 3) }
@@ -181,7 +204,7 @@ pub fn apply(
     decided: Result<Next, Stop>,
     state: &mut State,
 ) -> Result<Mode, Stop>
-    ensures turned { (code : Program) (at : Spot) (want : Step Value) (n : Standing) → Stands codes.old outer.old top code at
+    ensures turned { (code : Code) (at : Spot) (want : Step Value) (n : Standing) → Stands codes.old outer.old top code at
         → Decides code top.fun at want decided (joined state.old n) → IsDone code at decided
         → Turned (all_ended codes.old outer.old (ended codes.old top want)) result codes.new outer.new (joined state.new n) }
     ensures bounded { IfOk result (λ how. load how outer.new state.new.work ≤ load mode.Run (outer.old ++ top ∷ []) state.old.work + 3) }

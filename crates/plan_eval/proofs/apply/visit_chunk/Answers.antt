@@ -11,5 +11,6 @@ returns-then-not-enters-clause-turned c code at want s here leads = λ other.
 pub returns-clause-turned : goal.returns-clause-turned
 returns-clause-turned c code at want s here leads =
     let place : place_of c.args.chunk.entry c.args.chunk.code.funs ≡ Some c.in-Some.fun = cc in
-    rw (c.in_ok-add.ensures.ok, c.in_ok-enter.ensures, c.len-number.ensures)
-    (turn_visit c.args.codes.now c.args.outer.now code c.args.top at want here c.args.chunk c.in-Some.fun s leads place (c.if-not-enters.ensures.yes refl))
+    rw c.in_ok-enter.ensures
+    (turn_visit c.args.codes.now c.args.outer.now code c.args.top at want here c.place_program.new.codes c.in_ok-number.number c.args.chunk c.in-Some.fun s c.in_ok-number.ensures leads place
+    (c.if-not-enters.ensures.yes refl))
