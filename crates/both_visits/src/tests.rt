@@ -19,7 +19,7 @@ struct Shown {
     work: u64,
 }
 
-fn shown(visit: &Visit) -> Shown {
+fn show_visit(visit: &Visit) -> Shown {
     let number = match &visit.outcome {
         Outcome::Value(Value::Int(n)) => Some(*n),
         _ => None,
@@ -71,7 +71,7 @@ fn plain(alloc: Global, text: &[u8], bound: u32) -> Result<Shown, Fail>
     let mut services = Prints::new();
     services.begin(alloc)?;
     let visit = plain_eval::visit(alloc, &packet, &mut services, &around(alloc, bound))?;
-    Ok(shown(&visit))
+    Ok(show_visit(&visit))
 }
 
 fn stacked(alloc: Global, text: &[u8], bound: u32) -> Result<Shown, Fail>
@@ -82,7 +82,7 @@ fn stacked(alloc: Global, text: &[u8], bound: u32) -> Result<Shown, Fail>
     let mut services = Prints::new();
     services.begin(alloc)?;
     let visit = plan_eval::visit(alloc, &packet, &mut services, &around(alloc, bound))?;
-    Ok(shown(&visit))
+    Ok(show_visit(&visit))
 }
 
 #[test]
