@@ -146,13 +146,51 @@ fn programs_of_the_whole_language_run(rt: HostRuntime) -> Result<(), Fail> {
             visit_rows::LONG_SUM_THROUGH_MANY_FUNCTIONS,
             visit_rows::LONG_SUM_THROUGH_MANY_FUNCTIONS_OUTPUT,
         ),
-        (visit_rows::DEEP_EVALS, visit_rows::DEEP_EVALS_OUTPUT),
     ] {
         let (code, out, notes) = on_bytes(rt.alloc(), "replay", schedule)?;
         assert_eq!(rt; code, 0);
         assert_eq!(rt; out.taken().as_slice(), output);
         assert_eq!(rt; notes.taken().as_slice(), b"".as_slice());
     }
+    Ok(())
+}
+
+// A function that gives the negation of another's value so many times.
+fn add_negations(alloc: Global, text: &mut Bytes, number: u32, times: u32) -> Result<(), Fail> {
+    let head = format!(in alloc; "fun f{number}() : bool = ")?;
+    text.add_all(head.as_bytes())?;
+    for _ in 0..times {
+        text.add_all(b"not ")?;
+    }
+    let before = number.saturating_sub(1);
+    let call = format!(in alloc; "f{before}()\n")?;
+    text.add_all(call.as_bytes())?;
+    Ok(())
+}
+
+// 64 functions, the last one of 64 expressions inside each other, of which each calls the one before and the first
+// evaluates a chunk of the last.
+fn deep_evals(alloc: Global) -> Result<Bytes, Fail> {
+    let mut text = Bytes::new(alloc);
+    text.add_all(b"planet schedule 1\nhost 1\nprogram p\n")?;
+    text.add_all(b"fun f0() : bool = eval(|f63|()); true\n")?;
+    for number in 1..63 {
+        add_negations(alloc, &mut text, number, 19)?;
+    }
+    add_negations(alloc, &mut text, 63, 63)?;
+    text.add_all(b"end program\nevents\ninject 1 p f63 1000 ()\n")?;
+    Ok(text)
+}
+
+// A thousand evals are paid, each inside the one before; the next one finds an empty purse.
+#[test]
+fn a_thousand_deep_evals_run_on_an_ordinary_stack(rt: HostRuntime) -> Result<(), Fail> {
+    let alloc = rt.alloc();
+    let schedule = deep_evals(alloc)?;
+    let (code, out, notes) = on_bytes(alloc, "replay", schedule.as_slice())?;
+    assert_eq!(rt; code, 0);
+    assert_eq!(rt; notes.taken().len(), 0);
+    assert_eq!(rt; out.taken().as_slice(), visit_rows::DEEP_EVALS_OUTPUT);
     Ok(())
 }
 
