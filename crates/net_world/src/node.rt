@@ -262,7 +262,12 @@ impl Node {
 
     /// A frame arrives over a device: it is read and its chunk checked. Where memory is refused, the node stays.
     #[tactic(auto, unfolding(world_laws::specs::Node::arrive_step))]
-    pub fn arrive(&mut self, alloc: Global, dev: Dev, frame: &SpelledPacket) -> Result<Acts, NoMemory>
+    pub fn arrive(
+        &mut self,
+        alloc: Global,
+        dev: Dev,
+        frame: &SpelledPacket,
+    ) -> Result<Acts, NoMemory>
         requires node { NodeFits (node_state self.old) }
         requires fits { PacketFits frame.now }
         ensures ok { IfOk result (λ acts. IsStep (spec.arrive_step (node_state self.old) dev frame.now) acts (node_state self.new)) }

@@ -32,11 +32,7 @@ impl Model for SpelledPacket {
 
 impl SpelledPacket {
     /// A packet with another bound, as the bytes of its frame. Condition: the bound is at most 65,535.
-    pub fn of(
-        alloc: Global,
-        packet: &CheckedPacket,
-        bound: u32,
-    ) -> Result<SpelledPacket, NoMemory>
+    pub fn of(alloc: Global, packet: &CheckedPacket, bound: u32) -> Result<SpelledPacket, NoMemory>
         requires { bound ≤ 65535 }
         ensures { IfOk result (λ s. s ≡ record packet.now { bound = bound }) }
     {
