@@ -1,5 +1,4 @@
 ghost use Rattle.std.specs.Prelude.{◌≡◌, ◌≤◌, IfOk, OnOk, OnErr, [], ◌∷◌, slice_get, None, IsTrue};
-ghost use Rattle.service_api.specs.Routes.{default_route as route_name};
 ghost use Rattle.world_laws.specs.State.{link_routes};
 ghost use Rattle.world_laws.specs.Visits.{around};
 ghost use Rattle.world_laws.specs.declared.acts.Act.TheVariants as act;
@@ -15,8 +14,9 @@ use crate::turns::visit_turn;
 use chunk_types::CheckedChunk;
 use link_queue::Queue;
 use packet_frame::CheckedPacket;
-use plan_base::{Dev, Family, Host, Name, NoMemory};
+use plan_base::{Dev, Family, Host, NoMemory};
 use plan_items::Items;
+use remote_calls::default_route;
 use service_api::{Ctx, Hop, Neighbours, Prints, RouteRow, Router};
 use spelled_packet::SpelledPacket;
 use std::alloc::Global;
@@ -77,14 +77,6 @@ fn routes_to(alloc: Global, neighbours: &[(Host, Dev)]) -> Result<Router, NoMemo
         })?;
     }
     Ok(Router::new(rows))
-}
-
-/// The name of the one routing function that there is.
-#[tactic(auto, unfolding(plan_base::specs::Words::is_name, plan_base::specs::Words::is_word, plan_base::specs::Words::is_reserved))]
-fn default_route(alloc: Global) -> Result<Name, NoMemory>
-    ensures { IfOk result (λ name. name ≡ route_name) }
-{
-    Name::of(alloc, b"defaultRoute")
 }
 
 /// A queue for each device, with nothing queued.
