@@ -14,6 +14,3 @@ mod values;
 pub use chunk_spelling::SpellFault;
 pub use laws::{chunk_laws, program_laws, type_laws, value_laws};
 pub use read::{get_chunk, get_name, get_program, get_type, get_value};
-
-#[cfg(test)]
-mod tests;

@@ -7,6 +7,8 @@ use Rattle.std.proofs.lemmas.Bool.{lt-ltb}
 use Rattle.std.proofs.lemmas.Bool.Decides.{nat_tests}
 use Rattle.std.proofs.lemmas.List.{take_all}
 use Rattle.std.proofs.lemmas.List.Folds.{list_all_more}
+use Rattle.small_laws.proofs.Lists.{all-map, all-map-same}
+use Rattle.small_laws.proofs.Bools.{both}
 use Rattle.plan_base.specs.Trees.{trees}
 use Rattle.plan_base.specs.Words.{is_name}
 use Rattle.plan_base.specs.declared.tree.Expr.{Expr, Expr-F, out-Expr, map-Expr, fold_out-Expr}
@@ -15,19 +17,12 @@ use Rattle.plan_base.specs.declared.tree.Value.{Value, Value-F, out-Value, map-V
 use Rattle.plan_base.specs.declared.tree.Chunk.{Chunk, fold-Chunk, fold_out-Chunk}
 use Rattle.chunk_ranges.specs.Ranges.{is_int, expr_ranged, expr_ranged_level, clause_ranged, clause_ranged_level, program_ranged, value_ranged, value_ranged_level, chunk_ranged, chunk_ranged_level}
 
-all-map : {X : Type 0} (f : X → Bool) (xs : List X) → list_all (λ b. b) (map f xs) ≡ list_all f xs
-all-map f [] = refl
-all-map f (x ∷ xs) = ap (λ b. f x && b) (all-map f xs)
-
-all_same : {X : Type 0} (f g : X → Bool) → ((x : X) → f x ≡ g x) → (xs : List X) → list_all (λ b. b) (map f xs) ≡ list_all g xs
-all_same f g e xs = all-map f xs ∙ (λ i. list_all (λ x. e x i) xs)
-
 expr_step : (f : Expr → Bool) (g h : Clause → Bool) → ((c : Clause) → g c ≡ h c) → (x : Expr-F Expr Clause)
     → expr_ranged_level (λ b. b) (λ b. b) (map-Expr Expr Clause Bool Bool f g x) ≡ expr_ranged_level f h x
 expr_step f g h e (Expr-F.Tuple es) = all-map f es
 expr_step f g h e (Expr-F.Call x es) = ap (λ b. is_name x && b) (all-map f es)
 expr_step f g h e (Expr-F.ChunkOf x es) = ap (λ b. is_name x && b) (all-map f es)
-expr_step f g h e (Expr-F.Try a cs) = ap (λ b. f a && b) (all_same g h e cs)
+expr_step f g h e (Expr-F.Try a cs) = ap (λ b. f a && b) (all-map-same g h e cs)
 expr_step f g h e _ = refl
 
 pub expr_ranged_out : (e : Expr) → expr_ranged e ≡ expr_ranged_level expr_ranged clause_ranged (out-Expr e)
@@ -66,9 +61,6 @@ pub ruleset exprs = (expr_ranged_out, trees, nat_tests, int_is)
 pub ruleset values = (value_ranged_out, trees, nat_tests, int_is)
 
 -- ---- loops
-
-both : {b c : Bool} → b ≡ true → c ≡ true → (b && c) ≡ true
-both {b} {c} h k = (λ i. h i && c) ∙ k
 
 module _ {X : Type 0} (f : X → Bool) (xs : List X) where
   pub more : (i : ℕ) (x : X) → i < length xs → x ≡ get_or xs i x → list_all f (take i xs) ≡ true → f x ≡ true → list_all f (take (i + 1) xs) ≡ true

@@ -7,6 +7,7 @@ use Rattle.std.specs.Str.{IsUtf8}
 use Rattle.std.proofs.lemmas.Bool.{leb-true, ltb-true, le-leb, lt-ltb}
 use Rattle.std.proofs.lemmas.Str.{IsUtf8-from_is_utf8}
 use Rattle.std.proofs.Math.Utf8.{scalar_fits}
+use Rattle.small_laws.proofs.Bools.{both_true}
 use Rattle.plan_base.specs.Words.{is_name, IsName}
 use Rattle.plan_base.specs.declared.tree.Ty.{Ty, Ty-F, out-Ty}
 use Rattle.plan_base.specs.declared.tree.Ty.TheVariants as ty
@@ -36,15 +37,11 @@ use Rattle.chunk_ranges.proofs.RangeLaws.{expr_ranged_out, value_ranged_out}
 
 -- ---- truth values, numbers and lists
 
-two_of : (b c : Bool) → (b && c) ≡ true → (b ≡ true) × (c ≡ true)
-two_of true c h = (refl, h)
-two_of false c h = cc
-
 left : (b c : Bool) → (b && c) ≡ true → b ≡ true
-left b c h = (two_of b c h).0
+left b c h = (both_true b c h).0
 
 right : (b c : Bool) → (b && c) ≡ true → c ≡ true
-right b c h = (two_of b c h).1
+right b c h = (both_true b c h).1
 
 max_parts : (a b n : ℕ) → max a b ≤ n → (a ≤ n) × (b ≤ n)
 max_parts a b n h = (grind arith, grind arith)

@@ -18,7 +18,7 @@ use Rattle.chunk_spelling.proofs.Took.{Took, Took-bytes, Took-none, Took-then, T
 use Rattle.chunk_spelling.proofs.FieldLaws.{byte_takes, byte_again, known_ok, known_is, allowed_ok, allowed_is}
 use Rattle.chunk_spelling.proofs.LeafLaws.{Table, table_takes, table_again, flag_table, flag_lawful, int_lawful, word_lawful, char_lawful, text_lawful, blob_lawful, name_lawful, op_lawful, part_number_lawful}
 use Rattle.chunk_spelling.proofs.PartLaws.{Lawful, Taken, AllLawful, Tag, FormIs, reads_takes, reads_again, reads_go, count_takes, count_again, several_lawful, list_lawful, formed_lawful, joined_lawful, opens}
-use Rattle.chunk_spelling.proofs.TypeLaws.{type_lawful, flat_map-map, no_sum}
+use Rattle.chunk_spelling.proofs.TypeLaws.{type_lawful, flat_map-map, no_sum, flat_same}
 use Rattle.plan_base.specs.Sizes.{expr_nodes, clause_nodes, expr_nodes_level}
 use Rattle.plan_base.proofs.SizeLaws.{expr_nodes_out}
 use Rattle.plan_base.specs.declared.tree.Expr.{Expr, Expr-F, out-Expr, roll-Expr, roll-out-Expr, map-Expr, fold_out-Expr}
@@ -34,9 +34,6 @@ use Rattle.chunk_spelling.specs.Types.{type_bytes, type_part}
 use Rattle.chunk_spelling.specs.Exprs.{expr_bytes, expr_bytes_level, clause_bytes, clause_bytes_level, catch_bytes, one_more, expr_tag_at, clause_tag_at, clause_forms, clause_of_parts, clause_parts_by, clause_part, is_none_left, clauses_from, clauses_at, ClausesFit, clauses_part, expr_forms, expr_of_parts, expr_parts, expr_from, expr_within, no_expr, expr_core, expr_part, expr_inner, one_below}
 
 -- ---- the bytes of an expression are those of its outermost level
-
-flat_same : {X : Type 0} (f g : X → List ℕ) → ((x : X) → f x ≡ g x) → (xs : List X) → flat_map (λ bs. bs) (map f xs) ≡ flat_map g xs
-flat_same f g e xs = flat_map-map f xs ∙ (λ i. flat_map (λ x. e x i) xs)
 
 expr_bytes_step : (f : Expr → List ℕ) (g h : Clause → List ℕ) → ((c : Clause) → g c ≡ h c) → (x : Expr-F Expr Clause)
     → expr_bytes_level (λ bs. bs) (λ bs. bs) (map-Expr Expr Clause (List ℕ) (List ℕ) f g x) ≡ expr_bytes_level f h x

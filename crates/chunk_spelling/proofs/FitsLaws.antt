@@ -3,6 +3,7 @@ use Rattle.std.proofs.Common.{◌≡◌, ℕ, zero, suc, ◌+◌, ◌<◌, ◌�
 use Rattle.std.specs.Prelude.{◌&&◌, ◌||◌, nat_lt, IsTrue}
 use Rattle.std.specs.List.{list_all}
 use Rattle.std.proofs.lemmas.Bool.{lt-ltb}
+use Rattle.small_laws.proofs.Bools.{both}
 use Rattle.plan_base.specs.declared.limit.Limit.{Limit}
 use Rattle.plan_base.specs.declared.tree.Ty.{Ty, Ty-F, out-Ty}
 use Rattle.plan_base.specs.declared.tree.Expr.{Expr, Expr-F, out-Expr}
@@ -20,9 +21,6 @@ use Rattle.chunk_spelling.specs.Programs.{param_part, service_part, function_par
 use Rattle.chunk_spelling.specs.Values.{value_forms, value_parts, value_from, chunk_from, no_value, no_chunk, may_open, values_within, chunk_with, ChunkFits, value_core, value_part, chunk_part}
 use Rattle.chunk_spelling.specs.Kept.{type_kept, type_kept_level, expr_kept, expr_kept_level, clause_kept, param_kept, service_kept, function_kept, program_kept, value_kept, value_kept_level, chunk_kept}
 use Rattle.chunk_spelling.proofs.KeptLaws.{type_kept_out, expr_kept_out, value_kept_out}
-
-both : {b c : Bool} → b ≡ true → c ≡ true → (b && c) ≡ true
-both {b} {c} h k = (λ i. h i && c) ∙ k
 
 each_kept : {A : Type 0} {kept : A → Bool} (p : Part A) → ((x : A) → p.Fits x → kept x ≡ true) → (xs : List A) → EachFits p.Fits xs → list_all kept xs ≡ true
 each_kept p h [] q = refl

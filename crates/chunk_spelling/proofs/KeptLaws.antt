@@ -3,19 +3,13 @@ use Rattle.std.proofs.Common.{◌≡◌, ℕ, Bool, true, false, List, [], ◌�
 use Rattle.std.specs.Prelude.{map, nat_lt, ◌&&◌}
 use Rattle.std.specs.List.{list_all}
 use Rattle.std.proofs.lemmas.List.{length-map}
+use Rattle.small_laws.proofs.Lists.{all-map, all-map-same}
 use Rattle.plan_base.specs.declared.tree.Ty.{Ty, Ty-F, out-Ty, map-Ty, fold_out-Ty}
 use Rattle.plan_base.specs.declared.tree.Expr.{Expr, Expr-F, out-Expr, map-Expr, fold_out-Expr}
 use Rattle.plan_base.specs.declared.tree.Clause.{Clause, fold-Clause, fold_out-Clause}
 use Rattle.plan_base.specs.declared.tree.Value.{Value, Value-F, out-Value, map-Value, fold_out-Value}
 use Rattle.plan_base.specs.declared.tree.Chunk.{Chunk, fold-Chunk, fold_out-Chunk}
 use Rattle.chunk_spelling.specs.Kept.{type_kept, type_kept_level, expr_kept, expr_kept_level, clause_kept, clause_kept_level, program_kept, value_kept, value_kept_level, chunk_kept, chunk_kept_level}
-
-all-map : {X : Type 0} (f : X → Bool) (xs : List X) → list_all (λ b. b) (map f xs) ≡ list_all f xs
-all-map f [] = refl
-all-map f (x ∷ xs) = ap (λ b. f x && b) (all-map f xs)
-
-all_same : {X : Type 0} (f g : X → Bool) → ((x : X) → f x ≡ g x) → (xs : List X) → list_all (λ b. b) (map f xs) ≡ list_all g xs
-all_same f g e xs = all-map f xs ∙ (λ i. list_all (λ x. e x i) xs)
 
 type_step : (f : Ty → Bool) (x : Ty-F Ty) → type_kept_level (λ b. b) (map-Ty Ty Bool f x) ≡ type_kept_level f x
 type_step f (Ty-F.Tuple ts) = (λ i. nat_lt (length-map ts f i) 256 && all-map f ts i)
@@ -30,7 +24,7 @@ expr_step : (f : Expr → Bool) (g h : Clause → Bool) → ((c : Clause) → g 
 expr_step f g h e (Expr-F.Tuple es) = (λ i. nat_lt (length-map es f i) 256 && all-map f es i)
 expr_step f g h e (Expr-F.Call x es) = (λ i. nat_lt (length-map es f i) 256 && all-map f es i)
 expr_step f g h e (Expr-F.ChunkOf x es) = (λ i. nat_lt (length-map es f i) 256 && all-map f es i)
-expr_step f g h e (Expr-F.Try a cs) = (λ i. f a && (nat_lt (length-map cs g i) 256 && all_same g h e cs i))
+expr_step f g h e (Expr-F.Try a cs) = (λ i. f a && (nat_lt (length-map cs g i) 256 && all-map-same g h e cs i))
 expr_step f g h e _ = refl
 
 pub expr_kept_out : (e : Expr) → expr_kept e ≡ expr_kept_level expr_kept clause_kept (out-Expr e)

@@ -22,6 +22,7 @@ use Rattle.plan_base.specs.declared.tree.Op.{Op}
 use Rattle.plan_base.specs.Words.{is_word, is_reserved, is_name}
 use Rattle.std.specs.Prelude.{nat_le, ◌&&◌, not}
 use Rattle.std.proofs.lemmas.Bool.{leb-true, le-leb}
+use Rattle.small_laws.proofs.Bools.{both_true}
 use Rattle.chunk_spelling.specs.declared.fault.SpellFault.TheVariants.{BadName}
 
 -- ---- tables
@@ -153,10 +154,6 @@ text_lawful = record {
       (bind_is _ (bytes_again m g x (Took-second f g bs x 0 0 u)) (allowed_is _ _ (x, g) (is_utf8-from_IsUtf8 x h.0)));
   goes = λ more f. one_step step a_text more f (λ _. more) (text_field f) refl;
 }
-
-both_true : (b c : Bool) → (b && c) ≡ true → (b ≡ true) × (c ≡ true)
-both_true true c h = (refl, h)
-both_true false c h = cc
 
 word_long : (w : List ℕ) → is_word w ≡ true → 1 ≤ length w
 unfolding is_word

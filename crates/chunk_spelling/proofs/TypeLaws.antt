@@ -27,6 +27,9 @@ pub flat_map-map : {X : Type 0} (f : X → List ℕ) (xs : List X) → flat_map 
 flat_map-map f [] = refl
 flat_map-map f (x ∷ xs) = ap (λ bs. f x ++ bs) (flat_map-map f xs)
 
+pub flat_same : {X : Type 0} (f g : X → List ℕ) → ((x : X) → f x ≡ g x) → (xs : List X) → flat_map (λ bs. bs) (map f xs) ≡ flat_map g xs
+flat_same f g e xs = flat_map-map f xs ∙ (λ i. flat_map (λ x. e x i) xs)
+
 type_bytes_step : (f : Ty → List ℕ) (x : Ty-F Ty) → type_bytes_level (λ bytes. bytes) (map-Ty Ty (List ℕ) f x) ≡ type_bytes_level f x
 type_bytes_step f (Ty-F.Tuple ts) = (λ i. 10 ∷ length-map ts f i ∷ flat_map-map f ts i)
 type_bytes_step f _ = refl

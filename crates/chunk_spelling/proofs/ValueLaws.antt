@@ -18,7 +18,7 @@ use Rattle.chunk_spelling.proofs.Took.{Took, Took-bytes, Took-none, Took-then, T
 use Rattle.chunk_spelling.proofs.FieldLaws.{byte_takes, byte_again, known_ok, known_is, allowed_ok, allowed_is}
 use Rattle.chunk_spelling.proofs.LeafLaws.{Table, table_takes, table_again, flag_table, flag_lawful, int_lawful, word_lawful, char_lawful, text_lawful, blob_lawful, name_lawful, op_lawful, part_number_lawful}
 use Rattle.chunk_spelling.proofs.PartLaws.{Lawful, Taken, AllLawful, Tag, FormIs, reads_takes, reads_again, reads_go, count_takes, count_again, several_lawful, list_lawful, formed_lawful, joined_lawful, opens}
-use Rattle.chunk_spelling.proofs.TypeLaws.{type_lawful, flat_map-map, no_sum}
+use Rattle.chunk_spelling.proofs.TypeLaws.{type_lawful, flat_map-map, no_sum, flat_same}
 use Rattle.plan_base.specs.declared.tree.Value.{Value, Value-F, out-Value, roll-Value, roll-out-Value, map-Value, fold_out-Value}
 use Rattle.plan_base.specs.declared.tree.Value.TheVariants as value
 use Rattle.plan_base.specs.declared.tree.Chunk.{Chunk, fold-Chunk, fold_out-Chunk}
@@ -34,9 +34,6 @@ use Rattle.chunk_spelling.specs.Values.{value_bytes, value_bytes_level, chunk_by
 use Rattle.chunk_spelling.proofs.ProgramLaws.{program_lawful, judged_apart}
 
 -- ---- the bytes of a value are those of its outermost level
-
-flat_same : {X : Type 0} (f g : X → List ℕ) → ((x : X) → f x ≡ g x) → (xs : List X) → flat_map (λ bs. bs) (map f xs) ≡ flat_map g xs
-flat_same f g e xs = flat_map-map f xs ∙ (λ i. flat_map (λ x. e x i) xs)
 
 value_bytes_step : (f : Value → List ℕ) (g h : Chunk → List ℕ) → ((c : Chunk) → g c ≡ h c) → (x : Value-F Value Chunk)
     → value_bytes_level (λ bs. bs) (λ bs. bs) (map-Value Value Chunk (List ℕ) (List ℕ) f g x) ≡ value_bytes_level f h x

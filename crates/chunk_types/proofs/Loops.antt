@@ -9,15 +9,6 @@ use Rattle.chunk_types.specs.declared.fault.Ill.{Ill}
 use Rattle.chunk_types.specs.declared.fault.Ill.TheVariants.{Argument}
 use Rattle.chunk_types.specs.Chunks.{fit_all, fits, ill_from, right}
 
--- the items from the one at i on
-all_suc : {X : Type 0} (p : X → Bool) (xs : List X) (i : ℕ) (d : X) → i < length xs → list_all p (drop i xs) ≡ (p (get_or xs i d) && list_all p (drop (suc i) xs))
-all_suc p [] i d h = absurd (omega arith)
-all_suc p (x ∷ xs) zero d h = refl
-all_suc p (x ∷ xs) (suc i) d h = all_suc p xs i d (omega arith)
-
-pub all_next : {X : Type 0} (p : X → Bool) (xs : List X) (i : ℕ) (d : X) → i < length xs → list_all p (drop i xs) ≡ (p (get_or xs i d) && list_all p (drop (i + 1) xs))
-all_next p xs i d h = let e : suc i ≡ i + 1 = omega arith in all_suc p xs i d h ∙ ap (λ j. p (get_or xs i d) && list_all p (drop j xs)) e
-
 fit_suc : (vs : List Value) (ts : List Ty) (i : ℕ) (v : Value) (t : Ty) → i < length vs → i < length ts → fit_all fits (drop i vs) (drop i ts) ≡ (fits (get_or vs i v) (get_or ts i t) && fit_all fits (drop (suc i) vs) (drop (suc i) ts))
 fit_suc (a ∷ vs) (b ∷ ts) zero v t h k = refl
 fit_suc (a ∷ vs) (b ∷ ts) (suc i) v t h k = fit_suc vs ts i v t (omega arith) (omega arith)

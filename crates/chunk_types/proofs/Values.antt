@@ -4,6 +4,8 @@ use Rattle.std.specs.Prelude.{Result, Ok, Err, map, nat_le, is_some, option_and_
 use Rattle.std.specs.List.{fold, sum_by, list_all}
 use Rattle.std.proofs.lemmas.List.{length-map}
 use Rattle.std.proofs.lemmas.Bool.{eqb-true, eq-eqb, leb-true, le-leb}
+use Rattle.small_laws.proofs.Bools.{and_left, and_right, and_both}
+use Rattle.small_laws.proofs.Lists.{sum_from, largest_from}
 use Rattle.plan_base.specs.declared.name.Name.{Name}
 use Rattle.plan_base.specs.declared.tree.Ty.{Ty, Ty-F, out-Ty}
 use Rattle.plan_base.specs.declared.tree.Ty.TheVariants as ty
@@ -20,7 +22,7 @@ use Rattle.plan_base.proofs.FormLaws.{formed_value_out, formed_chunk_is, value_h
 use Rattle.plan_base.specs.Typing.{Typed, HasType, unit, bool, int, char, str, blob, host, dev, list, tuple, chunk, HaveTypes, no_values, and_value, AllHaveType, no_items, and_item, IsTypedChunk, within, IsSmall}
 use Rattle.plan_base.specs.TypingNames.{place_of, param_types}
 use Rattle.plan_base.specs.TypingOrder.{same_type, fun_of, annotated}
-use Rattle.typing_laws.proofs.SameTypes.{and_left, and_right, and_both, out_same, same_type_true, same_type_itself}
+use Rattle.plan_base.proofs.SameTypes.{out_same, same_type_true, same_type_itself}
 use Rattle.typing_laws.proofs.Programs.{annotated_sound, annotated_complete, fills_itself, fills_full, depths_kept}
 use Rattle.plan_types.specs.Kept.{IsChecked}
 use Rattle.chunk_types.specs.declared.fault.Ill.{Ill}
@@ -30,16 +32,8 @@ use Rattle.chunk_types.proofs.Levels.{fits_out, sound_out, illness_is}
 
 -- ---- parts are within the limits of the whole
 
-sum_from : {X : Type 0} (f : X → ℕ) (m : ℕ) (xs : List X) → fold (λ a y. a + f y) m xs ≡ m + fold (λ a y. a + f y) 0 xs
-sum_from f m [] = grind arith
-sum_from f m (x ∷ xs) = let a = sum_from f (m + f x) xs in let b = sum_from f (0 + f x) xs in omega arith
-
 sum_bounds : {X : Type 0} (f : X → ℕ) (n : ℕ) (x : X) (xs : List X) → sum_by f (x ∷ xs) ≤ n → (f x ≤ n) × (sum_by f xs ≤ n)
 sum_bounds f n x xs h = let k = sum_from f (0 + f x) xs in (omega arith, omega arith)
-
-largest_from : {X : Type 0} (f : X → ℕ) (m : ℕ) (xs : List X) → fold (λ a y. max a (f y)) m xs ≡ max m (fold (λ a y. max a (f y)) 0 xs)
-largest_from f m [] = omega arith
-largest_from f m (x ∷ xs) = let a = largest_from f (max m (f x)) xs in let b = largest_from f (max 0 (f x)) xs in omega arith
 
 largest_bounds : {X : Type 0} (f : X → ℕ) (n : ℕ) (x : X) (xs : List X) → largest_by f (x ∷ xs) ≤ n → (f x ≤ n) × (largest_by f xs ≤ n)
 largest_bounds f n x xs h = let k = largest_from f (max 0 (f x)) xs in (omega arith, omega arith)

@@ -86,7 +86,7 @@ fn is_sound(alloc: Global, v: &Value) -> Result<bool, NoMemory>
 }
 
 #[cycle(illness)]
-#[tactic(auto, using(crate::proofs::Loops::all_next))]
+#[tactic(auto, using(small_laws::proofs::Lists::all_next))]
 fn are_sound(alloc: Global, values: &[Value]) -> Result<bool, NoMemory>
     ensures { IfOk result (λ b. b ≡ list_all spec.sound values.now) }
 {

@@ -5,7 +5,6 @@ ghost use Rattle.std.specs.List.{list_all};
 ghost use Rattle.chunk_types.specs.Chunks as spec;
 
 use plan_base::{Ty, Value};
-use plan_types::same_type;
 
 /// Whether the value's shape has the type; a chunk isn't looked into. Takes no memory.
 #[cycle(fits)]
@@ -24,7 +23,7 @@ pub fn fits(v: &Value, t: &Ty) -> bool
         Value::Dev(_) => matches!(t, Ty::Dev),
         Value::Chunk(_) => matches!(t, Ty::Chunk),
         Value::List(item, items) => match t {
-            Ty::List(other) => same_type(item, other.get()) && all_fit(items.as_slice(), item),
+            Ty::List(other) => item.is(other.get()) && all_fit(items.as_slice(), item),
             _ => false,
         },
         Value::Tuple(parts) => match t {
@@ -35,7 +34,7 @@ pub fn fits(v: &Value, t: &Ty) -> bool
 }
 
 #[cycle(fits)]
-#[tactic(auto, using(crate::proofs::Loops::all_next))]
+#[tactic(auto, using(small_laws::proofs::Lists::all_next))]
 fn all_fit(values: &[Value], t: &Ty) -> bool
     ensures { result ≡ list_all (λ v. spec.fits v t.now) values.now }
 {

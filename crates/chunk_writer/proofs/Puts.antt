@@ -4,16 +4,13 @@ use Rattle.std.specs.List.{flat_map, list_all}
 use Rattle.std.proofs.lemmas.List.{drop_more, drop_all}
 use Rattle.std.proofs.lemmas.Bool.{leb-true}
 use Rattle.std.proofs.lemmas.Bool.Decides.{nat_tests}
+use Rattle.small_laws.proofs.Bools.{both_true}
 use Rattle.plan_base.specs.Trees.{trees}
 use Rattle.plan_base.specs.Words.{is_word, is_name, IsName}
 use Rattle.chunk_spelling.proofs.TypeLaws.{type_bytes_out}
 use Rattle.chunk_spelling.proofs.ExprLaws.{expr_bytes_out}
 use Rattle.chunk_spelling.proofs.ValueLaws.{value_bytes_out}
 use Rattle.chunk_spelling.proofs.KeptLaws.{type_kept_out, expr_kept_out, value_kept_out}
-
-pub both_true : (b c : Bool) → (b && c) ≡ true → (b ≡ true) × (c ≡ true)
-both_true true c h = (refl, h)
-both_true false c h = cc
 
 pub ruleset types = (type_bytes_out, type_kept_out, trees, nat_tests, both_true, length-append, append_assoc)
 

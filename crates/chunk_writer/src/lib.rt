@@ -10,6 +10,3 @@ mod write;
 pub use laws::writing_laws;
 pub use put_fields::put_name;
 pub use write::{put_chunk, put_program, put_type, put_value};
-
-#[cfg(test)]
-mod tests;

@@ -6,7 +6,7 @@ use Rattle.plan_base.specs.declared.tree.Chunk.{Chunk}
 use Rattle.plan_base.specs.declared.tree.Packet.{Packet}
 use Rattle.plan_printer.specs.Pieces.{commas}
 use Rattle.plan_printer.specs.Printed.{value_text, program_text}
-use Rattle.packet_frame.specs.declared.frame.AdvertRow.{AdvertRow}
+use Rattle.service_api.specs.declared.advert.AdvertRow.{AdvertRow}
 use Rattle.packet_frame.specs.declared.frame.PlainFrame.{PlainFrame}
 
 -- the call that a chunk stands for, and its program

@@ -9,30 +9,9 @@ ghost use Rattle.packet_frame.specs.declared.frame.PlainFrame.{PlainFrame as Pla
 ghost use Rattle.frame_text.specs.Frames.{chunk_text, packet_head as head_text, packet_line, row_line, frame_text};
 
 use packet_frame::{Advert, AdvertRow, CheckedPacket, Frame};
-use plan_base::{Bytes, Chunk, NoMemory, Value};
-use plan_printer::{print_program, print_value};
+use plan_base::{Bytes, Chunk, NoMemory};
+use plan_printer::{print_program, put, put_values};
 use std::alloc::{AllocError, Global};
-
-/// Adds bytes at the end.
-pub(crate) fn put(out: &mut Bytes, more: &[u8]) -> Result<(), NoMemory>
-    ensures { OnOk result (out.new ≡ out.old ++ more.now) }
-{
-    out.add_all(more)?;
-    Ok(())
-}
-
-/// Values with commas between them.
-fn put_values(alloc: Global, values: &[Value], out: &mut Bytes) -> Result<(), NoMemory>
-    ensures { OnOk result (out.new ≡ out.old ++ commas value_text values.now) }
-{
-    let mut separator: &[u8] = b"";
-    for v in values {
-        put(out, separator)?;
-        print_value(alloc, v, out)?;
-        separator = b", ";
-    }
-    Ok(())
-}
 
 /// The call that a chunk stands for, and its program.
 #[tactic(auto, using(std::proofs::Common::append_assoc))]

@@ -8,6 +8,3 @@ mod reasons;
 pub use frames::print_frame;
 pub use laws::reading_laws;
 pub use reasons::put_reason;
-
-#[cfg(test)]
-mod tests;

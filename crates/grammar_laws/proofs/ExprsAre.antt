@@ -40,7 +40,7 @@ key_ends k f e h = let l : level (next_kind f) ≡ key_level k = ap level e in o
 not_symbol : (w s : Symbol) (f : Front) → Sym s f → symbol_level w < symbol_level s → is_symbol w f ≡ false
 not_symbol w s f e h = no_symbol w f (let l = symbol_at s f e in omega (arith, l, h))
 
-comma_shut : (f : Front) → Sym symbols.ParenClose f → is_symbol symbols.Comma f ≡ false
+pub comma_shut : (f : Front) → Sym symbols.ParenClose f → is_symbol symbols.Comma f ≡ false
 unfolding is_symbol
 comma_shut f e = rw e refl
 

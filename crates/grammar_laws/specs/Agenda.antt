@@ -20,7 +20,7 @@ use Rattle.plan_grammar.specs.declared.joint.Chain.TheVariants as chains
 use Rattle.plan_grammar.specs.declared.level.Level.TheVariants as levels
 use Rattle.plan_grammar.specs.declared.node.Node.{Node}
 use Rattle.plan_grammar.specs.Ahead.{Front, place, behind, next_kind, is_symbol, is_key, is_word}
-use Rattle.plan_grammar.specs.Begins.{kind_type, begins_type, begins_operand, begins_expr}
+use Rattle.plan_grammar.specs.Begins.{kind_type, begins_type, begins_operand, begins_expr, begins_name}
 use Rattle.plan_grammar.specs.Types.{past}
 use Rattle.plan_grammar.specs.Joints.{joint_of}
 use Rattle.plan_grammar.specs.Nodes.{all_at}
@@ -200,9 +200,6 @@ a_function at c more = a_name ∷ sym symbols.ParenOpen ∷ params ∷ sym symbo
 
 abbrev pub a_param : List Item → List Item
 a_param more = a_name ∷ sym symbols.Colon ∷ a_type 159 ∷ more
-
-unfoldable pub begins_name : Front → Bool
-begins_name f = is_word (next_kind f)
 
 -- what is read from the first item of the agenda
 unfoldable pub step : Item → List Item → Front → Step

@@ -1,7 +1,7 @@
 -- Well-formed values: their parts, and what is made of well-formed parts.
 use Rattle.std.proofs.Common.{◌≡◌, ℕ, zero, suc, ◌+◌, ◌≤◌, Bool, true, false, ◌&&◌, nat_le, ℤ, List, [], ◌∷◌, length, Some, slice_get, is_some, refl, sym, ap, ◌∙◌, subst, lit≤, arith}
 use Rattle.std.specs.List.{list_all}
-use Rattle.std.proofs.lemmas.Bool.{false≢true, leb-true, le-leb}
+use Rattle.std.proofs.lemmas.Bool.{leb-true, le-leb}
 use lib.Utf8.{scalar}
 use Rattle.plan_base.specs.declared.ids.Host.{Host}
 use Rattle.plan_base.specs.declared.ids.Dev.{Dev}
@@ -18,23 +18,11 @@ use Rattle.plan_base.specs.Sizes.{weight, weight_level, chunk_weight, nesting, c
 use Rattle.plan_base.proofs.SizeLaws.{weight_out, value_depth_out, type_depth_out, chunk_nesting_is}
 use Rattle.plan_base.specs.WellFormed.{has_from_to, formed_type, well_formed_type, well_formed_svc, well_formed_fun, formed_expr, formed_expr_level, well_formed_expr, formed_value, formed_value_level, formed_chunk, well_formed_text, well_formed_value, well_formed_chunk, well_formed_program, IsWellFormedValue, IsWellFormedChunk}
 use Rattle.plan_base.proofs.FormLaws.{formed_value_out, formed_chunk_is, formed_expr_out}
-use Rattle.plan_base.specs.Typing.{HasType, unit, bool, int, char, str, blob, host, dev, list, tuple, chunk, HaveTypes, and_value, AllHaveType, and_item}
-use Rattle.service_api.specs.Services.{IsSmall}
+use Rattle.plan_base.specs.Typing.{IsSmall, HasType, unit, bool, int, char, str, blob, host, dev, list, tuple, chunk, HaveTypes, and_value, AllHaveType, and_item}
+use Rattle.small_laws.proofs.Bools.{and_left, and_right, and_both}
 use Rattle.meaning_laws.proofs.Totals.{largest_within, largest_bounds, count_within}
 
 -- ---- tests that hold together
-
-pub and_both : (a b : Bool) → a ≡ true → b ≡ true → (a && b) ≡ true
-and_both true b e f = f
-and_both false b e f = absurd (false≢true e)
-
-pub and_left : (a b : Bool) → (a && b) ≡ true → a ≡ true
-and_left true b e = refl
-and_left false b e = e
-
-pub and_right : (a b : Bool) → (a && b) ≡ true → b ≡ true
-and_right true b e = e
-and_right false b e = absurd (false≢true e)
 
 pub at_most : (a b : ℕ) → a ≤ b → nat_le a b ≡ true
 at_most = le-leb
@@ -58,7 +46,7 @@ pub record IsFormed (v : Value) : Type 0 where
 pub well_formed : (v : Value) → IsFormed v → IsSmall v → IsWellFormedValue v
 unfolding well_formed_value
 well_formed v f s =
-    and_both (formed_value v) _ f.shape (and_both (nat_le (value_depth v) 8) (nat_le (nesting v) 4) (at_most (value_depth v) 8 f.depth) (at_most (nesting v) 4 s.nesting))
+    and_both (formed_value v) _ f.shape (and_both (nat_le (value_depth v) 8) (nat_le (nesting v) 4) (at_most (value_depth v) 8 f.depth) (at_most (nesting v) 4 s.nests))
 
 pub formed_of : (v : Value) → IsWellFormedValue v → IsFormed v
 unfolding well_formed_value
@@ -120,7 +108,7 @@ a_tuple v vs o n h d = at_level v (Value-F.Tuple vs) o (and_both (has_from_to 2 
 pub small_blob : (v : Value) (b : List ℕ) → out-Value v ≡ Value-F.Blob b → IsSmall v → IsFormed v
 small_blob v b o s =
     let e = weight_out v ∙ ap (λ l. weight_level weight chunk_weight l) o in
-    let w = s.weight in
+    let w = s.weighs in
     a_blob v b o (at_most (length b) 65535 (omega arith))
 
 -- and the items of a list
@@ -128,7 +116,7 @@ pub small_list : (v : Value) (u : Ty) (vs : List Value) → out-Value v ≡ Valu
 small_list v u vs o s =
     let e = weight_out v ∙ ap (λ l. weight_level weight chunk_weight l) o in
     let k = count_within vs in
-    let w = s.weight in
+    let w = s.weighs in
     omega arith
 
 -- ---- parts of well-formed values

@@ -13,7 +13,8 @@ use Rattle.plan_base.specs.WellFormed.{typed_expr_level, typed_value_level, has_
 use Rattle.plan_base.proofs.FormLaws.{has_types_out, value_has_types_out, chunk_has_types_is}
 use Rattle.plan_base.specs.Typing.{literal_type, HasTy, HaveTys, ClausesHaveTy, Typed, HasType, HaveTypes, AllHaveType, IsTypedChunk}
 use Rattle.plan_base.specs.Typing as y
-use Rattle.meaning_laws.proofs.Formed.{and_both, all_got}
+use Rattle.small_laws.proofs.Bools.{and_both}
+use Rattle.meaning_laws.proofs.Formed.{all_got}
 
 has_all : (e : Expr) (l : ExprLayer) → out-Expr e ≡ l → typed_expr_level has_types (λ c. has_types c.body) l ≡ true → has_types e ≡ true
 has_all e l o h = has_types_out e ∙ (ap (typed_expr_level has_types (λ c. has_types c.body)) o ∙ h)

@@ -18,15 +18,16 @@ use Rattle.plan_base.specs.Trees.{ValueLayer}
 use Rattle.plan_base.specs.Sizes.{weight, weight_level, chunk_weight, value_depth}
 use Rattle.plan_base.proofs.SizeLaws.{weight_out}
 use Rattle.plan_base.specs.WellFormed.{well_formed_text}
-use Rattle.plan_base.specs.Typing.{HasType}
+use Rattle.plan_base.specs.Typing.{IsSmall, HasType}
 use Rattle.plan_base.specs.TypingNames.{of_list, takes, makes, kind_of, joining, listing, is_joined, is_joined_at}
 use Rattle.value_rules.specs.Rules as rules
 use Rattle.value_rules.specs.Rules.{Given, gives, raises, unfit, limited, joined, put_first, binary, found, part, first_item, later_items, of_one, primitive, printed_int, printed_host, too_large}
-use Rattle.service_api.specs.Services.{IsSmall}
-use Rattle.meaning_laws.proofs.Shapes.{Shape, shape_of, shape_at}
+use Rattle.small_laws.proofs.Bools.{and_both, and_left}
+use Rattle.value_rules.proofs.Fitting.{list_shape}
+use Rattle.value_rules.proofs.Shapes.{Shape, shape_of, shape_at}
 use Rattle.meaning_laws.proofs.Totals.{largest_within, largest_bounds}
-use Rattle.meaning_laws.proofs.Formed.{and_both, and_left, at_most, IsFormed, AllFormed, shapes, shape_level, depth_level, a_unit, a_bool, an_int, a_host, a_dev, a_str, a_list, small_blob, small_list, items_formed, items_type, parts_formed}
-use Rattle.meaning_laws.proofs.Rules.{Fits}
+use Rattle.meaning_laws.proofs.Formed.{at_most, IsFormed, AllFormed, shapes, shape_level, depth_level, a_unit, a_bool, an_int, a_host, a_dev, a_str, a_list, small_blob, small_list, items_formed, items_type, parts_formed}
+use Rattle.value_rules.specs.Typed.{Fits}
 
 -- a value that is well formed where it is small, or no value
 abbrev pub Keeps : Given → Type 0
@@ -86,7 +87,7 @@ text_valid s h = and_left (is_utf8 s) (nat_le (length s) 65535) h
 small_text : (s : List ℕ) → is_utf8 s ≡ true → IsSmall (value.Str s) → IsFormed (value.Str s)
 small_text s u small =
     let e = weight_out (value.Str s) ∙ ap (λ l. weight_level weight chunk_weight l) (value.outs-Str s) in
-    let w = small.weight in
+    let w = small.weighs in
     a_str (value.Str s) s (value.outs-Str s) (text_of s u (omega arith))
 
 joined_texts : (a b : List ℕ) → is_utf8 a ≡ true → is_utf8 b ≡ true → is_utf8 (a ++ b) ≡ true
@@ -124,9 +125,6 @@ concatenated op.Ge a b t e i h k f g fits = cc
 concatenated op.Cons a b t e i h k f g fits = cc
 
 -- ---- lists
-
-list_shape : {v : Value} (u : Ty) → HasType v (ty.List u) → Shape (Ty-F.List u) (out-Value v)
-list_shape u h = shape_at (ty.List u) (Ty-F.List u) (ty.outs-List u) h
 
 longer_list : (u : Ty) (a b : Value) (vs : List Value) → out-Value b ≡ Value-F.List u vs → IsFormed a → IsFormed b → value_depth a ≤ 7 → IsSmall (value.List u (a ∷ vs)) → IsFormed (value.List u (a ∷ vs))
 longer_list u a b vs o f g d s =

@@ -1,10 +1,9 @@
-pub mod Shapes
 pub mod Totals
 pub mod Formed
 pub mod Full
-pub mod Rules
 pub mod Keeps
 pub mod Right
+pub mod Halting
 pub mod Sound
 pub mod Walk
 pub mod Even
@@ -12,3 +11,5 @@ pub mod Steady
 pub mod Longer
 pub mod Within
 pub mod Deep
+pub mod Growing
+pub mod Allowances

@@ -37,7 +37,7 @@ module _ (k : ℕ) where
   next_longer (gave x s) f g h n = h x s n
   next_longer (stopped e s) f g h n = refl
 
-  first_lasts : {A B : Type 0} (a : After A) (f : A → Run B) → ¬ IsSpent («next» a f).after → ¬ IsSpent a
+  pub first_lasts : {A B : Type 0} (a : After A) (f : A → Run B) → ¬ IsSpent («next» a f).after → ¬ IsSpent a
   first_lasts (gave x s) f n h = h
   first_lasts (stopped (Raised x) s) f n h = h
   first_lasts (stopped WorkSpent s) f n h = n h
@@ -56,7 +56,7 @@ module _ (k : ℕ) where
   otherwise_longer (stopped Wrong s) f g h n = refl
   otherwise_longer (stopped NoMemory s) f g h n = refl
 
-  rescue_lasts : (a : After Value) (f : Exn → Run Value) → ¬ IsSpent (otherwise a f).after → ¬ IsSpent a
+  pub rescue_lasts : (a : After Value) (f : Exn → Run Value) → ¬ IsSpent (otherwise a f).after → ¬ IsSpent a
   rescue_lasts (gave x s) f n h = h
   rescue_lasts (stopped (Raised x) s) f n h = h
   rescue_lasts (stopped WorkSpent s) f n h = n h

@@ -1,10 +1,14 @@
--- A typed expression gives a value of its type, asks services well, and never is without a case.
-use Rattle.std.proofs.Common.{◌≡◌, ℕ, zero, suc, ◌+◌, ◌≤◌, Bool, true, false, not, ◌&&◌, if◌then◌else◌, nat_le, is_some, ℤ, List, [], ◌∷◌, ◌++◌, length, take, reverse, Option, Some, None, slice_get, refl, sym, ap, ◌∙◌, subst, arith, append_assoc}
-use Rattle.std.specs.List.{list_all, sum_by}
+-- A typed expression gives a value of its type, asks services well, never is without a case, and ends with some allowance: by the
+-- purse, since each eval pays; then by the place of the function, since each call is of an earlier one; then by the typing.
+use Rattle.std.proofs.Common.{◌≡◌, ℕ, zero, suc, ◌+◌, ◌<◌, ◌≤◌, cond, Bool, true, false, not, ◌&&◌, if◌then◌else◌, nat_le, nat_lt, is_some, ℤ, List, [], ◌∷◌, ◌++◌, length, take, reverse, Option, Some, None, slice_get, refl, sym, ap, ◌∙◌, subst, arith, append_assoc}
+use Rattle.std.specs.List.{list_all, sum_by, position_or_len}
+use Rattle.std.proofs.Math.Nat.{not-suc-le-zero}
 use Rattle.std.specs.Option.{option_or}
 use Rattle.std.specs.Str.{bytes_eq}
-use Rattle.std.proofs.lemmas.List.{append-nil, reverse-append}
+use Rattle.std.proofs.lemmas.List.{append-nil, reverse-append, length-take}
 use Rattle.std.proofs.lemmas.Bool.{leb-true}
+use Rattle.std.proofs.lemmas.Bool.Decides.{nat_tests}
+use Rattle.small_laws.proofs.Options.{none-some, some-same}
 use Rattle.plan_base.specs.declared.name.Name.{Name}
 use Rattle.plan_base.specs.declared.ids.Host.{Host}
 use Rattle.plan_base.specs.declared.ids.Dev.{Dev}
@@ -25,24 +29,30 @@ use Rattle.plan_base.specs.declared.tree.Chunk.{Chunk}
 use Rattle.plan_base.specs.Trees.{ExprLayer}
 use Rattle.plan_base.specs.Sizes.{weight, weight_level, chunk_weight, nesting, nesting_level, chunk_nesting, largest_by}
 use Rattle.plan_base.proofs.SizeLaws.{weight_out, nesting_out, chunk_weight_is, chunk_nesting_is}
-use Rattle.plan_base.specs.Typing.{literal_type, HasTy, literal, variable, empty, raising, tuple, part, of_items, primitive, serving, call, choice, binder, sequence, both, either, negation, calculation, join, comparison, order, prefix, handling, fold_left, fold_right, packing, evaluation, remote, neighbour, HaveTys, no_parts, and_part, ClausesHaveTy, no_clauses, and_clause, Typed, HasType, unit, bool, int, char, str, blob, host, dev, list, chunk, HaveTypes, no_values, and_value, AllHaveType, no_items, and_item, IsTypedChunk, within, IsShallow}
+use Rattle.plan_base.specs.Typing.{IsSmall, literal_type, HasTy, literal, variable, empty, raising, tuple, part, of_items, primitive, serving, call, choice, binder, sequence, both, either, negation, calculation, join, comparison, order, prefix, handling, fold_left, fold_right, packing, evaluation, remote, neighbour, HaveTys, no_parts, and_part, ClausesHaveTy, no_clauses, and_clause, Typed, HasType, unit, bool, int, char, str, blob, host, dev, list, chunk, HaveTypes, no_values, and_value, AllHaveType, no_items, and_item, IsTypedChunk, within, IsShallow}
 use Rattle.plan_base.specs.WellFormed.{has_from_to, names_all_but_last, well_formed_type, formed_expr, formed_chunk, well_formed_program, IsWellFormedProgram, IsWellFormedExpr}
 use Rattle.plan_base.specs.Typing as typing
 use Rattle.plan_base.specs.TypingNames.{place_of, service_of, prim_of, binding, param_types, part_of, of_list, makes}
 use Rattle.value_rules.specs.Rules as rules
-use Rattle.service_api.specs.Services.{IsSmall, IsGoodChunk, AreGoodValues}
-use Rattle.plan_meaning.specs.Run.{Run, pure}
+use Rattle.service_api.specs.Services.{IsGoodChunk, AreGoodValues}
+use Rattle.plan_meaning.specs.State.{VisitState}
+use Rattle.plan_meaning.specs.Run.{Run, ◌>>◌, pure}
 use Rattle.plan_meaning.specs.Meaning as m
 use Rattle.plan_meaning.specs.Meaning.{Env, Runs, as_bool, bool_at, as_int, int_at, as_host, host_at, as_dev, dev_at, as_chunk, chunk_at, as_items, items_at, value_of, value_if, bound_behind, bound, pay_eval, send_remote, send_neighbour, values_behind, values, entered, applied_at, applied, served_or, called_by, called, left_along, right_along, handled, visited, opened_at, opened, node, run_to, meaning, catches}
-use Rattle.plan_meaning.specs.Safe.{HasEnv, Yields}
-use Rattle.meaning_laws.proofs.Shapes.{shape_at}
+use Rattle.plan_meaning.specs.Safe.{HasEnv, IsGoodState, Yields}
+use Rattle.small_laws.proofs.Bools.{and_left, and_right, both_true}
+use Rattle.value_rules.proofs.Shapes.{shape_at}
 use Rattle.meaning_laws.proofs.Totals.{sum_bounds, largest_bounds}
 use Rattle.meaning_laws.proofs.Formed as form
-use Rattle.meaning_laws.proofs.Formed.{and_left, and_right, IsFormed, AllFormed, FormedLevel, formed_of, well_formed, level_formed, items_formed}
+use Rattle.meaning_laws.proofs.Formed.{IsFormed, AllFormed, FormedLevel, formed_of, well_formed, level_formed, items_formed}
 use Rattle.meaning_laws.proofs.Keeps as keeps
 use Rattle.meaning_laws.proofs.Keeps.{Keeps}
-use Rattle.meaning_laws.proofs.Rules as given
-use Rattle.meaning_laws.proofs.Right.{Good, Mild, mild, pure_yields, raise_yields, spent_yields, known_yields, cond_yields, then_yields, known_then, rescue_yields, given_yields, whole_yields, pay_yields, remote_yields, neighbour_yields, serve_yields}
+use Rattle.value_rules.specs.Typed.{Fits}
+use Rattle.value_rules.proofs.Fitting as given
+use Rattle.meaning_laws.proofs.Right.{Good, Mild}
+use Rattle.meaning_laws.proofs.Halting.{Halts, HaltsAt, Inv, pure_halts, raise_halts, known_halts, cond_halts, mild_halts, then_halts, known_then_halts, rescue_halts, given_halts, whole_halts, paid_halts, remote_halts, neighbour_halts, serve_halts}
+use Rattle.meaning_laws.proofs.Within.{fixed}
+use Rattle.meaning_laws.specs.Laws.{EndsFrom}
 
 -- ---- what good values are taken for
 
@@ -78,7 +88,7 @@ good_all no_values f w n = tt
 good_all (and_value {v} {vs} h k) f w n =
     let a = sum_bounds weight 0 16384 v vs w in
     let b = largest_bounds nesting 0 4 v vs n in
-    let small : IsSmall v = record { weight = a.0; nesting = b.0 } in
+    let small : IsSmall v = record { weighs = a.0; nests = b.0 } in
     (record { typed = h; small = small; formed = well_formed v f.0 small }, good_all k f.1 a.1 b.1)
 
 typed_all : (ts : List Ty) (vs : List Value) → AreGoodValues ts vs → HaveTypes vs ts
@@ -109,7 +119,7 @@ good_items no_items f w n = tt
 good_items (and_item {v = v} {vs = vs} h k) f w n =
     let a = sum_bounds weight 0 16384 v vs w in
     let b = largest_bounds nesting 0 4 v vs n in
-    let small : IsSmall v = record { weight = a.0; nesting = b.0 } in
+    let small : IsSmall v = record { weighs = a.0; nests = b.0 } in
     (record { typed = h; small = small; formed = well_formed v f.0 small }, good_items k f.1 a.1 b.1)
 
 list_weight : (v : Value) (u : Ty) (vs : List Value) → out-Value v ≡ Value-F.List u vs → weight v ≤ 16384 → sum_by weight vs ≤ 16384
@@ -122,7 +132,7 @@ items : (u : Ty) (v : Value) → Good (ty.List u) v → (vs : List Value) × (as
 unfolding as_items
 items u v h =
     let k = shape_at (ty.List u) (Ty-F.List u) (ty.outs-List u) h.typed in
-    (k.0, ap items_at k.1, good_items k.2 (items_formed v u k.0 k.1 (formed_of v h.formed)) (list_weight v u k.0 k.1 h.small.weight) (list_nesting v u k.0 k.1 h.small.nesting))
+    (k.0, ap items_at k.1, good_items k.2 (items_formed v u k.0 k.1 (formed_of v h.formed)) (list_weight v u k.0 k.1 h.small.weighs) (list_nesting v u k.0 k.1 h.small.nests))
 
 all_behind : (u : Ty) (vs : List Value) (v : Value) → AllGood u vs → Good u v → AllGood u (vs ++ v ∷ [])
 all_behind u [] v h k = (k, tt)
@@ -143,8 +153,8 @@ made_chunk : (k : Chunk) (at : ℕ) (d : Fun) → Typed k.code → place_of k.en
 made_chunk k at d t p g h f small =
     let w = chunk_weight_of k in
     let n = chunk_nesting_of k in
-    let weighs : 1 + chunk_weight k ≤ 16384 = subst (λ x. x ≤ 16384) w small.weight in
-    let nests : chunk_nesting k ≤ 4 = subst (λ x. x ≤ 4) n small.nesting in
+    let weighs : 1 + chunk_weight k ≤ 16384 = subst (λ x. x ≤ 16384) w small.weighs in
+    let nests : chunk_nesting k ≤ 4 = subst (λ x. x ≤ 4) n small.nests in
     (chunk k (value.outs-Chunk k) refl (within at d t p g h nests weighs), form.a_chunk (value.Chunk k) k (value.outs-Chunk k) f)
 
 args_weight : (k : Chunk) → 1 + chunk_weight k ≤ 16384 → sum_by weight k.args ≤ 16384
@@ -198,12 +208,6 @@ agreed t (Some u) (Some v) e h = let same : u ≡ t = cc in (v, refl, subst (λ 
 agreed t None w e h = cc
 agreed t (Some u) None e h = absurd h
 
-good_mild : {p : Run Value} (t : Ty) → Yields (Good t) p → Yields (Mild t) p
-good_mild {p} t h = mild (Good t) (Mild t) (λ v g _. (g.typed, formed_of v g.formed)) p h
-
-at_type : (t u : Ty) (p : Run Value) → t ≡ u → Yields (Mild u) p → Yields (Mild t) p
-at_type t u p e h = subst (λ x. Yields (Mild x) p) (sym e) h
-
 -- ---- the forms
 
 -- typed and well-formed code
@@ -211,357 +215,421 @@ pub record GoodCode (code : Program) : Type 0 where
   pub typed : Typed code
   pub formed : well_formed_program code ≡ true
 
--- a typed expression with the counts and forms of the language
-abbrev pub Fine : Program → ℕ → List Param → Expr → Ty → Type 0
-Fine code seen c e t = HasTy code seen c e t × (formed_expr e ≡ true)
-
-abbrev pub FineParts : Program → ℕ → List Param → List Expr → List Ty → Type 0
-FineParts code seen c es ts = HaveTys code seen c es ts × (list_all formed_expr es ≡ true)
-
-abbrev pub FineClauses : Program → ℕ → List Param → List Clause → Ty → Type 0
-FineClauses code seen c ks t = ClausesHaveTy code seen c ks t × (list_all (λ k. formed_expr k.body) ks ≡ true)
-
 -- as many types as expressions
 types_count : {code : Program} {seen : ℕ} {c : List Param} {es : List Expr} {ts : List Ty} → HaveTys code seen c es ts → length es ≡ length ts
 types_count no_parts = refl
 types_count (and_part h k) = ap suc (types_count k)
 
-module _ (r : Runs) (runs : (code : Program) (seen : ℕ) (c : List Param) (env : Env) (e : Expr) (t : Ty) → GoodCode code → Fine code seen c e t → HasEnv c env → Yields (Good t) (r code seen env e)) where
+below : (n m at : ℕ) (c : Bool) → nat_lt n m ≡ c → cond c (Some n) None ≡ Some at → at < m
+below n m at true e h = let l : n < m = grind (arith, nat_tests) in subst (λ x. x < m) (some-same h) l
+below n m at false e h = absurd (none-some h)
+
+-- the place of one of the first functions is below their number
+place_below : (f : Name) (funs : List Fun) (seen at : ℕ) → place_of f (take seen funs) ≡ Some at → at < seen
+place_below f funs seen at e =
+    let n = position_or_len (λ (d : Fun). bytes_eq d.name f) (take seen funs) in
+    let k = below n (length (take seen funs)) at (nat_lt n (length (take seen funs))) refl e in
+    let l = length-take seen funs in
+    omega arith
+
+unit_halts : (c : ℕ) → Halts c (Mild ty.Unit) (pure value.Unit)
+unit_halts c = pure_halts c (Mild ty.Unit) value.Unit (λ _. (unit value.outs-Unit refl, form.a_unit value.Unit value.outs-Unit))
+
+module _ (limit : ℕ) where
+  -- the parts of an expression halt at their types, under bindings
+  abbrev PartsHalt : Program → ℕ → Env → List Expr → List Ty → Type 0
+  PartsHalt code seen env [] [] = Unit {0}
+  PartsHalt code seen env (e ∷ es) (t ∷ ts) = Halts limit (Good t) (meaning code seen env e) × PartsHalt code seen env es ts
+  PartsHalt code seen env _ _ = ⊥
+
+  abbrev ClausesHalt : Program → ℕ → Env → Ty → List Clause → Type 0
+  ClausesHalt code seen env t [] = Unit {0}
+  ClausesHalt code seen env t (k ∷ ks) = Halts limit (Good t) (meaning code seen env k.body) × ClausesHalt code seen env t ks
+
+  -- so do the functions before a place, and chunks with a lower purse
+  abbrev CallsHalt : Program → ℕ → Type 0
+  CallsHalt code seen = (at : ℕ) (d : Fun) (args : List Value) → at < seen → slice_get code.funs at ≡ Some d → AreGoodValues (param_types d.params) args → Halts limit (Good d.result) (entered meaning code at args)
+
+  abbrev pub EvalsHalt : Type 0
+  EvalsHalt = (c : ℕ) → c < limit → (k : Chunk) → IsGoodChunk k → Halts c {A = Value} (λ _. Unit {0}) (visited meaning k)
+
+  good_mild : {p : Run Value} (t : Ty) → Halts limit (Good t) p → Halts limit (Mild t) p
+  good_mild {p} t h = mild_halts limit (Good t) (Mild t) (λ v g _. (g.typed, formed_of v g.formed)) p h
+
+  at_type : (t u : Ty) (p : Run Value) → t ≡ u → Halts limit (Mild u) p → Halts limit (Mild t) p
+  at_type t u p e h = subst (λ x. Halts limit (Mild x) p) (sym e) h
+
   -- behind the values that are done
   abbrev Behind : List Value → List Ty → List Value → Type 0
   Behind done ts vs = (ws : List Value) × (vs ≡ done ++ ws) × AreGoodValues ts ws
 
-  values_from : (code : Program) (seen : ℕ) (c : List Param) (env : Env) (es : List Expr) (ts : List Ty) → GoodCode code → FineParts code seen c es ts → HasEnv c env → (done : List Value)
-      → Yields (Behind done ts) (values_behind r done code seen env es)
-  values_from code seen c env [] [] d k h done = pure_yields (Behind done []) done ([], sym (append-nil done), tt)
-  values_from code seen c env [] (t ∷ ts) d k h done = elim k.0 [ ]
-  values_from code seen c env (e ∷ es) [] d k h done = elim k.0 [ ]
-  values_from code seen c env (e ∷ es) (t ∷ ts) d (and_part k l, w) h done =
-      then_yields (Good t) (Behind done (t ∷ ts)) _ _ (runs code seen c env e t d (k, and_left (formed_expr e) (list_all formed_expr es) w) h) (λ v g.
-      mild (Behind (done ++ v ∷ []) ts) (Behind done (t ∷ ts)) (λ vs b. (v ∷ b.0, b.1 ∙ append_assoc done (v ∷ []) b.0, (g, b.2))) _
-      (values_from code seen c env es ts d (l, and_right (formed_expr e) (list_all formed_expr es) w) h (done ++ v ∷ [])))
+  values_from : (code : Program) (seen : ℕ) (env : Env) (es : List Expr) (ts : List Ty) → PartsHalt code seen env es ts → (done : List Value)
+      → Halts limit (Behind done ts) (values_behind meaning done code seen env es)
+  values_from code seen env [] [] k done = pure_halts limit (Behind done []) done ([], sym (append-nil done), tt)
+  values_from code seen env [] (t ∷ ts) k done = absurd k
+  values_from code seen env (e ∷ es) [] k done = absurd k
+  values_from code seen env (e ∷ es) (t ∷ ts) k done =
+      then_halts limit (Good t) (Behind done (t ∷ ts)) _ _ k.0 (λ v g.
+      mild_halts limit (Behind (done ++ v ∷ []) ts) (Behind done (t ∷ ts)) (λ vs x. (v ∷ x.0, x.1 ∙ append_assoc done (v ∷ []) x.0, (g, x.2))) _
+      (values_from code seen env es ts k.1 (done ++ v ∷ [])))
 
-  values_good : (code : Program) (seen : ℕ) (c : List Param) (env : Env) (es : List Expr) (ts : List Ty) → GoodCode code → FineParts code seen c es ts → HasEnv c env
-      → Yields (AreGoodValues ts) (values r code seen env es)
+  values_good : (code : Program) (seen : ℕ) (env : Env) (es : List Expr) (ts : List Ty) → PartsHalt code seen env es ts → Halts limit (AreGoodValues ts) (values meaning code seen env es)
   unfolding values
-  values_good code seen c env es ts d k h =
-      mild (Behind [] ts) (AreGoodValues ts) (λ vs b. subst (λ xs. AreGoodValues ts xs) (sym b.1) b.2) _ (values_from code seen c env es ts d k h [])
+  values_good code seen env es ts k =
+      mild_halts limit (Behind [] ts) (AreGoodValues ts) (λ vs x. subst (λ xs. AreGoodValues ts xs) (sym x.1) x.2) _ (values_from code seen env es ts k [])
 
-  entered_good : (code : Program) (at : ℕ) (d : Fun) (args : List Value) → GoodCode code → slice_get code.funs at ≡ Some d → AreGoodValues (param_types d.params) args
-      → Yields (Good d.result) (entered r code at args)
-  unfolding entered bound
-  entered_good code at d args t g k =
-      let b = bound_good [] [] d.params args tt k in
-      known_then (Good d.result) (slice_get code.funs at) d _ g (known_then (Good d.result) (bound_behind [] d.params args) b.0 _ b.1
-      (runs code at d.params b.0 d.body d.result t (t.typed.bodies at d g, form.body_formed code at d t.formed g) b.2))
+  applied_at_good : (code : Program) (o : Option ℕ) (at : ℕ) (P : Value → Type 0) (args : List Value) → o ≡ Some at → Halts limit P (entered meaning code at args) → Halts limit P (applied_at meaning code o args)
+  applied_at_good code o at P args e h = subst (λ x. Halts limit P (applied_at meaning code x args)) (sym e) h
 
-  applied_at_good : (code : Program) (o : Option ℕ) (at : ℕ) (d : Fun) (args : List Value) → GoodCode code → o ≡ Some at → slice_get code.funs at ≡ Some d
-      → AreGoodValues (param_types d.params) args → Yields (Good d.result) (applied_at r code o args)
-  applied_at_good code o at d args t e g k = subst (λ x. Yields (Good d.result) (applied_at r code x args)) (sym e) (entered_good code at d args t g k)
-
-  applied_good : (code : Program) (seen : ℕ) (f : Name) (at : ℕ) (d : Fun) (args : List Value) → GoodCode code → place_of f (take seen code.funs) ≡ Some at → slice_get code.funs at ≡ Some d
-      → AreGoodValues (param_types d.params) args → Yields (Good d.result) (applied r code seen f args)
+  applied_good : (code : Program) (seen : ℕ) (f : Name) (at : ℕ) (d : Fun) (args : List Value) → CallsHalt code seen → place_of f (take seen code.funs) ≡ Some at → slice_get code.funs at ≡ Some d
+      → AreGoodValues (param_types d.params) args → Halts limit (Good d.result) (applied meaning code seen f args)
   unfolding applied
-  applied_good code seen f at d args t e g k = applied_at_good code (place_of f (take seen code.funs)) at d args t e g k
+  applied_good code seen f at d args q e g k = applied_at_good code (place_of f (take seen code.funs)) at (Good d.result) args e (q at d args (place_below f code.funs seen at e) g k)
 
-  visited_by : (k : Chunk) → IsTypedChunk k → formed_chunk k ≡ true → (Q : Value → Type 0) → ((v : Value) → (t : Ty) → Good t v → Q v) → Yields Q (visited r k)
-  unfolding visited
-  visited_by k (within at d t p g h n w) o Q f =
-      mild (Good d.result) Q (λ v x. f v d.result x) _
-      (applied_at_good k.code (place_of k.entry k.code.funs) at d k.args (record { typed = t; formed = form.chunk_code k o }) p g (good_all h (form.chunk_args k o) (args_weight k w) (args_nesting k n)))
-
-  pub visited_good : (k : Chunk) (at : ℕ) (d : Fun) → IsTypedChunk k → formed_chunk k ≡ true → place_of k.entry k.code.funs ≡ Some at → slice_get k.code.funs at ≡ Some d → Yields (Good d.result) (visited r k)
-  unfolding visited
-  visited_good k at d (within at' d' t p g h n w) o e l =
-      let same_place : at' ≡ at = let x : Some at' ≡ Some at = sym p ∙ e in cc in
-      let same_fun : d' ≡ d = let x : Some d' ≡ Some d = sym g ∙ ap (λ i. slice_get k.code.funs i) same_place ∙ l in cc in
-      subst (λ f. Yields (Good f.result) (applied_at r k.code (place_of k.entry k.code.funs) k.args)) same_fun
-      (applied_at_good k.code (place_of k.entry k.code.funs) at' d' k.args (record { typed = t; formed = form.chunk_code k o }) p g (good_all h (form.chunk_args k o) (args_weight k w) (args_nesting k n)))
-
-  by_prim : (code : Program) (seen : ℕ) (f : Name) (p : Primitive) (vs : List Value) (t : Ty) → prim_of f ≡ Some p → given.Fits t (rules.primitive p vs) → Keeps (rules.primitive p vs) → Yields (Mild t) (called r code seen f vs)
+  by_prim : (code : Program) (seen : ℕ) (f : Name) (p : Primitive) (vs : List Value) (t : Ty) → prim_of f ≡ Some p → Fits t (rules.primitive p vs) → Keeps (rules.primitive p vs) → Halts limit (Mild t) (called meaning code seen f vs)
   unfolding called
-  by_prim code seen f p vs t e h k = subst (λ o. Yields (Mild t) (called_by r o code seen f vs)) (sym e) (given_yields t _ h k)
+  by_prim code seen f p vs t e h k = subst (λ o. Halts limit (Mild t) (called_by meaning o code seen f vs)) (sym e) (given_halts limit t _ h k)
 
-  by_service : (code : Program) (seen : ℕ) (f : Name) (d : Svc) (vs : List Value) → prim_of f ≡ None → service_of f code.svcs ≡ Some d → AreGoodValues d.params vs → Yields (Good d.result) (called r code seen f vs)
+  by_service : (code : Program) (seen : ℕ) (f : Name) (d : Svc) (vs : List Value) → prim_of f ≡ None → service_of f code.svcs ≡ Some d → AreGoodValues d.params vs → Halts limit (Good d.result) (called meaning code seen f vs)
   unfolding called
   by_service code seen f d vs e g h =
-      subst (λ o. Yields (Good d.result) (called_by r o code seen f vs)) (sym e)
-      (subst (λ o. Yields (Good d.result) (served_or r o code seen f vs)) (sym g) (serve_yields d vs h))
+      subst (λ o. Halts limit (Good d.result) (called_by meaning o code seen f vs)) (sym e)
+      (subst (λ o. Halts limit (Good d.result) (served_or meaning o code seen f vs)) (sym g) (serve_halts limit d vs h))
 
-  by_function : (code : Program) (seen : ℕ) (f : Name) (at : ℕ) (d : Fun) (vs : List Value) → GoodCode code → prim_of f ≡ None → service_of f code.svcs ≡ None → place_of f (take seen code.funs) ≡ Some at
-      → slice_get code.funs at ≡ Some d → AreGoodValues (param_types d.params) vs → Yields (Good d.result) (called r code seen f vs)
+  by_function : (code : Program) (seen : ℕ) (f : Name) (at : ℕ) (d : Fun) (vs : List Value) → CallsHalt code seen → prim_of f ≡ None → service_of f code.svcs ≡ None → place_of f (take seen code.funs) ≡ Some at
+      → slice_get code.funs at ≡ Some d → AreGoodValues (param_types d.params) vs → Halts limit (Good d.result) (called meaning code seen f vs)
   unfolding called
-  by_function code seen f at d vs t e g p l h =
-      subst (λ o. Yields (Good d.result) (called_by r o code seen f vs)) (sym e)
-      (subst (λ o. Yields (Good d.result) (served_or r o code seen f vs)) (sym g) (applied_good code seen f at d vs t p l h))
+  by_function code seen f at d vs q e g p l h =
+      subst (λ o. Halts limit (Good d.result) (called_by meaning o code seen f vs)) (sym e)
+      (subst (λ o. Halts limit (Good d.result) (served_or meaning o code seen f vs)) (sym g) (applied_good code seen f at d vs q p l h))
 
-  along_left : (code : Program) (seen : ℕ) (f : Name) (at : ℕ) (d : Fun) (t u : Ty) → GoodCode code → place_of f (take seen code.funs) ≡ Some at → slice_get code.funs at ≡ Some d
-      → param_types d.params ≡ t ∷ u ∷ [] → d.result ≡ t → (acc : Value) (xs : List Value) → Good t acc → AllGood u xs → Yields (Good t) (left_along r code seen f acc xs)
-  along_left code seen f at d t u y p l e q acc [] g h = pure_yields (Good t) acc g
+  along_left : (code : Program) (seen : ℕ) (f : Name) (at : ℕ) (d : Fun) (t u : Ty) → CallsHalt code seen → place_of f (take seen code.funs) ≡ Some at → slice_get code.funs at ≡ Some d
+      → param_types d.params ≡ t ∷ u ∷ [] → d.result ≡ t → (acc : Value) (xs : List Value) → Good t acc → AllGood u xs → Halts limit (Good t) (left_along meaning code seen f acc xs)
+  along_left code seen f at d t u y p l e q acc [] g h = pure_halts limit (Good t) acc g
   along_left code seen f at d t u y p l e q acc (x ∷ xs) g h =
-      then_yields (Good d.result) (Good t) _ _ (applied_good code seen f at d (acc ∷ x ∷ []) y p l (subst (λ ts. AreGoodValues ts (acc ∷ x ∷ [])) (sym e) (g, (h.0, tt))))
+      then_halts limit (Good d.result) (Good t) _ _ (applied_good code seen f at d (acc ∷ x ∷ []) y p l (subst (λ ts. AreGoodValues ts (acc ∷ x ∷ [])) (sym e) (g, (h.0, tt))))
       (λ v k. along_left code seen f at d t u y p l e q v xs (subst (λ z. Good z v) q k) h.1)
 
-  along_right : (code : Program) (seen : ℕ) (f : Name) (at : ℕ) (d : Fun) (t u : Ty) → GoodCode code → place_of f (take seen code.funs) ≡ Some at → slice_get code.funs at ≡ Some d
-      → param_types d.params ≡ u ∷ t ∷ [] → d.result ≡ t → (acc : Value) (xs : List Value) → Good t acc → AllGood u xs → Yields (Good t) (right_along r code seen f acc xs)
-  along_right code seen f at d t u y p l e q acc [] g h = pure_yields (Good t) acc g
+  along_right : (code : Program) (seen : ℕ) (f : Name) (at : ℕ) (d : Fun) (t u : Ty) → CallsHalt code seen → place_of f (take seen code.funs) ≡ Some at → slice_get code.funs at ≡ Some d
+      → param_types d.params ≡ u ∷ t ∷ [] → d.result ≡ t → (acc : Value) (xs : List Value) → Good t acc → AllGood u xs → Halts limit (Good t) (right_along meaning code seen f acc xs)
+  along_right code seen f at d t u y p l e q acc [] g h = pure_halts limit (Good t) acc g
   along_right code seen f at d t u y p l e q acc (x ∷ xs) g h =
-      then_yields (Good d.result) (Good t) _ _ (applied_good code seen f at d (x ∷ acc ∷ []) y p l (subst (λ ts. AreGoodValues ts (x ∷ acc ∷ [])) (sym e) (h.0, (g, tt))))
+      then_halts limit (Good d.result) (Good t) _ _ (applied_good code seen f at d (x ∷ acc ∷ []) y p l (subst (λ ts. AreGoodValues ts (x ∷ acc ∷ [])) (sym e) (h.0, (g, tt))))
       (λ v k. along_right code seen f at d t u y p l e q v xs (subst (λ z. Good z v) q k) h.1)
 
-  handled_good : (code : Program) (seen : ℕ) (c : List Param) (env : Env) (ks : List Clause) (t : Ty) → GoodCode code → FineClauses code seen c ks t → HasEnv c env → (x : Exn)
-      → Yields (Mild t) (handled r code seen env ks x)
-  handled_good code seen c env [] t y k h x = raise_yields (Mild t) x
-  handled_good code seen c env (k ∷ ks) t y (and_clause a b d, w) h x =
-      cond_yields (Mild t) (catches k.name x) _ _ (good_mild t (runs code seen c env k.body t y (b, and_left (formed_expr k.body) (list_all (λ j. formed_expr j.body) ks) w) h)) (handled_good code seen c env ks t y (d, and_right (formed_expr k.body) (list_all (λ j. formed_expr j.body) ks) w) h x)
+  handled_good : (code : Program) (seen : ℕ) (env : Env) (ks : List Clause) (t : Ty) → ClausesHalt code seen env t ks → (x : Exn) → Halts limit (Mild t) (handled meaning code seen env ks x)
+  handled_good code seen env [] t h x = raise_halts limit (Mild t) x
+  handled_good code seen env (k ∷ ks) t h x = cond_halts limit (Mild t) (catches k.name x) _ _ (good_mild t h.0) (handled_good code seen env ks t h.1 x)
 
-  literal_good : (code : Program) (seen : ℕ) (env : Env) (l : ExprLayer) (t : Ty) → literal_type l ≡ Some t → FormedLevel l → Yields (Mild t) (opened_at r code seen env l)
-  literal_good code seen env Expr-F.Unit t e w = let same : ty.Unit ≡ t = cc in pure_yields (Mild t) value.Unit (λ _. (unit value.outs-Unit (sym same), form.a_unit value.Unit value.outs-Unit))
-  literal_good code seen env (Expr-F.Bool b) t e w = let same : ty.Bool ≡ t = cc in pure_yields (Mild t) (value.Bool b) (λ _. (bool b (value.outs-Bool b) (sym same), form.a_bool (value.Bool b) b (value.outs-Bool b)))
-  literal_good code seen env (Expr-F.Int n) t e w = let same : ty.Int ≡ t = cc in pure_yields (Mild t) (value.Int n) (λ _. (int n (value.outs-Int n) (sym same), form.an_int (value.Int n) n (value.outs-Int n)))
-  literal_good code seen env (Expr-F.Char n) t e w = let same : ty.Char ≡ t = cc in pure_yields (Mild t) (value.Char n) (λ _. (char n (value.outs-Char n) (sym same), form.a_char (value.Char n) n (value.outs-Char n) w))
-  literal_good code seen env (Expr-F.Str s) t e w = let same : ty.Str ≡ t = cc in pure_yields (Mild t) (value.Str s) (λ _. (str s (value.outs-Str s) (sym same), form.a_str (value.Str s) s (value.outs-Str s) w))
-  literal_good code seen env (Expr-F.Blob b) t e w = let same : ty.Blob ≡ t = cc in pure_yields (Mild t) (value.Blob b) (λ _. (blob b (value.outs-Blob b) (sym same), form.a_blob (value.Blob b) b (value.outs-Blob b) w))
-  literal_good code seen env (Expr-F.Host n) t e w = let same : ty.Host ≡ t = cc in pure_yields (Mild t) (value.Host n) (λ _. (host n (value.outs-Host n) (sym same), form.a_host (value.Host n) n (value.outs-Host n)))
-  literal_good code seen env (Expr-F.Dev d) t e w = let same : ty.Dev ≡ t = cc in pure_yields (Mild t) (value.Dev d) (λ _. (dev d (value.outs-Dev d) (sym same), form.a_dev (value.Dev d) d (value.outs-Dev d)))
+  literal_good : (code : Program) (seen : ℕ) (env : Env) (l : ExprLayer) (t : Ty) → literal_type l ≡ Some t → FormedLevel l → Halts limit (Mild t) (opened_at meaning code seen env l)
+  literal_good code seen env Expr-F.Unit t e w = let same : ty.Unit ≡ t = cc in pure_halts limit (Mild t) value.Unit (λ _. (unit value.outs-Unit (sym same), form.a_unit value.Unit value.outs-Unit))
+  literal_good code seen env (Expr-F.Bool b) t e w = let same : ty.Bool ≡ t = cc in pure_halts limit (Mild t) (value.Bool b) (λ _. (bool b (value.outs-Bool b) (sym same), form.a_bool (value.Bool b) b (value.outs-Bool b)))
+  literal_good code seen env (Expr-F.Int n) t e w = let same : ty.Int ≡ t = cc in pure_halts limit (Mild t) (value.Int n) (λ _. (int n (value.outs-Int n) (sym same), form.an_int (value.Int n) n (value.outs-Int n)))
+  literal_good code seen env (Expr-F.Char n) t e w = let same : ty.Char ≡ t = cc in pure_halts limit (Mild t) (value.Char n) (λ _. (char n (value.outs-Char n) (sym same), form.a_char (value.Char n) n (value.outs-Char n) w))
+  literal_good code seen env (Expr-F.Str s) t e w = let same : ty.Str ≡ t = cc in pure_halts limit (Mild t) (value.Str s) (λ _. (str s (value.outs-Str s) (sym same), form.a_str (value.Str s) s (value.outs-Str s) w))
+  literal_good code seen env (Expr-F.Blob b) t e w = let same : ty.Blob ≡ t = cc in pure_halts limit (Mild t) (value.Blob b) (λ _. (blob b (value.outs-Blob b) (sym same), form.a_blob (value.Blob b) b (value.outs-Blob b) w))
+  literal_good code seen env (Expr-F.Host n) t e w = let same : ty.Host ≡ t = cc in pure_halts limit (Mild t) (value.Host n) (λ _. (host n (value.outs-Host n) (sym same), form.a_host (value.Host n) n (value.outs-Host n)))
+  literal_good code seen env (Expr-F.Dev d) t e w = let same : ty.Dev ≡ t = cc in pure_halts limit (Mild t) (value.Dev d) (λ _. (dev d (value.outs-Dev d) (sym same), form.a_dev (value.Dev d) d (value.outs-Dev d)))
   literal_good code seen env _ t e w = cc
 
-  just_unit : Yields (Mild ty.Unit) (pure value.Unit)
-  just_unit = pure_yields (Mild ty.Unit) value.Unit (λ _. (unit value.outs-Unit refl, form.a_unit value.Unit value.outs-Unit))
+  just_unit : Halts limit (Mild ty.Unit) (pure value.Unit)
+  just_unit = unit_halts limit
 
-  just_bool : (b : Bool) → Yields (Mild ty.Bool) (pure (value.Bool b))
-  just_bool b = pure_yields (Mild ty.Bool) (value.Bool b) (λ _. (bool b (value.outs-Bool b) refl, form.a_bool (value.Bool b) b (value.outs-Bool b)))
+  just_bool : (x : Bool) → Halts limit (Mild ty.Bool) (pure (value.Bool x))
+  just_bool x = pure_halts limit (Mild ty.Bool) (value.Bool x) (λ _. (bool x (value.outs-Bool x) refl, form.a_bool (value.Bool x) x (value.outs-Bool x)))
 
   abbrev Any : Unit {0} → Type 0
   Any u = Unit {0}
 
   -- an expression whose level is known
-  at_level : (code : Program) (seen : ℕ) (env : Env) (e : Expr) (l : ExprLayer) (t : Ty) → out-Expr e ≡ l → Yields (Mild t) (opened_at r code seen env l) → Yields (Mild t) (opened r code seen env e)
+  at_level : (code : Program) (seen : ℕ) (env : Env) (e : Expr) (l : ExprLayer) (t : Ty) → out-Expr e ≡ l → Halts limit (Mild t) (opened_at meaning code seen env l) → Halts limit (Mild t) (opened meaning code seen env e)
   unfolding opened
-  at_level code seen env e l t o h = subst (λ x. Yields (Mild t) (opened_at r code seen env x)) (sym o) h
+  at_level code seen env e l t o h = subst (λ x. Halts limit (Mild t) (opened_at meaning code seen env x)) (sym o) h
 
-  module _ (code : Program) (seen : ℕ) (c : List Param) (env : Env) (y : GoodCode code) (h : HasEnv c env) where
-    choice_good : (t : Ty) (a b d : Expr) → Fine code seen c a ty.Bool → Fine code seen c b t → Fine code seen c d t → Yields (Mild t) (m.choice r code seen env a b d)
+  module _ (code : Program) (seen : ℕ) (env : Env) (y : GoodCode code) where
+    abbrev Does : Ty → Expr → Type 0
+    Does t e = Halts limit (Good t) (meaning code seen env e)
+
+    choice_good : (t : Ty) (a b d : Expr) → Does ty.Bool a → Does t b → Does t d → Halts limit (Mild t) (m.choice meaning code seen env a b d)
     unfolding m.choice
     choice_good t a b d i j k =
-        then_yields (Good ty.Bool) (Mild t) _ _ (runs code seen c env a ty.Bool y i h) (λ v g.
-        known_then (Mild t) (as_bool v) (truth v g.typed).0 _ (truth v g.typed).1
-        (cond_yields (Mild t) (truth v g.typed).0 _ _ (good_mild t (runs code seen c env b t y j h)) (good_mild t (runs code seen c env d t y k h))))
+        then_halts limit (Good ty.Bool) (Mild t) _ _ i (λ v g.
+        known_then_halts limit (Mild t) (as_bool v) (truth v g.typed).0 _ (truth v g.typed).1
+        (cond_halts limit (Mild t) (truth v g.typed).0 _ _ (good_mild t j) (good_mild t k)))
 
-    both_good : (a b : Expr) → Fine code seen c a ty.Bool → Fine code seen c b ty.Bool → Yields (Mild ty.Bool) (m.conjunction r code seen env a b)
+    both_good : (a b : Expr) → Does ty.Bool a → Does ty.Bool b → Halts limit (Mild ty.Bool) (m.conjunction meaning code seen env a b)
     unfolding m.conjunction
     both_good a b i j =
-        then_yields (Good ty.Bool) (Mild ty.Bool) _ _ (runs code seen c env a ty.Bool y i h) (λ v g.
-        known_then (Mild ty.Bool) (as_bool v) (truth v g.typed).0 _ (truth v g.typed).1
-        (cond_yields (Mild ty.Bool) (truth v g.typed).0 _ _ (good_mild ty.Bool (runs code seen c env b ty.Bool y j h)) (just_bool false)))
+        then_halts limit (Good ty.Bool) (Mild ty.Bool) _ _ i (λ v g.
+        known_then_halts limit (Mild ty.Bool) (as_bool v) (truth v g.typed).0 _ (truth v g.typed).1
+        (cond_halts limit (Mild ty.Bool) (truth v g.typed).0 _ _ (good_mild ty.Bool j) (just_bool false)))
 
-    either_good : (a b : Expr) → Fine code seen c a ty.Bool → Fine code seen c b ty.Bool → Yields (Mild ty.Bool) (m.disjunction r code seen env a b)
+    either_good : (a b : Expr) → Does ty.Bool a → Does ty.Bool b → Halts limit (Mild ty.Bool) (m.disjunction meaning code seen env a b)
     unfolding m.disjunction
     either_good a b i j =
-        then_yields (Good ty.Bool) (Mild ty.Bool) _ _ (runs code seen c env a ty.Bool y i h) (λ v g.
-        known_then (Mild ty.Bool) (as_bool v) (truth v g.typed).0 _ (truth v g.typed).1
-        (cond_yields (Mild ty.Bool) (truth v g.typed).0 _ _ (just_bool true) (good_mild ty.Bool (runs code seen c env b ty.Bool y j h))))
+        then_halts limit (Good ty.Bool) (Mild ty.Bool) _ _ i (λ v g.
+        known_then_halts limit (Mild ty.Bool) (as_bool v) (truth v g.typed).0 _ (truth v g.typed).1
+        (cond_halts limit (Mild ty.Bool) (truth v g.typed).0 _ _ (just_bool true) (good_mild ty.Bool j)))
 
-    negation_good : (a : Expr) → Fine code seen c a ty.Bool → Yields (Mild ty.Bool) (m.negation r code seen env a)
+    negation_good : (a : Expr) → Does ty.Bool a → Halts limit (Mild ty.Bool) (m.negation meaning code seen env a)
     unfolding m.negation
     negation_good a i =
-        then_yields (Good ty.Bool) (Mild ty.Bool) _ _ (runs code seen c env a ty.Bool y i h) (λ v g.
-        known_then (Mild ty.Bool) (as_bool v) (truth v g.typed).0 _ (truth v g.typed).1 (just_bool (not (truth v g.typed).0)))
+        then_halts limit (Good ty.Bool) (Mild ty.Bool) _ _ i (λ v g.
+        known_then_halts limit (Mild ty.Bool) (as_bool v) (truth v g.typed).0 _ (truth v g.typed).1 (just_bool (not (truth v g.typed).0)))
 
-    binder_good : (t u : Ty) (x : Name) (a b : Expr) → Fine code seen c a u → Fine code seen (c ++ record { name = x; ty = u } ∷ []) b t → Yields (Mild t) (m.binding r code seen env x a b)
+    binder_good : (t u : Ty) (x : Name) (a b : Expr) → Does u a → ((v : Value) → Good u v → Halts limit (Good t) (meaning code seen (env ++ m.binds x v ∷ []) b)) → Halts limit (Mild t) (m.binding meaning code seen env x a b)
     unfolding m.binding
     binder_good t u x a b i j =
-        then_yields (Good u) (Mild t) _ _ (runs code seen c env a u y i h) (λ v g.
-        good_mild t (runs code seen _ _ b t y j (env_behind c env (record { name = x; ty = u }) v h g)))
+        then_halts limit (Good u) (Mild t) _ _ i (λ v g.
+        good_mild t (j v g))
 
-    sequence_good : (t : Ty) (a b : Expr) → Fine code seen c a ty.Unit → Fine code seen c b t → Yields (Mild t) (m.sequence r code seen env a b)
+    sequence_good : (t : Ty) (a b : Expr) → Does ty.Unit a → Does t b → Halts limit (Mild t) (m.sequence meaning code seen env a b)
     unfolding m.sequence
-    sequence_good t a b i j = then_yields (Good ty.Unit) (Mild t) _ _ (runs code seen c env a ty.Unit y i h) (λ v g. good_mild t (runs code seen c env b t y j h))
+    sequence_good t a b i j = then_halts limit (Good ty.Unit) (Mild t) _ _ i (λ v g. good_mild t j)
 
-    operation_good : (t u w : Ty) (o : Op) (a b : Expr) → Fine code seen c a u → Fine code seen c b w → ((p q : Value) → Good u p → Good w q → given.Fits t (rules.binary o p q) × Keeps (rules.binary o p q))
-        → Yields (Mild t) (m.operation r code seen env o a b)
+    operation_good : (t u w : Ty) (o : Op) (a b : Expr) → Does u a → Does w b → ((p q : Value) → Good u p → Good w q → Fits t (rules.binary o p q) × Keeps (rules.binary o p q))
+        → Halts limit (Mild t) (m.operation meaning code seen env o a b)
     unfolding m.operation
     operation_good t u w o a b i j k =
-        then_yields (Good u) (Mild t) _ _ (runs code seen c env a u y i h) (λ p g. then_yields (Good w) (Mild t) _ _ (runs code seen c env b w y j h) (λ q f.
-        given_yields t _ (k p q g f).0 (k p q g f).1))
+        then_halts limit (Good u) (Mild t) _ _ i (λ p g. then_halts limit (Good w) (Mild t) _ _ j (λ q f.
+        given_halts limit t _ (k p q g f).0 (k p q g f).1))
 
-    selection_good : (t : Ty) (i : ℕ) (a : Expr) (ts : List Ty) → Fine code seen c a (ty.Tuple ts) → part_of i ts ≡ Some t → Yields (Mild t) (m.selection r code seen env i a)
+    selection_good : (t : Ty) (i : ℕ) (a : Expr) (ts : List Ty) → Does (ty.Tuple ts) a → part_of i ts ≡ Some t → Halts limit (Mild t) (m.selection meaning code seen env i a)
     unfolding m.selection
-    selection_good t i a ts j e = then_yields (Good (ty.Tuple ts)) (Mild t) _ _ (runs code seen c env a (ty.Tuple ts) y j h) (λ v g. given_yields t _ (given.taken i v ts t g.typed e) (keeps.taken i v ts g.typed (formed_of v g.formed)))
+    selection_good t i a ts j e = then_halts limit (Good (ty.Tuple ts)) (Mild t) _ _ j (λ v g. given_halts limit t _ (given.taken i v ts t g.typed e) (keeps.taken i v ts g.typed (formed_of v g.formed)))
 
-    tuple_good : (es : List Expr) (ts : List Ty) → FineParts code seen c es ts → has_from_to 2 8 es ≡ true → IsShallow (ty.Tuple ts) → Yields (Mild (ty.Tuple ts)) (m.tuple r code seen env es)
+    tuple_good : (es : List Expr) (ts : List Ty) → length es ≡ length ts → PartsHalt code seen env es ts → has_from_to 2 8 es ≡ true → IsShallow (ty.Tuple ts) → Halts limit (Mild (ty.Tuple ts)) (m.tuple meaning code seen env es)
     unfolding m.tuple
-    tuple_good es ts i n s =
-        then_yields (AreGoodValues ts) (Mild (ty.Tuple ts)) _ _ (values_good code seen c env es ts y i h) (λ vs g.
-        pure_yields (Mild (ty.Tuple ts)) (value.Tuple vs) (λ _. (
+    tuple_good es ts z i n s =
+        then_halts limit (AreGoodValues ts) (Mild (ty.Tuple ts)) _ _ (values_good code seen env es ts i) (λ vs g.
+        pure_halts limit (Mild (ty.Tuple ts)) (value.Tuple vs) (λ _. (
           typing.tuple vs ts (value.outs-Tuple vs) refl (typed_all ts vs g),
           form.a_tuple (value.Tuple vs) vs (value.outs-Tuple vs)
-              (subst (λ x. (nat_le 2 x && nat_le x 8) ≡ true) (types_count i.0 ∙ values_count ts vs g) n) (form.shapes vs (formed_all ts vs g)) (form.tuple_depth vs ts (typed_all ts vs g) s),
+              (subst (λ x. (nat_le 2 x && nat_le x 8) ≡ true) (z ∙ values_count ts vs g) n) (form.shapes vs (formed_all ts vs g)) (form.tuple_depth vs ts (typed_all ts vs g) s),
         )))
 
-    call_good : (t : Ty) (f : Name) (es : List Expr) (ts : List Ty) → FineParts code seen c es ts → ((vs : List Value) → AreGoodValues ts vs → Yields (Mild t) (called r code seen f vs)) → Yields (Mild t) (m.call r code seen env f es)
+    call_good : (t : Ty) (f : Name) (es : List Expr) (ts : List Ty) → PartsHalt code seen env es ts → ((vs : List Value) → AreGoodValues ts vs → Halts limit (Mild t) (called meaning code seen f vs)) → Halts limit (Mild t) (m.call meaning code seen env f es)
     unfolding m.call
-    call_good t f es ts i k = then_yields (AreGoodValues ts) (Mild t) _ _ (values_good code seen c env es ts y i h) k
+    call_good t f es ts i k = then_halts limit (AreGoodValues ts) (Mild t) _ _ (values_good code seen env es ts i) k
 
-    packed_good : (f : Name) (es : List Expr) (at : ℕ) (d : Fun) → place_of f code.funs ≡ Some at → slice_get code.funs at ≡ Some d → FineParts code seen c es (param_types d.params) → nat_le (length es) 8 ≡ true → Yields (Mild ty.Chunk) (m.packed r code seen env f es)
+    packed_good : (f : Name) (es : List Expr) (at : ℕ) (d : Fun) → length es ≡ length (param_types d.params) → place_of f code.funs ≡ Some at → slice_get code.funs at ≡ Some d → PartsHalt code seen env es (param_types d.params) → nat_le (length es) 8 ≡ true → Halts limit (Mild ty.Chunk) (m.packed meaning code seen env f es)
     unfolding m.packed
-    packed_good f es at d p g i n =
-        then_yields (AreGoodValues (param_types d.params)) (Mild ty.Chunk) _ _ (values_good code seen c env es _ y i h) (λ vs k.
-        pure_yields (Mild ty.Chunk) _ (made_chunk (record { code = code; entry = f; args = vs }) at d y.typed p g (typed_all _ vs k)
-        (form.made_chunk (record { code = code; entry = f; args = vs }) y.formed (leb-true (length vs) 8 (subst (λ x. nat_le x 8 ≡ true) (types_count i.0 ∙ values_count _ vs k) n)) (formed_all _ vs k))))
+    packed_good f es at d z p g i n =
+        then_halts limit (AreGoodValues (param_types d.params)) (Mild ty.Chunk) _ _ (values_good code seen env es _ i) (λ vs k.
+        pure_halts limit (Mild ty.Chunk) _ (made_chunk (record { code = code; entry = f; args = vs }) at d y.typed p g (typed_all _ vs k)
+        (form.made_chunk (record { code = code; entry = f; args = vs }) y.formed (leb-true (length vs) 8 (subst (λ x. nat_le x 8 ≡ true) (z ∙ values_count _ vs k) n)) (formed_all _ vs k))))
 
-    attempt_good : (t : Ty) (a : Expr) (ks : List Clause) → Fine code seen c a t → FineClauses code seen c ks t → Yields (Mild t) (m.attempt r code seen env a ks)
+    attempt_good : (t : Ty) (a : Expr) (ks : List Clause) → Does t a → ClausesHalt code seen env t ks → Halts limit (Mild t) (m.attempt meaning code seen env a ks)
     unfolding m.attempt
-    attempt_good t a ks i j = rescue_yields (Mild t) _ _ (good_mild t (runs code seen c env a t y i h)) (handled_good code seen c env ks t y j h)
+    attempt_good t a ks i j = rescue_halts limit (Mild t) _ _ (good_mild t i) (handled_good code seen env ks t j)
 
-    fold_left_good : (t u : Ty) (f : Name) (a l : Expr) (at : ℕ) (d : Fun) → place_of f (take seen code.funs) ≡ Some at → slice_get code.funs at ≡ Some d → param_types d.params ≡ t ∷ u ∷ [] → d.result ≡ t
-        → Fine code seen c a t → Fine code seen c l (ty.List u) → Yields (Mild t) (m.fold_left r code seen env f a l)
+    fold_left_good : (t u : Ty) (f : Name) (a l : Expr) (at : ℕ) (d : Fun) → CallsHalt code seen → place_of f (take seen code.funs) ≡ Some at → slice_get code.funs at ≡ Some d → param_types d.params ≡ t ∷ u ∷ [] → d.result ≡ t
+        → Does t a → Does (ty.List u) l → Halts limit (Mild t) (m.fold_left meaning code seen env f a l)
     unfolding m.fold_left
-    fold_left_good t u f a l at d p g e q i j =
-        then_yields (Good t) (Mild t) _ _ (runs code seen c env a t y i h) (λ acc k. then_yields (Good (ty.List u)) (Mild t) _ _ (runs code seen c env l (ty.List u) y j h) (λ v w.
-        known_then (Mild t) (as_items v) (items u v w).0 _ (items u v w).1 (good_mild t (along_left code seen f at d t u y p g e q acc (items u v w).0 k (items u v w).2))))
+    fold_left_good t u f a l at d x p g e q i j =
+        then_halts limit (Good t) (Mild t) _ _ i (λ acc k. then_halts limit (Good (ty.List u)) (Mild t) _ _ j (λ v w.
+        known_then_halts limit (Mild t) (as_items v) (items u v w).0 _ (items u v w).1 (good_mild t (along_left code seen f at d t u x p g e q acc (items u v w).0 k (items u v w).2))))
 
-    fold_right_good : (t u : Ty) (f : Name) (a l : Expr) (at : ℕ) (d : Fun) → place_of f (take seen code.funs) ≡ Some at → slice_get code.funs at ≡ Some d → param_types d.params ≡ u ∷ t ∷ [] → d.result ≡ t
-        → Fine code seen c a t → Fine code seen c l (ty.List u) → Yields (Mild t) (m.fold_right r code seen env f a l)
+    fold_right_good : (t u : Ty) (f : Name) (a l : Expr) (at : ℕ) (d : Fun) → CallsHalt code seen → place_of f (take seen code.funs) ≡ Some at → slice_get code.funs at ≡ Some d → param_types d.params ≡ u ∷ t ∷ [] → d.result ≡ t
+        → Does t a → Does (ty.List u) l → Halts limit (Mild t) (m.fold_right meaning code seen env f a l)
     unfolding m.fold_right
-    fold_right_good t u f a l at d p g e q i j =
-        then_yields (Good t) (Mild t) _ _ (runs code seen c env a t y i h) (λ acc k. then_yields (Good (ty.List u)) (Mild t) _ _ (runs code seen c env l (ty.List u) y j h) (λ v w.
-        known_then (Mild t) (as_items v) (items u v w).0 _ (items u v w).1
-        (good_mild t (along_right code seen f at d t u y p g e q acc (reverse (items u v w).0) k (all_reversed u (items u v w).0 (items u v w).2)))))
+    fold_right_good t u f a l at d x p g e q i j =
+        then_halts limit (Good t) (Mild t) _ _ i (λ acc k. then_halts limit (Good (ty.List u)) (Mild t) _ _ j (λ v w.
+        known_then_halts limit (Mild t) (as_items v) (items u v w).0 _ (items u v w).1
+        (good_mild t (along_right code seen f at d t u x p g e q acc (reverse (items u v w).0) k (all_reversed u (items u v w).0 (items u v w).2)))))
 
-    evaluation_good : (a : Expr) → Fine code seen c a ty.Chunk → Yields (Mild ty.Unit) (m.evaluation r code seen env a)
+    evaluation_good : (a : Expr) → EvalsHalt → Does ty.Chunk a → Halts limit (Mild ty.Unit) (m.evaluation meaning code seen env a)
     unfolding m.evaluation
-    evaluation_good a i =
-        then_yields (Good ty.Chunk) (Mild ty.Unit) _ _ (runs code seen c env a ty.Chunk y i h) (λ v g. let k = a_chunk v g in
-        known_then (Mild ty.Unit) (as_chunk v) k.0 _ k.1 (then_yields Any (Mild ty.Unit) _ _ pay_yields (λ _ _.
-        then_yields {A = Value} (λ _. Unit {0}) (Mild ty.Unit) _ _ (visited_by k.0 k.2.typed (form.formed_of_chunk k.0 k.2.formed) (λ _. Unit {0}) (λ _ _ _. tt)) (λ _ _. just_unit))))
+    evaluation_good a q i =
+        then_halts limit (Good ty.Chunk) (Mild ty.Unit) _ _ i (λ v g. let k = a_chunk v g in
+        known_then_halts limit (Mild ty.Unit) (as_chunk v) k.0 _ k.1 (paid_halts limit (Mild ty.Unit) (visited meaning k.0 >> pure value.Unit) (λ c l.
+        then_halts c {A = Value} (λ _. Unit {0}) (Mild ty.Unit) (visited meaning k.0) (λ _. pure value.Unit) (q c l k.0 k.2) (λ _ _. unit_halts c))))
 
-    remote_good : (a b n : Expr) (route : Name) → Fine code seen c a ty.Chunk → Fine code seen c b ty.Host → Fine code seen c n ty.Int → Yields (Mild ty.Unit) (m.remote r code seen env a b n route)
+    remote_good : (a b n : Expr) (route : Name) → Does ty.Chunk a → Does ty.Host b → Does ty.Int n → Halts limit (Mild ty.Unit) (m.remote meaning code seen env a b n route)
     unfolding m.remote
     remote_good a b n route i j k =
-        then_yields (Good ty.Chunk) (Mild ty.Unit) _ _ (runs code seen c env a ty.Chunk y i h) (λ v g. let ch = a_chunk v g in
-        known_then (Mild ty.Unit) (as_chunk v) ch.0 _ ch.1 (then_yields (Good ty.Host) (Mild ty.Unit) _ _ (runs code seen c env b ty.Host y j h) (λ w g2. let ho = a_host w g2.typed in
-        known_then (Mild ty.Unit) (as_host w) ho.0 _ ho.1 (then_yields (Good ty.Int) (Mild ty.Unit) _ _ (runs code seen c env n ty.Int y k h) (λ u g3. let nu = number u g3.typed in
-        known_then (Mild ty.Unit) (as_int u) nu.0 _ nu.1 (then_yields Any (Mild ty.Unit) _ _ (remote_yields ch.0 ho.0 nu.0 route ch.2) (λ _ _. just_unit)))))))
+        then_halts limit (Good ty.Chunk) (Mild ty.Unit) _ _ i (λ v g. let ch = a_chunk v g in
+        known_then_halts limit (Mild ty.Unit) (as_chunk v) ch.0 _ ch.1 (then_halts limit (Good ty.Host) (Mild ty.Unit) _ _ j (λ w g2. let ho = a_host w g2.typed in
+        known_then_halts limit (Mild ty.Unit) (as_host w) ho.0 _ ho.1 (then_halts limit (Good ty.Int) (Mild ty.Unit) _ _ k (λ u g3. let nu = number u g3.typed in
+        known_then_halts limit (Mild ty.Unit) (as_int u) nu.0 _ nu.1 (then_halts limit Any (Mild ty.Unit) _ _ (remote_halts limit ch.0 ho.0 nu.0 route ch.2) (λ _ _. just_unit)))))))
 
-    neighbour_good : (a b n d : Expr) → Fine code seen c a ty.Chunk → Fine code seen c b ty.Host → Fine code seen c n ty.Int → Fine code seen c d ty.Dev → Yields (Mild ty.Unit) (m.neighbour r code seen env a b n d)
+    neighbour_good : (a b n d : Expr) → Does ty.Chunk a → Does ty.Host b → Does ty.Int n → Does ty.Dev d → Halts limit (Mild ty.Unit) (m.neighbour meaning code seen env a b n d)
     unfolding m.neighbour
     neighbour_good a b n d i j k l =
-        then_yields (Good ty.Chunk) (Mild ty.Unit) _ _ (runs code seen c env a ty.Chunk y i h) (λ v g. let ch = a_chunk v g in
-        known_then (Mild ty.Unit) (as_chunk v) ch.0 _ ch.1 (then_yields (Good ty.Host) (Mild ty.Unit) _ _ (runs code seen c env b ty.Host y j h) (λ w g2. let ho = a_host w g2.typed in
-        known_then (Mild ty.Unit) (as_host w) ho.0 _ ho.1 (then_yields (Good ty.Int) (Mild ty.Unit) _ _ (runs code seen c env n ty.Int y k h) (λ u g3. let nu = number u g3.typed in
-        known_then (Mild ty.Unit) (as_int u) nu.0 _ nu.1 (then_yields (Good ty.Dev) (Mild ty.Unit) _ _ (runs code seen c env d ty.Dev y l h) (λ x g4. let de = a_dev x g4.typed in
-        known_then (Mild ty.Unit) (as_dev x) de.0 _ de.1 (then_yields Any (Mild ty.Unit) _ _ (neighbour_yields ch.0 ho.0 nu.0 de.0 ch.2) (λ _ _. just_unit)))))))))
+        then_halts limit (Good ty.Chunk) (Mild ty.Unit) _ _ i (λ v g. let ch = a_chunk v g in
+        known_then_halts limit (Mild ty.Unit) (as_chunk v) ch.0 _ ch.1 (then_halts limit (Good ty.Host) (Mild ty.Unit) _ _ j (λ w g2. let ho = a_host w g2.typed in
+        known_then_halts limit (Mild ty.Unit) (as_host w) ho.0 _ ho.1 (then_halts limit (Good ty.Int) (Mild ty.Unit) _ _ k (λ u g3. let nu = number u g3.typed in
+        known_then_halts limit (Mild ty.Unit) (as_int u) nu.0 _ nu.1 (then_halts limit (Good ty.Dev) (Mild ty.Unit) _ _ l (λ x g4. let de = a_dev x g4.typed in
+        known_then_halts limit (Mild ty.Unit) (as_dev x) de.0 _ de.1 (then_halts limit Any (Mild ty.Unit) _ _ (neighbour_halts limit ch.0 ho.0 nu.0 de.0 ch.2) (λ _ _. just_unit)))))))))
 
-    opened_literal : (e : Expr) (t : Ty) → literal_type (out-Expr e) ≡ Some t → FormedLevel (out-Expr e) → Yields (Mild t) (opened r code seen env e)
-    unfolding opened
-    opened_literal e t o w = literal_good code seen env (out-Expr e) t o w
-
-    one_item : (f : Name) (p : Primitive) (u t : Ty) → prim_of f ≡ Some p → of_list p u ≡ Some t → (vs : List Value) → AreGoodValues (ty.List u ∷ []) vs → Yields (Mild t) (called r code seen f vs)
+    one_item : (f : Name) (p : Primitive) (u t : Ty) → prim_of f ≡ Some p → of_list p u ≡ Some t → (vs : List Value) → AreGoodValues (ty.List u ∷ []) vs → Halts limit (Mild t) (called meaning code seen f vs)
     one_item f p u t i q [] g = absurd g
     one_item f p u t i q (v ∷ []) g = by_prim code seen f p (v ∷ []) t i (given.of_items p u t v g.0.typed q) (keeps.of_items p u t v g.0.typed (formed_of v g.0.formed) q)
     one_item f p u t i q (v ∷ w ∷ vs) g = absurd g.1
 
-    -- parts of an expression that is formed
-    fine_two : (a b : Expr) (t u : Ty) → HasTy code seen c a t → HasTy code seen c b u → (formed_expr a && formed_expr b) ≡ true → Fine code seen c a t × Fine code seen c b u
-    fine_two a b t u i j w = ((i, and_left (formed_expr a) (formed_expr b) w), (j, and_right (formed_expr a) (formed_expr b) w))
+  -- an expression by its outermost level
+  rolled : (code : Program) (seen : ℕ) (env : Env) (e : Expr) (l : ExprLayer) (t : Ty) → out-Expr e ≡ l → Halts limit (Mild t) (opened_at meaning code seen env l) → Halts limit (Good t) (meaning code seen env e)
+  unfolding node opened
+  rolled code seen env e l t o h =
+      subst (λ p. Halts limit (Good t) p) (λ i s. sym (fixed code seen env e s) i)
+      (whole_halts limit t _ (subst (λ x. Halts limit (Mild t) (opened_at meaning code seen env x)) (sym o) h))
 
-    fine_three : (a b d : Expr) (t u v : Ty) → HasTy code seen c a t → HasTy code seen c b u → HasTy code seen c d v → (formed_expr a && (formed_expr b && formed_expr d)) ≡ true
-        → Fine code seen c a t × Fine code seen c b u × Fine code seen c d v
-    fine_three a b d t u v i j k w =
-        let later = fine_two b d u v j k (and_right (formed_expr a) (formed_expr b && formed_expr d) w) in
-        ((i, and_left (formed_expr a) (formed_expr b && formed_expr d) w), later.0, later.1)
+  -- tests of parts
+  two_formed : (x y : Expr) → (formed_expr x && formed_expr y) ≡ true → (formed_expr x ≡ true) × (formed_expr y ≡ true)
+  two_formed x y w = both_true (formed_expr x) (formed_expr y) w
 
-    opened_good : (e : Expr) (t : Ty) → HasTy code seen c e t → formed_expr e ≡ true → Yields (Mild t) (opened r code seen env e)
-    opened_good e t (literal o) w = opened_literal e t o (level_formed e (out-Expr e) refl w)
-    opened_good e t (variable x o b) w = let k = agreed t (binding x c) (value_of x env) b (found x c env h) in at_level code seen env e _ t o (known_yields (Mild t) (value_of x env) k.0 k.1 (λ _. (k.2.typed, formed_of k.0 k.2.formed)))
-    opened_good e t (empty u o q s) w =
-        at_level code seen env e _ t o (pure_yields (Mild t) (value.List u []) (λ _. (list u [] (value.outs-List u []) q no_items, form.empty_list u t q s (level_formed e (Expr-F.Nil (Some u)) o w))))
-    opened_good e t (raising x o i s) w = at_level code seen env e _ t o (raise_yields (Mild t) (m.named x))
-    opened_good e t (tuple es ts o k q s) w =
-        let z = level_formed e (Expr-F.Tuple es) o w in
-        at_level code seen env e _ t o (at_type t _ _ q (tuple_good es ts (k, and_right (has_from_to 2 8 es) (list_all formed_expr es) z) (and_left (has_from_to 2 8 es) (list_all formed_expr es) z) (subst IsShallow q s)))
-    opened_good e t (part i a ts o k q) w =
-        at_level code seen env e _ t o (selection_good t i a ts (k, and_right (nat_le 1 i && nat_le i 8) (formed_expr a) (level_formed e (Expr-F.Part i a) o w)) q)
-    opened_good e t (of_items f a p u o i k q) w =
-        let z = and_right (nat_le (length (a ∷ [])) 8) (list_all formed_expr (a ∷ [])) (level_formed e (Expr-F.Call f (a ∷ [])) o w) in
-        at_level code seen env e _ t o (call_good t f (a ∷ []) (ty.List u ∷ []) (and_part k no_parts, z) (λ vs g. one_item f p u t i q vs g))
-    opened_good e t (primitive f es p ts o i k l q) w =
-        let z = and_right (nat_le (length es) 8) (list_all formed_expr es) (level_formed e (Expr-F.Call f es) o w) in
-        at_level code seen env e _ t o (at_type t _ _ q (call_good (makes p) f es ts (l, z) (λ vs g.
-        let x = given.of_values p ts vs k (typed_all ts vs g) in by_prim code seen f p vs (makes p) i x (keeps.of_values p ts vs k x))))
-    opened_good e t (serving f es d o i k l q) w =
-        let z = and_right (nat_le (length es) 8) (list_all formed_expr es) (level_formed e (Expr-F.Call f es) o w) in
-        at_level code seen env e _ t o (at_type t _ _ q (call_good d.result f es d.params (l, z) (λ vs g. good_mild d.result (by_service code seen f d vs i k g))))
-    opened_good e t (call f es at d o i j k l n q) w =
-        let z = and_right (nat_le (length es) 8) (list_all formed_expr es) (level_formed e (Expr-F.Call f es) o w) in
-        at_level code seen env e _ t o (at_type t _ _ q (call_good d.result f es (param_types d.params) (n, z) (λ vs g. good_mild d.result (by_function code seen f at d vs y i j k l g))))
-    opened_good e t (choice a b d o i j k) w =
-        let z = fine_three a b d ty.Bool t t i j k (level_formed e (Expr-F.If a b d) o w) in
-        at_level code seen env e _ t o (choice_good t a b d z.0 z.1 z.2)
-    opened_good e t (binder x u a b o i j) w =
-        let z = and_right (well_formed_type u) (formed_expr a && formed_expr b) (level_formed e (Expr-F.Let x u a b) o w) in
-        at_level code seen env e _ t o (binder_good t u x a b (i, and_left (formed_expr a) (formed_expr b) z) (j, and_right (formed_expr a) (formed_expr b) z))
-    opened_good e t (sequence a b o i j) w = let z = fine_two a b ty.Unit t i j (level_formed e (Expr-F.Then a b) o w) in at_level code seen env e _ t o (sequence_good t a b z.0 z.1)
-    opened_good e t (both a b o i j q) w = let z = fine_two a b ty.Bool ty.Bool i j (level_formed e (Expr-F.And a b) o w) in at_level code seen env e _ t o (at_type t _ _ q (both_good a b z.0 z.1))
-    opened_good e t (either a b o i j q) w = let z = fine_two a b ty.Bool ty.Bool i j (level_formed e (Expr-F.Or a b) o w) in at_level code seen env e _ t o (at_type t _ _ q (either_good a b z.0 z.1))
-    opened_good e t (negation a o i q) w = at_level code seen env e _ t o (at_type t _ _ q (negation_good a (i, level_formed e (Expr-F.Not a) o w)))
-    opened_good e t (calculation op a b o k i j q) w =
-        let z = fine_two a b ty.Int ty.Int i j (level_formed e (Expr-F.Binary op a b) o w) in
-        at_level code seen env e _ t o (at_type t _ _ q (operation_good ty.Int ty.Int ty.Int op a b z.0 z.1 (λ v w f g. let x = given.calculated op v w k f.typed g.typed in (x, keeps.plain ty.Int Ty-F.Int ty.outs-Int refl _ x))))
-    opened_good e t (join op a b o k i n j) w =
-        let z = fine_two a b t t i j (level_formed e (Expr-F.Binary op a b) o w) in
-        at_level code seen env e _ t o (operation_good t t t op a b z.0 z.1 (λ v w f g.
-        let x = given.concatenated op v w t k n f.typed g.typed in (x, keeps.concatenated op v w t k n f.typed g.typed (formed_of v f.formed) (formed_of w g.formed) x)))
-    opened_good e t (comparison op a b u o k i j q) w =
-        let z = fine_two a b u u i j (level_formed e (Expr-F.Binary op a b) o w) in
-        at_level code seen env e _ t o (at_type t _ _ q (operation_good ty.Bool u u op a b z.0 z.1 (λ v w f g. let x = given.compared op v w k in (x, keeps.plain ty.Bool Ty-F.Bool ty.outs-Bool refl _ x))))
-    opened_good e t (order op a b u o k i n j q) w =
-        let z = fine_two a b u u i j (level_formed e (Expr-F.Binary op a b) o w) in
-        at_level code seen env e _ t o (at_type t _ _ q (operation_good ty.Bool u u op a b z.0 z.1 (λ v w f g. let x = given.ordered op v w u k n f.typed g.typed in (x, keeps.plain ty.Bool Ty-F.Bool ty.outs-Bool refl _ x))))
-    opened_good e t (prefix op a b u o k i j q s) w =
-        let z = fine_two a b u (ty.List u) i j (level_formed e (Expr-F.Binary op a b) o w) in
-        at_level code seen env e _ t o (at_type t _ _ q (operation_good (ty.List u) u (ty.List u) op a b z.0 z.1 (λ v w f g.
-        (given.put op v w u k f.typed g.typed, keeps.put op v w u k g.typed (formed_of v f.formed) (formed_of w g.formed) (form.item_depth v u t f.typed q s)))))
-    opened_good e t (handling a ks o i j) w =
-        let z = level_formed e (Expr-F.Try a ks) o w in
-        let later = and_right (formed_expr a) ((has_from_to 1 8 ks && names_all_but_last (λ k. is_some k.name) ks) && list_all (λ k. formed_expr k.body) ks) z in
-        at_level code seen env e _ t o (attempt_good t a ks (i, and_left (formed_expr a) _ z) (j, and_right (has_from_to 1 8 ks && names_all_but_last (λ k. is_some k.name) ks) (list_all (λ k. formed_expr k.body) ks) later))
-    opened_good e t (fold_left f a l at d u o p g k q i j) w =
-        let z = fine_two a l t (ty.List u) i j (level_formed e (Expr-F.Foldl f a l) o w) in
-        at_level code seen env e _ t o (fold_left_good t u f a l at d p g k q z.0 z.1)
-    opened_good e t (fold_right f a l at d u o p g k q i j) w =
-        let z = fine_two a l t (ty.List u) i j (level_formed e (Expr-F.Foldr f a l) o w) in
-        at_level code seen env e _ t o (fold_right_good t u f a l at d p g k q z.0 z.1)
-    opened_good e t (packing f es at d o p g k q) w =
-        let z = level_formed e (Expr-F.ChunkOf f es) o w in
-        at_level code seen env e _ t o (at_type t _ _ q (packed_good f es at d p g (k, and_right (nat_le (length es) 8) (list_all formed_expr es) z) (and_left (nat_le (length es) 8) (list_all formed_expr es) z)))
-    opened_good e t (evaluation a o i q) w = at_level code seen env e _ t o (at_type t _ _ q (evaluation_good a (i, level_formed e (Expr-F.Eval a) o w)))
-    opened_good e t (remote a b n route o i j k q) w =
-        let z = fine_three a b n ty.Chunk ty.Host ty.Int i j k (level_formed e (Expr-F.OnRemote a b n route) o w) in
-        at_level code seen env e _ t o (at_type t _ _ q (remote_good a b n route z.0 z.1 z.2))
-    opened_good e t (neighbour a b n d o i j k l q) w =
-        let z = level_formed e (Expr-F.OnNeighbor a b n d) o w in
-        let front = fine_two a b ty.Chunk ty.Host i j (and_left (formed_expr a && formed_expr b) (formed_expr n && formed_expr d) z) in
-        let rest = fine_two n d ty.Int ty.Dev k l (and_right (formed_expr a && formed_expr b) (formed_expr n && formed_expr d) z) in
-        at_level code seen env e _ t o (at_type t _ _ q (neighbour_good a b n d front.0 front.1 rest.0 rest.1))
+  three_formed : (x y z : Expr) → (formed_expr x && (formed_expr y && formed_expr z)) ≡ true → (formed_expr x ≡ true) × (formed_expr y ≡ true) × (formed_expr z ≡ true)
+  three_formed x y z w = let k = both_true (formed_expr x) (formed_expr y && formed_expr z) w in let l = both_true (formed_expr y) (formed_expr z) k.1 in (k.0, l.0, l.1)
 
-    node_good : (e : Expr) (t : Ty) → Fine code seen c e t → Yields (Good t) (node r code seen env e)
-    unfolding node
-    node_good e t k = whole_yields t _ (opened_good e t k.0 k.1)
+  module _ (code : Program) (y : GoodCode code) (evals : EvalsHalt) where
+    mutual
+      pub expr_halts : {seen : ℕ} {c : List Param} {e : Expr} {t : Ty} → HasTy code seen c e t → formed_expr e ≡ true → CallsHalt code seen → (env : Env) → HasEnv c env → Halts limit (Good t) (meaning code seen env e)
+      expr_halts {seen = seen} {e = e} {t = t} (literal o) w q env h = rolled code seen env e _ t refl (literal_good code seen env (out-Expr e) t o (level_formed e (out-Expr e) refl w))
+      expr_halts {seen = seen} {c = c} {e = e} {t = t} (variable x o k) w q env h =
+          let n = agreed t (binding x c) (value_of x env) k (found x c env h) in
+          rolled code seen env e _ t o (known_halts limit (Mild t) (value_of x env) n.0 n.1 (λ _. (n.2.typed, formed_of n.0 n.2.formed)))
+      expr_halts {seen = seen} {e = e} {t = t} (empty u o k s) w q env h =
+          rolled code seen env e _ t o (pure_halts limit (Mild t) (value.List u []) (λ _. (list u [] (value.outs-List u []) k no_items, form.empty_list u t k s (level_formed e (Expr-F.Nil (Some u)) o w))))
+      expr_halts {seen = seen} {e = e} {t = t} (raising x o i s) w q env h = rolled code seen env e _ t o (raise_halts limit (Mild t) (m.named x))
+      expr_halts {seen = seen} {e = e} {t = t} (tuple es ts o k n s) w q env h =
+          let z = level_formed e (Expr-F.Tuple es) o w in
+          rolled code seen env e _ t o (at_type t _ _ n (tuple_good code seen env y es ts (types_count k) (parts_halt k (and_right (has_from_to 2 8 es) (list_all formed_expr es) z) q env h) (and_left (has_from_to 2 8 es) (list_all formed_expr es) z) (subst IsShallow n s)))
+      expr_halts {seen = seen} {e = e} {t = t} (part i a ts o k n) w q env h =
+          rolled code seen env e _ t o (selection_good code seen env y t i a ts (expr_halts k (and_right (nat_le 1 i && nat_le i 8) (formed_expr a) (level_formed e (Expr-F.Part i a) o w)) q env h) n)
+      expr_halts {seen = seen} {e = e} {t = t} (of_items f a p u o i k n) w q env h =
+          let z = and_right (nat_le (length (a ∷ [])) 8) (list_all formed_expr (a ∷ [])) (level_formed e (Expr-F.Call f (a ∷ [])) o w) in
+          rolled code seen env e _ t o (call_good code seen env y t f (a ∷ []) (ty.List u ∷ []) (expr_halts k (and_left (formed_expr a) true z) q env h, tt) (λ vs g. one_item code seen env y f p u t i n vs g))
+      expr_halts {seen = seen} {e = e} {t = t} (primitive f es p ts o i k l n) w q env h =
+          let z = and_right (nat_le (length es) 8) (list_all formed_expr es) (level_formed e (Expr-F.Call f es) o w) in
+          rolled code seen env e _ t o (at_type t _ _ n (call_good code seen env y (makes p) f es ts (parts_halt l z q env h) (λ vs g.
+          let x = given.of_values p ts vs k (typed_all ts vs g) in by_prim code seen f p vs (makes p) i x (keeps.of_values p ts vs k x))))
+      expr_halts {seen = seen} {e = e} {t = t} (serving f es d o i k l n) w q env h =
+          let z = and_right (nat_le (length es) 8) (list_all formed_expr es) (level_formed e (Expr-F.Call f es) o w) in
+          rolled code seen env e _ t o (at_type t _ _ n (call_good code seen env y d.result f es d.params (parts_halt l z q env h) (λ vs g. good_mild d.result (by_service code seen f d vs i k g))))
+      expr_halts {seen = seen} {e = e} {t = t} (call f es at d o i j k l n p) w q env h =
+          let z = and_right (nat_le (length es) 8) (list_all formed_expr es) (level_formed e (Expr-F.Call f es) o w) in
+          rolled code seen env e _ t o (at_type t _ _ p (call_good code seen env y d.result f es (param_types d.params) (parts_halt n z q env h) (λ vs g. good_mild d.result (by_function code seen f at d vs q i j k l g))))
+      expr_halts {seen = seen} {e = e} {t = t} (choice x z d o i j k) w q env h =
+          let n = three_formed x z d (level_formed e (Expr-F.If x z d) o w) in
+          rolled code seen env e _ t o (choice_good code seen env y t x z d (expr_halts i n.0 q env h) (expr_halts j n.1 q env h) (expr_halts k n.2 q env h))
+      expr_halts {seen = seen} {c = c} {e = e} {t = t} (binder x u a z o i j) w q env h =
+          let n = two_formed a z (and_right (well_formed_type u) (formed_expr a && formed_expr z) (level_formed e (Expr-F.Let x u a z) o w)) in
+          rolled code seen env e _ t o (binder_good code seen env y t u x a z (expr_halts i n.0 q env h) (λ v g. expr_halts j n.1 q (env ++ m.binds x v ∷ []) (env_behind c env (record { name = x; ty = u }) v h g)))
+      expr_halts {seen = seen} {e = e} {t = t} (sequence a z o i j) w q env h =
+          let n = two_formed a z (level_formed e (Expr-F.Then a z) o w) in rolled code seen env e _ t o (sequence_good code seen env y t a z (expr_halts i n.0 q env h) (expr_halts j n.1 q env h))
+      expr_halts {seen = seen} {e = e} {t = t} (both a z o i j k) w q env h =
+          let n = two_formed a z (level_formed e (Expr-F.And a z) o w) in rolled code seen env e _ t o (at_type t _ _ k (both_good code seen env y a z (expr_halts i n.0 q env h) (expr_halts j n.1 q env h)))
+      expr_halts {seen = seen} {e = e} {t = t} (either a z o i j k) w q env h =
+          let n = two_formed a z (level_formed e (Expr-F.Or a z) o w) in rolled code seen env e _ t o (at_type t _ _ k (either_good code seen env y a z (expr_halts i n.0 q env h) (expr_halts j n.1 q env h)))
+      expr_halts {seen = seen} {e = e} {t = t} (negation a o i k) w q env h =
+          rolled code seen env e _ t o (at_type t _ _ k (negation_good code seen env y a (expr_halts i (level_formed e (Expr-F.Not a) o w) q env h)))
+      expr_halts {seen = seen} {e = e} {t = t} (calculation op a z o k i j l) w q env h =
+          let n = two_formed a z (level_formed e (Expr-F.Binary op a z) o w) in
+          rolled code seen env e _ t o (at_type t _ _ l (operation_good code seen env y ty.Int ty.Int ty.Int op a z (expr_halts i n.0 q env h) (expr_halts j n.1 q env h) (λ v u f g.
+          let x = given.calculated op v u k f.typed g.typed in (x, keeps.plain ty.Int Ty-F.Int ty.outs-Int refl _ x))))
+      expr_halts {seen = seen} {e = e} {t = t} (join op a z o k i l j) w q env h =
+          let n = two_formed a z (level_formed e (Expr-F.Binary op a z) o w) in
+          rolled code seen env e _ t o (operation_good code seen env y t t t op a z (expr_halts i n.0 q env h) (expr_halts j n.1 q env h) (λ v u f g.
+          let x = given.concatenated op v u t k l f.typed g.typed in (x, keeps.concatenated op v u t k l f.typed g.typed (formed_of v f.formed) (formed_of u g.formed) x)))
+      expr_halts {seen = seen} {e = e} {t = t} (comparison op a z u o k i j l) w q env h =
+          let n = two_formed a z (level_formed e (Expr-F.Binary op a z) o w) in
+          rolled code seen env e _ t o (at_type t _ _ l (operation_good code seen env y ty.Bool u u op a z (expr_halts i n.0 q env h) (expr_halts j n.1 q env h) (λ v r f g.
+          let x = given.compared op v r k in (x, keeps.plain ty.Bool Ty-F.Bool ty.outs-Bool refl _ x))))
+      expr_halts {seen = seen} {e = e} {t = t} (order op a z u o k i p j l) w q env h =
+          let n = two_formed a z (level_formed e (Expr-F.Binary op a z) o w) in
+          rolled code seen env e _ t o (at_type t _ _ l (operation_good code seen env y ty.Bool u u op a z (expr_halts i n.0 q env h) (expr_halts j n.1 q env h) (λ v r f g.
+          let x = given.ordered op v r u k p f.typed g.typed in (x, keeps.plain ty.Bool Ty-F.Bool ty.outs-Bool refl _ x))))
+      expr_halts {seen = seen} {e = e} {t = t} (prefix op a z u o k i j l s) w q env h =
+          let n = two_formed a z (level_formed e (Expr-F.Binary op a z) o w) in
+          rolled code seen env e _ t o (at_type t _ _ l (operation_good code seen env y (ty.List u) u (ty.List u) op a z (expr_halts i n.0 q env h) (expr_halts j n.1 q env h) (λ v r f g.
+          (given.put op v r u k f.typed g.typed, keeps.put op v r u k g.typed (formed_of v f.formed) (formed_of r g.formed) (form.item_depth v u t f.typed l s)))))
+      expr_halts {seen = seen} {e = e} {t = t} (handling a ks o i j) w q env h =
+          let z = both_true (formed_expr a) ((has_from_to 1 8 ks && names_all_but_last (λ k. is_some k.name) ks) && list_all (λ k. formed_expr k.body) ks) (level_formed e (Expr-F.Try a ks) o w) in
+          rolled code seen env e _ t o (attempt_good code seen env y t a ks (expr_halts i z.0 q env h)
+          (clauses_halt j (and_right (has_from_to 1 8 ks && names_all_but_last (λ k. is_some k.name) ks) (list_all (λ k. formed_expr k.body) ks) z.1) q env h))
+      expr_halts {seen = seen} {e = e} {t = t} (fold_left f a l at d u o p g k r i j) w q env h =
+          let n = two_formed a l (level_formed e (Expr-F.Foldl f a l) o w) in
+          rolled code seen env e _ t o (fold_left_good code seen env y t u f a l at d q p g k r (expr_halts i n.0 q env h) (expr_halts j n.1 q env h))
+      expr_halts {seen = seen} {e = e} {t = t} (fold_right f a l at d u o p g k r i j) w q env h =
+          let n = two_formed a l (level_formed e (Expr-F.Foldr f a l) o w) in
+          rolled code seen env e _ t o (fold_right_good code seen env y t u f a l at d q p g k r (expr_halts i n.0 q env h) (expr_halts j n.1 q env h))
+      expr_halts {seen = seen} {e = e} {t = t} (packing f es at d o p g k r) w q env h =
+          let z = level_formed e (Expr-F.ChunkOf f es) o w in
+          rolled code seen env e _ t o (at_type t _ _ r (packed_good code seen env y f es at d (types_count k) p g (parts_halt k (and_right (nat_le (length es) 8) (list_all formed_expr es) z) q env h) (and_left (nat_le (length es) 8) (list_all formed_expr es) z)))
+      expr_halts {seen = seen} {e = e} {t = t} (evaluation a o i k) w q env h =
+          rolled code seen env e _ t o (at_type t _ _ k (evaluation_good code seen env y a evals (expr_halts i (level_formed e (Expr-F.Eval a) o w) q env h)))
+      expr_halts {seen = seen} {e = e} {t = t} (remote a x z r o i j k l) w q env h =
+          let n = three_formed a x z (level_formed e (Expr-F.OnRemote a x z r) o w) in
+          rolled code seen env e _ t o (at_type t _ _ l (remote_good code seen env y a x z r (expr_halts i n.0 q env h) (expr_halts j n.1 q env h) (expr_halts k n.2 q env h)))
+      expr_halts {seen = seen} {e = e} {t = t} (neighbour a x z d o i j k l p) w q env h =
+          let n = both_true (formed_expr a && formed_expr x) (formed_expr z && formed_expr d) (level_formed e (Expr-F.OnNeighbor a x z d) o w) in
+          let front = two_formed a x n.0 in
+          let last = two_formed z d n.1 in
+          rolled code seen env e _ t o (at_type t _ _ p (neighbour_good code seen env y a x z d (expr_halts i front.0 q env h) (expr_halts j front.1 q env h) (expr_halts k last.0 q env h) (expr_halts l last.1 q env h)))
 
--- at each depth
-pub run_good : (n : ℕ) (code : Program) (seen : ℕ) (c : List Param) (env : Env) (e : Expr) (t : Ty) → GoodCode code → Fine code seen c e t → HasEnv c env → Yields (Good t) (run_to n code seen env e)
-unfolding run_to
-run_good zero code seen c env e t y k h = spent_yields (Good t)
-run_good (suc n) code seen c env e t y k h = node_good (run_to n) (run_good n) code seen c env y h e t k
+      parts_halt : {seen : ℕ} {c : List Param} {es : List Expr} {ts : List Ty} → HaveTys code seen c es ts → list_all formed_expr es ≡ true → CallsHalt code seen → (env : Env) → HasEnv c env → PartsHalt code seen env es ts
+      parts_halt no_parts w q env h = tt
+      parts_halt (and_part {e = e} {es = es} k l) w q env h = (expr_halts k (and_left (formed_expr e) (list_all formed_expr es) w) q env h, parts_halt l (and_right (formed_expr e) (list_all formed_expr es) w) q env h)
 
-means_good : (code : Program) (seen : ℕ) (c : List Param) (env : Env) (e : Expr) (t : Ty) → GoodCode code → Fine code seen c e t → HasEnv c env → Yields (Good t) (meaning code seen env e)
-unfolding meaning
-means_good code seen c env e t y k h = λ s g. run_good (suc s.work) code seen c env e t y k h s g
+      clauses_halt : {seen : ℕ} {c : List Param} {ks : List Clause} {t : Ty} → ClausesHaveTy code seen c ks t → list_all (λ k. formed_expr k.body) ks ≡ true → CallsHalt code seen → (env : Env) → HasEnv c env → ClausesHalt code seen env t ks
+      clauses_halt no_clauses w q env h = tt
+      clauses_halt (and_clause {k = k} {ks = ks} a d l) w q env h = (expr_halts d (and_left (formed_expr k.body) (list_all (λ j. formed_expr j.body) ks) w) q env h, clauses_halt l (and_right (formed_expr k.body) (list_all (λ j. formed_expr j.body) ks) w) q env h)
+
+    entered_halts : (at : ℕ) (d : Fun) (args : List Value) → slice_get code.funs at ≡ Some d → AreGoodValues (param_types d.params) args → CallsHalt code at → Halts limit (Good d.result) (entered meaning code at args)
+    unfolding entered bound
+    entered_halts at d args g k q =
+        let n = bound_good [] [] d.params args tt k in
+        known_then_halts limit (Good d.result) (slice_get code.funs at) d _ g (known_then_halts limit (Good d.result) (bound_behind [] d.params args) n.0 _ n.1
+        (expr_halts (y.typed.bodies at d g) (form.body_formed code at d y.formed g) q n.0 n.2))
+
+    -- the functions before a place, in turn
+    pub calls_halt : (n : ℕ) → CallsHalt code n
+    calls_halt zero at d args l g k = absurd (not-suc-le-zero l)
+    calls_halt (suc n) at d args l g k = entered_halts at d args g k (λ at' d' args' l'. calls_halt n at' d' args' (omega arith))
+
+  chunk_args_good : (k : Chunk) (d : Fun) → HaveTypes k.args (param_types d.params) → formed_chunk k ≡ true → 1 + chunk_weight k ≤ 16384 → chunk_nesting k ≤ 4 → AreGoodValues (param_types d.params) k.args
+  chunk_args_good k d h o w n = good_all h (form.chunk_args k o) (args_weight k w) (args_nesting k n)
+
+  -- a chunk at its entry, where chunks with a lower purse halt
+  chunk_halts : EvalsHalt → (k : Chunk) → IsTypedChunk k → formed_chunk k ≡ true → (at : ℕ) (d : Fun) → place_of k.entry k.code.funs ≡ Some at → slice_get k.code.funs at ≡ Some d → Halts limit (Good d.result) (visited meaning k)
+  unfolding visited
+  chunk_halts q k (within at' d' t p g h n w) o at d e l =
+      let same_place : at' ≡ at = let x : Some at' ≡ Some at = sym p ∙ e in cc in
+      let same_fun : d' ≡ d = let x : Some d' ≡ Some d = sym g ∙ ap (λ i. slice_get k.code.funs i) same_place ∙ l in cc in
+      let code : GoodCode k.code = record { typed = t; formed = form.chunk_code k o } in
+      subst (λ f. Halts limit (Good f.result) (applied_at meaning k.code (place_of k.entry k.code.funs) k.args)) same_fun
+      (applied_at_good k.code (place_of k.entry k.code.funs) at' (Good d'.result) k.args p (calls_halt k.code code q (suc at') at' d' k.args (omega arith) g (chunk_args_good k d' h o w n)))
+
+-- chunks with a purse below a number halt
+entry_halts : (b : ℕ) → EvalsHalt b → (k : Chunk) → IsTypedChunk k → formed_chunk k ≡ true → Halts b {A = Value} (λ _. Unit {0}) (visited meaning k)
+entry_halts b q k (within at d t p g h n w) o = mild_halts b (Good d.result) (λ _. Unit {0}) (λ _ _. tt) _ (chunk_halts b q k (within at d t p g h n w) o at d p g)
+
+evals_halt : (n : ℕ) → EvalsHalt n
+evals_halt zero c l k g = absurd (not-suc-le-zero l)
+evals_halt (suc n) c l k g = entry_halts c (λ c' l'. evals_halt n c' (omega arith)) k g.typed (form.formed_of_chunk k g.formed)
+
+means_halt : (b : ℕ) (code : Program) (seen : ℕ) (c : List Param) (env : Env) (e : Expr) (t : Ty) → Typed code → IsWellFormedProgram code → HasTy code seen c e t → IsWellFormedExpr e → HasEnv c env → Halts b (Good t) (meaning code seen env e)
+means_halt b code seen c env e t y f k w h =
+    let good : GoodCode code = record { typed = y; formed = f } in
+    expr_halts b code good (evals_halt b) k (form.expr_formed e w) (calls_halt b code good (evals_halt b) seen) env h
+
+visit_halts : (b : ℕ) (k : Chunk) (at : ℕ) (d : Fun) → IsGoodChunk k → place_of k.entry k.code.funs ≡ Some at → slice_get k.code.funs at ≡ Some d → Halts b (Good d.result) (visited meaning k)
+visit_halts b k at d g = chunk_halts b (evals_halt b) k g.typed (form.formed_of_chunk k g.formed) at d
+
+at_purse : (s : VisitState) → IsGoodState s → Inv s.ctx.purse s
+at_purse s g = record { good = g; purse = omega arith }
 
 pub soundness : (code : Program) (seen : ℕ) (c : List Param) (env : Env) (e : Expr) (t : Ty) → Typed code → IsWellFormedProgram code → HasTy code seen c e t → IsWellFormedExpr e → HasEnv c env → Yields (Good t) (meaning code seen env e)
-soundness code seen c env e t y f k w h = means_good code seen c env e t (record { typed = y; formed = f }) (k, form.expr_formed e w) h
+soundness code seen c env e t y f k w h s g = (means_halt s.ctx.purse code seen c env e t y f k w h s (at_purse s g)).right
 
 pub visit_soundness : (k : Chunk) (at : ℕ) (d : Fun) → IsGoodChunk k → place_of k.entry k.code.funs ≡ Some at → slice_get k.code.funs at ≡ Some d → Yields (Good d.result) (visited meaning k)
-visit_soundness k at d g = visited_good meaning means_good k at d g.typed (form.formed_of_chunk k g.formed)
+visit_soundness k at d g p l s i = (visit_halts s.ctx.purse k at d g p l s (at_purse s i)).right
+
+pub ends : (code : Program) (seen : ℕ) (c : List Param) (env : Env) (e : Expr) (t : Ty) → Typed code → IsWellFormedProgram code → HasTy code seen c e t → IsWellFormedExpr e → HasEnv c env → (s : VisitState) → IsGoodState s → EndsFrom (meaning code seen env e) s
+ends code seen c env e t y f k w h s g = (means_halt s.ctx.purse code seen c env e t y f k w h s (at_purse s g)).ends
+
+entry_ends : (k : Chunk) → IsTypedChunk k → formed_chunk k ≡ true → (s : VisitState) → IsGoodState s → EndsFrom (visited meaning k) s
+entry_ends k t o s g = (entry_halts s.ctx.purse (evals_halt s.ctx.purse) k t o s (at_purse s g)).ends
+
+pub visit_ends : (k : Chunk) → IsGoodChunk k → (s : VisitState) → IsGoodState s → EndsFrom (visited meaning k) s
+visit_ends k g s i = entry_ends k g.typed (form.formed_of_chunk k g.formed) s i

@@ -1,21 +1,14 @@
 -- Sums and greatest numbers of lists, and sizes of values.
 use Rattle.std.proofs.Common.{◌≡◌, ℕ, ◌+◌, ◌≤◌, max, List, [], ◌∷◌, length, arith}
 use Rattle.std.specs.List.{fold, sum_by}
+use Rattle.small_laws.proofs.Lists.{sum_from, largest_from}
 use Rattle.plan_base.specs.declared.tree.Value.{Value, Value-F, out-Value}
 use Rattle.plan_base.specs.Trees.{ValueLayer}
 use Rattle.plan_base.specs.Sizes.{weight, weight_level, chunk_weight, largest_by}
 use Rattle.plan_base.proofs.SizeLaws.{weight_out}
 
-pub sum_from : {X : Type 0} (f : X → ℕ) (m : ℕ) (xs : List X) → fold (λ a y. a + f y) m xs ≡ m + fold (λ a y. a + f y) 0 xs
-sum_from f m [] = grind arith
-sum_from f m (x ∷ xs) = let a = sum_from f (m + f x) xs in let b = sum_from f (0 + f x) xs in omega arith
-
 pub sum_bounds : {X : Type 0} (f : X → ℕ) (m n : ℕ) (x : X) (xs : List X) → fold (λ a y. a + f y) m (x ∷ xs) ≤ n → (f x ≤ n) × (fold (λ a y. a + f y) 0 xs ≤ n)
 sum_bounds f m n x xs h = let k = sum_from f (m + f x) xs in (omega arith, omega arith)
-
-pub largest_from : {X : Type 0} (f : X → ℕ) (m : ℕ) (xs : List X) → fold (λ a y. max a (f y)) m xs ≡ max m (fold (λ a y. max a (f y)) 0 xs)
-largest_from f m [] = omega arith
-largest_from f m (x ∷ xs) = let a = largest_from f (max m (f x)) xs in let b = largest_from f (max 0 (f x)) xs in omega arith
 
 pub largest_bounds : {X : Type 0} (f : X → ℕ) (m n : ℕ) (x : X) (xs : List X) → fold (λ a y. max a (f y)) m (x ∷ xs) ≤ n → (f x ≤ n) × (fold (λ a y. max a (f y)) 0 xs ≤ n)
 largest_bounds f m n x xs h = let k = largest_from f (max m (f x)) xs in (omega arith, omega arith)

@@ -1,5 +1,5 @@
 ghost use Rattle.std.specs.Prelude.{◌≡◌, ◌≤◌, ◌∷◌, ◌++◌, [], length, IfOk, OnOk, OnErr, IsSome, IsTrue, None, false};
-ghost use Rattle.service_api.specs.Services.{begun_now};
+ghost use Rattle.service_api.specs.Services.{AreGoodRows, begun_now};
 ghost use Rattle.world_laws.specs.Sound.{PacketFits, ServicesFit};
 ghost use Rattle.world_laws.specs.Visits.{visit_of, services_after};
 ghost use Rattle.world_laws.specs.Node as spec;
@@ -48,7 +48,9 @@ fn open_turn<S: Services>(
 ) -> Result<Turn, NoMemory>
     requires fits { PacketFits packet.now }
     requires bound { ctx.now.purse ≡ packet.now.bound }
+    requires source { ctx.now.source ≡ packet.now.family.source }
     requires near { length ctx.now.neighbours ≤ 8 }
+    requires rows { AreGoodRows (S.stands services.old).rows }
     requires open { IsSome (S.stands services.old).begun }
     ensures turn { IfOk result (λ turn. IsOpen first packet.now (visit_of ctx.entry.now (S.stands services.old) packet.now) turn) }
     ensures closing { IfOk result (λ turn. closed turn.is_spent (S.stands services.new) ≡ services_after ctx.entry.now (S.stands services.old) packet.now) }
@@ -102,6 +104,7 @@ pub fn visit_turn<S: Services>(
 ) -> Result<ActList, NoMemory>
     requires fits { PacketFits packet.now }
     requires bound { ctx.now.purse ≡ packet.now.bound }
+    requires source { ctx.now.source ≡ packet.now.family.source }
     requires near { length ctx.now.neighbours ≤ 8 }
     requires services { ServicesFit (S.stands services.old) }
     ensures acts { IfOk result (λ acts. acts ≡ (first ∷ []) ++ spec.visit_acts queues.old packet.now (visit_of ctx.entry.now (begun_now (S.stands services.old)) packet.now)) }

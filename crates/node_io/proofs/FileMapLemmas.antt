@@ -4,6 +4,7 @@ use Rattle.std.proofs.lemmas.Bool.Decides.{nat_tests, Decides-ltb}
 use Rattle.std.specs.List.{position_or_len}
 use Rattle.std.specs.Str.{bytes_eq}
 use Rattle.std.proofs.lemmas.Slice.Eq.{bytes_eq-Decides}
+use Rattle.small_laws.proofs.Bools.{not_true}
 use Rattle.node_io.specs.FileMaps.{FileMap, file_at, is_named, contents, ChangesOnly}
 
 abbrev Entry : Type 0
@@ -15,13 +16,9 @@ one_plus m = omega arith
 same_name : (name : List ℕ) → bytes_eq name name ≡ true
 same_name name = (bytes_eq-Decides name name).1 refl
 
-no_test : (b : Bool) → (b ≡ true → ⊥) → b ≡ false
-no_test true h = absurd (h refl)
-no_test false h = refl
-
 other_name : (a name other : List ℕ) → bytes_eq a name ≡ true → other ≢ name → bytes_eq a other ≡ false
 other_name a name other e differs =
-    no_test (bytes_eq a other) (λ t. differs (sym ((bytes_eq-Decides a other).0 t) ∙ (bytes_eq-Decides a name).0 e))
+    not_true (bytes_eq a other) (λ t. differs (sym ((bytes_eq-Decides a other).0 t) ∙ (bytes_eq-Decides a name).0 e))
 
 -- the place of a name, or the number of files where it is missing
 abbrev pub place : List ℕ → FileMap → ℕ

@@ -3,3 +3,4 @@ pub mod PieceLemmas
 pub mod Fronts
 pub mod ChildLemmas
 pub mod FileWrites
+pub mod Taking

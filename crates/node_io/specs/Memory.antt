@@ -3,6 +3,8 @@ use Rattle.std.specs.Prelude.{ℕ, List, ◌≡◌, ◌<◌, ◌⊎◌, Option, 
 use Rattle.node_io.specs.Causes.{IsDue, Rose, one_more}
 use Rattle.node_io.specs.declared.mem_sink.MemSink.{MemSink}
 use Rattle.node_io.specs.declared.mem_files.MemFiles.{MemFiles}
+use Rattle.node_io.specs.declared.mem_link.MemLink.{MemLink}
+use Rattle.node_io.specs.declared.mem_spawner.MemSpawner.{MemSpawner}
 
 -- the bytes that a sink in memory may still take, or None where there is no end
 abbrev pub room_of : MemSink → Option ℕ
@@ -35,3 +37,31 @@ LacksMemory old new = Rose old.refused new.refused
 -- the files counted one call more, and their list of failing calls is as before
 abbrev pub CountsCall : MemFiles → MemFiles → Type 0
 CountsCall old new = (new.calls ≡ one_more old.calls) × (new.fails ≡ old.fails)
+
+-- this call is among those of the link that are to fail
+abbrev pub IsDueAtLink : MemLink → Type 0
+IsDueAtLink l = IsDue l.fails (one_more l.calls)
+
+-- a growth of the link was refused for memory
+abbrev pub LinkLacksMemory : MemLink → MemLink → Type 0
+LinkLacksMemory old new = Rose old.refused new.refused
+
+-- the link counted one call more, and its list of failing calls is as before
+abbrev pub CountsAtLink : MemLink → MemLink → Type 0
+CountsAtLink old new = (new.calls ≡ one_more old.calls) × (new.fails ≡ old.fails)
+
+-- this call is among those of the spawner that are to fail
+abbrev pub IsDueAtSpawner : MemSpawner → Type 0
+IsDueAtSpawner s = IsDue s.fails (one_more s.calls)
+
+-- a growth of the spawner was refused for memory
+abbrev pub SpawnerLacksMemory : MemSpawner → MemSpawner → Type 0
+SpawnerLacksMemory old new = Rose old.refused new.refused
+
+-- no number is left for one more child
+abbrev pub HasAllChildren : MemSpawner → Type 0
+HasAllChildren s = s.children.0 ≡ 4294967295
+
+-- the spawner counted one call more, and its list of failing calls is as before
+abbrev pub CountsAtSpawner : MemSpawner → MemSpawner → Type 0
+CountsAtSpawner old new = (new.calls ≡ one_more old.calls) × (new.fails ≡ old.fails)

@@ -1,4 +1,4 @@
-ghost use Rattle.std.specs.Prelude.{◌≡◌, ℕ, Bool, List, true, drop, IfOk};
+ghost use Rattle.std.specs.Prelude.{◌≡◌, ℕ, Bool, List, true, drop, get_or, IsTrue, IfOk};
 
 use plan_base::NoMemory;
 use plan_items::Items;
@@ -9,13 +9,18 @@ pub type Moments = Items<u64>;
 
 /// What tells the time.
 pub trait Clock {
-    // whether the clock tells the answers that are still to come
+    // whether the clock tells the answers that are still to come, and its last answer, 0 before the first
     ghost tells: { Bool };
 
     ghost answers: { Self → List ℕ };
 
+    ghost last: { Self → ℕ };
+
     /// The time in milliseconds. Never fails.
-    fn now(&mut self) -> u64;
+    fn now(&mut self) -> u64
+        ensures told { IsTrue tells → result ≡ get_or (answers self.old) 0 (last self.old) }
+        ensures answers { IsTrue tells → answers self.new ≡ drop 1 (answers self.old) }
+        ensures last { IsTrue tells → last self.new ≡ result };
 }
 
 /// A clock in memory, which answers a list in order, and after its end the last answer, or 0 where
@@ -45,11 +50,36 @@ impl Clock for MemClock {
 
     ghost answers = { λ c. drop c.given c.answers };
 
+    ghost last = { λ c. c.last };
+
     fn now(&mut self) -> u64 {
-        if self.given < self.answers.len() {
-            self.last = *self.answers.at(self.given);
-            self.given += 1;
-        }
-        self.last
+        let answer = next_of(self.answers.as_slice(), self.given, self.last);
+        self.given = past_next(self.answers.as_slice(), self.given);
+        self.last = answer;
+        answer
+    }
+}
+
+// The next answer behind those given, or the last one where there is none.
+#[tactic(auto, using(crate::proofs::Taking::next_there, crate::proofs::Taking::next_none))]
+fn next_of(answers: &[u64], given: usize, last: u64) -> u64
+    ensures { result ≡ get_or (drop given answers.now) 0 last }
+{
+    if given < answers.len() {
+        answers[given]
+    } else {
+        last
+    }
+}
+
+// How many answers were given after the next one.
+#[tactic(auto, using(crate::proofs::Taking::rest_next, crate::proofs::Taking::rest_none))]
+fn past_next(answers: &[u64], given: usize) -> usize
+    ensures { drop result answers.now ≡ drop 1 (drop given answers.now) }
+{
+    if given < answers.len() {
+        given + 1
+    } else {
+        given
     }
 }

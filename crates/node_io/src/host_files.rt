@@ -1,4 +1,4 @@
-ghost use Rattle.std.specs.Prelude.{[], false, is_some};
+ghost use Rattle.std.specs.Prelude.{◌≡◌, [], false, is_some};
 
 use crate::counts::raise;
 use crate::host_sink::write_some;
@@ -19,8 +19,10 @@ pub struct HostFiles<'a, R: System> {
 }
 
 impl<'a, R: System> HostFiles<'a, R> {
-    /// The files of this system.
-    pub fn new(system: &'a R) -> HostFiles<'a, R> {
+    /// The files of this system: no fault is counted, and nothing is begun.
+    pub fn new(system: &'a R) -> HostFiles<'a, R>
+        ensures { (result.read_faults ≡ 0) × (result.write_faults ≡ 0) × (is_some result.source ≡ false) × (is_some result.target ≡ false) }
+    {
         HostFiles {
             system,
             source: None,

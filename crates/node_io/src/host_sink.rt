@@ -1,4 +1,4 @@
-ghost use Rattle.std.specs.Prelude.{◌≤◌, ◌<◌, [], false, length, IfSome};
+ghost use Rattle.std.specs.Prelude.{◌≡◌, ◌≤◌, ◌<◌, [], false, length, IfSome};
 
 use crate::counts::raise;
 use crate::outside::{Failed, Sink};
@@ -13,8 +13,10 @@ pub struct HostSink<W: Write + Drop> {
 }
 
 impl<W: Write + Drop> HostSink<W> {
-    /// A sink over this output.
-    pub fn new(inner: W) -> HostSink<W> {
+    /// A sink over this output: no fault is counted.
+    pub fn new(inner: W) -> HostSink<W>
+        ensures { result.faults ≡ 0 }
+    {
         HostSink { inner, faults: 0 }
     }
 }

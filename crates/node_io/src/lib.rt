@@ -4,6 +4,7 @@
 //! Every call that can fail answers [`Failed`] only where a count of faults rose in it.
 #![tactic(auto)]
 
+mod children;
 mod clock;
 mod counts;
 mod file_list;
@@ -13,12 +14,11 @@ mod link;
 mod mem_files;
 mod mem_link;
 mod mem_sink;
+mod mem_spawner;
 mod outside;
 mod read;
 mod reading;
 mod spawner;
-#[cfg(test)]
-mod tests;
 mod text;
 mod write;
 
@@ -30,7 +30,8 @@ pub use link::{Arrival, Arrivals, Got, Link, Peer, Peers, RECEIVED_MAX, SentFram
 pub use mem_files::MemFiles;
 pub use mem_link::MemLink;
 pub use mem_sink::MemSink;
+pub use mem_spawner::MemSpawner;
 pub use outside::{Calls, Failed, Files, Sink};
 pub use read::{ReadError, read_whole};
-pub use spawner::{Child, MemSpawner, Spawner, Statuses};
+pub use spawner::{Child, Spawner, Statuses};
 pub use write::{put_all, put_file, save};

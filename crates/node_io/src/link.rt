@@ -1,7 +1,7 @@
 ghost use Rattle.std.specs.Prelude.{◌≡◌, ℕ, Bool, List, [], ◌∷◌, ◌++◌, IsTrue, length, MatchResult};
 ghost use Rattle.plan_base.specs.declared.ids.Dev.{Dev};
 ghost use Rattle.node_io.specs.Causes.{HasCause};
-ghost use Rattle.node_io.specs.Links.{HasPeer, IsFrameOfPeer, GotHasCause};
+ghost use Rattle.node_io.specs.Links.{HasPeer, IsFrameOfPeer, GotHasCause, Hears, Sends, Binds};
 ghost use Rattle.node_io.specs.declared.link.Peer.{Peer};
 ghost use Rattle.node_io.specs.declared.link.Arrival.{Arrival};
 
@@ -66,23 +66,31 @@ pub trait Link {
 
     ghost binds: { Self → List (ℕ × List Peer) };
 
-    /// Takes the node's own port and its peers. After a failure there are no peers.
+    /// Takes the node's own port and its peers. After a failure there are no peers. Each call stands among the
+    /// binds, also where it fails for another cause than memory.
     fn bind(&mut self, port: u16, peers: &Peers) -> Result<(), Failed>
         ensures bound { MatchResult result (λ _. bound self.new ≡ peers.now) (λ _. bound self.new ≡ []) }
+        ensures binds { IsTrue tells → Binds (binds self.old) (binds self.new) (port, peers.now) result }
+        ensures kept { IsTrue tells → (script self.new ≡ script self.old) × (sent self.new ≡ sent self.old) }
         ensures cause { HasCause (faults self.old) (faults self.new) result };
 
-    /// Takes the next frame into `buf`. An arrival without bytes, or on a device that isn't among
-    /// the peers, counts as nothing; a longer one is cut to 16,513 bytes. Condition: `buf` has
-    /// 16,513 bytes.
+    /// Takes the next frame into `buf`. What comes empty or from no peer's device is passed over,
+    /// as if nothing had come; of more than 16,513 bytes only the first 16,513 are taken. Condition:
+    /// `buf` has 16,513 bytes.
     fn recv(&mut self, buf: &mut [u8]) -> Got
         requires { length buf.old ≡ 16513 }
         ensures frame { IsFrameOfPeer (bound self.old) result }
+        ensures heard { IsTrue tells → Hears (bound self.old) (script self.old) (script self.new) result buf.new }
+        ensures room { length buf.new ≡ length buf.old }
+        ensures kept { IsTrue tells → (sent self.new ≡ sent self.old) × (binds self.new ≡ binds self.old) }
         ensures same { bound self.new ≡ bound self.old }
         ensures cause { GotHasCause (faults self.old) (faults self.new) result };
 
-    /// Sends a frame on this device. Condition: the device is among the peers.
+    /// Sends a frame on this device; where it fails nothing was sent. Condition: the device is among the peers.
     fn send(&mut self, dev: Dev, bytes: &[u8]) -> Result<(), Failed>
         requires { HasPeer (bound self.old) dev }
+        ensures sent { IsTrue tells → Sends (sent self.old) (sent self.new) (dev, bytes.now) result }
+        ensures kept { IsTrue tells → (script self.new ≡ script self.old) × (binds self.new ≡ binds self.old) }
         ensures same { bound self.new ≡ bound self.old }
         ensures cause { HasCause (faults self.old) (faults self.new) result };
 }

@@ -36,7 +36,7 @@ impl MemFiles {
         requires { HasDistinctNames files }
         ensures { IfOk result
             (λ f. (f.files ≡ files) × (f.asked ≡ []) × (f.made ≡ []) × (f.fails ≡ fails) × (f.calls ≡ 0)
-            × (f.refused ≡ 0) × (f.read_faults ≡ 0) × (f.write_faults ≡ 0)) }
+            × (f.refused ≡ 0) × (f.read_faults ≡ 0) × (f.write_faults ≡ 0) × (f.reading ≡ None) × (f.writing ≡ None)) }
     {
         Ok(MemFiles {
             alloc,
@@ -137,6 +137,8 @@ impl Files for MemFiles {
         ensures begun { IsTrue (is_some self.new.reading) ↔ IsOk result }
         ensures left { OnOk result (file_at self.old.files name.now ≡ Some (unwrap_or self.new.reading [])) }
         ensures asked { Names self.old.asked self.new.asked name.now result }
+        ensures named { OnErr result
+            ((self.new.asked ≡ self.old.asked ++ name.now ∷ []) ⊎ LacksMemory self.old self.new) }
         ensures kept { (self.new.files ≡ self.old.files) × (self.new.made ≡ self.old.made) }
         ensures cause { HasCause self.old.read_faults self.new.read_faults result }
         ensures same { (self.new.write_faults ≡ self.old.write_faults) × (is_some self.new.writing ≡ is_some self.old.writing) }
@@ -202,6 +204,8 @@ impl Files for MemFiles {
         ensures target { OnOk result (unwrap_or self.new.writing [] ≡ name.now) }
         ensures stays { OnErr result (self.new.files ≡ self.old.files) }
         ensures made { Names self.old.made self.new.made name.now result }
+        ensures named { OnErr result
+            ((self.new.made ≡ self.old.made ++ name.now ∷ []) ⊎ LacksMemory self.old self.new) }
         ensures kept { self.new.asked ≡ self.old.asked }
         ensures cause { HasCause self.old.write_faults self.new.write_faults result }
         ensures same { (self.new.read_faults ≡ self.old.read_faults) × (is_some self.new.reading ≡ is_some self.old.reading) }

@@ -1,6 +1,7 @@
-ghost use Rattle.std.specs.Prelude.{◌≡◌, ◌≢◌, ◌++◌, ◌∷◌, [], ◌==◌, true, length, drop, IfOk, IfSome, OnOk, OnErr};
-ghost use Rattle.std.specs.List.{list_any};
-ghost use Rattle.node_io.specs.Links.{IsFrameOfPeer};
+ghost use Rattle.std.specs.Prelude.{◌≡◌, ◌++◌, ◌∷◌, [], ◌⊎◌, ◌↔◌, true, length, min, take, drop, IfOk, IfSome, IsNone, IsTrue, IsErr, OnOk, OnErr, MatchResult};
+ghost use Rattle.node_io.specs.Causes.{HasCause};
+ghost use Rattle.node_io.specs.Links.{has_peer, HasPeer, IsFrameOfPeer, GotHasCause, IsHeard, Hears, Sends, Binds};
+ghost use Rattle.node_io.specs.Memory.{IsDueAtLink, LinkLacksMemory, CountsAtLink};
 
 use crate::counts::{is_due, raise};
 use crate::link::{Arrival, Arrivals, Got, Link, Peer, Peers, RECEIVED_MAX, SentFrames};
@@ -20,7 +21,9 @@ pub struct MemLink {
     binds: Items<(u16, Peers)>,
     peers: Peers,
     fails: Calls,
+    // the calls so far, the growths refused for memory, and the faults
     calls: u64,
+    refused: u64,
     faults: u64,
 }
 
@@ -29,7 +32,7 @@ impl MemLink {
     pub fn new(alloc: Global, script: Arrivals, fails: Calls) -> Result<MemLink, NoMemory>
         ensures { IfOk result
             (λ l. (l.script ≡ script) × (l.taken ≡ 0) × (l.sent ≡ []) × (l.binds ≡ []) × (l.peers ≡ []) × (l.fails ≡ fails)
-            × (l.calls ≡ 0) × (l.faults ≡ 0)) }
+            × (l.calls ≡ 0) × (l.refused ≡ 0) × (l.faults ≡ 0)) }
     {
         Ok(MemLink {
             alloc,
@@ -40,6 +43,7 @@ impl MemLink {
             peers: Peers::new(alloc),
             fails,
             calls: 0,
+            refused: 0,
             faults: 0,
         })
     }
@@ -53,26 +57,38 @@ impl MemLink {
 }
 
 fn has_peer(peers: &[Peer], dev: Dev) -> bool
-    ensures { result ≡ list_any (λ peer. peer.dev.0 == dev.0) peers.now }
+    ensures { result ≡ has_peer peers.now dev }
 {
     peers.iter().any(|peer| peer.dev.0 == dev.0)
+}
+
+// Puts the first 16,513 bytes at the front of `buf`, and answers their number.
+#[tactic(auto, using(crate::proofs::Taking::front_put))]
+fn put_front(bytes: &[u8], buf: &mut [u8]) -> usize
+    requires { length buf.old ≡ 16513 }
+    ensures count { result ≡ min (length bytes.now) 16513 }
+    ensures front { take result buf.new ≡ take 16513 bytes.now }
+    ensures room { length buf.new ≡ length buf.old }
+{
+    let count = bytes.len().min(RECEIVED_MAX);
+    buf[..count].copy_from_slice(&bytes[..count]);
+    count
 }
 
 // What is received where this comes, with its bytes at the front of `buf`.
 fn hear(arrival: &Arrival, peers: &Peers, buf: &mut [u8]) -> Got
     requires { length buf.old ≡ 16513 }
     ensures frame { IsFrameOfPeer peers.now result }
-    ensures heard { result ≢ Got.Failed }
+    ensures heard { IsHeard peers.now arrival.now result buf.new }
+    ensures room { length buf.new ≡ length buf.old }
 {
     match arrival {
         Arrival::Quiet => Got::Nothing,
         Arrival::On(dev, bytes) => {
-            let count = bytes.len().min(RECEIVED_MAX);
-            if count == 0 || !has_peer(peers.as_slice(), *dev) {
+            if bytes.len() == 0 || !has_peer(peers.as_slice(), *dev) {
                 return Got::Nothing;
             }
-            buf[..count].copy_from_slice(&bytes.as_slice()[..count]);
-            Got::Frame(*dev, count)
+            Got::Frame(*dev, put_front(bytes.as_slice(), buf))
         }
     }
 }
@@ -85,7 +101,9 @@ fn note_bind(
     peers: &Peers,
     due: bool,
 ) -> Result<Option<Peers>, AllocError>
-    ensures { IfOk result (λ r. IfSome r (λ copy. copy ≡ peers.now)) }
+    ensures copied { IfOk result (λ r. IfSome r (λ copy. copy ≡ peers.now)) }
+    ensures asked { Binds binds.old binds.new (port, peers.now) result }
+    ensures due { IfOk result (λ r. IsNone r ↔ IsTrue due) }
 {
     let asked = Items::from_slice(alloc, peers.as_slice())?;
     binds.add((port, asked))?;
@@ -117,7 +135,17 @@ impl Link for MemLink {
 
     ghost binds = { λ l. l.binds };
 
-    fn bind(&mut self, port: u16, peers: &Peers) -> Result<(), Failed> {
+    fn bind(&mut self, port: u16, peers: &Peers) -> Result<(), Failed>
+        ensures bound { MatchResult result (λ _. self.new.peers ≡ peers.now) (λ _. self.new.peers ≡ []) }
+        ensures binds { Binds self.old.binds self.new.binds (port, peers.now) result }
+        ensures kept { (drop self.new.taken self.new.script ≡ drop self.old.taken self.old.script) × (self.new.sent ≡ self.old.sent) }
+        ensures cause { HasCause self.old.faults self.new.faults result }
+        ensures due { IsDueAtLink self.old → IsErr result }
+        ensures only { OnErr result (IsDueAtLink self.old ⊎ LinkLacksMemory self.old self.new) }
+        ensures asked { OnErr result
+            ((self.new.binds ≡ self.old.binds ++ (port, peers.now) ∷ []) ⊎ LinkLacksMemory self.old self.new) }
+        ensures counted { CountsAtLink self.old self.new }
+    {
         raise(&mut self.calls);
         let due = is_due(self.fails.as_slice(), self.calls);
         match note_bind(self.alloc, &mut self.binds, port, peers, due) {
@@ -125,15 +153,32 @@ impl Link for MemLink {
                 self.peers = peers;
                 Ok(())
             }
-            _ => {
+            Ok(None) => {
                 self.peers = Peers::new(self.alloc);
+                raise(&mut self.faults);
+                Err(Failed)
+            }
+            Err(_) => {
+                self.peers = Peers::new(self.alloc);
+                raise(&mut self.refused);
                 raise(&mut self.faults);
                 Err(Failed)
             }
         }
     }
 
-    fn recv(&mut self, buf: &mut [u8]) -> Got {
+    #[tactic(auto, using(crate::proofs::Taking::hears_next))]
+    fn recv(&mut self, buf: &mut [u8]) -> Got
+        requires { length buf.old ≡ 16513 }
+        ensures frame { IsFrameOfPeer self.old.peers result }
+        ensures heard { Hears self.old.peers (drop self.old.taken self.old.script) (drop self.new.taken self.new.script) result buf.new }
+        ensures room { length buf.new ≡ length buf.old }
+        ensures kept { (self.new.sent ≡ self.old.sent) × (self.new.binds ≡ self.old.binds) }
+        ensures same { self.new.peers ≡ self.old.peers }
+        ensures cause { GotHasCause self.old.faults self.new.faults result }
+        ensures due { (result ≡ Got.Failed) ↔ IsDueAtLink self.old }
+        ensures counted { CountsAtLink self.old self.new }
+    {
         raise(&mut self.calls);
         if is_due(self.fails.as_slice(), self.calls) {
             raise(&mut self.faults);
@@ -147,10 +192,23 @@ impl Link for MemLink {
         hear(arrival, &self.peers, buf)
     }
 
-    fn send(&mut self, dev: Dev, bytes: &[u8]) -> Result<(), Failed> {
+    fn send(&mut self, dev: Dev, bytes: &[u8]) -> Result<(), Failed>
+        requires { HasPeer self.old.peers dev }
+        ensures sent { Sends self.old.sent self.new.sent (dev, bytes.now) result }
+        ensures kept { (drop self.new.taken self.new.script ≡ drop self.old.taken self.old.script) × (self.new.binds ≡ self.old.binds) }
+        ensures same { self.new.peers ≡ self.old.peers }
+        ensures cause { HasCause self.old.faults self.new.faults result }
+        ensures due { IsDueAtLink self.old → IsErr result }
+        ensures only { OnErr result (IsDueAtLink self.old ⊎ LinkLacksMemory self.old self.new) }
+        ensures counted { CountsAtLink self.old self.new }
+    {
         raise(&mut self.calls);
-        let due = is_due(self.fails.as_slice(), self.calls);
-        if due || note_sent(self.alloc, &mut self.sent, dev, bytes).is_err() {
+        if is_due(self.fails.as_slice(), self.calls) {
+            raise(&mut self.faults);
+            return Err(Failed);
+        }
+        if note_sent(self.alloc, &mut self.sent, dev, bytes).is_err() {
+            raise(&mut self.refused);
             raise(&mut self.faults);
             return Err(Failed);
         }

@@ -8,7 +8,7 @@ use Rattle.chunk_spelling.specs.Scan.{Scan}
 use Rattle.chunk_spelling.specs.Parts.{Part}
 use Rattle.chunk_spelling.specs.Fields.{name_part}
 use Rattle.chunk_spelling.specs.Steps.{step}
-use Rattle.chunk_spelling.specs.Spelling.{SpelledAt, FirstFaultAt, a_whole_chunk}
+use Rattle.chunk_spelling.specs.Spelling.{SpelledAt, FirstFaultAt, a_whole_chunk, from_front}
 use Rattle.chunk_spelling.proofs.PartLaws.{Lawful}
 use Rattle.chunk_spelling.proofs.LeafLaws.{name_lawful}
 use Rattle.chunk_spelling.proofs.ValueLaws.{chunk_part_lawful}
@@ -16,7 +16,7 @@ use Rattle.chunk_spelling.proofs.WholeLaws.{only_by, fault_by, at_most_one}
 use Rattle.packet_frame.specs.declared.fault.FrameFault.{FrameFault}
 use Rattle.packet_frame.specs.Faults.{of_spelling}
 use Rattle.packet_frame.specs.Fields.{told, route_at, carried_at}
-use Rattle.packet_frame.specs.Reading.{from_front, Fails}
+use Rattle.packet_frame.specs.Reading.{Fails}
 
 -- a fault that the reading has is one that the call may answer
 pub fails_with : {A : Type 0} (e : FrameFault) (r : Result A FrameFault) → r ≡ Err e → Fails e r

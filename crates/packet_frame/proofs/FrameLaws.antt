@@ -2,6 +2,7 @@ use Rattle.std.proofs.Common.{◌≡◌, ◌⊎◌, inl, inr, ℕ, ◌+◌, ◌<
 use Rattle.std.specs.Prelude.{◌==◌, nat_le, if◌then◌else◌}
 use Rattle.std.specs.Int.{w8, w32, w64, to_be_bytes}
 use Rattle.std.proofs.lemmas.Bool.{eqb-true, leb-true, leb-false}
+use Rattle.chunk_spelling.specs.Spelling.{from_front}
 use Rattle.wire_bytes.specs.Fields.{Front, IsBytes}
 use Rattle.read_laws.specs.Agenda.{FirstFault, here}
 use Rattle.read_laws.proofs.Binds.{ok_inj, some_inj, bind_ok, bind_is}
@@ -17,7 +18,7 @@ use Rattle.packet_frame.specs.Faults.{of_number}
 use Rattle.packet_frame.specs.Fields.{number, magic_at, version_at, kind_of, known_kind, kind_at}
 use Rattle.packet_frame.specs.Forms.{FrameItem, the_magic, the_version, the_kind, the_end, forms, Held, bytes_of_fields, AllFit, items_of_fields, frame_of_fields, fields_of, FrameFits, frame_at}
 use Rattle.packet_frame.specs.Frames.{frame_step, nothing_left, a_frame, begins, SpellsFrame, SpellingFault, too_long, misspelled}
-use Rattle.packet_frame.specs.Reading.{from_front, Fails}
+use Rattle.packet_frame.specs.Reading.{Fails}
 use Rattle.packet_frame.proofs.FieldLaws.{AllKept, told_ok, told_is, judged_ok, judged_is, host_kept, serial_kept, bound_kept, route_kept, chunk_kept, rows_kept, reads_takes, reads_again, reads_go}
 
 forms_kept : (k : Kind) → AllKept (forms k)

@@ -4,7 +4,7 @@ use Rattle.read_laws.proofs.Binds.{bind_is, bind_err}
 use Rattle.read_laws.proofs.Lists.{with_front}
 use Rattle.chunk_spelling.specs.Scan.{Scan}
 use Rattle.packet_frame.specs.declared.fault.FrameFault.{FrameFault}
-use Rattle.packet_frame.specs.declared.frame.AdvertRow.{AdvertRow}
+use Rattle.service_api.specs.declared.advert.AdvertRow.{AdvertRow}
 use Rattle.packet_frame.specs.Fields.{row_host_at, cost_at, rows_from}
 use Rattle.packet_frame.specs.Reading.{Fails}
 

@@ -4,6 +4,7 @@ use Rattle.std.specs.List.{flat_map}
 use Rattle.std.specs.Int.{w16, w32, w64, to_be_bytes}
 use Rattle.std.proofs.lemmas.Bool.{leb-true}
 use Rattle.std.proofs.lemmas.List.{drop_more}
+use Rattle.small_laws.proofs.Bools.{both_true}
 use Rattle.plan_base.specs.Words.{is_word, is_name, IsName}
 use Rattle.plan_base.specs.Sizes.{chunk_weight}
 use Rattle.plan_base.specs.declared.ids.Family.{Family}
@@ -17,8 +18,8 @@ use Rattle.chunk_spelling.specs.Spelling.{a_whole_chunk}
 use Rattle.chunk_spelling.proofs.FitsLaws.{chunk_fits_kept}
 use Rattle.chunk_writer.proofs.Puts.{Written}
 use Rattle.spelling_sizes.proofs.LengthLaws.{chunk_length}
-use Rattle.packet_frame.specs.declared.frame.AdvertRow.{AdvertRow}
-use Rattle.packet_frame.specs.declared.frame.Advert.{Advert}
+use Rattle.service_api.specs.declared.advert.AdvertRow.{AdvertRow}
+use Rattle.service_api.specs.declared.advert.Advert.{Advert}
 use Rattle.packet_frame.specs.declared.frame.PlainFrame.{PlainFrame}
 use Rattle.packet_frame.specs.Bytes.{head_bytes, row_bytes, frame_bytes}
 use Rattle.packet_frame.specs.Forms.{FrameFits}
@@ -32,10 +33,6 @@ chunk_bytes_small c h = let l = leb-true (length (chunk_bytes c) + 1) 16384 h.we
 
 pub chunk_small : (c : Chunk) → a_whole_chunk.Fits c → chunk_weight c ≤ 16383
 chunk_small c h = let l = chunk_bytes_small c h in let e = chunk_length c in omega (arith, l, e)
-
-both_true : (b c : Bool) → (b && c) ≡ true → (b ≡ true) × (c ≡ true)
-both_true true c h = (refl, h)
-both_true false c h = cc
 
 pub route_short : (n : List ℕ) → IsName n → length n ≤ 32
 unfolding is_name

@@ -5,7 +5,7 @@ use Rattle.std.specs.Int.{w16, w32, w64, to_be_bytes}
 use Rattle.plan_base.specs.declared.tree.Packet.{Packet}
 use Rattle.chunk_spelling.specs.Fields.{name_bytes}
 use Rattle.chunk_spelling.specs.Values.{chunk_bytes}
-use Rattle.packet_frame.specs.declared.frame.AdvertRow.{AdvertRow}
+use Rattle.service_api.specs.declared.advert.AdvertRow.{AdvertRow}
 use Rattle.packet_frame.specs.declared.frame.PlainFrame.{PlainFrame}
 
 -- the letters PLAN as a number

@@ -1,5 +1,5 @@
 -- The fields of a frame, read one after another, each with the fault of its own rule.
-use Rattle.std.specs.Prelude.{ℕ, zero, suc, ◌==◌, List, [], ◌∷◌, Bool, true, false, Option, Some, None, Result, Ok, Err, nat_le, nat_lt, if◌then◌else◌}
+use Rattle.std.specs.Prelude.{ℕ, zero, suc, ◌==◌, List, [], ◌∷◌, Bool, true, false, Option, Some, None, Result, Ok, Err, nat_le, if◌then◌else◌}
 use Rattle.std.specs.Int.{Width, w8, w16, w32}
 use Rattle.read_laws.specs.Reading.{◌>>=◌}
 use Rattle.plan_base.specs.declared.limit.Limit.{Limit}
@@ -8,7 +8,8 @@ use Rattle.chunk_spelling.specs.declared.fault.SpellFault.{SpellFault}
 use Rattle.chunk_spelling.specs.Scan.{Scan, number_field, name_field}
 use Rattle.chunk_spelling.specs.Spelling.{a_whole_chunk}
 use Rattle.packet_frame.specs.declared.fault.FrameFault.{FrameFault}
-use Rattle.packet_frame.specs.declared.frame.AdvertRow.{AdvertRow}
+use Rattle.service_api.specs.Adverts.{is_above}
+use Rattle.service_api.specs.declared.advert.AdvertRow.{AdvertRow}
 use Rattle.packet_frame.specs.declared.kind.Kind.{Kind}
 use Rattle.packet_frame.specs.Bytes.{letters}
 use Rattle.packet_frame.specs.Faults.{of_spelling, of_number}
@@ -75,10 +76,6 @@ count_at s = do
   judged (nat_le n.0 32) (FrameFault.Spell (SpellFault.OverLimit Limit.Hosts s.front.at)) n
 
 -- a host is above the one before
-abbrev pub is_above : Option ℕ → ℕ → Bool
-is_above None host = true
-is_above (Some before) host = nat_lt before host
-
 unfoldable pub row_host_at : Option ℕ → Reader ℕ
 row_host_at before s = do
   n ← number w32 s

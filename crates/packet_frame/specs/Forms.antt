@@ -1,5 +1,5 @@
 -- The forms of a frame: what stands behind the kind, one field after another.
-use Rattle.std.specs.Prelude.{ℕ, ◌≤◌, ◌<◌, ◌^◌, List, [], ◌∷◌, ◌++◌, length, Option, Some, None, Ok, IsTrue}
+use Rattle.std.specs.Prelude.{ℕ, ◌≤◌, ◌<◌, ◌^◌, List, [], ◌∷◌, ◌++◌, length, Option, None, Ok}
 use Rattle.std.specs.Int.{w32, w64, to_be_bytes}
 use Rattle.read_laws.specs.Reading.{◌>>=◌}
 use Rattle.plan_base.specs.Words.{IsName}
@@ -7,11 +7,12 @@ use Rattle.plan_base.specs.declared.tree.Chunk.{Chunk}
 use Rattle.chunk_spelling.specs.Fields.{name_bytes}
 use Rattle.chunk_spelling.specs.Values.{chunk_bytes}
 use Rattle.chunk_spelling.specs.Spelling.{a_whole_chunk}
-use Rattle.packet_frame.specs.declared.frame.AdvertRow.{AdvertRow}
+use Rattle.service_api.specs.Adverts.{RowsFit}
+use Rattle.service_api.specs.declared.advert.AdvertRow.{AdvertRow}
 use Rattle.packet_frame.specs.declared.frame.PlainFrame.{PlainFrame}
 use Rattle.packet_frame.specs.declared.kind.Kind.{Kind}
 use Rattle.packet_frame.specs.Bytes.{rows_bytes}
-use Rattle.packet_frame.specs.Fields.{Reader, number, magic_at, version_at, kind_at, bound_at, route_at, carried_at, is_above, rows_at}
+use Rattle.packet_frame.specs.Fields.{Reader, number, magic_at, version_at, kind_at, bound_at, route_at, carried_at, rows_at}
 
 -- What can still be to read of a frame. Rows are still to come behind a host, so many.
 pub data FrameItem : Type 0 where
@@ -77,11 +78,6 @@ route_field = record { item = a_route; read = route_at; bytes = name_bytes; Fits
 
 abbrev pub chunk_field : Field Chunk
 chunk_field = record { item = a_carried_chunk; read = carried_at; bytes = chunk_bytes; Fits = a_whole_chunk.Fits }
-
--- hosts ascend, and no cost is over 65,535
-abbrev pub RowsFit : Option ℕ → List AdvertRow → Type 0
-RowsFit before [] = Unit {0}
-RowsFit before (r ∷ rs) = (IsTrue (is_above before r.host.0) × (r.host.0 < 2 ^ 32)) × (r.cost ≤ 65535) × RowsFit (Some r.host.0) rs
 
 abbrev pub rows_field : Field (List AdvertRow)
 rows_field = record { item = some_rows; read = rows_at; bytes = rows_bytes; Fits = λ rows. (length rows ≤ 32) × RowsFit None rows }

@@ -2,11 +2,8 @@
 use Rattle.std.specs.Prelude.{◌≡◌, Result, Ok, Err}
 use Rattle.wire_bytes.specs.Fields.{Front}
 use Rattle.chunk_spelling.specs.Scan.{Scan}
+use Rattle.chunk_spelling.specs.Spelling.{from_front}
 use Rattle.packet_frame.specs.declared.fault.FrameFault.{FrameFault}
-
--- a reading from a front on
-abbrev pub from_front : Front → Scan
-from_front f = record { front = f; nodes = 0 }
 
 -- memory may be wanting at any time; every other fault is the one that the reading has
 abbrev pub Fails : {A : Type 0} → FrameFault → Result A FrameFault → Type 0

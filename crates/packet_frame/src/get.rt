@@ -5,16 +5,18 @@ ghost use Rattle.packet_frame.specs.Fields.{number, magic_at, version_at, kind_a
 ghost use Rattle.packet_frame.specs.Forms.{reads, forms, frame_of_fields, frame_at};
 ghost use Rattle.packet_frame.specs.declared.kind.Kind.{Kind as TheKind};
 ghost use Rattle.packet_frame.specs.Frames.{SpellsFrame, SpellingFault, begins};
-ghost use Rattle.packet_frame.specs.Reading.{Gives, from_front};
+ghost use Rattle.chunk_spelling.specs.Spelling.{from_front};
+ghost use Rattle.packet_frame.specs.Reading.{Gives};
 ghost use Rattle.packet_frame.specs.declared.frame.PlainFrame.{PlainFrame as Plain};
 
 use crate::fault::FrameFault;
-use crate::frame::{Advert, AdvertRow, AdvertRows, PlainFrame};
+use crate::frame::PlainFrame;
 use crate::kind::Kind;
 use chunk_codec::{get_chunk, get_name};
 use chunk_spelling::SpellFault;
 use plan_base::{Chunk, Family, Host, Limit, Name, Packet};
 use plan_items::Items;
+use service_api::{Advert, AdvertRow, AdvertRows};
 use std::alloc::Global;
 use wire_bytes::Cursor;
 

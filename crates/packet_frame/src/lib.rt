@@ -10,12 +10,10 @@ mod laws;
 mod put;
 mod refusal;
 
-pub use checked::{CheckedPacket, Frame, get_frame};
+pub use checked::{Frame, get_frame};
+pub use chunk_types::CheckedPacket;
 pub use fault::FrameFault;
-pub use frame::{Advert, AdvertRow, AdvertRows};
 pub use laws::frame_laws;
 pub use put::{put_advert, put_ask, put_packet};
 pub use refusal::FrameRefusal;
-
-#[cfg(test)]
-mod tests;
+pub use service_api::{Advert, AdvertRow, AdvertRows};

@@ -8,12 +8,11 @@ ghost use Rattle.packet_frame.specs.Forms.{FrameFits};
 ghost use Rattle.packet_frame.specs.Frames.{SpellsFrame};
 ghost use Rattle.packet_frame.specs.declared.frame.PlainFrame.{PlainFrame as Plain};
 
-use crate::checked::CheckedPacket;
-use crate::frame::{Advert, AdvertRow};
 use chunk_ranges::may_be_spelled;
-use chunk_types::CheckedChunk;
+use chunk_types::{CheckedChunk, CheckedPacket};
 use chunk_writer::{put_chunk, put_name};
 use plan_base::{Bytes, Chunk, Family, Host, NoMemory, chunk_weight};
+use service_api::{Advert, AdvertRow};
 use std::alloc::Global;
 use wire_bytes::Out;
 

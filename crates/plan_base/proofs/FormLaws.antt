@@ -3,6 +3,7 @@ use Rattle.std.proofs.Common.{◌≡◌, ◌-◌, Bool, ◌&&◌, refl, ap, sym,
 use Rattle.std.proofs.lemmas.List.{length-map, take-map}
 use Rattle.std.specs.Prelude.{map, nat_le, is_some}
 use Rattle.std.specs.List.{list_all}
+use Rattle.small_laws.proofs.Lists.{list_all-map, list_all-same}
 use Rattle.plan_base.specs.declared.tree.Ty.{Ty, Ty-F, out-Ty, map-Ty, fold_out-Ty}
 use Rattle.plan_base.specs.declared.tree.Expr.{Expr, Expr-F, out-Expr, roll-out-Expr, map-Expr, fold_out-Expr, para-roll-Expr}
 use Rattle.plan_base.specs.declared.tree.Clause.{Clause, out-Clause, roll-out-Clause, fold-Clause, fold_out-Clause, para-Clause, para-roll-Clause}
@@ -10,14 +11,6 @@ use Rattle.plan_base.specs.declared.tree.Value.{Value, Value-F, out-Value, roll-
 use Rattle.plan_base.specs.declared.tree.Chunk.{Chunk, out-Chunk, roll-out-Chunk, fold-Chunk, fold_out-Chunk, para-Chunk, para-roll-Chunk}
 use Rattle.plan_base.specs.Sizes.{value_depth, type_depth}
 use Rattle.plan_base.specs.WellFormed.{formed_type_level, formed_type, formed_expr_level, formed_expr, formed_value_level, formed_chunk_level, formed_value, formed_chunk, well_formed_program, typed_expr_level, typed_clause_level, has_types, typed_value_level, typed_chunk_level, value_has_types, chunk_has_types, program_has_types}
-
-list_all-map : {X Y : Type 0} (p : Y → Bool) (f : X → Y) (xs : List X) → list_all p (map f xs) ≡ list_all (λ x. p (f x)) xs
-list_all-map p f [] = refl
-list_all-map p f (x ∷ xs) = ap (λ b. p (f x) && b) (list_all-map p f xs)
-
--- a test of images is that of the items, by another test with the same answers
-all_same : {X : Type 0} (f g : X → Bool) → ((x : X) → f x ≡ g x) → (xs : List X) → list_all f xs ≡ list_all g xs
-all_same f g e xs = λ i. list_all (λ x. e x i) xs
 
 formed_type_step : (f : Ty → Bool) (x : Ty-F Ty) → formed_type_level (λ b. b) (map-Ty Ty Bool f x) ≡ formed_type_level f x
 formed_type_step f (Ty-F.Tuple ts) = (λ i. (nat_le 2 (length-map ts f i) && nat_le (length-map ts f i) 8) && list_all-map (λ b. b) f ts i)
@@ -31,7 +24,7 @@ typed_expr_step : (f : Expr → Bool) (g h : Clause → Bool) → ((c : Clause) 
 typed_expr_step f g h e (Expr-F.Tuple es) = list_all-map (λ b. b) f es
 typed_expr_step f g h e (Expr-F.Call x es) = list_all-map (λ b. b) f es
 typed_expr_step f g h e (Expr-F.ChunkOf x es) = list_all-map (λ b. b) f es
-typed_expr_step f g h e (Expr-F.Try a cs) = ap (λ b. f a && b) (list_all-map (λ b. b) g cs ∙ all_same g h e cs)
+typed_expr_step f g h e (Expr-F.Try a cs) = ap (λ b. f a && b) (list_all-map (λ b. b) g cs ∙ list_all-same g h e cs)
 typed_expr_step f g h e _ = refl
 
 pub has_types_out : (e : Expr) → has_types e ≡ typed_expr_level has_types (λ c. has_types c.body) (out-Expr e)
@@ -65,7 +58,7 @@ chunk_has_types_is c = refl
 
 -- ---- counts and forms
 
-abbrev paired : {X : Type 0} → (X → Bool) → X → (X × Bool)
+abbrev pub paired : {X : Type 0} → (X → Bool) → X → (X × Bool)
 paired f x = (x, f x)
 
 formed_expr_step : (f : Expr → Bool) (g : Clause → Bool) (h : Clause → Bool) → ((c : Clause) → g c ≡ h c) → (x : Expr-F Expr Clause)

@@ -1,3 +1,4 @@
 pub mod FormLaws
+pub mod SameTypes
 pub mod SizeLaws
 pub mod WordLaws

@@ -5,6 +5,7 @@ use Rattle.std.proofs.lemmas.Bool.{leb-true, false≢true}
 use Rattle.std.specs.Char.{is_ascii_alphabetic}
 use Rattle.std.specs.List.{list_all}
 use Rattle.std.specs.Prelude.{codes}
+use Rattle.small_laws.proofs.Bools.{and_left, and_right}
 use Rattle.plan_base.specs.Words.{is_word_byte, is_word, is_reserved, is_name, IsName}
 
 pub is_word_none : (w : List ℕ) → length w < 1 → is_word w ≡ false
@@ -22,14 +23,6 @@ is_word_at [] h = absurd (omega arith)
 is_word_at (b ∷ bs) h = rw (take_rest (b ∷ bs) 1) (is_word_cons b bs)
 
 pub ruleset is_word_is = (is_word_none, is_word_at)
-
-and_left : (a b : Bool) → (a && b) ≡ true → a ≡ true
-and_left true b e = refl
-and_left false b e = e
-
-and_right : (a b : Bool) → (a && b) ≡ true → b ≡ true
-and_right true b e = e
-and_right false b e = absurd (false≢true e)
 
 -- a name has 1 to 32 bytes
 pub is_name_within : (w : List ℕ) → IsName w → length w ≤ 32

@@ -12,8 +12,6 @@ mod names;
 mod prim;
 mod same;
 mod sizes;
-#[cfg(test)]
-mod tests;
 mod text;
 mod tree;
 mod type_fault;

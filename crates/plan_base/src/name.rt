@@ -11,7 +11,7 @@ use thiserror::Error;
 
 /// A name: a word of 1 to 32 bytes that isn't reserved, which contracts see as the list of its bytes.
 ///
-/// A word is an ASCII letter, and then ASCII letters, digits and `_`.
+/// A word begins with a letter; letters, digits and `_` may follow, all of them ASCII.
 #[derive(Debug, Drop)]
 pub struct Name {
     bytes: Vec<u8>,

@@ -1,11 +1,14 @@
 ghost use Rattle.std.specs.Prelude.{◌≡◌, ◌↔◌, IsTrue};
+ghost use Rattle.std.specs.Str.{bytes_eq};
+ghost use Rattle.plan_base.specs.TypingOrder as spec;
 
 use crate::{Bytes, Chunk, Clause, Exn, Expr, Fun, Name, Param, Program, Svc, Text, Ty, Value};
 
 impl Name {
     /// Whether the two names are the same. Takes no memory.
     pub fn is(&self, other: &Name) -> bool
-        ensures { IsTrue result ↔ (self.now ≡ other.now) }
+        ensures same { IsTrue result ↔ (self.now ≡ other.now) }
+        ensures tested { result ≡ bytes_eq self.now other.now }
     {
         self.as_slice() == other.as_slice()
     }
@@ -32,7 +35,8 @@ impl Bytes {
 impl Ty {
     /// Whether the two types are the same. Takes no memory.
     pub fn is(&self, other: &Ty) -> bool
-        ensures { IsTrue result ↔ (self.now ≡ other.now) }
+        ensures same { IsTrue result ↔ (self.now ≡ other.now) }
+        ensures tested { result ≡ spec.same_type self.now other.now }
     {
         same_type(self, other)
     }

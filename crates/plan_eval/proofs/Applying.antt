@@ -1,6 +1,7 @@
 -- What was decided, done on the stack.
 use Rattle.std.proofs.Common.{◌≡◌, ℕ, zero, suc, List, [], ◌∷◌, ◌++◌, slice_get, Option, Some, None, IsSome, refl, sym, ◌∙◌, ap}
 use Rattle.std.proofs.lemmas.Bool.{false≢true}
+use Rattle.small_laws.proofs.Options.{none-some}
 use Rattle.plan_base.specs.declared.tree.Program.{Program}
 use Rattle.plan_base.specs.declared.tree.Value.{Value}
 use Rattle.plan_base.specs.declared.tree.Exn.{Exn}
@@ -51,11 +52,8 @@ raised_in codes outer a x s = all_ended_push codes outer a (quiet (stopped (Rais
 
 -- ---- more programs
 
-nothing-some : {A : Type 0} {x : A} → ◌≡◌ {A = Option A} None (Some x) → ⊥
-nothing-some h = cc
-
 grown : {A : Type 0} (xs ys : List A) (i : ℕ) (x : A) → slice_get xs i ≡ Some x → slice_get (xs ++ ys) i ≡ Some x
-grown [] ys i x is = absurd (nothing-some is)
+grown [] ys i x is = absurd (none-some is)
 grown (y ∷ xs) ys zero x is = is
 grown (y ∷ xs) ys (suc i) x is = grown xs ys i x is
 

@@ -1,5 +1,6 @@
 -- An expression that begins: it spends 1, and a form without parts ends at once.
 use Rattle.std.proofs.Common.{◌≡◌, ℕ, List, [], ◌∷◌, ◌++◌, slice_get, Option, Some, None, IsSome, refl, sym, ◌∙◌, ap}
+use Rattle.small_laws.proofs.Options.{none-some, some-same}
 use Rattle.plan_base.specs.declared.name.Name.{Name}
 use Rattle.plan_base.specs.declared.tree.Ty.{Ty}
 use Rattle.plan_base.specs.declared.tree.Expr.{Expr, Expr-F, out-Expr}
@@ -56,12 +57,6 @@ pub begun_spent : (code : Program) (seen : ℕ) (env : Env) (e : Expr) (x : Stop
 begun_spent code seen env e x s t spent = rw (fixed code seen env e s) (unpaid code seen env e s x t spent)
 
 -- ---- forms without parts
-
-none-some : {A : Type 0} {x : A} → ◌≡◌ {A = Option A} None (Some x) → ⊥
-none-some h = cc
-
-some-same : {A : Type 0} {x y : A} → Some x ≡ Some y → x ≡ y
-some-same h = cc
 
 module _ (code : Program) (seen : ℕ) (env : Env) (s : VisitState) where
   gives_at : (l : ExprLayer) (v : Value) → literal l ≡ Some v → Leads ((opened_at meaning code seen env l >>= weighed) s) (weighed v s)

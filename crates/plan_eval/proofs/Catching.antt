@@ -1,5 +1,6 @@
 -- Exceptions and the clauses that take them.
 use Rattle.std.proofs.Common.{◌≡◌, Bool, true, false, if◌then◌else◌, ◌+◌, ℕ, suc, map, slice_get, List, [], ◌∷◌, Option, Some, None, refl, sym, ◌∙◌, arith}
+use Rattle.small_laws.proofs.Options.{none-some}
 use Rattle.plan_base.specs.declared.tree.Exn.{Exn}
 use Rattle.plan_base.specs.declared.tree.Expr.{Expr, Expr-F, out-Expr}
 use Rattle.plan_base.specs.declared.tree.Clause.{Clause}
@@ -18,9 +19,6 @@ use Rattle.plan_eval.specs.Leads.{Leads}
 use Rattle.plan_eval.specs.Nexts.{next_step}
 use Rattle.plan_eval.proofs.Leading.{itself, onward}
 use Rattle.plan_eval.proofs.Delivering.{IsNoTry, caught, raised_part, first_place, first_nowhere, handled_some, handled_none}
-
-none-some : {A : Type 0} {x : A} → ◌≡◌ {A = Option A} None (Some x) → ⊥
-none-some h = cc
 
 first_some : (n : ℕ) (ks : List Clause) (x : Exn) (m : ℕ) → first_from n ks x ≡ Some m → handler ks x ≡ None → ⊥
 first_some n [] x m from none = none-some from

@@ -1,5 +1,6 @@
 -- A value given to an open expression, and functions and chunks that are entered.
 use Rattle.std.proofs.Common.{◌≡◌, ◌+◌, map, arith, Bool, true, false, if◌then◌else◌, ℕ, suc, List, [], ◌∷◌, slice_get, Option, Some, None, refl, sym, ◌∙◌, ap}
+use Rattle.small_laws.proofs.Options.{none-some, some-same}
 use Rattle.plan_base.specs.declared.tree.Expr.{Expr, Expr-F, out-Expr}
 use Rattle.plan_base.specs.declared.tree.Clause.{Clause}
 use Rattle.plan_base.specs.declared.tree.Fun.{Fun}
@@ -20,12 +21,6 @@ use Rattle.plan_eval.specs.Stack.{Spot, behind, along, resumed, resume, first_fr
 use Rattle.plan_eval.specs.Leads.{Leads}
 use Rattle.plan_eval.specs.Nexts.{fold_on}
 use Rattle.plan_eval.proofs.Leading.{itself, given_on}
-
-nothing-some : {A : Type 0} {x : A} → ◌≡◌ {A = Option A} None (Some x) → ⊥
-nothing-some h = cc
-
-some-same : {A : Type 0} {x y : A} → Some x ≡ Some y → x ≡ y
-some-same h = cc
 
 -- what follows an exception, by the body that takes it
 abbrev pub handled_by : Program → ℕ → Env → Option Expr → Exn → Run Value
@@ -91,7 +86,7 @@ handled_none code seen env ks x is = handled_split code seen env ks x ∙ ap (λ
 
 -- where the number of the body stands among the clauses
 pub first_place : (n : ℕ) (ks : List Clause) (x : Exn) (m : ℕ) → first_from n ks x ≡ Some m → (d : ℕ) × (m ≡ n + d) × (slice_get (map (λ k. k.body) ks) d ≡ handler ks x)
-first_place n [] x m is = absurd (nothing-some is)
+first_place n [] x m is = absurd (none-some is)
 first_place n (k ∷ ks) x m is = go (catches k.name x) is (first_place (n + 1) ks x m)
   where
     go : (t : Bool) → (if t then Some n else first_from (n + 1) ks x) ≡ Some m
@@ -105,7 +100,7 @@ first_nowhere n [] x is = refl
 first_nowhere n (k ∷ ks) x is = go (catches k.name x) is (first_nowhere (n + 1) ks x)
   where
     go : (t : Bool) → (if t then Some n else first_from (n + 1) ks x) ≡ None → (first_from (n + 1) ks x ≡ None → handler ks x ≡ None) → (if t then Some k.body else handler ks x) ≡ None
-    go true e h = absurd (nothing-some (sym e))
+    go true e h = absurd (none-some (sym e))
     go false e h = h e
 
 -- ---- entering

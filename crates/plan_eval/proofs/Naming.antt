@@ -3,6 +3,7 @@ use Rattle.std.proofs.Common.{◌≡◌, ℕ, suc, Bool, true, false, if◌then�
 use Rattle.std.specs.Option.{option_or}
 use Rattle.std.specs.Str.{bytes_eq}
 use Rattle.std.proofs.lemmas.Bool.{false≢true}
+use Rattle.small_laws.proofs.Options.{none-some, some-same}
 use Rattle.plan_base.specs.declared.name.Name.{Name}
 use Rattle.plan_base.specs.declared.tree.Expr.{Expr, Expr-F, out-Expr}
 use Rattle.plan_base.specs.declared.tree.Fun.{Fun}
@@ -51,12 +52,6 @@ pub from_same : (x : Name) (o : Option Expr) (env : Env) (fs : List Frame) → v
 from_same x o env [] = refl
 from_same x None env (f ∷ fs) = refl
 from_same x (Some e) env (f ∷ fs) = from_same x (part_or_self e (part_number f)) (env_at e env f) fs ∙ ap (λ o. value_from x o (part_or_self e (part_number f)) fs) (at_same x e env f)
-
-none-some : {A : Type 0} {x : A} → ◌≡◌ {A = Option A} None (Some x) → ⊥
-none-some h = cc
-
-some-same : {A : Type 0} {x y : A} → Some x ≡ Some y → x ≡ y
-some-same h = cc
 
 -- ---- parameters
 

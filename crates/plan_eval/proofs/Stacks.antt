@@ -1,5 +1,6 @@
 -- Stacks: a step inside leads on outside, and frames and activations that come on top.
 use Rattle.std.proofs.Common.{◌≡◌, ℕ, List, [], ◌∷◌, ◌++◌, slice_get, Option, Some, None, refl, ap}
+use Rattle.small_laws.proofs.Options.{none-some, some-same}
 use Rattle.plan_base.specs.declared.tree.Expr.{Expr, Expr-F, out-Expr}
 use Rattle.plan_base.specs.declared.tree.Program.{Program}
 use Rattle.plan_base.specs.declared.tree.Value.{Value}
@@ -14,12 +15,6 @@ use Rattle.plan_eval.specs.Stack.{Spot, spot_of, deeper, part_or_self, part_numb
 use Rattle.plan_eval.specs.Leads.{Leads}
 use Rattle.plan_eval.proofs.Leading.{carried, handled_along}
 use Rattle.plan_eval.proofs.Walking.{nowhere}
-
-nothing-some : {A : Type 0} {x : A} → ◌≡◌ {A = Option A} None (Some x) → ⊥
-nothing-some h = cc
-
-some-same : {A : Type 0} {x y : A} → Some x ≡ Some y → x ≡ y
-some-same h = cc
 
 module _ (code : Program) (seen : ℕ) where
   resumed_leads : (l : ExprLayer) (env : Env) (n : ℕ) (held : List Value) (p q : Step Value) → Leads p q → Leads (resumed code seen l env n held p) (resumed code seen l env n held q)
@@ -44,7 +39,7 @@ module _ (code : Program) (seen : ℕ) where
       → (o : Option Expr) (env : Env) → spot_of (expr_from o fs) (env_from o env fs) ≡ Some at
       → through code seen (spot_of o env) (fs ++ f ∷ []) r ≡ through code seen (spot_of o env) fs (resume code seen at f r)
   push_inside fs at f r again (Some e) env is = again (record { expr = e; env = env }) is
-  push_inside fs at f r again None env is = absurd (nothing-some (rw (nowhere fs) at is))
+  push_inside fs at f r again None env is = absurd (none-some (rw (nowhere fs) at is))
 
   -- a frame on top
   pub through_push : (start : Spot) (fs : List Frame) (at : Spot) (f : Frame) (r : Step Value) → spot_from (Some start) fs ≡ Some at
@@ -79,7 +74,7 @@ spot_inside : (fs : List Frame) (at : Spot) (f : Frame)
     → (o : Option Expr) (env : Env) → spot_of (expr_from o fs) (env_from o env fs) ≡ Some at
     → spot_of (expr_from o (fs ++ f ∷ [])) (env_from o env (fs ++ f ∷ [])) ≡ deeper at f
 spot_inside fs at f again (Some e) env is = again (record { expr = e; env = env }) is
-spot_inside fs at f again None env is = absurd (nothing-some (rw (nowhere fs) at is))
+spot_inside fs at f again None env is = absurd (none-some (rw (nowhere fs) at is))
 
 one_deeper : (e : Option Expr) (env : Env) → spot_of (expr_from e []) (env_from e env []) ≡ spot_of e env
 one_deeper e env = refl
@@ -90,13 +85,10 @@ spot_push start [] at f is = ap (λ x. deeper x f) (some-same is)
 spot_push start (g ∷ fs) at f is =
     spot_inside fs at f (λ inside h. spot_push inside fs at f h) (part_or_self start.expr (part_number g)) (env_at start.expr start.env g) is
 
-with_frame : Activation → Frame → Activation
-with_frame a f = record a { frames = a.frames ++ f ∷ [] }
-
 pushed_from : (code : Program) (seen : ℕ) (start : Option Spot) (fs : List Frame) (at : Spot) (f : Frame) (r : Step Value) → spot_from start fs ≡ Some at
     → through code seen start (fs ++ f ∷ []) r ≡ through code seen start fs (resume code seen at f r)
 pushed_from code seen (Some start) fs at f r is = through_push code seen start fs at f r is
-pushed_from code seen None fs at f r is = absurd (nothing-some is)
+pushed_from code seen None fs at f r is = absurd (none-some is)
 
 ended_in_push : (o : Option Program) (code : Program) (start : Option Spot) (a : Activation) (at : Spot) (f : Frame) (r : Step Value) → o ≡ Some code → spot_from start a.frames ≡ Some at
     → ended_in o start (record a { frames = a.frames ++ f ∷ [] }) r ≡ ended_in o start a (resume code a.fun at f r)
@@ -110,7 +102,7 @@ ended_push codes code a at f r is there = ended_in_push (slice_get codes a.code)
 
 spot_in_from : (start : Option Spot) (fs : List Frame) (at : Spot) (f : Frame) → spot_from start fs ≡ Some at → spot_from start (fs ++ f ∷ []) ≡ deeper at f
 spot_in_from (Some start) fs at f is = spot_push start fs at f is
-spot_in_from None fs at f is = absurd (nothing-some is)
+spot_in_from None fs at f is = absurd (none-some is)
 
 -- where an activation stands with a new frame
 pub spot_in_push : (codes : List Program) (a : Activation) (at : Spot) (f : Frame) → spot_in codes a ≡ Some at

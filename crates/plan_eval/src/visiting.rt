@@ -1,17 +1,21 @@
 //! The visit of a packet.
-ghost use Rattle.std.specs.Prelude.{◌≡◌, ◌+◌, ◌≤◌, ◌∷◌, [], length, IfOk, IsSome};
-ghost use Rattle.service_api.specs.Services.{IsGoodChunk};
-ghost use Rattle.plan_meaning.specs.Visit.{IsVisit, allowance, bounds, spent};
+ghost use Rattle.std.specs.Prelude.{◌≡◌, ◌↔◌, ◌+◌, ◌≤◌, ◌∷◌, [], length, All, IfOk, OnOk, IsSome, Some};
+ghost use Rattle.plan_base.specs.declared.tree.Fun.{Fun as AFun};
+ghost use Rattle.plan_base.specs.TypingOrder.{fun_of};
+ghost use Rattle.service_api.specs.Services.{AreGoodRows, IsGoodChunk};
+ghost use Rattle.plan_meaning.specs.Visit.{IsVisit, IsGoodEnd, NoteHasTypes, allowance, bounds, spent};
+ghost use Rattle.plan_meaning.specs.declared.outcome.Outcome.TheVariants as outcome;
 ghost use Rattle.plan_meaning.specs.State.{joined};
 ghost use Rattle.plan_meaning.specs.Meaning.{meaning, visited};
-ghost use Rattle.plan_meaning.specs.Safe.{IsSafe};
+ghost use Rattle.plan_meaning.specs.Safe.{IsSafe, AreGoodNotes, AreGoodPackets};
+ghost use Rattle.meaning_laws.specs.Laws.{VisitEnds, VisitsAlike, NoneSuffices};
 ghost use Rattle.visit_state.specs.Meets.{Meets};
 ghost use Rattle.plan_eval.specs.Turns.{entry};
 
 use crate::frame::{Activation, Activations, Codes};
 use crate::machine::run;
 use crate::place::enters;
-use packet_frame::CheckedPacket;
+use chunk_types::CheckedPacket;
 use plan_base::{Chunk, Family, NoMemory, Value, copy_values, place_of};
 use plan_items::Items;
 use plan_meaning::{Outcome, Stop, Visit};
@@ -93,11 +97,11 @@ fn visit_chunk<S: Services>(
     requires bound { ctx.now.purse ≡ bound }
     requires small { bound ≤ 65535 }
     requires near { length ctx.now.neighbours ≤ 8 }
+    requires rows { AreGoodRows (S.stands svc.old).rows }
     requires open { IsSome (S.stands svc.old).begun }
     ensures visits { IfOk result (λ r. IsVisit allowance chunk.now ctx.entry.now family (S.stands svc.old) r (S.stands svc.new)) }
     ensures offer { (S.stands svc.new).offer ≡ (S.stands svc.old).offer }
     ensures begun { (S.stands svc.new).begun ≡ (S.stands svc.old).begun }
-    ensures balance { IfOk result (λ r. r.evals + r.left + bounds r.outbox ≡ bound) }
 {
     let around = ctx.copy(alloc)?;
     let mut state = State::new(alloc, around, family, ALLOWANCE);
@@ -110,9 +114,45 @@ fn visit_chunk<S: Services>(
     }
 }
 
+/// What the visit of a chunk ends with, and what holds of it by the laws of the meaning.
+fn visit_by_laws<S: Services>(
+    alloc: Global,
+    chunk: &Chunk,
+    family: Family,
+    bound: u32,
+    svc: &mut S,
+    ctx: &Ctx,
+) -> Result<Visit, NoMemory>
+    requires good { IsGoodChunk chunk.now }
+    requires bound { ctx.now.purse ≡ bound }
+    requires small { bound ≤ 65535 }
+    requires near { length ctx.now.neighbours ≤ 8 }
+    requires rows { AreGoodRows (S.stands svc.old).rows }
+    requires open { IsSome (S.stands svc.old).begun }
+    ensures visits { IfOk result (λ r. IsVisit allowance chunk.now ctx.entry.now family (S.stands svc.old) r (S.stands svc.new)) }
+    ensures value { IfOk result (λ r. (d : AFun) → fun_of chunk.now.code chunk.now.entry ≡ Some d → IsGoodEnd d.result r.outcome) }
+    ensures notes { IfOk result (λ r. AreGoodNotes r.notes) }
+    ensures note_types { IfOk result (λ r. All NoteHasTypes r.notes) }
+    ensures sends { IfOk result (λ r. AreGoodPackets r.outbox) }
+    ensures balance { IfOk result (λ r. r.evals + r.left + bounds r.outbox ≡ bound) }
+    ensures kept { OnOk result (AreGoodRows (S.stands svc.new).rows) }
+    ensures ends { VisitEnds chunk.now ctx.entry.now family (S.stands svc.old) }
+    ensures alike { VisitsAlike chunk.now ctx.entry.now family (S.stands svc.old) }
+    ensures spent { IfOk result (λ r. (r.outcome ≡ outcome.WorkSpent) ↔ NoneSuffices allowance chunk.now ctx.entry.now family (S.stands svc.old)) }
+    ensures offer { (S.stands svc.new).offer ≡ (S.stands svc.old).offer }
+    ensures begun { (S.stands svc.new).begun ≡ (S.stands svc.old).begun }
+{
+    visit_chunk(alloc, chunk, family, bound, svc, ctx)
+}
+
 /// What the visit of a packet ends with, on a stack of its own: nothing recurses over expressions, calls or evals.
-/// Conditions: the purse of the surroundings is its bound, there are at most 8 neighbours, and a `begin` is open. After
-/// `WorkSpent` and `NoMemory` the caller abandons.
+///
+/// Conditions: the purse of the surroundings is the packet's bound and their source the family's host, there are at most 8
+/// neighbours, a `begin` is open, and the rows are good, as `begin` says that they are. Whatever it answers, the `begin` is
+/// still open and the rows at it are as before. After `WorkSpent` and `NoMemory` the caller abandons.
+///
+/// Every visit would end by itself: some allowance of work suffices (`ends`), any two that suffice give the same (`alike`), and
+/// `WorkSpent` comes exactly where none up to 4,000,000 does (`spent`).
 #[tactic(auto, using(crate::proofs::Visits::good_chunk))]
 pub fn visit<S: Services>(
     alloc: Global,
@@ -121,12 +161,23 @@ pub fn visit<S: Services>(
     ctx: &Ctx,
 ) -> Result<Visit, NoMemory>
     requires bound { ctx.now.purse ≡ p.now.bound }
+    requires source { ctx.now.source ≡ p.now.family.source }
     requires near { length ctx.now.neighbours ≤ 8 }
+    requires rows { AreGoodRows (S.stands svc.old).rows }
     requires open { IsSome (S.stands svc.old).begun }
     ensures visits { IfOk result (λ r. IsVisit allowance p.now.chunk ctx.entry.now p.now.family (S.stands svc.old) r (S.stands svc.new)) }
+    ensures value { IfOk result (λ r. (d : AFun) → fun_of p.now.chunk.code p.now.chunk.entry ≡ Some d → IsGoodEnd d.result r.outcome) }
+    ensures notes { IfOk result (λ r. AreGoodNotes r.notes) }
+    ensures note_types { IfOk result (λ r. All NoteHasTypes r.notes) }
+    ensures sends { IfOk result (λ r. AreGoodPackets r.outbox) }
+    ensures balance { IfOk result (λ r. r.evals + r.left + bounds r.outbox ≡ p.now.bound) }
+    ensures kept { OnOk result (AreGoodRows (S.stands svc.new).rows) }
+    ensures ends { VisitEnds p.now.chunk ctx.entry.now p.now.family (S.stands svc.old) }
+    ensures alike { VisitsAlike p.now.chunk ctx.entry.now p.now.family (S.stands svc.old) }
+    ensures spent { IfOk result (λ r. (r.outcome ≡ outcome.WorkSpent) ↔ NoneSuffices allowance p.now.chunk ctx.entry.now p.now.family (S.stands svc.old)) }
     ensures offer { (S.stands svc.new).offer ≡ (S.stands svc.old).offer }
     ensures begun { (S.stands svc.new).begun ≡ (S.stands svc.old).begun }
-    ensures balance { IfOk result (λ r. r.evals + r.left + bounds r.outbox ≡ p.now.bound) }
+    ensures still { IsSome (S.stands svc.new).begun }
 {
-    visit_chunk(alloc, p.chunk().chunk(), p.family(), p.bound(), svc, ctx)
+    visit_by_laws(alloc, p.chunk().chunk(), p.family(), p.bound(), svc, ctx)
 }

@@ -8,7 +8,7 @@ use Rattle.plan_lexer.specs.declared.token.Key.{Key}
 use Rattle.plan_lexer.specs.declared.token.Key.TheVariants as keys
 use Rattle.plan_lexer.specs.declared.token.Symbol.{Symbol}
 use Rattle.plan_lexer.specs.declared.token.Symbol.TheVariants as symbols
-use Rattle.plan_grammar.specs.Ahead.{Front, next_kind, is_symbol, is_key}
+use Rattle.plan_grammar.specs.Ahead.{Front, next_kind, is_word, is_symbol, is_key}
 
 -- the type that a reserved word names by itself
 abbrev pub simple_type : Key → Option Ty
@@ -72,3 +72,7 @@ begins_negated f = is_key keys.Not f || begins_operand f
 -- the next token may begin an expression
 unfoldable pub begins_expr : Front → Bool
 begins_expr f = is_key keys.If f || begins_negated f
+
+-- a name may begin
+unfoldable pub begins_name : Front → Bool
+begins_name f = is_word (next_kind f)

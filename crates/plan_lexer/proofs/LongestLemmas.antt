@@ -3,6 +3,7 @@ use Rattle.std.proofs.Common.{◌≡◌, ℕ, suc, ◌+◌, ◌<◌, ◌≤◌, 
 use Rattle.std.proofs.lemmas.Bool.Decides.{nat_tests}
 use Rattle.std.specs.Char.{is_ascii_digit}
 use Rattle.std.specs.List.{list_all, prefix_len}
+use Rattle.small_laws.proofs.Bools.{and_left, and_right}
 use Rattle.plan_base.specs.Words.{is_word_byte, is_word}
 use Rattle.plan_lexer.specs.Faults.{◌>>=◌}
 use Rattle.plan_lexer.specs.Numerals.{digits_len, number_of, number_at, number_behind}
@@ -10,7 +11,6 @@ use Rattle.plan_lexer.specs.Tables.{symbol_text, symbol_at}
 use Rattle.plan_lexer.specs.WordTokens.{word_len, word_kind, word_at}
 use Rattle.plan_lexer.specs.Scanning.{int_at, negative_at, host_at, dev_at, part_at, hash_at, symbol_by, signed_at, token_at}
 use Rattle.plan_lexer.specs.TokenForms.{IsDigits, IsSign, HasForm, a_word, a_number, a_signed, a_char, a_string, a_blob, a_symbol, TakesAtLeast}
-use Rattle.plan_lexer.proofs.ReadLemmas.{and_left, and_right}
 use Rattle.plan_lexer.proofs.SpellLemmas.{first_word, first_digit, digit_no_letter, digits_first, digit_no_quote, word_first, word_bytes, reads_string, reads_char, reads_blob}
 use Rattle.plan_lexer.proofs.TableLemmas.{symbol_first}
 use Rattle.plan_lexer.specs.declared.fault.LexFault.{LexFault}

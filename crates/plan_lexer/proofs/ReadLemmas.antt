@@ -5,6 +5,7 @@ use Rattle.std.proofs.lemmas.Str.{length-encode, len_utf8_bounds}
 use Rattle.std.specs.Char.{is_ascii_digit}
 use Rattle.std.specs.List.{list_all, prefix_len}
 use lib.Utf8.{encode}
+use Rattle.small_laws.proofs.Bools.{and_left, and_right}
 use Rattle.plan_lexer.specs.CharItems.{item_at, hex_value}
 use Rattle.plan_lexer.specs.Quoted.{with_front, string_from, char_at, char_by}
 use Rattle.plan_lexer.specs.Hexed.{blob_from}
@@ -56,18 +57,6 @@ pub blob_reads : (pairs bytes : List ℕ) → SpellsPairs pairs bytes → (start
 blob_reads _ _ no_pairs start at rest = ap (λ n. Ok ([], n)) (omega arith)
 blob_reads _ _ (a_pair h l high low more bytes e f others) start at rest =
     blob_pair start at h l high low (more ++ 34 ∷ rest) e f ∙ ap (with_front ((16 * high + low) ∷ [])) (blob_reads more bytes others start (at + 1 + 1) rest) ∙ ap (λ n. Ok ((16 * high + low) ∷ bytes, n)) (omega arith)
-
--- the items that pass and then none
-pub and_left : (a b : Bool) → (a && b) ≡ true → a ≡ true
-and_left true b e = refl
-and_left false b e = e
-
-pub and_right : (a b : Bool) → (a && b) ≡ true → b ≡ true
-and_right true b e = e
-and_right false b e = absurd (false_true e)
-  where
-    false_true : false ≡ true → ⊥
-    false_true e = cc
 
 pub front_len : (p : ℕ → Bool) (front rest : List ℕ) → list_all p front ≡ true → p (get_or rest 0 0) ≡ false → prefix_len p (front ++ rest) ≡ length front
 front_len p [] [] a b = refl

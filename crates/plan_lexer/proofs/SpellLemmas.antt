@@ -3,6 +3,7 @@ use Rattle.std.proofs.Common.{◌≡◌, ◌≢◌, ℕ, suc, ◌+◌, ◌^◌, 
 use Rattle.std.proofs.lemmas.Bool.Decides.{nat_tests}
 use Rattle.std.specs.Char.{is_ascii_digit, is_ascii_alphabetic}
 use Rattle.std.specs.List.{list_all}
+use Rattle.small_laws.proofs.Bools.{and_left, and_right}
 use Rattle.plan_base.specs.Words.{is_word_byte, is_word, is_name, IsName, is_reserved}
 use Rattle.plan_base.proofs.WordLaws.{is_word_cons, is_word_none}
 use Rattle.plan_lexer.specs.Quoted.{string_at}
@@ -14,7 +15,7 @@ use Rattle.plan_lexer.specs.Scanning.{int_at, negative_at, host_at, dev_at, part
 use Rattle.plan_lexer.specs.TokenForms.{IsDigits, SpellsItem, SpellsItems, SpellsPairs, Spells, name, key, int, negative, host, dev, part, char, string, blob, symbol, EndsBefore}
 use Rattle.plan_lexer.proofs.TableLemmas.{key_of-text, is_word-key, short_key, symbol_first, key_of-none}
 use Rattle.plan_lexer.proofs.WordLemmas.{letter_of_word, and_both}
-use Rattle.plan_lexer.proofs.ReadLemmas.{and_left, and_right, front_len, take_front, number_reads, number_behind_reads, string_reads, char_reads, blob_reads}
+use Rattle.plan_lexer.proofs.ReadLemmas.{front_len, take_front, number_reads, number_behind_reads, string_reads, char_reads, blob_reads}
 use Rattle.plan_lexer.specs.declared.token.Key.{Key}
 use Rattle.plan_lexer.specs.declared.token.Symbol.{Symbol}
 use Rattle.plan_lexer.specs.declared.token.TokenKind.{TokenKind}

@@ -11,8 +11,6 @@ mod numeral;
 mod quoted;
 mod scan;
 mod tables;
-#[cfg(test)]
-mod tests;
 mod text;
 mod token;
 mod word;

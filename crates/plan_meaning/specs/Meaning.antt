@@ -21,7 +21,7 @@ use Rattle.plan_base.specs.declared.tree.Chunk.{Chunk}
 use Rattle.plan_base.specs.declared.tree.Packet.{Packet}
 use Rattle.plan_base.specs.Trees.{ExprLayer, ValueLayer}
 use Rattle.plan_base.specs.TypingNames.{place_of, service_of, prim_of}
-use Rattle.value_rules.specs.Rules.{binary, part, primitive, exception}
+use Rattle.value_rules.specs.Rules.{binary, part, primitive, exception, no_service}
 use Rattle.service_api.specs.declared.router.Hop.{Hop}
 use Rattle.service_api.specs.declared.router.Hop.TheVariants.{To, NoService, NoRoute}
 use Rattle.service_api.specs.Routes.{hop, own_device, default_route}
@@ -104,9 +104,6 @@ bound ps vs = bound_behind [] ps vs
 
 abbrev pub no_bound : Exn
 no_bound = exception (codes "NoBound")
-
-abbrev pub no_service : Exn
-no_service = exception (codes "NoService")
 
 abbrev pub no_route : Exn
 no_route = exception (codes "NoRoute")

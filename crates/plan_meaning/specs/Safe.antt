@@ -1,5 +1,5 @@
 -- Evaluations that ask services well, hold typed values and never are without a case.
-use Rattle.std.specs.Prelude.{◌≡◌, ◌≢◌, ℕ, List, [], ◌∷◌, Option, Some, None, All}
+use Rattle.std.specs.Prelude.{◌≡◌, ◌≢◌, ℕ, ◌≤◌, List, [], ◌∷◌, length, Option, Some, None, All}
 use Rattle.plan_base.specs.declared.name.Name.{Name}
 use Rattle.plan_base.specs.declared.tree.Param.{Param}
 use Rattle.plan_base.specs.declared.tree.Svc.{Svc}
@@ -30,10 +30,12 @@ AreGoodNotes notes = All IsGoodNote notes
 abbrev pub AreGoodPackets : List Sent → Type 0
 AreGoodPackets outbox = All (λ p. IsGoodChunk p.packet.chunk) outbox
 
+-- the services keep their laws, notes and packets are good, and there are at most 8 neighbours
 pub record IsGoodState (s : VisitState) : Type 0 where
   pub services : IsGood s.services
   pub notes : AreGoodNotes s.notes
   pub outbox : AreGoodPackets s.outbox
+  pub near : length s.ctx.neighbours ≤ 8
 
 -- a value of which P holds, or a stop for a cause other than the want of a case, and a good state
 abbrev pub Holds : {A : Type 0} → (A → Type 0) → After A → Type 0

@@ -1,10 +1,14 @@
 -- What a visit ends with.
 use Rattle.std.specs.Prelude.{◌≡◌, ℕ, ◌+◌, ◌-◌, ◌≤◌, List, [], sum_by, length}
 use Rattle.plan_base.specs.declared.ids.Family.{Family}
+use Rattle.plan_base.specs.declared.tree.Ty.{Ty}
 use Rattle.plan_base.specs.declared.tree.Value.{Value}
 use Rattle.plan_base.specs.declared.tree.Chunk.{Chunk}
 use Rattle.service_api.specs.declared.ctx.Ctx.{Ctx}
-use Rattle.service_api.specs.Services.{Standing}
+use Rattle.plan_base.specs.WellFormed.{ValueHasTypes}
+use Rattle.service_api.specs.declared.answer.Note.{Note}
+use Rattle.service_api.specs.declared.answer.Note.TheVariants.{Print, Port}
+use Rattle.service_api.specs.Services.{Standing, IsGoodValue}
 use Rattle.plan_meaning.specs.declared.sent.Sent.{Sent}
 use Rattle.plan_meaning.specs.declared.stop.Stop.{Stop}
 use Rattle.plan_meaning.specs.declared.stop.Stop.TheVariants as stop
@@ -47,3 +51,15 @@ IsVisit work k ctx family old r new = Ends work ctx.purse (visited meaning k (be
 -- the bounds of packets in sum
 abbrev pub bounds : List Sent → ℕ
 bounds outbox = sum_by (λ p. p.packet.bound) outbox
+
+-- ---- what a visit hands out
+
+-- a value that lacks no type of `[]` or `raise`, where the note has one
+abbrev pub NoteHasTypes : Note → Type 0
+NoteHasTypes (Print v) = ValueHasTypes v
+NoteHasTypes (Port port v) = ValueHasTypes v
+
+-- a value that it ends with has that type, is well formed, keeps the limits and lacks no type
+abbrev pub IsGoodEnd : Ty → Outcome → Type 0
+IsGoodEnd t (outcome.Value v) = IsGoodValue t v × ValueHasTypes v
+IsGoodEnd t _ = Unit {0}

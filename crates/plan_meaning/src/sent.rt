@@ -1,4 +1,4 @@
-use packet_frame::CheckedPacket;
+use chunk_types::CheckedPacket;
 use plan_base::Dev;
 use plan_items::Items;
 

@@ -7,6 +7,7 @@ use Rattle.std.proofs.lemmas.List.{length-map}
 use Rattle.std.proofs.lemmas.List.Sums.{sum_by-cons}
 use Rattle.std.proofs.lemmas.List.Folds.{fold-map}
 use Rattle.std.proofs.lemmas.Bool.Decides.{nat_tests}
+use Rattle.small_laws.proofs.Bools.{both}
 use Rattle.plan_base.specs.declared.name.Name.{Name}
 use Rattle.plan_base.specs.declared.tree.Op.TheVariants as ops
 use Rattle.plan_base.specs.declared.tree.Expr.{Expr, Expr-F, roll-Expr, out-roll-Expr}
@@ -23,7 +24,7 @@ use Rattle.plan_grammar.specs.declared.node.Node.{Node}
 use Rattle.plan_grammar.specs.declared.node.Bound.{Bound}
 use Rattle.plan_grammar.specs.declared.node.Caught.{Caught}
 use Rattle.plan_grammar.specs.Nodes.{all_at, trees, leaf, over, over_one, over_two, over_three, over_four, over_list, joined, bracketed, bound, let_of, clauses_of, bodies, try_of}
-use Rattle.plan_parser.proofs.FormedTypes.{both, Each, Good}
+use Rattle.plan_parser.proofs.FormedTypes.{Each, Good}
 
 pub record Sound (n : Node) : Type 0 where
   pub formed : formed_expr n.tree ≡ true

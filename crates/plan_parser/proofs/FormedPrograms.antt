@@ -5,6 +5,7 @@ use Rattle.std.specs.List.{list_all, sum_by}
 use Rattle.std.proofs.lemmas.Bool.{le-leb}
 use Rattle.std.proofs.lemmas.List.Sums.{sum_by_push}
 use Rattle.std.proofs.lemmas.Bool.Decides.{nat_tests}
+use Rattle.small_laws.proofs.Bools.{both}
 use Rattle.plan_base.specs.declared.limit.Limit.{Limit}
 use Rattle.plan_base.specs.declared.limit.Limit.TheVariants as limits
 use Rattle.plan_base.specs.declared.tree.Svc.{Svc}
@@ -23,14 +24,14 @@ use Rattle.plan_grammar.specs.declared.fault.Wanted.TheVariants as wanted
 use Rattle.plan_grammar.specs.declared.level.Level.TheVariants as levels
 use Rattle.plan_grammar.specs.declared.node.Node.{Node}
 use Rattle.plan_grammar.specs.Ahead.{Front, ◌>>=◌, place, behind, is_symbol, is_key, Answers}
-use Rattle.plan_grammar.specs.Begins.{begins_type}
+use Rattle.plan_grammar.specs.Begins.{begins_type, begins_name}
 use Rattle.plan_grammar.specs.Nodes.{all_at}
-use Rattle.plan_parser.proofs.FormedTypes.{both, Kinds, Holds, Any, step, choose, behind_kinds, symbol_holds, Each, each_last, each_test, Between, more_holds, Good, type_holds}
+use Rattle.plan_parser.proofs.FormedTypes.{Kinds, Holds, Any, step, choose, behind_kinds, symbol_holds, Each, each_last, each_test, Between, more_holds, Good, type_holds}
 use Rattle.plan_parser.proofs.FormedNodes.{Sound}
 use Rattle.plan_parser.proofs.FormedReads.{name_holds, expr_holds}
 use Rattle.plan_parser.specs.declared.signature.Head.{Head}
 use Rattle.plan_parser.specs.declared.program.Gathered.{Gathered}
-use Rattle.plan_parser.specs.Signatures.{outer_type, inner_type, arguments_from, arguments_behind, service_at, begins_param, param_at, params_from, params_behind, head_at}
+use Rattle.plan_parser.specs.Signatures.{outer_type, inner_type, arguments_from, arguments_behind, service_at, param_at, params_from, params_behind, head_at}
 use Rattle.plan_parser.specs.Programs.{nothing, one_more, with_service, with_exception, judged, function_of, with_body, with_function, with_declaration, declarations, draft_of, finished, program_of, Placed}
 
 -- tokens behind a place keep the limits of their kinds
@@ -90,7 +91,7 @@ params_from_holds : (f : Front) → Kinds f.tokens → Holds (Between GoodParam 
 unfolding params_from
 params_from_holds f k =
     step GoodParam (Between GoodParam 0 8) _ _ (param_holds f k) (λ first g p q.
-    step (Between GoodParam 1 8) (Between GoodParam 0 8) _ _ (more_holds GoodParam param_at param_holds begins_param symbols.Comma limits.Parameters wanted.AName 7 (first ∷ []) g (p, tt) q)
+    step (Between GoodParam 1 8) (Between GoodParam 0 8) _ _ (more_holds GoodParam param_at param_holds begins_name symbols.Comma limits.Parameters wanted.AName 7 (first ∷ []) g (p, tt) q)
     (λ all h r s. step Any (Between GoodParam 0 8) _ _ (symbol_holds symbols.ParenClose h s)
     (λ _ i _ t. (record { all = r.all; least = omega arith; most = r.most }, t))))
 
@@ -98,7 +99,7 @@ params_behind_holds : (f : Front) → Kinds f.tokens → Holds (Between GoodPara
 unfolding params_behind
 params_behind_holds f k =
     choose (Between GoodParam 0 8) (is_symbol symbols.ParenClose f) _ _ (λ _. (record { all = tt; least = omega arith; most = omega arith }, behind_kinds f k))
-    (λ _. choose (Between GoodParam 0 8) (begins_param f) _ _ (λ _. params_from_holds f k) (λ _. tt))
+    (λ _. choose (Between GoodParam 0 8) (begins_name f) _ _ (λ _. params_from_holds f k) (λ _. tt))
 
 record GoodHead (h : Head) : Type 0 where
   few : nat_le (length h.params) 8 ≡ true

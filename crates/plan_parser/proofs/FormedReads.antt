@@ -5,6 +5,7 @@ use Rattle.std.specs.List.{list_all}
 use Rattle.std.proofs.Math.Seq.{take-append_seam}
 use Rattle.std.proofs.lemmas.Bool.{le-leb}
 use Rattle.std.proofs.lemmas.Str.{is_utf8-from_IsUtf8}
+use Rattle.small_laws.proofs.Bools.{both}
 use Rattle.plan_base.specs.declared.limit.Limit.{Limit}
 use Rattle.plan_base.specs.declared.limit.Limit.TheVariants as limits
 use Rattle.plan_base.specs.declared.name.Name.{Name}
@@ -39,7 +40,7 @@ use Rattle.plan_grammar.specs.Joints.{joint_of}
 use Rattle.plan_grammar.specs.Nodes.{leaf, joined, clauses_of}
 use Rattle.plan_grammar.specs.Exprs.{literal_key, literal, literal_from, opens_at, need_open, chain_step, chain_from, catch_at, clause_follows, items_from, arguments_behind, arguments, call, named, chunk, tuple, single, grouped, parens_behind, parens, typed_nil, listing, brackets_behind, brackets, binding, bindings_from, let_form, clause, clauses_from, try_form, raise_typed, raise_plain, raise_form, before_comma, before_close, fold_parts, foldl_form, foldr_form, eval_form, send_parts, remote_form, neighbor_form, key_form, symbol_form, picked, operand_kind, operand, chained, product, addition, before_list, listed, compared, comparison, negation, negated, conjunction, disjunction, condition, low, before_next, whole, at_level, expr_to}
 use Rattle.plan_grammar.proofs.Builds.{clauses_last}
-use Rattle.plan_parser.proofs.FormedTypes.{both, Kinds, Holds, Any, step, choose, weaken, behind_kinds, symbol_holds, opens_holds, Each, each_last, Between, more_holds, more_some, Good, type_holds}
+use Rattle.plan_parser.proofs.FormedTypes.{Kinds, Holds, Any, step, choose, weaken, behind_kinds, symbol_holds, opens_holds, Each, each_last, Between, more_holds, more_some, Good, type_holds}
 use Rattle.plan_parser.proofs.FormedNodes.{Sound, leaf_sound, joined_sound, then_sound, foldl_sound, foldr_sound, not_sound, eval_sound, part_sound, if_sound, remote_sound, neighbor_sound, call_sound, chunk_sound, tuple_sound, bracketed_sound, SoundBound, let_sound, SoundCaught, SoundClauses, try_sound}
 
 -- what the next token stands for keeps the limits of its kind

@@ -4,6 +4,7 @@ use Rattle.std.specs.Prelude.{◌&&◌, ◌==◌, nat_le, nat_lt, if◌then◌el
 use Rattle.std.specs.List.{list_all}
 use Rattle.std.proofs.lemmas.Bool.{le-leb}
 use Rattle.std.proofs.lemmas.Bool.Decides.{nat_tests}
+use Rattle.small_laws.proofs.Bools.{both}
 use Rattle.plan_base.specs.declared.limit.Limit.{Limit}
 use Rattle.plan_base.specs.declared.limit.Limit.TheVariants as limits
 use Rattle.plan_base.specs.declared.tree.Ty.{Ty, Ty-F, roll-Ty, out-roll-Ty}
@@ -27,9 +28,6 @@ use Rattle.plan_grammar.specs.declared.fault.Wanted.TheVariants as wanted
 use Rattle.plan_grammar.specs.Ahead.{Front, Reader, ◌>>=◌, place, behind, next_kind, is_symbol, need_symbol}
 use Rattle.plan_grammar.specs.Begins.{simple_type, kind_type, begins_type}
 use Rattle.plan_grammar.specs.Types.{opens, more, named, after_lists, list_words, behind_lists, is_list_word, lists_of, judged, tuple_type, single_type, group_type, base_type, whole_type, type_to}
-
-pub both : {b c : Bool} → b ≡ true → c ≡ true → (b && c) ≡ true
-both {b} {c} h k = (λ i. h i && c) ∙ k
 
 pub left : (b c : Bool) → (b && c) ≡ true → b ≡ true
 left true c h = refl

@@ -5,6 +5,7 @@ use Rattle.std.specs.List.{list_all, fold}
 use Rattle.std.proofs.lemmas.Bool.{le-leb}
 use Rattle.std.proofs.lemmas.List.{length-map}
 use Rattle.std.proofs.lemmas.Bool.Decides.{nat_tests}
+use Rattle.small_laws.proofs.Bools.{both}
 use Rattle.plan_base.specs.declared.limit.Limit.TheVariants as limits
 use Rattle.plan_base.specs.declared.tree.Ty.{Ty, Ty-F, roll-Ty}
 use Rattle.plan_base.specs.declared.tree.Value.{Value, Value-F, roll-Value, out-roll-Value}
@@ -15,7 +16,7 @@ use Rattle.plan_base.specs.Sizes.{largest_by, type_depth, type_depth_level, valu
 use Rattle.plan_base.specs.WellFormed.{formed_type, formed_type_level, formed_value, formed_value_level, formed_chunk, value_has_types, typed_value_level, chunk_has_types, well_formed_value, IsWellFormedValue, ValueHasTypes}
 use Rattle.plan_base.proofs.SizeLaws.{value_depth_out, nesting_out}
 use Rattle.plan_base.proofs.FormLaws.{formed_value_out, value_has_types_out}
-use Rattle.value_rules.specs.Same.{same_type}
+use Rattle.plan_base.specs.TypingOrder.{same_type}
 use Rattle.plan_lexer.specs.declared.token.Token.{Token}
 use Rattle.plan_lexer.specs.declared.token.TokenKind.{TokenKind}
 use Rattle.plan_lexer.specs.declared.token.TokenKind.TheVariants as kinds
@@ -30,7 +31,7 @@ use Rattle.plan_grammar.specs.Ahead.{Front, Reader, ◌>>=◌, place, behind, ne
 use Rattle.plan_grammar.specs.Types.{opens}
 use Rattle.plan_parser.specs.declared.item.Item.{Item}
 use Rattle.plan_parser.specs.Values.{typed, literal_key, literal, literal_from, begins_value, tuple_of, list_of, judged, fits, tuple_from, tuple, grouped, parens, like, listing, typed_nil, brackets, value_at, value_to, ended, argument_at, arguments_from, arguments_behind, value_of, args_of}
-use Rattle.plan_parser.proofs.FormedTypes.{both, Kinds, Holds, Any, step, choose, behind_kinds, symbol_holds, Each, each_test, Between, more_holds, more_some, Good, formed_of, formed_roll, depth_roll, type_holds}
+use Rattle.plan_parser.proofs.FormedTypes.{Kinds, Holds, Any, step, choose, behind_kinds, symbol_holds, Each, each_test, Between, more_holds, more_some, Good, formed_of, formed_roll, depth_roll, type_holds}
 use Rattle.plan_parser.proofs.FormedReads.{KindOf, kind_of_next, text_well}
 use Rattle.plan_parser.proofs.FormedPrograms.{kinds_of}
 

@@ -8,7 +8,7 @@ use Rattle.plan_lexer.specs.declared.token.Symbol.TheVariants as symbols
 use Rattle.plan_grammar.specs.declared.fault.ParseFault.TheVariants.{Expected}
 use Rattle.plan_grammar.specs.declared.fault.Wanted.TheVariants as wanted
 use Rattle.plan_grammar.specs.Ahead.{Front, Reader, ◌>>=◌, place, behind, next_kind, is_word, is_symbol, need_symbol, name_at}
-use Rattle.plan_grammar.specs.Begins.{begins_type}
+use Rattle.plan_grammar.specs.Begins.{begins_type, begins_name}
 use Rattle.plan_grammar.specs.Types.{more, type_to}
 use Rattle.plan_parser.specs.declared.signature.Head.{Head}
 
@@ -46,9 +46,6 @@ service_at f = do
   result ← outer_type arrow.1
   Ok (record { name = name.0; params = params.0; result = result.0 }, result.1)
 
-unfoldable pub begins_param : Front → Bool
-begins_param f = is_word (next_kind f)
-
 -- a parameter with its type
 unfoldable pub param_at : Reader Param
 param_at f = do
@@ -61,7 +58,7 @@ param_at f = do
 unfoldable pub params_from : Reader (List Param)
 params_from f = do
   first ← param_at f
-  all ← more param_at begins_param symbols.Comma limits.Parameters wanted.AName 7 (first.0 ∷ []) first.1
+  all ← more param_at begins_name symbols.Comma limits.Parameters wanted.AName 7 (first.0 ∷ []) first.1
   shut ← need_symbol symbols.ParenClose all.1
   Ok (all.0, shut.1)
 
@@ -69,7 +66,7 @@ params_from f = do
 unfoldable pub params_behind : Reader (List Param)
 params_behind f =
     if is_symbol symbols.ParenClose f then Ok ([], behind f)
-    else if begins_param f then params_from f
+    else if begins_name f then params_from f
     else Err (Expected (wanted.Symbol symbols.ParenClose) (place f))
 
 -- what stands of a function before its body, behind its word

@@ -7,8 +7,6 @@ mod laws;
 mod parsing;
 mod program;
 mod signature;
-#[cfg(test)]
-mod tests;
 mod value_fault;
 mod value_texts;
 mod values;

@@ -99,9 +99,9 @@ pub fn service_at(alloc: Global, ahead: &mut Ahead<'_>) -> Result<Svc, ParseFaul
     })
 }
 
-#[tactic(auto, unfolding(crate::specs::Signatures::begins_param))]
-fn begins_param(ahead: &Ahead<'_>) -> bool
-    ensures { result ≡ spec.begins_param ahead.now }
+#[tactic(auto, unfolding(plan_grammar::specs::Begins::begins_name))]
+fn begins_name(ahead: &Ahead<'_>) -> bool
+    ensures { result ≡ begins.begins_name ahead.now }
 {
     ahead.is_name()
 }
@@ -109,9 +109,9 @@ fn begins_param(ahead: &Ahead<'_>) -> bool
 /// The fault at the ninth parameter, which the comma before it announces.
 #[tactic(auto, unfolding(plan_grammar::specs::Types::past))]
 fn past_param(ahead: &Ahead<'_>) -> ParseFault
-    ensures { result ≡ past spec.begins_param Limit.Parameters Wanted.AName ahead.now }
+    ensures { result ≡ past begins.begins_name Limit.Parameters Wanted.AName ahead.now }
 {
-    if begins_param(ahead) {
+    if begins_name(ahead) {
         return ParseFault::TooMany(Limit::Parameters, ahead.place());
     }
     ParseFault::Expected(Wanted::AName, ahead.place())
@@ -132,7 +132,7 @@ fn param_at(alloc: Global, ahead: &mut Ahead<'_>) -> Result<Param, ParseFault>
 #[tactic(auto, using(plan_grammar::proofs::Mores::more_ends, plan_grammar::proofs::Mores::more_past, plan_grammar::proofs::Mores::more_stops, plan_grammar::proofs::Mores::more_steps))]
 fn more_params(alloc: Global, ahead: &mut Ahead<'_>, params: Params) -> Result<Params, ParseFault>
     requires { length params ≤ 8 }
-    ensures { Gives (more spec.param_at spec.begins_param Symbol.Comma Limit.Parameters Wanted.AName (8 - length params) params ahead.old) result ahead.new }
+    ensures { Gives (more spec.param_at begins.begins_name Symbol.Comma Limit.Parameters Wanted.AName (8 - length params) params ahead.old) result ahead.new }
 {
     let mut params = params;
     while ahead.is_symbol(Symbol::Comma) {
@@ -164,7 +164,7 @@ fn params_behind(alloc: Global, ahead: &mut Ahead<'_>) -> Result<Params, ParseFa
         ahead.skip();
         return Ok(Items::new(alloc));
     }
-    if begins_param(ahead) {
+    if begins_name(ahead) {
         return params_from(alloc, ahead);
     }
     Err(ParseFault::Expected(Wanted::Symbol(Symbol::ParenClose), ahead.place()))

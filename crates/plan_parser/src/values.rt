@@ -1,7 +1,6 @@
 //! Reading values.
 ghost use Rattle.std.specs.Prelude.{◌≡◌, ◌≤◌, ◌+◌, ◌-◌, [], ◌∷◌, length, Result, Ok, Err};
 ghost use Rattle.plan_base.specs.Sizes.{type_depth};
-ghost use Rattle.value_rules.specs.Same.{same_type};
 ghost use Rattle.plan_grammar.specs.Ahead.{Gives, Answers, next_kind};
 ghost use Rattle.plan_grammar.specs.Types.{past, more};
 ghost use Rattle.plan_parser.specs.Values as spec;
@@ -44,18 +43,12 @@ pub fn past_value(ahead: &Ahead<'_>, limit: Limit) -> ParseFault
     ParseFault::Expected(Wanted::AValue, ahead.place())
 }
 
-fn same_type(a: &Ty, b: &Ty) -> bool
-    ensures { result ≡ same_type a.now b.now }
-{
-    a.is(b)
-}
-
 /// Refuses an item of a list that hasn't the type of the first.
 #[tactic(auto, unfolding(crate::specs::Values::judged))]
 fn judged(t: &Ty, at: u32, item: Item, ahead: &Ahead<'_>) -> Result<Value, ParseFault>
     ensures { Gives (spec.judged t.now at item ahead.now) result ahead.now }
 {
-    if !same_type(&item.ty, t) {
+    if !item.ty.is(t) {
         return Err(ParseFault::Expected(Wanted::AValue, at));
     }
     Ok(item.value)

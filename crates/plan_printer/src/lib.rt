@@ -6,9 +6,7 @@ mod programs;
 mod types;
 mod values;
 
+pub use pieces::put;
 pub use programs::print_program;
 pub use types::print_type;
-pub use values::print_value;
-
-#[cfg(test)]
-mod tests;
+pub use values::{print_value, put_values};

@@ -8,8 +8,8 @@ ghost use Rattle.plan_printer.specs.Printed.{bool_text};
 use plan_base::{Bytes, NoMemory};
 use std::alloc::Global;
 
-/// Adds bytes at the end.
-pub(crate) fn put(out: &mut Bytes, more: &[u8]) -> Result<(), NoMemory>
+/// Adds bytes at the end, or none where memory is refused.
+pub fn put(out: &mut Bytes, more: &[u8]) -> Result<(), NoMemory>
     ensures { OnOk result (out.new ≡ out.old ++ more.now) }
 {
     out.add_all(more)?;

@@ -52,9 +52,9 @@ fn put_value(alloc: Global, v: &Value, out: &mut Bytes) -> Result<(), NoMemory>
     }
 }
 
-/// Values with commas between them.
+/// Adds values with commas between them. Bytes may stand behind `out` where memory is refused.
 #[cycle(put_value)]
-fn put_values(alloc: Global, values: &[Value], out: &mut Bytes) -> Result<(), NoMemory>
+pub fn put_values(alloc: Global, values: &[Value], out: &mut Bytes) -> Result<(), NoMemory>
     ensures { OnOk result (out.new ≡ out.old ++ commas value_text values.now) }
 {
     let mut separator: &[u8] = b"";

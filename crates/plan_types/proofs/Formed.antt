@@ -8,6 +8,8 @@ use Rattle.std.proofs.lemmas.List.{length-map, take-map}
 use Rattle.std.proofs.lemmas.List.Sums.{sum-map}
 use Rattle.std.proofs.lemmas.List.Folds.{list_all-append, list_all-map, find_at}
 use Rattle.std.proofs.lemmas.Bool.{leb-true, le-leb, eqb-true}
+use Rattle.small_laws.proofs.Bools.{and_left, and_right, and_both}
+use Rattle.small_laws.proofs.Lists.{largest_from}
 use Rattle.plan_base.specs.declared.name.Name.{Name}
 use Rattle.plan_base.specs.declared.prim.Primitive.{Primitive}
 use Rattle.plan_base.specs.declared.prim.Primitive.TheVariants.{Hd, Tl, Length, IntToString, HostToString, StringToBlob, BlobLength, BlobPart}
@@ -30,7 +32,6 @@ use Rattle.plan_base.specs.TypingNames.{service_of, place_of, binds, binding, pa
 use Rattle.plan_base.specs.TypingOrder.{items_of_layer, items_of, parts_of_layer, parts_of, want_at, fun_of, earlier}
 use Rattle.plan_base.specs.TypingFills.{Suits, Becomes, PartsBecome, ClausesBecome, FunFills, Fills}
 use Rattle.plan_base.specs.TypingFills.{Becomes as B, PartsBecome as P, ClausesBecome as C}
-use Rattle.typing_laws.proofs.SameTypes.{and_left, and_right, and_both}
 use Rattle.typing_laws.proofs.Layers.{and_then_some}
 
 -- ---- types
@@ -97,10 +98,6 @@ good_item t u o g =
     let e : type_depth t ≡ 1 + type_depth u = type_depth_out t ∙ ap (type_depth_level type_depth) o in
     let d = depth_of t g in
     good u (sym (formed_type_out t ∙ ap (formed_type_level formed_type) o) ∙ formed_of t g) (omega arith)
-
-largest_from : {X : Type 0} (f : X → ℕ) (m : ℕ) (xs : List X) → fold (λ a y. max a (f y)) m xs ≡ max m (fold (λ a y. max a (f y)) 0 xs)
-largest_from f m [] = omega arith
-largest_from f m (x ∷ xs) = let a = largest_from f (max m (f x)) xs in let b = largest_from f (max 0 (f x)) xs in omega arith
 
 all_good : (ts : List Ty) → list_all formed_type ts ≡ true → largest_by type_depth ts ≤ 8 → AllGood ts
 all_good [] f d = refl

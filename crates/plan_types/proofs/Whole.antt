@@ -2,6 +2,7 @@
 use Rattle.std.proofs.Common.{◌≡◌, ℕ, zero, suc, ◌∙◌, sym, ap, refl, Bool, true, ◌&&◌, List, [], ◌∷◌, Option, Some, None}
 use Rattle.std.specs.Prelude.{slice_get}
 use Rattle.std.specs.List.{list_all}
+use Rattle.small_laws.proofs.Bools.{and_both}
 use Rattle.plan_base.specs.declared.tree.Ty.{Ty}
 use Rattle.plan_base.specs.declared.tree.Expr.{Expr, Expr-F, out-Expr}
 use Rattle.plan_base.specs.declared.tree.Clause.{Clause}
@@ -12,7 +13,6 @@ use Rattle.plan_base.specs.WellFormed.{typed_expr_level, has_types, program_has_
 use Rattle.plan_base.proofs.FormLaws.{has_types_out}
 use Rattle.plan_base.specs.Typing.{Ctx, literal_type, HasTy, HaveTys, ClausesHaveTy, Typed}
 use Rattle.plan_base.specs.Typing.{HasTy as H, HaveTys as P, ClausesHaveTy as C}
-use Rattle.typing_laws.proofs.SameTypes.{and_both}
 
 abbrev Whole : ExprLayer → Type 0
 Whole l = typed_expr_level has_types (λ c. has_types c.body) l ≡ true

@@ -8,7 +8,6 @@ ghost use Rattle.plan_types.specs.Checks.{Meets, Nests, below};
 
 use crate::checker::Checker;
 use crate::names::{earlier, fun_of};
-use crate::same::same_type;
 use crate::settle::{items_of, list_of, settled};
 use crate::state::{Scope, State};
 use plan_base::{
@@ -298,7 +297,7 @@ impl<
         let start = self.wanting_boxed(scope, state, &first, a)?;
         let list = list_of(self.alloc, second)?;
         let items = self.wanting_boxed(scope, state, &list, l)?;
-        if !same_type(&result, &first) {
+        if !result.is(&first) {
             return Err(TypeFault::WrongShape(Place::Node(at)));
         }
         let whole = Expr::Foldl(f.copy(self.alloc)?, start, items);
@@ -325,7 +324,7 @@ impl<
         let start = self.wanting_boxed(scope, state, &second, a)?;
         let list = list_of(self.alloc, first)?;
         let items = self.wanting_boxed(scope, state, &list, l)?;
-        if !same_type(&result, &second) {
+        if !result.is(&second) {
             return Err(TypeFault::WrongShape(Place::Node(at)));
         }
         let whole = Expr::Foldr(f.copy(self.alloc)?, start, items);

@@ -9,15 +9,11 @@ mod form;
 mod names;
 mod operation;
 mod program;
-mod same;
 mod settle;
 mod state;
-#[cfg(test)]
-mod tests;
 mod typed;
 
 pub use names::fun_of;
 pub use plan_base::TypeFault;
-pub use same::same_type;
 pub use typed::{Checked, annotate, check, refused};
 pub use typing_laws::{checking_is_typing, full_programs_stay, types_are_unique};

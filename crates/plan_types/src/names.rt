@@ -1,7 +1,6 @@
 //! How names are found: exceptions, functions and bindings.
 
 ghost use Rattle.std.specs.Prelude.{◌≡◌, not};
-ghost use Rattle.std.specs.Str.{bytes_eq};
 ghost use Rattle.std.specs.List.{list_any};
 ghost use Rattle.std.specs.Option.{option_copied};
 ghost use Rattle.plan_base.specs.TypingNames as spec;
@@ -9,18 +8,11 @@ ghost use Rattle.plan_base.specs.TypingOrder as order;
 
 use plan_base::{Clause, Fun, Name, Param, Program, Ty, place_of};
 
-/// Whether two names are the same.
-pub fn same_name(a: &Name, b: &Name) -> bool
-    ensures { result ≡ bytes_eq a.now b.now }
-{
-    a.as_slice() == b.as_slice()
-}
-
 /// Whether a name stands among others.
 pub fn has_name(names: &[Name], name: &Name) -> bool
     ensures { result ≡ spec.has_name names.now name.now }
 {
-    names.iter().any(|n| same_name(n, name))
+    names.iter().any(|n| n.is(name))
 }
 
 /// Whether an exception of that name is built in.
@@ -89,7 +81,7 @@ pub fn binding<'a>(name: &Name, ctx: &'a [Param]) -> Option<&'a Ty>
     let mut left = ctx.len();
     while left > 0 {
         left -= 1;
-        if same_name(&ctx[left].name, name) {
+        if ctx[left].name.is(name) {
             return Some(&ctx[left].ty);
         }
     }

@@ -6,7 +6,6 @@ ghost use Rattle.plan_base.specs.TypingOrder as spec;
 ghost use Rattle.plan_base.specs.TypingNames as names;
 ghost use Rattle.plan_types.specs.Checks.{Meets};
 
-use crate::same::same_type;
 use plan_base::{Expr, NoMemory, Place, Primitive, Ty, TypeFault, Tys};
 use plan_items::Boxed;
 use std::alloc::Global;
@@ -26,7 +25,7 @@ pub fn settled(
     match want {
         None => Ok((e, ty)),
         Some(wanted) => {
-            if same_type(wanted, &ty) {
+            if wanted.is(&ty) {
                 Ok((e, ty))
             } else {
                 Err(TypeFault::Mismatch(Place::Node(at), wanted.copy(alloc)?, ty))

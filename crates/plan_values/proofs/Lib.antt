@@ -2,3 +2,4 @@ pub mod Arguments
 pub mod Blobs
 pub mod ListLaws
 pub mod NumberLaws
+pub mod Fit

@@ -1,7 +1,9 @@
 -- How an answer follows the rules of operators, parts and primitives.
 use Rattle.std.specs.Prelude.{◌≡◌, Result, Ok, Err}
 use Rattle.plan_base.specs.declared.tree.Exn.{Exn}
+use Rattle.plan_base.specs.declared.tree.Ty.{Ty}
 use Rattle.plan_base.specs.declared.tree.Value.{Value}
+use Rattle.plan_base.specs.Typing.{HasType}
 use Rattle.value_rules.specs.Rules.{Given, gives, raises, unfit}
 use Rattle.plan_values.specs.declared.fault.PrimFault.{PrimFault}
 use Rattle.plan_values.specs.declared.fault.PrimFault.TheVariants as fault
@@ -18,3 +20,10 @@ abbrev pub RaisesOnly : Exn → PrimFault → Type 0
 RaisesOnly x (fault.Raises y) = y ≡ x
 RaisesOnly x fault.Unfit = ⊥
 RaisesOnly x fault.NoMemory = Unit {0}
+
+-- a value of the type, an exception, or want of memory
+abbrev pub IsFit : Ty → Result Value PrimFault → Type 0
+IsFit t (Ok v) = HasType v t
+IsFit t (Err (fault.Raises x)) = Unit {0}
+IsFit t (Err fault.Unfit) = ⊥
+IsFit t (Err fault.NoMemory) = Unit {0}

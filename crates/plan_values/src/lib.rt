@@ -12,8 +12,6 @@ mod order;
 mod parts;
 mod primitives;
 mod raise;
-#[cfg(test)]
-mod tests;
 
 pub use fault::PrimFault;
 pub use operators::binary;

@@ -3,7 +3,10 @@ ghost use Rattle.std.specs.Option as option;
 ghost use Rattle.plan_base.specs.declared.tree.Value.{out-Value};
 ghost use Rattle.value_rules.specs.Rules as rules;
 ghost use Rattle.value_rules.specs.Same.{same_value};
-ghost use Rattle.plan_values.specs.Answers.{Answers};
+ghost use Rattle.plan_base.specs.declared.tree.Ty.{Ty as AType};
+ghost use Rattle.plan_base.specs.Typing.{HasType};
+ghost use Rattle.value_rules.specs.Typed.{OperatorTakes};
+ghost use Rattle.plan_values.specs.Answers.{Answers, IsFit};
 
 use crate::PrimFault;
 use crate::lists::{joined, put_first};
@@ -12,9 +15,18 @@ use crate::order::before;
 use plan_base::{Op, Value};
 use std::alloc::Global;
 
-/// The value or the exception of `a op b`, or `Unfit` where the operator doesn't take such operands.
-#[tactic(auto, unfolding(value_rules::specs::Rules::binary))]
+/// The value or the exception of `a op b`, or `Unfit` where the operator doesn't take such operands: never where they have
+/// types that it takes.
+#[tactic(auto, using(crate::proofs::Fit::binary_fits))]
 pub fn binary(alloc: Global, op: Op, a: &Value, b: &Value) -> Result<Value, PrimFault>
+    ensures answers { Answers (rules.binary op a.now b.now) result }
+    ensures fits { (t u r : AType) → OperatorTakes op t u r → HasType a.now t → HasType b.now u → IsFit r result }
+{
+    operated(alloc, op, a, b)
+}
+
+#[tactic(auto, unfolding(value_rules::specs::Rules::binary))]
+fn operated(alloc: Global, op: Op, a: &Value, b: &Value) -> Result<Value, PrimFault>
     ensures { Answers (rules.binary op a.now b.now) result }
 {
     match op {

@@ -1,17 +1,29 @@
-ghost use Rattle.std.specs.Prelude.{◌≡◌, ◌-◌, slice_get};
+ghost use Rattle.std.specs.Prelude.{◌≡◌, ◌-◌, List, Some, slice_get};
 ghost use Rattle.std.specs.Option.{option_copied};
 ghost use Rattle.plan_base.specs.declared.tree.Value.{out-Value};
 ghost use Rattle.plan_base.specs.declared.tree.Value.TheOpen.{Value-F as layer};
 ghost use Rattle.value_rules.specs.Rules as rules;
-ghost use Rattle.plan_values.specs.Answers.{Answers};
+ghost use Rattle.plan_base.specs.declared.tree.Ty.{Ty as AType};
+ghost use Rattle.plan_base.specs.declared.tree.Ty as ty;
+ghost use Rattle.plan_base.specs.Typing.{HasType};
+ghost use Rattle.plan_base.specs.TypingNames.{part_of};
+ghost use Rattle.plan_values.specs.Answers.{Answers, IsFit};
 
 use crate::PrimFault;
 use plan_base::{Value, Values};
 use std::alloc::Global;
 
-/// A copy of the part of a tuple with number `i`, from 1, or `Unfit` where `v` has no such part.
-#[tactic(auto, unfolding(value_rules::specs::Rules::part), using(plan_base::specs::Trees::trees))]
+/// A copy of the part of a tuple with number `i`, from 1, or `Unfit` where `v` has no such part: never where its type has one.
+#[tactic(auto, using(crate::proofs::Fit::part_fits))]
 pub fn part(alloc: Global, i: u8, v: &Value) -> Result<Value, PrimFault>
+    ensures answers { Answers (rules.part i v.now) result }
+    ensures fits { (ts : List AType) (t : AType) → HasType v.now (ty.Tuple ts) → part_of i ts ≡ Some t → IsFit t result }
+{
+    part_in(alloc, i, v)
+}
+
+#[tactic(auto, unfolding(value_rules::specs::Rules::part), using(plan_base::specs::Trees::trees))]
+fn part_in(alloc: Global, i: u8, v: &Value) -> Result<Value, PrimFault>
     ensures { Answers (rules.part i v.now) result }
 {
     match v {

@@ -1,18 +1,29 @@
-ghost use Rattle.std.specs.Prelude.{◌≡◌, IfOk, pos};
+ghost use Rattle.std.specs.Prelude.{◌≡◌, IfOk, List, pos};
 ghost use Rattle.plan_base.specs.declared.prim.Primitive.TheVariants as prim;
 ghost use Rattle.plan_base.specs.declared.tree.Value.{out-Value};
 ghost use Rattle.plan_base.specs.declared.tree.Value.TheVariants as value;
 ghost use Rattle.value_rules.specs.Rules as rules;
-ghost use Rattle.plan_values.specs.Answers.{Answers};
+ghost use Rattle.plan_base.specs.declared.tree.Ty.{Ty as AType};
+ghost use Rattle.plan_base.specs.Typing.{HaveTypes};
+ghost use Rattle.value_rules.specs.Typed.{PrimitiveTakes};
+ghost use Rattle.plan_values.specs.Answers.{Answers, IsFit};
 
 use crate::PrimFault;
 use crate::lists::{blob_part, first_item, later_items};
 use plan_base::{Bytes, Host, NoMemory, Primitive, Text, Value, Values};
 use std::alloc::Global;
 
-/// The value or the exception of the primitive, or `Unfit` where it doesn't take such arguments.
-#[tactic(auto, unfolding(value_rules::specs::Rules::primitive), using(crate::proofs::Arguments::arguments))]
+/// The value or the exception of the primitive, or `Unfit` where it doesn't take such arguments: never where they have types
+/// that it takes.
 pub fn primitive(alloc: Global, p: Primitive, args: &Values) -> Result<Value, PrimFault>
+    ensures answers { Answers (rules.primitive p args.now) result }
+    ensures fits { (ts : List AType) (r : AType) → PrimitiveTakes p ts r → HaveTypes args.now ts → IsFit r result }
+{
+    applied(alloc, p, args)
+}
+
+#[tactic(auto, unfolding(value_rules::specs::Rules::primitive), using(crate::proofs::Arguments::arguments))]
+fn applied(alloc: Global, p: Primitive, args: &Values) -> Result<Value, PrimFault>
     ensures { Answers (rules.primitive p args.now) result }
 {
     match args.as_slice() {

@@ -17,8 +17,8 @@ ghost use Rattle.world_laws.specs.World.{opening};
 ghost use Rattle.world_laws.specs.Texts.{run_text};
 ghost use Rattle.planet_cli.specs.declared.status.Refusal.{Refusal};
 
+use crate::by_words::run;
 use crate::note::settle;
-use crate::run::run;
 use crate::status::{Cause, Status};
 use node_io::{Clock, Files, Link, Sink, Spawner};
 use plan_base::Texts;

@@ -1,5 +1,6 @@
 -- The head of a declaration of the grammar is read.
 use Rattle.std.proofs.Common.{◌≡◌, ◌≤◌, ℕ, true, false, List, [], ◌∷◌, ◌++◌, length, Ok, refl}
+use Rattle.grammar_laws.proofs.ExprsAre.{comma_shut}
 use Rattle.plan_base.specs.declared.limit.Limit.TheVariants as limits
 use Rattle.plan_base.specs.declared.name.Name.{Name}
 use Rattle.plan_base.specs.declared.tree.Ty.{Ty}
@@ -8,14 +9,14 @@ use Rattle.plan_base.specs.declared.tree.Param.{Param}
 use Rattle.plan_lexer.specs.declared.token.Symbol.TheVariants as symbols
 use Rattle.plan_grammar.specs.declared.fault.Wanted.TheVariants as wanted
 use Rattle.plan_grammar.specs.Ahead.{Front, behind, is_symbol, need_symbol, name_at}
-use Rattle.plan_grammar.specs.Begins.{begins_type}
+use Rattle.plan_grammar.specs.Begins.{begins_type, begins_name}
 use Rattle.plan_grammar.specs.Types.{more}
 use Rattle.grammar_laws.specs.Grammar.{Sym, Called, TypeAt, behind2, behind3}
 use Rattle.grammar_laws.specs.Follow.{EndsType}
 use Rattle.grammar_laws.proofs.Follows.{symbol_here}
 use Rattle.grammar_laws.proofs.TypesAre.{symbol_ends_type, more_ends, more_adds, type_is}
 use Rattle.plan_parser.specs.declared.signature.Head.{Head}
-use Rattle.plan_parser.specs.Signatures.{outer_type, inner_type, arguments_from, arguments_behind, service_at, begins_param, param_at, params_from, params_behind, head_at}
+use Rattle.plan_parser.specs.Signatures.{outer_type, inner_type, arguments_from, arguments_behind, service_at, param_at, params_from, params_behind, head_at}
 use Rattle.program_grammar.specs.Grammar as gram
 use Rattle.program_grammar.specs.Grammar.{TypesAt, ArgumentsAt, ServiceAt, ParamAt, MoreParamsAt, ParamsAt, HeadAt}
 use Rattle.program_grammar.proofs.Starts.{type_starts, type_no_close, param_starts, word_no_close}
@@ -28,17 +29,13 @@ inner_is : {f g : Front} {t : Ty} → TypeAt 159 f t g → EndsType g → inner_
 unfolding inner_type
 inner_is d ends = type_is d ends
 
-no_comma : (f : Front) → Sym symbols.ParenClose f → is_symbol symbols.Comma f ≡ false
-unfolding is_symbol
-no_comma f e = rw e refl
-
 types_follow : {f g : Front} {ts : List Ty} → TypesAt f ts g → EndsType g → EndsType f
 types_follow gram.no_type h = h
 types_follow (gram.one_type e d rest) h = symbol_ends_type _ e
 
 types_are : {f g : Front} {ts : List Ty} → TypesAt f ts g → Sym symbols.ParenClose g → (left : ℕ) (done : List Ty) → length ts ≤ left
     → more inner_type begins_type symbols.Comma limits.Parameters wanted.AType left done f ≡ Ok (done ++ ts, g)
-types_are {f} gram.no_type shut left done few = more_ends inner_type begins_type symbols.Comma limits.Parameters wanted.AType left done f (no_comma _ shut)
+types_are {f} gram.no_type shut left done few = more_ends inner_type begins_type symbols.Comma limits.Parameters wanted.AType left done f (comma_shut _ shut)
 types_are {f} {g} (gram.one_type {t = t} {ts = ts} comma one rest) shut left done few =
     more_adds inner_type begins_type symbols.Comma limits.Parameters wanted.AType left done f _ g t ts (symbol_here _ comma) (inner_is one (types_follow rest (symbol_ends_type _ shut))) few
     (λ k enough. types_are rest shut k (done ++ t ∷ []) enough)
@@ -89,18 +86,18 @@ params_follow gram.no_param h = h
 params_follow (gram.one_param e d rest) h = symbol_ends_type _ e
 
 more_params_are : {f g : Front} {ps : List Param} → MoreParamsAt f ps g → Sym symbols.ParenClose g → (left : ℕ) (done : List Param) → length ps ≤ left
-    → more param_at begins_param symbols.Comma limits.Parameters wanted.AName left done f ≡ Ok (done ++ ps, g)
-more_params_are {f} gram.no_param shut left done few = more_ends param_at begins_param symbols.Comma limits.Parameters wanted.AName left done f (no_comma _ shut)
+    → more param_at begins_name symbols.Comma limits.Parameters wanted.AName left done f ≡ Ok (done ++ ps, g)
+more_params_are {f} gram.no_param shut left done few = more_ends param_at begins_name symbols.Comma limits.Parameters wanted.AName left done f (comma_shut _ shut)
 more_params_are {f} {g} (gram.one_param {p = p} {ps = ps} comma one rest) shut left done few =
-    more_adds param_at begins_param symbols.Comma limits.Parameters wanted.AName left done f _ g p ps (symbol_here _ comma) (param_is one (params_follow rest (symbol_ends_type _ shut))) few
+    more_adds param_at begins_name symbols.Comma limits.Parameters wanted.AName left done f _ g p ps (symbol_here _ comma) (param_is one (params_follow rest (symbol_ends_type _ shut))) few
     (λ k enough. more_params_are rest shut k (done ++ p ∷ []) enough)
 
-some_params : (f g h : Front) (p : Param) (ps : List Param) → param_at f ≡ Ok (p, g) → more param_at begins_param symbols.Comma limits.Parameters wanted.AName 7 (p ∷ []) g ≡ Ok (p ∷ ps, h)
+some_params : (f g h : Front) (p : Param) (ps : List Param) → param_at f ≡ Ok (p, g) → more param_at begins_name symbols.Comma limits.Parameters wanted.AName 7 (p ∷ []) g ≡ Ok (p ∷ ps, h)
     → is_symbol symbols.ParenClose h ≡ true → params_from f ≡ Ok (p ∷ ps, behind h)
 unfolding params_from need_symbol
 some_params f g h p ps one many shut = rw (one, many, shut) refl
 
-params_by : (f g : Front) (ps : List Param) → is_symbol symbols.ParenClose f ≡ false → begins_param f ≡ true → params_from f ≡ Ok (ps, g) → params_behind f ≡ Ok (ps, g)
+params_by : (f g : Front) (ps : List Param) → is_symbol symbols.ParenClose f ≡ false → begins_name f ≡ true → params_from f ≡ Ok (ps, g) → params_behind f ≡ Ok (ps, g)
 unfolding params_behind
 params_by f g ps a b c = rw (a, b, c) refl
 

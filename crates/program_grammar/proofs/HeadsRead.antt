@@ -5,13 +5,13 @@ use Rattle.plan_lexer.specs.declared.token.Key.TheVariants as keys
 use Rattle.plan_lexer.specs.declared.token.Symbol.TheVariants as symbols
 use Rattle.plan_grammar.specs.declared.fault.Wanted.TheVariants as wanted
 use Rattle.plan_grammar.specs.Ahead.{Front, behind}
-use Rattle.plan_grammar.specs.Begins.{begins_type}
+use Rattle.plan_grammar.specs.Begins.{begins_type, begins_name}
 use Rattle.plan_grammar.specs.Types.{more}
 use Rattle.grammar_laws.specs.Grammar.{Sym, Word, TypeAt, behind2, behind3}
 use Rattle.grammar_laws.proofs.ReadSteps.{Reads, found, refused, after, either, if_symbol, symbol_then, name_then}
 use Rattle.grammar_laws.proofs.ReadLists.{Added, more_reads}
 use Rattle.grammar_laws.proofs.TypesRead.{types_read}
-use Rattle.plan_parser.specs.Signatures.{outer_type, inner_type, arguments_from, arguments_behind, service_at, begins_param, param_at, params_from, params_behind, head_at}
+use Rattle.plan_parser.specs.Signatures.{outer_type, inner_type, arguments_from, arguments_behind, service_at, param_at, params_from, params_behind, head_at}
 use Rattle.program_grammar.specs.Grammar as gram
 use Rattle.program_grammar.specs.Grammar.{TypesAt, ArgumentsAt, ServiceAt, ParamAt, MoreParamsAt, ParamsAt, HeadAt}
 
@@ -63,8 +63,8 @@ params_from_reads : (f : Front) → Sym symbols.ParenOpen f → Reads (ParamsAt 
 unfolding params_from
 params_from_reads f here =
     after (ParamAt (behind f)) (ParamsAt f) (param_at (behind f)) _ (param_reads (behind f))
-    (λ p g one. after (Added MoreParamsAt 7 (p ∷ []) g) (ParamsAt f) (more param_at begins_param symbols.Comma limits.Parameters wanted.AName 7 (p ∷ []) g) _
-    (more_reads param_at begins_param symbols.Comma limits.Parameters wanted.AName (λ h u i. ParamAt h u i) MoreParamsAt (λ h. gram.no_param) (λ h i j u us a b c. gram.one_param a b c) param_reads 7 (p ∷ []) g)
+    (λ p g one. after (Added MoreParamsAt 7 (p ∷ []) g) (ParamsAt f) (more param_at begins_name symbols.Comma limits.Parameters wanted.AName 7 (p ∷ []) g) _
+    (more_reads param_at begins_name symbols.Comma limits.Parameters wanted.AName (λ h u i. ParamAt h u i) MoreParamsAt (λ h. gram.no_param) (λ h i j u us a b c. gram.one_param a b c) param_reads 7 (p ∷ []) g)
     (λ all h a. symbol_then (ParamsAt f) symbols.ParenClose h _
     (λ shut. found (ParamsAt f) all (behind h) (subst (λ us. ParamsAt f us (behind h)) (sym a.is) (gram.params here one a.many a.few shut)))))
 
@@ -72,7 +72,7 @@ params_reads : (f : Front) → Sym symbols.ParenOpen f → Reads (ParamsAt f) (p
 unfolding params_behind
 params_reads f here =
     if_symbol (ParamsAt f) symbols.ParenClose (behind f) _ _ (λ shut. found (ParamsAt f) [] (behind2 f) (gram.no_params here shut))
-    (either (ParamsAt f) (begins_param (behind f)) _ _ (λ _. params_from_reads f here) (λ _. refused (ParamsAt f) _))
+    (either (ParamsAt f) (begins_name (behind f)) _ _ (λ _. params_from_reads f here) (λ _. refused (ParamsAt f) _))
 
 pub head_reads : (f : Front) → Reads (HeadAt f) (head_at f)
 unfolding head_at

@@ -8,14 +8,14 @@ use Rattle.plan_base.specs.Sizes.{type_depth}
 use Rattle.plan_lexer.specs.declared.token.Symbol.TheVariants as symbols
 use Rattle.plan_grammar.specs.declared.fault.Wanted.TheVariants as wanted
 use Rattle.plan_grammar.specs.Ahead.{Front, behind, is_symbol}
-use Rattle.plan_grammar.specs.Begins.{begins_type}
+use Rattle.plan_grammar.specs.Begins.{begins_type, begins_name}
 use Rattle.plan_grammar.specs.Types.{more}
 use Rattle.grammar_laws.specs.Grammar.{behind2, behind3}
-use Rattle.grammar_laws.specs.Agenda.{Item, Counted, sym, a_name, a_type, types, more_types, params, more_params, declarations, hand, a_param, begins_name, step}
+use Rattle.grammar_laws.specs.Agenda.{Item, Counted, sym, a_name, a_type, types, more_types, params, more_params, declarations, hand, a_param, step}
 use Rattle.grammar_laws.proofs.Works.{Works, goes_on, stops, begin, after, given, both, symbol_works, name_works}
 use Rattle.grammar_laws.proofs.TypesWork.{types_work}
 use Rattle.plan_parser.specs.declared.signature.Head.{Head}
-use Rattle.plan_parser.specs.Signatures.{outer_type, inner_type, arguments_from, arguments_behind, service_at, begins_param, param_at, params_from, params_behind, head_at}
+use Rattle.plan_parser.specs.Signatures.{outer_type, inner_type, arguments_from, arguments_behind, service_at, param_at, params_from, params_behind, head_at}
 
 outer_works : (rest : List Item) (f : Front) → Works (a_type 160 ∷ rest) f (λ t. hand (type_depth t) rest) (outer_type f)
 unfolding outer_type
@@ -79,8 +79,8 @@ param_works left rest f =
     (λ t g. given next (record { name = name; ty = t }) g)))
 
 more_params_work : (left : ℕ) (done : List Param) (rest : List Item) (f : Front)
-    → Works (more_params left ∷ rest) f (λ _. rest) (more param_at begins_param symbols.Comma limits.Parameters wanted.AName left done f)
-unfolding more step begins_param begins_name
+    → Works (more_params left ∷ rest) f (λ _. rest) (more param_at begins_name symbols.Comma limits.Parameters wanted.AName left done f)
+unfolding more step begins_name
 more_params_work zero done rest f =
     let next : List Param → List Item = λ _. rest in
     begin (more_params 0) rest f next _ (both (is_symbol symbols.Comma f) _ _ next _ _ (stops _ next) (goes_on (given next done f)))
@@ -98,15 +98,15 @@ some_params_work rest f =
     after (a_param (more_params 7 ∷ sym symbols.ParenClose ∷ rest)) f (λ _. more_params 7 ∷ sym symbols.ParenClose ∷ rest) next (param_at f) _
     (param_works 7 (sym symbols.ParenClose ∷ rest) f)
     (λ p g. after (more_params 7 ∷ sym symbols.ParenClose ∷ rest) g (λ _. sym symbols.ParenClose ∷ rest) next
-    (more param_at begins_param symbols.Comma limits.Parameters wanted.AName 7 (p ∷ []) g) _ (more_params_work 7 (p ∷ []) (sym symbols.ParenClose ∷ rest) g)
+    (more param_at begins_name symbols.Comma limits.Parameters wanted.AName 7 (p ∷ []) g) _ (more_params_work 7 (p ∷ []) (sym symbols.ParenClose ∷ rest) g)
     (λ ps h. symbol_works symbols.ParenClose rest h next _ (given next ps (behind h))))
 
 params_work : (rest : List Item) (f : Front) → Works (params ∷ rest) f (λ _. rest) (params_behind f)
-unfolding params_behind step begins_param begins_name
+unfolding params_behind step begins_name
 params_work rest f =
     let next : List Param → List Item = λ _. rest in
     begin params rest f next _ (both (is_symbol symbols.ParenClose f) _ _ next _ _ (goes_on (given next [] (behind f)))
-    (both (begins_param f) _ _ next _ _ (goes_on (some_params_work rest f)) (stops _ next)))
+    (both (begins_name f) _ _ next _ _ (goes_on (some_params_work rest f)) (stops _ next)))
 
 pub head_works : (rest : List Item) (f : Front)
     → Works (a_name ∷ sym symbols.ParenOpen ∷ params ∷ sym symbols.Colon ∷ a_type 160 ∷ sym symbols.Equal ∷ rest) f (λ _. rest) (head_at f)

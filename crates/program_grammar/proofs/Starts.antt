@@ -7,11 +7,10 @@ use Rattle.plan_lexer.specs.declared.token.TokenKind.TheVariants as kinds
 use Rattle.plan_lexer.specs.declared.token.Key.TheVariants as keys
 use Rattle.plan_lexer.specs.declared.token.Symbol.TheVariants as symbols
 use Rattle.plan_grammar.specs.Ahead.{Front, kind_in, next_kind, is_symbol_kind, is_symbol, is_key}
-use Rattle.plan_grammar.specs.Begins.{kind_type, begins_type}
+use Rattle.plan_grammar.specs.Begins.{kind_type, begins_type, begins_name}
 use Rattle.grammar_laws.specs.Grammar as types
 use Rattle.grammar_laws.specs.Grammar.{Sym, Word, Called, TypeAt, ListsAt, BaseAt}
 use Rattle.grammar_laws.specs.Follow.{level, EndsType, EndsExpr}
-use Rattle.plan_parser.specs.Signatures.{begins_param}
 use Rattle.program_grammar.specs.Grammar as gram
 use Rattle.program_grammar.specs.Grammar.{ParamAt}
 
@@ -50,15 +49,15 @@ type_starts d = (begin d).begins
 pub type_no_close : {r : ℕ} {f g : Front} {t : Ty} → TypeAt r f t g → is_symbol symbols.ParenClose f ≡ false
 type_no_close d = (begin d).no_close
 
-word_begins : (f : Front) (name : List ℕ) → Called name f → begins_param f ≡ true
-unfolding begins_param
+word_begins : (f : Front) (name : List ℕ) → Called name f → begins_name f ≡ true
+unfolding begins_name
 word_begins f name e = rw e refl
 
 word_shuts_not : (f : Front) (name : List ℕ) → Called name f → is_symbol symbols.ParenClose f ≡ false
 unfolding is_symbol
 word_shuts_not f name e = rw e refl
 
-pub param_starts : {f g : Front} {p : Param} → ParamAt f p g → begins_param f ≡ true
+pub param_starts : {f g : Front} {p : Param} → ParamAt f p g → begins_name f ≡ true
 param_starts {f} (gram.param {name = name} called colon one) = word_begins f name called
 
 pub word_no_close : {f g : Front} {p : Param} → ParamAt f p g → is_symbol symbols.ParenClose f ≡ false

@@ -9,15 +9,15 @@ use Rattle.plan_lexer.specs.declared.token.Symbol.TheVariants as symbols
 use Rattle.plan_lexer.specs.declared.token.TokenKind.TheVariants as kind
 use Rattle.plan_grammar.specs.declared.fault.Wanted.TheVariants as wanted
 use Rattle.plan_grammar.specs.Ahead.{Front, behind, is_word}
-use Rattle.plan_grammar.specs.Begins.{begins_type}
+use Rattle.plan_grammar.specs.Begins.{begins_type, begins_name}
 use Rattle.plan_parser.specs.declared.signature.Head.{Head}
-use Rattle.plan_parser.specs.Signatures.{outer_type, inner_type, arguments_from, arguments_behind, service_at, begins_param, param_at, params_from, params_behind, head_at}
+use Rattle.plan_parser.specs.Signatures.{outer_type, inner_type, arguments_from, arguments_behind, service_at, param_at, params_from, params_behind, head_at}
 use Rattle.plan_printer.specs.Pieces.{listed}
 use Rattle.text_laws.specs.PrintedTokens.{Kinds, mark, type_kinds, param_kinds}
 use Rattle.text_laws.specs.Proper.{IsReadableType, IsProperParam, IsProperSvc, IsProperFun, AllProper}
 use Rattle.round_trip.specs.Reads.{kinds_at, Took, FollowsType}
 use Rattle.round_trip.proofs.Steps.{took, then_took, next_is, behind_is, symbol_is, take_symbol, take_name, AllRead, AllGood, more_took}
-use Rattle.round_trip.proofs.TypesRead.{type_takes, type_starts}
+use Rattle.round_trip.proofs.TypesRead.{type_takes, type_starts, same_type}
 
 inner_took : (t : Ty) → IsReadableType t → (f : Front) (rest : Kinds) → kinds_at f ≡ type_kinds t ++ rest → FollowsType rest → Took (inner_type f) rest (λ u. u ≡ t)
 unfolding inner_type
@@ -40,18 +40,18 @@ param_took p h f rest k w =
 abbrev SameParam : Param → Param → Type 0
 SameParam p q = q ≡ p
 
-params_read : (ps : List Param) → AllProper IsProperParam ps → AllRead param_at begins_param symbols.Comma limits.Parameters wanted.AName param_kinds SameParam FollowsType ps
+params_read : (ps : List Param) → AllProper IsProperParam ps → AllRead param_at begins_name symbols.Comma limits.Parameters wanted.AName param_kinds SameParam FollowsType ps
 params_read [] h = tt
 params_read (p ∷ ps) h = (λ f rest k w. param_took p h.0 f rest k w, params_read ps h.1)
 
-same_params : (ps qs : List Param) → AllGood param_at begins_param symbols.Comma limits.Parameters wanted.AName param_kinds SameParam FollowsType ps qs → qs ≡ ps
+same_params : (ps qs : List Param) → AllGood param_at begins_name symbols.Comma limits.Parameters wanted.AName param_kinds SameParam FollowsType ps qs → qs ≡ ps
 same_params [] [] g = refl
 same_params (p ∷ ps) (q ∷ qs) g = (λ i. g.0 i ∷ same_params ps qs g.1 i)
 same_params [] (q ∷ qs) g = absurd g
 same_params (p ∷ ps) [] g = absurd g
 
-param_begins : (p : Param) (f : Front) (rest : Kinds) → kinds_at f ≡ param_kinds p ++ rest → begins_param f ≡ true
-unfolding begins_param
+param_begins : (p : Param) (f : Front) (rest : Kinds) → kinds_at f ≡ param_kinds p ++ rest → begins_name f ≡ true
+unfolding begins_name
 param_begins p f rest k = ap is_word (next_is f (param_kinds p ++ rest) k)
 
 param_tail : (ps : List Param) (rest : Kinds) → FollowsType (listed (mark symbols.Comma) (mark symbols.Comma) param_kinds ps ++ (kind.Symbol symbols.ParenClose ∷ rest))
@@ -67,20 +67,17 @@ params_took (p ∷ ps) h l f rest k =
     let ks : kinds_at f ≡ param_kinds p ++ tail = k ∙ append_assoc (param_kinds p) (listed (mark symbols.Comma) (mark symbols.Comma) param_kinds ps) (kind.Symbol symbols.ParenClose ∷ rest) in
     rw (symbol_is symbols.ParenClose f (param_kinds p ++ tail) ks) (rw (param_begins p f tail ks)
     (then_took _ (param_took p h.0 f tail ks (param_tail ps rest)) (λ q g1 k1 q1.
-    then_took _ (more_took param_at begins_param symbols.Comma limits.Parameters wanted.AName param_kinds SameParam FollowsType (kind.Symbol symbols.ParenClose ∷ rest) refl (λ s. refl) refl ps (params_read ps h.1) 7 (omega (arith, l)) (q ∷ []) g1 k1) (λ all g2 k2 q2.
+    then_took _ (more_took param_at begins_name symbols.Comma limits.Parameters wanted.AName param_kinds SameParam FollowsType (kind.Symbol symbols.ParenClose ∷ rest) refl (λ s. refl) refl ps (params_read ps h.1) 7 (omega (arith, l)) (q ∷ []) g1 k1) (λ all g2 k2 q2.
     then_took _ (take_symbol symbols.ParenClose g2 rest k2) (λ u g3 k3 q3.
     took all g3 k3 (q2.1 ∙ (λ i. q1 i ∷ same_params ps q2.0 q2.2 i)))))))
 
 -- ---- arguments of a service
 
-abbrev SameType : Ty → Ty → Type 0
-SameType t u = u ≡ t
-
-types_read : (ts : List Ty) → AllProper IsReadableType ts → AllRead inner_type begins_type symbols.Comma limits.Parameters wanted.AType type_kinds SameType FollowsType ts
+types_read : (ts : List Ty) → AllProper IsReadableType ts → AllRead inner_type begins_type symbols.Comma limits.Parameters wanted.AType type_kinds same_type FollowsType ts
 types_read [] h = tt
 types_read (t ∷ ts) h = (λ f rest k w. inner_took t h.0 f rest k w, types_read ts h.1)
 
-same_types : (ts us : List Ty) → AllGood inner_type begins_type symbols.Comma limits.Parameters wanted.AType type_kinds SameType FollowsType ts us → us ≡ ts
+same_types : (ts us : List Ty) → AllGood inner_type begins_type symbols.Comma limits.Parameters wanted.AType type_kinds same_type FollowsType ts us → us ≡ ts
 same_types [] [] g = refl
 same_types (t ∷ ts) (u ∷ us) g = (λ i. g.0 i ∷ same_types ts us g.1 i)
 same_types [] (u ∷ us) g = absurd g
@@ -100,7 +97,7 @@ types_took (t ∷ ts) h l f rest k =
     let s = type_starts t h.0.0 f tail ks in
     rw s.0 (rw s.1
     (then_took _ (inner_took t h.0 f tail ks (type_tail ts rest)) (λ u g1 k1 q1.
-    then_took _ (more_took inner_type begins_type symbols.Comma limits.Parameters wanted.AType type_kinds SameType FollowsType (kind.Symbol symbols.ParenClose ∷ rest) refl (λ s. refl) refl ts (types_read ts h.1) 7 (omega (arith, l)) (u ∷ []) g1 k1) (λ all g2 k2 q2.
+    then_took _ (more_took inner_type begins_type symbols.Comma limits.Parameters wanted.AType type_kinds same_type FollowsType (kind.Symbol symbols.ParenClose ∷ rest) refl (λ s. refl) refl ts (types_read ts h.1) 7 (omega (arith, l)) (u ∷ []) g1 k1) (λ all g2 k2 q2.
     then_took _ (take_symbol symbols.ParenClose g2 rest k2) (λ v g3 k3 q3.
     took all g3 k3 (q2.1 ∙ (λ i. q1 i ∷ same_types ts q2.0 q2.2 i)))))))
 

@@ -3,6 +3,8 @@ use Rattle.std.proofs.Common.{◌≡◌, ℕ, zero, suc, ◌+◌, ◌-◌, ◌<�
 use Rattle.std.specs.Prelude.{map, is_some, if◌then◌else◌}
 use Rattle.std.proofs.lemmas.Bool.Decides.{nat_tests}
 use Rattle.std.proofs.lemmas.List.{length-map}
+use Rattle.small_laws.proofs.Bools.{not_zero}
+use Rattle.small_laws.proofs.Lists.{regroup}
 use Rattle.plan_base.specs.declared.limit.Limit.{Limit}
 use Rattle.plan_base.specs.declared.limit.Limit.TheVariants as limits
 use Rattle.plan_base.specs.declared.tree.Ty.{Ty}
@@ -11,8 +13,8 @@ use Rattle.plan_base.specs.declared.tree.Value.{Value, Value-F, out-Value, roll-
 use Rattle.plan_base.specs.declared.tree.Value.TheVariants as v
 use Rattle.plan_base.specs.declared.tree.Chunk.{Chunk}
 use Rattle.plan_base.specs.Sizes.{type_depth}
-use Rattle.value_rules.specs.Same.{same_type}
-use Rattle.value_rules.proofs.Same.{same_type_decides}
+use Rattle.plan_base.specs.TypingOrder.{same_type}
+use Rattle.plan_base.proofs.SameTypes.{same_type_itself}
 use Rattle.plan_lexer.specs.declared.token.Key.TheVariants as keys
 use Rattle.plan_lexer.specs.declared.token.Symbol.TheVariants as symbols
 use Rattle.plan_lexer.specs.declared.token.Token.{Token}
@@ -122,13 +124,10 @@ nil_took outside room few w t e n p d f rest h =
 
 -- ---- lists
 
-is_same : (t : Ty) → same_type t t ≡ true
-is_same t = (same_type_decides t t).1 refl
-
 like_took : (outside room : ℕ) (t : Ty) (w : Value) → ValueRead outside room w t → (u : Ty) → u ≡ t → (f : Front) (rest : Kinds) → kinds_at f ≡ value_kinds w ++ rest → Took (like (value_to outside room) outside room u f) rest (λ x. x ≡ w)
 unfolding like judged
 like_took outside room t w r u e f rest h =
-    then_took _ (r.reads f rest h) (λ i g k q. rw (ap (λ z. same_type z u) q.type ∙ (ap (same_type t) e ∙ is_same t)) (took i.value g k q.value))
+    then_took _ (r.reads f rest h) (λ i g k q. rw (ap (λ z. same_type z u) q.type ∙ (ap (same_type t) e ∙ same_type_itself t)) (took i.value g k q.value))
 
 -- values that are read as values of one type
 abbrev AllOfType : ℕ → ℕ → List Value → Ty → Type 0
@@ -219,9 +218,6 @@ tuple_from_took outside room a t ys n rs i p g rest h =
       type = ap ty.Tuple (ap (map (λ j. j.ty)) q.1 ∙ (λ z. p.type z ∷ e.1 z));
     })))
 
-no_room : (n : ℕ) → 0 < n → (n == 0) ≡ false
-no_room n h = grind (arith, nat_tests)
-
 tuple_took : (outside room : ℕ) (a : Value) (t : Ty) (y : Value × Ty) (ys : Pairs) → 0 < room → length (y ∷ ys) ≤ 7 → ValueRead outside room a t → PartsRead outside room (y ∷ ys) → (f : Front) (rest : Kinds)
     → kinds_at f ≡ kind.Symbol symbols.ParenOpen ∷ (value_kinds a ++ (listed (mark symbols.Comma) (mark symbols.Comma) pair_kinds (y ∷ ys) ++ (kind.Symbol symbols.ParenClose ∷ rest)))
     → Took (value_to outside (suc room) f) rest (IsItem (v.Tuple (a ∷ map (λ y. y.0) (y ∷ ys))) (ty.Tuple (t ∷ map (λ y. y.1) (y ∷ ys))))
@@ -229,13 +225,10 @@ unfolding value_to value_at parens grouped tuple
 tuple_took outside room a t y ys n len r rs f rest h =
     let tail : Kinds = listed (mark symbols.Comma) (mark symbols.Comma) pair_kinds (y ∷ ys) ++ (kind.Symbol symbols.ParenClose ∷ rest) in
     let hs : kinds_at (behind f) ≡ value_kinds a ++ tail = behind_is f (kind.Symbol symbols.ParenOpen) _ h in
-    rw (symbol_is symbols.ParenOpen f _ h) (rw (isnt symbols.ParenClose (behind f) a tail hs r.starts r.starts.paren) (rw (begins_is (behind f) a tail hs r.starts) (rw (no_room room n)
+    rw (symbol_is symbols.ParenOpen f _ h) (rw (isnt symbols.ParenClose (behind f) a tail hs r.starts r.starts.paren) (rw (begins_is (behind f) a tail hs r.starts) (rw (not_zero room n)
     (then_took _ (r.reads (behind f) tail hs) (λ i g hg q. rw (symbol_is symbols.Comma g tail hg) (tuple_from_took outside room a t (y ∷ ys) len rs i q g rest hg))))))
 
 -- ---- every value
-
-regroup : (a b : Kinds) (c : TokenKind) (d : Kinds) → ((a ++ b) ++ (c ∷ [])) ++ d ≡ a ++ (b ++ (c ∷ d))
-regroup a b c d = append_assoc (a ++ b) (c ∷ []) d ∙ append_assoc a b (c ∷ d)
 
 bool_read : (outside room : ℕ) (w : Value) (b : Bool) → v.Bool b ≡ w → value_kinds w ≡ bool_kinds b → ValueRead outside (suc room) w ty.Bool
 bool_read outside room w true e ks = literal_read outside room w ty.Bool (kind.Key keys.True) (v.Bool true) e refl refl refl refl refl ks

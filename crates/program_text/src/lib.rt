@@ -5,8 +5,6 @@ mod fault;
 mod laws;
 mod reading;
 mod reason;
-#[cfg(test)]
-mod tests;
 
 pub use fault::TextFault;
 pub use laws::one_pass;

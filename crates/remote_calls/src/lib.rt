@@ -13,6 +13,3 @@ pub use fault::{NoBound, SendFault};
 pub use purse::Purse;
 pub use sends::{default_route, on_neighbor, on_remote, send};
 pub use way::{Way, neighbour_way, remote_way};
-
-#[cfg(test)]
-mod tests;

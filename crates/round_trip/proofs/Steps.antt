@@ -1,6 +1,7 @@
 -- Reading tokens whose kinds are known.
 use Rattle.std.proofs.Common.{◌≡◌, ℕ, zero, suc, ◌<◌, ◌≤◌, ◌==◌, Bool, true, false, List, [], ◌∷◌, ◌++◌, length, drop, Result, Ok, refl, sym, ap, ◌∙◌, subst, arith, append_assoc, append-nil}
 use Rattle.std.proofs.lemmas.Bool.Decides.{nat_tests}
+use Rattle.small_laws.proofs.Bools.{not_zero}
 use Rattle.plan_base.specs.declared.limit.Limit.{Limit}
 use Rattle.plan_base.specs.declared.name.Name.{Name}
 use Rattle.plan_lexer.specs.declared.token.Key.{Key}
@@ -78,13 +79,10 @@ pub take_name : (x : Name) (f : Front) (ks : Kinds) → kinds_at f ≡ kind.Word
 unfolding name_at
 take_name x f ks h = took_by (ap (name_kind f) (next_is f (kind.Word x ∷ ks) h)) (took x (behind f) (behind_is f (kind.Word x) ks h) refl)
 
-no_room : (n : ℕ) → 0 < n → (n == 0) ≡ false
-no_room n h = grind (arith, nat_tests)
-
 -- where there is room, a construct opens and no token is taken
 pub take_open : (room : ℕ) (f : Front) (ks : Kinds) → 0 < room → kinds_at f ≡ ks → Took (opens room f) ks (λ _. Unit {0})
 unfolding opens
-take_open room f ks n h = rw (no_room room n) (took tt f h tt)
+take_open room f ks n h = rw (not_zero room n) (took tt f h tt)
 
 -- ---- further items
 

@@ -3,6 +3,7 @@ use Rattle.std.proofs.Common.{◌≡◌, ℕ, zero, suc, ◌+◌, ◌<◌, ◌�
 use Rattle.std.specs.Prelude.{is_some, ◌||◌}
 use Rattle.std.proofs.lemmas.Bool.Decides.{nat_tests}
 use Rattle.std.specs.List.{fold}
+use Rattle.small_laws.proofs.Lists.{regroup}
 use Rattle.plan_base.specs.declared.limit.Limit.TheVariants as limits
 use Rattle.plan_base.specs.declared.tree.Ty.{Ty, Ty-F, out-Ty, roll-Ty, roll-out-Ty}
 use Rattle.plan_base.specs.declared.tree.Ty.TheVariants as made
@@ -173,9 +174,6 @@ all_same one begins [] [] g = refl
 all_same one begins (x ∷ xs) (y ∷ ys) g = let e = g.0 in let es = all_same one begins xs ys g.1 in cc
 all_same one begins [] (y ∷ ys) g = absurd g
 all_same one begins (x ∷ xs) [] g = absurd g
-
-regroup : (a b : Kinds) (c : TokenKind) (d : Kinds) → ((a ++ b) ++ (c ∷ [])) ++ d ≡ a ++ (b ++ (c ∷ d))
-regroup a b c d = append_assoc (a ++ b) (c ∷ []) d ∙ append_assoc a b (c ∷ d)
 
 -- the parts of a tuple type behind the first, and its bracket
 parts_took : (most : ℕ) (x y : Ty) (zs : List Ty) → length (y ∷ zs) ≤ 7 → AllRead (type_to most) begins_type symbols.Star limits.Parts wanted.AType type_kinds same_type FollowsType (y ∷ zs)

@@ -25,7 +25,7 @@ pub enum LineReason {
     ProgramRefused(TextFault),
     /// An entry, arguments or a combination of numbers that don't fit.
     BadArgument,
-    /// The line is right in every other way and uses a form that isn't built yet.
+    /// Nothing else is wrong with the line, and the program doesn't have a form in it so far.
     NotYet,
 }
 

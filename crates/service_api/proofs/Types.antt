@@ -1,15 +1,12 @@
--- The test for equal types, and what an `abandon` without rows undoes.
-use Rattle.std.proofs.Common.{◌≡◌, Bool, true, false, IsTrue, ◌↔◌, refl}
-use Rattle.std.proofs.lemmas.Bool.Decides.{same_from_decides}
-use Rattle.plan_base.specs.declared.tree.Ty.{Ty}
-use Rattle.value_rules.specs.Same.{same_type}
-use Rattle.service_api.specs.Prints.{standing}
-use Rattle.service_api.specs.Services.{abandoned}
-use Rattle.value_rules.proofs.Same.{same_type_decides}
-
-pub same_from_test : (a b : Ty) (r : Bool) → (IsTrue r ↔ (a ≡ b)) → r ≡ same_type a b
-same_from_test a b r h = same_from_decides r (same_type a b) (h.0, h.1) (same_type_decides a b)
+-- What an `abandon` without rows undoes, and that no rows are good.
+use Rattle.std.proofs.Common.{◌≡◌, ℕ, Bool, true, false, [], refl, arith}
+use Rattle.std.proofs.Math.Nat.{not-suc-le-zero}
+use Rattle.service_api.specs.Prints.{standing, no_rows}
+use Rattle.service_api.specs.Services.{AreGoodRows, abandoned}
 
 pub nothing_undone : (is_open is_ready : Bool) → standing false false ≡ abandoned (standing is_open is_ready)
 nothing_undone true is_ready = refl
 nothing_undone false is_ready = refl
+
+pub no_rows_good : AreGoodRows no_rows
+no_rows_good = record { values = λ i d h. absurd (not-suc-le-zero h); room = refl; least = omega arith; greatest = omega arith }

@@ -1,3 +1,4 @@
+pub mod Adverts
 pub mod Routes
 pub mod Schemes
 pub mod Services

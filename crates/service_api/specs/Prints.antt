@@ -1,5 +1,5 @@
 -- The services of a node that offers `print` alone and has no rows.
-use Rattle.std.specs.Prelude.{◌≡◌, ℕ, Bool, true, false, if◌then◌else◌, List, [], ◌∷◌, codes, Option, Some, None, is_some}
+use Rattle.std.specs.Prelude.{◌≡◌, ℕ, Bool, true, false, if◌then◌else◌, List, [], ◌∷◌, codes, Option, Some, None, pos}
 use Rattle.std.specs.Str.{bytes_eq}
 use Rattle.plan_base.specs.declared.tree.Value.{Value}
 use Rattle.plan_base.specs.declared.tree.Value.TheVariants as value
@@ -11,8 +11,9 @@ use Rattle.service_api.specs.declared.answer.Answer.TheVariants.{Gives, Raises}
 use Rattle.service_api.specs.declared.ctx.Ctx.{Ctx}
 use Rattle.service_api.specs.declared.scheme.Scheme.{Scheme}
 use Rattle.service_api.specs.declared.scheme.SchemeTy.TheVariants.{Any, Is}
-use Rattle.service_api.specs.Schemes.{instance}
-use Rattle.service_api.specs.Services.{Row, Rows, Served, Serve, Offer, Standing, no_service}
+use Rattle.service_api.specs.Schemes.{is_instance_of}
+use Rattle.service_api.specs.Services.{Rows, Serve, Offer, Standing}
+use Rattle.value_rules.specs.Rules.{no_service}
 
 -- one argument of any type, and no value
 abbrev pub print_scheme : Scheme
@@ -24,10 +25,6 @@ scheme_of name = if bytes_eq name (codes "print") then Some print_scheme else No
 abbrev pub printed : List Value → Answer
 printed (v ∷ []) = Gives value.Unit (Some (Print v))
 printed _ = Raises no_service
-
-abbrev pub is_instance_of : Option Scheme → Svc → Bool
-is_instance_of (Some scheme) svc = is_some (instance scheme svc)
-is_instance_of None svc = false
 
 -- whether the declaration is an instance of `print`
 unfoldable pub is_print : Svc → Bool
@@ -44,7 +41,7 @@ abbrev pub offer : Offer
 offer = record { scheme = scheme_of; serve = serve }
 
 abbrev pub no_rows : Rows
-no_rows = record { rows = []; «next» = 1 }
+no_rows = record { rows = []; «next» = pos 1 }
 
 abbrev pub begun_if : Bool → Option Rows
 begun_if true = Some no_rows

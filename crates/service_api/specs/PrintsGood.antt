@@ -13,22 +13,23 @@ use Rattle.plan_base.specs.Sizes.{weight, nesting, weight_level, nesting_level, 
 use Rattle.plan_base.specs.WellFormed.{formed_value, formed_value_level, formed_chunk, well_formed_value, IsWellFormedValue}
 use Rattle.plan_base.proofs.SizeLaws.{weight_out, nesting_out, value_depth_out}
 use Rattle.plan_base.proofs.FormLaws.{formed_value_out}
-use Rattle.plan_base.specs.Typing.{HasType, unit}
-use Rattle.value_rules.specs.Same.{same_type}
-use Rattle.value_rules.proofs.Same.{same_type_decides}
+use Rattle.plan_base.specs.Typing.{HasType, IsSmall, unit}
+use Rattle.plan_base.proofs.SameTypes.{same_type_true}
+use Rattle.small_laws.proofs.Bools.{and_right}
+use Rattle.value_rules.specs.Rules.{no_service}
 use Rattle.service_api.specs.declared.ctx.Ctx.{Ctx}
 use Rattle.service_api.specs.declared.answer.Answer.{Answer}
 use Rattle.service_api.specs.declared.answer.Answer.TheVariants.{Gives, Raises}
 use Rattle.service_api.specs.declared.answer.Note.TheVariants.{Print}
-use Rattle.service_api.specs.Schemes.{instance, tests_instance, taken, same_all, stands_for}
-use Rattle.service_api.specs.Services.{Standing, Rows, IsGood, IsGoodAnswer, IsGoodServed, IsGoodValue, AreGoodValues, AreGoodRows, MayRaise, no_service, IsSmall}
-use Rattle.service_api.specs.Prints.{standing, serve, answer, is_print, is_instance_of, scheme_of, print_scheme, printed, no_rows}
+use Rattle.service_api.specs.Schemes.{instance, tests_instance, taken, same_all, is_instance_of}
+use Rattle.service_api.specs.Services.{IsGoodServe, RefusesOthers, refused, IsGoodAnswer, IsGoodValue, AreGoodValues, AreGoodRows, MayRaise}
+use Rattle.service_api.specs.Prints.{serve, offer, answer, is_print, scheme_of, print_scheme, printed, no_rows}
 
 small_unit : IsSmall value.Unit
 small_unit =
     let w = weight_out value.Unit ∙ ap (λ l. weight_level weight chunk_weight l) value.outs-Unit in
     let n = nesting_out value.Unit ∙ ap (λ l. nesting_level nesting chunk_nesting l) value.outs-Unit in
-    record { weight = subst (λ x. x ≤ 16384) (sym w) (lit≤ tt); nesting = subst (λ x. x ≤ 4) (sym n) (lit≤ tt) }
+    record { weighs = subst (λ x. x ≤ 16384) (sym w) (lit≤ tt); nests = subst (λ x. x ≤ 4) (sym n) (lit≤ tt) }
 
 formed_unit : IsWellFormedValue value.Unit
 unfolding well_formed_value
@@ -48,15 +49,11 @@ if_some : {A : Type 0} (b : Bool) (x : A) → is_some (if b then Some x else Non
 if_some true x e = refl
 if_some false x e = absurd (false≢true e)
 
-and_right : (a b : Bool) → (a && b) ≡ true → b ≡ true
-and_right true b e = e
-and_right false b e = absurd (false≢true e)
-
 gives_unit : (svc : Svc) → is_some (instance print_scheme svc) ≡ true → svc.result ≡ ty.Unit
 unfolding instance
 gives_unit svc e =
     let t = if_some (tests_instance print_scheme svc (taken print_scheme svc)) (taken print_scheme svc) e in
-    (same_type_decides svc.result ty.Unit).0 (and_right (same_all (taken print_scheme svc) print_scheme.params svc.params) _ t)
+    same_type_true svc.result ty.Unit (and_right (same_all (taken print_scheme svc) print_scheme.params svc.params) _ t)
 
 print_gives : (svc : Svc) (b : Bool) → is_instance_of (if b then Some print_scheme else None) svc ≡ true → svc.result ≡ ty.Unit
 print_gives svc true e = gives_unit svc e
@@ -80,8 +77,9 @@ answer_good : (svc : Svc) (args : List Value) → AreGoodValues svc.params args 
 unfolding answer
 answer_good svc args h = answer_at svc args (is_print svc) refl h
 
-no_row : AreGoodRows []
-no_row k d h = absurd (not-suc-le-zero h)
+pub serve_good : IsGoodServe serve
+serve_good svc args ctx rows g h n = record { answer = answer_good svc args h; rows = g }
 
-pub is_good : (is_open is_ready : Bool) → IsGood (standing is_open is_ready)
-is_good is_open is_ready = record { serve = λ svc args ctx rows g h. record { answer = answer_good svc args h; rows = g }; rows = no_row }
+pub serve_refuses : RefusesOthers offer
+unfolding answer is_print
+serve_refuses svc args ctx rows e = λ i. record { answer = if e i then printed args else Raises no_service; rows = rows }

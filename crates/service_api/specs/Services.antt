@@ -1,34 +1,29 @@
 -- The meanings of `Services`, and its laws.
-use Rattle.std.specs.Prelude.{◌≡◌, ◌≢◌, ◌⊎◌, ℕ, ◌≤◌, Bool, true, false, not, if◌then◌else◌, nat_le, List, [], ◌∷◌, codes, Option, Some, None, All, Contains, filter}
+use Rattle.std.specs.Prelude.{◌≡◌, ℕ, ◌≤◌, Bool, true, false, if◌then◌else◌, ℤ, pos, ◌≤ℤ◌, List, [], ◌∷◌, length, codes, Option, Some, None, All, Contains, IsTrue}
 use Rattle.std.specs.Str.{bytes_eq}
 use Rattle.plan_base.specs.declared.tree.Value.{Value}
 use Rattle.plan_base.specs.declared.tree.Ty.{Ty}
 use Rattle.plan_base.specs.declared.tree.Svc.{Svc}
 use Rattle.plan_base.specs.declared.tree.Exn.{Exn}
 use Rattle.plan_base.specs.declared.tree.Chunk.{Chunk}
-use Rattle.plan_base.specs.Sizes.{weight, nesting}
+use Rattle.table_rows.specs.declared.row.Row.{Row}
+use Rattle.table_rows.specs.Rows.{fits, living, last_key}
+use Rattle.value_rules.specs.Rules.{exception, no_service}
 use Rattle.service_api.specs.declared.answer.Note.{Note}
 use Rattle.service_api.specs.declared.answer.Note.TheVariants.{Print, Port}
 use Rattle.service_api.specs.declared.answer.Answer.{Answer}
 use Rattle.service_api.specs.declared.answer.Answer.TheVariants.{Gives, Raises}
 use Rattle.service_api.specs.declared.ctx.Ctx.{Ctx}
 use Rattle.service_api.specs.declared.scheme.Scheme.{Scheme}
-use Rattle.plan_base.specs.Typing.{HasType, IsTypedChunk}
+use Rattle.service_api.specs.Schemes.{is_instance_of}
+use Rattle.plan_base.specs.Typing.{HasType, IsSmall, IsTypedChunk}
 use Rattle.plan_base.specs.WellFormed.{IsWellFormedValue, IsWellFormedChunk}
 
 -- ---- the state: a table's rows and its next key
 
--- a kept value with the type at which it was kept, and the tick at which it goes
-pub record Row : Type 0 where
-  pub name : List ℕ
-  pub key : ℕ
-  pub ty : Ty
-  pub value : Value
-  pub expiry : ℕ
-
 pub record Rows : Type 0 where
   pub rows : List Row
-  pub «next» : ℕ
+  pub «next» : ℤ
 
 -- an answer with the state after it
 pub record Served : Type 0 where
@@ -81,19 +76,11 @@ rows_at None now = now
 abbrev pub abandoned : Standing → Standing
 abandoned n = record n { rows = rows_at n.begun n.rows; begun = None; ready = false }
 
--- the rows that live at a tick: those whose expiry lies after it
-abbrev pub living : ℕ → List Row → List Row
-living now rows = filter (λ r. not (nat_le r.expiry now)) rows
-
+-- the rows that are there at a tick stay
 abbrev pub expired : ℕ → Standing → Standing
 expired now n = record n { rows = record n.rows { rows = living now n.rows.rows } }
 
 -- ---- the laws
-
--- weight at most 16,384 and nesting at most 4
-pub record IsSmall (v : Value) : Type 0 where
-  pub weight : weight v ≤ 16384
-  pub nesting : nesting v ≤ 4
 
 -- a well-formed value of that type within the limits
 pub record IsGoodValue (t : Ty) (v : Value) : Type 0 where
@@ -112,9 +99,12 @@ AreGoodValues [] [] = Unit {0}
 AreGoodValues (t ∷ ts) (v ∷ vs) = IsGoodValue t v × AreGoodValues ts vs
 AreGoodValues _ _ = ⊥
 
--- each row's value has the type at which it was kept
-abbrev pub AreGoodRows : List Row → Type 0
-AreGoodRows rows = All (λ r. IsGoodValue r.ty r.value) rows
+-- a table within its limits, in which each row's value has the type at which it was kept, and a next key from 1 on
+pub record AreGoodRows (r : Rows) : Type 0 where
+  pub values : All (λ x. IsGoodValue x.ty x.value) r.rows
+  pub room : IsTrue (fits r.rows)
+  pub least : pos 1 ≤ℤ r.«next»
+  pub greatest : r.«next» ≤ℤ last_key
 
 -- the value of a note is good at some type
 abbrev pub IsGoodNote : Note → Type 0
@@ -124,9 +114,6 @@ IsGoodNote (Port p v) = (t : Ty) × IsGoodValue t v
 abbrev pub IsGoodOptionNote : Option Note → Type 0
 IsGoodOptionNote None = Unit {0}
 IsGoodOptionNote (Some note) = IsGoodNote note
-
-abbrev pub exception : List ℕ → Exn
-exception name = record { 0 = name }
 
 -- the exceptions that a service raises besides `NoService`, by its name
 abbrev pub own_exceptions : List (List ℕ × List Exn)
@@ -139,9 +126,6 @@ abbrev pub exceptions_among : List (List ℕ × List Exn) → List ℕ → List 
 exceptions_among [] name = []
 exceptions_among (r ∷ rs) name = if bytes_eq r.0 name then r.1 else exceptions_among rs name
 
-abbrev pub no_service : Exn
-no_service = exception (codes "NoService")
-
 -- the service may raise it
 abbrev pub MayRaise : Svc → Exn → Type 0
 MayRaise svc x = Contains (no_service ∷ exceptions_among own_exceptions svc.name) x
@@ -152,14 +136,23 @@ IsGoodAnswer svc (Raises x) = MayRaise svc x
 
 pub record IsGoodServed (svc : Svc) (s : Served) : Type 0 where
   pub answer : IsGoodAnswer svc s.answer
-  pub rows : AreGoodRows s.rows.rows
+  pub rows : AreGoodRows s.rows
 
--- at good rows and good arguments of the declared types, calls answer well and leave good rows
+-- at good rows, good arguments of the declared types and at most 8 neighbours, calls answer well and leave good rows
 abbrev pub IsGoodServe : Serve → Type 0
-IsGoodServe serve = (svc : Svc) (args : List Value) (ctx : Ctx) (rows : Rows) → AreGoodRows rows.rows → AreGoodValues svc.params args
+IsGoodServe serve = (svc : Svc) (args : List Value) (ctx : Ctx) (rows : Rows) → AreGoodRows rows → AreGoodValues svc.params args → length ctx.neighbours ≤ 8
     → IsGoodServed svc (serve svc args ctx rows)
+
+-- `NoService`, with the rows as they were
+abbrev pub refused : Rows → Served
+refused rows = record { answer = Raises no_service; rows = rows }
+
+-- a declaration of a name that isn't offered, or that is no instance of the type of its name, is refused
+abbrev pub RefusesOthers : Offer → Type 0
+RefusesOthers offer = (svc : Svc) (args : List Value) (ctx : Ctx) (rows : Rows) → is_instance_of (offer.scheme svc.name) svc ≡ false
+    → offer.serve svc args ctx rows ≡ refused rows
 
 -- what a visit may rely on
 pub record IsGood (n : Standing) : Type 0 where
   pub serve : IsGoodServe n.offer.serve
-  pub rows : AreGoodRows n.rows.rows
+  pub rows : AreGoodRows n.rows

@@ -2,8 +2,10 @@
 //! notes and answers, the types of services ([`Scheme`], [`instance`]), and [`Prints`], which offers `print` alone.
 #![tactic(auto)]
 
+mod advert;
 mod answer;
 mod ctx;
+mod laws;
 mod matching;
 mod package;
 mod prints;
@@ -11,8 +13,10 @@ mod router;
 mod scheme;
 mod services;
 
+pub use advert::{Advert, AdvertRow, AdvertRows};
 pub use answer::{Answer, Note, Notes};
 pub use ctx::{Ctx, Neighbours};
+pub use laws::instances;
 pub use matching::instance;
 pub use package::{PackageName, Packages};
 pub use prints::Prints;

@@ -1,16 +1,10 @@
-ghost use Rattle.std.specs.Prelude.{◌≡◌, IfOk, IsTrue, MatchOption, Option, None, option_copied};
+ghost use Rattle.std.specs.Prelude.{◌≡◌, ◌↔◌, Some, IfOk, IsTrue, MatchOption, Option, None, option_copied};
+ghost use Rattle.plan_base.specs.declared.tree.Ty.{Ty as AType};
 ghost use Rattle.service_api.specs.Schemes as spec;
-ghost use Rattle.value_rules.specs.Same.{same_type};
 
 use crate::scheme::{Scheme, SchemeTy};
 use plan_base::{NoMemory, Svc, Ty};
 use std::alloc::Global;
-
-fn same_type(a: &Ty, b: &Ty) -> bool
-    ensures { result ≡ same_type a.now b.now }
-{
-    a.is(b)
-}
 
 /// What a type of the row stands for where `Any` is `a`.
 fn stands_for<'a>(a: &'a Ty, s: &'a SchemeTy) -> &'a Ty
@@ -61,7 +55,7 @@ fn same_all(a: &Ty, schemes: &[SchemeTy], types: &[Ty]) -> bool
         let [t, ts @ ..] = declared else {
             return false;
         };
-        if !same_type(t, stands_for(a, s)) {
+        if !t.is(stands_for(a, s)) {
             return false;
         }
         wanted = ss;
@@ -74,7 +68,7 @@ fn tests_instance(scheme: &Scheme, svc: &Svc, a: &Ty) -> bool
     ensures { result ≡ spec.tests_instance scheme.now svc.now a.now }
 {
     same_all(a, scheme.params.as_slice(), svc.params.as_slice())
-        && same_type(&svc.result, stands_for(a, &scheme.result))
+        && svc.result.is(stands_for(a, &scheme.result))
 }
 
 /// The type that a declared service has for `Any`, or unit where the row has none.
@@ -90,9 +84,10 @@ fn taken(alloc: Global, scheme: &Scheme, svc: &Svc) -> Result<Ty, NoMemory>
 }
 
 /// The type that `svc` has for `Any`, unit where the row has none, or `None` where it is no instance of `scheme`.
-#[tactic(auto, unfolding(crate::specs::Schemes::instance))]
+#[tactic(auto, unfolding(crate::specs::Schemes::instance), using(crate::proofs::InstanceLaws::instance_exact))]
 pub fn instance(alloc: Global, scheme: &Scheme, svc: &Svc) -> Result<Option<Ty>, NoMemory>
-    ensures { IfOk result (λ t. t ≡ spec.instance scheme.now svc.now) }
+    ensures found { IfOk result (λ t. t ≡ spec.instance scheme.now svc.now) }
+    ensures exact { IfOk result (λ t. (a : AType) → (t ≡ Some a) ↔ spec.IsInstance scheme.now svc.now a) }
 {
     let a = taken(alloc, scheme, svc)?;
     if tests_instance(scheme, svc, &a) {

@@ -1,8 +1,8 @@
 ghost use Rattle.std.specs.Prelude.{◌≡◌, IfOk, codes, Some, false};
 ghost use Rattle.std.specs.Str.{bytes_eq};
 ghost use Rattle.service_api.specs.Prints as spec;
-ghost use Rattle.service_api.specs.PrintsLaws.{prints_stand, prints_good};
-ghost use Rattle.service_api.specs.Services.{no_service};
+ghost use Rattle.service_api.specs.PrintsLaws.{prints_stand, prints_good, prints_refuse};
+ghost use Rattle.value_rules.specs.Rules.{no_service};
 ghost use Rattle.service_api.specs.declared.answer.Answer.TheVariants.{Raises};
 
 use crate::answer::{Answer, Note};
@@ -95,6 +95,8 @@ impl Services for Prints {
 
     ghost good = { prints_good };
 
+    ghost refuses = { prints_refuse };
+
     fn scheme(&self, alloc: Global, name: &Name) -> Result<Option<Scheme>, NoMemory> {
         if is_named_print(name) {
             Ok(Some(print_scheme(alloc)?))
@@ -116,6 +118,7 @@ impl Services for Prints {
         Ok(answer)
     }
 
+    #[tactic(auto, using(crate::proofs::Types::no_rows_good))]
     fn begin(&mut self, alloc: Global) -> Result<(), NoMemory> {
         let _unused = alloc;
         self.is_open = true;

@@ -1,5 +1,5 @@
 ghost use Rattle.std.specs.Prelude.{◌≡◌, ◌≤◌, length, IfOk, OnOk, OnErr, IsSome, IsTrue, None};
-ghost use Rattle.service_api.specs.Services.{Standing, Answers, AreGoodValues, begun_now, made_ready, kept, abandoned, expired, IsGood};
+ghost use Rattle.service_api.specs.Services.{Standing, Answers, AreGoodRows, AreGoodValues, begun_now, made_ready, kept, abandoned, expired, IsGoodServe, RefusesOthers};
 
 use crate::answer::Answer;
 use crate::ctx::Ctx;
@@ -11,6 +11,10 @@ use std::alloc::Global;
 ///
 /// A value stands for an offer (the types of the services and what calls answer), the rows of the node's
 /// table with the next key, the rows at the open `begin`, and whether `ready` was answered since the last `call`.
+///
+/// Laws: from good rows, good arguments and at most 8 neighbours each call answers well and leaves good rows (`good`); a
+/// declaration of a name that isn't offered, or that is no instance of the type of its name, means `NoService` and
+/// leaves the rows (`refuses`).
 pub trait Services {
     ghost stands: { Self → Standing };
 
@@ -19,7 +23,10 @@ pub trait Services {
         ensures { IfOk result (λ s. s ≡ (stands self.now).offer.scheme name.now) };
 
     /// Calls the service. Conditions: a `begin` is open; the arguments have the declared types and keep the
-    /// limits; the context has at most 8 neighbours. After `NoMemory` the caller abandons.
+    /// limits; the context has at most 8 neighbours.
+    ///
+    /// Whatever it answers, the offer and the rows at `begin` stay, and the `begin` is still open. After
+    /// `NoMemory` no more is said of the rows, and the caller abandons.
     fn call(
         &mut self,
         alloc: Global,
@@ -32,12 +39,15 @@ pub trait Services {
         requires near { length ctx.now.neighbours ≤ 8 }
         ensures ok { IfOk result (λ a. Answers (stands self.old) svc.now args.now ctx.entry.now a (stands self.new)) }
         ensures offer { (stands self.new).offer ≡ (stands self.old).offer }
-        ensures begun { (stands self.new).begun ≡ (stands self.old).begun };
+        ensures begun { (stands self.new).begun ≡ (stands self.old).begun }
+        ensures still { IsSome (stands self.new).begun };
 
-    /// Opens a `begin`. Condition: none is open.
+    /// Opens a `begin`. Condition: none is open. The rows are those of a table within its limits, each of the
+    /// type at which it was kept, whatever it answers.
     fn begin(&mut self, alloc: Global) -> Result<(), NoMemory>
         requires { (stands self.old).begun ≡ None }
         ensures ok { OnOk result (stands self.new ≡ begun_now (stands self.old)) }
+        ensures rows { AreGoodRows (stands self.old).rows }
         ensures err { OnErr result (stands self.new ≡ stands self.old) };
 
     /// Takes the room that `keep` needs. Condition: a `begin` is open.
@@ -63,5 +73,7 @@ pub trait Services {
         requires { (stands self.old).begun ≡ None }
         ensures { stands self.new ≡ expired now (stands self.old) };
 
-    ghost good: { (s : Self) → IsGood (stands s) };
+    ghost good: { (s : Self) → IsGoodServe (stands s).offer.serve };
+
+    ghost refuses: { (s : Self) → RefusesOthers (stands s).offer };
 }

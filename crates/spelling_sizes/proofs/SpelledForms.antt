@@ -5,6 +5,7 @@ use Rattle.std.specs.List.{list_all}
 use Rattle.std.specs.Str.{is_utf8}
 use Rattle.std.proofs.lemmas.Bool.{le-leb, ltb-true}
 use Rattle.std.proofs.lemmas.Str.{is_utf8-from_IsUtf8}
+use Rattle.small_laws.proofs.Bools.{both}
 use Rattle.plan_base.specs.declared.tree.Ty.{Ty, Ty-F, out-Ty}
 use Rattle.plan_base.specs.declared.tree.Expr.{Expr, Expr-F, out-Expr}
 use Rattle.plan_base.specs.declared.tree.Clause.{Clause}
@@ -23,9 +24,6 @@ use Rattle.chunk_spelling.specs.Types.{type_forms, type_parts, type_from, no_typ
 use Rattle.chunk_spelling.specs.Exprs.{clause_part, clauses_part, ClausesFit, is_none_left, expr_forms, expr_parts, clause_forms, clause_parts_by, expr_from, no_expr, expr_core}
 use Rattle.chunk_spelling.specs.Programs.{param_part, service_part, function_part, program_part, ProgramFits}
 use Rattle.chunk_spelling.specs.Values.{value_forms, value_parts, value_from, chunk_from, no_value, no_chunk, may_open, values_within, chunk_with, ChunkFits, value_core, value_part, chunk_part}
-
-both : {b c : Bool} → b ≡ true → c ≡ true → (b && c) ≡ true
-both {b} {c} h k = (λ i. h i && c) ∙ k
 
 -- each of a list that fits has what fits gives
 each_has : {A : Type 0} {test : A → Bool} (p : Part A) → ((x : A) → p.Fits x → test x ≡ true) → (xs : List A) → EachFits p.Fits xs → list_all test xs ≡ true

@@ -5,6 +5,7 @@ use Rattle.std.specs.Char.{is_ascii_digit, is_ascii_alphabetic, IsScalar}
 use Rattle.std.specs.List.{list_all}
 use Rattle.std.specs.Str.{IsUtf8}
 use Rattle.std.proofs.lemmas.Bool.Decides.{nat_tests}
+use Rattle.small_laws.proofs.Bools.{and_left}
 use Rattle.plan_base.specs.Words.{is_word_byte, is_word, IsName}
 use Rattle.plan_base.specs.declared.tree.Op.{Op}
 use Rattle.plan_base.specs.declared.tree.Op.TheVariants as op
@@ -20,7 +21,6 @@ use Rattle.plan_lexer.specs.declared.token.TokenKind.TheVariants as kind
 use Rattle.plan_lexer.proofs.PrintLemmas.{spells_int, spells_host, spells_dev, spells_part, spells_char, spells_string, spells_blob}
 use Rattle.plan_lexer.proofs.SpellLemmas.{is_name_word, digits_first}
 use Rattle.plan_lexer.proofs.TableLemmas.{is_word-key}
-use Rattle.plan_lexer.proofs.ReadLemmas.{and_left}
 use Rattle.plan_base.proofs.WordLaws.{is_word_none, is_word_cons}
 use Rattle.plan_printer.specs.Pieces.{scalar_text}
 use Rattle.plan_printer.specs.Printed.{bool_text, op_text}

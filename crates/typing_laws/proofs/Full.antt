@@ -1,6 +1,7 @@
 -- Where no type is missing in a draft, nothing is filled in: it becomes itself or nothing.
 use Rattle.std.proofs.Common.{◌≡◌, ℕ, ◌∙◌, sym, ap, refl, true, ◌&&◌, List, [], ◌∷◌, Option, None}
 use Rattle.std.specs.List.{list_all}
+use Rattle.small_laws.proofs.Bools.{and_left, and_right}
 use Rattle.plan_base.specs.declared.tree.Ty.{Ty}
 use Rattle.plan_base.specs.declared.tree.Expr.{Expr, Expr-F, out-Expr}
 use Rattle.plan_base.specs.declared.tree.Expr as x
@@ -13,7 +14,6 @@ use Rattle.plan_base.proofs.FormLaws.{has_types_out}
 use Rattle.plan_base.specs.Typing.{Ctx}
 use Rattle.plan_base.specs.TypingFills.{Becomes, PartsBecome, ClausesBecome}
 use Rattle.plan_base.specs.TypingFills.{Becomes as B, PartsBecome as P, ClausesBecome as C}
-use Rattle.typing_laws.proofs.SameTypes.{and_left, and_right}
 use Rattle.typing_laws.proofs.Itself.{level_is}
 
 level_full : (d : Expr) (l : ExprLayer) → out-Expr d ≡ l → has_types d ≡ true → typed_expr_level has_types (λ c. has_types c.body) l ≡ true

@@ -1,4 +1,3 @@
-pub mod SameTypes
 pub mod Steps
 pub mod Layers
 pub mod Heads

@@ -4,6 +4,7 @@ use Rattle.std.specs.Prelude.{Result, Ok, Err, if◌then◌else◌, map, slice_g
 use Rattle.std.specs.List.{list_all}
 use Rattle.std.proofs.lemmas.List.{length-append, append-nil}
 use Rattle.std.proofs.lemmas.Bool.{leb-true, le-leb}
+use Rattle.small_laws.proofs.Bools.{and_left, and_right, and_both}
 use Rattle.plan_base.specs.declared.name.Name.{Name}
 use Rattle.plan_base.specs.declared.tree.Svc.{Svc}
 use Rattle.plan_base.specs.declared.tree.Fun.{Fun}
@@ -17,7 +18,6 @@ use Rattle.plan_base.specs.Typing.{HasTy, HasOwnNames, Typed, param_names}
 use Rattle.plan_base.specs.TypingNames.{has_name, is_prim, built_in, are_new, are_callable}
 use Rattle.plan_base.specs.TypingOrder.{next, then_by, checked, bodies_from, services_from, exceptions_from, functions_from, declarations, sized, annotated}
 use Rattle.plan_base.specs.TypingFills.{Becomes, FunFills, Fills}
-use Rattle.typing_laws.proofs.SameTypes.{and_left, and_right, and_both}
 use Rattle.typing_laws.proofs.Steps.{Holds, Yields, then_yields, pure_yields}
 use Rattle.typing_laws.proofs.Heads.{AlikeFuns, no_funs, and_fun, SameHeads, heads_back, names_there, alike_length}
 use Rattle.typing_laws.proofs.Right.{Right, checked_right, becomes_suits, map_holds}

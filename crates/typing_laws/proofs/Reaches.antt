@@ -30,7 +30,7 @@ use Rattle.plan_base.specs.TypingOrder as order
 use Rattle.plan_base.specs.TypingFills.{Suits, Becomes, PartsBecome, ClausesBecome}
 use Rattle.plan_base.specs.TypingFills.{Becomes as B, PartsBecome as P, ClausesBecome as C}
 use Rattle.plan_base.specs.declared.prim.Primitive.TheVariants as prim
-use Rattle.typing_laws.proofs.SameTypes.{same_type_of}
+use Rattle.plan_base.proofs.SameTypes.{same_type_of}
 use Rattle.typing_laws.proofs.Right.{wanted_suits}
 
 -- the checking m, begun at the number n, gives a

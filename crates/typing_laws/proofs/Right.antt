@@ -30,7 +30,7 @@ use Rattle.plan_base.specs.TypingFills.{Suits, Becomes, PartsBecome, ClausesBeco
 use Rattle.plan_base.specs.TypingFills.{Becomes as B}
 use Rattle.plan_base.specs.TypingFills.{PartsBecome as P}
 use Rattle.plan_base.specs.TypingFills.{ClausesBecome as C}
-use Rattle.typing_laws.proofs.SameTypes.{same_type_true}
+use Rattle.plan_base.proofs.SameTypes.{same_type_true}
 use Rattle.typing_laws.proofs.Steps.{Holds, Yields, then_yields, pure_yields, if_yields, known_yields}
 use Rattle.typing_laws.proofs.Layers.{part_tuple, given_list, items_list, and_then_some}
 

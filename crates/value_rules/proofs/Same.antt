@@ -1,27 +1,18 @@
--- The tests for equal values and types are true exactly where these are equal.
+-- The test for equal values is true exactly where they are equal.
 use Rattle.std.proofs.Common.{◌≡◌, Bool, true, false, ◌&&◌, Decides, refl, sym, ap, subst}
 use Rattle.std.proofs.lemmas.Bool.{eqb-true, eq-eqb, false≢true}
 use Rattle.std.specs.Cmp.Derive.{both_true}
+use Rattle.small_laws.proofs.Bools.{and_left, and_right}
 use base.Stored.{Gv, gnil, gnum, gcons, Coded}
 use Rattle.plan_base.specs.declared.tree.Value.{Value}
-use Rattle.plan_base.specs.declared.tree.Ty.{Ty}
 use Rattle.plan_base.specs.contracts.tree.Value as value
-use Rattle.plan_base.specs.contracts.tree.Ty as type
 use Rattle.value_rules.specs.Code.{same_code}
-use Rattle.value_rules.specs.Same.{same_value, same_type}
-
-left_true : (a b : Bool) → (a && b) ≡ true → a ≡ true
-left_true true b e = refl
-left_true false b e = e
-
-right_true : (a b : Bool) → (a && b) ≡ true → b ≡ true
-right_true true b e = e
-right_true false b e = absurd (false≢true e)
+use Rattle.value_rules.specs.Same.{same_value}
 
 equal : (x y : Gv) → same_code x y ≡ true → x ≡ y
 equal gnil gnil e = refl
 equal (gnum m) (gnum n) e = ap gnum (eqb-true m n e)
-equal (gcons a b) (gcons c d) e = λ i. gcons (equal a c (left_true _ _ e) i) (equal b d (right_true (same_code a c) _ e) i)
+equal (gcons a b) (gcons c d) e = λ i. gcons (equal a c (and_left _ _ e) i) (equal b d (and_right (same_code a c) _ e) i)
 equal gnil (gnum n) e = absurd (false≢true e)
 equal gnil (gcons c d) e = absurd (false≢true e)
 equal (gnum m) gnil e = absurd (false≢true e)
@@ -40,7 +31,3 @@ decides c a b = (λ e. c.inj a b (equal _ _ e), λ e. subst (λ x. same_code (c.
 pub same_value_decides : (a b : Value) → Decides (same_value a b) (a ≡ b)
 unfolding same_value
 same_value_decides a b = decides value.the_row.coded a b
-
-pub same_type_decides : (a b : Ty) → Decides (same_type a b) (a ≡ b)
-unfolding same_type
-same_type_decides a b = decides type.the_row.coded a b

@@ -1,3 +1,4 @@
 pub mod Code
 pub mod Same
 pub mod Rules
+pub mod Typed

@@ -7,18 +7,14 @@ use Rattle.plan_base.specs.declared.tree.Exn.{Exn}
 use Rattle.plan_base.specs.declared.tree.Ty.{Ty}
 use Rattle.plan_base.specs.declared.tree.Op.{Op}
 use Rattle.plan_base.specs.declared.tree.Op.TheVariants as op
-use Rattle.plan_base.specs.declared.tree.Chunk.{Chunk}
 use Rattle.plan_base.specs.declared.tree.Value.{Value, out-Value}
 use Rattle.plan_base.specs.declared.tree.Value.TheVariants as value
 use Rattle.plan_base.specs.declared.tree.Value.TheOpen.{Value-F}
 use Rattle.plan_base.specs.declared.prim.Primitive.{Primitive}
 use Rattle.plan_base.specs.declared.prim.Primitive.TheVariants as prim
 use Rattle.value_rules.specs.Same.{same_value}
+use Rattle.plan_base.specs.Trees.{ValueLayer}
 use Rattle.plan_base.specs.Sizes.{weight}
-
--- one level of a value
-abbrev pub Layer : Type 0
-Layer = Value-F Value Chunk
 
 -- what an operator or a primitive gives; `unfit` where the operands have other types than it takes
 pub data Given : Type 0 where
@@ -44,6 +40,9 @@ bad_index = exception (codes "BadIndex")
 
 abbrev pub too_large : Exn
 too_large = exception (codes "TooLarge")
+
+abbrev pub no_service : Exn
+no_service = exception (codes "NoService")
 
 abbrev pub bool : Bool → Given
 bool b = gives (value.Bool b)
@@ -81,14 +80,14 @@ computed op.Mod a b = remainder a b
 computed _ a b = unfit
 
 -- on two numbers, else unfit
-abbrev pub numbers : (ℤ → ℤ → Given) → Layer → Layer → Given
+abbrev pub numbers : (ℤ → ℤ → Given) → ValueLayer → ValueLayer → Given
 numbers f (Value-F.Int a) (Value-F.Int b) = f a b
 numbers f _ _ = unfit
 
 -- ---- order
 
 -- whether a stands before b: numbers and chars by size, strings by their bytes
-abbrev pub before : Layer → Layer → Option Bool
+abbrev pub before : ValueLayer → ValueLayer → Option Bool
 before (Value-F.Int a) (Value-F.Int b) = Some (int_lt a b)
 before (Value-F.Char a) (Value-F.Char b) = Some (nat_lt a b)
 before (Value-F.Str a) (Value-F.Str b) = Some (is_lt (slice_cmp nat_cmp a b))
@@ -104,12 +103,12 @@ answered f None = unfit
 unfoldable pub limited : Value → Given
 limited v = if nat_lt 16384 (weight v) then raises too_large else gives v
 
-abbrev pub joined : Layer → Layer → Given
+abbrev pub joined : ValueLayer → ValueLayer → Given
 joined (Value-F.Str a) (Value-F.Str b) = limited (value.Str (a ++ b))
 joined (Value-F.Blob a) (Value-F.Blob b) = limited (value.Blob (a ++ b))
 joined _ _ = unfit
 
-abbrev pub put_first : Value → Layer → Given
+abbrev pub put_first : Value → ValueLayer → Given
 put_first x (Value-F.List t xs) = limited (value.List t (x ∷ xs))
 put_first x _ = unfit
 
@@ -136,7 +135,7 @@ abbrev pub found : Option Value → Given
 found (Some v) = gives v
 found None = unfit
 
-abbrev pub part_of : ℕ → Layer → Given
+abbrev pub part_of : ℕ → ValueLayer → Given
 part_of i (Value-F.Tuple vs) = if i == 0 then unfit else found (slice_get vs (i - 1))
 part_of i _ = unfit
 
@@ -168,7 +167,7 @@ abbrev pub blob_part : List ℕ → ℤ → ℤ → Given
 blob_part b (pos i) (pos n) = if nat_le (i + n) (length b) then gives (value.Blob (take n (drop i b))) else raises bad_index
 blob_part b _ _ = raises bad_index
 
-abbrev pub of_one : Primitive → Layer → Given
+abbrev pub of_one : Primitive → ValueLayer → Given
 of_one prim.Hd (Value-F.List t xs) = first_item xs
 of_one prim.Tl (Value-F.List t xs) = later_items t xs
 of_one prim.Length (Value-F.List t xs) = gives (value.Int (pos (length xs)))
@@ -178,7 +177,7 @@ of_one prim.StringToBlob (Value-F.Str s) = gives (value.Blob s)
 of_one prim.BlobLength (Value-F.Blob b) = gives (value.Int (pos (length b)))
 of_one _ _ = unfit
 
-abbrev pub of_three : Primitive → Layer → Layer → Layer → Given
+abbrev pub of_three : Primitive → ValueLayer → ValueLayer → ValueLayer → Given
 of_three prim.BlobPart (Value-F.Blob b) (Value-F.Int i) (Value-F.Int n) = blob_part b i n
 of_three _ _ _ _ = unfit
 

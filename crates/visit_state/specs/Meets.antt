@@ -5,10 +5,11 @@ use Rattle.plan_base.specs.declared.tree.Value.{Value}
 use Rattle.value_rules.specs.Rules.{Given, gives, raises, unfit}
 use Rattle.remote_calls.specs.declared.fault.SendFault.{SendFault}
 use Rattle.remote_calls.specs.declared.fault.SendFault.TheVariants as fault
+use Rattle.value_rules.specs.Rules.{no_service}
 use Rattle.plan_meaning.specs.declared.stop.Stop.{Stop}
 use Rattle.plan_meaning.specs.declared.stop.Stop.TheVariants.{Raised, Wrong, NoMemory}
 use Rattle.plan_meaning.specs.State.{VisitState}
-use Rattle.plan_meaning.specs.Meaning.{no_bound, no_service, no_route, not_neighbour}
+use Rattle.plan_meaning.specs.Meaning.{no_bound, no_route, not_neighbour}
 use Rattle.plan_meaning.specs.Run.{gave, stopped, Step}
 
 -- the value and the state, or the stop and the state; of want of memory nothing is said

@@ -1,7 +1,7 @@
 ghost use Rattle.std.specs.Prelude.{codes};
 ghost use Rattle.plan_base.specs.Words.{IsName};
-ghost use Rattle.value_rules.specs.Rules.{exception, too_large};
-ghost use Rattle.plan_meaning.specs.Meaning.{no_bound, no_service, no_route, not_neighbour};
+ghost use Rattle.value_rules.specs.Rules.{exception, no_service, too_large};
+ghost use Rattle.plan_meaning.specs.Meaning.{no_bound, no_route, not_neighbour};
 ghost use Rattle.visit_state.specs.Meets.{RaisesOnly};
 
 use plan_base::{Exn, Name};

@@ -9,8 +9,7 @@ ghost use Rattle.plan_meaning.specs.Meaning as spec;
 ghost use Rattle.visit_state.specs.Meets.{Meets, StopsBy};
 
 use crate::raised::{no_bound, no_route, no_service, not_neighbour, too_large};
-use chunk_types::CheckedChunk;
-use packet_frame::CheckedPacket;
+use chunk_types::{CheckedChunk, CheckedPacket};
 use plan_base::{Chunk, Dev, Family, Host, Name, NoMemory, Value, nesting, weight};
 use plan_items::Items;
 use plan_meaning::{Outbox, Outcome, Stop, Visit};

@@ -7,6 +7,3 @@ mod out;
 
 pub use cursor::{Cursor, Truncated};
 pub use out::Out;
-
-#[cfg(test)]
-mod tests;

@@ -94,7 +94,7 @@ visited_fits : (acts : List Act) (node : NodeState) (p : Packet) → PacketFits 
 unfolding visited
 visited_fits acts node p h n =
     let k = visit_keeps node p in
-    let v = visit_fits node p n.services.good h.chunk in
+    let v = visit_fits node p n.services.good n.near h.chunk in
     record {
       node = record {
         near = n.near;

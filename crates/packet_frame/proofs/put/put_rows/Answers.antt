@@ -1,5 +1,5 @@
 use Rattle.std.proofs.Common.{true}
-use Rattle.packet_frame.specs.declared.frame.AdvertRow.{AdvertRow}
+use Rattle.service_api.specs.declared.advert.AdvertRow.{AdvertRow}
 use Rattle.packet_frame.specs.Bytes.{row_bytes}
 use Rattle.chunk_writer.proofs.Puts.{written_none, written_bytes, written_room, all_true}
 use Rattle.packet_frame.proofs.Sizes.{row_room}

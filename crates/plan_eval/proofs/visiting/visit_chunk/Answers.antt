@@ -1,42 +1,28 @@
-use Rattle.std.proofs.Common.{◌∙◌}
 use Rattle.plan_meaning.specs.State.{joined}
 use Rattle.plan_eval.proofs.Visits.{safe_from, never_from, gave_from, raised_from, spent_from}
 use Rattle.plan_eval.proofs.visiting.visit_chunk.Goals as goal
 
 pub visited-requires-clause-safe : goal.visited-requires-clause-safe
 visited-requires-clause-safe g c =
-    safe_from c.args.chunk.now c.args.ctx.now _ c.args.family _ _ (c.new-state.ensures, c.in_ok-around.ensures) c.requires.good (g.met.S.Services.good c.args.svc.now)
+    safe_from c.args.chunk.now c.args.ctx.now _ c.args.family _ _ (c.new-state.ensures, c.in_ok-around.ensures) c.requires.good (record { serve = g.met.S.Services.good c.args.svc.now; rows = c.requires.rows }) c.requires.near
 
 pub unreachable-requires : goal.unreachable-requires
 unreachable-requires g c =
-    never_from c.args.chunk.now c.args.ctx.now _ c.args.family _ _ (c.new-state.ensures, c.in_ok-around.ensures) c.requires.good (g.met.S.Services.good c.args.svc.now)
+    never_from c.args.chunk.now c.args.ctx.now _ c.args.family _ _ (c.new-state.ensures, c.in_ok-around.ensures) c.requires.good (record { serve = g.met.S.Services.good c.args.svc.now; rows = c.requires.rows }) c.requires.near
     _ _ c.in-Err-Wrong.field-0-is c.in-Err-Wrong.ensures.meets
 
 pub returns-in-Ok-clause-visits : goal.returns-in-Ok-clause-visits
 returns-in-Ok-clause-visits g c =
     let new = g.S.Services.stands c.visited.new.svc in
     (gave_from c.args.chunk.now c.args.ctx.now _ c.args.family _ _ (c.new-state.ensures, c.in_ok-around.ensures)
-    c.in-Ok.v (joined c.visited.new.state new) c.ended.result c.in-Ok.ensures.meets (c.ended.ensures new)).0
-
-pub returns-in-Ok-clause-balance : goal.returns-in-Ok-clause-balance
-returns-in-Ok-clause-balance g c =
-    let new = g.S.Services.stands c.visited.new.svc in
-    (gave_from c.args.chunk.now c.args.ctx.now _ c.args.family _ _ (c.new-state.ensures, c.in_ok-around.ensures)
-    c.in-Ok.v (joined c.visited.new.state new) c.ended.result c.in-Ok.ensures.meets (c.ended.ensures new)).1 ∙ c.requires.bound
+    c.in-Ok.v (joined c.visited.new.state new) c.ended.result c.in-Ok.ensures.meets (c.ended.ensures new))
 
 pub returns-in-Err-Raised-clause-visits : goal.returns-in-Err-Raised-clause-visits
 returns-in-Err-Raised-clause-visits g c =
     let new = g.S.Services.stands c.visited.new.svc in
     (raised_from c.args.chunk.now c.args.ctx.now _ c.args.family _ _ (c.new-state.ensures, c.in_ok-around.ensures)
     c.in-Err-Raised.x c.in-Err-Raised.field-0 (joined c.visited.new.state new) c.ended-in-Err-Raised.result c.in-Err-Raised.field-0-is
-    c.in-Err-Raised.ensures.meets (c.ended-in-Err-Raised.ensures new)).0
-
-pub returns-in-Err-Raised-clause-balance : goal.returns-in-Err-Raised-clause-balance
-returns-in-Err-Raised-clause-balance g c =
-    let new = g.S.Services.stands c.visited.new.svc in
-    (raised_from c.args.chunk.now c.args.ctx.now _ c.args.family _ _ (c.new-state.ensures, c.in_ok-around.ensures)
-    c.in-Err-Raised.x c.in-Err-Raised.field-0 (joined c.visited.new.state new) c.ended-in-Err-Raised.result c.in-Err-Raised.field-0-is
-    c.in-Err-Raised.ensures.meets (c.ended-in-Err-Raised.ensures new)).1 ∙ c.requires.bound
+    c.in-Err-Raised.ensures.meets (c.ended-in-Err-Raised.ensures new))
 
 pub returns-in-Err-WorkSpent-clause-visits : goal.returns-in-Err-WorkSpent-clause-visits
 returns-in-Err-WorkSpent-clause-visits g c =

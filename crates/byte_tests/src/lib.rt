@@ -1,0 +1,13 @@
+//! Bytes of chunks and frames, read, written and told.
+#![tactic(auto)]
+
+#[cfg(test)]
+mod frames;
+#[cfg(test)]
+mod spelled;
+#[cfg(test)]
+mod told;
+#[cfg(test)]
+mod wire;
+#[cfg(test)]
+mod written;

@@ -1,0 +1,58 @@
+ghost use Rattle.std.specs.Prelude.{◌≡◌, ◌<◌, length, map, Option};
+ghost use Rattle.std.specs.Option.{option_copied};
+ghost use Rattle.item_keys.specs.Keys.{IsUnique, found};
+ghost use Rattle.keyed_list.specs.Order.{key_cmp};
+ghost use Rattle.keyed_list.specs.Index.{IsIndex, IsSpot};
+
+use item_keys::HasKey;
+use std::cmp::Ordering;
+
+/// How the key of `a` stands to that of `b`.
+#[tactic(auto, unfolding(crate::specs::Order::key_cmp))]
+pub fn compare<A: HasKey, B: HasKey>(a: &A, b: &B) -> Ordering
+    ensures { result ≡ key_cmp (A.key_of a.now) (B.key_of b.now) }
+{
+    match a.number().cmp(&b.number()) {
+        Ordering::Less => Ordering::Less,
+        Ordering::Equal => a.name().cmp(b.name()),
+        Ordering::Greater => Ordering::Greater,
+    }
+}
+
+/// The place of the index at which the key stands, or the one before which it would.
+pub fn search<T: HasKey, Q: HasKey>(
+    items: &[T],
+    order: &[usize],
+    wanted: &Q,
+) -> Result<usize, usize>
+    requires { IsIndex (map T.key_of items.now) order.now }
+    ensures { IsSpot (map T.key_of items.now) order.now (Q.key_of wanted.now) result }
+{
+    let mut lo = 0;
+    let mut hi = order.len();
+    while lo < hi {
+        let mid = lo + (hi - lo) / 2;
+        match compare(&items[order[mid]], wanted) {
+            Ordering::Less => lo = mid + 1,
+            Ordering::Equal => return Ok(mid),
+            Ordering::Greater => hi = mid,
+        }
+    }
+    Err(lo)
+}
+
+/// The item of the key.
+pub fn look_up<'a, T: HasKey, Q: HasKey>(
+    items: &'a [T],
+    order: &[usize],
+    wanted: &Q,
+) -> Option<&'a T>
+    requires unique { IsUnique T.key_of items.now }
+    requires index { IsIndex (map T.key_of items.now) order.now }
+    ensures { option_copied result ≡ found T.key_of (Q.key_of wanted.now) items.now }
+{
+    match search(items, order, wanted) {
+        Ok(j) => Some(&items[order[j]]),
+        Err(_) => None,
+    }
+}

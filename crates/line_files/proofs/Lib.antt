@@ -1,0 +1,10 @@
+pub mod Splits
+pub mod Digits
+pub mod TextLaws
+pub mod PackageLists
+pub mod HostRows
+pub mod FileLaws
+pub mod Keeping
+pub mod KeptPrograms
+pub mod Placing
+pub mod Again

@@ -1,0 +1,9 @@
+pub mod Lines
+pub mod Reads
+pub mod Files
+pub mod Numbers
+pub mod Packages
+pub mod HostLists
+pub mod FileNames
+pub mod HexWords
+pub mod Programs

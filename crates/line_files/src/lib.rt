@@ -1,0 +1,23 @@
+//! Files of lines: what all of them share. Lines and words, numbers, hosts, packages, file names, bytes in hex,
+//! programs and what is injected, and the reading of a whole file line by line up to its first refusal.
+#![tactic(auto)]
+
+mod fault;
+mod file_names;
+mod files;
+mod hex_words;
+mod host_lists;
+mod numbers;
+mod package_words;
+mod programs;
+mod words;
+
+pub use fault::{LineFault, LineReason, Stop};
+pub use file_names::{as_file_name, file_name};
+pub use files::{LineFile, read_file};
+pub use hex_words::{decoded, hex_bytes};
+pub use host_lists::hosts;
+pub use numbers::{decimal, number, number_of};
+pub use package_words::{package, packages};
+pub use programs::{OpenProgram, call, injection, name_of, program, weighed};
+pub use words::{Words, allow, is, says_nothing, stopped_at};

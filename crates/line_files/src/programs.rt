@@ -1,0 +1,170 @@
+//! The programs of a file of lines, and the chunks that are injected.
+
+ghost use Rattle.std.specs.Prelude.{◌≡◌, ◌≤◌, length, IfOk, IsTrue, OnOk};
+ghost use Rattle.std.specs.List.{list_all, find};
+ghost use Rattle.std.specs.Option.{option_copied};
+ghost use Rattle.plan_base.specs.WellFormed.{well_formed_value, value_has_types};
+ghost use Rattle.program_text.specs.Texts.{program_of};
+ghost use Rattle.line_files.specs.Programs as spec;
+ghost use Rattle.line_files.specs.Programs.{opened, with_line, accepted, program_in, named_word, has_name, entry_at, args_at, chunk_with, injection_at, call_at, weighed};
+ghost use Rattle.line_files.specs.Reads.{Reads, Gives, Tells};
+
+use crate::fault::{LineReason, Stop};
+use crate::numbers::number;
+use crate::words::{Words, allow, is};
+use chunk_types::{CheckedChunk, ChunkFault, chunk_of};
+use plan_base::{Bytes, Chunk, Fun, Name, NameFault, Values, chunk_weight};
+use plan_types::Checked;
+use program_text::{TextFault, read_args, read_program};
+use std::alloc::{AllocError, Global};
+
+/// A program whose lines are being read.
+#[derive(Debug, Drop)]
+pub struct OpenProgram {
+    /// The number of the line that begins it.
+    pub line: u32,
+    /// Its text so far.
+    pub text: Bytes,
+}
+
+impl OpenProgram {
+    /// A program without text, begun at a line. Takes no memory.
+    pub fn begun(alloc: Global, line: u32) -> OpenProgram
+        ensures { result ≡ opened line }
+    {
+        OpenProgram {
+            line,
+            text: Bytes::new(alloc),
+        }
+    }
+
+    /// One more line of its text.
+    pub fn add_line(&mut self, line: &[u8]) -> Result<(), AllocError>
+        ensures { OnOk result (self.new ≡ with_line self.old line.now) }
+    {
+        self.text.add_all(line)?;
+        self.text.add(b'\n')?;
+        Ok(())
+    }
+}
+
+/// The typed program of a text. Reason: `ProgramRefused`.
+fn accept(alloc: Global, text: &[u8]) -> Result<Checked, Stop>
+    requires { length text.now ≤ 65536 }
+    ensures { Gives (λ p. p) result (accepted (program_of text.now)) }
+{
+    match read_program(alloc, text) {
+        Ok(program) => Ok(program),
+        Err(TextFault::NoMemory) => Err(Stop::NoMemory),
+        Err(why) => Err(Stop::Reason(LineReason::ProgramRefused(why))),
+    }
+}
+
+/// The typed program of a text of at most 65,536 bytes. Reasons: `TooMany`, `ProgramRefused`.
+#[tactic(auto, unfolding(crate::specs::Programs::program_in))]
+pub fn program(alloc: Global, text: &[u8]) -> Result<Checked, Stop>
+    ensures { Gives (λ p. p) result (program_in text.now) }
+{
+    allow(text.len() <= 65_536, LineReason::TooMany)?;
+    accept(alloc, text)
+}
+
+/// A word as a name, or else a reason.
+pub fn name_of(alloc: Global, word: &[u8], reason: LineReason) -> Result<Name, Stop>
+    ensures { Gives (λ n. n) result (named_word word.now reason) }
+{
+    match Name::read(alloc, word) {
+        Ok(name) => Ok(name),
+        Err(NameFault::BadName) => Err(Stop::Reason(reason)),
+        Err(NameFault::NoMemory) => Err(Stop::NoMemory),
+    }
+}
+
+fn find_fun<'a>(funs: &'a [Fun], name: &[u8]) -> Option<&'a Fun>
+    ensures { option_copied result ≡ find (has_name name.now) funs.now }
+{
+    funs.iter().find(|f| is(f.name.as_slice(), name))
+}
+
+/// The next word as the name of a function. Reasons: `BadWord`, `BadArgument`.
+#[tactic(auto, unfolding(crate::specs::Programs::entry_at))]
+fn known_entry<'a>(funs: &'a [Fun], words: &mut Words<'_>) -> Result<&'a Fun, LineReason>
+    ensures { Reads (λ f. f.now) result words.new (entry_at funs.now words.old) }
+{
+    let name = words.next()?;
+    match find_fun(funs, name) {
+        Some(fun) => Ok(fun),
+        None => Err(LineReason::BadArgument),
+    }
+}
+
+/// The rest of the line as arguments, in at most 65,536 bytes. Reasons: `BadWord` where the line has ended,
+/// else `BadArgument`.
+#[tactic(auto, unfolding(crate::specs::Programs::args_at), using(crate::proofs::TextLaws::args_formed, crate::proofs::TextLaws::args_full))]
+fn arguments(alloc: Global, words: &Words<'_>) -> Result<Values, Stop>
+    ensures read { Gives (λ vs. vs) result (args_at words.now) }
+    ensures formed { IfOk result (λ vs. IsTrue (list_all well_formed_value vs)) }
+    ensures full { IfOk result (λ vs. IsTrue (list_all value_has_types vs)) }
+{
+    let text = words.rest()?;
+    allow(text.len() <= 65_536, LineReason::BadArgument)?;
+    match read_args(alloc, text)? {
+        Some(args) => Ok(args),
+        None => Err(Stop::Reason(LineReason::BadArgument)),
+    }
+}
+
+/// A function of a program with arguments as a typed chunk. Reason: `BadArgument`.
+#[tactic(auto, unfolding(crate::specs::Programs::typed_chunk), using(crate::proofs::TextLaws::not_refused))]
+fn typed_chunk(
+    alloc: Global,
+    program: &Checked,
+    entry: &Name,
+    args: Values,
+) -> Result<CheckedChunk, Stop>
+    requires formed { IsTrue (list_all well_formed_value args) }
+    requires full { IsTrue (list_all value_has_types args) }
+    ensures { Gives (λ k. k) result (spec.typed_chunk (chunk_with program.now entry.now args)) }
+{
+    match chunk_of(alloc, program, entry, args) {
+        Ok(chunk) => Ok(chunk),
+        Err(ChunkFault::NoMemory) => Err(Stop::NoMemory),
+        Err(_) => Err(Stop::Reason(LineReason::BadArgument)),
+    }
+}
+
+/// `ENTRY BOUND ARGS` of a program: a typed chunk and its bound. Reasons: `BadWord`, `BadNumber`, `BadArgument`.
+#[tactic(auto, unfolding(crate::specs::Programs::injection_at))]
+pub fn injection(
+    alloc: Global,
+    program: &Checked,
+    words: &mut Words<'_>,
+) -> Result<(CheckedChunk, u32), Stop>
+    ensures { Gives (λ i. i) result (injection_at program.now words.old) }
+{
+    let fun = known_entry(program.program().funs.as_slice(), words)?;
+    let bound = number(words, 0, 65_535)?;
+    let args = arguments(alloc, words)?;
+    let chunk = typed_chunk(alloc, program, &fun.name, args)?;
+    Ok((chunk, bound))
+}
+
+/// `ENTRY ARGS` of a program as a typed chunk. Reasons: `BadWord`, `BadArgument`.
+#[tactic(auto, unfolding(crate::specs::Programs::call_at))]
+pub fn call(alloc: Global, program: &Checked, words: &mut Words<'_>) -> Result<CheckedChunk, Stop>
+    ensures { Gives (λ k. k) result (call_at program.now words.old) }
+{
+    let fun = known_entry(program.program().funs.as_slice(), words)?;
+    let args = arguments(alloc, words)?;
+    typed_chunk(alloc, program, &fun.name, args)
+}
+
+/// The sum of the weights of all injected chunks with one chunk more. Reason: `TooMany` where it passes 16,777,216.
+#[tactic(auto, unfolding(crate::specs::Programs::weighed))]
+pub fn weighed(sum: u64, chunk: &Chunk) -> Result<u64, LineReason>
+    ensures { Tells (λ n. n) result (spec.weighed sum chunk.now) }
+{
+    let weight = chunk_weight(chunk).saturating_add(1).saturating_add(sum);
+    allow(weight <= 16_777_216, LineReason::TooMany)?;
+    Ok(weight)
+}

@@ -1,0 +1,153 @@
+ghost use Rattle.std.specs.Prelude.{◌≡◌, true, ◌==◌, ◌<◌, ◌≤◌, ◌∷◌, [], length, MatchOption, MatchResult, IfSome};
+ghost use Rattle.std.specs.List.{position, position_or_len};
+ghost use Rattle.std.specs.Str.{bytes_eq};
+ghost use Rattle.line_files.specs.Lines.{lines, left};
+ghost use Rattle.line_files.specs.Files.{is_skipped};
+ghost use Rattle.line_files.specs.Reads.{Reads, word_at, rest_at, end_at, has_word, allowed, fault_at};
+
+use crate::fault::{LineFault, LineReason, Stop};
+use std::marker::Model;
+
+/// The place of the first `b`.
+fn place_of(text: &[u8], b: u8) -> Option<usize>
+    ensures { result ≡ position (λ x. x == b) text.now }
+{
+    text.iter().position(|x| *x == b)
+}
+
+#[tactic(auto, using(crate::proofs::Splits::place_is))]
+/// The number of bytes before the first `b`, or of all bytes where there is none.
+fn find_byte(text: &[u8], b: u8) -> usize
+    ensures place { result ≡ position_or_len (λ x. x == b) text.now }
+    ensures within { result ≤ length text.now }
+{
+    place_of(text, b).unwrap_or(text.len())
+}
+
+#[tactic(auto, using(crate::proofs::Splits::line_last, crate::proofs::Splits::line_more), unfolding(crate::specs::Lines::lines))]
+/// The first line and the bytes behind it, or none where no byte is left.
+pub fn next_line(bytes: &[u8]) -> Option<(&[u8], &[u8])>
+    ensures split { MatchOption result (lines bytes.now ≡ []) (λ p. lines bytes.now ≡ p.0.now ∷ lines p.1.now) }
+    ensures shorter { IfSome result (λ p. length p.1.now < length bytes.now) }
+{
+    if bytes.is_empty() {
+        return None;
+    }
+    let end = find_byte(bytes, b'\n');
+    let (line, rest) = bytes.split_at(end);
+    if end == bytes.len() {
+        return Some((line, rest));
+    }
+    let (_, rest) = bytes.split_at(end + 1);
+    Some((line, rest))
+}
+
+/// Whether two byte strings are the same.
+pub fn is(word: &[u8], text: &[u8]) -> bool
+    ensures { result ≡ bytes_eq word.now text.now }
+{
+    word == text
+}
+
+/// Nothing where a rule is kept, else the reason that stands for it.
+pub fn allow(kept: bool, reason: LineReason) -> Result<(), LineReason>
+    ensures { result ≡ allowed kept reason }
+{
+    if kept { Ok(()) } else { Err(reason) }
+}
+
+/// The words of a line that are still to come.
+#[derive(Debug, Drop)]
+pub struct Words<'a> {
+    rest: &'a [u8],
+    more: bool,
+}
+
+impl<'a> Model for Words<'a> {
+    ghost use Rattle.std.specs.Prelude.{List, ℕ};
+    ghost use Rattle.line_files.specs.Lines.{left};
+
+    ghost Value = { List (List ℕ) };
+
+    ghost view = { λ w. left w.more w.rest.now };
+}
+
+impl<'a> Words<'a> {
+    /// All words of a line.
+    pub fn of(line: &'a [u8]) -> Words<'a>
+        ensures { result ≡ left true line.now }
+    {
+        Words {
+            rest: line,
+            more: true,
+        }
+    }
+
+    #[tactic(auto, using(crate::proofs::Splits::word_last, crate::proofs::Splits::word_more))]
+    /// The next word. The reason is `BadWord` where the line has ended.
+    pub fn next(&mut self) -> Result<&'a [u8], LineReason>
+        ensures { Reads (λ w. w.now) result self.new (word_at self.old) }
+    {
+        if !self.more {
+            return Err(LineReason::BadWord);
+        }
+        let rest = self.rest;
+        let end = find_byte(rest, b' ');
+        if end == rest.len() {
+            self.more = false;
+            return Ok(rest);
+        }
+        let (word, _) = rest.split_at(end);
+        let (_, rest) = rest.split_at(end + 1);
+        self.rest = rest;
+        Ok(word)
+    }
+
+    /// Whether a word is left.
+    #[tactic(auto, using(crate::proofs::Splits::goes_on_is))]
+    pub fn goes_on(&self) -> bool
+        ensures { result ≡ has_word self.now }
+    {
+        self.more
+    }
+
+    #[tactic(auto, using(crate::proofs::Splits::rest_all))]
+    /// The rest of the line. The reason is `BadWord` where the line has ended.
+    pub fn rest(&self) -> Result<&'a [u8], LineReason>
+        ensures { MatchResult result (λ r. rest_at self.now ≡ Ok r.now) (λ e. rest_at self.now ≡ Err e) }
+    {
+        if self.more {
+            Ok(self.rest)
+        } else {
+            Err(LineReason::BadWord)
+        }
+    }
+
+    #[tactic(auto, using(crate::proofs::Splits::ended_is))]
+    /// Nothing where the line has ended. The reason is `BadWord` where a word is left.
+    pub fn end(&self) -> Result<(), LineReason>
+        ensures { result ≡ end_at self.now }
+    {
+        allow(!self.more, LineReason::BadWord)
+    }
+}
+
+/// Whether a line says nothing: it is empty or a comment.
+pub fn says_nothing(line: &[u8]) -> bool
+    ensures { result ≡ is_skipped line.now }
+{
+    match line {
+        [] => true,
+        [first, ..] => *first == b'#',
+    }
+}
+
+/// A stop at its line.
+pub fn stopped_at(number: u32, stop: Stop) -> LineFault
+    ensures { result ≡ fault_at number stop }
+{
+    match stop {
+        Stop::Reason(reason) => LineFault::Line(number, reason),
+        Stop::NoMemory => LineFault::NoMemory,
+    }
+}

@@ -1,0 +1,6 @@
+pub mod Balance
+pub mod CountLaws
+pub mod Fitting
+pub mod Giving
+pub mod Opening
+pub mod Wires

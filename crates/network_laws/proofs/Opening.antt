@@ -1,0 +1,118 @@
+-- A network keeps its limits at the beginning.
+use Rattle.std.proofs.Common.{◌≡◌, ℕ, zero, suc, ◌+◌, ◌<◌, ◌≤◌, ◌^◌, List, [], ◌∷◌, ◌++◌, refl, sym, ap, ◌∙◌, subst, arith, length}
+use Rattle.std.specs.Prelude.{map, ◌==◌, ◌||◌, Option, Some, None, All}
+use Rattle.std.proofs.lemmas.List.Elements.{All-nil, All-cons, All-head, All-tail, All-append, All-weaker}
+use Rattle.std.proofs.lemmas.List.{append-nil, length-append, length-map}
+use Rattle.plan_base.specs.declared.ids.Host.{Host}
+use Rattle.plan_base.specs.declared.ids.Dev.{Dev}
+use Rattle.service_api.specs.PrintsGood.{serve_good}
+use Rattle.service_api.proofs.Types.{no_rows_good}
+use Rattle.network_plan.specs.Hosts.{has_host}
+use Rattle.network_plan.specs.Rules.{HostsDiffer, KeepsNetwork}
+use Rattle.network_plan.specs.declared.schedule.HostSpec.{HostSpec}
+use Rattle.network_plan.specs.declared.schedule.Topology.{Topology}
+use Rattle.dv_routing.specs.Routing.{is_among}
+use Rattle.dv_routing.specs.Sorted as sorted
+use Rattle.node_model.specs.State.{Links, new_node}
+use Rattle.node_model.specs.Fits.{FrameKeeps, NetworkFits, ConfigFits, ServicesFit, NodeFits}
+use Rattle.node_laws.proofs.HostLaws.{new_node_fits}
+use Rattle.world_model.specs.declared.lines.LinkEnd.{LinkEnd}
+use Rattle.world_model.specs.World.{Cables, peer_of, neighbour_at, neighbours_to, opening_services, config_of, opening_node, opening}
+use Rattle.world_model.specs.Sound.{WiredFits, Rise, DevicesFit, IsSound}
+use Rattle.network_laws.proofs.Fitting.{rise-push}
+
+-- ---- hosts
+
+same_among : (x : Host) (hs : List HostSpec) → is_among (map (λ s. s.host) hs) x ≡ has_host x hs
+same_among x [] = refl
+same_among x (h ∷ hs) = ap (λ b. (h.host.0 == x.0) || b) (same_among x hs)
+
+differ_as : (hs : List HostSpec) → HostsDiffer hs → sorted.HostsDiffer (map (λ s. s.host) hs)
+differ_as [] d = tt
+differ_as (h ∷ hs) d = (same_among h.host hs ∙ d.0, differ_as hs d.1)
+
+numbers_as : (hs : List HostSpec) → All (λ s. s.host.0 < 2 ^ 32) hs → All (λ h. h.0 < 2 ^ 32) (map (λ s. s.host) hs)
+numbers_as [] a = All-nil (λ h. h.0 < 2 ^ 32)
+numbers_as (h ∷ hs) a = All-cons (λ h. h.0 < 2 ^ 32) h.host (map (λ s. s.host) hs) (All-head (λ s. s.host.0 < 2 ^ 32) h hs a) (numbers_as hs (All-tail (λ s. s.host.0 < 2 ^ 32) h hs a))
+
+network_fits : (t : Topology) → KeepsNetwork t → NetworkFits (map (λ s. s.host) t.hosts)
+network_fits t k = record { few = omega (arith, k.few, length-map t.hosts (λ s. s.host)); differ = differ_as t.hosts k.hosts; numbers = numbers_as t.hosts k.numbers }
+
+-- ---- neighbours
+
+one_neighbour : (d : Dev) (o : Option LinkEnd) → length (neighbour_at d o) ≤ 1
+one_neighbour d None = omega arith
+one_neighbour d (Some far) = omega arith
+
+near_to : (links : Cables) (h : Host) (n : ℕ) → length (neighbours_to links h n) ≤ n
+unfolding neighbours_to
+near_to links h zero = omega arith
+near_to links h (suc n) =
+    let o = peer_of links h (record { 0 = n + 1 }) in
+    omega (arith, length-append (neighbours_to links h n) (neighbour_at (record { 0 = n + 1 }) o), one_neighbour (record { 0 = n + 1 }) o, near_to links h n)
+
+abbrev Within : ℕ → Host × Dev → Type 0
+Within n link = (1 ≤ link.1.0) × (link.1.0 ≤ n)
+
+-- the neighbours on devices up to n: their devices, in order
+record Near (n : ℕ) (links : Links) : Type 0 where
+  within : All (Within n) links
+  rise : Rise (λ link. link.1.0) links
+
+one_more : (n : ℕ) (o : Option LinkEnd) (links : Links) → Near n links → Near (suc n) (links ++ neighbour_at (record { 0 = n + 1 }) o)
+one_more n o links k =
+    let wider = All-weaker (Within n) (Within (suc n)) (λ x h. (h.0, omega (arith, h.1))) links k.within in
+    record {
+      within = All-append (Within (suc n)) links (neighbour_at (record { 0 = n + 1 }) o) wider (last o);
+      rise = ends o;
+    }
+  where
+    last : (o : Option LinkEnd) → All (Within (suc n)) (neighbour_at (record { 0 = n + 1 }) o)
+    last None = All-nil (Within (suc n))
+    last (Some far) = All-cons (Within (suc n)) (far.host, record { 0 = n + 1 }) [] (omega arith, omega arith) (All-nil (Within (suc n)))
+
+    ends : (o : Option LinkEnd) → Rise (λ link. link.1.0) (links ++ neighbour_at (record { 0 = n + 1 }) o)
+    ends None = let P : Links → Type 0 = λ ls. Rise (λ link. link.1.0) ls in subst P (sym (append-nil links)) k.rise
+    ends (Some far) = rise-push (λ link. link.1.0) links (far.host, record { 0 = n + 1 }) k.rise (All-weaker (Within n) (λ y. y.1.0 < n + 1) (λ x h. omega (arith, h.1)) links k.within)
+
+near : (links : Cables) (h : Host) (n : ℕ) → Near n (neighbours_to links h n)
+unfolding neighbours_to
+near links h zero = record { within = All-nil (Within 0); rise = tt }
+near links h (suc n) = one_more n (peer_of links h (record { 0 = n + 1 })) (neighbours_to links h n) (near links h n)
+
+-- ---- nodes
+
+services_fit : (h : HostSpec) → ServicesFit (opening_services h)
+services_fit h = record { good = record { serve = serve_good; rows = no_rows_good }; closed = refl; waits = refl }
+
+config_fits : (t : Topology) (h : HostSpec) → KeepsNetwork t → ConfigFits (config_of t h)
+config_fits t h k = record { hosts = network_fits t k; near = near_to t.links h.host 8 }
+
+opening_node_fits : (t : Topology) (h : HostSpec) → h.host.0 < 2 ^ 32 → KeepsNetwork t → NodeFits (opening_node t h)
+unfolding opening_node
+opening_node_fits t h n k = new_node_fits (config_of t h) (opening_services h) n (omega arith) (config_fits t h k) (services_fit h)
+
+opening_devices : (t : Topology) (h : HostSpec) → DevicesFit (opening_node t h)
+unfolding opening_node new_node
+opening_devices t h = let k = near t.links h.host 8 in record { queues = refl; devices = k.within; once = k.rise }
+
+nodes_fit : (t : Topology) (hs : List HostSpec) → KeepsNetwork t → All (λ s. s.host.0 < 2 ^ 32) hs → All NodeFits (map (opening_node t) hs)
+nodes_fit t [] k a = All-nil NodeFits
+nodes_fit t (h ∷ hs) k a = All-cons NodeFits (opening_node t h) (map (opening_node t) hs) (opening_node_fits t h (All-head (λ s. s.host.0 < 2 ^ 32) h hs a) k)
+    (nodes_fit t hs k (All-tail (λ s. s.host.0 < 2 ^ 32) h hs a))
+
+devices_fit : (t : Topology) (hs : List HostSpec) → All DevicesFit (map (opening_node t) hs)
+devices_fit t [] = All-nil DevicesFit
+devices_fit t (h ∷ hs) = All-cons DevicesFit (opening_node t h) (map (opening_node t) hs) (opening_devices t h) (devices_fit t hs)
+
+-- the limits stand at the beginning
+pub opening_sound : (t : Topology) → KeepsNetwork t → IsSound (opening t)
+unfolding opening
+opening_sound t k = record {
+  nodes = nodes_fit t t.hosts k k.numbers;
+  devices = devices_fit t t.hosts;
+  wire = All-nil (WiredFits FrameKeeps 1);
+  once = tt;
+  room = omega arith;
+  numbers = omega arith;
+}

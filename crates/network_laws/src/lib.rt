@@ -1,0 +1,10 @@
+//! The laws of networks: each event and each run is in balance, keeps the limits, and grants each
+//! family once.
+#![tactic(auto)]
+
+mod laws;
+
+pub use laws::{
+    events_keep, frames_lead_over_links, numbers_go_once, openings_are_sound, runs_are_bounded,
+    runs_are_granted, runs_balance,
+};

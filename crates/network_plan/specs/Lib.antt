@@ -1,0 +1,4 @@
+pub mod Hosts
+pub mod FileNames
+pub mod Rules
+pub mod NodeRules

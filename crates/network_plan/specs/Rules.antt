@@ -1,0 +1,74 @@
+-- What plans of networks keep.
+use Rattle.std.specs.Prelude.{◌≡◌, ◌≢◌, ℕ, ◌≤◌, ◌<◌, ◌^◌, true, false, List, [], ◌∷◌, length, get_or}
+use Rattle.std.specs.List.{All}
+use Rattle.plan_base.specs.declared.ids.Dev.{Dev}
+use Rattle.plan_base.specs.declared.tree.Chunk.{Chunk}
+use Rattle.chunk_types.specs.Chunks.{IsCheckedChunk}
+use Rattle.service_api.specs.declared.package.PackageName.{PackageName}
+use Rattle.network_plan.specs.declared.schedule.HostSpec.{HostSpec}
+use Rattle.network_plan.specs.declared.schedule.Topology.{Topology}
+use Rattle.network_plan.specs.declared.schedule.Schedule.{Schedule}
+use Rattle.network_plan.specs.declared.event.WorldEvent.{WorldEvent}
+use Rattle.network_plan.specs.declared.event.WorldEvent.TheVariants as happens
+use Rattle.network_plan.specs.Hosts.{Cable, has_host, has_link}
+
+-- no host is named twice
+abbrev pub HostsDiffer : List HostSpec → Type 0
+HostsDiffer [] = Unit {0}
+HostsDiffer (h ∷ hs) = (has_host h.host hs ≡ false) × HostsDiffer hs
+
+-- no package is named twice
+abbrev pub PackagesDiffer : List PackageName → Type 0
+PackagesDiffer [] = Unit {0}
+PackagesDiffer (p ∷ ps) = All (λ q. q ≢ p) ps × PackagesDiffer ps
+
+-- no device of a host has two links
+abbrev pub LinksApart : List Cable → Type 0
+LinksApart [] = Unit {0}
+LinksApart (l ∷ ls) = (has_link l.0 l.1 ls ≡ false) × (has_link l.2 l.3 ls ≡ false) × LinksApart ls
+
+-- a device that leads to another node
+abbrev pub IsLinkDevice : Dev → Type 0
+IsLinkDevice d = (1 ≤ d.0) × (d.0 ≤ 8)
+
+-- a link goes from a device of one host to a device of another
+pub record KeepsLink (hosts : List HostSpec) (l : Cable) : Type 0 where
+  pub from : has_host l.0 hosts ≡ true
+  pub to : has_host l.2 hosts ≡ true
+  pub apart : l.2.0 ≢ l.0.0
+  pub from_device : IsLinkDevice l.1
+  pub to_device : IsLinkDevice l.3
+
+-- a network within its limits
+pub record KeepsNetwork (t : Topology) : Type 0 where
+  pub few : length t.hosts ≤ 32
+  pub hosts : HostsDiffer t.hosts
+  pub numbers : All (λ s. s.host.0 < 2 ^ 32) t.hosts
+  pub missing : All (λ s. PackagesDiffer s.missing) t.hosts
+  pub links : All (KeepsLink t.hosts) t.links
+  pub apart : LinksApart t.links
+
+-- what is injected: a typed chunk with a bound of at most 65,535
+abbrev pub KeepsInjection : Chunk → ℕ → Type 0
+KeepsInjection chunk bound = (bound ≤ 65535) × IsCheckedChunk chunk
+
+-- bytes that may arrive: the longest frame and one byte more, so that a frame that is too long is seen
+pub record MayArrive (bytes : List ℕ) : Type 0 where
+  pub some : 1 ≤ length bytes
+  pub few : length bytes ≤ 16513
+  pub are_bytes : (i : ℕ) → get_or bytes i 0 < 256
+
+-- an event of a network is at one of its hosts, and what it hands in keeps the limits
+abbrev pub KeepsEvent : List HostSpec → WorldEvent → Type 0
+KeepsEvent hosts (happens.Inject h chunk bound) = (has_host h hosts ≡ true) × KeepsInjection chunk bound
+KeepsEvent hosts (happens.Send h d) = (has_host h hosts ≡ true) × (d.0 ≤ 8)
+KeepsEvent hosts (happens.Deliver k) = k < 2 ^ 32
+KeepsEvent hosts (happens.Lose k) = k < 2 ^ 32
+KeepsEvent hosts (happens.Tick h) = has_host h hosts ≡ true
+KeepsEvent hosts (happens.Raw h d bytes) = (has_host h hosts ≡ true) × (d.0 ≤ 8) × MayArrive bytes
+
+-- a schedule within its limits
+pub record KeepsRules (s : Schedule) : Type 0 where
+  pub network : KeepsNetwork s.topology
+  pub few : length s.events ≤ 50000
+  pub events : All (KeepsEvent s.topology.hosts) s.events

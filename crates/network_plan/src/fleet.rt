@@ -1,0 +1,35 @@
+use chunk_types::CheckedChunk;
+use plan_base::{Host, Text};
+use plan_items::Items;
+
+/// A request to inject a chunk at a serving node.
+#[derive(Debug, Drop)]
+pub struct AskFile {
+    /// The port to which it is sent, not 0.
+    pub to: u16,
+    /// The port from which it is sent, not 0.
+    pub from: u16,
+    /// The bound of the injection, at most 65,535.
+    pub bound: u32,
+    /// What is injected.
+    pub chunk: CheckedChunk,
+}
+
+/// Several nodes and requests that are started together.
+#[derive(Debug, Drop)]
+pub struct Fleet {
+    /// What is started, in order, 1 to 64.
+    pub children: Kids,
+}
+
+/// A list of children.
+pub type Kids = Items<Kid>;
+
+/// A child of a fleet.
+#[derive(Debug, Drop)]
+pub enum Kid {
+    /// A node, with the file of its configuration and its number of turns, from 1 to 1,000,000.
+    Node(Host, Text, u32),
+    /// A request for a node, with its file.
+    Ask(Host, Text),
+}

@@ -1,0 +1,31 @@
+use crate::event::LogEvents;
+use plan_base::Host;
+use plan_items::Items;
+use service_api::{Neighbours, Packages};
+
+/// A list of hosts.
+pub type Hosts = Items<Host>;
+
+/// How a node begins.
+#[derive(Debug, Drop)]
+pub struct NodeConfig {
+    /// Its own host.
+    pub here: Host,
+    /// The hosts of its network, at most 32, ascending, its own among them.
+    pub hosts: Hosts,
+    /// Its neighbours, each with the device, from 1 to 8, that leads to it, by device.
+    pub neighbours: Neighbours,
+    /// The serial number of its next injection.
+    pub serial: u64,
+}
+
+/// The log of a node: how it began, with serial number 1, and what happened to it.
+#[derive(Debug, Drop)]
+pub struct Log {
+    /// How it began.
+    pub node: NodeConfig,
+    /// The packages of services that it lacks, each once, in the order in which they were named.
+    pub missing: Packages,
+    /// What happened, in order, at most 50,000.
+    pub events: LogEvents,
+}

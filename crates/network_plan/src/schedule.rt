@@ -1,0 +1,42 @@
+use crate::event::WorldEvents;
+use plan_base::{Dev, Host};
+use plan_items::Items;
+use service_api::Packages;
+
+/// A schedule: a network and what happens to it, one event after the other.
+#[derive(Debug, Drop)]
+pub struct Schedule {
+    /// Whether the trace shows the frames that go onto the wire.
+    pub frames: bool,
+    /// The network.
+    pub topology: Topology,
+    /// The events in order, at most 50,000.
+    pub events: WorldEvents,
+}
+
+/// A network: hosts and the links between them.
+#[derive(Debug, Drop)]
+pub struct Topology {
+    /// The hosts in the order of their lines, at most 32, all different.
+    pub hosts: HostSpecs,
+    /// The links in the order of their lines.
+    pub links: Links,
+}
+
+/// A list of hosts.
+pub type HostSpecs = Items<HostSpec>;
+
+/// A host of a network.
+#[derive(Debug, Drop)]
+pub struct HostSpec {
+    /// Its number.
+    pub host: Host,
+    /// The packages of services that it lacks, each once, in the order in which they were named.
+    pub missing: Packages,
+}
+
+/// A link from a device of one host to a device of another.
+pub type Link = (Host, Dev, Host, Dev);
+
+/// A list of links.
+pub type Links = Items<Link>;

@@ -1,0 +1,35 @@
+use crate::node::NodeConfig;
+use chunk_types::CheckedChunk;
+use plan_base::{Dev, Text};
+use plan_items::Items;
+use service_api::Packages;
+
+/// The ports at which the neighbours listen, each with its device, by device.
+pub type DevPorts = Items<(Dev, u16)>;
+
+/// An injection of a serving node: the turn, from 1 to 1,000,000, the bound, at most 65,535, and what is injected.
+pub type Inject = (u32, u32, CheckedChunk);
+
+/// A list of injections of a serving node.
+pub type Injects = Items<Inject>;
+
+/// How a node serves.
+#[derive(Debug, Drop)]
+pub struct ServeConfig {
+    /// How the node begins, with serial number 1.
+    pub node: NodeConfig,
+    /// The packages of services that it lacks, each once, in the order in which they were named.
+    pub missing: Packages,
+    /// The port at which it listens. All ports differ, and none is 0.
+    pub port: u16,
+    /// The port of its owner.
+    pub control: u16,
+    /// The milliseconds from one tick to the next, from 1 to 60,000.
+    pub period: u32,
+    /// The name of its log.
+    pub log: Text,
+    /// The ports of its neighbours, with the devices of `node.neighbours`.
+    pub devs: DevPorts,
+    /// Its injections in the order of their lines, whose chunks weigh at most 16,777,216 in sum.
+    pub at: Injects,
+}

@@ -1,0 +1,4 @@
+pub mod HostLaws
+pub mod SendLaws
+pub mod StepLaws
+pub mod TurnLaws

@@ -1,0 +1,13 @@
+use Rattle.node_model.specs.State.{routing_of}
+use Rattle.node_core.proofs.node.Node.learn.Goals as goal
+
+pub returns : goal.returns
+returns g c = λ s h. record {
+  here = h.here;
+  routes = c.hear.ensures (routing_of s) h.routes;
+  neighbours = h.neighbours;
+  services = h.services;
+  queues = h.queues;
+  serial = h.serial;
+  time = h.time;
+}

@@ -1,0 +1,6 @@
+use Rattle.node_core.proofs.StepLaws.{injected}
+use Rattle.std.proofs.Common.{refl}
+use Rattle.node_core.proofs.node.Node.visit_own.Goals as goal
+
+pub returns-clause-ok : goal.returns-clause-ok
+returns-clause-ok g c = λ s h. injected _ _ s _ _ _ _ refl (c.in_ok-acts.ensures.ok s h)

@@ -1,0 +1,4 @@
+pub mod Heard
+pub mod Queued
+pub mod Stands
+pub mod Turns

@@ -1,0 +1,43 @@
+-- Which state of the definition a node stands for.
+use Rattle.std.specs.Prelude.{◌≡◌, ℕ, ◌≤◌}
+use Rattle.plan_base.specs.declared.ids.Host.{Host}
+use Rattle.plan_base.specs.declared.ids.Family.{Family}
+use Rattle.plan_base.specs.declared.tree.Chunk.{Chunk}
+use Rattle.plan_base.specs.declared.tree.Packet.{Packet}
+use Rattle.packet_frame.specs.declared.frame.PlainFrame.{PlainFrame}
+use Rattle.service_api.specs.Routes.{default_route}
+use Rattle.service_api.specs.Services.{Standing}
+use Rattle.dv_routing.specs.Stands.{Stands}
+use Rattle.node_model.specs.declared.acts.Acts.{Acts}
+use Rattle.node_model.specs.State.{NodeState, routing_of}
+use Rattle.node_model.specs.Node.{Step}
+use Rattle.node_core.specs.declared.node.Node.{Node}
+
+-- a node stands for a state: its routes for the adverts heard, its queued bytes for the frames that they spell, its services for
+-- what they stand for; all else is equal
+pub record NodeStands {S : Type 0} (stands : S → Standing) (n : Node S) (s : NodeState) : Type 0 where
+  pub here : n.here ≡ s.here
+  pub routes : Stands (routing_of s) n.routes
+  pub neighbours : n.neighbours ≡ s.neighbours
+  pub services : stands n.services ≡ s.services
+  pub queues : n.queues.items ≡ s.queues
+  pub serial : n.serial ≡ s.serial
+  pub time : n.time ≡ s.now
+
+-- the acts and the frame of a step are those of its definition, and the node stands for the state after it
+pub record IsStep {S : Type 0} (stands : S → Standing) (step : Step) (acts : Acts) (new : Node S) : Type 0 where
+  pub list : acts.list ≡ step.acts
+  pub frame : acts.frame ≡ step.frame
+  pub node : NodeStands stands new step.node
+
+-- the family and the packet of an injection at a host with this serial number
+abbrev pub own_family : Host → ℕ → Family
+own_family here serial = record { source = here; serial = serial }
+
+abbrev pub own_packet : Host → ℕ → Chunk → ℕ → Packet
+own_packet here serial chunk bound = record { family = own_family here serial; dest = here; bound = bound; route = default_route; chunk = chunk }
+
+-- the bound of an ask is at most 65,535
+abbrev pub asks_within : PlainFrame → Type 0
+asks_within (PlainFrame.Ask bound chunk) = bound ≤ 65535
+asks_within _ = Unit {0}

@@ -1,0 +1,31 @@
+-- A visit that was made, of which nothing stands yet.
+use Rattle.std.specs.Prelude.{◌≡◌, ◌+◌, ◌≤◌, Bool, true, false, if◌then◌else◌, List, None, ◌∷◌, ◌++◌, length, map, vec_len, vec_capacity, []}
+use Rattle.plan_base.specs.declared.tree.Packet.{Packet}
+use Rattle.service_api.specs.Services.{Standing, kept, abandoned}
+use Rattle.plan_meaning.specs.declared.outcome.Outcome.{Outcome}
+use Rattle.plan_meaning.specs.declared.outcome.Outcome.TheVariants.{WorkSpent}
+use Rattle.plan_meaning.specs.declared.outcome.Visit.{Visit}
+use Rattle.node_model.specs.declared.acts.Act.{Act}
+use Rattle.node_model.specs.declared.acts.Act.TheVariants.{Noted, Ended}
+use Rattle.node_model.specs.Node.{visit_sends}
+use Rattle.node_core.specs.declared.resting.Turn.{Turn}
+
+-- no visit is open
+pub record IsResting (n : Standing) : Type 0 where
+  pub closed : n.begun ≡ None
+  pub waits : n.ready ≡ false
+
+-- whether an outcome is that of spent work
+abbrev pub is_spent : Outcome → Bool
+is_spent WorkSpent = true
+is_spent _ = false
+
+-- the services once a visit is closed
+abbrev pub closed : Bool → Standing → Standing
+closed spent n = if spent then abandoned n else kept n
+
+-- the acts of a visit up to its end, its sends, and room for their acts
+pub record IsOpen (before : List Act) (p : Packet) (v : Visit) (turn : Turn) : Type 0 where
+  pub acts : turn.acts.items ≡ before ++ (map Noted v.notes ++ Ended p.family v.outcome v.evals v.left ∷ [])
+  pub sends : turn.sends ≡ visit_sends v
+  pub room : vec_len turn.acts + length turn.sends ≤ vec_capacity turn.acts

@@ -1,0 +1,13 @@
+//! A node: its queues, its routes, its services and its step, and the text of what it does.
+#![tactic(auto)]
+
+mod few;
+mod node;
+mod outgoing;
+mod resting;
+mod routes;
+mod sends;
+mod text;
+
+pub use node::Node;
+pub use text::{put_act, put_act_text, put_bound, put_family, put_number};

@@ -1,0 +1,68 @@
+ghost use Rattle.std.specs.Prelude.{◌≡◌, map, IfOk};
+ghost use Rattle.service_api.specs.Adverts.{AdvertFits};
+ghost use Rattle.node_model.specs.Node as spec;
+
+use chunk_types::CheckedPacket;
+use node_model::{Act, Reason, Sending, Sendings};
+use plan_base::{Dev, Host, NoMemory};
+use plan_items::Items;
+use plan_meaning::Outbox;
+use service_api::Advert;
+use spelled_frame::SpelledFrame;
+use std::alloc::Global;
+
+/// The sending of a packet over a device: it goes on with 1 paid for the hop, or is dropped with the bound that was paid.
+pub fn packet_sending(alloc: Global, dev: Dev, packet: &CheckedPacket) -> Result<Sending, NoMemory>
+    ensures { IfOk result (λ s. s ≡ spec.packet_sending (record { dev = dev; packet = packet.now })) }
+{
+    let (family, bound) = (packet.family(), packet.bound());
+    let left = bound.saturating_sub(1);
+    Ok(Sending {
+        dev,
+        frame: SpelledFrame::of_packet(alloc, packet, left)?,
+        queued: Act::Queued(dev, family, left),
+        dropped: Act::Dropped(Reason::QueueFull, family, bound),
+    })
+}
+
+/// The sendings of a visit.
+#[tactic(auto, unfolding(node_model::specs::Node::visit_sends))]
+pub fn visit_sendings(alloc: Global, outbox: Outbox) -> Result<Sendings, NoMemory>
+    ensures { IfOk result (λ sends. sends ≡ map spec.packet_sending outbox) }
+{
+    let mut sends = Items::new(alloc);
+    for sent in outbox.into_vec() {
+        sends.add(packet_sending(alloc, sent.dev, &sent.packet)?)?;
+    }
+    Ok(sends)
+}
+
+/// The sending of an advert to a neighbour. Condition: it keeps its limits.
+fn advert_sending(alloc: Global, advert: &Advert, link: (Host, Dev)) -> Result<Sending, NoMemory>
+    requires { AdvertFits advert.now }
+    ensures { IfOk result (λ s. s ≡ spec.advert_sending advert.now link) }
+{
+    let dev = link.1;
+    Ok(Sending {
+        dev,
+        frame: SpelledFrame::of_advert(alloc, advert)?,
+        queued: Act::AdvertQueued(dev),
+        dropped: Act::AdvertDropped(dev),
+    })
+}
+
+/// The sendings of an advert to neighbours. Condition: it keeps its limits.
+pub fn advert_sendings(
+    alloc: Global,
+    advert: &Advert,
+    neighbours: &[(Host, Dev)],
+) -> Result<Sendings, NoMemory>
+    requires { AdvertFits advert.now }
+    ensures { IfOk result (λ sends. sends ≡ map (spec.advert_sending advert.now) neighbours.now) }
+{
+    let mut sends = Items::new(alloc);
+    for link in neighbours {
+        sends.add(advert_sending(alloc, advert, *link)?)?;
+    }
+    Ok(sends)
+}

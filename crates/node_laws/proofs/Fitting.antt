@@ -1,0 +1,259 @@
+-- Each step of a node keeps its limits.
+use Rattle.std.proofs.Common.{◌≡◌, ℕ, suc, ◌+◌, ◌<◌, ◌≤◌, ◌^◌, Bool, true, false, cond, List, [], ◌∷◌, ◌++◌, refl, arith, length}
+use Rattle.std.specs.Prelude.{map, slice_get, nat_le, ◌==◌, ◌&&◌, filter, IsTrue, Option, Some, None, Result, Ok, Err, All}
+use Rattle.std.proofs.lemmas.List.Sums.{sum_by-cons}
+use Rattle.std.proofs.lemmas.List.Elements.{All-nil, All-cons, All-head, All-tail, All-filter}
+use Rattle.std.proofs.lemmas.Bool.Decides.{nat_tests}
+use Rattle.plan_base.specs.declared.ids.Dev.{Dev}
+use Rattle.plan_base.specs.declared.tree.Chunk.{Chunk}
+use Rattle.plan_base.specs.declared.tree.Packet.{Packet}
+use Rattle.wire_bytes.specs.Fields.{IsBytes}
+use Rattle.packet_frame.specs.declared.frame.PlainFrame.{PlainFrame}
+use Rattle.packet_frame.specs.declared.refusal.FrameRefusal.{FrameRefusal}
+use Rattle.packet_frame.specs.Typed.{Accepts}
+use Rattle.packet_frame.proofs.Carried.{chunk_is_formed}
+use Rattle.frame_text.specs.Decoding.{frame_of}
+use Rattle.frame_text.proofs.OneAnswer.{found_is}
+use Rattle.chunk_types.specs.Chunks.{IsCheckedChunk}
+use Rattle.table_rows.specs.declared.row.Row.{Row}
+use Rattle.table_rows.specs.Rows.{row_size, rows_size, living, is_live}
+use Rattle.service_api.specs.declared.advert.Advert.{Advert}
+use Rattle.service_api.specs.declared.router.Hop.{Hop}
+use Rattle.service_api.specs.declared.router.Hop.TheVariants.{To, NoService, NoRoute}
+use Rattle.service_api.specs.Adverts.{AdvertFits}
+use Rattle.service_api.specs.Routes.{hop}
+use Rattle.service_api.specs.Services.{Rows, Standing, IsGoodChunk, IsGoodValue, AreGoodRows, expired}
+use Rattle.plan_meaning.specs.declared.sent.Sent.{Sent}
+use Rattle.plan_meaning.specs.Visit.{bounds}
+use Rattle.dv_routing.specs.Routing.{all_routes, own_advert}
+use Rattle.dv_routing.proofs.Rows.{advert_fits}
+use Rattle.network_plan.specs.declared.event.Event.{Event}
+use Rattle.network_plan.specs.declared.event.Event.TheVariants as event
+use Rattle.node_model.specs.declared.acts.Act.{Act}
+use Rattle.node_model.specs.declared.acts.Act.TheVariants.{Injected, Asked, SerialsSpent}
+use Rattle.node_model.specs.State.{Links, Queues, NodeState, routing_of, is_host, leads_to}
+use Rattle.node_model.specs.Visits.{visit_at}
+use Rattle.node_model.specs.Node.{Step, stepped, hop_packet, packet_sending, advert_sending, visit_sends, tick_sends, visited, next_serial, injected_packet, inject_step, forward_by, forward_step, packet_step, hearing, advert_step, frame_step, arrived, arrive_step, asked, control_step, next_tick, tick_step, take_from, take_step, node_step}
+use Rattle.node_model.specs.Fits.{PacketFits, FrameKeeps, QueuesKeep, ServicesFit, NodeFits, comes_fit}
+use Rattle.node_laws.proofs.Keeping.{Sends, send_keeps, sends_keep, took}
+use Rattle.node_laws.proofs.VisitLaws.{visit_keeps, visit_fits}
+
+-- ---- what is sent
+
+hop_fits : (p : Packet) → PacketFits p → PacketFits (hop_packet p)
+hop_fits p h = record { bound = omega (arith, h.bound); chunk = h.chunk }
+
+-- what a visit sends is within its bound, and good
+sent_fits : (ss : List Sent) → bounds ss ≤ 65535 → All (λ s. IsGoodChunk s.packet.chunk) ss → All (Sends FrameKeeps) (map packet_sending ss)
+sent_fits [] h g = All-nil (Sends FrameKeeps)
+sent_fits (s ∷ ss) h g =
+    let e = sum_by-cons (λ (s : Sent). s.packet.bound) s ss in
+    All-cons (Sends FrameKeeps) (packet_sending s) (map packet_sending ss)
+    (hop_fits s.packet (record { bound = omega arith; chunk = All-head (λ s. IsGoodChunk s.packet.chunk) s ss g }))
+    (sent_fits ss (omega arith) (All-tail (λ s. IsGoodChunk s.packet.chunk) s ss g))
+
+adverts_sent : (a : Advert) (links : Links) → AdvertFits a → All (Sends FrameKeeps) (map (advert_sending a) links)
+adverts_sent a [] h = All-nil (Sends FrameKeeps)
+adverts_sent a (l ∷ ls) h = All-cons (Sends FrameKeeps) (advert_sending a l) (map (advert_sending a) ls) h (adverts_sent a ls h)
+
+-- ---- rows that stay
+
+fewer : (p : Row → Bool) (rows : List Row) → length (filter p rows) ≤ length rows
+fewer p [] = omega arith
+fewer p (r ∷ rs) = one (p r) (fewer p rs)
+  where
+    one : (t : Bool) → length (filter p rs) ≤ length rs → length (cond t (r ∷ filter p rs) (filter p rs)) ≤ suc (length rs)
+    one true h = omega (arith, h)
+    one false h = omega (arith, h)
+
+smaller : (p : Row → Bool) (rows : List Row) → rows_size (filter p rows) ≤ rows_size rows
+smaller p [] = omega arith
+smaller p (r ∷ rs) = one (p r) (smaller p rs)
+  where
+    one : (t : Bool) → rows_size (filter p rs) ≤ rows_size rs → rows_size (cond t (r ∷ filter p rs) (filter p rs)) ≤ rows_size (r ∷ rs)
+    one true h = omega (arith, h, sum_by-cons row_size r (filter p rs), sum_by-cons row_size r rs)
+    one false h = omega (arith, h, sum_by-cons row_size r rs)
+
+both_fit : (n m s z : ℕ) → n ≤ m → s ≤ z → IsTrue (nat_le m 1024 && nat_le z 1048576) → IsTrue (nat_le n 1024 && nat_le s 1048576)
+both_fit n m s z a b h = grind (arith, nat_tests)
+
+living_good : (now : ℕ) (r : Rows) → AreGoodRows r → AreGoodRows (record r { rows = living now r.rows })
+living_good now r g = record {
+  values = All-filter (is_live now) (λ x. IsGoodValue x.ty x.value) r.rows g.values;
+  room = both_fit (length (living now r.rows)) (length r.rows) (rows_size (living now r.rows)) (rows_size r.rows) (fewer (is_live now) r.rows) (smaller (is_live now) r.rows) g.room;
+  least = g.least;
+  greatest = g.greatest;
+}
+
+expired_fits : (now : ℕ) (n : Standing) → ServicesFit n → ServicesFit (expired now n)
+expired_fits now n h = record { good = record { serve = h.good.serve; rows = living_good now n.rows h.good.rows }; closed = h.closed; waits = h.waits }
+
+-- ---- steps
+
+abbrev pub FrameTaken : Option PlainFrame → Type 0
+FrameTaken None = Unit {0}
+FrameTaken (Some x) = FrameKeeps x
+
+pub record StepFits (step : Step) : Type 0 where
+  pub node : NodeFits step.node
+  pub frame : FrameTaken step.frame
+
+step_cases : (t : Bool) (a b : Step) → StepFits a → StepFits b → StepFits (cond t a b)
+step_cases true a b x y = x
+step_cases false a b x y = y
+
+-- a node with other queues
+with_fits : (node : NodeState) (queues : Queues) → QueuesKeep FrameKeeps queues → NodeFits node → NodeFits (record node { queues = queues })
+with_fits node queues q n = record { here = n.here; hosts = n.hosts; near = n.near; services = n.services; queues = q; serial = n.serial; now = n.now }
+
+still : (acts : List Act) (node : NodeState) → NodeFits node → StepFits (stepped acts None node)
+still acts node n = record { node = n; frame = tt }
+
+visited_fits : (acts : List Act) (node : NodeState) (p : Packet) → PacketFits p → NodeFits node → StepFits (visited acts node p)
+unfolding visited visit_sends
+visited_fits acts node p h n =
+    let k = visit_keeps node p in
+    let v = visit_fits node p n.services.good n.near h.chunk in
+    record {
+      node = record {
+        here = n.here;
+        hosts = n.hosts;
+        near = n.near;
+        services = v.services;
+        queues = sends_keep FrameKeeps node.queues (map packet_sending (visit_at node p).outbox) (sent_fits _ (omega (arith, k.balance, h.bound)) v.packets) n.queues;
+        serial = n.serial;
+        now = n.now;
+      };
+      frame = tt;
+    }
+
+good_of : (chunk : Chunk) → IsCheckedChunk chunk → IsGoodChunk chunk
+good_of chunk k = record { typed = k.typed; formed = k.formed }
+
+serial_fits : (n : ℕ) → (n == 18446744073709551615) ≡ false → n < 2 ^ 64 → n + 1 < 2 ^ 64
+serial_fits n e h = grind (arith, nat_tests)
+
+next_fits : (node : NodeState) → (node.serial == 18446744073709551615) ≡ false → NodeFits node → NodeFits (next_serial node)
+next_fits node e n = record { here = n.here; hosts = n.hosts; near = n.near; services = n.services; queues = n.queues; serial = serial_fits node.serial e n.serial; now = n.now }
+
+inject_cases : (t : Bool) (before : List Act) (node : NodeState) (chunk : Chunk) (bound : ℕ) → (node.serial == 18446744073709551615) ≡ t → bound ≤ 65535 → IsGoodChunk chunk → NodeFits node
+    → StepFits (cond t (stepped (before ++ SerialsSpent ∷ []) None node) (visited (before ++ Injected (record { source = node.here; serial = node.serial }) bound ∷ []) (next_serial node) (injected_packet node chunk bound)))
+inject_cases true before node chunk bound e h k n = still _ node n
+inject_cases false before node chunk bound e h k n = visited_fits _ (next_serial node) (injected_packet node chunk bound) (record { bound = h; chunk = k }) (next_fits node e n)
+
+inject_fits : (before : List Act) (node : NodeState) (chunk : Chunk) (bound : ℕ) → bound ≤ 65535 → IsGoodChunk chunk → NodeFits node → StepFits (inject_step before node chunk bound)
+unfolding inject_step
+inject_fits before node chunk bound h k n = inject_cases (node.serial == 18446744073709551615) before node chunk bound refl h k n
+
+by_fits : (node : NodeState) (d : Dev) (p : Packet) (o : Hop) → PacketFits p → NodeFits node → StepFits (forward_by node d p o)
+unfolding forward_by
+by_fits node d p (To host over) h n =
+    let s = packet_sending (record { dev = over; packet = p }) in
+    record { node = with_fits node _ (send_keeps FrameKeeps node.queues s (hop_fits p h) n.queues) n; frame = tt }
+by_fits node d p NoService h n = still _ node n
+by_fits node d p NoRoute h n = still _ node n
+
+forward_fits : (node : NodeState) (d : Dev) (p : Packet) → PacketFits p → NodeFits node → StepFits (forward_step node d p)
+unfolding forward_step
+forward_fits node d p h n = step_cases (p.bound == 0) _ _ (still _ node n) (by_fits node d p (hop (all_routes (routing_of node)) p.route node.here p.dest) h n)
+
+packet_fits : (node : NodeState) (d : Dev) (p : Packet) → PacketFits p → NodeFits node → StepFits (packet_step node d p)
+unfolding packet_step
+packet_fits node d p h n = step_cases (is_host p.dest node.here) _ _ (visited_fits _ node p h n) (forward_fits node d p h n)
+
+hearing_fits : (node : NodeState) (d : Dev) (a : Advert) → NodeFits node → NodeFits (hearing node d a)
+hearing_fits node d a n = record { here = n.here; hosts = n.hosts; near = n.near; services = n.services; queues = n.queues; serial = n.serial; now = n.now }
+
+advert_step_fits : (node : NodeState) (d : Dev) (a : Advert) → NodeFits node → StepFits (advert_step node d a)
+unfolding advert_step
+advert_step_fits node d a n = step_cases (leads_to node.neighbours d a.host) _ _ (still _ (hearing node d a) (hearing_fits node d a n)) (still _ node n)
+
+-- what may be accepted of bytes
+abbrev pub Taken : PlainFrame → Type 0
+Taken (PlainFrame.Packet p) = PacketFits p
+Taken (PlainFrame.Advert a) = Unit {0}
+Taken (PlainFrame.Ask bound chunk) = (bound ≤ 65535) × IsGoodChunk chunk
+
+pub taken_in : (bytes : List ℕ) (x : PlainFrame) → Accepts bytes x → Taken x
+taken_in bytes (PlainFrame.Packet p) h = let f = h.spells.fits in record { bound = f.1.1.1.0; chunk = record { typed = h.typed; formed = chunk_is_formed p.chunk f.1.1.1.1.1.0 } }
+taken_in bytes (PlainFrame.Advert a) h = tt
+taken_in bytes (PlainFrame.Ask bound chunk) h = let f = h.spells.fits in (f.0, record { typed = h.typed; formed = chunk_is_formed chunk f.1.0 })
+
+kept_taken : (x : PlainFrame) → FrameKeeps x → Taken x
+kept_taken (PlainFrame.Packet p) h = h
+kept_taken (PlainFrame.Advert a) h = tt
+kept_taken (PlainFrame.Ask bound chunk) h = absurd h
+
+frame_taken_fits : (node : NodeState) (d : Dev) (x : PlainFrame) → Taken x → NodeFits node → StepFits (frame_step node d x)
+frame_taken_fits node d (PlainFrame.Packet p) h n = packet_fits node d p h n
+frame_taken_fits node d (PlainFrame.Advert a) h n = advert_step_fits node d a n
+frame_taken_fits node d (PlainFrame.Ask bound chunk) h n = still _ node n
+
+-- a frame that was on its way
+pub frame_fits : (node : NodeState) (d : Dev) (x : PlainFrame) → FrameKeeps x → NodeFits node → StepFits (frame_step node d x)
+frame_fits node d x h n = frame_taken_fits node d x (kept_taken x h) n
+
+arrived_fits : (node : NodeState) (d : Dev) (bytes : List ℕ) (r : Result PlainFrame FrameRefusal) → IsBytes bytes → frame_of bytes ≡ r → NodeFits node → StepFits (arrived node d r)
+arrived_fits node d bytes (Ok x) b e n = frame_taken_fits node d x (taken_in bytes x (found_is bytes x b e)) n
+arrived_fits node d bytes (Err e) b h n = still _ node n
+
+pub arrive_fits : (node : NodeState) (d : Dev) (bytes : List ℕ) → IsBytes bytes → NodeFits node → StepFits (arrive_step node d bytes)
+unfolding arrive_step
+arrive_fits node d bytes b n = arrived_fits node d bytes (frame_of bytes) b refl n
+
+asked_taken : (node : NodeState) (x : PlainFrame) → Taken x → NodeFits node → StepFits (asked node (Ok x))
+asked_taken node (PlainFrame.Packet p) h n = still _ node n
+asked_taken node (PlainFrame.Advert a) h n = still _ node n
+asked_taken node (PlainFrame.Ask bound chunk) h n = inject_fits (Asked ∷ []) node chunk bound h.0 h.1 n
+
+asked_fits : (node : NodeState) (bytes : List ℕ) (r : Result PlainFrame FrameRefusal) → IsBytes bytes → frame_of bytes ≡ r → NodeFits node → StepFits (asked node r)
+asked_fits node bytes (Ok x) b e n = asked_taken node x (taken_in bytes x (found_is bytes x b e)) n
+asked_fits node bytes (Err e) b h n = still _ node n
+
+control_fits : (node : NodeState) (bytes : List ℕ) → IsBytes bytes → NodeFits node → StepFits (control_step node bytes)
+unfolding control_step
+control_fits node bytes b n = asked_fits node bytes (frame_of bytes) b refl n
+
+tick_cases : (t : Bool) (n : ℕ) → (n == 18446744073709551615) ≡ t → n < 2 ^ 64 → cond t n (n + 1) < 2 ^ 64
+tick_cases true n e h = h
+tick_cases false n e h = serial_fits n e h
+
+pub tick_fits : (node : NodeState) → NodeFits node → StepFits (tick_step node)
+unfolding tick_step tick_sends
+tick_fits node n =
+    let a = own_advert (routing_of node) in
+    let h = advert_fits (routing_of node) n.here n.hosts.numbers n.hosts.few n.hosts.ascend in
+    record {
+      node = record {
+        here = n.here;
+        hosts = n.hosts;
+        near = n.near;
+        services = expired_fits (next_tick node.now) node.services n.services;
+        queues = sends_keep FrameKeeps node.queues (map (advert_sending a) node.neighbours) (adverts_sent a node.neighbours h) n.queues;
+        serial = n.serial;
+        now = tick_cases (node.now == 18446744073709551615) node.now refl n.now;
+      };
+      frame = tt;
+    }
+
+take_from_fits : (node : NodeState) (d : Dev) (o : Option (List PlainFrame)) → slice_get node.queues d.0 ≡ o → NodeFits node → StepFits (take_from node d o)
+take_from_fits node d None e n = still [] node n
+take_from_fits node d (Some []) e n = still [] node n
+take_from_fits node d (Some (x ∷ queue)) e n =
+    let t = took FrameKeeps node.queues d.0 x queue e n.queues in
+    record { node = with_fits node _ t.rest n; frame = t.frame }
+
+pub take_fits : (node : NodeState) (d : Dev) → NodeFits node → StepFits (take_step node d)
+unfolding take_step
+take_fits node d n = take_from_fits node d (slice_get node.queues d.0) refl n
+
+pub inject_event_fits : (node : NodeState) (chunk : Chunk) (bound : ℕ) → bound ≤ 65535 → IsCheckedChunk chunk → NodeFits node → StepFits (inject_step [] node chunk bound)
+inject_event_fits node chunk bound b k n = inject_fits [] node chunk bound b (good_of chunk k) n
+
+-- each step keeps the limits
+pub step_fits : (node : NodeState) (e : Event) → comes_fit e → NodeFits node → StepFits (node_step node e)
+step_fits node (event.Inject chunk bound) c n = inject_event_fits node chunk bound c.0 c.1 n
+step_fits node (event.Frame d bytes) c n = arrive_fits node d bytes c n
+step_fits node (event.Control bytes) c n = control_fits node bytes c n
+step_fits node event.Tick c n = tick_fits node n
+step_fits node (event.Take d) c n = take_fits node d n

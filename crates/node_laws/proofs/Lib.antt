@@ -1,0 +1,10 @@
+pub mod CountLaws
+pub mod Fitting
+pub mod Giving
+pub mod HostLaws
+pub mod Keeping
+pub mod NodeBalance
+pub mod Orders
+pub mod Outgoing
+pub mod Staying
+pub mod VisitLaws

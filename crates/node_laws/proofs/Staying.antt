@@ -1,0 +1,184 @@
+-- What no step of a node changes, and the one act that gives a serial number.
+use Rattle.std.proofs.Common.{◌≡◌, ℕ, zero, suc, ◌+◌, ◌-◌, ◌*◌, ◌<◌, ◌≤◌, Bool, true, false, cond, List, [], ◌∷◌, ◌++◌, refl, sym, ap, ◌∙◌, arith, length}
+use Rattle.std.specs.Prelude.{sum_by, map, slice_set, slice_get, nat_lt, nat_le, ◌==◌, ◌&&◌, Option, Some, None, Result, Ok, Err}
+use Rattle.std.proofs.lemmas.List.{length-set}
+use Rattle.std.proofs.lemmas.Bool.Decides.{nat_tests}
+use Rattle.plan_base.specs.declared.ids.Host.{Host}
+use Rattle.plan_base.specs.declared.ids.Dev.{Dev}
+use Rattle.plan_base.specs.declared.ids.Family.{Family}
+use Rattle.plan_base.specs.declared.tree.Chunk.{Chunk}
+use Rattle.plan_base.specs.declared.tree.Packet.{Packet}
+use Rattle.packet_frame.specs.declared.frame.PlainFrame.{PlainFrame}
+use Rattle.packet_frame.specs.declared.refusal.FrameRefusal.{FrameRefusal}
+use Rattle.frame_text.specs.Decoding.{frame_of}
+use Rattle.service_api.specs.declared.advert.Advert.{Advert}
+use Rattle.service_api.specs.declared.router.Hop.{Hop}
+use Rattle.service_api.specs.declared.router.Hop.TheVariants.{To, NoService, NoRoute}
+use Rattle.service_api.specs.Routes.{hop}
+use Rattle.dv_routing.specs.Routing.{all_routes, own_advert}
+use Rattle.node_model.specs.declared.acts.Act.{Act}
+use Rattle.node_model.specs.declared.acts.Act.TheVariants.{Injected, Arrived, SerialsSpent, Heard, Misplaced}
+use Rattle.node_model.specs.declared.acts.Sending.{Sending}
+use Rattle.node_model.specs.State.{Links, Queues, NodeState, routing_of, is_host, leads_to}
+use Rattle.node_model.specs.Visits.{visit_at}
+use Rattle.node_model.specs.Node.{Step, stepped, queue_room, has_room, queue_push, packet_sending, advert_sending, visit_sends, tick_sends, send_queues, sends_queues, visited, next_serial, injected_packet, inject_step, only_acts, onward, forward_by, forward_step, packet_step, hearing, advert_step, frame_step, arrived, arrive_step, tick_step, take_from, take_step}
+
+-- a node with the same host, hosts and neighbours, and as many queues
+pub record Stays (old new : NodeState) : Type 0 where
+  pub here : new.here ≡ old.here
+  pub hosts : new.hosts ≡ old.hosts
+  pub neighbours : new.neighbours ≡ old.neighbours
+  pub count : length new.queues ≡ length old.queues
+
+itself : (node : NodeState) → Stays node node
+itself node = record { here = refl; hosts = refl; neighbours = refl; count = refl }
+
+after : (a b c : NodeState) → Stays a b → Stays b c → Stays a c
+after a b c x y = record { here = y.here ∙ x.here; hosts = y.hosts ∙ x.hosts; neighbours = y.neighbours ∙ x.neighbours; count = y.count ∙ x.count }
+
+push_count : (t : Bool) (queues : Queues) (d : Dev) (x : PlainFrame) (queue : List PlainFrame) → length (cond t (queue_push queues d x (Some queue)) queues) ≡ length queues
+push_count true queues d x queue = length-set queues d.0 (queue ++ x ∷ [])
+push_count false queues d x queue = refl
+
+place_count : (o : Option (List PlainFrame)) (queues : Queues) (d : Dev) (x : PlainFrame) → length (cond (queue_room o) (queue_push queues d x o) queues) ≡ length queues
+place_count None queues d x = refl
+place_count (Some queue) queues d x = push_count (nat_lt (length queue) 64) queues d x queue
+
+send_count : (queues : Queues) (s : Sending) → length (send_queues queues s) ≡ length queues
+unfolding send_queues has_room
+send_count queues s = place_count (slice_get queues s.dev.0) queues s.dev s.frame
+
+sends_count : (queues : Queues) (ss : List Sending) → length (sends_queues queues ss) ≡ length queues
+unfolding sends_queues
+sends_count queues [] = refl
+sends_count queues (s ∷ ss) = sends_count (send_queues queues s) ss ∙ send_count queues s
+
+-- a step that changes none of them, nor the serial number
+pub record StepStays (old : NodeState) (step : Step) : Type 0 where
+  pub node : Stays old step.node
+  pub serial : step.node.serial ≡ old.serial
+
+cases : (t : Bool) (old : NodeState) (a b : Step) → StepStays old a → StepStays old b → StepStays old (cond t a b)
+cases true old a b x y = x
+cases false old a b x y = y
+
+still : (acts : List Act) (node : NodeState) → StepStays node (stepped acts None node)
+still acts node = record { node = itself node; serial = refl }
+
+pub visited_stays : (acts : List Act) (node : NodeState) (p : Packet) → StepStays node (visited acts node p)
+unfolding visited
+visited_stays acts node p = record {
+  node = record { here = refl; hosts = refl; neighbours = refl; count = sends_count node.queues (visit_sends (visit_at node p)) };
+  serial = refl;
+}
+
+by_stays : (node : NodeState) (d : Dev) (p : Packet) (o : Hop) → StepStays node (forward_by node d p o)
+unfolding forward_by
+by_stays node d p (To host over) = record {
+  node = record { here = refl; hosts = refl; neighbours = refl; count = send_count node.queues (packet_sending (record { dev = over; packet = p })) };
+  serial = refl;
+}
+by_stays node d p NoService = still _ node
+by_stays node d p NoRoute = still _ node
+
+forward_stays : (node : NodeState) (d : Dev) (p : Packet) → StepStays node (forward_step node d p)
+unfolding forward_step
+forward_stays node d p = cases (p.bound == 0) node _ _ (still _ node) (by_stays node d p (hop (all_routes (routing_of node)) p.route node.here p.dest))
+
+packet_stays : (node : NodeState) (d : Dev) (p : Packet) → StepStays node (packet_step node d p)
+unfolding packet_step
+packet_stays node d p = cases (is_host p.dest node.here) node _ _ (visited_stays _ node p) (forward_stays node d p)
+
+advert_stays : (node : NodeState) (d : Dev) (a : Advert) → StepStays node (advert_step node d a)
+unfolding advert_step
+advert_stays node d a = cases (leads_to node.neighbours d a.host) node _ _ (record { node = record { here = refl; hosts = refl; neighbours = refl; count = refl }; serial = refl }) (still _ node)
+
+pub frame_stays : (node : NodeState) (d : Dev) (x : PlainFrame) → StepStays node (frame_step node d x)
+frame_stays node d (PlainFrame.Packet p) = packet_stays node d p
+frame_stays node d (PlainFrame.Advert a) = advert_stays node d a
+frame_stays node d (PlainFrame.Ask bound chunk) = still _ node
+
+arrived_stays : (node : NodeState) (d : Dev) (r : Result PlainFrame FrameRefusal) → StepStays node (arrived node d r)
+arrived_stays node d (Ok x) = frame_stays node d x
+arrived_stays node d (Err e) = still _ node
+
+pub arrive_stays : (node : NodeState) (d : Dev) (bytes : List ℕ) → StepStays node (arrive_step node d bytes)
+unfolding arrive_step
+arrive_stays node d bytes = arrived_stays node d (frame_of bytes)
+
+pub tick_stays : (node : NodeState) → StepStays node (tick_step node)
+unfolding tick_step
+tick_stays node = record { node = record { here = refl; hosts = refl; neighbours = refl; count = sends_count node.queues (tick_sends node) }; serial = refl }
+
+take_from_stays : (node : NodeState) (d : Dev) (o : Option (List PlainFrame)) → StepStays node (take_from node d o)
+take_from_stays node d None = still [] node
+take_from_stays node d (Some []) = still [] node
+take_from_stays node d (Some (x ∷ queue)) = record { node = record { here = refl; hosts = refl; neighbours = refl; count = length-set node.queues d.0 queue }; serial = refl }
+
+pub take_stays : (node : NodeState) (d : Dev) → StepStays node (take_step node d)
+unfolding take_step
+take_stays node d = take_from_stays node d (slice_get node.queues d.0)
+
+-- an injection changes the serial number alone
+inject_cases : (t : Bool) (node : NodeState) (chunk : Chunk) (bound : ℕ)
+    → Stays node (cond t (stepped ([] ++ SerialsSpent ∷ []) None node) (visited ([] ++ Injected (record { source = node.here; serial = node.serial }) bound ∷ []) (next_serial node) (injected_packet node chunk bound))).node
+inject_cases true node chunk bound = itself node
+inject_cases false node chunk bound =
+    let s = visited_stays ([] ++ Injected (record { source = node.here; serial = node.serial }) bound ∷ []) (next_serial node) (injected_packet node chunk bound) in
+    after node (next_serial node) _ (record { here = refl; hosts = refl; neighbours = refl; count = refl }) s.node
+
+pub inject_stays : (node : NodeState) (chunk : Chunk) (bound : ℕ) → Stays node (inject_step [] node chunk bound).node
+unfolding inject_step
+inject_stays node chunk bound = inject_cases (node.serial == 18446744073709551615) node chunk bound
+
+-- ---- only a take takes a frame
+
+abbrev NoFrame : Step → Type 0
+NoFrame step = step.frame ≡ None
+
+none_cases : (t : Bool) (a b : Step) → NoFrame a → NoFrame b → NoFrame (cond t a b)
+none_cases true a b x y = x
+none_cases false a b x y = y
+
+visited_frame : (acts : List Act) (node : NodeState) (p : Packet) → NoFrame (visited acts node p)
+unfolding visited
+visited_frame acts node p = refl
+
+pub inject_frame : (acts : List Act) (node : NodeState) (chunk : Chunk) (bound : ℕ) → NoFrame (inject_step acts node chunk bound)
+unfolding inject_step
+inject_frame acts node chunk bound = none_cases (node.serial == 18446744073709551615) _ _ refl (visited_frame _ (next_serial node) (injected_packet node chunk bound))
+
+by_frame : (node : NodeState) (d : Dev) (p : Packet) (o : Hop) → NoFrame (forward_by node d p o)
+unfolding forward_by
+by_frame node d p (To host over) = refl
+by_frame node d p NoService = refl
+by_frame node d p NoRoute = refl
+
+forward_frame : (node : NodeState) (d : Dev) (p : Packet) → NoFrame (forward_step node d p)
+unfolding forward_step
+forward_frame node d p = none_cases (p.bound == 0) _ _ refl (by_frame node d p (hop (all_routes (routing_of node)) p.route node.here p.dest))
+
+packet_frame : (node : NodeState) (d : Dev) (p : Packet) → NoFrame (packet_step node d p)
+unfolding packet_step
+packet_frame node d p = none_cases (is_host p.dest node.here) _ _ (visited_frame _ node p) (forward_frame node d p)
+
+advert_frame : (node : NodeState) (d : Dev) (a : Advert) → NoFrame (advert_step node d a)
+unfolding advert_step
+advert_frame node d a = none_cases (leads_to node.neighbours d a.host) _ _ refl refl
+
+pub frame_frame : (node : NodeState) (d : Dev) (x : PlainFrame) → NoFrame (frame_step node d x)
+frame_frame node d (PlainFrame.Packet p) = packet_frame node d p
+frame_frame node d (PlainFrame.Advert a) = advert_frame node d a
+frame_frame node d (PlainFrame.Ask bound chunk) = refl
+
+arrived_frame : (node : NodeState) (d : Dev) (r : Result PlainFrame FrameRefusal) → NoFrame (arrived node d r)
+arrived_frame node d (Ok x) = frame_frame node d x
+arrived_frame node d (Err e) = refl
+
+pub arrive_frame : (node : NodeState) (d : Dev) (bytes : List ℕ) → NoFrame (arrive_step node d bytes)
+unfolding arrive_step
+arrive_frame node d bytes = arrived_frame node d (frame_of bytes)
+
+pub tick_frame : (node : NodeState) → NoFrame (tick_step node)
+unfolding tick_step
+tick_frame node = refl

@@ -1,0 +1,38 @@
+ghost use Rattle.std.specs.Prelude.{ℕ, ◌≤◌, length};
+ghost use Rattle.plan_base.specs.declared.ids.Family.{Family};
+ghost use Rattle.plan_base.specs.declared.tree.Packet.{Packet};
+ghost use Rattle.service_api.specs.Services.{IsGood, IsGoodChunk, begun_now};
+ghost use Rattle.network_plan.specs.declared.event.Event.{Event};
+ghost use Rattle.node_model.specs.State.{NodeState};
+ghost use Rattle.node_model.specs.Visits.{VisitKeeps, HasCase, around, evaluated, visit_at};
+ghost use Rattle.node_model.specs.Node.{node_step};
+ghost use Rattle.node_model.specs.Orders.{queue_at, MovesInOrder};
+ghost use Rattle.node_model.specs.Fits.{NodeFits, comes_fit};
+ghost use Rattle.node_model.specs.Counts.{came, StepBalances};
+
+/// Each visit keeps its balance: the packet's bound is what it paid, left and sent.
+pub fn visit_balance()
+    ensures { (node : NodeState) (p : Packet) → VisitKeeps p (visit_at node p) }
+{}
+
+/// With services that keep their laws and at most 8 neighbours, the visit of a typed chunk never is without a case.
+pub fn visit_has_case()
+    ensures { (node : NodeState) (p : Packet) → IsGood node.services → length node.neighbours ≤ 8 → IsGoodChunk p.chunk → HasCase (evaluated (around node p) (begun_now node.services) p) }
+{}
+
+/// Each step of a node is in balance, for each family.
+pub fn step_balance()
+    ensures { (f : Family) (node : NodeState) (e : Event) → StepBalances f (came f e) node (node_step node e) }
+{}
+
+/// Each step keeps what every node keeps: queues of at most 64 frames, whose packets are typed and have
+/// at most 65,535, rows within their limits, and adverts within theirs.
+pub fn step_keeps()
+    ensures { (node : NodeState) (e : Event) → comes_fit e → NodeFits node → NodeFits (node_step node e).node }
+{}
+
+/// Frames of one device leave in the order in which they were queued: at each step they join its queue at the end, or the
+/// first one leaves it.
+pub fn queues_move_in_order()
+    ensures { (d : ℕ) (node : NodeState) (e : Event) → MovesInOrder (queue_at node.queues d) (queue_at (node_step node e).node.queues d) }
+{}

@@ -1,0 +1,6 @@
+//! The laws of a node's step and of its visits.
+#![tactic(auto)]
+
+mod laws;
+
+pub use laws::{queues_move_in_order, step_balance, step_keeps, visit_balance, visit_has_case};

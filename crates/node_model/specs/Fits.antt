@@ -1,0 +1,77 @@
+-- What every node keeps.
+use Rattle.std.specs.Prelude.{◌≡◌, ◌≢◌, ℕ, ◌≤◌, ◌<◌, ◌^◌, false, List, length, None, Some, All}
+use Rattle.plan_base.specs.declared.ids.Host.{Host}
+use Rattle.plan_base.specs.declared.ids.Dev.{Dev}
+use Rattle.plan_base.specs.declared.tree.Chunk.{Chunk}
+use Rattle.plan_base.specs.declared.tree.Packet.{Packet}
+use Rattle.packet_frame.specs.declared.frame.PlainFrame.{PlainFrame}
+use Rattle.service_api.specs.Adverts.{AdvertFits}
+use Rattle.service_api.specs.Services.{Standing, IsGood, IsGoodChunk}
+use Rattle.wire_bytes.specs.Fields.{IsBytes}
+use Rattle.chunk_types.specs.Chunks.{IsCheckedChunk}
+use Rattle.dv_routing.specs.Sorted.{HostsAscend, HostsDiffer}
+use Rattle.network_plan.specs.declared.node.NodeConfig.{NodeConfig}
+use Rattle.network_plan.specs.declared.event.Event.{Event}
+use Rattle.network_plan.specs.declared.event.Event.TheVariants as event
+use Rattle.node_model.specs.State.{Queues, NodeState}
+
+-- the bound is at most 65,535, and the chunk is typed and well formed
+pub record PacketFits (p : Packet) : Type 0 where
+  pub bound : p.bound ≤ 65535
+  pub chunk : IsGoodChunk p.chunk
+
+-- a frame on its way is such a packet, or an advert within its limits
+abbrev pub FrameKeeps : PlainFrame → Type 0
+FrameKeeps (PlainFrame.Packet p) = PacketFits p
+FrameKeeps (PlainFrame.Advert a) = AdvertFits a
+FrameKeeps (PlainFrame.Ask bound chunk) = ⊥
+
+-- queues keep their room, and each frame keeps this
+pub record QueuesKeep (P : PlainFrame → Type 0) (queues : Queues) : Type 0 where
+  pub room : All (λ queue. length queue ≤ 64) queues
+  pub frames : All (λ queue. All P queue) queues
+
+-- services keep their laws, and no visit is open
+pub record ServicesFit (n : Standing) : Type 0 where
+  pub good : IsGood n
+  pub closed : n.begun ≡ None
+  pub waits : n.ready ≡ false
+
+-- the hosts of a network: at most 32, ascending
+pub record HostsFit (hosts : List Host) : Type 0 where
+  pub few : length hosts ≤ 32
+  pub ascend : HostsAscend None hosts
+  pub numbers : All (λ h. h.0 < 2 ^ 32) hosts
+
+pub record NodeFits (node : NodeState) : Type 0 where
+  pub here : node.here.0 < 2 ^ 32
+  pub hosts : HostsFit node.hosts
+  pub near : length node.neighbours ≤ 8
+  pub services : ServicesFit node.services
+  pub queues : QueuesKeep FrameKeeps node.queues
+  pub serial : node.serial < 2 ^ 64
+  pub now : node.now < 2 ^ 64
+
+-- the hosts of a network as they are named: at most 32, none twice
+pub record NetworkFits (hosts : List Host) : Type 0 where
+  pub few : length hosts ≤ 32
+  pub differ : HostsDiffer hosts
+  pub numbers : All (λ h. h.0 < 2 ^ 32) hosts
+
+-- how a node may begin
+pub record ConfigFits (c : NodeConfig) : Type 0 where
+  pub hosts : NetworkFits c.hosts
+  pub near : length c.neighbours ≤ 8
+
+-- an injected bound is at most 65,535, and a device at most 8
+abbrev pub comes_within : Event → Type 0
+comes_within (event.Inject chunk bound) = bound ≤ 65535
+comes_within (event.Frame d bytes) = d.0 ≤ 8
+comes_within _ = Unit {0}
+
+-- what comes to a node keeps the limits
+abbrev pub comes_fit : Event → Type 0
+comes_fit (event.Inject chunk bound) = (bound ≤ 65535) × IsCheckedChunk chunk
+comes_fit (event.Frame d bytes) = IsBytes bytes
+comes_fit (event.Control bytes) = IsBytes bytes
+comes_fit _ = Unit {0}

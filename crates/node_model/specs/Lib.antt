@@ -1,0 +1,7 @@
+pub mod State
+pub mod Visits
+pub mod Node
+pub mod Counts
+pub mod Fits
+pub mod Texts
+pub mod Orders

@@ -1,0 +1,210 @@
+-- What a node does at each event.
+use Rattle.std.specs.Prelude.{◌≡◌, ℕ, ◌+◌, ◌-◌, Bool, true, false, ◌==◌, nat_lt, if◌then◌else◌, List, [], ◌∷◌, ◌++◌, length, map, slice_get, slice_set, Option, Some, None, Result, Ok, Err}
+use Rattle.plan_base.specs.declared.ids.Host.{Host}
+use Rattle.plan_base.specs.declared.ids.Dev.{Dev}
+use Rattle.plan_base.specs.declared.tree.Chunk.{Chunk}
+use Rattle.plan_base.specs.declared.tree.Packet.{Packet}
+use Rattle.packet_frame.specs.declared.frame.PlainFrame.{PlainFrame}
+use Rattle.packet_frame.specs.declared.refusal.FrameRefusal.{FrameRefusal}
+use Rattle.frame_text.specs.Decoding.{frame_of}
+use Rattle.service_api.specs.declared.advert.Advert.{Advert}
+use Rattle.service_api.specs.declared.router.Hop.{Hop}
+use Rattle.service_api.specs.declared.router.Hop.TheVariants.{To, NoService, NoRoute}
+use Rattle.service_api.specs.Routes.{hop, default_route}
+use Rattle.service_api.specs.Services.{Standing, begun_now, expired}
+use Rattle.dv_routing.specs.Routing.{all_routes, own_advert}
+use Rattle.network_plan.specs.declared.event.Event.{Event}
+use Rattle.network_plan.specs.declared.event.Event.TheVariants as event
+use Rattle.plan_meaning.specs.declared.sent.Sent.{Sent}
+use Rattle.plan_meaning.specs.declared.outcome.Visit.{Visit}
+use Rattle.node_model.specs.declared.acts.Act.{Act}
+use Rattle.node_model.specs.declared.acts.Act.TheVariants.{Injected, Arrived, Asked, Noted, Ended, Queued, Dropped, Bad, Misplaced, AdvertQueued, AdvertDropped, Heard, Ticked, Taken, SerialsSpent}
+use Rattle.node_model.specs.declared.acts.Reason.TheVariants as reason
+use Rattle.node_model.specs.declared.acts.Sending.{Sending}
+use Rattle.spelled_frame.specs.Spelled.{what_of}
+use Rattle.node_model.specs.State.{Links, Queues, NodeState, routing_of, is_host, leads_to}
+use Rattle.node_model.specs.Visits.{around, visit_at, services_after}
+
+-- what a step gives: the acts in order, the frame that was taken, and the node afterwards
+pub record Step : Type 0 where
+  pub acts : List Act
+  pub frame : Option PlainFrame
+  pub node : NodeState
+
+abbrev pub stepped : List Act → Option PlainFrame → NodeState → Step
+stepped acts frame node = record { acts = acts; frame = frame; node = node }
+
+-- ---- frames into queues
+
+abbrev pub queue_room : Option (List PlainFrame) → Bool
+queue_room None = false
+queue_room (Some queue) = nat_lt (length queue) 64
+
+-- whether a device has room for one more frame
+unfoldable pub has_room : Queues → Dev → Bool
+has_room queues d = queue_room (slice_get queues d.0)
+
+abbrev pub queue_push : Queues → Dev → PlainFrame → Option (List PlainFrame) → Queues
+queue_push queues d x None = queues
+queue_push queues d x (Some queue) = slice_set queues d.0 (queue ++ x ∷ [])
+
+-- the act of a frame that is to be queued
+unfoldable pub send_act : Queues → Sending → Act
+send_act queues s = if has_room queues s.dev then s.queued else s.dropped
+
+-- the queues after it
+unfoldable pub send_queues : Queues → Sending → Queues
+send_queues queues s = if has_room queues s.dev then queue_push queues s.dev s.frame (slice_get queues s.dev.0) else queues
+
+-- the acts of frames that are queued one after the other
+unfoldable pub sends_acts : Queues → List Sending → List Act
+sends_acts queues [] = []
+sends_acts queues (s ∷ ss) = send_act queues s ∷ sends_acts (send_queues queues s) ss
+
+-- the queues after them
+unfoldable pub sends_queues : Queues → List Sending → Queues
+sends_queues queues [] = queues
+sends_queues queues (s ∷ ss) = sends_queues (send_queues queues s) ss
+
+abbrev pub with_queues : NodeState → Queues → NodeState
+with_queues node queues = record node { queues = queues }
+
+abbrev pub with_services : NodeState → Standing → NodeState
+with_services node services = record node { services = services }
+
+-- ---- packets
+
+-- the packet as it goes on, with 1 paid for the hop
+abbrev pub hop_packet : Packet → Packet
+hop_packet p = record p { bound = p.bound - 1 }
+
+-- a packet to be queued: with the bound less one, or dropped with the bound that was paid
+abbrev pub packet_sending : Sent → Sending
+packet_sending s = record {
+  dev = s.dev;
+  frame = PlainFrame.Packet (hop_packet s.packet);
+  queued = Queued s.dev s.packet.family (s.packet.bound - 1);
+  dropped = Dropped reason.QueueFull s.packet.family s.packet.bound;
+}
+
+-- the packets that a visit sends
+unfoldable pub visit_sends : Visit → List Sending
+visit_sends v = map packet_sending v.outbox
+
+-- the acts of a visit: its notes, its end, and its sends
+unfoldable pub visit_acts : Queues → Packet → Visit → List Act
+visit_acts queues p v = map Noted v.notes ++ (Ended p.family v.outcome v.evals v.left ∷ sends_acts queues (visit_sends v))
+
+-- a visit at a node, after these acts
+unfoldable pub visited : List Act → NodeState → Packet → Step
+visited acts node p = stepped (acts ++ visit_acts node.queues p (visit_at node p)) None
+    (with_services (with_queues node (sends_queues node.queues (visit_sends (visit_at node p)))) (services_after (around node p) (begun_now node.services) p))
+
+-- ---- injections
+
+-- the packet of an injection
+abbrev pub injected_packet : NodeState → Chunk → ℕ → Packet
+injected_packet node chunk bound = record { family = record { source = node.here; serial = node.serial }; dest = node.here; bound = bound; route = default_route; chunk = chunk }
+
+abbrev pub next_serial : NodeState → NodeState
+next_serial node = record node { serial = node.serial + 1 }
+
+-- an injection after these acts, which is refused where the last serial number would be given
+unfoldable pub inject_step : List Act → NodeState → Chunk → ℕ → Step
+inject_step acts node chunk bound = if node.serial == 18446744073709551615 then stepped (acts ++ SerialsSpent ∷ []) None node
+    else visited (acts ++ Injected (record { source = node.here; serial = node.serial }) bound ∷ []) (next_serial node) (injected_packet node chunk bound)
+
+-- ---- arrivals
+
+-- nothing but two acts
+abbrev pub only_acts : Act → Act → NodeState → Step
+only_acts first act node = stepped (first ∷ act ∷ []) None node
+
+-- a packet goes on over a device
+abbrev pub onward : NodeState → Dev → Sending → Step
+onward node d s = stepped (Arrived d ∷ send_act node.queues s ∷ []) None (with_queues node (send_queues node.queues s))
+
+-- a packet that goes on by a hop
+unfoldable pub forward_by : NodeState → Dev → Packet → Hop → Step
+forward_by node d p (To host over) = onward node d (packet_sending (record { dev = over; packet = p }))
+forward_by node d p NoService = only_acts (Arrived d) (Dropped reason.NoService p.family p.bound) node
+forward_by node d p NoRoute = only_acts (Arrived d) (Dropped reason.NoRoute p.family p.bound) node
+
+-- a packet for another host goes on by its routing function
+unfoldable pub forward_step : NodeState → Dev → Packet → Step
+forward_step node d p = if p.bound == 0 then only_acts (Arrived d) (Dropped reason.NoBound p.family 0) node
+    else forward_by node d p (hop (all_routes (routing_of node)) p.route node.here p.dest)
+
+-- a packet for this host is visited
+unfoldable pub packet_step : NodeState → Dev → Packet → Step
+packet_step node d p = if is_host p.dest node.here then visited (Arrived d ∷ []) node p else forward_step node d p
+
+abbrev pub hearing : NodeState → Dev → Advert → NodeState
+hearing node d a = record node { heard = node.heard ++ (d, a) ∷ [] }
+
+-- an advert is heard where it comes from the neighbour on its device
+unfoldable pub advert_step : NodeState → Dev → Advert → Step
+advert_step node d a = if leads_to node.neighbours d a.host then only_acts (Arrived d) (Heard d) (hearing node d a) else only_acts (Arrived d) Misplaced node
+
+-- a frame arrives
+abbrev pub frame_step : NodeState → Dev → PlainFrame → Step
+frame_step node d (PlainFrame.Packet p) = packet_step node d p
+frame_step node d (PlainFrame.Advert a) = advert_step node d a
+frame_step node d (PlainFrame.Ask bound chunk) = only_acts (Arrived d) Misplaced node
+
+abbrev pub arrived : NodeState → Dev → Result PlainFrame FrameRefusal → Step
+arrived node d (Ok x) = frame_step node d x
+arrived node d (Err e) = only_acts (Arrived d) (Bad e) node
+
+-- bytes arrive
+unfoldable pub arrive_step : NodeState → Dev → List ℕ → Step
+arrive_step node d bytes = arrived node d (frame_of bytes)
+
+abbrev pub asked : NodeState → Result PlainFrame FrameRefusal → Step
+asked node (Ok (PlainFrame.Ask bound chunk)) = inject_step (Asked ∷ []) node chunk bound
+asked node (Ok x) = only_acts Asked Misplaced node
+asked node (Err e) = only_acts Asked (Bad e) node
+
+-- bytes arrive from the owner: an ask is an injection
+unfoldable pub control_step : NodeState → List ℕ → Step
+control_step node bytes = asked node (frame_of bytes)
+
+-- ---- ticks
+
+-- time stands still at its last value
+abbrev pub next_tick : ℕ → ℕ
+next_tick now = if now == 18446744073709551615 then now else now + 1
+
+-- the node at its next tick: rows that have expired go
+abbrev pub ticking : NodeState → NodeState
+ticking node = record node { services = expired (next_tick node.now) node.services; now = next_tick node.now }
+
+-- an advert to be queued for a neighbour
+abbrev pub advert_sending : Advert → Host × Dev → Sending
+advert_sending a link = record { dev = link.1; frame = PlainFrame.Advert a; queued = AdvertQueued link.1; dropped = AdvertDropped link.1 }
+
+-- the adverts of a tick, one for each neighbour
+unfoldable pub tick_sends : NodeState → List Sending
+tick_sends node = map (advert_sending (own_advert (routing_of node))) node.neighbours
+
+unfoldable pub tick_step : NodeState → Step
+tick_step node = stepped (Ticked (next_tick node.now) ∷ sends_acts node.queues (tick_sends node)) None (with_queues (ticking node) (sends_queues node.queues (tick_sends node)))
+
+-- ---- takes
+
+abbrev pub take_from : NodeState → Dev → Option (List PlainFrame) → Step
+take_from node d None = stepped [] None node
+take_from node d (Some []) = stepped [] None node
+take_from node d (Some (x ∷ queue)) = stepped (Taken d (what_of x) ∷ []) (Some x) (with_queues node (slice_set node.queues d.0 queue))
+
+-- the first frame of a device is taken; nothing where there is none
+unfoldable pub take_step : NodeState → Dev → Step
+take_step node d = take_from node d (slice_get node.queues d.0)
+
+-- ---- one step of a node
+abbrev pub node_step : NodeState → Event → Step
+node_step node (event.Inject chunk bound) = inject_step [] node chunk bound
+node_step node (event.Frame d bytes) = arrive_step node d bytes
+node_step node (event.Control bytes) = control_step node bytes
+node_step node event.Tick = tick_step node
+node_step node (event.Take d) = take_step node d

@@ -1,0 +1,17 @@
+-- How a device's queue changes at a step.
+use Rattle.std.specs.Prelude.{◌≡◌, ℕ, List, [], ◌∷◌, ◌++◌, slice_get, Option, Some, None}
+use Rattle.packet_frame.specs.declared.frame.PlainFrame.{PlainFrame}
+use Rattle.node_model.specs.State.{Queues}
+
+-- the frames queued on a device, none where it isn't there
+abbrev pub frames_of : Option (List PlainFrame) → List PlainFrame
+frames_of None = []
+frames_of (Some queue) = queue
+
+abbrev pub queue_at : Queues → ℕ → List PlainFrame
+queue_at queues d = frames_of (slice_get queues d)
+
+-- frames join a queue at its end, and leave it at its front
+pub data MovesInOrder (old new : List PlainFrame) : Type 0 where
+  joined : (more : List PlainFrame) → new ≡ old ++ more → MovesInOrder old new
+  taken : (first : PlainFrame) → old ≡ first ∷ new → MovesInOrder old new

@@ -1,0 +1,58 @@
+-- The visit of a packet at a node: the meaning of its chunk, and what it leaves.
+use Rattle.std.specs.Prelude.{◌≡◌, ◌≢◌, ℕ, ◌+◌, ◌<◌, All}
+use Rattle.plan_base.specs.declared.tree.Packet.{Packet}
+use Rattle.plan_base.specs.declared.tree.Value.{Value}
+use Rattle.service_api.specs.declared.ctx.Ctx.{Ctx}
+use Rattle.service_api.specs.Services.{Standing, begun_now, kept, abandoned}
+use Rattle.plan_meaning.specs.declared.stop.Stop.TheVariants as stop
+use Rattle.plan_meaning.specs.declared.outcome.Outcome.TheVariants as outcome
+use Rattle.plan_meaning.specs.declared.outcome.Visit.{Visit}
+use Rattle.plan_meaning.specs.State.{VisitState}
+use Rattle.plan_meaning.specs.Run.{After, gave, stopped}
+use Rattle.plan_meaning.specs.Meaning.{meaning, visited}
+use Rattle.plan_meaning.specs.Visit.{allowance, begun, ended, spent, bounds}
+use Rattle.dv_routing.specs.Routing.{all_routes}
+use Rattle.node_model.specs.State.{NodeState, routing_of}
+
+-- how the evaluation of a packet's chunk ends in these surroundings, with these services
+unfoldable pub evaluated : Ctx → Standing → Packet → After Value
+evaluated ctx services p = (visited meaning p.chunk (begun allowance ctx p.family services)).after
+
+-- the value or exception of a visit with its effects; one whose work is spent has none. A typed chunk always has a case, so the
+-- last line is for spent work alone.
+abbrev pub visit_end : ℕ → After Value → Visit
+visit_end bound (gave v s) = ended allowance (outcome.Value v) s
+visit_end bound (stopped (stop.Raised x) s) = ended allowance (outcome.Raised x) s
+visit_end bound (stopped _ s) = spent allowance bound
+
+-- the visit of a packet
+unfoldable pub visit_of : Ctx → Standing → Packet → Visit
+visit_of ctx services p = visit_end p.bound (evaluated ctx services p)
+
+-- the services afterwards: what a visit changed stands, but for one whose work is spent
+abbrev pub services_end : Standing → After Value → Standing
+services_end begun (gave v s) = kept s.services
+services_end begun (stopped (stop.Raised x) s) = kept s.services
+services_end begun (stopped _ s) = abandoned begun
+
+unfoldable pub services_after : Ctx → Standing → Packet → Standing
+services_after ctx services p = services_end services (evaluated ctx services p)
+
+-- what stands around the visit of a packet at a node: the packet's bound is the purse
+abbrev pub around : NodeState → Packet → Ctx
+around node p = record { here = node.here; source = p.family.source; purse = p.bound; now = node.now; neighbours = node.neighbours; router = all_routes (routing_of node) }
+
+-- the visit of a packet at a node
+abbrev pub visit_at : NodeState → Packet → Visit
+visit_at node p = visit_of (around node p) (begun_now node.services) p
+
+-- what every visit keeps: the packet's bound is what it paid, left and sent, each send has the
+-- packet's family, and each paid at least 1
+pub record VisitKeeps (p : Packet) (v : Visit) : Type 0 where
+  pub balance : v.evals + v.left + bounds v.outbox ≡ p.bound
+  pub family : All (λ s. s.packet.family ≡ p.family) v.outbox
+  pub paid_each : All (λ s. 0 < s.packet.bound) v.outbox
+
+-- the evaluation never is without a case
+abbrev pub HasCase : After Value → Type 0
+HasCase a = (s : VisitState) → a ≢ stopped stop.Wrong s

@@ -1,0 +1,84 @@
+use packet_frame::FrameRefusal;
+use plan_base::{Dev, Family};
+use plan_items::Items;
+use plan_meaning::Outcome;
+use service_api::Note;
+use spelled_frame::{SpelledFrame, What};
+
+/// Why a packet was dropped.
+#[derive(Debug, Clone, Copy, PartialEq, Eq)]
+pub enum Reason {
+    /// It had to go on, and its bound was 0.
+    NoBound,
+    /// Its routing function isn't there.
+    NoService,
+    /// No route leads to its destination.
+    NoRoute,
+    /// 64 frames are queued on its device.
+    QueueFull,
+}
+
+/// A list of acts.
+pub type ActList = Items<Act>;
+
+/// One thing that a node did.
+#[derive(Debug, Drop)]
+pub enum Act {
+    /// It took in a chunk as a packet of this family with this bound.
+    Injected(Family, u32),
+    /// Bytes arrived over this device.
+    Arrived(Dev),
+    /// Bytes arrived from its owner.
+    Asked,
+    /// A visit noted this.
+    Noted(Note),
+    /// A visit of a packet of this family ended so, with these evals paid and this rest of the purse.
+    Ended(Family, Outcome, u32, u32),
+    /// A packet of this family was queued on this device with this bound.
+    Queued(Dev, Family, u32),
+    /// A packet of this family was dropped with this bound.
+    Dropped(Reason, Family, u32),
+    /// The bytes that arrived are no frame, for this reason.
+    Bad(FrameRefusal),
+    /// The frame that arrived doesn't belong there.
+    Misplaced,
+    /// Its advert was queued on this device.
+    AdvertQueued(Dev),
+    /// Its advert was dropped, since 64 frames are queued on this device.
+    AdvertDropped(Dev),
+    /// It heard the advert of the neighbour on this device.
+    Heard(Dev),
+    /// Its time went on to this tick.
+    Ticked(u64),
+    /// The first frame of this device was taken.
+    Taken(Dev, What),
+    /// An injection was refused, since the node has given all its serial numbers.
+    SerialsSpent,
+    /// A step was dropped, since it found no memory. No step has this act.
+    NoMemory,
+}
+
+/// What a step of a node gives.
+#[derive(Debug, Drop)]
+pub struct Acts {
+    /// The acts in order.
+    pub list: ActList,
+    /// The frame that the step took, where it took one.
+    pub frame: Option<SpelledFrame>,
+}
+
+/// A list of frames to be queued.
+pub type Sendings = Items<Sending>;
+
+/// A frame to be queued: on which device, and the act where it is queued or dropped.
+#[derive(Debug, Drop)]
+pub struct Sending {
+    /// The device.
+    pub dev: Dev,
+    /// The frame.
+    pub frame: SpelledFrame,
+    /// The act where the device has room for it.
+    pub queued: Act,
+    /// The act where the device has none.
+    pub dropped: Act,
+}

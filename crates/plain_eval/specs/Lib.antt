@@ -1,2 +1,0 @@
-pub mod Evaluates
-pub mod Told

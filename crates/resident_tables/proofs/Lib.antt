@@ -1,0 +1,6 @@
+pub mod Sums
+pub mod Changed
+pub mod Fits
+pub mod Steps
+pub mod Over
+pub mod Limits

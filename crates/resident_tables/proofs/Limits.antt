@@ -1,0 +1,56 @@
+-- The limits of rows after a tick and after a commit.
+use Rattle.std.proofs.Common.{◌≡◌, ℕ, ◌+◌, ◌≤◌, Bool, true, false, List, [], ◌∷◌, length, Option, Some, None, min, refl, sym, ap, ◌∙◌, subst, arith}
+use Rattle.std.specs.Prelude.{◌&&◌, nat_le}
+use Rattle.std.proofs.lemmas.Bool.Decides.{nat_tests}
+use Rattle.small_laws.proofs.Bools.{and_left, and_right, and_both}
+use Rattle.table_rows.specs.declared.row.Row.{Row}
+use Rattle.table_rows.specs.Rows.{row_size, rows_size, is_live, living, fits}
+use Rattle.resident_tables.specs.declared.counts.Counts.{Counts}
+use Rattle.resident_tables.specs.Counted.{counts_of, within, bytes_after}
+use Rattle.resident_tables.specs.Layers.{Layer, over, put_all, without_all, IsOver, IsCounted}
+use Rattle.resident_tables.proofs.Fits.{at_most}
+use Rattle.resident_tables.proofs.Sums.{size_more}
+use Rattle.resident_tables.proofs.Steps.{kept_first, gone_first}
+
+-- ---- a tick
+
+either : (b : Bool) → (P : Type 0) → (b ≡ true → P) → (b ≡ false → P) → P
+either true P f g = f refl
+either false P f g = g refl
+
+living_less : (now : ℕ) (xs : List Row) → (length (living now xs) ≤ length xs) × (rows_size (living now xs) ≤ rows_size xs)
+living_less now [] = (omega arith, omega arith)
+living_less now (x ∷ xs) = let ih = living_less now xs in let s = size_more x xs in either (is_live now x) ((length (living now (x ∷ xs)) ≤ length (x ∷ xs)) × (rows_size (living now (x ∷ xs)) ≤ rows_size (x ∷ xs)))
+    (λ e. rw (kept_first now x xs e) (let a = ih.0 in omega arith, let b = ih.1 in let t = size_more x (living now xs) in omega arith))
+    (λ e. rw (gone_first now x xs e) (let a = ih.0 in omega arith, let b = ih.1 in omega arith))
+
+le_within : (n m : ℕ) (l : ℕ) → n ≤ m → nat_le m l ≡ true → nat_le n l ≡ true
+le_within n m l h k = grind (arith, nat_tests)
+
+pub living_fits : (now : ℕ) (xs : List Row) → fits xs ≡ true → fits (living now xs) ≡ true
+living_fits now xs h =
+    let l = living_less now xs in
+    and_both (nat_le (length (living now xs)) 1024) (nat_le (rows_size (living now xs)) 1048576)
+    (le_within (length (living now xs)) (length xs) 1024 l.0 (and_left (nat_le (length xs) 1024) (nat_le (rows_size xs) 1048576) h))
+    (le_within (rows_size (living now xs)) (rows_size xs) 1048576 l.1 (and_right (nat_le (length xs) 1024) (nat_le (rows_size xs) 1048576) h))
+
+pub whole_total : (xs : List Row) (n : ℕ) → fits xs ≡ true → n ≡ min (rows_size xs) 18446744073709551615 → n ≡ rows_size xs
+whole_total xs n h e = let b = at_most (rows_size xs) 1048576 (and_right (nat_le (length xs) 1024) (nat_le (rows_size xs) 1048576) h) in omega arith
+
+-- ---- the counts of a layer
+
+none_over : (base : List Row) (o : Layer) → IsCounted base o None → over base o ≡ base
+none_over base o h = ap (λ gs. put_all o.puts (without_all gs base)) h.0 ∙ ap (λ ps. put_all ps base) h.1
+
+pub counted_none : (base : List Row) (o : Layer) → IsOver base o → o.counted ≡ None → over base o ≡ base
+counted_none base o h e = none_over base o (subst (IsCounted base o) e h)
+
+pub counted_some : (base : List Row) (o : Layer) (c : Counts) → IsOver base o → o.counted ≡ Some c → (c ≡ counts_of (over base o)) × (within c ≡ true)
+counted_some base o c h e = subst (IsCounted base o) e h
+
+committed_by : (base : List Row) (o : Layer) (k : Option Counts) (b : ℕ) → b ≡ rows_size base → fits base ≡ true → IsCounted base o k → (bytes_after k b ≡ rows_size (over base o)) × (fits (over base o) ≡ true)
+committed_by base o (Some c) b e f h = (ap (λ (x : Counts). x.bytes) h.0, subst (λ (x : Counts). within x ≡ true) h.0 h.1)
+committed_by base o None b e f h = let n = none_over base o h in (e ∙ ap rows_size (sym n), subst (λ xs. fits xs ≡ true) (sym n) f)
+
+pub committed : (base : List Row) (o : Layer) (b : ℕ) → b ≡ rows_size base → fits base ≡ true → IsOver base o → (bytes_after o.counted b ≡ rows_size (over base o)) × (fits (over base o) ≡ true)
+committed base o b e f h = committed_by base o o.counted b e f h

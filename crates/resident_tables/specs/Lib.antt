@@ -1,0 +1,4 @@
+pub mod Counted
+pub mod Tables
+pub mod Layers
+pub mod PartRows

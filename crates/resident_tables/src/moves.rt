@@ -1,0 +1,106 @@
+ghost use Rattle.std.specs.Prelude.{◌≡◌, ◌≤◌, length, min, IfOk, OnOk, OnErr};
+ghost use Rattle.table_rows.specs.Rows.{put_row, without_row, living, rows_size};
+ghost use Rattle.resident_tables.specs.Layers.{put_all, without_all};
+ghost use Rattle.resident_tables.specs.PartRows.{part_row};
+
+use crate::gone::Gone;
+use crate::parts::Parts;
+use crate::tables::Tables;
+use keyed_list::{KeyedList, Probe};
+use plan_base::{NoMemory, Text};
+use plan_items::Items;
+use std::alloc::Global;
+use table_rows::Row;
+
+/// Puts the row of the parts, with room taken for it.
+pub fn put_parts(alloc: Global, rows: &mut KeyedList<Row>, parts: &Parts) -> Result<(), NoMemory>
+    ensures ok { OnOk result (rows.new.items ≡ put_row (part_row parts.now) rows.old.items) }
+    ensures err { OnErr result (rows.new.items ≡ rows.old.items) }
+    ensures spare { OnErr result (rows.old.spare ≤ rows.new.spare) }
+{
+    rows.reserve(1)?;
+    let row = parts.row(alloc)?;
+    rows.put(row);
+    Ok(())
+}
+
+/// Notes the key as removed, where the tables have a row of it and it isn't noted yet.
+pub fn forget(
+    alloc: Global,
+    gone: &mut KeyedList<Gone>,
+    base: &Tables,
+    wanted: &Probe,
+) -> Result<(), NoMemory>
+    ensures ok { OnOk result (without_all gone.new.items base.now.rows ≡ without_row (record { name = wanted.now.name.now; number = wanted.now.number }) (without_all gone.old.items base.now.rows)) }
+    ensures err { OnErr result (gone.new.items ≡ gone.old.items) }
+{
+    let Some(_there) = base.find(wanted) else {
+        return Ok(());
+    };
+    if let Some(_noted) = gone.get(wanted) {
+        return Ok(());
+    }
+    gone.reserve(1)?;
+    let name = Text::of(Vec::from_slice(alloc, wanted.name)?);
+    gone.put(Gone {
+        name,
+        key: wanted.number,
+    });
+    Ok(())
+}
+
+/// Drops the rows of the keys. Takes no memory.
+pub fn drop_gone(rows: &mut KeyedList<Row>, gone: Vec<Gone>)
+    ensures rows { rows.new.items ≡ without_all gone.items rows.old.items }
+    ensures spare { rows.old.spare ≤ rows.new.spare }
+{
+    for g in gone {
+        rows.remove(&g);
+    }
+}
+
+/// Puts the rows, for which there is room. Takes no memory.
+pub fn put_each(rows: &mut KeyedList<Row>, puts: Vec<Row>)
+    requires { length puts.items ≤ rows.old.spare }
+    ensures { rows.new.items ≡ put_all puts.items rows.old.items }
+{
+    for row in puts {
+        rows.put(row);
+    }
+}
+
+/// Drops the rows that aren't there any more at the tick `now`. Takes no memory.
+pub fn drop_expired(rows: &mut KeyedList<Row>, now: u64)
+    ensures rows { rows.new.items ≡ living now rows.old.items }
+    ensures spare { rows.old.spare ≤ rows.new.spare }
+{
+    let mut i = rows.len();
+    while i > 0 {
+        i -= 1;
+        if !rows.as_slice()[i].is_live(now) {
+            rows.remove_at(i);
+        }
+    }
+}
+
+/// The bytes of all rows, or 2^64 - 1 where there are more.
+pub fn total_size(rows: &[Row]) -> u64
+    ensures { result ≡ min (rows_size rows.now) 18446744073709551615 }
+{
+    let mut total = 0u64;
+    for row in rows {
+        total = total.saturating_add(row.size());
+    }
+    total
+}
+
+/// The same rows.
+pub fn copy_rows(alloc: Global, rows: &[Row]) -> Result<Vec<Row>, NoMemory>
+    ensures { IfOk result (λ v. v.items ≡ rows.now) }
+{
+    let mut done = Items::new(alloc);
+    for row in rows {
+        done.add(row.copy(alloc)?)?;
+    }
+    Ok(done.into_vec())
+}

@@ -1,0 +1,56 @@
+ghost use Rattle.std.specs.Prelude.{◌≡◌, min, IfOk};
+ghost use Rattle.table_rows.specs.Rows.{row_size};
+ghost use Rattle.resident_tables.specs.PartRows.{part_row};
+
+use item_keys::HasKey;
+use plan_base::{NoMemory, Text, Ty, Value, type_size, weight};
+use std::alloc::Global;
+use table_rows::Row;
+
+/// The parts of a row that is to be put.
+#[derive(Clone, Copy)]
+pub struct Parts<'a> {
+    pub name: &'a Text,
+    pub key: i64,
+    pub ty: &'a Ty,
+    pub value: &'a Value,
+    pub expiry: u64,
+}
+
+impl HasKey for Parts<'_> {
+    ghost key_of = { λ p. record { name = p.name.now; number = p.key } };
+
+    fn name(&self) -> &[u8] {
+        self.name.as_slice()
+    }
+
+    fn number(&self) -> i64 {
+        self.key
+    }
+}
+
+impl Parts<'_> {
+    /// The bytes that the row takes of its table.
+    #[tactic(auto, unfolding(table_rows::specs::Rows::row_size))]
+    pub fn size(&self) -> u64
+        ensures { result ≡ min (row_size (part_row self.now)) 18446744073709551615 }
+    {
+        (self.name.len() as u64)
+            .saturating_add(8)
+            .saturating_add(type_size(self.ty))
+            .saturating_add(weight(self.value))
+    }
+
+    /// The row of these parts.
+    pub fn row(&self, alloc: Global) -> Result<Row, NoMemory>
+        ensures { IfOk result (λ r. r ≡ part_row self.entry.now) }
+    {
+        Ok(Row {
+            name: self.name.copy(alloc)?,
+            key: self.key,
+            ty: self.ty.copy(alloc)?,
+            value: self.value.copy(alloc)?,
+            expiry: self.expiry,
+        })
+    }
+}

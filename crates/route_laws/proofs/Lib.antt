@@ -1,0 +1,5 @@
+pub mod Lookups
+pub mod Truth
+pub mod Keep
+pub mod Walking
+pub mod Places

@@ -1,0 +1,502 @@
+use crate::{built_rows, rows, show_rows, visit_rows};
+use node_io::{
+    Arrivals, Calls, FileList, MemClock, MemFiles, MemLink, MemSink, MemSpawner, Moments, Statuses,
+};
+use plan_base::{Bytes, Text, Texts};
+use planet_cli::{Status, planet};
+use std::alloc::{AllocError, Global};
+use std::process::Abort;
+use std::test::Fail;
+
+const USAGE: &[u8] =
+    b"planet: usage: check FILE | show FILE | replay FILE | node FILE TURNS | inject FILE | fleet FILE | grow SEED N\n";
+
+fn text(alloc: Global, of: &str) -> Result<Text, AllocError> {
+    Ok(Text::of(Vec::from_slice(alloc, of.as_bytes())?))
+}
+
+fn words_of(alloc: Global, all: &[&str]) -> Result<Texts, Fail> {
+    let mut words = Texts::new(alloc);
+    for word in all {
+        words.add(text(alloc, word)?)?;
+    }
+    Ok(words)
+}
+
+// The file `schedule.txt` of these bytes, and the calls that are to fail.
+fn files_of(alloc: Global, bytes: &[u8], fails: &[u64]) -> Result<MemFiles, Fail> {
+    let mut files = FileList::new(alloc);
+    files.add((
+        text(alloc, "schedule.txt")?,
+        Bytes::of(Vec::from_slice(alloc, bytes)?),
+    ))?;
+    Ok(MemFiles::new(alloc, files, Calls::from_slice(alloc, fails)?)?)
+}
+
+fn sink(alloc: Global) -> Result<MemSink, Fail> {
+    Ok(MemSink::new(alloc, Calls::new(alloc))?)
+}
+
+fn call(
+    alloc: Global,
+    words: &[&str],
+    files: &mut MemFiles,
+    out: &mut MemSink,
+    notes: &mut MemSink,
+) -> Result<Status, Fail> {
+    let words = words_of(alloc, words)?;
+    let mut link = MemLink::new(alloc, Arrivals::new(alloc), Calls::new(alloc))?;
+    let mut clock = MemClock::new(alloc, Moments::new(alloc))?;
+    let mut spawn = MemSpawner::new(alloc, Statuses::new(alloc), Calls::new(alloc))?;
+    Ok(planet(
+        alloc, &words, files, out, notes, &mut link, &mut clock, &mut spawn,
+    ))
+}
+
+// The code, the output and the notes of a command on a file of these bytes.
+fn on_bytes(alloc: Global, command: &str, bytes: &[u8]) -> Result<(u8, MemSink, MemSink), Fail> {
+    let mut files = files_of(alloc, bytes, &[])?;
+    let mut out = sink(alloc)?;
+    let mut notes = sink(alloc)?;
+    let status = call(
+        alloc,
+        &[command, "schedule.txt"],
+        &mut files,
+        &mut out,
+        &mut notes,
+    )?;
+    Ok((status.code, out, notes))
+}
+
+/// A file, and the output of a command that is done with it.
+type Done = (&'static [u8], &'static [u8]);
+
+fn all_done(rt: &impl Abort, alloc: Global, command: &str, table: &[Done]) -> Result<(), Fail> {
+    for (bytes, output) in table {
+        let (code, out, notes) = on_bytes(alloc, command, bytes)?;
+        assert_eq!(rt; code, 0);
+        assert_eq!(rt; out.taken().as_slice(), *output);
+        assert_eq!(rt; notes.taken().as_slice(), b"".as_slice());
+    }
+    Ok(())
+}
+
+/// A file, and the note of a command that refuses it.
+type Refused = (&'static [u8], &'static [u8]);
+
+fn all_refused(
+    rt: &impl Abort,
+    alloc: Global,
+    command: &str,
+    table: &[Refused],
+) -> Result<(), Fail> {
+    for (bytes, note) in table {
+        let (code, out, notes) = on_bytes(alloc, command, bytes)?;
+        assert_eq!(rt; code, 2);
+        assert_eq!(rt; out.taken().as_slice(), b"".as_slice());
+        assert_eq!(rt; notes.taken().as_slice(), *note);
+    }
+    Ok(())
+}
+
+static RUNS: [Done; 8] = [
+    (rows::FIRST_RUN, rows::FIRST_RUN_OUTPUT),
+    (
+        rows::FIRST_RUN_WITH_FRAMES,
+        rows::FIRST_RUN_WITH_FRAMES_OUTPUT,
+    ),
+    (rows::FIRST_RUN_LOST, rows::FIRST_RUN_LOST_OUTPUT),
+    (
+        rows::REORDERED_DELIVERIES,
+        rows::REORDERED_DELIVERIES_OUTPUT,
+    ),
+    (rows::IN_ORDER_DELIVERIES, rows::IN_ORDER_DELIVERIES_OUTPUT),
+    (
+        rows::FULL_QUEUE_BY_THREE_VISITS,
+        rows::FULL_QUEUE_BY_THREE_VISITS_OUTPUT,
+    ),
+    (rows::SMALLEST_SCHEDULE, rows::SMALLEST_SCHEDULE_OUTPUT),
+    (rows::DELIVER_NOTHING, rows::DELIVER_NOTHING_OUTPUT),
+];
+
+#[test]
+fn schedules_give_their_output(rt: HostRuntime) -> Result<(), Fail> {
+    all_done(&rt, rt.alloc(), "replay", &RUNS)
+}
+
+static VISITS: [Done; 13] = [
+    (visit_rows::NESTED_EVALS, visit_rows::NESTED_EVALS_OUTPUT),
+    (
+        visit_rows::SIXTEEN_NESTED_EVALS,
+        visit_rows::SIXTEEN_NESTED_EVALS_OUTPUT,
+    ),
+    (
+        visit_rows::SEVENTEEN_NESTED_EVALS,
+        visit_rows::SEVENTEEN_NESTED_EVALS_OUTPUT,
+    ),
+    (
+        visit_rows::EVAL_THEN_SEND_PAID,
+        visit_rows::EVAL_THEN_SEND_PAID_OUTPUT,
+    ),
+    (
+        visit_rows::EVAL_THEN_SEND_UNPAID,
+        visit_rows::EVAL_THEN_SEND_UNPAID_OUTPUT,
+    ),
+    (
+        visit_rows::SEND_WITHOUT_ROUTE,
+        visit_rows::SEND_WITHOUT_ROUTE_OUTPUT,
+    ),
+    (
+        visit_rows::SEND_BY_UNKNOWN_ROUTE_NAME,
+        visit_rows::SEND_BY_UNKNOWN_ROUTE_NAME_OUTPUT,
+    ),
+    (visit_rows::WORK_SPENT, visit_rows::WORK_SPENT_OUTPUT),
+    (visit_rows::FOLDS, visit_rows::FOLDS_OUTPUT),
+    (
+        visit_rows::ARITHMETIC_EDGES,
+        visit_rows::ARITHMETIC_EDGES_OUTPUT,
+    ),
+    (
+        visit_rows::EXCEPTION_FALLS_TO_LAST_CLAUSE,
+        visit_rows::EXCEPTION_FALLS_TO_LAST_CLAUSE_OUTPUT,
+    ),
+    (
+        visit_rows::CHUNK_NESTING_LIMIT,
+        visit_rows::CHUNK_NESTING_LIMIT_OUTPUT,
+    ),
+    (
+        visit_rows::STRING_WEIGHT_LIMIT,
+        visit_rows::STRING_WEIGHT_LIMIT_OUTPUT,
+    ),
+];
+
+#[test]
+fn programs_of_the_whole_language_run(rt: HostRuntime) -> Result<(), Fail> {
+    all_done(&rt, rt.alloc(), "replay", &VISITS)
+}
+
+#[test]
+fn a_long_sum_goes_through_many_functions(rt: HostRuntime) -> Result<(), Fail> {
+    let alloc = rt.alloc();
+    let schedule = built_rows::long_sum(alloc)?;
+    let (code, out, notes) = on_bytes(alloc, "replay", schedule.as_slice())?;
+    assert_eq!(rt; code, 0);
+    assert_eq!(rt; notes.taken().len(), 0);
+    assert_eq!(rt;
+        out.taken().as_slice(),
+        visit_rows::LONG_SUM_THROUGH_MANY_FUNCTIONS_OUTPUT
+    );
+    Ok(())
+}
+
+// A thousand evals are paid, each inside the one before; the next one finds an empty purse.
+#[test]
+fn a_thousand_deep_evals_run_on_an_ordinary_stack(rt: HostRuntime) -> Result<(), Fail> {
+    let alloc = rt.alloc();
+    let schedule = built_rows::deep_evals(alloc)?;
+    let (code, out, notes) = on_bytes(alloc, "replay", schedule.as_slice())?;
+    assert_eq!(rt; code, 0);
+    assert_eq!(rt; notes.taken().len(), 0);
+    assert_eq!(rt; out.taken().as_slice(), visit_rows::DEEP_EVALS_OUTPUT);
+    Ok(())
+}
+
+static WRONG_SCHEDULES: [Refused; 11] = [
+    (rows::UNKNOWN_HEADER, b"planet: line 1: BadHeader\n"),
+    (rows::EMPTY_FILE, b"planet: line 1: BadHeader\n"),
+    (
+        rows::FIRST_RUN_WITH_TICK_NOT_BUILT,
+        b"planet: line 14: NotYet\n",
+    ),
+    (rows::ABSENT_SERVICE_NOT_BUILT, b"planet: line 2: NotYet\n"),
+    (
+        rows::FORGED_PACKET_UNKNOWN_WORD,
+        b"planet: line 4: BadWord\n",
+    ),
+    (rows::LINK_TO_UNKNOWN_HOST, b"planet: line 3: UnknownHost\n"),
+    (rows::NO_BOUND_CAUGHT_NOT_BUILT, b"planet: line 5: NotYet\n"),
+    (
+        rows::PING_THREE_HOSTS_PROGRAM_NOT_BUILT,
+        b"planet: line 7: NotYet\n",
+    ),
+    (
+        rows::REPEATED_FRAME_UNKNOWN_HEADER,
+        b"planet: line 1: BadHeader\n",
+    ),
+    (
+        rows::SERVING_LOG_UNKNOWN_HEADER,
+        b"planet: line 1: BadHeader\n",
+    ),
+    (
+        rows::PROGRAM_REFUSED,
+        b"planet: line 3: ProgramRefused at 16: Mismatch int bool\n",
+    ),
+];
+
+#[test]
+fn files_outside_the_format_are_refused(rt: HostRuntime) -> Result<(), Fail> {
+    all_refused(&rt, rt.alloc(), "replay", &WRONG_SCHEDULES)
+}
+
+static PROGRAMS: [Done; 2] = [
+    (
+        b"fun f() : unit = OnNeighbor(|f|(), @2, 1, %1)\n",
+        b"ok functions 1 nodes 5 code 31\n",
+    ),
+    (
+        b"fun f(x : int list) : bool = x = []\n",
+        b"ok functions 1 nodes 3 code 18\n",
+    ),
+];
+
+#[test]
+fn typed_programs_give_their_sizes(rt: HostRuntime) -> Result<(), Fail> {
+    all_done(&rt, rt.alloc(), "check", &PROGRAMS)
+}
+
+static WRONG_PROGRAMS: [Refused; 3] = [
+    (
+        b"fun f() : int = true\n",
+        b"planet: at 16: Mismatch int bool\n",
+    ),
+    (b"fun f() : unit = f()\n", b"planet: at 17: NotEarlier\n"),
+    (b"fun f() : int = hd([])\n", b"planet: at 19: NeedsType\n"),
+];
+
+#[test]
+fn other_programs_are_refused_at_their_byte(rt: HostRuntime) -> Result<(), Fail> {
+    all_refused(&rt, rt.alloc(), "check", &WRONG_PROGRAMS)
+}
+
+static FRAMES: [Done; 7] = [
+    (show_rows::PACKET, show_rows::PACKET_OUTPUT),
+    (show_rows::UPPER, show_rows::PACKET_OUTPUT),
+    (show_rows::ASK, show_rows::ASK_OUTPUT),
+    (show_rows::ADVERT, show_rows::ADVERT_OUTPUT),
+    (
+        show_rows::FIRST_RUN_FRAME,
+        show_rows::FIRST_RUN_FRAME_OUTPUT,
+    ),
+    (
+        show_rows::PRINTED_OPERATORS,
+        show_rows::PRINTED_OPERATORS_OUTPUT,
+    ),
+    (show_rows::CUT_PART, show_rows::CUT_PART_OUTPUT),
+];
+
+#[test]
+fn frames_say_what_they_carry(rt: HostRuntime) -> Result<(), Fail> {
+    all_done(&rt, rt.alloc(), "show", &FRAMES)
+}
+
+static WRONG_FRAMES: [Refused; 6] = [
+    (show_rows::TRAILING_BYTE, b"planet: frame Trailing 50\n"),
+    (show_rows::ILL_TYPED, b"planet: frame IllTyped Argument 0\n"),
+    (
+        show_rows::SECOND_VERSION_UNKNOWN,
+        b"planet: frame BadVersion\n",
+    ),
+    // an odd number of digits, a byte that is no digit, a second line feed
+    (b"504\n", b"planet: BadHex\n"),
+    (b"50 c\n", b"planet: BadHex\n"),
+    (b"504c\n\n", b"planet: BadHex\n"),
+];
+
+#[test]
+fn what_is_no_frame_in_hex_is_refused(rt: HostRuntime) -> Result<(), Fail> {
+    all_refused(&rt, rt.alloc(), "show", &WRONG_FRAMES)
+}
+
+#[test]
+fn every_beginning_of_a_frame_is_refused_where_it_is_cut(rt: HostRuntime) -> Result<(), Fail> {
+    let alloc = rt.alloc();
+    for count in 0..50 {
+        let mut hex = Vec::from_slice(alloc, show_rows::PACKET)?;
+        hex.truncate(2 * count);
+        hex.push(b'\n')?;
+        let at = show_rows::CUT_AT[count];
+        let note = format!(in alloc; "planet: frame Truncated {at}\n")?;
+        let (code, out, notes) = on_bytes(alloc, "show", hex.as_slice())?;
+        assert_eq!(rt; code, 2, "cut after {count}");
+        assert_eq!(rt; out.taken().len(), 0);
+        assert_eq!(rt; notes.taken().as_slice(), note.as_bytes());
+    }
+    Ok(())
+}
+
+// The code of these words on the first run, which wrote no output, and the notes.
+fn refused_words(alloc: Global, words: &[&str]) -> Result<(u8, usize, MemSink), Fail> {
+    let mut files = files_of(alloc, rows::FIRST_RUN, &[])?;
+    let mut out = sink(alloc)?;
+    let mut notes = sink(alloc)?;
+    let status = call(alloc, words, &mut files, &mut out, &mut notes)?;
+    Ok((status.code, out.taken().len(), notes))
+}
+
+#[test]
+fn words_that_name_no_command_are_usage(rt: HostRuntime) -> Result<(), Fail> {
+    let (code, written, notes) = refused_words(rt.alloc(), &[])?;
+    assert_eq!(rt; (code, written), (1, 0));
+    assert_eq!(rt; notes.taken().as_slice(), USAGE);
+    let (code, written, notes) = refused_words(rt.alloc(), &["replay"])?;
+    assert_eq!(rt; (code, written), (1, 0));
+    assert_eq!(rt; notes.taken().as_slice(), USAGE);
+    let (code, written, notes) = refused_words(rt.alloc(), &["grow", "schedule.txt"])?;
+    assert_eq!(rt; (code, written), (1, 0));
+    assert_eq!(rt; notes.taken().as_slice(), USAGE);
+    Ok(())
+}
+
+#[test]
+fn file_words_that_name_no_file_are_usage(rt: HostRuntime) -> Result<(), Fail> {
+    let (code, written, notes) = refused_words(rt.alloc(), &["replay", ""])?;
+    assert_eq!(rt; (code, written), (1, 0));
+    assert_eq!(rt; notes.taken().as_slice(), USAGE);
+    let (code, written, notes) = refused_words(rt.alloc(), &["replay", "schedule.txt", "more"])?;
+    assert_eq!(rt; (code, written), (1, 0));
+    assert_eq!(rt; notes.taken().as_slice(), USAGE);
+    Ok(())
+}
+
+#[test]
+fn a_missing_file_is_a_read_fault(rt: HostRuntime) -> Result<(), Fail> {
+    let alloc = rt.alloc();
+    let mut files = files_of(alloc, rows::FIRST_RUN, &[])?;
+    let mut out = sink(alloc)?;
+    let mut notes = sink(alloc)?;
+    let status = call(
+        alloc,
+        &["replay", "missing.txt"],
+        &mut files,
+        &mut out,
+        &mut notes,
+    )?;
+    assert_eq!(rt; status.code, 3);
+    assert_eq!(rt;
+        notes.taken().as_slice(),
+        b"planet: read fault\n".as_slice()
+    );
+    Ok(())
+}
+
+#[test]
+fn a_file_of_one_byte_too_many_is_too_long(rt: HostRuntime) -> Result<(), Fail> {
+    let alloc = rt.alloc();
+    let mut bytes = Vec::new(alloc);
+    bytes.resize(4_194_305, b'#')?;
+    let (code, out, notes) = on_bytes(alloc, "replay", bytes.as_slice())?;
+    assert_eq!(rt; code, 2);
+    assert_eq!(rt; out.taken().len(), 0);
+    assert_eq!(rt; notes.taken().as_slice(), b"planet: TooLong\n".as_slice());
+    Ok(())
+}
+
+#[test]
+fn a_program_of_one_byte_too_many_is_too_long(rt: HostRuntime) -> Result<(), Fail> {
+    let alloc = rt.alloc();
+    let mut bytes = Vec::from_slice(alloc, b"fun f() : unit = ()\n")?;
+    bytes.resize(65_537, b'\n')?;
+    let (code, out, notes) = on_bytes(alloc, "check", bytes.as_slice())?;
+    assert_eq!(rt; code, 2);
+    assert_eq!(rt; out.taken().len(), 0);
+    assert_eq!(rt; notes.taken().as_slice(), b"planet: TooLong\n".as_slice());
+    Ok(())
+}
+
+#[test]
+fn a_frame_of_one_digit_too_many_is_too_long(rt: HostRuntime) -> Result<(), Fail> {
+    let alloc = rt.alloc();
+    let mut bytes = Vec::new(alloc);
+    bytes.resize(33_026, b'0')?;
+    let (code, out, notes) = on_bytes(alloc, "show", bytes.as_slice())?;
+    assert_eq!(rt; code, 2);
+    assert_eq!(rt; out.taken().len(), 0);
+    assert_eq!(rt; notes.taken().as_slice(), b"planet: TooLong\n".as_slice());
+    Ok(())
+}
+
+#[test]
+fn a_failing_read_is_a_read_fault_and_the_next_call_is_sound(rt: HostRuntime) -> Result<(), Fail> {
+    let alloc = rt.alloc();
+    for at in 1..4 {
+        let mut files = files_of(alloc, rows::FIRST_RUN, &[at])?;
+        let mut out = sink(alloc)?;
+        let mut notes = sink(alloc)?;
+        let status = call(
+            alloc,
+            &["replay", "schedule.txt"],
+            &mut files,
+            &mut out,
+            &mut notes,
+        )?;
+        assert_eq!(rt; status.code, 3, "failing at {at}");
+        assert_eq!(rt; out.taken().len(), 0);
+        let again = call(
+            alloc,
+            &["replay", "schedule.txt"],
+            &mut files,
+            &mut out,
+            &mut notes,
+        )?;
+        assert_eq!(rt; again.code, 0);
+        assert_eq!(rt; out.taken().as_slice(), rows::FIRST_RUN_OUTPUT);
+    }
+    Ok(())
+}
+
+#[test]
+fn a_stopping_output_has_taken_a_front(rt: HostRuntime) -> Result<(), Fail> {
+    let alloc = rt.alloc();
+    let output = rows::FIRST_RUN_OUTPUT;
+    for n in 0..output.len() {
+        let mut files = files_of(alloc, rows::FIRST_RUN, &[])?;
+        let mut out = MemSink::stopping(alloc, n as u64)?;
+        let mut notes = sink(alloc)?;
+        let status = call(
+            alloc,
+            &["replay", "schedule.txt"],
+            &mut files,
+            &mut out,
+            &mut notes,
+        )?;
+        assert_eq!(rt; status.code, 4, "stopping after {n}");
+        assert_eq!(rt; out.taken().as_slice(), &output[..n]);
+        assert_eq!(rt;
+            notes.taken().as_slice(),
+            b"planet: write fault\n".as_slice()
+        );
+    }
+    let (code, out, _) = on_bytes(alloc, "replay", rows::FIRST_RUN)?;
+    assert_eq!(rt; code, 0);
+    assert_eq!(rt; out.taken().as_slice(), output);
+    Ok(())
+}
+
+#[test]
+fn a_note_that_fails_is_a_write_fault(rt: HostRuntime) -> Result<(), Fail> {
+    let alloc = rt.alloc();
+    let mut files = files_of(alloc, rows::UNKNOWN_HEADER, &[])?;
+    let mut out = sink(alloc)?;
+    let mut notes = MemSink::new(alloc, Calls::from_slice(alloc, &[1])?)?;
+    let status = call(
+        alloc,
+        &["replay", "schedule.txt"],
+        &mut files,
+        &mut out,
+        &mut notes,
+    )?;
+    assert_eq!(rt; status.code, 4);
+    let again = call(
+        alloc,
+        &["replay", "schedule.txt"],
+        &mut files,
+        &mut out,
+        &mut notes,
+    )?;
+    assert_eq!(rt; again.code, 2);
+    assert_eq!(rt;
+        notes.taken().as_slice(),
+        b"planet: line 1: BadHeader\n".as_slice()
+    );
+    Ok(())
+}

@@ -1,0 +1,124 @@
+ghost use Rattle.std.specs.Prelude.{◌≡◌, ◌++◌, ◌<◌, codes, length, IfOk, IfSome};
+ghost use Rattle.trace_lines.specs.Traces as whole;
+
+use crate::entry::{read_entry, read_row};
+use crate::line::{Entry, Row, Trace};
+use plan_base::NoMemory;
+use plan_items::Items;
+use std::alloc::{AllocError, Global};
+
+/// Why bytes are no trace.
+#[derive(Debug, Clone, Copy, PartialEq, Eq)]
+pub enum TraceFault {
+    /// The first line that is no line of a trace there, from 1.
+    BadLine(u64),
+    /// Memory was refused.
+    NoMemory,
+}
+
+impl From<AllocError> for TraceFault {
+    fn from(_refused: AllocError) -> TraceFault {
+        TraceFault::NoMemory
+    }
+}
+
+impl From<NoMemory> for TraceFault {
+    fn from(_refused: NoMemory) -> TraceFault {
+        TraceFault::NoMemory
+    }
+}
+
+/// The bytes in front of the first line feed and those behind it, or none where there is no line feed.
+fn next_line(bytes: &[u8]) -> Option<(&[u8], &[u8])>
+    ensures split { IfSome result (λ p. whole.as_line p.0.now ++ p.1.now ≡ bytes.now) }
+    ensures shorter { IfSome result (λ p. length p.1.now < length bytes.now) }
+{
+    let end = bytes.iter().position(|b| *b == b'\n')?;
+    let (line, _) = bytes.split_at(end);
+    let (_, rest) = bytes.split_at(end + 1);
+    Some((line, rest))
+}
+
+/// What stands behind this line, or none where the bytes don't begin with it.
+fn after<'a>(bytes: &'a [u8], text: &[u8]) -> Option<&'a [u8]>
+    ensures { IfSome result (λ r. whole.as_line text.now ++ r.now ≡ bytes.now) }
+{
+    let (line, rest) = next_line(bytes)?;
+    if line == text { Some(rest) } else { None }
+}
+
+/// The entries that the bytes begin with, what stands behind them, and the number of the line there.
+fn read_entries(
+    alloc: Global,
+    bytes: &[u8],
+    first: u64,
+) -> Result<(Items<Entry>, &[u8], u64), NoMemory>
+    ensures { IfOk result (λ p. whole.entries_text p.0 ++ p.1.now ≡ bytes.now) }
+{
+    let mut entries = Items::new(alloc);
+    let mut rest = bytes;
+    let mut number = first;
+    while let Some((line, more)) = next_line(rest) {
+        let Some(entry) = read_entry(alloc, line)? else {
+            return Ok((entries, rest, number));
+        };
+        entries.add(entry)?;
+        rest = more;
+        number = number.saturating_add(1);
+    }
+    Ok((entries, rest, number))
+}
+
+/// The rows of a ledger that the bytes begin with, likewise.
+fn read_rows(alloc: Global, bytes: &[u8], first: u64) -> Result<(Items<Row>, &[u8], u64), NoMemory>
+    ensures { IfOk result (λ p. whole.rows_text p.0 ++ p.1.now ≡ bytes.now) }
+{
+    let mut rows = Items::new(alloc);
+    let mut rest = bytes;
+    let mut number = first;
+    while let Some((line, more)) = next_line(rest) {
+        let Some(row) = read_row(alloc, line)? else {
+            return Ok((rows, rest, number));
+        };
+        rows.add(row)?;
+        rest = more;
+        number = number.saturating_add(1);
+    }
+    Ok((rows, rest, number))
+}
+
+/// The ledger where the bytes begin with one, likewise.
+fn read_ledger(
+    alloc: Global,
+    bytes: &[u8],
+    first: u64,
+) -> Result<(Option<Items<Row>>, &[u8], u64), NoMemory>
+    ensures { IfOk result (λ p. whole.ledger_text p.0 ++ p.1.now ≡ bytes.now) }
+{
+    match after(bytes, b"ledger") {
+        Some(more) => {
+            let (rows, rest, number) = read_rows(alloc, more, first.saturating_add(1))?;
+            Ok((Some(rows), rest, number))
+        }
+        None => Ok((None, bytes, first)),
+    }
+}
+
+/// The trace that these bytes are, of a schedule or of a log. What is read prints as exactly these
+/// bytes; else the first line that goes wrong is told, the line behind the last one where the trace
+/// ends too early.
+#[tactic(auto, unfolding(crate::specs::Traces::trace_text))]
+pub fn read_trace(alloc: Global, bytes: &[u8]) -> Result<Trace, TraceFault>
+    ensures { IfOk result (λ t. whole.trace_text t ≡ bytes.now) }
+{
+    let Some(rest) = after(bytes, b"planet trace 1") else {
+        return Err(TraceFault::BadLine(1));
+    };
+    let (entries, rest, number) = read_entries(alloc, rest, 2)?;
+    let (ledger, rest, number) = read_ledger(alloc, rest, number)?;
+    match after(rest, b"end") {
+        Some(b"") => Ok(Trace { entries, ledger }),
+        Some(_) => Err(TraceFault::BadLine(number.saturating_add(1))),
+        None => Err(TraceFault::BadLine(number)),
+    }
+}

@@ -1,0 +1,247 @@
+ghost use Rattle.std.specs.Prelude.{◌≡◌, ◌++◌, codes, OnOk};
+ghost use Rattle.std.specs.Fmt.{decimal};
+ghost use Rattle.trace_lines.specs.Lines as spec;
+ghost use Rattle.trace_lines.specs.Traces as whole;
+
+use crate::line::{Entry, Line, Reason, Row, What};
+use crate::number::put_number;
+use plan_base::{Bytes, Dev, Family, Host, NoMemory};
+use std::alloc::Global;
+
+/// Appends a family, as `1.1`.
+pub fn put_family(alloc: Global, out: &mut Bytes, f: Family) -> Result<(), NoMemory>
+    ensures { OnOk result (out.new ≡ out.old ++ spec.family_text f) }
+{
+    put_number(alloc, out, u64::from(f.source.0))?;
+    out.add_all(b".")?;
+    put_number(alloc, out, f.serial)
+}
+
+/// A device.
+fn put_device(alloc: Global, out: &mut Bytes, dev: Dev) -> Result<(), NoMemory>
+    ensures { OnOk result (out.new ≡ out.old ++ spec.device_text dev) }
+{
+    out.add_all(b" %")?;
+    put_number(alloc, out, u64::from(dev.0))
+}
+
+/// A family with its bound.
+fn put_bound(alloc: Global, out: &mut Bytes, f: Family, bound: u32) -> Result<(), NoMemory>
+    ensures { OnOk result (out.new ≡ out.old ++ spec.bound_text f bound) }
+{
+    out.add_all(b" ")?;
+    put_family(alloc, out, f)?;
+    out.add_all(b" bound ")?;
+    put_number(alloc, out, u64::from(bound))
+}
+
+/// What a visit paid and left.
+fn put_paid(alloc: Global, out: &mut Bytes, evals: u32, left: u32) -> Result<(), NoMemory>
+    ensures { OnOk result (out.new ≡ out.old ++ spec.paid_text evals left) }
+{
+    out.add_all(b" evals ")?;
+    put_number(alloc, out, u64::from(evals))?;
+    out.add_all(b" left ")?;
+    put_number(alloc, out, u64::from(left))
+}
+
+/// How a visit ended, with what it paid and left.
+fn put_end(
+    alloc: Global,
+    out: &mut Bytes,
+    f: Family,
+    how: &[u8],
+    evals: u32,
+    left: u32,
+) -> Result<(), NoMemory>
+    ensures { OnOk result (out.new ≡ out.old ++ spec.end_text f how.now evals left) }
+{
+    out.add_all(b" ")?;
+    put_family(alloc, out, f)?;
+    out.add_all(b" ")?;
+    out.add_all(how)?;
+    put_paid(alloc, out, evals, left)
+}
+
+fn put_spent(alloc: Global, out: &mut Bytes, f: Family, left: u32) -> Result<(), NoMemory>
+    ensures { OnOk result (out.new ≡ out.old ++ (codes " " ++ (spec.family_text f ++ (codes " left " ++ decimal left)))) }
+{
+    out.add_all(b" ")?;
+    put_family(alloc, out, f)?;
+    out.add_all(b" left ")?;
+    put_number(alloc, out, u64::from(left))
+}
+
+/// The word of a reason.
+pub(crate) fn reason_word(reason: Reason) -> &'static [u8]
+    ensures { result.now ≡ spec.reason_text reason }
+{
+    match reason {
+        Reason::NoBound => b"NoBound",
+        Reason::NoService => b"NoService",
+        Reason::NoRoute => b"NoRoute",
+        Reason::QueueFull => b"QueueFull",
+    }
+}
+
+fn put_dropped(
+    alloc: Global,
+    out: &mut Bytes,
+    reason: Reason,
+    f: Family,
+    bound: u32,
+) -> Result<(), NoMemory>
+    ensures { OnOk result (out.new ≡ out.old ++ (codes " " ++ (spec.reason_text reason ++ spec.bound_text f bound))) }
+{
+    out.add_all(b" ")?;
+    out.add_all(reason_word(reason))?;
+    put_bound(alloc, out, f, bound)
+}
+
+fn put_queued(
+    alloc: Global,
+    out: &mut Bytes,
+    dev: Dev,
+    f: Family,
+    bound: u32,
+) -> Result<(), NoMemory>
+    ensures { OnOk result (out.new ≡ out.old ++ (spec.device_text dev ++ spec.bound_text f bound)) }
+{
+    put_device(alloc, out, dev)?;
+    put_bound(alloc, out, f, bound)
+}
+
+fn put_what(alloc: Global, out: &mut Bytes, what: What) -> Result<(), NoMemory>
+    ensures { OnOk result (out.new ≡ out.old ++ spec.what_text what) }
+{
+    match what {
+        What::Packet(f) => put_family(alloc, out, f),
+        What::Advert => {
+            out.add_all(b"advert")?;
+            Ok(())
+        }
+    }
+}
+
+fn put_sent(alloc: Global, out: &mut Bytes, dev: Dev, what: What) -> Result<(), NoMemory>
+    ensures { OnOk result (out.new ≡ out.old ++ (spec.device_text dev ++ (codes " " ++ spec.what_text what))) }
+{
+    put_device(alloc, out, dev)?;
+    out.add_all(b" ")?;
+    put_what(alloc, out, what)
+}
+
+/// A word, a blank in front of it.
+fn put_word(out: &mut Bytes, word: &[u8]) -> Result<(), NoMemory>
+    ensures { OnOk result (out.new ≡ out.old ++ (codes " " ++ word.now)) }
+{
+    out.add_all(b" ")?;
+    out.add_all(word)?;
+    Ok(())
+}
+
+/// A number, a blank in front of it.
+fn put_count(alloc: Global, out: &mut Bytes, n: u64) -> Result<(), NoMemory>
+    ensures { OnOk result (out.new ≡ out.old ++ (codes " " ++ decimal n)) }
+{
+    out.add_all(b" ")?;
+    put_number(alloc, out, n)
+}
+
+/// A number and a text, a blank in front of each.
+fn put_pair(alloc: Global, out: &mut Bytes, n: u64, text: &[u8]) -> Result<(), NoMemory>
+    ensures { OnOk result (out.new ≡ out.old ++ (codes " " ++ (decimal n ++ (codes " " ++ text.now)))) }
+{
+    out.add_all(b" ")?;
+    put_number(alloc, out, n)?;
+    out.add_all(b" ")?;
+    out.add_all(text)?;
+    Ok(())
+}
+
+fn put_now(alloc: Global, out: &mut Bytes, now: u64) -> Result<(), NoMemory>
+    ensures { OnOk result (out.new ≡ out.old ++ (codes " now " ++ decimal now)) }
+{
+    out.add_all(b" now ")?;
+    put_number(alloc, out, now)
+}
+
+/// Appends what stands behind the word and the host of a line.
+#[tactic(auto, unfolding(crate::specs::Lines::rest_text))]
+pub fn put_rest(alloc: Global, out: &mut Bytes, line: &Line) -> Result<(), NoMemory>
+    ensures { OnOk result (out.new ≡ out.old ++ spec.rest_text line.now) }
+{
+    match line {
+        Line::Injected(_, f, bound) | Line::Forged(_, f, bound) | Line::Lost(f, bound) => {
+            put_bound(alloc, out, *f, *bound)
+        }
+        Line::Arrived(_, d) | Line::Advert(_, d) | Line::Heard(_, d) => put_device(alloc, out, *d),
+        Line::Asked(_) => put_word(out, b"control"),
+        Line::Printed(_, text) | Line::Refused(_, text) => put_word(out, text.as_slice()),
+        Line::Delivered(_, port, text) => {
+            put_pair(alloc, out, u64::from(*port), text.as_slice())
+        }
+        Line::Gave(_, f, how, evals, left) | Line::Raised(_, f, how, evals, left) => {
+            put_end(alloc, out, *f, how.as_slice(), *evals, *left)
+        }
+        Line::Spent(_, f, left) => put_spent(alloc, out, *f, *left),
+        Line::Queued(_, d, f, bound) => put_queued(alloc, out, *d, *f, *bound),
+        Line::Dropped(_, reason, f, bound) => put_dropped(alloc, out, *reason, *f, *bound),
+        Line::Ticked(_, now) => put_now(alloc, out, *now),
+        Line::Sent(_, d, what) => put_sent(alloc, out, *d, *what),
+        Line::Wire(number) | Line::Off(number) => put_count(alloc, out, u64::from(*number)),
+        Line::WireShown(number, hex) => { put_pair(alloc, out, u64::from(*number), hex.as_slice()) }
+        Line::LostAdvert => put_word(out, b"advert"),
+        Line::Nothing => Ok(()),
+    }
+}
+
+fn put_host(alloc: Global, out: &mut Bytes, host: Option<Host>) -> Result<(), NoMemory>
+    ensures { OnOk result (out.new ≡ out.old ++ spec.host_text host) }
+{
+    if let Some(h) = host {
+        out.add_all(b" @")?;
+        put_number(alloc, out, u64::from(h.0))?;
+    }
+    Ok(())
+}
+
+#[tactic(auto, unfolding(crate::specs::Lines::line_text))]
+fn put_line(alloc: Global, out: &mut Bytes, line: &Line) -> Result<(), NoMemory>
+    ensures { OnOk result (out.new ≡ out.old ++ spec.line_text line.now) }
+{
+    out.add_all(line.word())?;
+    put_host(alloc, out, line.host())?;
+    put_rest(alloc, out, line)
+}
+
+/// Appends a line with its number, without a line feed.
+#[tactic(auto, unfolding(crate::specs::Lines::entry_text))]
+pub(crate) fn put_entry(alloc: Global, out: &mut Bytes, entry: &Entry) -> Result<(), NoMemory>
+    ensures { OnOk result (out.new ≡ out.old ++ spec.entry_text entry.now) }
+{
+    put_number(alloc, out, entry.event)?;
+    out.add_all(b" ")?;
+    put_line(alloc, out, &entry.line)
+}
+
+/// A number behind its name.
+fn put_named(alloc: Global, out: &mut Bytes, name: &[u8], n: u64) -> Result<(), NoMemory>
+    ensures { OnOk result (out.new ≡ out.old ++ whole.named_text name.now n) }
+{
+    out.add_all(name)?;
+    put_number(alloc, out, n)
+}
+
+/// Appends a row of a ledger, without a line feed.
+#[tactic(auto, unfolding(crate::specs::Traces::row_text))]
+pub(crate) fn put_row(alloc: Global, out: &mut Bytes, row: Row) -> Result<(), NoMemory>
+    ensures { OnOk result (out.new ≡ out.old ++ whole.row_text row) }
+{
+    put_family(alloc, out, row.family)?;
+    put_named(alloc, out, b" granted ", row.granted)?;
+    put_named(alloc, out, b" hops ", row.hops)?;
+    put_named(alloc, out, b" evals ", row.evals)?;
+    put_named(alloc, out, b" live ", row.live)?;
+    put_named(alloc, out, b" left ", row.left)
+}

@@ -1,0 +1,5 @@
+use Rattle.value_rules.proofs.Fitting.{operator_fits, taken, primitive_fits}
+use Rattle.value_rules.proofs.laws.operands_fit.Goals as goal
+
+pub returns : goal.returns
+returns c = record { operators = operator_fits; parts = taken; primitives = primitive_fits }

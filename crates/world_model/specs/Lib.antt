@@ -1,0 +1,5 @@
+pub mod World
+pub mod Counts
+pub mod Sound
+pub mod Texts
+pub mod Wires

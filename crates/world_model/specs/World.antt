@@ -1,0 +1,251 @@
+-- What a network does at each event, and in a whole run.
+use Rattle.std.specs.Prelude.{◌≡◌, ℕ, zero, suc, ◌+◌, Bool, true, false, ◌==◌, ◌&&◌, ◌||◌, nat_lt, if◌then◌else◌, List, [], ◌∷◌, ◌++◌, length, map, slice_get, slice_set, remove, position, Option, Some, None, Result, Ok, Err}
+use Rattle.plan_base.specs.declared.ids.Host.{Host}
+use Rattle.plan_base.specs.declared.ids.Dev.{Dev}
+use Rattle.plan_base.specs.declared.tree.Chunk.{Chunk}
+use Rattle.packet_frame.specs.declared.frame.PlainFrame.{PlainFrame}
+use Rattle.packet_frame.specs.declared.refusal.FrameRefusal.{FrameRefusal}
+use Rattle.packet_frame.specs.Bytes.{frame_bytes}
+use Rattle.frame_text.specs.Decoding.{frame_of}
+use Rattle.service_api.specs.Services.{Standing}
+use Rattle.service_api.specs.Prints.{standing}
+use Rattle.network_plan.specs.Hosts.{Cable}
+use Rattle.network_plan.specs.declared.node.NodeConfig.{NodeConfig}
+use Rattle.network_plan.specs.declared.schedule.HostSpec.{HostSpec}
+use Rattle.network_plan.specs.declared.schedule.Topology.{Topology}
+use Rattle.network_plan.specs.declared.event.WorldEvent.{WorldEvent}
+use Rattle.network_plan.specs.declared.event.WorldEvent.TheVariants.{Inject, Send, Deliver, Lose, Tick, Raw}
+use Rattle.spelled_frame.specs.Spelled.{what_of}
+use Rattle.node_model.specs.declared.acts.Act.{Act}
+use Rattle.node_model.specs.State.{Links, NodeState, is_host, new_node}
+use Rattle.node_model.specs.Node.{Step, inject_step, frame_step, arrive_step, tick_step, take_step}
+use Rattle.world_model.specs.declared.lines.Line.{Line}
+use Rattle.world_model.specs.declared.lines.Line.TheVariants.{At, Forged, Wire, Off, Lost, Nothing}
+use Rattle.world_model.specs.declared.lines.Entry.{Entry}
+use Rattle.world_model.specs.declared.lines.LinkEnd.{LinkEnd}
+use Rattle.world_model.specs.declared.lines.Wired.{Wired}
+
+-- links, each from a device of one host to a device of another
+abbrev pub Cables : Type 0
+Cables = List Cable
+
+-- a network: its nodes, its links, the frames on the wire by number, the number of the next frame, and the number of events so far
+pub record WorldState : Type 0 where
+  pub nodes : List NodeState
+  pub links : Cables
+  pub wire : List Wired
+  pub «next» : ℕ
+  pub made : ℕ
+
+-- what an event gives: its lines, and the network afterwards
+pub record Happened : Type 0 where
+  pub lines : List Line
+  pub world : WorldState
+
+abbrev pub happened : List Line → WorldState → Happened
+happened lines w = record { lines = lines; world = w }
+
+abbrev pub nothing : WorldState → Happened
+nothing w = happened (Nothing ∷ []) w
+
+-- the place of a host's node
+abbrev pub place_of : List NodeState → Host → Option ℕ
+place_of nodes h = position (λ node. is_host node.here h) nodes
+
+-- ---- links
+
+abbrev pub has_end : Host → Dev → Host → Dev → Bool
+has_end h d g e = (g.0 == h.0) && (e.0 == d.0)
+
+-- whether a device of a host is one of a link's ends
+abbrev pub is_on : Host → Dev → Cable → Bool
+is_on h d c = has_end h d c.0 c.1 || has_end h d c.2 c.3
+
+-- the other end of a link
+abbrev pub other_end : Host → Dev → Option Cable → Option LinkEnd
+other_end h d None = None
+other_end h d (Some c) = if has_end h d c.0 c.1 then Some (record { host = c.2; dev = c.3 }) else Some (record { host = c.0; dev = c.1 })
+
+abbrev pub peer_at : Cables → Host → Dev → Option ℕ → Option LinkEnd
+peer_at links h d None = None
+peer_at links h d (Some at) = other_end h d (slice_get links at)
+
+-- the end to which a link leads from a device of a host
+unfoldable pub peer_of : Cables → Host → Dev → Option LinkEnd
+peer_of links h d = peer_at links h d (position (is_on h d) links)
+
+-- the same for every device; device 0 leads to the node itself
+unfoldable pub far_end : Cables → Host → Dev → Option LinkEnd
+far_end links h d = if d.0 == 0 then Some (record { host = h; dev = d }) else peer_of links h d
+
+-- ---- steps of nodes
+
+abbrev pub with_node : WorldState → ℕ → NodeState → WorldState
+with_node w at node = record w { nodes = slice_set w.nodes at node }
+
+-- what a node did at its step
+unfoldable pub lines_at : Host → List Act → List Line
+lines_at h acts = map (At h) acts
+
+-- a step of the node at a place that moves nothing on the wire, after some lines
+abbrev pub steps_at : WorldState → Host → ℕ → List Line → Step → Happened
+steps_at w h at before step = happened (before ++ lines_at h step.acts) (with_node w at step.node)
+
+-- a step of a host's node; `nothing` where there is none
+unfoldable pub step_at : WorldState → Host → List Line → (NodeState → Step) → ℕ → Option NodeState → Happened
+step_at w h before step at None = nothing w
+step_at w h before step at (Some node) = steps_at w h at before (step node)
+
+unfoldable pub step_place : WorldState → Host → List Line → (NodeState → Step) → Option ℕ → Happened
+step_place w h before step None = nothing w
+step_place w h before step (Some at) = step_at w h before step at (slice_get w.nodes at)
+
+unfoldable pub steps : WorldState → Host → List Line → (NodeState → Step) → Happened
+steps w h before step = step_place w h before step (place_of w.nodes h)
+
+-- ---- injections, ticks, and frames from outside
+
+abbrev pub injects : WorldState → Host → Chunk → ℕ → Happened
+injects w h chunk bound = steps w h [] (λ node. inject_step [] node chunk bound)
+
+abbrev pub ticks : WorldState → Host → Happened
+ticks w h = steps w h [] tick_step
+
+-- bytes from outside that are accepted as a packet grant its bound
+abbrev pub forged : Host → Result PlainFrame FrameRefusal → List Line
+forged h (Ok (PlainFrame.Packet p)) = Forged h p.family p.bound ∷ []
+forged h _ = []
+
+abbrev pub raws : WorldState → Host → Dev → List ℕ → Happened
+raws w h d bytes = steps w h (forged h (frame_of bytes)) (λ node. arrive_step node d bytes)
+
+-- ---- sends
+
+-- the frame that the node took goes onto the wire under the next number
+unfoldable pub send_taken : WorldState → Host → Dev → ℕ → LinkEnd → Step → Option PlainFrame → Happened
+send_taken w h d at to step None = nothing w
+send_taken w h d at to step (Some x) = happened (lines_at h step.acts ++ Wire w.«next» (frame_bytes x) ∷ [])
+    (record {
+      nodes = slice_set w.nodes at step.node;
+      links = w.links;
+      wire = w.wire ++ record { number = w.«next»; from = record { host = h; dev = d }; to = to; frame = x } ∷ [];
+      «next» = w.«next» + 1;
+      made = w.made;
+    })
+
+unfoldable pub send_at : WorldState → Host → Dev → ℕ → LinkEnd → Option NodeState → Happened
+send_at w h d at to None = nothing w
+send_at w h d at to (Some node) = send_taken w h d at to (take_step node d) (take_step node d).frame
+
+unfoldable pub send_over : WorldState → Host → Dev → ℕ → Option LinkEnd → Happened
+send_over w h d at None = nothing w
+send_over w h d at (Some to) = if nat_lt (length w.wire) 4096 then send_at w h d at to (slice_get w.nodes at) else nothing w
+
+unfoldable pub send_place : WorldState → Host → Dev → Option ℕ → Happened
+send_place w h d None = nothing w
+send_place w h d (Some at) = send_over w h d at (far_end w.links h d)
+
+unfoldable pub sends : WorldState → Host → Dev → Happened
+sends w h d = send_place w h d (place_of w.nodes h)
+
+-- ---- deliveries and losses
+
+abbrev pub without_frame : WorldState → ℕ → WorldState
+without_frame w place = record w { wire = remove w.wire place }
+
+-- the place of a frame number on the wire
+abbrev pub wire_place : List Wired → ℕ → Option ℕ
+wire_place wire number = position (λ x. x.number == number) wire
+
+-- the frame arrives at the node at this place
+unfoldable pub deliver_at : WorldState → ℕ → Wired → ℕ → Option NodeState → Happened
+deliver_at w place x at None = nothing w
+deliver_at w place x at (Some node) = steps_at (without_frame w place) x.to.host at (Off x.number ∷ []) (frame_step node x.to.dev x.frame)
+
+unfoldable pub deliver_to : WorldState → ℕ → Wired → Option ℕ → Happened
+deliver_to w place x None = nothing w
+deliver_to w place x (Some at) = deliver_at w place x at (slice_get w.nodes at)
+
+unfoldable pub deliver_frame : WorldState → ℕ → Option Wired → Happened
+deliver_frame w place None = nothing w
+deliver_frame w place (Some x) = deliver_to w place x (place_of w.nodes x.to.host)
+
+unfoldable pub deliver_place : WorldState → Option ℕ → Happened
+deliver_place w None = nothing w
+deliver_place w (Some place) = deliver_frame w place (slice_get w.wire place)
+
+unfoldable pub delivers : WorldState → ℕ → Happened
+delivers w number = deliver_place w (wire_place w.wire number)
+
+unfoldable pub lose_frame : WorldState → ℕ → Option Wired → Happened
+lose_frame w place None = nothing w
+lose_frame w place (Some x) = happened (Off x.number ∷ Lost (what_of x.frame) ∷ []) (without_frame w place)
+
+unfoldable pub lose_place : WorldState → Option ℕ → Happened
+lose_place w None = nothing w
+lose_place w (Some place) = lose_frame w place (slice_get w.wire place)
+
+unfoldable pub loses : WorldState → ℕ → Happened
+loses w number = lose_place w (wire_place w.wire number)
+
+-- ---- events and runs
+
+abbrev pub acted : WorldState → WorldEvent → Happened
+acted w (Inject h chunk bound) = injects w h chunk bound
+acted w (Send h d) = sends w h d
+acted w (Deliver number) = delivers w number
+acted w (Lose number) = loses w number
+acted w (Tick h) = ticks w h
+acted w (Raw h d bytes) = raws w h d bytes
+
+-- one event more was made
+abbrev pub counted : WorldState → WorldState
+counted w = record w { made = w.made + 1 }
+
+-- one event; one that names nothing gives the line `nothing` and changes nothing
+abbrev pub happens : WorldState → WorldEvent → Happened
+happens w e = happened (acted w e).lines (counted (acted w e).world)
+
+abbrev pub entry_at : ℕ → Line → Entry
+entry_at event line = record { event = event; line = line }
+
+-- what an event adds to the history: its lines with its number
+unfoldable pub entries : WorldState → WorldEvent → List Entry
+entries w e = map (entry_at (w.made + 1)) (happens w e).lines
+
+-- the network after events
+unfoldable pub world_after : List WorldEvent → WorldState → WorldState
+world_after [] w = w
+world_after (e ∷ es) w = world_after es (happens w e).world
+
+-- the history of events: the lines with the numbers of their events, in order
+unfoldable pub history_of : List WorldEvent → WorldState → List Entry
+history_of [] w = []
+history_of (e ∷ es) w = entries w e ++ history_of es (happens w e).world
+
+-- ---- the beginning
+
+-- the neighbour on a device, where there is one
+abbrev pub neighbour_at : Dev → Option LinkEnd → Links
+neighbour_at d None = []
+neighbour_at d (Some far) = (far.host, d) ∷ []
+
+-- the neighbours of a host on devices 1 to n, in this order
+unfoldable pub neighbours_to : Cables → Host → ℕ → Links
+neighbours_to links h zero = []
+neighbours_to links h (suc n) = neighbours_to links h n ++ neighbour_at (record { 0 = n + 1 }) (peer_of links h (record { 0 = n + 1 }))
+
+-- the services of a node, outside a visit: `print` alone
+abbrev pub opening_services : HostSpec → Standing
+opening_services spec = standing false false
+
+-- how the node of a host begins: its next serial number is 1
+abbrev pub config_of : Topology → HostSpec → NodeConfig
+config_of t spec = record { here = spec.host; hosts = map (λ s. s.host) t.hosts; neighbours = neighbours_to t.links spec.host 8; serial = 1 }
+
+unfoldable pub opening_node : Topology → HostSpec → NodeState
+opening_node t spec = new_node (config_of t spec) (opening_services spec)
+
+-- a network at the beginning
+unfoldable pub opening : Topology → WorldState
+opening t = record { nodes = map (opening_node t) t.hosts; links = t.links; wire = []; «next» = 1; made = 0 }

@@ -1,0 +1,61 @@
+use node_model::{Act, What};
+use plan_base::{Bytes, Dev, Family, Host};
+use plan_items::Items;
+use spelled_frame::SpelledFrame;
+
+/// A list of lines.
+pub type Lines = Items<Line>;
+
+/// One line of a trace.
+#[derive(Debug, Drop)]
+pub enum Line {
+    /// A host did this.
+    At(Host, Act),
+    /// Bytes that were never on the wire arrive at this host as a packet of this family with this bound.
+    Forged(Host, Family, u32),
+    /// A frame was put on the wire under this number, with these bytes.
+    Wire(u32, Bytes),
+    /// The frame with this number was taken off the wire.
+    Off(u32),
+    /// A frame was lost.
+    Lost(What),
+    /// The event changed nothing.
+    Nothing,
+}
+
+/// A list of entries.
+pub type Entries = Items<Entry>;
+
+/// A line with the number of its event, from 1.
+#[derive(Debug, Drop)]
+pub struct Entry {
+    /// The number of the event.
+    pub event: u32,
+    /// The line.
+    pub line: Line,
+}
+
+/// One end of a link.
+#[derive(Debug, Clone, Copy, PartialEq, Eq)]
+pub struct LinkEnd {
+    /// The host.
+    pub host: Host,
+    /// Its device.
+    pub dev: Dev,
+}
+
+/// The frames on the wire in the order of their numbers.
+pub type Wire = Items<Wired>;
+
+/// A frame on the wire.
+#[derive(Debug, Drop)]
+pub struct Wired {
+    /// Its number, from 1 in the order of sending.
+    pub number: u32,
+    /// The end that sent it.
+    pub from: LinkEnd,
+    /// The end that is to receive it.
+    pub to: LinkEnd,
+    /// The frame.
+    pub frame: SpelledFrame,
+}
