@@ -67,6 +67,13 @@ impl Router {
         Router { rows }
     }
 
+    /// The routes.
+    pub fn rows(&self) -> &[RouteRow]
+        ensures { result.now ≡ self.now }
+    {
+        self.rows.as_slice()
+    }
+
     /// An equal list of routes.
     pub fn copy(&self, alloc: Global) -> Result<Router, NoMemory>
         ensures { IfOk result (λ r. r ≡ self.now) }
