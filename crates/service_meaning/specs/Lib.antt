@@ -1,3 +1,4 @@
 pub mod Offered
 pub mod Answers
 pub mod Serving
+pub mod Beginning
