@@ -1,0 +1,63 @@
+-- Routes and costs at the nodes of a network, walks along its links, and the ways that packets go by default routes.
+use Rattle.std.specs.Prelude.{◌≡◌, ◌≢◌, ℕ, zero, suc, ◌≤◌, if◌then◌else◌, List, [], ◌∷◌, Option, Some, None, All}
+use Rattle.plan_base.specs.declared.ids.Host.{Host}
+use Rattle.plan_base.specs.declared.ids.Dev.{Dev}
+use Rattle.service_api.specs.declared.router.RouteRow.{RouteRow}
+use Rattle.network_plan.specs.declared.event.WorldEvent.{WorldEvent}
+use Rattle.network_plan.specs.declared.event.WorldEvent.TheVariants.{Raw}
+use Rattle.dv_routing.specs.Routing.{Routing, route, route_cost}
+use Rattle.node_model.specs.State.{NodeState, is_host, routing_of}
+use Rattle.world_model.specs.declared.lines.LinkEnd.{LinkEnd}
+use Rattle.world_model.specs.World.{Cables, WorldState, peer_of, world_after}
+
+-- ---- costs
+
+-- what the node of a host knows of routes
+abbrev pub routing_in : List NodeState → Host → Option Routing
+routing_in [] n = None
+routing_in (node ∷ nodes) n = if is_host node.here n then Some (routing_of node) else routing_in nodes n
+
+abbrev pub route_by : Host → Option Routing → Option RouteRow
+route_by x None = None
+route_by x (Some r) = route r x
+
+-- the route to x at the node of n
+unfoldable pub route_at : List NodeState → Host → Host → Option RouteRow
+route_at nodes n x = route_by x (routing_in nodes n)
+
+-- the cost of x at the node of n
+unfoldable pub cost_at : List NodeState → Host → Host → Option ℕ
+cost_at nodes n x = route_cost (route_at nodes n x)
+
+-- ---- walks
+
+-- a walk along links to b, with the number of its links
+pub data Walk (links : Cables) (b : Host) : Host → ℕ → Type 0 where
+  Here : Walk links b b zero
+  Along : (a : Host) (d : Dev) (far : LinkEnd) (k : ℕ) → peer_of links a d ≡ Some far → Walk links b far.host k → Walk links b a (suc k)
+
+-- there is a walk of at most this length
+abbrev pub IsReached : Cables → Host → Host → ℕ → Type 0
+IsReached links a b n = (k : ℕ) × (k ≤ n) × Walk links b a k
+
+-- the length of a shortest walk
+abbrev pub IsDist : Cables → Host → Host → ℕ → Type 0
+IsDist links a b n = Walk links b a n × ((k : ℕ) → Walk links b a k → n ≤ k)
+
+-- ---- ways
+
+-- an event that brings no bytes from outside
+abbrev pub NotRaw : WorldEvent → Type 0
+NotRaw (Raw h d bytes) = ⊥
+NotRaw _ = Unit {0}
+
+-- the node of n, which isn't x's, routes to x by this row
+pub record IsHop (w : WorldState) (x n : Host) (row : RouteRow) : Type 0 where
+  pub other : n ≢ x
+  pub by : route_at w.nodes n x ≡ Some row
+
+-- a way towards x by default routes, with the number of its hops: at each hop a packet for x is queued for the next host of the
+-- route that its node has by then, and any events may lie between that and its arrival there
+pub data Way (x : Host) : WorldState → Host → ℕ → Type 0 where
+  Ends : (w : WorldState) (n : Host) → Way x w n zero
+  Hops : (w : WorldState) (es : List WorldEvent) (n : Host) (row : RouteRow) (k : ℕ) → IsHop w x n row → All NotRaw es → Way x (world_after es w) row.«next» k → Way x w n (suc k)

@@ -1,0 +1,44 @@
+ghost use Rattle.std.specs.Prelude.{◌≡◌, ℕ, ◌≤◌, List, Some, All};
+ghost use Rattle.plan_base.specs.declared.ids.Host.{Host};
+ghost use Rattle.network_plan.specs.Rules.{KeepsNetwork};
+ghost use Rattle.network_plan.specs.declared.schedule.Topology.{Topology};
+ghost use Rattle.network_plan.specs.declared.event.WorldEvent.{WorldEvent};
+ghost use Rattle.world_model.specs.World.{WorldState, happens, opening};
+ghost use Rattle.world_routes.specs.Roads.{cost_at, IsDist, NotRaw, Way};
+ghost use Rattle.world_routes.specs.Routes.{Reached, RoutesHold, KeepsRoutes, RunKeepsRoutes};
+
+/// A beginning within the rules is reached.
+pub fn openings_are_reached()
+    ensures { (t : Topology) → KeepsNetwork t → Reached (opening t) }
+{}
+
+/// What an event that brings no bytes from outside makes of a network that is reached is reached.
+pub fn events_reach()
+    ensures { (w : WorldState) (e : WorldEvent) → Reached w → NotRaw e → Reached (happens w e).world }
+{}
+
+/// What holds of routes holds in every network that is reached.
+pub fn routes_hold()
+    ensures { (w : WorldState) → Reached w → RoutesHold w }
+{}
+
+/// No event raises a cost, or drops a packet for want of a route.
+pub fn events_keep_routes()
+    ensures { (w : WorldState) (e : WorldEvent) → Reached w → NotRaw e → KeepsRoutes w (happens w e) }
+{}
+
+/// The same for every run, after each of its events.
+pub fn runs_keep_routes()
+    ensures { (t : Topology) (es : List WorldEvent) → KeepsNetwork t → All NotRaw es → RunKeepsRoutes es (opening t) }
+{}
+
+/// A cost is at least the length of a shortest walk.
+pub fn costs_are_distances()
+    ensures { (w : WorldState) (n x : Host) (c d : ℕ) → Reached w → cost_at w.nodes n x ≡ Some c → IsDist w.links n x d → d ≤ c }
+{}
+
+/// A way by default routes has at most as many hops as the cost that was read at its start, whatever happens between
+/// them.
+pub fn ways_are_short()
+    ensures { (x : Host) (w : WorldState) (n : Host) (k c : ℕ) → Reached w → cost_at w.nodes n x ≡ Some c → Way x w n k → k ≤ c }
+{}

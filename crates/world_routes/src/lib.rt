@@ -1,0 +1,10 @@
+//! The law of routes for networks of whole nodes: where nothing comes from outside, costs fall along each way by default
+//! routes, so no packet goes round in a loop.
+#![tactic(auto)]
+
+mod laws;
+
+pub use laws::{
+    costs_are_distances, events_keep_routes, events_reach, openings_are_reached, routes_hold,
+    runs_keep_routes, ways_are_short,
+};
