@@ -12,6 +12,7 @@ use Rattle.network_plan.specs.declared.schedule.Topology.{Topology}
 use Rattle.network_plan.specs.declared.event.WorldEvent.{WorldEvent}
 use Rattle.dv_routing.specs.Routing.{Routing, route, all_routes}
 use Rattle.dv_routing.specs.Laws.{NoRise}
+use Rattle.node_model.specs.declared.acts.Act.{Act}
 use Rattle.node_model.specs.declared.acts.Act.TheVariants.{Dropped}
 use Rattle.node_model.specs.declared.acts.Reason.TheVariants as reason
 use Rattle.node_model.specs.State.{NodeState}
@@ -63,9 +64,13 @@ abbrev pub NoneRises : List NodeState → List NodeState → Type 0
 NoneRises old new = (n x : Host) → NoRise (cost_at old n x) (cost_at new n x)
 
 -- no packet is dropped for want of a route or of its routing function
+abbrev pub IsRoutedAct : Act → Type 0
+IsRoutedAct (Dropped reason.NoRoute f bound) = ⊥
+IsRoutedAct (Dropped reason.NoService f bound) = ⊥
+IsRoutedAct _ = Unit {0}
+
 abbrev pub IsRouted : Line → Type 0
-IsRouted (At h (Dropped reason.NoRoute f bound)) = ⊥
-IsRouted (At h (Dropped reason.NoService f bound)) = ⊥
+IsRouted (At h act) = IsRoutedAct act
 IsRouted _ = Unit {0}
 
 -- ---- events and runs

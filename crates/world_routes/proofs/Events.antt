@@ -1,0 +1,266 @@
+-- Each event that brings nothing from outside is some moves, and keeps what holds of routes.
+use Rattle.std.proofs.Common.{◌≡◌, ℕ, Bool, true, false, cond, Option, Some, None, List, [], ◌∷◌, ◌++◌, length, refl, sym, ap, subst, ◌∙◌}
+use Rattle.std.specs.Prelude.{map, slice_get, slice_set, remove, nat_lt, All, Contains}
+use Rattle.std.proofs.lemmas.List.{map-set, map_push}
+use Rattle.std.proofs.lemmas.List.Elements.{All-nil, All-cons, All-head, All-tail, All-append, All-map, All-push, All-set}
+use Rattle.plan_base.specs.declared.ids.Host.{Host}
+use Rattle.plan_base.specs.declared.ids.Dev.{Dev}
+use Rattle.packet_frame.specs.declared.frame.PlainFrame.{PlainFrame}
+use Rattle.packet_frame.specs.Bytes.{frame_bytes}
+use Rattle.network_plan.specs.declared.event.WorldEvent.{WorldEvent}
+use Rattle.network_plan.specs.declared.event.WorldEvent.TheVariants.{Inject, Send, Deliver, Lose, Tick, Raw}
+use Rattle.spelled_frame.specs.Spelled.{what_of}
+use Rattle.dv_routing.specs.Routing.{Routing, all_routes, is_among}
+use Rattle.dv_routing.specs.Laws.{HostsHold}
+use Rattle.service_api.specs.Routes.{hop}
+use Rattle.service_api.specs.declared.router.Hop.TheVariants.{To}
+use Rattle.route_laws.specs.Network.{Wiring, Frame, Node, Network, with_node as with_cut, with_queue, Moves, Sent, Leaves, Goes, Stays, Then}
+use Rattle.route_laws.specs.Truths.{RoutesHold as CutHolds}
+use Rattle.route_laws.proofs.Keep.{goes_keep}
+use Rattle.route_laws.proofs.Lookups.{all_get, all_remove}
+use Rattle.node_model.specs.declared.acts.Act.{Act}
+use Rattle.node_model.specs.declared.acts.Act.TheVariants.{Taken}
+use Rattle.node_model.specs.State.{Links, Queues, NodeState, routing_of}
+use Rattle.node_model.specs.Node.{Step, inject_step, frame_step, tick_step, take_from, take_step, with_queues}
+use Rattle.node_model.specs.Fits.{QueuesKeep}
+use Rattle.node_laws.proofs.Keeping.{Took, took}
+use Rattle.node_laws.proofs.Staying.{Stays as NodeStays, inject_stays, frame_stays, tick_stays}
+use Rattle.world_model.specs.declared.lines.Line.{Line}
+use Rattle.world_model.specs.declared.lines.Line.TheVariants.{At, Wire, Off, Lost, Nothing}
+use Rattle.world_model.specs.declared.lines.LinkEnd.{LinkEnd}
+use Rattle.world_model.specs.declared.lines.Wired.{Wired}
+use Rattle.world_model.specs.World.{Cables, WorldState, Happened, nothing, with_node, lines_at, step_at, step_place, steps, place_of, far_end, send_taken, send_at, send_over, send_place, sends, wire_place, deliver_at, deliver_to, deliver_frame, deliver_place, delivers, lose_frame, lose_place, loses, acted, happens}
+use Rattle.world_routes.specs.Roads.{routing_in, NotRaw}
+use Rattle.world_routes.specs.Routes.{HasWay, FrameHasWay, IsRoutedAct, IsRouted}
+use Rattle.world_routes.proofs.Cut.{cut_frame, cut_queues, cut_node, cut_wired, cut, end_of, wiring, get_map, map_remove, contains_get, goes_over, PlaceOf, place_is}
+use Rattle.world_routes.proofs.Steps.{IsDefault, StepKeeps, inject_keeps, tick_keeps, HopsOn, frame_keeps}
+use Rattle.world_routes.proofs.Holding.{WorldHolds, wire_way}
+
+-- what an event keeps
+pub record EventKeeps (w : WorldState) (h : Happened) : Type 0 where
+  pub links : h.world.links ≡ w.links
+  pub goes : Goes (wiring w.links) (cut w) (cut h.world)
+  pub hosts : All (λ node. HostsHold (routing_of node)) h.world.nodes
+  pub queues : All (λ node. QueuesKeep IsDefault node.queues) h.world.nodes
+  pub wire : All (λ x. IsDefault x.frame) h.world.wire
+  pub lines : All IsRouted h.lines
+
+nothing_keeps : (w : WorldState) → WorldHolds w → EventKeeps w (nothing w)
+nothing_keeps w h = record {
+  links = refl;
+  goes = Stays (cut w);
+  hosts = h.hosts;
+  queues = h.queues;
+  wire = h.wire;
+  lines = All-cons IsRouted Nothing [] tt (All-nil IsRouted);
+}
+
+-- ---- cuts
+
+net_is : (ns ms : List Node) (xs ys : List ((Host × Dev) × Frame)) → ns ≡ ms → xs ≡ ys → ◌≡◌ {A = Network} (record { nodes = ns; wire = xs }) (record { nodes = ms; wire = ys })
+net_is ns ms xs ys e f =
+    ap (λ zs. let n : Network = record { nodes = zs; wire = xs } in n) e ∙ ap (λ zs. let n : Network = record { nodes = ms; wire = zs } in n) f
+
+-- ---- steps of nodes
+
+hosts_stay : (old new : NodeState) → NodeStays old new → HostsHold (routing_of old) → HostsHold (routing_of new)
+hosts_stay old new s h = record {
+  here = ap (λ hs. is_among hs new.here) s.hosts ∙ (ap (is_among old.hosts) s.here ∙ h.here);
+  near = λ link among. ap (λ hs. is_among hs link.0) s.hosts ∙ h.near link (let P : Links → Type 0 = λ links. Contains links link in subst P s.neighbours among);
+}
+
+acts_routed : (h : Host) (acts : List Act) → All IsRoutedAct acts → All IsRouted (lines_at h acts)
+unfolding lines_at
+acts_routed h acts all = All-map IsRouted (At h) acts all
+
+-- a step of every node
+record Steps (far : Wiring) (step : NodeState → Step) : Type 0 where
+  keeps : (node : NodeState) → QueuesKeep IsDefault node.queues → StepKeeps far (λ w. Unit {0}) node (step node)
+  stays : (node : NodeState) → NodeStays node (step node).node
+
+step_at_keeps : (w : WorldState) (h : Host) (step : NodeState → Step) (at : ℕ) (o : Option NodeState) → Steps (wiring w.links) step → place_of w.nodes h ≡ Some at → slice_get w.nodes at ≡ o
+    → WorldHolds w → EventKeeps w (step_at w h [] step at o)
+unfolding step_at
+step_at_keeps w h step at None s place get k = nothing_keeps w k
+step_at_keeps w h step at (Some node) s place get k =
+    let p = place_is w h at node place get in
+    let one = s.keeps node (all_get (λ n. QueuesKeep IsDefault n.queues) w.nodes at node k.queues get) in
+    let stays = s.stays node in
+    record {
+      links = refl;
+      goes = subst (Goes (wiring w.links) (cut w)) (net_is _ _ (cut w).wire (cut w).wire (sym (map-set cut_node w.nodes at (step node).node)) refl) (one.goes (cut w) at tt p.is_at);
+      hosts = All-set (λ n. HostsHold (routing_of n)) w.nodes at (step node).node
+          (hosts_stay node (step node).node stays (all_get (λ n. HostsHold (routing_of n)) w.nodes at node k.hosts get)) k.hosts;
+      queues = All-set (λ n. QueuesKeep IsDefault n.queues) w.nodes at (step node).node one.queues k.queues;
+      wire = k.wire;
+      lines = acts_routed h (step node).acts one.acts;
+    }
+
+step_place_keeps : (w : WorldState) (h : Host) (step : NodeState → Step) (o : Option ℕ) → Steps (wiring w.links) step → place_of w.nodes h ≡ o → WorldHolds w → EventKeeps w (step_place w h [] step o)
+unfolding step_place
+step_place_keeps w h step None s place k = nothing_keeps w k
+step_place_keeps w h step (Some at) s place k = step_at_keeps w h step at (slice_get w.nodes at) s place refl k
+
+steps_keep : (w : WorldState) (h : Host) (step : NodeState → Step) → Steps (wiring w.links) step → WorldHolds w → EventKeeps w (steps w h [] step)
+unfolding steps
+steps_keep w h step s k = step_place_keeps w h step (place_of w.nodes h) s refl k
+
+-- ---- sends
+
+-- the first frame of a queue goes onto the wire
+send_first_keeps : (w : WorldState) (h : Host) (d : Dev) (at : ℕ) (to : LinkEnd) (node : NodeState) (o : Option (List PlainFrame)) → far_end w.links h d ≡ Some to → place_of w.nodes h ≡ Some at
+    → slice_get w.nodes at ≡ Some node → slice_get node.queues d.0 ≡ o → WorldHolds w → EventKeeps w (send_taken w h d at to (take_from node d o) (take_from node d o).frame)
+unfolding send_taken
+send_first_keeps w h d at to node None leads place get e k = nothing_keeps w k
+send_first_keeps w h d at to node (Some []) leads place get e k = nothing_keeps w k
+send_first_keeps w h d at to node (Some (x ∷ queue)) leads place get e k =
+    let p = place_is w h at node place get in
+    let far = wiring w.links in
+    let new = with_queues node (slice_set node.queues d.0 queue) in
+    let wired : Wired = record { number = w.«next»; from = record { host = h; dev = d }; to = to; frame = x } in
+    let there : far node.here d ≡ Some (to.host, to.dev) = ap (λ n. far n d) p.here ∙ ap end_of leads in
+    let move = Sent (cut w) at (cut_node node) d (cut_frame x) (map cut_frame queue) (to.host, to.dev) p.is_at (get_map (map cut_frame) node.queues d.0 (x ∷ queue) e) there in
+    let cut_new : ◌≡◌ {A = Node} (with_queue (cut_node node) d (map cut_frame queue)) (cut_node new) =
+    ap (λ qs. let n : Node = record { routing = routing_of node; queues = qs } in n) (sym (map-set (map cut_frame) node.queues d.0 queue)) in
+    let nodes = ap (slice_set (cut w).nodes at) cut_new ∙ sym (map-set cut_node w.nodes at new) in
+    let t = took IsDefault node.queues d.0 x queue e (all_get (λ n. QueuesKeep IsDefault n.queues) w.nodes at node k.queues get) in
+    record {
+      links = refl;
+      goes = Then (cut w) _ _ move (subst (Goes far _) (net_is _ _ _ _ nodes (sym (map_push cut_wired w.wire wired))) (Stays _));
+      hosts = All-set (λ n. HostsHold (routing_of n)) w.nodes at new (let old = all_get (λ n. HostsHold (routing_of n)) w.nodes at node k.hosts get in record { here = old.here; near = old.near }) k.hosts;
+      queues = All-set (λ n. QueuesKeep IsDefault n.queues) w.nodes at new t.rest k.queues;
+      wire = All-push (λ y. IsDefault y.frame) w.wire wired k.wire t.frame;
+      lines = All-append IsRouted (lines_at h (Taken d (what_of x) ∷ [])) (Wire w.«next» (frame_bytes x) ∷ [])
+          (acts_routed h (Taken d (what_of x) ∷ []) (All-cons IsRoutedAct (Taken d (what_of x)) [] tt (All-nil IsRoutedAct)))
+          (All-cons IsRouted (Wire w.«next» (frame_bytes x)) [] tt (All-nil IsRouted));
+    }
+
+send_at_keeps : (w : WorldState) (h : Host) (d : Dev) (at : ℕ) (to : LinkEnd) (o : Option NodeState) → far_end w.links h d ≡ Some to → place_of w.nodes h ≡ Some at → slice_get w.nodes at ≡ o
+    → WorldHolds w → EventKeeps w (send_at w h d at to o)
+unfolding send_at take_step
+send_at_keeps w h d at to None leads place get k = nothing_keeps w k
+send_at_keeps w h d at to (Some node) leads place get k = send_first_keeps w h d at to node (slice_get node.queues d.0) leads place get refl k
+
+room_cases : (t : Bool) (w : WorldState) (a : Happened) → EventKeeps w a → WorldHolds w → EventKeeps w (cond t a (nothing w))
+room_cases true w a x k = x
+room_cases false w a x k = nothing_keeps w k
+
+send_over_keeps : (w : WorldState) (h : Host) (d : Dev) (at : ℕ) (o : Option LinkEnd) → far_end w.links h d ≡ o → place_of w.nodes h ≡ Some at → WorldHolds w → EventKeeps w (send_over w h d at o)
+unfolding send_over
+send_over_keeps w h d at None leads place k = nothing_keeps w k
+send_over_keeps w h d at (Some to) leads place k = room_cases (nat_lt (length w.wire) 4096) w _ (send_at_keeps w h d at to (slice_get w.nodes at) leads place refl k) k
+
+send_place_keeps : (w : WorldState) (h : Host) (d : Dev) (o : Option ℕ) → place_of w.nodes h ≡ o → WorldHolds w → EventKeeps w (send_place w h d o)
+unfolding send_place
+send_place_keeps w h d None place k = nothing_keeps w k
+send_place_keeps w h d (Some at) place k = send_over_keeps w h d at (far_end w.links h d) refl place k
+
+sends_keep : (w : WorldState) (h : Host) (d : Dev) → WorldHolds w → EventKeeps w (sends w h d)
+unfolding sends
+sends_keep w h d k = send_place_keeps w h d (place_of w.nodes h) refl k
+
+-- ---- deliveries and losses
+
+-- a frame that has a way at a host has its hop at the host's node
+hops_on : (w : WorldState) (far : Wiring) (node : NodeState) (m : Host) (x : PlainFrame) → node.here ≡ m → routing_in w.nodes m ≡ Some (routing_of node) → FrameHasWay w.nodes m x → HopsOn far node x
+hops_on w far node m (PlainFrame.Packet p) here known way =
+    let is : way.routing ≡ routing_of node = some_is (sym way.here ∙ known) in
+    (way.row.«next», way.row.dev, ap (λ n. hop (all_routes (routing_of node)) p.route n p.dest) here ∙ (ap (λ r. hop (all_routes r) p.route m p.dest) (sym is) ∙ way.hops))
+  where
+    some_is : ◌≡◌ {A = Option Routing} (Some way.routing) (Some (routing_of node)) → way.routing ≡ routing_of node
+    some_is h = cc
+hops_on w far node m (PlainFrame.Advert a) here known way = tt
+hops_on w far node m (PlainFrame.Ask bound chunk) here known way = tt
+
+deliver_at_keeps : (w : WorldState) (place : ℕ) (x : Wired) (at : ℕ) (o : Option NodeState) → slice_get w.wire place ≡ Some x → place_of w.nodes x.to.host ≡ Some at → slice_get w.nodes at ≡ o
+    → WorldHolds w → EventKeeps w (deliver_at w place x at o)
+unfolding deliver_at
+deliver_at_keeps w place x at None on at_host get k = nothing_keeps w k
+deliver_at_keeps w place x at (Some node) on at_host get k =
+    let far = wiring w.links in
+    let p = place_is w x.to.host at node at_host get in
+    let step = frame_step node x.to.dev x.frame in
+    let way = hops_on w far node x.to.host x.frame p.here p.known (wire_way w k x (contains_get w.wire place x on)) in
+    let one = frame_keeps far node x.to.dev x.frame way (all_get (λ y. IsDefault y.frame) w.wire place x k.wire on) (all_get (λ n. QueuesKeep IsDefault n.queues) w.nodes at node k.queues get) in
+    let P : Host → Type 0 = λ m. Contains (cut w).wire ((m, x.to.dev), cut_frame x.frame) in
+    let here : P node.here = subst P (sym p.here) (contains_get (cut w).wire place (cut_wired x) (get_map cut_wired w.wire place x on)) in
+    let heard = with_cut (cut w) at (cut_node step.node) in
+    let all = net_is _ _ _ _ (sym (map-set cut_node w.nodes at step.node)) (sym (map_remove cut_wired w.wire place)) in
+    record {
+      links = refl;
+      goes = goes_over far (cut w) heard _ (one.goes (cut w) at here p.is_at) (Then heard _ _ (Leaves heard place) (subst (Goes far _) all (Stays _)));
+      hosts = All-set (λ n. HostsHold (routing_of n)) w.nodes at step.node
+          (hosts_stay node step.node (frame_stays node x.to.dev x.frame).node (all_get (λ n. HostsHold (routing_of n)) w.nodes at node k.hosts get)) k.hosts;
+      queues = All-set (λ n. QueuesKeep IsDefault n.queues) w.nodes at step.node one.queues k.queues;
+      wire = all_remove (λ y. IsDefault y.frame) w.wire place k.wire;
+      lines = All-cons IsRouted (Off x.number) (lines_at x.to.host step.acts) tt (acts_routed x.to.host step.acts one.acts);
+    }
+
+deliver_to_keeps : (w : WorldState) (place : ℕ) (x : Wired) (o : Option ℕ) → slice_get w.wire place ≡ Some x → place_of w.nodes x.to.host ≡ o → WorldHolds w → EventKeeps w (deliver_to w place x o)
+unfolding deliver_to
+deliver_to_keeps w place x None on at_host k = nothing_keeps w k
+deliver_to_keeps w place x (Some at) on at_host k = deliver_at_keeps w place x at (slice_get w.nodes at) on at_host refl k
+
+deliver_frame_keeps : (w : WorldState) (place : ℕ) (o : Option Wired) → slice_get w.wire place ≡ o → WorldHolds w → EventKeeps w (deliver_frame w place o)
+unfolding deliver_frame
+deliver_frame_keeps w place None on k = nothing_keeps w k
+deliver_frame_keeps w place (Some x) on k = deliver_to_keeps w place x (place_of w.nodes x.to.host) on refl k
+
+deliver_place_keeps : (w : WorldState) (o : Option ℕ) → WorldHolds w → EventKeeps w (deliver_place w o)
+unfolding deliver_place
+deliver_place_keeps w None k = nothing_keeps w k
+deliver_place_keeps w (Some place) k = deliver_frame_keeps w place (slice_get w.wire place) refl k
+
+delivers_keep : (w : WorldState) (number : ℕ) → WorldHolds w → EventKeeps w (delivers w number)
+unfolding delivers
+delivers_keep w number k = deliver_place_keeps w (wire_place w.wire number) k
+
+lose_frame_keeps : (w : WorldState) (place : ℕ) (o : Option Wired) → slice_get w.wire place ≡ o → WorldHolds w → EventKeeps w (lose_frame w place o)
+unfolding lose_frame
+lose_frame_keeps w place None on k = nothing_keeps w k
+lose_frame_keeps w place (Some x) on k = record {
+  links = refl;
+  goes = Then (cut w) _ _ (Leaves (cut w) place) (subst (Goes (wiring w.links) _) (net_is _ _ _ _ refl (sym (map_remove cut_wired w.wire place))) (Stays _));
+  hosts = k.hosts;
+  queues = k.queues;
+  wire = all_remove (λ y. IsDefault y.frame) w.wire place k.wire;
+  lines = All-cons IsRouted (Off x.number) (Lost (what_of x.frame) ∷ []) tt (All-cons IsRouted (Lost (what_of x.frame)) [] tt (All-nil IsRouted));
+}
+
+lose_place_keeps : (w : WorldState) (o : Option ℕ) → WorldHolds w → EventKeeps w (lose_place w o)
+unfolding lose_place
+lose_place_keeps w None k = nothing_keeps w k
+lose_place_keeps w (Some place) k = lose_frame_keeps w place (slice_get w.wire place) refl k
+
+loses_keep : (w : WorldState) (number : ℕ) → WorldHolds w → EventKeeps w (loses w number)
+unfolding loses
+loses_keep w number k = lose_place_keeps w (wire_place w.wire number) k
+
+-- ---- events
+
+acted_keeps : (w : WorldState) (e : WorldEvent) → NotRaw e → WorldHolds w → EventKeeps w (acted w e)
+acted_keeps w (Inject h chunk bound) n k = steps_keep w h (λ node. inject_step [] node chunk bound)
+    (record { keeps = λ node q. inject_keeps (wiring w.links) (λ v. Unit {0}) node chunk bound q; stays = λ node. inject_stays node chunk bound }) k
+acted_keeps w (Send h d) n k = sends_keep w h d k
+acted_keeps w (Deliver number) n k = delivers_keep w number k
+acted_keeps w (Lose number) n k = loses_keep w number k
+acted_keeps w (Tick h) n k = steps_keep w h tick_step
+    (record { keeps = λ node q. tick_keeps (wiring w.links) (λ v. Unit {0}) node q; stays = λ node. (tick_stays node).node }) k
+acted_keeps w (Raw h d bytes) n k = absurd n
+
+-- each event keeps them, and is some moves
+pub event_keeps : (w : WorldState) (e : WorldEvent) → NotRaw e → WorldHolds w → EventKeeps w (happens w e)
+event_keeps w e n k =
+    let a = acted_keeps w e n k in
+    record { links = a.links; goes = a.goes; hosts = a.hosts; queues = a.queues; wire = a.wire; lines = a.lines }
+
+pub event_holds : (w : WorldState) (e : WorldEvent) → NotRaw e → WorldHolds w → WorldHolds (happens w e).world
+event_holds w e n k =
+    let a = event_keeps w e n k in
+    let P : Cables → Type 0 = λ links. CutHolds (wiring links) (cut (happens w e).world) in
+    record {
+      routes = subst P (sym a.links) (goes_keep (wiring w.links) (cut w) (cut (happens w e).world) k.routes a.goes);
+      hosts = a.hosts;
+      queues = a.queues;
+      wire = a.wire;
+    }

@@ -1,0 +1,6 @@
+pub mod Cut
+pub mod Steps
+pub mod Holding
+pub mod Events
+pub mod Openings
+pub mod Reaching

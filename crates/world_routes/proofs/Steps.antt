@@ -1,0 +1,293 @@
+-- What a node's step queues and hears are moves; it keeps packets to the one routing function, and drops none for want of a route.
+use Rattle.std.proofs.Common.{◌≡◌, ℕ, Bool, true, false, cond, not, eqb, Option, Some, None, List, [], ◌∷◌, ◌++◌, length, inl, refl, sym, ap, subst, ◌∙◌}
+use Rattle.std.specs.Prelude.{map, slice_get, slice_set, nat_lt, ◌==◌, ◌&&◌, All, Contains}
+use Rattle.std.specs.Str.{bytes_eq}
+use Rattle.std.proofs.lemmas.Bool.{false≢true}
+use Rattle.std.proofs.lemmas.Bool.Decides.{Decides-eqb}
+use Rattle.std.proofs.lemmas.List.{map-set, map_push}
+use Rattle.std.proofs.lemmas.List.Elements.{All-nil, All-cons, All-head, All-tail, All-append, All-map, All-weaker, All-contains_itself}
+use Rattle.plan_base.specs.declared.ids.Host.{Host}
+use Rattle.plan_base.specs.declared.ids.Dev.{Dev}
+use Rattle.plan_base.specs.declared.tree.Chunk.{Chunk}
+use Rattle.plan_base.specs.declared.tree.Packet.{Packet}
+use Rattle.plan_base.specs.declared.tree.Value.{Value}
+use Rattle.packet_frame.specs.declared.frame.PlainFrame.{PlainFrame}
+use Rattle.service_api.specs.declared.advert.Advert.{Advert}
+use Rattle.service_api.specs.declared.router.Hop.{Hop}
+use Rattle.service_api.specs.declared.router.Hop.TheVariants.{To}
+use Rattle.service_api.specs.Routes.{hop, default_route}
+use Rattle.service_api.specs.Services.{begun_now}
+use Rattle.plan_meaning.specs.declared.sent.Sent.{Sent}
+use Rattle.plan_meaning.specs.declared.stop.Stop.TheVariants.{Raised, WorkSpent, Wrong, NoMemory}
+use Rattle.plan_meaning.specs.Run.{After, gave, stopped}
+use Rattle.plan_meaning.specs.Visit.{allowance, begun}
+use Rattle.meaning_laws.specs.Laws.{left_by}
+use Rattle.dv_routing.specs.Routing.{Routing, all_routes, own_advert}
+use Rattle.dv_routing.proofs.Best.{contains_later}
+use Rattle.dv_routing.proofs.Costs.{same_host}
+use Rattle.route_laws.specs.Network.{Wiring, Frame, Told, Network, IsAt, with_node, queued, Moves, Tells, Hears, Goes, Stays, Then}
+use Rattle.led_sends.specs.Led.{IsLed}
+use Rattle.led_sends.proofs.Leading.{visit_led}
+use Rattle.led_sends.proofs.Moving.{led_moves}
+use Rattle.node_model.specs.declared.acts.Act.{Act}
+use Rattle.node_model.specs.declared.acts.Act.TheVariants.{Injected, Arrived, Noted, Ended, Misplaced, Heard, Ticked, SerialsSpent}
+use Rattle.node_model.specs.declared.acts.Sending.{Sending}
+use Rattle.node_model.specs.State.{Links, Queues, NodeState, routing_of, is_host, neighbour_on, is_the_host, leads_to}
+use Rattle.node_model.specs.Visits.{around, evaluated, visit_end, visit_of, visit_at}
+use Rattle.node_model.specs.Node.{Step, stepped, queue_room, has_room, queue_push, send_act, send_queues, sends_acts, sends_queues, packet_sending, visit_sends, visit_acts, visited, next_serial, injected_packet, inject_step, only_acts, forward_by, forward_step, packet_step, hearing, advert_step, frame_step, next_tick, advert_sending, tick_sends, tick_step}
+use Rattle.node_model.specs.Fits.{QueuesKeep}
+use Rattle.node_laws.proofs.Keeping.{Sends, send_keeps, sends_keep}
+use Rattle.world_routes.specs.Routes.{IsRoutedAct}
+use Rattle.world_routes.proofs.Cut.{cut_frame, cut_queues, node_with, cut_node, get_map, same_net, with_with, at_after, goes_over}
+
+-- a packet goes by the one routing function
+abbrev pub IsDefault : PlainFrame → Type 0
+IsDefault (PlainFrame.Packet p) = bytes_eq p.route default_route ≡ true
+IsDefault _ = Unit {0}
+
+pub stays_at : (far : Wiring) (w : Network) (at : ℕ) (r : Routing) (queues : Queues) → IsAt w at (node_with r queues) → Goes far w (with_node w at (node_with r queues))
+stays_at far w at r queues p = subst (Goes far w) (sym (same_net w at (node_with r queues) p)) (Stays w)
+
+-- ---- frames into queues
+
+module _ (far : Wiring) (r : Routing) where
+  -- queueing a frame at a node that knows this is a move
+  abbrev pub MayGo : Sending → Type 0
+  MayGo s = (w : Network) (at : ℕ) (queues : Queues) (queue : List Frame) → IsAt w at (node_with r queues) → slice_get (cut_queues queues) s.dev.0 ≡ Some queue
+      → Moves far w (with_node w at (queued (node_with r queues) s.dev queue (cut_frame s.frame)))
+
+  pub record MayLeave (s : Sending) : Type 0 where
+    pub goes : MayGo s
+    pub default : IsDefault s.frame
+    pub queued : IsRoutedAct s.queued
+    pub dropped : IsRoutedAct s.dropped
+
+  pushed : (queues : Queues) (d : Dev) (x : PlainFrame) (queue : List PlainFrame) → slice_set (cut_queues queues) d.0 (map cut_frame queue ++ cut_frame x ∷ []) ≡ cut_queues (slice_set queues d.0 (queue ++ x ∷ []))
+  pushed queues d x queue = sym (map-set (map cut_frame) queues d.0 (queue ++ x ∷ []) ∙ ap (slice_set (cut_queues queues) d.0) (map_push cut_frame queue x))
+
+  push_goes : (t : Bool) (w : Network) (at : ℕ) (queues : Queues) (s : Sending) (queue : List PlainFrame) → MayGo s → IsAt w at (node_with r queues) → slice_get queues s.dev.0 ≡ Some queue
+      → Goes far w (with_node w at (node_with r (cond t (queue_push queues s.dev s.frame (Some queue)) queues)))
+  push_goes true w at queues s queue m p e =
+      let move = m w at queues (map cut_frame queue) p (get_map (map cut_frame) queues s.dev.0 queue e) in
+      let P : List (List Frame) → Type 0 = λ qs. Moves far w (with_node w at (record { routing = r; queues = qs })) in
+      Then w _ _ (subst P (pushed queues s.dev s.frame queue) move) (Stays _)
+  push_goes false w at queues s queue m p e = stays_at far w at r queues p
+
+  place_goes : (o : Option (List PlainFrame)) (w : Network) (at : ℕ) (queues : Queues) (s : Sending) → MayGo s → IsAt w at (node_with r queues) → slice_get queues s.dev.0 ≡ o
+      → Goes far w (with_node w at (node_with r (cond (queue_room o) (queue_push queues s.dev s.frame o) queues)))
+  place_goes None w at queues s m p e = stays_at far w at r queues p
+  place_goes (Some queue) w at queues s m p e = push_goes (nat_lt (length queue) 64) w at queues s queue m p e
+
+  pub send_goes : (w : Network) (at : ℕ) (queues : Queues) (s : Sending) → MayGo s → IsAt w at (node_with r queues) → Goes far w (with_node w at (node_with r (send_queues queues s)))
+  unfolding send_queues has_room
+  send_goes w at queues s m p = place_goes (slice_get queues s.dev.0) w at queues s m p refl
+
+  pub sends_go : (w : Network) (at : ℕ) (queues : Queues) (ss : List Sending) → All MayLeave ss → IsAt w at (node_with r queues) → Goes far w (with_node w at (node_with r (sends_queues queues ss)))
+  unfolding sends_queues
+  sends_go w at queues [] all p = stays_at far w at r queues p
+  sends_go w at queues (s ∷ ss) all p =
+      let first = node_with r (send_queues queues s) in
+      let one = send_goes w at queues s (All-head MayLeave s ss all).goes p in
+      let rest = sends_go (with_node w at first) at (send_queues queues s) ss (All-tail MayLeave s ss all) (at_after w at (node_with r queues) first p refl) in
+      let last = node_with r (sends_queues (send_queues queues s) ss) in
+      goes_over far w (with_node w at first) (with_node w at last) one (subst (Goes far (with_node w at first)) (with_with w at first last) rest)
+
+  act_routed : (t : Bool) (s : Sending) → MayLeave s → IsRoutedAct (cond t s.queued s.dropped)
+  act_routed true s m = m.queued
+  act_routed false s m = m.dropped
+
+  pub send_routed : (queues : Queues) (s : Sending) → MayLeave s → IsRoutedAct (send_act queues s)
+  unfolding send_act
+  send_routed queues s m = act_routed (has_room queues s.dev) s m
+
+  pub sends_routed : (queues : Queues) (ss : List Sending) → All MayLeave ss → All IsRoutedAct (sends_acts queues ss)
+  unfolding sends_acts
+  sends_routed queues [] all = All-nil IsRoutedAct
+  sends_routed queues (s ∷ ss) all =
+      All-cons IsRoutedAct (send_act queues s) (sends_acts (send_queues queues s) ss)
+      (send_routed queues s (All-head MayLeave s ss all)) (sends_routed (send_queues queues s) ss (All-tail MayLeave s ss all))
+
+  pub sends_default : (queues : Queues) (ss : List Sending) → All MayLeave ss → QueuesKeep IsDefault queues → QueuesKeep IsDefault (sends_queues queues ss)
+  sends_default queues ss all q = sends_keep IsDefault queues ss (All-weaker MayLeave (Sends IsDefault) (λ s m. m.default) ss all) q
+
+  -- a send that is led, and an advert for a neighbour
+  pub led_leaves : (s : Sent) → IsLed r.here r.neighbours (all_routes r) s → MayLeave (packet_sending s)
+  led_leaves s led = record {
+    goes = λ w at queues queue p get. led_moves far w at (node_with r queues) s queue p led get;
+    default = led.default;
+    queued = tt;
+    dropped = tt;
+  }
+
+  pub advert_leaves : (link : Host × Dev) → Contains r.neighbours link → MayLeave (advert_sending (own_advert r) link)
+  advert_leaves link among = record {
+    goes = λ w at queues queue p get. Tells w at (node_with r queues) link.0 link.1 queue p among get;
+    default = tt;
+    queued = tt;
+    dropped = tt;
+  }
+
+-- ---- steps
+
+-- a step is some moves, where the network keeps this
+pub record StepKeeps (far : Wiring) (On : Network → Type 0) (node : NodeState) (step : Step) : Type 0 where
+  pub goes : (w : Network) (at : ℕ) → On w → IsAt w at (cut_node node) → Goes far w (with_node w at (cut_node step.node))
+  pub queues : QueuesKeep IsDefault step.node.queues
+  pub acts : All IsRoutedAct step.acts
+
+end_led : (P : Sent → Type 0) (bound : ℕ) (a : After Value) → All P (left_by a).outbox → All P (visit_end bound a).outbox
+end_led P bound (gave v s) h = h
+end_led P bound (stopped (Raised x) s) h = h
+end_led P bound (stopped WorkSpent s) h = All-nil P
+end_led P bound (stopped Wrong s) h = All-nil P
+end_led P bound (stopped NoMemory s) h = All-nil P
+
+-- what a visit at a node sends is led by its routes and neighbours
+visit_is_led : (node : NodeState) (p : Packet) → All (IsLed node.here node.neighbours (all_routes (routing_of node))) (visit_at node p).outbox
+unfolding visit_of evaluated
+visit_is_led node p =
+    end_led (IsLed node.here node.neighbours (all_routes (routing_of node))) p.bound _
+    (visit_led p.chunk (begun allowance (around node p) p.family (begun_now node.services)) refl)
+
+module _ (far : Wiring) where
+  visit_leaves : (node : NodeState) (p : Packet) → All (MayLeave far (routing_of node)) (visit_sends (visit_at node p))
+  unfolding visit_sends
+  visit_leaves node p =
+      let P : Sent → Type 0 = λ s. MayLeave far (routing_of node) (packet_sending s) in
+      let outbox = (visit_at node p).outbox in
+      All-map (MayLeave far (routing_of node)) packet_sending outbox
+      (All-weaker (IsLed node.here node.neighbours (all_routes (routing_of node))) P (λ s led. led_leaves far (routing_of node) s led) outbox (visit_is_led node p))
+
+  tick_leaves : (node : NodeState) → All (MayLeave far (routing_of node)) (tick_sends node)
+  unfolding tick_sends
+  tick_leaves node =
+      let P : Host × Dev → Type 0 = λ link. MayLeave far (routing_of node) (advert_sending (own_advert (routing_of node)) link) in
+      All-map (MayLeave far (routing_of node)) (advert_sending (own_advert (routing_of node))) node.neighbours
+      (All-weaker (Contains node.neighbours) P (λ link among. advert_leaves far (routing_of node) link among) node.neighbours (All-contains_itself node.neighbours))
+
+  module _ (On : Network → Type 0) where
+    cases : (t : Bool) (node : NodeState) (a b : Step) → StepKeeps far On node a → StepKeeps far On node b → StepKeeps far On node (cond t a b)
+    cases true node a b x y = x
+    cases false node a b x y = y
+
+    still : (acts : List Act) (node : NodeState) → All IsRoutedAct acts → QueuesKeep IsDefault node.queues → StepKeeps far On node (stepped acts None node)
+    still acts node a q = record { goes = λ w at on p. stays_at far w at (routing_of node) node.queues p; queues = q; acts = a }
+
+    two_acts : (a b : Act) → IsRoutedAct a → IsRoutedAct b → All IsRoutedAct (a ∷ b ∷ [])
+    two_acts a b x y = All-cons IsRoutedAct a (b ∷ []) x (All-cons IsRoutedAct b [] y (All-nil IsRoutedAct))
+
+    visit_routed : (node : NodeState) (p : Packet) → All IsRoutedAct (visit_acts node.queues p (visit_at node p))
+    unfolding visit_acts
+    visit_routed node p =
+        let v = visit_at node p in
+        let sends = sends_acts node.queues (visit_sends v) in
+        All-append IsRoutedAct (map Noted v.notes) (Ended p.family v.outcome v.evals v.left ∷ sends)
+        (All-map IsRoutedAct Noted v.notes (λ k d lt. tt))
+        (All-cons IsRoutedAct (Ended p.family v.outcome v.evals v.left) sends tt (sends_routed far (routing_of node) node.queues (visit_sends v) (visit_leaves node p)))
+
+    visited_keeps : (acts : List Act) (node : NodeState) (p : Packet) → All IsRoutedAct acts → QueuesKeep IsDefault node.queues → StepKeeps far On node (visited acts node p)
+    unfolding visited
+    visited_keeps acts node p a q = record {
+      goes = λ w at on k. sends_go far (routing_of node) w at node.queues (visit_sends (visit_at node p)) (visit_leaves node p) k;
+      queues = sends_default far (routing_of node) node.queues (visit_sends (visit_at node p)) (visit_leaves node p) q;
+      acts = All-append IsRoutedAct acts (visit_acts node.queues p (visit_at node p)) a (visit_routed node p);
+    }
+
+    inject_cases : (t : Bool) (node : NodeState) (chunk : Chunk) (bound : ℕ) → QueuesKeep IsDefault node.queues
+        → StepKeeps far On node (cond t (stepped ([] ++ SerialsSpent ∷ []) None node) (visited ([] ++ Injected (record { source = node.here; serial = node.serial }) bound ∷ []) (next_serial node) (injected_packet node chunk bound)))
+    inject_cases true node chunk bound q = still (SerialsSpent ∷ []) node (All-cons IsRoutedAct SerialsSpent [] tt (All-nil IsRoutedAct)) q
+    inject_cases false node chunk bound q =
+        let act = Injected (record { source = node.here; serial = node.serial }) bound in
+        let v = visited_keeps (act ∷ []) (next_serial node) (injected_packet node chunk bound) (All-cons IsRoutedAct act [] tt (All-nil IsRoutedAct)) q in
+        record { goes = v.goes; queues = v.queues; acts = v.acts }
+
+    pub inject_keeps : (node : NodeState) (chunk : Chunk) (bound : ℕ) → QueuesKeep IsDefault node.queues → StepKeeps far On node (inject_step [] node chunk bound)
+    unfolding inject_step
+    inject_keeps node chunk bound q = inject_cases (node.serial == 18446744073709551615) node chunk bound q
+
+    pub tick_keeps : (node : NodeState) → QueuesKeep IsDefault node.queues → StepKeeps far On node (tick_step node)
+    unfolding tick_step
+    tick_keeps node q = record {
+      goes = λ w at on k. sends_go far (routing_of node) w at node.queues (tick_sends node) (tick_leaves node) k;
+      queues = sends_default far (routing_of node) node.queues (tick_sends node) (tick_leaves node) q;
+      acts = All-cons IsRoutedAct (Ticked (next_tick node.now)) (sends_acts node.queues (tick_sends node)) tt
+          (sends_routed far (routing_of node) node.queues (tick_sends node) (tick_leaves node));
+    }
+
+    -- a packet that goes on by a hop
+    onward_keeps : (node : NodeState) (d : Dev) (p : Packet) (host : Host) (over : Dev) → hop (all_routes (routing_of node)) p.route node.here p.dest ≡ To host over → bytes_eq p.route default_route ≡ true
+        → QueuesKeep IsDefault node.queues → StepKeeps far On node (forward_by node d p (To host over))
+    unfolding forward_by
+    onward_keeps node d p host over e default q =
+        let s : Sent = record { dev = over; packet = p } in
+        let led = led_leaves far (routing_of node) s (record { default = default; leads = inl (host, e) }) in
+        record {
+          goes = λ w at on k. send_goes far (routing_of node) w at node.queues (packet_sending s) led.goes k;
+          queues = send_keeps IsDefault node.queues (packet_sending s) default q;
+          acts = two_acts (Arrived d) (send_act node.queues (packet_sending s)) tt (send_routed far (routing_of node) node.queues (packet_sending s) led);
+        }
+
+    forward_keeps : (node : NodeState) (d : Dev) (p : Packet) (host : Host) (over : Dev) → hop (all_routes (routing_of node)) p.route node.here p.dest ≡ To host over → bytes_eq p.route default_route ≡ true
+        → QueuesKeep IsDefault node.queues → StepKeeps far On node (forward_step node d p)
+    unfolding forward_step
+    forward_keeps node d p host over e default q =
+        let P : Hop → Type 0 = λ o. StepKeeps far On node (forward_by node d p o) in
+        cases (p.bound == 0) node _ _ (still _ node (two_acts _ _ tt tt) q) (subst P (sym e) (onward_keeps node d p host over e default q))
+
+    packet_keeps : (node : NodeState) (d : Dev) (p : Packet) (host : Host) (over : Dev) → hop (all_routes (routing_of node)) p.route node.here p.dest ≡ To host over → bytes_eq p.route default_route ≡ true
+        → QueuesKeep IsDefault node.queues → StepKeeps far On node (packet_step node d p)
+    unfolding packet_step
+    packet_keeps node d p host over e default q =
+        cases (is_host p.dest node.here) node _ _ (visited_keeps (Arrived d ∷ []) node p (All-cons IsRoutedAct (Arrived d) [] tt (All-nil IsRoutedAct)) q)
+        (forward_keeps node d p host over e default q)
+
+  -- an advert that is on the wire is heard
+  neighbour_among : (links : Links) (d : Dev) (m : Host) → neighbour_on links d ≡ Some m → Contains links (m, d)
+  neighbour_among [] d m e = absurd (none e)
+    where
+      none : ◌≡◌ {A = Option Host} None (Some m) → ⊥
+      none h = cc
+  neighbour_among (link ∷ links) d m e = split (neighbour_among links d m) (eqb link.1.0 d.0) refl e
+    where
+      split : (neighbour_on links d ≡ Some m → Contains links (m, d)) → (t : Bool) → eqb link.1.0 d.0 ≡ t → cond t (Some link.0) (neighbour_on links d) ≡ Some m → Contains (link ∷ links) (m, d)
+      split rest true k found =
+          let host : link.0 ≡ m = cc in
+          let dev : link.1 ≡ d = ap (λ n. let x : Dev = record { 0 = n } in x) ((Decides-eqb link.1.0 d.0).0 k) in
+          (0, omega arith, ap (λ h. (h, link.1)) host ∙ ap (λ x. (m, x)) dev)
+      split rest false k found = contains_later link links (m, d) (rest found)
+
+  led_among : (links : Links) (d : Dev) (h : Host) → leads_to links d h ≡ true → Contains links (h, d)
+  led_among links d h e = split (eqb d.0 0) (neighbour_on links d) refl e
+    where
+      split : (t : Bool) (o : Option Host) → neighbour_on links d ≡ o → (not t && is_the_host o h) ≡ true → Contains links (h, d)
+      split true o k found = absurd (false≢true found)
+      split false None k found = absurd (false≢true found)
+      split false (Some g) k found = let P : Host → Type 0 = λ x. Contains links (x, d) in subst P (same_host g h found) (neighbour_among links d g k)
+
+  advert_cases : (t : Bool) (node : NodeState) (d : Dev) (a : Advert) → leads_to node.neighbours d a.host ≡ t → QueuesKeep IsDefault node.queues
+      → StepKeeps far (λ w. Contains w.wire ((node.here, d), Told a)) node (cond t (only_acts (Arrived d) (Heard d) (hearing node d a)) (only_acts (Arrived d) Misplaced node))
+  advert_cases true node d a e q = record {
+    goes = λ w at on k. Then w _ _ (Hears w at (cut_node node) d a k on (led_among node.neighbours d a.host e)) (Stays _);
+    queues = q;
+    acts = two_acts (λ w. Contains w.wire ((node.here, d), Told a)) (Arrived d) (Heard d) tt tt;
+  }
+  advert_cases false node d a e q =
+      let On : Network → Type 0 = λ w. Contains w.wire ((node.here, d), Told a) in
+      still On (Arrived d ∷ Misplaced ∷ []) node (two_acts On (Arrived d) Misplaced tt tt) q
+
+  advert_keeps : (node : NodeState) (d : Dev) (a : Advert) → QueuesKeep IsDefault node.queues → StepKeeps far (λ w. Contains w.wire ((node.here, d), Told a)) node (advert_step node d a)
+  unfolding advert_step
+  advert_keeps node d a q = advert_cases (leads_to node.neighbours d a.host) node d a refl q
+
+  -- a packet has a next hop at a node
+  abbrev pub HopsOn : NodeState → PlainFrame → Type 0
+  HopsOn node (PlainFrame.Packet p) = (host : Host) × (over : Dev) × (hop (all_routes (routing_of node)) p.route node.here p.dest ≡ To host over)
+  HopsOn node _ = Unit {0}
+
+  pub frame_keeps : (node : NodeState) (d : Dev) (x : PlainFrame) → HopsOn node x → IsDefault x → QueuesKeep IsDefault node.queues
+      → StepKeeps far (λ w. Contains w.wire ((node.here, d), cut_frame x)) node (frame_step node d x)
+  frame_keeps node d (PlainFrame.Packet p) way default q = packet_keeps (λ w. Contains w.wire ((node.here, d), cut_frame (PlainFrame.Packet p))) node d p way.0 way.1 way.2 default q
+  frame_keeps node d (PlainFrame.Advert a) way default q = advert_keeps node d a q
+  frame_keeps node d (PlainFrame.Ask bound chunk) way default q =
+      let On : Network → Type 0 = λ w. Contains w.wire ((node.here, d), cut_frame (PlainFrame.Ask bound chunk)) in
+      still On (Arrived d ∷ Misplaced ∷ []) node (two_acts On (Arrived d) Misplaced tt tt) q
