@@ -1,13 +1,13 @@
 -- A network cut down to what routes need.
-use Rattle.std.proofs.Common.{◌≡◌, ℕ, zero, suc, ◌<◌, true, false, cond, eqb, Option, Some, None, List, [], ◌∷◌, ◌++◌, length, get_or, refl, sym, ap, ◌∙◌, arith}
-use Rattle.std.specs.Prelude.{map, slice_get, slice_set, remove, position, Contains}
-use Rattle.std.proofs.lemmas.List.{map-set, set-set}
+use Rattle.std.proofs.Common.{◌≡◌, ℕ, zero, suc, ◌<◌, true, false, cond, Option, Some, None, List, [], ◌∷◌, length, get_or, refl, sym, ap, ◌∙◌, arith}
+use Rattle.std.specs.Prelude.{map, slice_get, slice_set, remove, Contains}
+use Rattle.std.proofs.lemmas.List.{set-set}
 use Rattle.std.proofs.lemmas.List.Quantifiers.{position-Some}
 use Rattle.std.proofs.lemmas.Option.{slice_get_within, get_or_from_slice_get}
 use Rattle.plan_base.specs.declared.ids.Host.{Host}
 use Rattle.plan_base.specs.declared.ids.Dev.{Dev}
 use Rattle.packet_frame.specs.declared.frame.PlainFrame.{PlainFrame}
-use Rattle.dv_routing.specs.Routing.{Routing, route_cost, cost}
+use Rattle.dv_routing.specs.Routing.{Routing, route_cost}
 use Rattle.dv_routing.proofs.Costs.{same_host}
 use Rattle.route_laws.specs.Network.{Wiring, Frame, Parcel, Told, Node, Network, routing_of as of_node, routings, routing_at, cost_by, cost_at as cut_cost, IsAt, with_node, Goes, Stays, Then}
 use Rattle.route_laws.proofs.Lookups.{routings_set, routings_get}
@@ -49,7 +49,7 @@ wiring links h d = end_of (far_end links h d)
 -- ---- lists
 
 pub get_map : {X Y : Type 0} (f : X → Y) (xs : List X) (i : ℕ) (x : X) → slice_get xs i ≡ Some x → slice_get (map f xs) i ≡ Some (f x)
-get_map f [] i x e = absurd (none e)
+get_map {X = X} f [] i x e = absurd (none e)
   where
     none : ◌≡◌ {A = Option X} None (Some x) → ⊥
     none h = cc
@@ -57,7 +57,7 @@ get_map f (y ∷ ys) zero x e = let is : y ≡ x = cc in ap (λ z. Some (f z)) i
 get_map f (y ∷ ys) (suc i) x e = get_map f ys i x e
 
 pub get_same : {X : Type 0} (xs : List X) (i : ℕ) (x y : X) → slice_get xs i ≡ Some x → slice_get (slice_set xs i y) i ≡ Some y
-get_same [] i x y e = absurd (none e)
+get_same {X = X} [] i x y e = absurd (none e)
   where
     none : ◌≡◌ {A = Option X} None (Some x) → ⊥
     none h = cc

@@ -1,8 +1,8 @@
 -- Each event that brings nothing from outside is some moves, and keeps what holds of routes.
-use Rattle.std.proofs.Common.{◌≡◌, ℕ, Bool, true, false, cond, Option, Some, None, List, [], ◌∷◌, ◌++◌, length, refl, sym, ap, subst, ◌∙◌}
-use Rattle.std.specs.Prelude.{map, slice_get, slice_set, remove, nat_lt, All, Contains}
+use Rattle.std.proofs.Common.{◌≡◌, ℕ, Bool, true, false, cond, Option, Some, None, List, [], ◌∷◌, length, refl, sym, ap, subst, ◌∙◌}
+use Rattle.std.specs.Prelude.{map, slice_get, slice_set, nat_lt, All, Contains}
 use Rattle.std.proofs.lemmas.List.{map-set, map_push}
-use Rattle.std.proofs.lemmas.List.Elements.{All-nil, All-cons, All-head, All-tail, All-append, All-map, All-push, All-set}
+use Rattle.std.proofs.lemmas.List.Elements.{All-nil, All-cons, All-append, All-map, All-push, All-set}
 use Rattle.plan_base.specs.declared.ids.Host.{Host}
 use Rattle.plan_base.specs.declared.ids.Dev.{Dev}
 use Rattle.packet_frame.specs.declared.frame.PlainFrame.{PlainFrame}
@@ -13,26 +13,24 @@ use Rattle.spelled_frame.specs.Spelled.{what_of}
 use Rattle.dv_routing.specs.Routing.{Routing, all_routes, is_among}
 use Rattle.dv_routing.specs.Laws.{HostsHold}
 use Rattle.service_api.specs.Routes.{hop}
-use Rattle.service_api.specs.declared.router.Hop.TheVariants.{To}
-use Rattle.route_laws.specs.Network.{Wiring, Frame, Node, Network, with_node as with_cut, with_queue, Moves, Sent, Leaves, Goes, Stays, Then}
+use Rattle.route_laws.specs.Network.{Wiring, Frame, Node, Network, with_node as with_cut, with_queue, Sent, Leaves, Goes, Stays, Then}
 use Rattle.route_laws.specs.Truths.{RoutesHold as CutHolds}
 use Rattle.route_laws.proofs.Keep.{goes_keep}
 use Rattle.route_laws.proofs.Lookups.{all_get, all_remove}
 use Rattle.node_model.specs.declared.acts.Act.{Act}
 use Rattle.node_model.specs.declared.acts.Act.TheVariants.{Taken}
-use Rattle.node_model.specs.State.{Links, Queues, NodeState, routing_of}
+use Rattle.node_model.specs.State.{Links, NodeState, routing_of}
 use Rattle.node_model.specs.Node.{Step, inject_step, frame_step, tick_step, take_from, take_step, with_queues}
 use Rattle.node_model.specs.Fits.{QueuesKeep}
-use Rattle.node_laws.proofs.Keeping.{Took, took}
+use Rattle.node_laws.proofs.Keeping.{took}
 use Rattle.node_laws.proofs.Staying.{Stays as NodeStays, inject_stays, frame_stays, tick_stays}
-use Rattle.world_model.specs.declared.lines.Line.{Line}
 use Rattle.world_model.specs.declared.lines.Line.TheVariants.{At, Wire, Off, Lost, Nothing}
 use Rattle.world_model.specs.declared.lines.LinkEnd.{LinkEnd}
 use Rattle.world_model.specs.declared.lines.Wired.{Wired}
-use Rattle.world_model.specs.World.{Cables, WorldState, Happened, nothing, with_node, lines_at, step_at, step_place, steps, place_of, far_end, send_taken, send_at, send_over, send_place, sends, wire_place, deliver_at, deliver_to, deliver_frame, deliver_place, delivers, lose_frame, lose_place, loses, acted, happens}
+use Rattle.world_model.specs.World.{Cables, WorldState, Happened, nothing, lines_at, step_at, step_place, steps, place_of, far_end, send_taken, send_at, send_over, send_place, sends, wire_place, deliver_at, deliver_to, deliver_frame, deliver_place, delivers, lose_frame, lose_place, loses, acted, happens}
 use Rattle.world_routes.specs.Roads.{routing_in, NotRaw}
-use Rattle.world_routes.specs.Routes.{HasWay, FrameHasWay, IsRoutedAct, IsRouted}
-use Rattle.world_routes.proofs.Cut.{cut_frame, cut_queues, cut_node, cut_wired, cut, end_of, wiring, get_map, map_remove, contains_get, goes_over, PlaceOf, place_is}
+use Rattle.world_routes.specs.Routes.{FrameHasWay, IsRoutedAct, IsRouted}
+use Rattle.world_routes.proofs.Cut.{cut_frame, cut_node, cut_wired, cut, end_of, wiring, get_map, map_remove, contains_get, goes_over, place_is}
 use Rattle.world_routes.proofs.Steps.{IsDefault, StepKeeps, inject_keeps, tick_keeps, HopsOn, frame_keeps}
 use Rattle.world_routes.proofs.Holding.{WorldHolds, wire_way}
 

@@ -1,9 +1,9 @@
 -- What holds of routes in a network, from what holds of it cut down.
-use Rattle.std.proofs.Common.{◌≡◌, ◌≢◌, ℕ, zero, suc, ◌≤◌, ◌<◌, Bool, true, false, cond, not, eqb, Option, Some, None, List, [], ◌∷◌, refl, sym, ap, subst, ◌∙◌}
-use Rattle.std.specs.Prelude.{map, slice_get, All, Contains}
+use Rattle.std.proofs.Common.{◌≡◌, ◌≢◌, ℕ, ◌≤◌, Bool, true, false, cond, not, eqb, Option, Some, None, List, [], ◌∷◌, refl, sym, ap, subst, ◌∙◌, arith}
+use Rattle.std.specs.Prelude.{map, All, Contains}
 use Rattle.std.specs.Str.{bytes_eq}
 use Rattle.std.proofs.lemmas.Bool.Decides.{Decides-eqb}
-use Rattle.std.proofs.lemmas.List.Elements.{All-head, All-tail, All-weaker, All-contains, All-contains_itself}
+use Rattle.std.proofs.lemmas.List.Elements.{All-nil, All-cons, All-head, All-tail, All-weaker, All-contains, All-contains_itself}
 use Rattle.plan_base.specs.declared.ids.Host.{Host}
 use Rattle.plan_base.specs.declared.ids.Dev.{Dev}
 use Rattle.plan_base.specs.declared.tree.Packet.{Packet}
@@ -12,11 +12,11 @@ use Rattle.service_api.specs.declared.router.RouteRow.{RouteRow}
 use Rattle.service_api.specs.declared.router.Hop.TheVariants.{To, NoService}
 use Rattle.service_api.specs.Routes.{hop, hop_in, own_device, default_route}
 use Rattle.dv_routing.specs.Routing.{Routing, route, route_cost, cost, own_route, all_routes}
-use Rattle.dv_routing.specs.Laws.{HostsHold, LeadsBy}
+use Rattle.dv_routing.specs.Laws.{HostsHold}
 use Rattle.dv_routing.proofs.Best.{route_own}
 use Rattle.dv_routing.proofs.Costs.{same_host}
 use Rattle.dv_routing.proofs.Hops.{hop_leads, known_hops}
-use Rattle.route_laws.specs.Network.{Wiring, Parcel, Network, routings, routing_at, cost_at as cut_cost}
+use Rattle.route_laws.specs.Network.{routings, cost_at as cut_cost}
 use Rattle.route_laws.specs.Truths.{IsKnown, FrameTrue, RoutesHold as CutHolds, IsHop as CutHop}
 use Rattle.route_laws.specs.Walks as cut_walks
 use Rattle.route_laws.proofs.Walking as laws
@@ -102,10 +102,10 @@ far_peer links a d m e real leads = split (eqb d.0 0) refl leads
         none : ◌≡◌ {A = Option (Host × Dev)} None (Some (m, e)) → ⊥
         none h = cc
     peer (Some far) k =
-        let same : (far.host, far.dev) ≡ (m, e) = pair_is k in
+        let same : ◌≡◌ {A = Host × Dev} (far.host, far.dev) (m, e) = pair_is k in
         ap (λ p. let z : LinkEnd = record { host = p.0; dev = p.1 } in Some z) same
       where
-        pair_is : ◌≡◌ {A = Option (Host × Dev)} (Some (far.host, far.dev)) (Some (m, e)) → (far.host, far.dev) ≡ (m, e)
+        pair_is : ◌≡◌ {A = Option (Host × Dev)} (Some (far.host, far.dev)) (Some (m, e)) → ◌≡◌ {A = Host × Dev} (far.host, far.dev) (m, e)
         pair_is h = cc
 
     split : (t : Bool) → eqb d.0 0 ≡ t → end_of (cond t (Some (record { host = a; dev = d })) (peer_of links a d)) ≡ Some (m, e) → peer_of links a d ≡ Some (record { host = m; dev = e })
@@ -115,6 +115,24 @@ far_peer links a d m e real leads = split (eqb d.0 0) refl leads
 walk_of : (links : Cables) (b a : Host) (k : ℕ) → cut_walks.Walk (wiring links) b a k → Walk links b a k
 walk_of links b a k cut_walks.Here = Here
 walk_of links b a k (cut_walks.Along n d m e j real leads rest) = Along n d (record { host = m; dev = e }) j (far_peer links n d m e real leads) (walk_of links b m j rest)
+
+-- ---- hops
+
+by_default : (rows : List RouteRow) (name : List ℕ) (here x : Host) → bytes_eq name default_route ≡ true → hop rows name here x ≡ hop rows default_route here x
+unfolding hop
+by_default rows name here x e = ap (λ t. cond (not t) NoService (cond (eqb here.0 x.0) (To x own_device) (hop_in rows x))) e
+
+way_by : (nodes : List NodeState) (m : Host) (p : Packet) (r : Routing) (host : Host) (over : Dev) → routing_in nodes m ≡ Some r → r.here ≡ m → hop (all_routes r) p.route r.here p.dest ≡ To host over
+    → HasWay nodes m p
+way_by nodes m p r host over at here to =
+    let l = hop_leads r p.route p.dest host over to in
+    record {
+      routing = r;
+      here = at;
+      row = l.row;
+      by = l.by;
+      hops = sym (ap (λ n. hop (all_routes r) p.route n p.dest) here) ∙ (to ∙ (ap (λ n. To n over) (sym l.to) ∙ ap (λ d. To l.row.«next» d) (sym l.over)));
+    }
 
 -- ---- what holds
 
@@ -156,21 +174,11 @@ module _ (w : WorldState) (h : WorldHolds w) where
 
   -- a packet with a cost at a host has a route there, and its hop is that route
   way_of : (m : Host) (p : Packet) → bytes_eq p.route default_route ≡ true → IsKnown (cut_cost (routings (cut w)) m p.dest) → HasWay w.nodes m p
-  unfolding hop
   way_of m p default known =
       let c = cost_known w.nodes m p.dest known.0 (same_cost w m p.dest ∙ known.1) in
-      let r = c.routing in
-      let held = known_holds HostsHold w.nodes m r h.hosts c.at in
-      let far = known_hops r p.dest known.0 held.0 c.is in
-      let to : hop (all_routes r) p.route r.here p.dest ≡ To far.0 far.1 = ap (λ t. cond (not t) NoService (cond (eqb r.here.0 p.dest.0) (To p.dest own_device) (hop_in (all_routes r) p.dest))) default ∙ far.2 in
-      let l = hop_leads r p.route p.dest far.0 far.1 to in
-      record {
-        routing = r;
-        here = c.at;
-        row = l.row;
-        by = l.by;
-        hops = ap (λ n. hop (all_routes r) p.route n p.dest) (sym held.1) ∙ (to ∙ (ap (λ n. To n far.1) (sym l.to) ∙ ap (λ d. To l.row.«next» d) (sym l.over)));
-      }
+      let held = known_holds HostsHold w.nodes m c.routing h.hosts c.at in
+      let far = known_hops c.routing p.dest known.0 held.0 c.is in
+      way_by w.nodes m p c.routing far.0 far.1 c.at held.1 (by_default (all_routes c.routing) p.route c.routing.here p.dest default ∙ far.2)
 
   frame_way : (m : Host) (x : PlainFrame) → IsDefault x → FrameTrue (routings (cut w)) m (cut_frame x) → FrameHasWay w.nodes m x
   frame_way m (PlainFrame.Packet p) default known = way_of m p default known
@@ -178,7 +186,7 @@ module _ (w : WorldState) (h : WorldHolds w) where
   frame_way m (PlainFrame.Ask bound chunk) default known = tt
 
   map_all : {X Y : Type 0} (P : Y → Type 0) (f : X → Y) (xs : List X) → All P (map f xs) → All (λ x. P (f x)) xs
-  map_all P f [] all k d lt = absurd (omega (arith, lt))
+  map_all P f [] all = All-nil (λ y. P (f y))
   map_all P f (x ∷ xs) all = All-cons (λ y. P (f y)) x xs (All-head P (f x) (map f xs) all) (map_all P f xs (All-tail P (f x) (map f xs) all))
 
   pub wire_way : (x : Wired) → Contains w.wire x → FrameHasWay w.nodes x.to.host x.frame

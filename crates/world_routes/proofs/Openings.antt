@@ -1,11 +1,10 @@
 -- What holds of routes at the beginning of a network within the rules.
-use Rattle.std.proofs.Common.{◌≡◌, ◌≢◌, ℕ, zero, suc, ◌+◌, Bool, true, false, cond, eqb, Option, Some, None, List, [], ◌∷◌, ◌++◌, inl, inr, refl, sym, ap, ◌∙◌}
+use Rattle.std.proofs.Common.{◌≡◌, ◌≢◌, ℕ, zero, suc, ◌+◌, Bool, true, false, cond, eqb, Option, Some, None, List, [], ◌∷◌, inl, inr, refl, sym, ap, ◌∙◌, arith}
 use Rattle.std.specs.Prelude.{map, slice_get, position, ◌==◌, ◌||◌, All, Contains}
 use Rattle.std.proofs.lemmas.Bool.Decides.{Decides-eqb}
 use Rattle.std.proofs.lemmas.List.Elements.{All-nil, All-cons, All-append, All-map, All-weaker, All-contains, All-replicate, All-contains_itself}
 use Rattle.plan_base.specs.declared.ids.Host.{Host}
 use Rattle.plan_base.specs.declared.ids.Dev.{Dev}
-use Rattle.packet_frame.specs.declared.frame.PlainFrame.{PlainFrame}
 use Rattle.network_plan.specs.Hosts.{Cable, has_host}
 use Rattle.network_plan.specs.Rules.{KeepsLink, KeepsNetwork}
 use Rattle.network_plan.specs.declared.schedule.HostSpec.{HostSpec}
@@ -16,18 +15,17 @@ use Rattle.dv_routing.specs.Sorted.{sorted_into}
 use Rattle.dv_routing.proofs.Best.{first_or_later}
 use Rattle.dv_routing.proofs.Costs.{eqb_self}
 use Rattle.dv_routing.proofs.Sorting.{sorted_same}
-use Rattle.route_laws.specs.Network.{Wiring, Frame, Node, routings, routing_at}
+use Rattle.route_laws.specs.Network.{Frame, Node, routings, routing_at}
 use Rattle.route_laws.specs.Truths.{IsLinked, IsFresh, IsOpening}
 use Rattle.route_laws.proofs.Lookups.{all_get}
 use Rattle.route_laws.proofs.Walking.{opening_true}
-use Rattle.node_model.specs.State.{NodeState, routing_of, is_host, no_queues, new_node}
+use Rattle.node_model.specs.State.{routing_of, no_queues, new_node}
 use Rattle.node_model.specs.Fits.{QueuesKeep}
 use Rattle.node_laws.proofs.Keeping.{none_kept}
 use Rattle.world_model.specs.declared.lines.LinkEnd.{LinkEnd}
-use Rattle.world_model.specs.declared.lines.Wired.{Wired}
 use Rattle.world_model.specs.World.{Cables, has_end, is_on, other_end, peer_at, peer_of, far_end, neighbour_at, neighbours_to, opening_node, opening}
 use Rattle.world_routes.specs.Roads.{routing_in}
-use Rattle.world_routes.proofs.Cut.{cut_frame, cut_node, cut_wired, cut, end_of, wiring, same_routing}
+use Rattle.world_routes.proofs.Cut.{cut_frame, cut_node, cut, end_of, wiring, same_routing}
 use Rattle.world_routes.proofs.Steps.{IsDefault}
 use Rattle.world_routes.proofs.Holding.{WorldHolds}
 

@@ -1,5 +1,5 @@
 -- What a node's step queues and hears are moves; it keeps packets to the one routing function, and drops none for want of a route.
-use Rattle.std.proofs.Common.{◌≡◌, ℕ, Bool, true, false, cond, not, eqb, Option, Some, None, List, [], ◌∷◌, ◌++◌, length, inl, refl, sym, ap, subst, ◌∙◌}
+use Rattle.std.proofs.Common.{◌≡◌, ℕ, Bool, true, false, cond, not, eqb, Option, Some, None, List, [], ◌∷◌, ◌++◌, length, inl, refl, sym, ap, subst, ◌∙◌, arith}
 use Rattle.std.specs.Prelude.{map, slice_get, slice_set, nat_lt, ◌==◌, ◌&&◌, All, Contains}
 use Rattle.std.specs.Str.{bytes_eq}
 use Rattle.std.proofs.lemmas.Bool.{false≢true}
@@ -19,6 +19,8 @@ use Rattle.service_api.specs.Routes.{hop, default_route}
 use Rattle.service_api.specs.Services.{begun_now}
 use Rattle.plan_meaning.specs.declared.sent.Sent.{Sent}
 use Rattle.plan_meaning.specs.declared.stop.Stop.TheVariants.{Raised, WorkSpent, Wrong, NoMemory}
+use Rattle.plan_meaning.specs.Meaning as means
+use Rattle.plan_meaning.specs.Meaning.{meaning}
 use Rattle.plan_meaning.specs.Run.{After, gave, stopped}
 use Rattle.plan_meaning.specs.Visit.{allowance, begun}
 use Rattle.meaning_laws.specs.Laws.{left_by}
@@ -146,7 +148,8 @@ end_led P bound (stopped NoMemory s) h = All-nil P
 visit_is_led : (node : NodeState) (p : Packet) → All (IsLed node.here node.neighbours (all_routes (routing_of node))) (visit_at node p).outbox
 unfolding visit_of evaluated
 visit_is_led node p =
-    end_led (IsLed node.here node.neighbours (all_routes (routing_of node))) p.bound _
+    end_led (IsLed node.here node.neighbours (all_routes (routing_of node))) p.bound
+    (means.visited meaning p.chunk (begun allowance (around node p) p.family (begun_now node.services))).after
     (visit_led p.chunk (begun allowance (around node p) p.family (begun_now node.services)) refl)
 
 module _ (far : Wiring) where
