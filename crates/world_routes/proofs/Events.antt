@@ -28,6 +28,7 @@ use Rattle.world_model.specs.declared.lines.Line.TheVariants.{At, Wire, Off, Los
 use Rattle.world_model.specs.declared.lines.LinkEnd.{LinkEnd}
 use Rattle.world_model.specs.declared.lines.Wired.{Wired}
 use Rattle.world_model.specs.World.{Cables, WorldState, Happened, nothing, lines_at, step_at, step_place, steps, place_of, far_end, send_taken, send_at, send_over, send_place, sends, wire_place, deliver_at, deliver_to, deliver_frame, deliver_place, delivers, lose_frame, lose_place, loses, acted, happens}
+use Rattle.world_model.specs.Wires.{WireLeads}
 use Rattle.world_routes.specs.Roads.{routing_in, NotRaw}
 use Rattle.world_routes.specs.Routes.{FrameHasWay, IsRoutedAct, IsRouted}
 use Rattle.world_routes.proofs.Cut.{cut_frame, cut_node, cut_wired, cut, end_of, wiring, get_map, map_remove, contains_get, goes_over, place_is}
@@ -41,6 +42,7 @@ pub record EventKeeps (w : WorldState) (h : Happened) : Type 0 where
   pub hosts : All (λ node. HostsHold (routing_of node)) h.world.nodes
   pub queues : All (λ node. QueuesKeep IsDefault node.queues) h.world.nodes
   pub wire : All (λ x. IsDefault x.frame) h.world.wire
+  pub leads : WireLeads w.links h.world.wire
   pub lines : All IsRouted h.lines
 
 nothing_keeps : (w : WorldState) → WorldHolds w → EventKeeps w (nothing w)
@@ -50,6 +52,7 @@ nothing_keeps w h = record {
   hosts = h.hosts;
   queues = h.queues;
   wire = h.wire;
+  leads = h.leads;
   lines = All-cons IsRouted Nothing [] tt (All-nil IsRouted);
 }
 
@@ -91,6 +94,7 @@ step_at_keeps w h step at (Some node) s place get k =
           (hosts_stay node (step node).node stays (all_get (λ n. HostsHold (routing_of n)) w.nodes at node k.hosts get)) k.hosts;
       queues = All-set (λ n. QueuesKeep IsDefault n.queues) w.nodes at (step node).node one.queues k.queues;
       wire = k.wire;
+      leads = k.leads;
       lines = acts_routed h (step node).acts one.acts;
     }
 
@@ -128,6 +132,7 @@ send_first_keeps w h d at to node (Some (x ∷ queue)) leads place get e k =
       hosts = All-set (λ n. HostsHold (routing_of n)) w.nodes at new (let old = all_get (λ n. HostsHold (routing_of n)) w.nodes at node k.hosts get in record { here = old.here; near = old.near }) k.hosts;
       queues = All-set (λ n. QueuesKeep IsDefault n.queues) w.nodes at new t.rest k.queues;
       wire = All-push (λ y. IsDefault y.frame) w.wire wired k.wire t.frame;
+      leads = All-push (λ (y : Wired). far_end w.links y.from.host y.from.dev ≡ Some y.to) w.wire wired k.leads leads;
       lines = All-append IsRouted (lines_at h (Taken d (what_of x) ∷ [])) (Wire w.«next» (frame_bytes x) ∷ [])
           (acts_routed h (Taken d (what_of x) ∷ []) (All-cons IsRoutedAct (Taken d (what_of x)) [] tt (All-nil IsRoutedAct)))
           (All-cons IsRouted (Wire w.«next» (frame_bytes x)) [] tt (All-nil IsRouted));
@@ -191,6 +196,7 @@ deliver_at_keeps w place x at (Some node) on at_host get k =
           (hosts_stay node step.node (frame_stays node x.to.dev x.frame).node (all_get (λ n. HostsHold (routing_of n)) w.nodes at node k.hosts get)) k.hosts;
       queues = All-set (λ n. QueuesKeep IsDefault n.queues) w.nodes at step.node one.queues k.queues;
       wire = all_remove (λ y. IsDefault y.frame) w.wire place k.wire;
+      leads = all_remove (λ (y : Wired). far_end w.links y.from.host y.from.dev ≡ Some y.to) w.wire place k.leads;
       lines = All-cons IsRouted (Off x.number) (lines_at x.to.host step.acts) tt (acts_routed x.to.host step.acts one.acts);
     }
 
@@ -222,6 +228,7 @@ lose_frame_keeps w place (Some x) on k = record {
   hosts = k.hosts;
   queues = k.queues;
   wire = all_remove (λ y. IsDefault y.frame) w.wire place k.wire;
+  leads = all_remove (λ (y : Wired). far_end w.links y.from.host y.from.dev ≡ Some y.to) w.wire place k.leads;
   lines = All-cons IsRouted (Off x.number) (Lost (what_of x.frame) ∷ []) tt (All-cons IsRouted (Lost (what_of x.frame)) [] tt (All-nil IsRouted));
 }
 
@@ -250,7 +257,7 @@ acted_keeps w (Raw h d bytes) n k = absurd n
 pub event_keeps : (w : WorldState) (e : WorldEvent) → NotRaw e → WorldHolds w → EventKeeps w (happens w e)
 event_keeps w e n k =
     let a = acted_keeps w e n k in
-    record { links = a.links; goes = a.goes; hosts = a.hosts; queues = a.queues; wire = a.wire; lines = a.lines }
+    record { links = a.links; goes = a.goes; hosts = a.hosts; queues = a.queues; wire = a.wire; leads = a.leads; lines = a.lines }
 
 pub event_holds : (w : WorldState) (e : WorldEvent) → NotRaw e → WorldHolds w → WorldHolds (happens w e).world
 event_holds w e n k =
@@ -261,4 +268,5 @@ event_holds w e n k =
       hosts = a.hosts;
       queues = a.queues;
       wire = a.wire;
+      leads = let Q : Cables → Type 0 = λ links. WireLeads links (happens w e).world.wire in subst Q (sym a.links) a.leads;
     }

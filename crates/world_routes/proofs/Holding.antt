@@ -25,18 +25,20 @@ use Rattle.node_model.specs.Fits.{QueuesKeep}
 use Rattle.world_model.specs.declared.lines.LinkEnd.{LinkEnd}
 use Rattle.world_model.specs.declared.lines.Wired.{Wired}
 use Rattle.world_model.specs.World.{Cables, WorldState, peer_of, far_end}
-use Rattle.world_routes.specs.Roads.{routing_in, route_by, route_at, cost_at, Walk, Here, Along, IsReached, IsDist, IsHop}
+use Rattle.world_model.specs.Wires.{WireLeads}
+use Rattle.world_routes.specs.Roads.{routing_in, route_by, route_at, cost_at, Walk, Here, Along, IsReached, IsDist, IsHop, HopsOver}
 use Rattle.world_routes.specs.Routes.{LeadsDown, HasWay, FrameHasWay, RoutesHold}
 use Rattle.world_routes.proofs.Cut.{cut_frame, cut_wired, cut, end_of, wiring, same_routing, same_cost}
 use Rattle.world_routes.proofs.Steps.{IsDefault}
 
 -- the law of routes holds of the network cut down; nodes and neighbours are hosts of the network; packets go by the one routing
--- function
+-- function; frames on the wire lead to the other ends of their links
 pub record WorldHolds (w : WorldState) : Type 0 where
   pub routes : CutHolds (wiring w.links) (cut w)
   pub hosts : All (λ node. HostsHold (routing_of node)) w.nodes
   pub queues : All (λ node. QueuesKeep IsDefault node.queues) w.nodes
   pub wire : All (λ x. IsDefault x.frame) w.wire
+  pub leads : WireLeads w.links w.wire
 
 -- ---- looking up
 
@@ -72,6 +74,10 @@ route_known nodes n x row e = split (routing_in nodes n) refl e
     split : (o : Option Routing) → routing_in nodes n ≡ o → route_by x o ≡ Some row → RoutingOf nodes n x row
     split None h k = absurd (none k)
     split (Some r) h k = record { routing = r; at = h; here = (known_holds (λ s. Unit {0}) nodes n r (λ i d lt. tt) h).1; by = k }
+
+route_there : (nodes : List NodeState) (n x : Host) (r : Routing) (row : RouteRow) → routing_in nodes n ≡ Some r → route r x ≡ Some row → route_at nodes n x ≡ Some row
+unfolding route_at
+route_there nodes n x r row at by = ap (route_by x) at ∙ by
 
 -- the routing behind a cost
 record CostOf (nodes : List NodeState) (n x : Host) (c : ℕ) : Type 0 where
@@ -171,6 +177,22 @@ module _ (w : WorldState) (h : WorldHolds w) where
       let own : Some (own_route k.routing.here) ≡ Some row = sym (route_own k.routing) ∙ (ap (route k.routing) k.here ∙ k.by) in
       let is : own_route k.routing.here ≡ row = cc in
       (ap (λ r. r.dev.0) (sym is), ap (λ r. r.cost) (sym is))
+
+  -- a next hop is that of a route, whose device leads to its next host
+  pub record OverRoute (x n : Host) (d : Dev) : Type 0 where
+    pub row : RouteRow
+    pub hop : IsHop w x n row
+    pub end : Dev
+    pub leads : wiring w.links n d ≡ Some (row.«next», end)
+
+  pub held_over : (x n : Host) (d : Dev) → n ≢ x → HopsOver w x n d → OverRoute x n d
+  held_over x n d other o =
+      let here = (known_holds (λ s. Unit {0}) w.nodes n o.routing (λ i e lt. tt) o.here).1 in
+      let by : hop (all_routes o.routing) default_route o.routing.here x ≡ To o.to d = ap (λ m. hop (all_routes o.routing) default_route m x) here ∙ o.by in
+      let l = hop_leads o.routing default_route x o.to d by in
+      let is : IsHop w x n l.row = record { other = other; by = route_there w.nodes n x o.routing l.row o.here l.by } in
+      let leads = laws.hop_leads (wiring w.links) (cut w) x n l.row h.routes (cut_hop x n l.row is) in
+      record { row = l.row; hop = is; end = leads.end; leads = ap (wiring w.links n) (sym l.over) ∙ leads.leads }
 
   -- a packet with a cost at a host has a route there, and its hop is that route
   way_of : (m : Host) (p : Packet) → bytes_eq p.route default_route ≡ true → IsKnown (cut_cost (routings (cut w)) m p.dest) → HasWay w.nodes m p

@@ -23,6 +23,7 @@ use Rattle.node_model.specs.State.{routing_of, no_queues, new_node}
 use Rattle.node_model.specs.Fits.{QueuesKeep}
 use Rattle.node_laws.proofs.Keeping.{none_kept}
 use Rattle.world_model.specs.declared.lines.LinkEnd.{LinkEnd}
+use Rattle.world_model.specs.declared.lines.Wired.{Wired}
 use Rattle.world_model.specs.World.{Cables, has_end, is_on, other_end, peer_at, peer_of, far_end, neighbour_at, neighbours_to, opening_node, opening}
 use Rattle.world_routes.specs.Roads.{routing_in}
 use Rattle.world_routes.proofs.Cut.{cut_frame, cut_node, cut, end_of, wiring, same_routing}
@@ -193,4 +194,5 @@ opening_holds t k = record {
       (All-weaker (Contains t.hosts) (λ s. HostsHold (routing_of (opening_node t s))) (λ s among. node_hosts t s k among) t.hosts (All-contains_itself t.hosts));
   queues = All-map (λ n. QueuesKeep IsDefault n.queues) (opening_node t) t.hosts (λ i d lt. node_default t _);
   wire = All-nil (λ x. IsDefault x.frame);
+  leads = All-nil (λ (x : Wired). far_end t.links x.from.host x.from.dev ≡ Some x.to);
 }

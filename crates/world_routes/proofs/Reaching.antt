@@ -2,8 +2,9 @@
 use Rattle.std.proofs.Common.{◌≡◌, ℕ, ◌+◌, ◌≤◌, ◌<◌, Some, List, [], ◌∷◌, ◌++◌, refl, sym, ap, subst, ◌∙◌, arith, take, drop}
 use Rattle.std.specs.Prelude.{Option, All}
 use Rattle.std.proofs.lemmas.List.{take-append-drop}
-use Rattle.std.proofs.lemmas.List.Elements.{All-nil, All-head, All-tail, All-append, All-map, All-push, All-take, All-drop}
+use Rattle.std.proofs.lemmas.List.Elements.{All-nil, All-head, All-tail, All-append, All-map, All-push, All-take, All-drop, All-contains}
 use Rattle.plan_base.specs.declared.ids.Host.{Host}
+use Rattle.plan_base.specs.declared.ids.Dev.{Dev}
 use Rattle.network_plan.specs.Rules.{KeepsNetwork}
 use Rattle.network_plan.specs.declared.schedule.Topology.{Topology}
 use Rattle.network_plan.specs.declared.event.WorldEvent.{WorldEvent}
@@ -13,11 +14,12 @@ use Rattle.dv_routing.proofs.Rises.{at_most_some, no_rise_at}
 use Rattle.route_laws.specs.Network.{routings, cost_at as cut_cost, Goes, Stays}
 use Rattle.route_laws.proofs.Keep.{goes_rise}
 use Rattle.world_model.specs.declared.lines.Entry.{Entry}
-use Rattle.world_model.specs.World.{Cables, WorldState, happens, entry_at, entries, world_after, history_of, opening}
-use Rattle.world_routes.specs.Roads.{cost_at, IsDist, NotRaw, Way, Ends, Hops}
+use Rattle.world_model.specs.declared.lines.Wired.{Wired}
+use Rattle.world_model.specs.World.{Cables, WorldState, far_end, happens, entry_at, entries, world_after, history_of, opening}
+use Rattle.world_routes.specs.Roads.{cost_at, IsDist, NotRaw, Way, Ends, Hops, Journey, Rests, Rides}
 use Rattle.world_routes.specs.Routes.{Reached, RoutesHold, NoneRises, IsRouted, KeepsRoutes, RunKeepsRoutes}
-use Rattle.world_routes.proofs.Cut.{cut, wiring, same_cost, goes_over}
-use Rattle.world_routes.proofs.Holding.{WorldHolds, held_routes, held_fall, held_dist}
+use Rattle.world_routes.proofs.Cut.{cut, end_of, wiring, same_cost, goes_over}
+use Rattle.world_routes.proofs.Holding.{WorldHolds, held_routes, held_fall, held_dist, held_over}
 use Rattle.world_routes.proofs.Events.{event_keeps, event_holds}
 use Rattle.world_routes.proofs.Openings.{opening_holds}
 
@@ -25,12 +27,13 @@ use Rattle.world_routes.proofs.Openings.{opening_holds}
 
 record RunHolds (es : List WorldEvent) (w : WorldState) : Type 0 where
   holds : WorldHolds (world_after es w)
+  links : (world_after es w).links ≡ w.links
   goes : Goes (wiring w.links) (cut w) (cut (world_after es w))
   routed : All (λ e. IsRouted e.line) (history_of es w)
 
 run_holds : (es : List WorldEvent) (w : WorldState) → All NotRaw es → WorldHolds w → RunHolds es w
 unfolding world_after history_of entries
-run_holds [] w n k = record { holds = k; goes = Stays (cut w); routed = All-nil (λ e. IsRouted e.line) }
+run_holds [] w n k = record { holds = k; links = refl; goes = Stays (cut w); routed = All-nil (λ e. IsRouted e.line) }
 run_holds (e ∷ es) w n k =
     let inside = All-head NotRaw e es n in
     let one = event_keeps w e inside k in
@@ -40,6 +43,7 @@ run_holds (e ∷ es) w n k =
     let IsRight : Entry → Type 0 = λ x. IsRouted x.line in
     record {
       holds = more.holds;
+      links = more.links ∙ one.links;
       goes = goes_over (wiring w.links) (cut w) (cut after) (cut (world_after es after)) one.goes (subst P one.links more.goes);
       routed = All-append IsRight (entries w e) (history_of es after) (All-map IsRight (entry_at (w.made + 1)) (happens w e).lines one.lines) more.routed;
     }
@@ -130,3 +134,28 @@ way_short x w n k c h e (Hops v es m row j hop inside rest) =
 
 pub ways_short : (x : Host) (w : WorldState) (n : Host) (k c : ℕ) → Reached w → cost_at w.nodes n x ≡ Some c → Way x w n k → k ≤ c
 ways_short x w n k c r e way = way_short x w n k c (reached_is w r) e way
+
+-- ---- journeys
+
+first_is : (a b : Host) (d e : Dev) → ◌≡◌ {A = Option (Host × Dev)} (Some (a, d)) (Some (b, e)) → a ≡ b
+first_is a b d e same = ap (λ p. p.0) (pair_is same)
+  where
+    pair_is : ◌≡◌ {A = Option (Host × Dev)} (Some (a, d)) (Some (b, e)) → ◌≡◌ {A = Host × Dev} (a, d) (b, e)
+    pair_is z = cc
+
+-- frames go the way of the routes
+journey_way : (x : Host) (w : WorldState) (n : Host) (k : ℕ) → WorldHolds w → Journey x w n k → Way x w n k
+journey_way x w n k h (Rests v m) = Ends v m
+journey_way x w n k h (Rides v es m y j other over from packet inside on rest) =
+    let o = held_over v h x m y.from.dev other over in
+    let run = run_holds es v inside h in
+    let after = world_after es v in
+    let there = All-contains (λ (z : Wired). far_end after.links z.from.host z.from.dev ≡ Some z.to) after.wire y run.holds.leads on in
+    let arrives : wiring v.links m y.from.dev ≡ Some (y.to.host, y.to.dev) =
+    ap (λ i. wiring v.links i y.from.dev) (sym from) ∙ (ap (λ links. wiring links y.from.host y.from.dev) (sym run.links) ∙ ap end_of there) in
+    let same : o.row.«next» ≡ y.to.host = first_is o.row.«next» y.to.host o.end y.to.dev (sym o.leads ∙ arrives) in
+    let P : Host → Type 0 = λ i. Way x after i j in
+    Hops v es m o.row j o.hop inside (subst P (sym same) (journey_way x after y.to.host j run.holds rest))
+
+pub journeys_short : (x : Host) (w : WorldState) (n : Host) (k c : ℕ) → Reached w → cost_at w.nodes n x ≡ Some c → Journey x w n k → k ≤ c
+journeys_short x w n k c r e journey = let h = reached_is w r in way_short x w n k c h e (journey_way x w n k h journey)

@@ -1,13 +1,17 @@
 -- Routes and costs at the nodes of a network, walks along its links, and the ways that packets go by default routes.
-use Rattle.std.specs.Prelude.{◌≡◌, ◌≢◌, ℕ, zero, suc, ◌≤◌, if◌then◌else◌, List, [], ◌∷◌, Option, Some, None, All}
+use Rattle.std.specs.Prelude.{◌≡◌, ◌≢◌, ℕ, zero, suc, ◌≤◌, if◌then◌else◌, List, [], ◌∷◌, Option, Some, None, All, Contains}
 use Rattle.plan_base.specs.declared.ids.Host.{Host}
 use Rattle.plan_base.specs.declared.ids.Dev.{Dev}
+use Rattle.packet_frame.specs.declared.frame.PlainFrame.{PlainFrame}
 use Rattle.service_api.specs.declared.router.RouteRow.{RouteRow}
+use Rattle.service_api.specs.declared.router.Hop.TheVariants.{To}
+use Rattle.service_api.specs.Routes.{hop, default_route}
 use Rattle.network_plan.specs.declared.event.WorldEvent.{WorldEvent}
 use Rattle.network_plan.specs.declared.event.WorldEvent.TheVariants.{Raw}
-use Rattle.dv_routing.specs.Routing.{Routing, route, route_cost}
+use Rattle.dv_routing.specs.Routing.{Routing, route, route_cost, all_routes}
 use Rattle.node_model.specs.State.{NodeState, is_host, routing_of}
 use Rattle.world_model.specs.declared.lines.LinkEnd.{LinkEnd}
+use Rattle.world_model.specs.declared.lines.Wired.{Wired}
 use Rattle.world_model.specs.World.{Cables, WorldState, peer_of, world_after}
 
 -- ---- costs
@@ -61,3 +65,24 @@ pub record IsHop (w : WorldState) (x n : Host) (row : RouteRow) : Type 0 where
 pub data Way (x : Host) : WorldState → Host → ℕ → Type 0 where
   Ends : (w : WorldState) (n : Host) → Way x w n zero
   Hops : (w : WorldState) (es : List WorldEvent) (n : Host) (row : RouteRow) (k : ℕ) → IsHop w x n row → All NotRaw es → Way x (world_after es w) row.«next» k → Way x w n (suc k)
+
+-- ---- journeys
+
+-- the next hop for x at the node of n is over this device
+pub record HopsOver (w : WorldState) (x n : Host) (d : Dev) : Type 0 where
+  pub routing : Routing
+  pub here : routing_in w.nodes n ≡ Some routing
+  pub to : Host
+  pub by : hop (all_routes routing) default_route n x ≡ To to d
+
+abbrev pub IsPacketFor : Host → PlainFrame → Type 0
+IsPacketFor x (PlainFrame.Packet p) = p.dest ≡ x
+IsPacketFor x _ = ⊥
+
+-- a journey of packets for x, with the number of its hops: at each hop the node of n, which isn't x's, has its next hop for x over a
+-- device, some events later a frame that was sent over that device is on the wire with a packet for x, and the journey goes on where
+-- that frame is to arrive
+pub data Journey (x : Host) : WorldState → Host → ℕ → Type 0 where
+  Rests : (w : WorldState) (n : Host) → Journey x w n zero
+  Rides : (w : WorldState) (es : List WorldEvent) (n : Host) (y : Wired) (k : ℕ) → n ≢ x → HopsOver w x n y.from.dev → y.from.host ≡ n → IsPacketFor x y.frame → All NotRaw es
+      → Contains (world_after es w).wire y → Journey x (world_after es w) y.to.host k → Journey x w n (suc k)

@@ -4,7 +4,7 @@ ghost use Rattle.network_plan.specs.Rules.{KeepsNetwork};
 ghost use Rattle.network_plan.specs.declared.schedule.Topology.{Topology};
 ghost use Rattle.network_plan.specs.declared.event.WorldEvent.{WorldEvent};
 ghost use Rattle.world_model.specs.World.{WorldState, happens, opening};
-ghost use Rattle.world_routes.specs.Roads.{cost_at, IsDist, NotRaw, Way};
+ghost use Rattle.world_routes.specs.Roads.{cost_at, IsDist, NotRaw, Way, Journey};
 ghost use Rattle.world_routes.specs.Routes.{Reached, RoutesHold, KeepsRoutes, RunKeepsRoutes};
 
 /// A beginning within the rules is reached.
@@ -41,4 +41,10 @@ pub fn costs_are_distances()
 /// them.
 pub fn ways_are_short()
     ensures { (x : Host) (w : WorldState) (n : Host) (k c : ℕ) → Reached w → cost_at w.nodes n x ≡ Some c → Way x w n k → k ≤ c }
+{}
+
+/// So a packet that is sent to another host is queued at most as often as the cost says that was read at its sender: frame
+/// by frame, it comes over the links to hosts of lower and lower cost.
+pub fn journeys_are_short()
+    ensures { (x : Host) (w : WorldState) (n : Host) (k c : ℕ) → Reached w → cost_at w.nodes n x ≡ Some c → Journey x w n k → k ≤ c }
 {}
