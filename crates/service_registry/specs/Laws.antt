@@ -1,0 +1,12 @@
+-- The laws of services hold of a registry.
+use Rattle.service_api.specs.Services.{IsGoodServe, RefusesOthers}
+use Rattle.service_meaning.specs.Serving.{serve, offer}
+use Rattle.service_meaning.proofs.Goods.{serve_good}
+use Rattle.service_meaning.proofs.Refusals.{refuses}
+use Rattle.service_registry.specs.Held.{Held}
+
+pub registry_good : (h : Held) → IsGoodServe (serve h.there)
+registry_good h = serve_good h.there
+
+pub registry_refuses : (h : Held) → RefusesOthers (offer h.there)
+registry_refuses h = refuses h.there

@@ -1,0 +1,44 @@
+ghost use Rattle.std.specs.Prelude.{◌≡◌};
+ghost use Rattle.plan_base.specs.declared.tree.Ty.{Ty as AType};
+ghost use Rattle.service_api.specs.declared.ctx.Ctx.{Ctx as ACtx};
+ghost use Rattle.service_meaning.specs.Answers as spec;
+ghost use Rattle.service_registry.specs.Meets.{Tells};
+
+use crate::answers::{bad_index, refused};
+use crate::arguments::as_int;
+use plan_base::{NoMemory, Value};
+use service_api::{Answer, Note};
+use service_meaning::Service;
+use std::alloc::Global;
+
+/// `print`.
+pub fn print(alloc: Global, args: &[Value]) -> Result<Answer, NoMemory>
+    ensures { (a : AType) (ctx : ACtx) → Tells (spec.serve_as Service.Print a args.now ctx) result }
+{
+    match args {
+        [v] => Ok(Answer::Gives(Value::Unit, Some(Note::Print(v.copy(alloc)?)))),
+        _ => refused(alloc),
+    }
+}
+
+fn delivered(alloc: Global, port: i64, v: &Value) -> Result<Answer, NoMemory>
+    ensures { Tells (spec.delivered port v.now) result }
+{
+    match u16::try_from(port) {
+        Ok(port) => Ok(Answer::Gives(Value::Unit, Some(Note::Port(port, v.copy(alloc)?)))),
+        Err(_) => bad_index(alloc),
+    }
+}
+
+/// `deliver`.
+pub fn deliver(alloc: Global, args: &[Value]) -> Result<Answer, NoMemory>
+    ensures { (a : AType) (ctx : ACtx) → Tells (spec.serve_as Service.Deliver a args.now ctx) result }
+{
+    let [port, v] = args else {
+        return refused(alloc);
+    };
+    let Some(port) = as_int(port) else {
+        return refused(alloc);
+    };
+    delivered(alloc, port, v)
+}

@@ -1,0 +1,130 @@
+ghost use Rattle.std.specs.Prelude.{◌≡◌};
+ghost use Rattle.service_meaning.specs.Beginning.{present_without, opening_standing};
+ghost use Rattle.service_registry.specs.Held.{standing};
+ghost use Rattle.service_registry.specs.Laws.{registry_good, registry_refuses};
+
+use crate::offered::offered;
+use crate::serving::served;
+use crate::there::There;
+use crate::types::type_of;
+use plan_base::{Name, NoMemory, Svc, Values};
+use resident_tables::{Overlay, Tables};
+use service_api::{Answer, Ctx, PackageName, Scheme, Services};
+use std::alloc::Global;
+use std::marker::Model;
+
+/// The services of the packages `net`, `resident` and `host` over a node's table.
+///
+/// The changes of a visit stand in a layer over the table, so that nothing is copied when a `begin` is opened.
+#[derive(Drop)]
+pub struct Registry {
+    there: There,
+    tables: Tables,
+    /// The changes since `begin`, while one is open.
+    changes: Option<Overlay>,
+    /// Whether there is room to keep the changes.
+    is_ready: bool,
+}
+
+impl Model for Registry {
+    ghost use Rattle.service_api.specs.Services.{AreGoodRows};
+    ghost use Rattle.service_registry.specs.Held.{Held, held_code, held, rows_of, IsKept};
+
+    ghost Value = { Held };
+
+    ghost coded = { held_code };
+
+    ghost use Rattle.service_registry.specs.There.{present_of};
+
+    ghost view = { λ r. held (present_of r.there) r.tables r.changes r.is_ready };
+
+    ghost invariant = { λ r. AreGoodRows (rows_of r.tables) × IsKept r.tables r.changes r.is_ready };
+}
+
+impl Registry {
+    /// The packages but for `missing`, without rows; no `begin` is open. Takes no memory.
+    pub fn new(alloc: Global, missing: &[PackageName]) -> Registry
+        ensures { standing result ≡ opening_standing (present_without missing.now) }
+    {
+        Registry {
+            there: There::without(missing),
+            tables: Tables::new(alloc),
+            changes: None,
+            is_ready: false,
+        }
+    }
+}
+
+impl Services for Registry {
+    ghost stands = { standing };
+
+    ghost good = { registry_good };
+
+    ghost refuses = { registry_refuses };
+
+    fn scheme(&self, alloc: Global, name: &Name) -> Result<Option<Scheme>, NoMemory> {
+        match offered(self.there, name) {
+            Some(service) => Ok(Some(type_of(alloc, service)?)),
+            None => Ok(None),
+        }
+    }
+
+    fn call(
+        &mut self,
+        alloc: Global,
+        svc: &Svc,
+        args: &Values,
+        ctx: &Ctx,
+    ) -> Result<Answer, NoMemory> {
+        let Some(mut changes) = self.changes.take() else {
+            unreachable!()
+        };
+        let answer = served(
+            alloc,
+            self.there,
+            &self.tables,
+            &mut changes,
+            svc,
+            args.as_slice(),
+            ctx,
+        );
+        self.changes = Some(changes);
+        self.is_ready = false;
+        answer
+    }
+
+    fn begin(&mut self, alloc: Global) -> Result<(), NoMemory> {
+        self.changes = Some(Overlay::new(alloc, self.tables.next_key()));
+        self.is_ready = false;
+        Ok(())
+    }
+
+    fn ready(&mut self, alloc: Global) -> Result<(), NoMemory> {
+        let _unused = alloc;
+        let Some(changes) = self.changes.take() else {
+            unreachable!()
+        };
+        let reserved = self.tables.reserve(&changes);
+        self.changes = Some(changes);
+        reserved?;
+        self.is_ready = true;
+        Ok(())
+    }
+
+    fn keep(&mut self) {
+        let Some(changes) = self.changes.take() else {
+            unreachable!()
+        };
+        self.tables.commit(changes);
+        self.is_ready = false;
+    }
+
+    fn abandon(&mut self) {
+        self.changes = None;
+        self.is_ready = false;
+    }
+
+    fn expire(&mut self, now: u64) {
+        self.tables.expire(now);
+    }
+}

@@ -1,0 +1,87 @@
+ghost use Rattle.std.specs.Prelude.{◌≡◌, IfOk, None};
+ghost use Rattle.resident_tables.specs.Layers.{IsOver};
+ghost use Rattle.service_api.specs.Schemes.{instance};
+ghost use Rattle.service_meaning.specs.Answers as spec;
+ghost use Rattle.service_meaning.specs.Offered as offered;
+ghost use Rattle.service_meaning.specs.Serving.{serve};
+ghost use Rattle.service_registry.specs.Held.{rows_over};
+ghost use Rattle.service_registry.specs.Meets.{Meets};
+ghost use Rattle.service_registry.specs.There.{present_of};
+
+use crate::answers::refused;
+use crate::host::{deliver, print};
+use crate::net::{get_dist, get_neighbors, get_rb, get_source, next_hop, this_host, this_host_is};
+use crate::offered::offered;
+use crate::resident::{generate_key, get, put, remove};
+use crate::there::There;
+use crate::types::type_of;
+use plan_base::{NoMemory, Svc, Ty, Value};
+use resident_tables::{Overlay, Tables};
+use service_api::{Answer, Ctx, instance};
+use service_meaning::Service;
+use std::alloc::Global;
+
+/// What the service answers where its declaration takes `Any` at the type `a`. Condition: the changes were used over
+/// `base` alone.
+fn served_as(
+    alloc: Global,
+    base: &Tables,
+    changes: &mut Overlay,
+    service: Service,
+    a: &Ty,
+    args: &[Value],
+    ctx: &Ctx,
+) -> Result<Answer, NoMemory>
+    requires { IsOver base.now.rows changes.old }
+    ensures meets { Meets (spec.serve_as service a.now args.now ctx.entry.now (rows_over base.now changes.old)) (rows_over base.now changes.old) result (rows_over base.now changes.new) }
+    ensures over { IsOver base.now.rows changes.new }
+{
+    match service {
+        Service::ThisHost => this_host(alloc, args, ctx),
+        Service::ThisHostIs => this_host_is(alloc, args, ctx),
+        Service::GetRb => get_rb(alloc, args, ctx),
+        Service::GetSource => get_source(alloc, args, ctx),
+        Service::GetNeighbors => get_neighbors(alloc, args, ctx),
+        Service::GetDist => get_dist(alloc, args, ctx),
+        Service::NextHop => next_hop(alloc, args, ctx),
+        Service::Put => put(alloc, base, changes, a, args, ctx),
+        Service::Get => get(alloc, base, changes, a, args, ctx),
+        Service::Remove => remove(alloc, base, changes, a, args, ctx),
+        Service::GenerateKey => generate_key(alloc, changes, args),
+        Service::Print => print(alloc, args),
+        Service::Deliver => deliver(alloc, args),
+    }
+}
+
+/// The type that the declaration takes for `Any`, or `None` where it is no instance of the service's type.
+fn taken(alloc: Global, service: Service, svc: &Svc) -> Result<Option<Ty>, NoMemory>
+    ensures { IfOk result (λ t. t ≡ instance (offered.type_of service) svc.now) }
+{
+    let scheme = type_of(alloc, service)?;
+    instance(alloc, &scheme, svc)
+}
+
+/// What a call answers where these packages are there. Condition: the changes were used over `base` alone.
+#[tactic(auto, unfolding(service_meaning::specs::Serving::serve))]
+pub fn served(
+    alloc: Global,
+    there: There,
+    base: &Tables,
+    changes: &mut Overlay,
+    svc: &Svc,
+    args: &[Value],
+    ctx: &Ctx,
+) -> Result<Answer, NoMemory>
+    requires { IsOver base.now.rows changes.old }
+    ensures meets { Meets (serve (present_of there) svc.now args.now ctx.entry.now (rows_over base.now changes.old)) (rows_over base.now changes.old) result (rows_over base.now changes.new) }
+    ensures over { IsOver base.now.rows changes.new }
+{
+    let Some(service) = offered(there, &svc.name) else {
+        return refused(alloc);
+    };
+    let found = taken(alloc, service, svc)?;
+    match &found {
+        Some(a) => served_as(alloc, base, changes, service, a, args, ctx),
+        None => refused(alloc),
+    }
+}
