@@ -1,86 +1,57 @@
--- What a registry stands for after each of its calls, and what it keeps.
-use Rattle.std.proofs.Common.{◌≡◌, ℕ, ℤ, ◌≤◌, Bool, true, false, List, [], length, Option, Some, None, Result, Ok, Err, IfOk, refl, sym, ap, subst, ◌∙◌}
+-- What a registry keeps and stands for after a call and after a tick.
+use Rattle.std.proofs.Common.{◌≡◌, ℕ, ℤ, ◌≤◌, Bool, List, length, Option, Some, None, Result, Ok, Err, sym, ap, ◌∙◌, subst}
+use Rattle.std.proofs.lemmas.List.Elements.{All-filter}
 use Rattle.plan_base.specs.declared.memory.NoMemory.{NoMemory}
 use Rattle.plan_base.specs.declared.tree.Svc.{Svc}
+use Rattle.plan_base.specs.declared.tree.Ty.{Ty}
 use Rattle.plan_base.specs.declared.tree.Value.{Value}
 use Rattle.table_rows.specs.declared.row.Row.{Row}
-use Rattle.table_rows.specs.Rows.{living}
+use Rattle.table_rows.specs.Rows.{is_live, living}
+use Rattle.resident_tables.proofs.Limits.{living_fits}
 use Rattle.resident_tables.specs.Tables.{Table}
-use Rattle.resident_tables.specs.Layers.{Layer, over, put_all, without_all, IsOver, room_of}
+use Rattle.resident_tables.specs.Layers.{Layer}
 use Rattle.service_api.specs.declared.answer.Answer.{Answer}
 use Rattle.service_api.specs.declared.ctx.Ctx.{Ctx}
-use Rattle.service_api.specs.Services.{Rows, Served, Standing, Answers, AreGoodRows, AreGoodValues, begun_now, made_ready, kept, abandoned, expired, called, served}
-use Rattle.service_meaning.specs.Offered.{Present}
-use Rattle.service_meaning.specs.Serving.{serve, offer}
+use Rattle.service_api.specs.Services.{Rows, Served, IsGoodValue, AreGoodRows, AreGoodValues, refused}
+use Rattle.service_api.specs.Schemes.{instance}
+use Rattle.service_meaning.specs.declared.service.Service.{Service}
+use Rattle.service_meaning.specs.Offered.{Present, offered, type_of}
+use Rattle.service_meaning.specs.Serving.{serve, serve_at, serve_offered}
 use Rattle.service_meaning.proofs.Goods.{serve_good}
-use Rattle.service_registry.specs.Held.{Held, standing, held, rows_of, rows_over, rows_begun, rows_now, IsOpen, IsKept}
+use Rattle.service_registry.specs.Held.{rows_of, rows_begun, IsKept}
 use Rattle.service_registry.specs.Meets.{Meets}
-use Rattle.service_registry.proofs.Living.{living_good}
-
-rows_path : (xs ys : List Row) (a b : ℤ) → xs ≡ ys → a ≡ b → record { rows = xs; «next» = a } ≡ {A = Rows} record { rows = ys; «next» = b }
-rows_path xs ys a b e f = λ i. record { rows = e i; «next» = f i }
 
 -- ---- a call
+
+pub served_none : (p : Present) (svc : Svc) (args : List Value) (ctx : Ctx) (rows : Rows) → None ≡ offered p svc.name → serve p svc args ctx rows ≡ refused rows
+unfolding serve
+served_none p svc args ctx rows e = ap (λ (o : Option Service). serve_offered o svc args ctx rows) (sym e)
+
+pub served_some : (p : Present) (svc : Svc) (args : List Value) (ctx : Ctx) (rows : Rows) (s : Service) (t : Option Ty) → Some s ≡ offered p svc.name → t ≡ instance (type_of s) svc → serve p svc args ctx rows ≡ serve_at t s args ctx rows
+unfolding serve
+served_some p svc args ctx rows s t e f = ap (λ (o : Option Service). serve_offered o svc args ctx rows) (sym e) ∙ ap (λ (u : Option Ty). serve_at u s args ctx rows) (sym f)
 
 pub meets_good : (p : Present) (svc : Svc) (args : List Value) (ctx : Ctx) (old new : Rows) (r : Result Answer NoMemory) → Meets (serve p svc args ctx old) old r new → AreGoodRows old → AreGoodValues svc.params args → length ctx.neighbours ≤ 8 → AreGoodRows new
 meets_good p svc args ctx old new (Ok a) e g ga near = subst (λ (s : Served). AreGoodRows s.rows) e (serve_good p svc args ctx old g ga near).rows
 meets_good p svc args ctx old new (Err x) e g ga near = subst AreGoodRows (sym e) g
 
-pub meets_answers : (p : Present) (t : Table) (svc : Svc) (args : List Value) (ctx : Ctx) (o l : Layer) (b : Bool) (r : Result Answer NoMemory) → Meets (serve p svc args ctx (rows_over t o)) (rows_over t o) r (rows_over t l) → IfOk r (λ a. Answers (standing (held p t (Some o) b)) svc args ctx a (standing (held p t (Some l) false)))
-meets_answers p t svc args ctx o l b (Ok a) e = (ap (λ (s : Served). s.answer) e, ap (λ (s : Served). called s.rows (standing (held p t (Some o) b))) (sym e))
-meets_answers p t svc args ctx o l b (Err x) e = tt
+-- ---- a tick
 
--- ---- begin
+living_good : (now : ℕ) (rows : Rows) → AreGoodRows rows → AreGoodRows (record rows { rows = living now rows.rows })
+living_good now rows h = record {
+  values = All-filter (is_live now) (λ x. IsGoodValue x.ty x.value) rows.rows h.values;
+  room = living_fits now rows.rows h.room;
+  least = h.least;
+  greatest = h.greatest;
+}
 
-over_nothing : (t : Table) (o : Layer) → (o.gone ≡ []) × (o.puts ≡ []) → over t.rows o ≡ t.rows
-over_nothing t o n = λ i. put_all (n.1 i) (without_all (n.0 i) t.rows)
-
-pub begun_rows : (t : Table) (o : Layer) → (o.gone ≡ []) × (o.puts ≡ []) → o.«next» ≡ t.«next» → rows_over t o ≡ rows_of t
-begun_rows t o n e = rows_path (over t.rows o) t.rows o.«next» t.«next» (over_nothing t o n) e
-
-pub begun_is : (p : Present) (t : Table) (c : Option Layer) (b : Bool) (o : Layer) → rows_begun t c ≡ None → (o.gone ≡ []) × (o.puts ≡ []) → o.«next» ≡ t.«next» → standing (held p t (Some o) false) ≡ begun_now (standing (held p t c b))
-begun_is p t None b o h n e = ap (λ (r : Rows). record { offer = offer p; rows = r; begun = Some (rows_of t); ready = false }) (begun_rows t o n e)
-begun_is p t (Some l) b o h n e = absurd cc
-
--- ---- keep and abandon
-
-pub kept_is : (p : Present) (t u : Table) (o : Layer) (b : Bool) → u.rows ≡ over t.rows o → u.«next» ≡ o.«next» → standing (held p u None false) ≡ kept (standing (held p t (Some o) b))
-kept_is p t u o b e f = ap (λ (r : Rows). record { offer = offer p; rows = r; begun = None; ready = false }) (rows_path u.rows (over t.rows o) u.«next» o.«next» e f)
-
-pub kept_good : (t u : Table) (o : Layer) → u.rows ≡ over t.rows o → u.«next» ≡ o.«next» → AreGoodRows (rows_over t o) → AreGoodRows (rows_of u)
-kept_good t u o e f g = subst AreGoodRows (sym (rows_path u.rows (over t.rows o) u.«next» o.«next» e f)) g
-
-pub abandoned_is : (p : Present) (t : Table) (c : Option Layer) (b : Bool) → standing (held p t None false) ≡ abandoned (standing (held p t c b))
-abandoned_is p t None b = refl
-abandoned_is p t (Some o) b = refl
-
--- ---- ready
-
-module _ (t u : Table) (e : u.rows ≡ t.rows) (f : u.«next» ≡ t.«next») where
-  pub same_rows : rows_of u ≡ rows_of t
-  same_rows = rows_path u.rows t.rows u.«next» t.«next» e f
-
-  same_over : (o : Layer) → rows_over u o ≡ rows_over t o
-  same_over o = ap (λ (xs : List Row). record { rows = over xs o; «next» = o.«next» }) e
-
-  pub same_held : (p : Present) (o : Layer) (b : Bool) → held p u (Some o) b ≡ held p t (Some o) b
-  same_held p o b = λ i. record { there = p; rows = same_over o i; begun = Some (same_rows i); ready = b }
-
-  pub same_open : (o : Layer) (b d : Bool) → IsOpen t o b → (d ≡ true → room_of o ≤ u.spare) → IsOpen u o d
-  same_open o b d h r = record {
-    base = subst (λ (xs : List Row). IsOver xs o) (sym e) h.base;
-    good = subst AreGoodRows (sym (same_over o)) h.good;
-    room = r;
-  }
-
--- ---- expire
-
-pub expired_is : (p : Present) (t u : Table) (c : Option Layer) (b : Bool) (now : ℕ) → rows_begun t c ≡ None → u.rows ≡ living now t.rows → u.«next» ≡ t.«next» → standing (held p u c b) ≡ expired now (standing (held p t c b))
-expired_is p t u None b now h e f = ap (λ (r : Rows). record { offer = offer p; rows = r; begun = None; ready = b }) (rows_path u.rows (living now t.rows) u.«next» t.«next» e f)
-expired_is p t u (Some o) b now h e f = absurd cc
+abbrev with_rows : List Row → ℤ → Rows
+with_rows rows «next» = record { rows = rows; «next» = «next» }
 
 pub expired_good : (t u : Table) (now : ℕ) → u.rows ≡ living now t.rows → u.«next» ≡ t.«next» → AreGoodRows (rows_of t) → AreGoodRows (rows_of u)
-expired_good t u now e f g = subst AreGoodRows (sym (rows_path u.rows (living now t.rows) u.«next» t.«next» e f)) (living_good now (rows_of t) g)
+expired_good t u now e f g =
+    let h = living_good now (rows_of t) g in
+    subst (λ (xs : List Row). AreGoodRows (with_rows xs u.«next»)) (sym e) (subst (λ (z : ℤ). AreGoodRows (with_rows (living now t.rows) z)) (sym f) h)
 
 pub expired_kept : (t u : Table) (c : Option Layer) (b : Bool) → rows_begun t c ≡ None → IsKept t c b → IsKept u c b
 expired_kept t u None b h k = k

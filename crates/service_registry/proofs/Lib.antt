@@ -1,3 +1,3 @@
-pub mod Reads
-pub mod Living
+pub mod ArgumentReads
+pub mod Puts
 pub mod Kept

@@ -1,4 +1,3 @@
-ghost use Rattle.std.specs.Prelude.{◌≡◌};
 ghost use Rattle.plan_base.specs.declared.tree.Ty.{Ty as AType};
 ghost use Rattle.service_api.specs.declared.ctx.Ctx.{Ctx as ACtx};
 ghost use Rattle.service_meaning.specs.Answers as spec;

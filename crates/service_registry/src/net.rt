@@ -1,7 +1,7 @@
 ghost use Rattle.std.specs.Prelude.{◌≡◌, IfOk, map};
 ghost use Rattle.plan_base.specs.declared.tree.Ty.{Ty as AType};
 ghost use Rattle.plan_base.specs.declared.tree.Value.TheVariants as value;
-ghost use Rattle.service_api.specs.Routes as routes;
+ghost use Rattle.service_api.specs.Routes as hops;
 ghost use Rattle.service_meaning.specs.Answers as spec;
 ghost use Rattle.service_meaning.specs.Offered as offered;
 ghost use Rattle.service_registry.specs.Meets.{Tells};
@@ -21,7 +21,7 @@ pub fn this_host(alloc: Global, args: &[Value], ctx: &Ctx) -> Result<Answer, NoM
 {
     match args {
         [] => Ok(Answer::Gives(Value::Host(ctx.here), None)),
-        _ => refused(alloc),
+        [_, ..] => refused(alloc),
     }
 }
 
@@ -44,7 +44,7 @@ pub fn get_rb(alloc: Global, args: &[Value], ctx: &Ctx) -> Result<Answer, NoMemo
 {
     match args {
         [] => Ok(Answer::Gives(Value::Int(i64::from(ctx.purse)), None)),
-        _ => refused(alloc),
+        [_, ..] => refused(alloc),
     }
 }
 
@@ -54,7 +54,7 @@ pub fn get_source(alloc: Global, args: &[Value], ctx: &Ctx) -> Result<Answer, No
 {
     match args {
         [] => Ok(Answer::Gives(Value::Host(ctx.source), None)),
-        _ => refused(alloc),
+        [_, ..] => refused(alloc),
     }
 }
 
@@ -91,7 +91,7 @@ pub fn get_neighbors(alloc: Global, args: &[Value], ctx: &Ctx) -> Result<Answer,
 {
     match args {
         [] => neighbours(alloc, ctx),
-        _ => refused(alloc),
+        [_, ..] => refused(alloc),
     }
 }
 
@@ -144,7 +144,7 @@ fn hop_answer(alloc: Global, hop: Hop) -> Result<Answer, NoMemory>
 
 #[tactic(auto, unfolding(plan_base::specs::Words::is_name, plan_base::specs::Words::is_word, plan_base::specs::Words::is_reserved))]
 fn default_route(alloc: Global) -> Result<Name, NoMemory>
-    ensures { IfOk result (λ n. n ≡ routes.default_route) }
+    ensures { IfOk result (λ n. n ≡ hops.default_route) }
 {
     Name::of(alloc, b"defaultRoute")
 }

@@ -30,16 +30,17 @@ pub fn put(
     ensures meets { Meets (spec.serve_as Service.Put a.now args.now ctx.entry.now (rows_over base.now changes.old)) (rows_over base.now changes.old) result (rows_over base.now changes.new) }
     ensures over { IsOver base.now.rows changes.new }
 {
-    let [name, number, value, life] = args else {
+    if args.len() != 4 {
+        return refused(alloc);
+    }
+    let Some(name) = as_text(&args[0]) else {
         return refused(alloc);
     };
-    let Some(name) = as_text(name) else {
+    let Some(number) = as_int(&args[1]) else {
         return refused(alloc);
     };
-    let Some(number) = as_int(number) else {
-        return refused(alloc);
-    };
-    let Some(life) = as_int(life) else {
+    let value = &args[2];
+    let Some(life) = as_int(&args[3]) else {
         return refused(alloc);
     };
     if life < 1 {
@@ -64,13 +65,13 @@ pub fn get(
 ) -> Result<Answer, NoMemory>
     ensures { Meets (spec.serve_as Service.Get a.now args.now ctx.entry.now (rows_over base.now changes.now)) (rows_over base.now changes.now) result (rows_over base.now changes.now) }
 {
-    let [name, number] = args else {
+    if args.len() != 2 {
+        return refused(alloc);
+    }
+    let Some(name) = as_text(&args[0]) else {
         return refused(alloc);
     };
-    let Some(name) = as_text(name) else {
-        return refused(alloc);
-    };
-    let Some(number) = as_int(number) else {
+    let Some(number) = as_int(&args[1]) else {
         return refused(alloc);
     };
     match changes.get(alloc, base, name, number, a, ctx.now) {
@@ -93,13 +94,13 @@ pub fn remove(
     ensures meets { Meets (spec.serve_as Service.Remove a.now args.now ctx.entry.now (rows_over base.now changes.old)) (rows_over base.now changes.old) result (rows_over base.now changes.new) }
     ensures over { IsOver base.now.rows changes.new }
 {
-    let [name, number] = args else {
+    if args.len() != 2 {
+        return refused(alloc);
+    }
+    let Some(name) = as_text(&args[0]) else {
         return refused(alloc);
     };
-    let Some(name) = as_text(name) else {
-        return refused(alloc);
-    };
-    let Some(number) = as_int(number) else {
+    let Some(number) = as_int(&args[1]) else {
         return refused(alloc);
     };
     changes.remove(alloc, base, name, number)?;
@@ -127,6 +128,6 @@ pub fn generate_key(
 {
     match args {
         [] => fresh_key(alloc, changes),
-        _ => refused(alloc),
+        [_, ..] => refused(alloc),
     }
 }

@@ -3,7 +3,7 @@ ghost use Rattle.resident_tables.specs.Layers.{IsOver};
 ghost use Rattle.service_api.specs.Schemes.{instance};
 ghost use Rattle.service_meaning.specs.Answers as spec;
 ghost use Rattle.service_meaning.specs.Offered as offered;
-ghost use Rattle.service_meaning.specs.Serving.{serve};
+ghost use Rattle.service_meaning.specs.Serving.{serve, serve_at};
 ghost use Rattle.service_registry.specs.Held.{rows_over};
 ghost use Rattle.service_registry.specs.Meets.{Meets};
 ghost use Rattle.service_registry.specs.There.{present_of};
@@ -61,6 +61,27 @@ fn taken(alloc: Global, service: Service, svc: &Svc) -> Result<Option<Ty>, NoMem
     instance(alloc, &scheme, svc)
 }
 
+/// What the service answers at the type that its declaration takes for `Any`, and a refusal where the declaration is
+/// no instance. Condition: the changes were used over `base` alone.
+fn served_at(
+    alloc: Global,
+    base: &Tables,
+    changes: &mut Overlay,
+    service: Service,
+    found: &Option<Ty>,
+    args: &[Value],
+    ctx: &Ctx,
+) -> Result<Answer, NoMemory>
+    requires { IsOver base.now.rows changes.old }
+    ensures meets { Meets (serve_at found.now service args.now ctx.entry.now (rows_over base.now changes.old)) (rows_over base.now changes.old) result (rows_over base.now changes.new) }
+    ensures over { IsOver base.now.rows changes.new }
+{
+    match found {
+        Some(a) => served_as(alloc, base, changes, service, a, args, ctx),
+        None => refused(alloc),
+    }
+}
+
 /// What a call answers where these packages are there. Condition: the changes were used over `base` alone.
 #[tactic(auto, unfolding(service_meaning::specs::Serving::serve))]
 pub fn served(
@@ -80,8 +101,5 @@ pub fn served(
         return refused(alloc);
     };
     let found = taken(alloc, service, svc)?;
-    match &found {
-        Some(a) => served_as(alloc, base, changes, service, a, args, ctx),
-        None => refused(alloc),
-    }
+    served_at(alloc, base, changes, service, &found, args, ctx)
 }

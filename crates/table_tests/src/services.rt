@@ -1,4 +1,4 @@
-ghost use Rattle.std.specs.Prelude.{◌≡◌, ◌≤◌, length, None, IsSome, OnOk};
+ghost use Rattle.std.specs.Prelude.{◌≡◌, ◌≤◌, length, None, IfOk, IsSome, OnOk};
 ghost use Rattle.service_registry.specs.Held.{standing};
 
 use chunk_types::{CheckedPacket, chunk_of};
@@ -93,12 +93,12 @@ fn shown(alloc: Global, visit: &Visit) -> Result<Bytes, Fail> {
     Ok(out)
 }
 
-/// Keeps what the visit did, or undoes it where its work is spent.
-fn settle(alloc: Global, registry: &mut Registry, outcome: &Outcome) -> Result<(), Fail>
+/// Keeps what the visit did, or undoes it.
+fn settle(alloc: Global, registry: &mut Registry, is_kept: bool) -> Result<(), Fail>
     requires { IsSome (standing registry.old).begun }
     ensures { OnOk result ((standing registry.new).begun ≡ None) }
 {
-    if matches!(outcome, Outcome::WorkSpent) {
+    if !is_kept {
         registry.abandon();
         return Ok(());
     }
@@ -107,8 +107,14 @@ fn settle(alloc: Global, registry: &mut Registry, outcome: &Outcome) -> Result<(
     Ok(())
 }
 
-/// What the visit of a program's function `f` at a tick shows.
-fn visited(alloc: Global, registry: &mut Registry, now: u64, text: &[u8]) -> Result<Bytes, Fail>
+/// What the visit of a program's function `f` at a tick shows; it is kept or undone.
+fn visited(
+    alloc: Global,
+    registry: &mut Registry,
+    is_kept: bool,
+    now: u64,
+    text: &[u8],
+) -> Result<Bytes, Fail>
     requires text { length text.now ≤ 65536 }
     requires closed { (standing registry.old).begun ≡ None }
     ensures { OnOk result ((standing registry.new).begun ≡ None) }
@@ -117,39 +123,117 @@ fn visited(alloc: Global, registry: &mut Registry, now: u64, text: &[u8]) -> Res
     let ctx = around(alloc, &packet, now)?;
     registry.begin(alloc)?;
     let visit = visit(alloc, &packet, registry, &ctx)?;
-    settle(alloc, registry, &visit.outcome)?;
+    settle(alloc, registry, is_kept)?;
     shown(alloc, &visit)
 }
 
 // Programs, each visited at tick 0 on a node of its own, and what they show.
 static CALLS: [(&[u8], &[u8]); 27] = [
-    (b"svc thisHost : () -> host fun f() : host = thisHost()", b"@1"),
-    (b"svc thisHostIs : (host) -> bool fun f() : bool * bool = (thisHostIs(@1), thisHostIs(@2))", b"(true, false)"),
+    (
+        b"svc thisHost : () -> host fun f() : host = thisHost()",
+        b"@1",
+    ),
+    (
+        b"svc thisHostIs : (host) -> bool fun f() : (bool * bool) = (thisHostIs(@1), thisHostIs(@2))",
+        b"(true, false)",
+    ),
     (b"svc getRB : () -> int fun f() : int = getRB()", b"7"),
-    (b"svc getSource : () -> host fun f() : host = getSource()", b"@3"),
-    (b"svc getNeighbors : () -> (host * dev) list fun f() : (host * dev) list = getNeighbors()", b"[(@2, %1), (@3, %2)]"),
-    (b"svc getDist : (host) -> int fun f() : int * int = (getDist(@1), getDist(@5))", b"(0, 2)"),
-    (b"svc getDist : (host) -> int fun f() : int = getDist(@2)", b"NoRoute"),
-    (b"svc nextHop : (host) -> (host * dev) fun f() : host * dev = nextHop(@1)", b"(@1, %0)"),
-    (b"svc nextHop : (host) -> (host * dev) fun f() : host * dev = nextHop(@5)", b"(@2, %1)"),
-    (b"svc nextHop : (host) -> (host * dev) fun f() : host * dev = nextHop(@2)", b"NoRoute"),
-    (b"svc put : (string, int, int, int) -> unit fun f() : unit = put(\"t\", ~5, 7, 1)", b"()"),
-    (b"svc put : (string, int, int, int) -> unit fun f() : unit = put(\"t\", 1, 7, 0)", b"BadIndex"),
-    (b"svc put : (string, int, int, int) -> unit fun f() : unit = put(\"t\", 1, 7, ~1)", b"BadIndex"),
-    (b"svc put : (string, int, int, int) -> unit svc get : (string, int) -> int fun f() : int = put(\"t\", 1, 7, 1); put(\"t\", 1, 8, 1); get(\"t\", 1)", b"8"),
-    (b"svc get : (string, int) -> int fun f() : int = get(\"t\", 1)", b"NotFound"),
-    (b"svc put : (string, int, int, int) -> unit svc get : (string, int) -> bool fun f() : bool = put(\"t\", 1, 7, 1); get(\"t\", 1)", b"NotFound"),
-    (b"svc remove : (string, int) -> unit fun f() : unit = remove(\"t\", 1)", b"()"),
-    (b"svc put : (string, int, int, int) -> unit svc get : (string, int) -> int svc remove : (string, int) -> unit fun f() : int = put(\"t\", 1, 7, 1); remove(\"t\", 1); get(\"t\", 1)", b"NotFound"),
-    (b"svc generateKey : () -> int fun f() : int * int = (generateKey(), generateKey())", b"(1, 2)"),
-    (b"svc print : (bool) -> unit fun f() : unit = print(true); print(false)", b"() print true print false"),
-    (b"svc deliver : (int, string) -> unit fun f() : unit = deliver(0, \"a\"); deliver(65535, \"b\")", b"() port 0 \"a\" port 65535 \"b\""),
-    (b"svc deliver : (int, string) -> unit fun f() : unit = deliver(65536, \"a\")", b"BadIndex"),
-    (b"svc deliver : (int, string) -> unit fun f() : unit = deliver(~1, \"a\")", b"BadIndex"),
-    (b"svc getRB : () -> bool fun f() : bool = getRB()", b"NoService"),
-    (b"svc put : (string, int, int) -> unit fun f() : unit = put(\"t\", 1, 7)", b"NoService"),
-    (b"svc putAll : (string, int, int, int) -> unit fun f() : unit = putAll(\"t\", 1, 7, 1)", b"NoService"),
-    (b"svc get : (string, int) -> int svc print : (string) -> unit fun f() : int = let val x : int = try get(\"t\", 1) handle NotFound => 0 end in print(\"on\"); x end", b"0 print \"on\""),
+    (
+        b"svc getSource : () -> host fun f() : host = getSource()",
+        b"@3",
+    ),
+    (
+        b"svc getNeighbors : () -> (host * dev) list fun f() : (host * dev) list = getNeighbors()",
+        b"[(@2, %1), (@3, %2)]",
+    ),
+    (
+        b"svc getDist : (host) -> int fun f() : (int * int) = (getDist(@1), getDist(@5))",
+        b"(0, 2)",
+    ),
+    (
+        b"svc getDist : (host) -> int fun f() : int = getDist(@2)",
+        b"NoRoute",
+    ),
+    (
+        b"svc nextHop : (host) -> (host * dev) fun f() : (host * dev) = nextHop(@1)",
+        b"(@1, %0)",
+    ),
+    (
+        b"svc nextHop : (host) -> (host * dev) fun f() : (host * dev) = nextHop(@5)",
+        b"(@2, %1)",
+    ),
+    (
+        b"svc nextHop : (host) -> (host * dev) fun f() : (host * dev) = nextHop(@2)",
+        b"NoRoute",
+    ),
+    (
+        b"svc put : (string, int, int, int) -> unit fun f() : unit = put(\"t\", ~5, 7, 1)",
+        b"()",
+    ),
+    (
+        b"svc put : (string, int, int, int) -> unit fun f() : unit = put(\"t\", 1, 7, 0)",
+        b"BadIndex",
+    ),
+    (
+        b"svc put : (string, int, int, int) -> unit fun f() : unit = put(\"t\", 1, 7, ~1)",
+        b"BadIndex",
+    ),
+    (
+        b"svc put : (string, int, int, int) -> unit svc get : (string, int) -> int fun f() : int = put(\"t\", 1, 7, 1); put(\"t\", 1, 8, 1); get(\"t\", 1)",
+        b"8",
+    ),
+    (
+        b"svc get : (string, int) -> int fun f() : int = get(\"t\", 1)",
+        b"NotFound",
+    ),
+    (
+        b"svc put : (string, int, int, int) -> unit svc get : (string, int) -> bool fun f() : bool = put(\"t\", 1, 7, 1); get(\"t\", 1)",
+        b"NotFound",
+    ),
+    (
+        b"svc remove : (string, int) -> unit fun f() : unit = remove(\"t\", 1)",
+        b"()",
+    ),
+    (
+        b"svc put : (string, int, int, int) -> unit svc get : (string, int) -> int svc remove : (string, int) -> unit fun f() : int = put(\"t\", 1, 7, 1); remove(\"t\", 1); get(\"t\", 1)",
+        b"NotFound",
+    ),
+    (
+        b"svc generateKey : () -> int fun f() : (int * int) = (generateKey(), generateKey())",
+        b"(1, 2)",
+    ),
+    (
+        b"svc print : (bool) -> unit fun f() : unit = print(true); print(false)",
+        b"() print true print false",
+    ),
+    (
+        b"svc deliver : (int, string) -> unit fun f() : unit = deliver(0, \"a\"); deliver(65535, \"b\")",
+        b"() port 0 \"a\" port 65535 \"b\"",
+    ),
+    (
+        b"svc deliver : (int, string) -> unit fun f() : unit = deliver(65536, \"a\")",
+        b"BadIndex",
+    ),
+    (
+        b"svc deliver : (int, string) -> unit fun f() : unit = deliver(~1, \"a\")",
+        b"BadIndex",
+    ),
+    (
+        b"svc getRB : () -> bool fun f() : bool = getRB()",
+        b"NoService",
+    ),
+    (
+        b"svc put : (string, int, int) -> unit fun f() : unit = put(\"t\", 1, 7)",
+        b"NoService",
+    ),
+    (
+        b"svc putAll : (string, int, int, int) -> unit fun f() : unit = putAll(\"t\", 1, 7, 1)",
+        b"NoService",
+    ),
+    (
+        b"svc get : (string, int) -> int svc print : (string) -> unit fun f() : int = let val x : int = try get(\"t\", 1) handle NotFound => 0 end in print(\"on\"); x end",
+        b"0 print \"on\"",
+    ),
 ];
 
 #[test]
@@ -157,7 +241,121 @@ fn each_service_answers(rt: HostRuntime) -> Result<(), Fail> {
     let alloc = rt.alloc();
     for (text, expected) in CALLS {
         let mut registry = Registry::new(alloc, [].as_slice());
-        let found = visited(alloc, &mut registry, 0, text)?;
+        let found = visited(alloc, &mut registry, true, 0, text)?;
+        assert_eq!(rt; found.as_slice(), expected);
+    }
+    Ok(())
+}
+
+// Visits at one node, one after the other: whether each is kept, its tick, its program, and what it shows.
+static VISITS: [(bool, u64, &[u8], &[u8]); 9] = [
+    (
+        true,
+        0,
+        b"svc put : (string, int, int, int) -> unit fun f() : unit = put(\"t\", 1, 5, 2)",
+        b"()",
+    ),
+    (
+        false,
+        0,
+        b"svc put : (string, int, int, int) -> unit svc generateKey : () -> int fun f() : int = put(\"t\", 1, 6, 9); generateKey()",
+        b"1",
+    ),
+    (
+        true,
+        0,
+        b"svc generateKey : () -> int fun f() : int = generateKey()",
+        b"1",
+    ),
+    (
+        true,
+        0,
+        b"svc generateKey : () -> int fun f() : int = generateKey()",
+        b"2",
+    ),
+    (
+        true,
+        0,
+        b"svc get : (string, int) -> int fun f() : int = get(\"t\", 1)",
+        b"5",
+    ),
+    (
+        true,
+        0,
+        b"svc get : (string, int) -> int list fun f() : int list = get(\"t\", 1)",
+        b"NotFound",
+    ),
+    (
+        false,
+        1,
+        b"svc remove : (string, int) -> unit fun f() : unit = remove(\"t\", 1)",
+        b"()",
+    ),
+    (
+        true,
+        1,
+        b"svc get : (string, int) -> int fun f() : int = get(\"t\", 1)",
+        b"5",
+    ),
+    (
+        true,
+        2,
+        b"svc get : (string, int) -> int fun f() : int = get(\"t\", 1)",
+        b"NotFound",
+    ),
+];
+
+#[test]
+fn visits_are_kept_or_undone(rt: HostRuntime) -> Result<(), Fail> {
+    let alloc = rt.alloc();
+    let mut registry = Registry::new(alloc, [].as_slice());
+    for (is_kept, now, text, expected) in VISITS {
+        let found = visited(alloc, &mut registry, is_kept, now, text)?;
+        assert_eq!(rt; found.as_slice(), expected);
+    }
+    Ok(())
+}
+
+// A package that a node lacks, a program, and what it shows there.
+static WITHOUT: [(PackageName, &[u8], &[u8]); 6] = [
+    (
+        PackageName::Resident,
+        b"svc get : (string, int) -> int fun f() : int = try get(\"t\", 1) handle NoService => 0 end",
+        b"0",
+    ),
+    (
+        PackageName::Net,
+        b"svc get : (string, int) -> int fun f() : int = get(\"t\", 1)",
+        b"NotFound",
+    ),
+    (
+        PackageName::Net,
+        b"svc thisHost : () -> host fun f() : host = thisHost()",
+        b"NoService",
+    ),
+    (
+        PackageName::Host,
+        b"svc thisHost : () -> host fun f() : host = thisHost()",
+        b"@1",
+    ),
+    (
+        PackageName::Host,
+        b"svc print : (int) -> unit fun f() : unit = print(1)",
+        b"NoService",
+    ),
+    (
+        PackageName::Resident,
+        b"svc print : (int) -> unit fun f() : unit = print(1)",
+        b"() print 1",
+    ),
+];
+
+#[test]
+fn services_of_missing_packages_are_refused(rt: HostRuntime) -> Result<(), Fail> {
+    let alloc = rt.alloc();
+    for (missing, text, expected) in WITHOUT {
+        let mut registry = Registry::new(alloc, [missing].as_slice());
+        let found = visited(alloc, &mut registry, true, 0, text)?;
         assert_eq!(rt; found.as_slice(), expected);
     }
     Ok(())

@@ -51,10 +51,17 @@ fn a_row_has_a_type_and_a_life(rt: HostRuntime) -> Result<(), Fail> {
     let mut overlay = Overlay::new(alloc, 1);
     let value = list_of_one(alloc)?;
     assert_eq!(rt; tables.put(alloc, &name, 1, &ints, &value, 2), Ok(()));
-    assert_eq!(rt; overlay.put(alloc, &base, &name, 1, &ints, &value, 2), Ok(()));
+    assert_eq!(rt;
+        overlay.put(alloc, &base, &name, 1, &ints, &value, 2),
+        Ok(())
+    );
     for (is_same, now, is_found) in LOOK_UPS {
         let ty = if is_same { &ints } else { &strings };
-        let wanted = if is_found { None } else { Some(TableFault::NotFound) };
+        let wanted = if is_found {
+            None
+        } else {
+            Some(TableFault::NotFound)
+        };
         assert_eq!(rt; tables.get(alloc, &name, 1, ty, now).err(), wanted);
         assert_eq!(rt; overlay.get(alloc, &base, &name, 1, ty, now).err(), wanted);
     }
@@ -67,19 +74,40 @@ fn a_table_takes_1024_rows(rt: HostRuntime) -> Result<(), Fail> {
     let name = name(alloc)?;
     let mut tables = Tables::new(alloc);
     for key in 0..1024 {
-        assert_eq!(rt; tables.put(alloc, &name, key, &Ty::Unit, &Value::Unit, 1), Ok(()));
+        assert_eq!(rt;
+            tables.put(alloc, &name, key, &Ty::Unit, &Value::Unit, 1),
+            Ok(())
+        );
     }
     let full = Err(TableFault::TableFull);
-    assert_eq!(rt; tables.put(alloc, &name, 1024, &Ty::Unit, &Value::Unit, 1), full);
-    assert_eq!(rt; tables.put(alloc, &name, 7, &Ty::Unit, &Value::Unit, 1), Ok(()));
+    assert_eq!(rt;
+        tables.put(alloc, &name, 1024, &Ty::Unit, &Value::Unit, 1),
+        full
+    );
+    assert_eq!(rt;
+        tables.put(alloc, &name, 7, &Ty::Unit, &Value::Unit, 1),
+        Ok(())
+    );
     assert_eq!(rt; tables.counts().rows, 1024);
     assert_eq!(rt; tables.rows()[7].key, 7);
     let mut overlay = Overlay::new(alloc, 1);
-    assert_eq!(rt; overlay.put(alloc, &tables, &name, 1024, &Ty::Unit, &Value::Unit, 1), full);
-    assert_eq!(rt; overlay.put(alloc, &tables, &name, 7, &Ty::Unit, &Value::Unit, 1), Ok(()));
+    assert_eq!(rt;
+        overlay.put(alloc, &tables, &name, 1024, &Ty::Unit, &Value::Unit, 1),
+        full
+    );
+    assert_eq!(rt;
+        overlay.put(alloc, &tables, &name, 7, &Ty::Unit, &Value::Unit, 1),
+        Ok(())
+    );
     overlay.remove(alloc, &tables, &name, 7)?;
-    assert_eq!(rt; overlay.put(alloc, &tables, &name, 1024, &Ty::Unit, &Value::Unit, 1), Ok(()));
-    assert_eq!(rt; overlay.put(alloc, &tables, &name, 7, &Ty::Unit, &Value::Unit, 1), full);
+    assert_eq!(rt;
+        overlay.put(alloc, &tables, &name, 1024, &Ty::Unit, &Value::Unit, 1),
+        Ok(())
+    );
+    assert_eq!(rt;
+        overlay.put(alloc, &tables, &name, 7, &Ty::Unit, &Value::Unit, 1),
+        full
+    );
     Ok(())
 }
 
@@ -94,11 +122,26 @@ fn a_table_takes_1048576_bytes(rt: HostRuntime) -> Result<(), Fail> {
     }
     assert_eq!(rt; tables.counts().bytes, 1_048_576);
     let full = Err(TableFault::TableFull);
-    assert_eq!(rt; tables.put(alloc, &name, 16, &Ty::Unit, &Value::Unit, 1), full);
-    assert_eq!(rt; tables.put(alloc, &name, 3, &Ty::Blob, &blob(alloc, 65_524)?, 1), full);
-    assert_eq!(rt; tables.put(alloc, &name, 3, &Ty::Blob, &blob(alloc, 65_512)?, 1), Ok(()));
-    assert_eq!(rt; tables.put(alloc, &name, 16, &Ty::Unit, &Value::Unit, 1), Ok(()));
-    assert_eq!(rt; tables.put(alloc, &name, 17, &Ty::Unit, &Value::Unit, 1), full);
+    assert_eq!(rt;
+        tables.put(alloc, &name, 16, &Ty::Unit, &Value::Unit, 1),
+        full
+    );
+    assert_eq!(rt;
+        tables.put(alloc, &name, 3, &Ty::Blob, &blob(alloc, 65_524)?, 1),
+        full
+    );
+    assert_eq!(rt;
+        tables.put(alloc, &name, 3, &Ty::Blob, &blob(alloc, 65_512)?, 1),
+        Ok(())
+    );
+    assert_eq!(rt;
+        tables.put(alloc, &name, 16, &Ty::Unit, &Value::Unit, 1),
+        Ok(())
+    );
+    assert_eq!(rt;
+        tables.put(alloc, &name, 17, &Ty::Unit, &Value::Unit, 1),
+        full
+    );
     Ok(())
 }
 
@@ -108,12 +151,18 @@ fn an_overlay_keeps_the_order_of_puts(rt: HostRuntime) -> Result<(), Fail> {
     let name = name(alloc)?;
     let mut tables = Tables::new(alloc);
     for key in [1, 2] {
-        assert_eq!(rt; tables.put(alloc, &name, key, &Ty::Int, &Value::Int(key), 1), Ok(()));
+        assert_eq!(rt;
+            tables.put(alloc, &name, key, &Ty::Int, &Value::Int(key), 1),
+            Ok(())
+        );
     }
     let mut overlay = Overlay::new(alloc, tables.next_key());
     overlay.remove(alloc, &tables, &name, 1)?;
     for key in [2, 1] {
-        assert_eq!(rt; overlay.put(alloc, &tables, &name, key, &Ty::Int, &Value::Int(9), 1), Ok(()));
+        assert_eq!(rt;
+            overlay.put(alloc, &tables, &name, key, &Ty::Int, &Value::Int(9), 1),
+            Ok(())
+        );
     }
     assert_eq!(rt; overlay.fresh_key(), Some(1));
     assert_eq!(rt; numbers(&tables, alloc)?.as_slice(), [1, 2].as_slice());
@@ -130,7 +179,10 @@ fn expired_rows_go(rt: HostRuntime) -> Result<(), Fail> {
     let name = name(alloc)?;
     let mut tables = Tables::new(alloc);
     for (key, expiry) in [(1, 3), (2, 1), (3, 2), (4, 2), (5, 9)] {
-        assert_eq!(rt; tables.put(alloc, &name, key, &Ty::Int, &Value::Int(key), expiry), Ok(()));
+        assert_eq!(rt;
+            tables.put(alloc, &name, key, &Ty::Int, &Value::Int(key), expiry),
+            Ok(())
+        );
     }
     for (now, left) in [
         (0, [1, 2, 3, 4, 5].as_slice()),
