@@ -5,8 +5,9 @@ use Rattle.std.proofs.lemmas.List.Elements.{All-nil, All-cons, All-head, All-tai
 use Rattle.std.proofs.lemmas.List.{append-nil, length-append, length-map}
 use Rattle.plan_base.specs.declared.ids.Host.{Host}
 use Rattle.plan_base.specs.declared.ids.Dev.{Dev}
-use Rattle.service_api.specs.PrintsGood.{serve_good}
-use Rattle.service_api.proofs.Types.{no_rows_good}
+use Rattle.service_api.specs.Services.{AreGoodRows, IsGoodValue}
+use Rattle.service_meaning.specs.Beginning.{no_rows, present_without}
+use Rattle.service_meaning.proofs.Goods.{serve_good}
 use Rattle.network_plan.specs.Hosts.{has_host}
 use Rattle.network_plan.specs.Rules.{HostsDiffer, KeepsNetwork}
 use Rattle.network_plan.specs.declared.schedule.HostSpec.{HostSpec}
@@ -82,10 +83,13 @@ near links h (suc n) = one_more n (peer_of links h (record { 0 = n + 1 })) (neig
 
 -- ---- nodes
 
-services_fit : (h : HostSpec) → ServicesFit (opening_services h)
-services_fit h = record { good = record { serve = serve_good; rows = no_rows_good }; closed = refl; waits = refl }
+no_rows_good : AreGoodRows no_rows
+no_rows_good = record { values = All-nil (λ x. IsGoodValue x.ty x.value); room = refl; least = omega arith; greatest = omega arith }
 
-config_fits : (t : Topology) (h : HostSpec) → KeepsNetwork t → ConfigFits (config_of t h)
+services_fit : (h : HostSpec) → ServicesFit (opening_services h)
+services_fit h = record { good = record { serve = serve_good (present_without h.missing); rows = no_rows_good }; closed = refl; waits = refl }
+
+pub config_fits : (t : Topology) (h : HostSpec) → KeepsNetwork t → ConfigFits (config_of t h)
 config_fits t h k = record { hosts = network_fits t k; near = near_to t.links h.host 8 }
 
 opening_node_fits : (t : Topology) (h : HostSpec) → h.host.0 < 2 ^ 32 → KeepsNetwork t → NodeFits (opening_node t h)

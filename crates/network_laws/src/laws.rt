@@ -1,10 +1,11 @@
-ghost use Rattle.std.specs.Prelude.{ℕ, List};
+ghost use Rattle.std.specs.Prelude.{◌≡◌, ℕ, List, length, All};
 ghost use Rattle.plan_base.specs.declared.ids.Family.{Family};
 ghost use Rattle.network_plan.specs.Rules.{HostsDiffer, KeepsNetwork};
 ghost use Rattle.network_plan.specs.declared.schedule.Topology.{Topology};
 ghost use Rattle.network_plan.specs.declared.event.WorldEvent.{WorldEvent};
 ghost use Rattle.world_model.specs.World.{WorldState, happens, opening, world_after, history_of};
-ghost use Rattle.world_model.specs.Counts.{Balanced, IsBounded, IsGranted};
+ghost use Rattle.world_model.specs.Counts.{line_sum, Balanced, IsBounded, IsGranted};
+ghost use Rattle.world_model.specs.Visits.{EndsWell, event_visits, line_ends};
 ghost use Rattle.world_model.specs.Wires.{IsOnce, WireLeads};
 ghost use Rattle.world_model.specs.Sound.{IsSound, event_fits, EventsFit};
 
@@ -41,4 +42,10 @@ pub fn numbers_go_once()
 /// Each frame on the wire is to arrive at the other end of the link over which it was sent.
 pub fn frames_lead_over_links()
     ensures { (t : Topology) (es : List WorldEvent) → WireLeads t.links (world_after es (opening t)).wire }
+{}
+
+/// An event's visits are all that end among its lines; none is without a case, and each would end by itself.
+pub fn visits_end_well()
+    ensures all { (w : WorldState) (e : WorldEvent) → line_sum line_ends (happens w e).lines ≡ length (event_visits w e) }
+    ensures well { (w : WorldState) (e : WorldEvent) → event_fits e → IsSound w → All EndsWell (event_visits w e) }
 {}

@@ -3,3 +3,4 @@ pub mod Counts
 pub mod Sound
 pub mod Texts
 pub mod Wires
+pub mod Visits

@@ -8,7 +8,7 @@ use Rattle.packet_frame.specs.declared.refusal.FrameRefusal.{FrameRefusal}
 use Rattle.packet_frame.specs.Bytes.{frame_bytes}
 use Rattle.frame_text.specs.Decoding.{frame_of}
 use Rattle.service_api.specs.Services.{Standing}
-use Rattle.service_api.specs.Prints.{standing}
+use Rattle.service_meaning.specs.Beginning.{opening_standing, present_without}
 use Rattle.network_plan.specs.Hosts.{Cable}
 use Rattle.network_plan.specs.declared.node.NodeConfig.{NodeConfig}
 use Rattle.network_plan.specs.declared.schedule.HostSpec.{HostSpec}
@@ -235,9 +235,9 @@ unfoldable pub neighbours_to : Cables → Host → ℕ → Links
 neighbours_to links h zero = []
 neighbours_to links h (suc n) = neighbours_to links h n ++ neighbour_at (record { 0 = n + 1 }) (peer_of links h (record { 0 = n + 1 }))
 
--- the services of a node, outside a visit: `print` alone
+-- the services of a node at the beginning: those of the packages that it doesn't lack
 abbrev pub opening_services : HostSpec → Standing
-opening_services spec = standing false false
+opening_services spec = opening_standing (present_without spec.missing)
 
 -- how the node of a host begins: its next serial number is 1
 abbrev pub config_of : Topology → HostSpec → NodeConfig

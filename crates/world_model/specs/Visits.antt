@@ -1,0 +1,96 @@
+-- The visits that an event makes, and when they end well.
+use Rattle.std.specs.Prelude.{ℕ, zero, suc, ◌==◌, if◌then◌else◌, List, [], ◌∷◌, slice_get, Option, Some, None, Result, Ok, Err}
+use Rattle.plan_base.specs.declared.ids.Host.{Host}
+use Rattle.plan_base.specs.declared.tree.Chunk.{Chunk}
+use Rattle.plan_base.specs.declared.tree.Packet.{Packet}
+use Rattle.packet_frame.specs.declared.frame.PlainFrame.{PlainFrame}
+use Rattle.packet_frame.specs.declared.refusal.FrameRefusal.{FrameRefusal}
+use Rattle.frame_text.specs.Decoding.{frame_of}
+use Rattle.service_api.specs.Services.{begun_now}
+use Rattle.meaning_laws.specs.Laws.{VisitEnds}
+use Rattle.network_plan.specs.declared.event.WorldEvent.{WorldEvent}
+use Rattle.network_plan.specs.declared.event.WorldEvent.TheVariants.{Inject, Deliver, Raw}
+use Rattle.node_model.specs.declared.acts.Act.{Act}
+use Rattle.node_model.specs.declared.acts.Act.TheVariants.{Ended}
+use Rattle.node_model.specs.State.{NodeState, is_host}
+use Rattle.node_model.specs.Node.{next_serial, injected_packet}
+use Rattle.node_model.specs.Visits.{around, evaluated, HasCase}
+use Rattle.world_model.specs.declared.lines.Line.{Line}
+use Rattle.world_model.specs.declared.lines.Line.TheVariants.{At}
+use Rattle.world_model.specs.declared.lines.Wired.{Wired}
+use Rattle.world_model.specs.World.{WorldState, place_of, wire_place, happens}
+
+-- a visit: the node as it stands then, and the packet
+pub record Visiting : Type 0 where
+  pub node : NodeState
+  pub packet : Packet
+
+abbrev pub one_visit : NodeState → Packet → List Visiting
+one_visit node p = record { node = node; packet = p } ∷ []
+
+-- ---- at a node
+
+-- a packet is visited at its own host
+abbrev pub frame_visits : PlainFrame → NodeState → List Visiting
+frame_visits (PlainFrame.Packet p) node = if is_host p.dest node.here then one_visit node p else []
+frame_visits _ node = []
+
+abbrev pub bytes_visits : Result PlainFrame FrameRefusal → NodeState → List Visiting
+bytes_visits (Ok x) node = frame_visits x node
+bytes_visits (Err e) node = []
+
+-- an injected chunk is visited at once, where a serial number is left
+abbrev pub chunk_visits : Chunk → ℕ → NodeState → List Visiting
+chunk_visits chunk bound node = if node.serial == 18446744073709551615 then [] else one_visit (next_serial node) (injected_packet node chunk bound)
+
+-- ---- in a network
+
+-- the item at a place, where there is one
+abbrev pub item_at : {X : Type 0} → List X → Option ℕ → Option X
+item_at xs None = None
+item_at xs (Some at) = slice_get xs at
+
+abbrev pub at_node : (NodeState → List Visiting) → Option NodeState → List Visiting
+at_node visits None = []
+at_node visits (Some node) = visits node
+
+-- the visits at a host's node
+unfoldable pub at_host : WorldState → Host → (NodeState → List Visiting) → List Visiting
+at_host w h visits = at_node visits (item_at w.nodes (place_of w.nodes h))
+
+abbrev pub of_wired : WorldState → Option Wired → List Visiting
+of_wired w None = []
+of_wired w (Some x) = at_host w x.to.host (frame_visits x.frame)
+
+-- the visits of a frame that is delivered
+unfoldable pub delivered_visits : WorldState → ℕ → List Visiting
+delivered_visits w number = of_wired w (item_at w.wire (wire_place w.wire number))
+
+-- the visits that an event makes
+abbrev pub event_visits : WorldState → WorldEvent → List Visiting
+event_visits w (Inject h chunk bound) = at_host w h (chunk_visits chunk bound)
+event_visits w (Deliver number) = delivered_visits w number
+event_visits w (Raw h d bytes) = at_host w h (bytes_visits (frame_of bytes))
+event_visits w _ = []
+
+-- the visits of the event behind the first k of a run
+abbrev pub visits_after : ℕ → List WorldEvent → WorldState → List Visiting
+visits_after k [] w = []
+visits_after zero (e ∷ es) w = event_visits w e
+visits_after (suc k) (e ∷ es) w = visits_after k es (happens w e).world
+
+-- ---- how they end
+
+-- the ends of visits among lines
+abbrev pub act_ends : Act → ℕ
+act_ends (Ended f o evals rest) = 1
+act_ends _ = 0
+
+abbrev pub line_ends : Line → ℕ
+line_ends (At h act) = act_ends act
+line_ends _ = 0
+
+-- the visit never is without a case, and with some allowance of work it ends by itself
+pub record EndsWell (v : Visiting) : Type 0 where
+  pub case : HasCase (evaluated (around v.node v.packet) (begun_now v.node.services) v.packet)
+  pub ends : VisitEnds v.packet.chunk (around v.node v.packet) v.packet.family (begun_now v.node.services)
