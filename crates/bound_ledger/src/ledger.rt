@@ -1,0 +1,144 @@
+ghost use Rattle.std.specs.Prelude.{◌≡◌, ◌+◌, ◌-◌, ◌≤◌, ◌<◌, ◌^◌, [], ◌∷◌, ◌++◌, length, slice_get, Some, None, IfOk, IfSome, OnOk, OnErr};
+ghost use Rattle.bound_ledger.specs.Counts.{InBalance, hopped, paid, quit};
+ghost use Rattle.bound_ledger.specs.Rows.{OneEach, row_of, counts_of, changed, with_grant};
+
+use crate::key::FamilyKey;
+use crate::row::Row;
+use indexmap::IndexMap;
+use plan_base::{Family, NoMemory};
+use std::alloc::{AllocError, Global};
+use std::marker::Model;
+
+/// The rows of families, which contracts see as a list in the order of their first grants. Each row is in
+/// balance: what was granted is what was paid, what is live and what was left.
+#[derive(Drop)]
+pub struct Ledger {
+    rows: IndexMap<FamilyKey, Row>,
+}
+
+impl Model for Ledger {
+    ghost use Rattle.std.specs.Prelude.{List};
+    ghost use Rattle.bound_ledger.specs.Rows.{FamilyRow};
+    ghost use Rattle.bound_ledger.specs.Keys.{rows_at, AreKept};
+
+    ghost Value = { List FamilyRow };
+
+    ghost view = { λ l. rows_at l.rows.entries };
+
+    ghost invariant = { λ l. AreKept l.rows.entries };
+}
+
+impl Ledger {
+    /// A ledger without rows. It takes no memory before the first grant.
+    pub fn new(alloc: Global) -> Result<Ledger, NoMemory>
+        ensures { IfOk result (λ ledger. ledger ≡ []) }
+    {
+        Ok(Ledger {
+            rows: IndexMap::new(alloc),
+        })
+    }
+
+    /// The number of rows. Takes no memory.
+    pub fn len(&self) -> u32
+        ensures len { result ≡ length self.now }
+        ensures once { OneEach self.now }
+    {
+        self.rows.len() as u32
+    }
+
+    /// The row of a family, or `None` exactly where it was never granted. Takes no memory.
+    pub fn row(&self, f: Family) -> Option<Row>
+        ensures row { result ≡ row_of f self.now }
+        ensures balanced { IfSome result InBalance }
+    {
+        self.rows.get(&FamilyKey::of(f)).copied()
+    }
+
+    /// The row at a place from 0, with its family. Takes no memory. Condition: there are more than `i` rows.
+    pub fn at(&self, i: u32) -> (Family, Row)
+        requires { i < length self.now }
+        ensures row { slice_get self.now i ≡ Some result }
+        ensures balanced { InBalance result.1 }
+    {
+        let Some((key, row)) = self.rows.get_index(i as usize) else {
+            unreachable!()
+        };
+        (key.family(), *row)
+    }
+
+    /// Puts a row in the place of a family's, where it has one.
+    fn set(&mut self, f: Family, row: Row)
+        requires balanced { InBalance row }
+        ensures row { self.new ≡ changed (λ _. row) f self.old }
+        ensures once { OneEach self.old }
+    {
+        let Some(place) = self.rows.get_mut(&FamilyKey::of(f)) else {
+            return;
+        };
+        *place = row;
+    }
+
+    /// Adds a row at the end. Conditions: its family has none yet, and there are fewer than 2^32 - 1 rows.
+    fn push(&mut self, f: Family, row: Row) -> Result<(), AllocError>
+        requires balanced { InBalance row }
+        requires absent { row_of f self.old ≡ None }
+        requires few { length self.old < 2 ^ 32 - 1 }
+        ensures ok { OnOk result (self.new ≡ self.old ++ (f, row) ∷ []) }
+        ensures err { OnErr result (self.new ≡ self.old) }
+    {
+        self.rows.insert(FamilyKey::of(f), row)?;
+        Ok(())
+    }
+
+    /// Adds `n` to what a family was granted and to what it still has, in a new last row where it has none.
+    /// Conditions: there are fewer than 2^32 - 1 rows, and what the family was granted stays below 2^63.
+    pub fn grant(&mut self, f: Family, n: u32) -> Result<(), NoMemory>
+        requires few { length self.old < 2 ^ 32 - 1 }
+        requires limit { (counts_of f self.old).granted + n < 2 ^ 63 }
+        ensures ok { OnOk result (self.new ≡ with_grant f n self.old) }
+        ensures err { OnErr result (self.new ≡ self.old) }
+    {
+        match self.row(f) {
+            Some(row) => {
+                self.set(f, row.with_grant(n));
+                Ok(())
+            }
+            None => {
+                self.push(f, Row::begun().with_grant(n))?;
+                Ok(())
+            }
+        }
+    }
+
+    /// Moves 1 of what a family still has to its hops. Takes no memory. Condition: it still has 1.
+    pub fn hop(&mut self, f: Family)
+        requires live { 1 ≤ (counts_of f self.old).live }
+        ensures { self.new ≡ changed hopped f self.old }
+    {
+        if let Some(row) = self.row(f) {
+            self.set(f, row.with_hop());
+        }
+    }
+
+    /// Moves `n` of what a family still has to its evals. Takes no memory. Condition: it still has `n`, where
+    /// a family without a row has 0.
+    pub fn eval(&mut self, f: Family, n: u32)
+        requires live { n ≤ (counts_of f self.old).live }
+        ensures { self.new ≡ changed (paid n) f self.old }
+    {
+        if let Some(row) = self.row(f) {
+            self.set(f, row.with_evals(n));
+        }
+    }
+
+    /// Moves `n` of what a family still has to what it left. Takes no memory. Condition: it still has `n`,
+    /// where a family without a row has 0.
+    pub fn leave(&mut self, f: Family, n: u32)
+        requires live { n ≤ (counts_of f self.old).live }
+        ensures { self.new ≡ changed (quit n) f self.old }
+    {
+        if let Some(row) = self.row(f) {
+            self.set(f, row.with_left(n));
+        }
+    }
+}

@@ -1,0 +1,4 @@
+pub mod ByFamily
+pub mod Grants
+pub mod LineLaws
+pub mod Runs

@@ -1,0 +1,61 @@
+ghost use Rattle.std.specs.Prelude.{◌≡◌, ◌++◌, List, OnOk};
+ghost use Rattle.std.specs.Fmt.{decimal};
+ghost use Rattle.plan_base.specs.declared.ids.Family.{Family as FamilyOf};
+ghost use Rattle.world_model.specs.declared.lines.Entry.{Entry as EntryOf};
+ghost use Rattle.world_model.specs.World.{WorldState};
+ghost use Rattle.world_model.specs.Counts.{Balanced};
+ghost use Rattle.world_model.specs.Texts.{ledger_text};
+ghost use Rattle.bound_ledger.specs.Rows.{OneEach};
+ghost use Rattle.run_ledger.specs.Stands.{Stands};
+ghost use Rattle.run_text.specs.Printed.{printed, all_printed};
+
+use bound_ledger::{Ledger, Row};
+use node_core::{put_family, put_number};
+use plan_base::{Bytes, Family, NoMemory};
+use std::alloc::Global;
+
+/// A word and a count of a row.
+fn put_count(alloc: Global, out: &mut Bytes, word: &[u8], n: u64) -> Result<(), NoMemory>
+    ensures { OnOk result (out.new ≡ out.old ++ (word.now ++ decimal n)) }
+{
+    out.add_all(word)?;
+    put_number(alloc, out, n)?;
+    Ok(())
+}
+
+/// A row of a ledger.
+fn put_row(alloc: Global, out: &mut Bytes, f: Family, row: Row) -> Result<(), NoMemory>
+    ensures { OnOk result (out.new ≡ out.old ++ printed (f, row)) }
+{
+    put_family(alloc, out, f)?;
+    put_count(alloc, out, b" granted ", row.granted)?;
+    put_count(alloc, out, b" hops ", row.hops)?;
+    put_count(alloc, out, b" evals ", row.evals)?;
+    put_count(alloc, out, b" live ", row.live)?;
+    put_count(alloc, out, b" left ", row.left)?;
+    out.add_all(b"\n")?;
+    Ok(())
+}
+
+/// The rows of a ledger.
+fn put_rows(alloc: Global, out: &mut Bytes, ledger: &Ledger) -> Result<(), NoMemory>
+    ensures text { OnOk result (out.new ≡ out.old ++ all_printed ledger.now) }
+    ensures once { OneEach ledger.now }
+{
+    for i in 0..ledger.len() {
+        let (f, row) = ledger.at(i);
+        put_row(alloc, out, f, row)?;
+    }
+    Ok(())
+}
+
+/// Appends the text of a ledger. It is that of each history that the ledger stands for, with each network
+/// with which the history is in balance.
+pub fn put_ledger(alloc: Global, out: &mut Bytes, ledger: &Ledger) -> Result<(), NoMemory>
+    ensures { OnOk result ((h : List EntryOf) (w : WorldState) → Stands h ledger.now → ((f : FamilyOf) → Balanced f h w) → out.new ≡ out.old ++ ledger_text h w) }
+{
+    out.add_all(b"ledger\n")?;
+    put_rows(alloc, out, ledger)?;
+    out.add_all(b"end\n")?;
+    Ok(())
+}
