@@ -7,7 +7,8 @@ ghost use Rattle.world_model.specs.World.{WorldState};
 ghost use Rattle.world_model.specs.Counts.{Balanced};
 ghost use Rattle.world_model.specs.Sound.{Rise, number_of};
 ghost use Rattle.run_ledger.specs.Stands.{Stands};
-ghost use Rattle.grown_network.specs.Grow.{lowest, highest};
+ghost use Rattle.network_plan.specs.Rules.{KeepsNetwork};
+ghost use Rattle.grown_network.specs.Grow.{lowest, highest, ring};
 ghost use Rattle.grown_network.specs.Summaries.{summary_of, row_sums, summary_text, grown_text};
 
 /// On a wire in the order of its numbers the first frame has the lowest.
@@ -23,4 +24,9 @@ pub fn last_is_highest()
 /// The summary with the sums of rows that stand for a history is that of the history.
 pub fn summaries_are_counts()
     ensures { (seed n : ℕ) (h : List Entry) (w : WorldState) (rows : List FamilyRow) → OneEach rows → Stands h rows → ((f : Family) → Balanced f h w) → summary_text seed n (summary_of h) (row_sums rows) ≡ grown_text seed n h w }
+{}
+
+/// The ring keeps the rules of a network.
+pub fn ring_keeps()
+    ensures { KeepsNetwork ring }
 {}
