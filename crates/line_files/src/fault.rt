@@ -25,8 +25,6 @@ pub enum LineReason {
     ProgramRefused(TextFault),
     /// An entry, arguments or a combination of numbers that don't fit.
     BadArgument,
-    /// Everything on the line is as it should be, but its form is not there yet.
-    NotYet,
 }
 
 /// Why a file of lines has no value.

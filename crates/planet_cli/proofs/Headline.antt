@@ -6,16 +6,18 @@ use Rattle.std.proofs.lemmas.List.Elements.{All-take}
 use Rattle.node_io.specs.FileMaps.{FileMap}
 use Rattle.plan_base.specs.declared.tree.Program.{Program}
 use Rattle.program_text.specs.Texts.{program_of}
-use Rattle.schedule_text.specs.declared.schedule.Schedule.{Schedule}
+use Rattle.network_plan.specs.declared.schedule.Schedule.{Schedule}
 use Rattle.schedule_text.specs.Schedules.{schedule_of}
 use Rattle.schedule_text.proofs.RuleLaws.{schedule_keeps}
-use Rattle.world_laws.specs.World.{opening}
-use Rattle.world_laws.specs.Texts.{run_text}
-use Rattle.world_laws.specs.Sound.{event_fits}
-use Rattle.world_laws.proofs.WorldBalance.{opening_balances}
-use Rattle.world_laws.proofs.Fitting.{run_sound, opening_sound}
-use Rattle.world_laws.proofs.Granting.{opening_grants}
-use Rattle.net_world.proofs.RunLaws.{opening_bounded}
+use Rattle.world_model.specs.World.{opening}
+use Rattle.world_model.specs.Texts.{run_text}
+use Rattle.world_model.specs.Sound.{event_fits}
+use Rattle.network_laws.proofs.Balance.{opening_balances}
+use Rattle.network_laws.proofs.Fitting.{run_sound}
+use Rattle.network_laws.proofs.Giving.{opening_bounded, opening_grants}
+use Rattle.network_laws.proofs.Opening.{opening_sound}
+use Rattle.network_laws.proofs.Visits.{run_ends}
+use Rattle.network_laws.proofs.Wires.{opening_leads, opening_once}
 use Rattle.planet_cli.specs.declared.status.Cause.{Cause}
 use Rattle.planet_cli.specs.declared.status.Cause.TheVariants.{Done, WriteFault}
 use Rattle.planet_cli.specs.declared.status.Cause.TheVariants as causes
@@ -26,7 +28,7 @@ use Rattle.planet_cli.specs.Outcomes.{Outcome, refused, whole, ruled, judged, ou
 use Rattle.planet_cli.specs.Schedules.{schedule_limit, schedule_refusal, schedule_output, output_in}
 use Rattle.planet_cli.specs.Checks.{program_limit, program_refusal, program_output, sizes_text, sizes_of, IsCheckOf}
 use Rattle.planet_cli.specs.Replays.{IsReplayOf, KeepsLedger}
-use Rattle.planet_cli.proofs.RuleLemmas.{hosts_differ, events_fit}
+use Rattle.planet_cli.proofs.RuleLemmas.{events_fit}
 
 -- a call is done only where its work was done
 pub done_found : (found given : Cause) (X : Type 0) → Gives found given X → given ≡ Done → found ≡ Done
@@ -47,28 +49,32 @@ asked_outcome : (words : List (List ℕ)) (files : FileMap) (s : Schedule) (r : 
 asked_outcome words files s r =
     ap (λ q. answered q files) r.asked ∙ ap (λ o. outcome_at schedule_limit schedule_refusal schedule_output o) r.there
 
-output_said : (bytes : List ℕ) (s : Schedule) → schedule_of bytes ≡ Ok s → schedule_output bytes ≡ run_text s.events (opening s.topology s.frames)
+output_said : (bytes : List ℕ) (s : Schedule) → schedule_of bytes ≡ Ok s → schedule_output bytes ≡ run_text s.frames s.events (opening s.topology)
 unfolding schedule_output
 output_said bytes s e = ap output_in e
 
 -- the whole output of a replay is the run of its schedule
 pub replay_output : (words : List (List ℕ)) (files : FileMap) (s : Schedule) → IsReplayOf words files s → IsWhole (outcome_of words files)
-    → output_of (outcome_of words files) ≡ run_text s.events (opening s.topology s.frames)
+    → output_of (outcome_of words files) ≡ run_text s.frames s.events (opening s.topology)
 replay_output words files s r h =
     let e = asked_outcome words files s r in
     let P : Outcome → Type 0 = λ o. IsWhole o in
     ap output_of e ∙ whole_text (nat_lt schedule_limit (length r.bytes)) (schedule_refusal r.bytes) (schedule_output r.bytes) (subst P e h) ∙ output_said r.bytes s r.says
 
--- the run of a schedule that a file says is in balance at every moment
+-- the run of a schedule that a file says is in balance at every moment, and its visits end well
 pub replay_ledger : (words : List (List ℕ)) (files : FileMap) (s : Schedule) → IsReplayOf words files s → KeepsLedger s
 replay_ledger words files s r =
     let keeps = schedule_keeps r.bytes s r.says in
     let fits = events_fit s keeps in
+    let t = s.topology in
     record {
-      balance = λ k f. opening_balances f s.topology s.frames (take k s.events);
-      bounded = λ k f. opening_bounded f s.topology s.frames (take k s.events) (hosts_differ s keeps) (All-take event_fits k s.events fits);
-      granted = λ k f. opening_grants f s.topology s.frames (take k s.events) (hosts_differ s keeps) (All-take event_fits k s.events fits);
-      sound = λ k. run_sound (take k s.events) (opening s.topology s.frames) (All-take event_fits k s.events fits) (opening_sound s.topology s.frames);
+      balance = λ k f. opening_balances f t (take k s.events);
+      bounded = λ k f. opening_bounded f t (take k s.events) keeps.network.hosts (All-take event_fits k s.events fits);
+      granted = λ k f. opening_grants f t (take k s.events) keeps.network.hosts (All-take event_fits k s.events fits);
+      once = λ k n. opening_once n t (take k s.events);
+      leads = λ k. opening_leads t (take k s.events);
+      sound = λ k. run_sound (take k s.events) (opening t) (All-take event_fits k s.events fits) (opening_sound t keeps.network);
+      visits = λ k. run_ends k s.events (opening t) fits (opening_sound t keeps.network);
     }
 
 checked_outcome : (words : List (List ℕ)) (files : FileMap) (p : Program) (c : IsCheckOf words files p) → outcome_of words files ≡ judged program_limit program_refusal program_output c.bytes

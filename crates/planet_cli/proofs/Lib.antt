@@ -1,5 +1,6 @@
 pub mod RequestLemmas
 pub mod RuleLemmas
 pub mod Headline
+pub mod Stopping
 pub mod ShowLemmas
 pub mod Showing

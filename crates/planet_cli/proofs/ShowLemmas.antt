@@ -1,6 +1,6 @@
 -- A text without the line feed that it may have at its end, and how long it is; a frame that is refused.
 use Rattle.std.proofs.Common.{◌≡◌, ◌≤◌, ◌⊎◌, inl, inr, Some, Result, Ok, Err, subst, ℕ, ◌+◌, ◌-◌, ◌==◌, Bool, true, false, List, [], ◌∷◌, length, take, get_or, refl, sym, ◌∙◌, ap, arith}
-use Rattle.std.specs.Prelude.{IsErrOf, nat_lt, if◌then◌else◌}
+use Rattle.std.specs.Prelude.{nat_lt, if◌then◌else◌}
 use Rattle.std.proofs.lemmas.Bool.{eq-eqb, ne_eqb, le-ltb}
 use Rattle.std.proofs.lemmas.List.{length-take}
 use Rattle.hex.specs.Hex.{decode_of, IsBytes}
@@ -10,9 +10,11 @@ use Rattle.packet_frame.specs.Typed.{FrameFirst}
 use Rattle.frame_text.specs.Decoding.{frame_of}
 use Rattle.frame_text.proofs.OneAnswer.{first_is}
 use Rattle.planet_cli.specs.declared.command.Stop.{Stop}
-use Rattle.planet_cli.specs.declared.command.Stop.TheVariants as stops
 use Rattle.planet_cli.specs.Refusals.{IfStoppedRefused}
-use Rattle.planet_cli.specs.Shows.{without_feed, stop_for, framed_refusal}
+use Rattle.planet_cli.specs.declared.status.Refusal.TheVariants.{Frame}
+use Rattle.planet_cli.specs.Memory.{stop_of}
+use Rattle.planet_cli.specs.Shows.{without_feed, framed_refusal}
+use Rattle.planet_cli.proofs.Stopping.{stopped_refused}
 
 pub no_text : (text : List ℕ) → length text ≡ 0 → text ≡ without_feed text
 no_text [] h = refl
@@ -45,23 +47,9 @@ decoded_bytes text bytes h = (decode_of-ok text bytes h).3
 
 -- ---- a frame that is refused
 
-pub frame_stopped : (T : Type 0) (bytes : List ℕ) (e : FrameRefusal) (s : Stop) → s ≡ stop_for e → IsBytes bytes → (e ≡ FrameRefusal.NoMemory) ⊎ FrameFirst e bytes
+pub frame_stopped : (T : Type 0) (bytes : List ℕ) (e : FrameRefusal) (s : Stop) → s ≡ stop_of (Frame e) → IsBytes bytes → (e ≡ FrameRefusal.NoMemory) ⊎ FrameFirst e bytes
     → IfStoppedRefused {T = T} (Err s) (λ r. framed_refusal (frame_of bytes) ≡ Some r)
-frame_stopped T bytes e s is h fault =
+frame_stopped T bytes e s is h (inl none) =
     let P : Stop → Type 0 = λ q. IfStoppedRefused {T = T} (Err q) (λ r. framed_refusal (frame_of bytes) ≡ Some r) in
-    subst P (sym is) (by_refusal e fault)
-  where
-    by_refusal : (d : FrameRefusal) → (d ≡ FrameRefusal.NoMemory) ⊎ FrameFirst d bytes → IfStoppedRefused {T = T} (Err (stop_for d)) (λ r. framed_refusal (frame_of bytes) ≡ Some r)
-    by_refusal (FrameRefusal.Misspelled f) (inl none) = absurd (cc)
-    by_refusal (FrameRefusal.Misspelled f) (inr first) = ap framed_refusal (first_is bytes (FrameRefusal.Misspelled f) h first)
-    by_refusal (FrameRefusal.IllTyped i) (inl none) = absurd (cc)
-    by_refusal (FrameRefusal.IllTyped i) (inr first) = ap framed_refusal (first_is bytes (FrameRefusal.IllTyped i) h first)
-    by_refusal FrameRefusal.NoMemory q = tt
-
-pub frame_unwritten : (T : Type 0) (e : FrameRefusal) (s : Stop) → s ≡ stop_for e → IsErrOf {T = T} (Err s) stops.WriteFault → ⊥
-frame_unwritten T e s is h = let P : Stop → Type 0 = λ q. IsErrOf {T = T} (Err q) stops.WriteFault in by_refusal e (subst P is h)
-  where
-    by_refusal : (d : FrameRefusal) → IsErrOf {T = T} (Err (stop_for d)) stops.WriteFault → ⊥
-    by_refusal (FrameRefusal.Misspelled f) q = cc
-    by_refusal (FrameRefusal.IllTyped i) q = cc
-    by_refusal FrameRefusal.NoMemory q = cc
+    subst P (sym (is ∙ ap (λ f. stop_of (Frame f)) none)) tt
+frame_stopped T bytes e s is h (inr first) = stopped_refused T (λ r. framed_refusal (frame_of bytes) ≡ Some r) (Frame e) s is (ap framed_refusal (first_is bytes e h first))

@@ -1,6 +1,7 @@
 pub mod Requests
 pub mod Commands
 pub mod Refusals
+pub mod Memory
 pub mod Outcomes
 pub mod Files
 pub mod Notes

@@ -10,8 +10,8 @@ use Rattle.planet_cli.specs.declared.status.Cause.{Cause}
 use Rattle.planet_cli.specs.declared.status.Cause.TheVariants.{Done, Usage, Refused, ReadFault, WriteFault, LinkFault, SpawnFault, NoMemory, NodesFailed}
 use Rattle.planet_cli.specs.declared.status.Refusal.{Refusal}
 use Rattle.planet_cli.specs.declared.status.Refusal.TheVariants.{Line, At, Frame, BadHex, TooLong}
-use Rattle.schedule_text.specs.declared.fault.LineReason.{LineReason}
-use Rattle.schedule_text.specs.declared.fault.LineReason.TheVariants.{BadHeader, BadWord, BadNumber, UnknownHost, UnknownProgram, TwiceNamed, TooMany, ProgramRefused, BadArgument, NotYet}
+use Rattle.line_files.specs.declared.fault.LineReason.{LineReason}
+use Rattle.line_files.specs.declared.fault.LineReason.TheVariants.{BadHeader, BadWord, BadNumber, UnknownHost, UnknownProgram, TwiceNamed, TooMany, ProgramRefused, BadArgument}
 
 -- the name of a reason
 abbrev pub reason_name : LineReason → List ℕ
@@ -24,7 +24,6 @@ reason_name TwiceNamed = codes "TwiceNamed"
 reason_name TooMany = codes "TooMany"
 reason_name (ProgramRefused why) = codes "ProgramRefused"
 reason_name BadArgument = codes "BadArgument"
-reason_name NotYet = codes "NotYet"
 
 -- where a program is refused, counted in its text, and why
 abbrev pub refused_text : TextFault → List ℕ

@@ -1,11 +1,11 @@
 -- The command `replay`: when a schedule is refused, and the output that it defines.
 use Rattle.std.specs.Prelude.{ℕ, List, [], Option, Some, None, Result, Ok, Err}
-use Rattle.schedule_text.specs.declared.schedule.Schedule.{Schedule}
-use Rattle.schedule_text.specs.declared.fault.LineFault.{LineFault}
-use Rattle.schedule_text.specs.declared.fault.LineFault.TheVariants as faults
+use Rattle.network_plan.specs.declared.schedule.Schedule.{Schedule}
+use Rattle.line_files.specs.declared.fault.LineFault.{LineFault}
+use Rattle.line_files.specs.declared.fault.LineFault.TheVariants as faults
 use Rattle.schedule_text.specs.Schedules.{schedule_of}
-use Rattle.world_laws.specs.World.{opening}
-use Rattle.world_laws.specs.Texts.{run_text}
+use Rattle.world_model.specs.World.{opening}
+use Rattle.world_model.specs.Texts.{run_text}
 use Rattle.planet_cli.specs.declared.status.Refusal.{Refusal}
 use Rattle.planet_cli.specs.declared.status.Refusal.TheVariants.{Line}
 
@@ -19,9 +19,13 @@ refusal_in (Ok s) = None
 refusal_in (Err (faults.Line n reason)) = Some (Line n reason)
 refusal_in (Err faults.NoMemory) = None
 
--- the trace and the ledger of what was read
+-- the trace and the ledger of a schedule's run
+abbrev pub replay_text : Schedule → List ℕ
+replay_text s = run_text s.frames s.events (opening s.topology)
+
+-- the same of what was read
 abbrev pub output_in : Result Schedule LineFault → List ℕ
-output_in (Ok s) = run_text s.events (opening s.topology s.frames)
+output_in (Ok s) = replay_text s
 output_in (Err fault) = []
 
 -- the first refusal of a schedule

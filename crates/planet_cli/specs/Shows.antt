@@ -9,8 +9,6 @@ use Rattle.frame_text.specs.Frames.{frame_text}
 use Rattle.frame_text.specs.Decoding.{frame_of}
 use Rattle.node_io.specs.FileMaps.{FileMap, file_at}
 use Rattle.planet_cli.specs.Requests.{show, request_of}
-use Rattle.planet_cli.specs.declared.command.Stop.{Stop}
-use Rattle.planet_cli.specs.declared.command.Stop.TheVariants as stops
 use Rattle.planet_cli.specs.declared.status.Refusal.{Refusal}
 use Rattle.planet_cli.specs.declared.status.Refusal.TheVariants.{Frame, BadHex}
 
@@ -21,12 +19,6 @@ frame_limit = 33025
 -- the text without the line feed that it may have at its end
 abbrev pub without_feed : List ℕ → List ℕ
 without_feed text = if get_or text (length text - 1) 0 == 10 then take (length text - 1) text else text
-
--- why the command stops where a frame is refused
-abbrev pub stop_for : FrameRefusal → Stop
-stop_for (FrameRefusal.Misspelled f) = stops.Refused (Frame (FrameRefusal.Misspelled f))
-stop_for (FrameRefusal.IllTyped i) = stops.Refused (Frame (FrameRefusal.IllTyped i))
-stop_for FrameRefusal.NoMemory = stops.NoMemory
 
 -- the refusal of a frame that was read
 abbrev pub framed_refusal : Result PlainFrame FrameRefusal → Option Refusal

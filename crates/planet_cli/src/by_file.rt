@@ -2,6 +2,7 @@ ghost use Rattle.std.specs.Prelude.{◌≡◌, ◌++◌, ◌≤◌, ◌⊎◌, I
 ghost use Rattle.node_io.specs.Causes.{Rose};
 ghost use Rattle.node_io.specs.FileMaps.{file_at, MayName};
 ghost use Rattle.node_io.specs.Pieces.{AppendsFront};
+ghost use Rattle.planet_cli.specs.Memory.{IsOwn};
 ghost use Rattle.planet_cli.specs.Outcomes.{refused, outcome_at, output_of, IsWhole};
 ghost use Rattle.planet_cli.specs.Refusals.{IfRefused, IsFileCause};
 ghost use Rattle.planet_cli.specs.declared.status.Refusal.{Refusal};
@@ -26,6 +27,7 @@ pub fn on_file<R: FileCommand, F: Files, K: Sink>(
         → outcome_at R.limit R.rule R.text (file_at (F.files files.old) name.now) ≡ refused r
         → ¬ (Rose (F.read_faults files.old) (F.read_faults files.new))
         → (result ≡ Cause.Refused r) ⊎ (result ≡ Cause.NoMemory) }
+    ensures own { IfRefused result IsOwn }
     ensures silent { IsTrue K.tells → IfRefused result (λ _. K.taken out.new ≡ K.taken out.old) }
     ensures read_fault { result ≡ Cause.ReadFault → Rose (F.read_faults files.old) (F.read_faults files.new) }
     ensures write_fault { result ≡ Cause.WriteFault → Rose (K.faults out.old) (K.faults out.new) }

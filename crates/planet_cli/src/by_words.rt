@@ -2,6 +2,7 @@ ghost use Rattle.std.specs.Prelude.{◌≡◌, ◌≢◌, ◌++◌, ◌≤◌, �
 ghost use Rattle.node_io.specs.Causes.{Rose};
 ghost use Rattle.node_io.specs.Pieces.{AppendsFront};
 ghost use Rattle.planet_cli.specs.Requests.{request_of};
+ghost use Rattle.planet_cli.specs.Memory.{IsOwn};
 ghost use Rattle.planet_cli.specs.Outcomes.{refused, outcome_of, output_of, IsWhole};
 ghost use Rattle.planet_cli.specs.Refusals.{IfRefused, IfNodesFailed};
 ghost use Rattle.planet_cli.specs.Files.{AsksFor};
@@ -26,6 +27,7 @@ pub fn run<F: Files, K: Sink>(alloc: Global, words: &Texts, files: &mut F, out: 
         → outcome_of words.now (F.files files.old) ≡ refused r
         → ¬ (Rose (F.read_faults files.old) (F.read_faults files.new))
         → (result ≡ Cause.Refused r) ⊎ (result ≡ Cause.NoMemory) }
+    ensures own { IfRefused result IsOwn }
     ensures silent { IsTrue K.tells → IfRefused result (λ _. K.taken out.new ≡ K.taken out.old) }
     ensures read_fault { result ≡ Cause.ReadFault → Rose (F.read_faults files.old) (F.read_faults files.new) }
     ensures write_fault { result ≡ Cause.WriteFault → Rose (K.faults out.old) (K.faults out.new) }

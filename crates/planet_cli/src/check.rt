@@ -7,6 +7,7 @@ ghost use Rattle.planet_cli.specs.Refusals.{IfStoppedRefused};
 ghost use Rattle.planet_cli.specs.Checks.{program_limit, program_refusal, program_output, sizes_text};
 
 use crate::command::{FileCommand, Stop};
+use crate::memory::stop_at;
 use crate::status::Refusal;
 use node_io::{Sink, put_all};
 use plan_base::{Program, code_size};
@@ -66,7 +67,7 @@ impl FileCommand for Check {
             Err(TextFault::NoMemory) => Err(Stop::NoMemory),
             Err(fault) => {
                 let at = place_of(&fault);
-                Err(Stop::Refused(Refusal::At(at, fault)))
+                Err(stop_at(Refusal::At(at, fault)))
             }
             Ok(checked) => write_sizes(alloc, checked.program(), out),
         }

@@ -1,6 +1,7 @@
 ghost use Rattle.std.specs.Prelude.{◌≡◌, ◌++◌, ◌^◌, ◌<◌, ◌≤◌, List, ℕ, Option, Some, None, length, IsTrue, OnOk, IsErrOf};
 ghost use Rattle.node_io.specs.Causes.{Rose};
 ghost use Rattle.node_io.specs.Pieces.{AppendsFront};
+ghost use Rattle.planet_cli.specs.Memory.{IsOwn};
 ghost use Rattle.planet_cli.specs.Outcomes.{ruled, output_of};
 ghost use Rattle.planet_cli.specs.Refusals.{IfStoppedRefused};
 ghost use Rattle.planet_cli.specs.declared.status.Refusal.{Refusal};
@@ -38,6 +39,7 @@ pub trait FileCommand {
     fn write<K: Sink>(alloc: Global, bytes: &[u8], out: &mut K) -> Result<(), Stop>
         requires { length bytes.now ≤ limit }
         ensures refused { IfStoppedRefused result (λ r. rule bytes.now ≡ Some r) }
+        ensures own { IfStoppedRefused result IsOwn }
         ensures silent { IsTrue K.tells → IfStoppedRefused result (λ _. K.taken out.new ≡ K.taken out.old) }
         ensures accepted { OnOk result (rule bytes.now ≡ None) }
         ensures begun { IsErrOf result Stop.WriteFault → rule bytes.now ≡ None }

@@ -4,11 +4,11 @@ ghost use Rattle.planet_cli.specs.Notes.{reason_name, refused_text, reason_text,
 ghost use Rattle.planet_cli.specs.Refusals.{Gives};
 
 use crate::status::{Cause, Refusal};
+use line_files::LineReason;
 use node_io::{Sink, put_all};
 use packet_frame::FrameRefusal;
 use plan_base::{Bytes, Host, NoMemory};
 use program_text::{TextFault, place_of, put_reason};
-use schedule_text::LineReason;
 use std::alloc::Global;
 
 // The name of a reason, but for a refused program.
@@ -25,7 +25,6 @@ fn reason_name(reason: &LineReason) -> &'static [u8]
         LineReason::TooMany => b"TooMany",
         LineReason::ProgramRefused(_) => b"ProgramRefused",
         LineReason::BadArgument => b"BadArgument",
-        LineReason::NotYet => b"NotYet",
     }
 }
 

@@ -5,15 +5,17 @@ ghost use Rattle.hex.specs.Hex.{decode_of, IsBytes};
 ghost use Rattle.packet_frame.specs.Typed.{plain_of};
 ghost use Rattle.frame_text.specs.Frames.{frame_text};
 ghost use Rattle.frame_text.specs.Decoding.{frame_of};
+ghost use Rattle.planet_cli.specs.Memory.{IsOwn};
 ghost use Rattle.planet_cli.specs.Refusals.{IfStoppedRefused};
-ghost use Rattle.planet_cli.specs.Shows.{frame_limit, without_feed, stop_for, framed_refusal, hex_refusal, frame_refusal, frame_output};
+ghost use Rattle.planet_cli.specs.Shows.{frame_limit, without_feed, framed_refusal, hex_refusal, frame_refusal, frame_output};
 
 use crate::command::{FileCommand, Stop};
+use crate::memory::stop_at;
 use crate::status::Refusal;
 use frame_text::print_frame;
 use hex::FromHexError;
 use node_io::{Sink, put_all};
-use packet_frame::{Frame, FrameRefusal, get_frame};
+use packet_frame::{Frame, get_frame};
 use plan_base::Bytes;
 use std::alloc::Global;
 
@@ -45,6 +47,7 @@ fn decoded(alloc: Global, text: &[u8]) -> Result<Bytes, Stop>
     ensures found { IfOk result (λ bytes. decode_of (without_feed text.now) ≡ Ok bytes) }
     ensures bytes { IfOk result IsBytes }
     ensures refused { IfStoppedRefused result (λ r. hex_refusal (decode_of (without_feed text.now)) ≡ Some r) }
+    ensures own { IfStoppedRefused result IsOwn }
     ensures unwritten { IsErrOf result Stop.WriteFault → ⊥ }
 {
     match hex::decode(alloc, trimmed(text)) {
@@ -54,29 +57,17 @@ fn decoded(alloc: Global, text: &[u8]) -> Result<Bytes, Stop>
     }
 }
 
-// Why a frame isn't shown.
-fn stop_of(refusal: FrameRefusal) -> Stop
-    ensures { result ≡ stop_for refusal }
-{
-    match refusal {
-        FrameRefusal::Misspelled(fault) => Stop::Refused(Refusal::Frame(FrameRefusal::Misspelled(
-            fault,
-        ))),
-        FrameRefusal::IllTyped(ill) => Stop::Refused(Refusal::Frame(FrameRefusal::IllTyped(ill))),
-        FrameRefusal::NoMemory => Stop::NoMemory,
-    }
-}
-
 // The frame that the bytes spell.
 fn framed(alloc: Global, bytes: &[u8]) -> Result<Frame, Stop>
     requires { IsBytes bytes.now }
     ensures found { IfOk result (λ x. frame_of bytes.now ≡ Ok (plain_of x)) }
     ensures refused { IfStoppedRefused result (λ r. framed_refusal (frame_of bytes.now) ≡ Some r) }
+    ensures own { IfStoppedRefused result IsOwn }
     ensures unwritten { IsErrOf result Stop.WriteFault → ⊥ }
 {
     match get_frame(alloc, bytes) {
         Ok(frame) => Ok(frame),
-        Err(refusal) => Err(stop_of(refusal)),
+        Err(refusal) => Err(stop_at(Refusal::Frame(refusal))),
     }
 }
 
@@ -86,6 +77,7 @@ fn frame_in(alloc: Global, text: &[u8]) -> Result<Frame, Stop>
     ensures accepted { OnOk result (frame_refusal text.now ≡ None) }
     ensures found { IfOk result (λ x. frame_output text.now ≡ frame_text (plain_of x)) }
     ensures refused { IfStoppedRefused result (λ r. frame_refusal text.now ≡ Some r) }
+    ensures own { IfStoppedRefused result IsOwn }
     ensures unwritten { IsErrOf result Stop.WriteFault → ⊥ }
 {
     let bytes = decoded(alloc, text)?;

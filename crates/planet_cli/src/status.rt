@@ -1,7 +1,7 @@
+use line_files::LineReason;
 use packet_frame::FrameRefusal;
 use plan_base::Host;
 use program_text::TextFault;
-use schedule_text::LineReason;
 
 /// How a call of the product ended.
 #[derive(Debug, Drop)]

@@ -2,6 +2,7 @@ ghost use Rattle.std.specs.Prelude.{◌≡◌, ◌++◌, ◌⊎◌, List, ℕ, I
 ghost use Rattle.node_io.specs.Causes.{Rose};
 ghost use Rattle.node_io.specs.Pieces.{AppendsFront};
 ghost use Rattle.planet_cli.specs.Requests.{show, request_of};
+ghost use Rattle.planet_cli.specs.Memory.{IsOwn};
 ghost use Rattle.planet_cli.specs.Outcomes.{refused, outcome_of, output_of, IsWhole};
 ghost use Rattle.planet_cli.specs.Refusals.{IfRefused, IfNodesFailed, Gives, code_of};
 ghost use Rattle.planet_cli.specs.Notes.{Noted};
@@ -12,9 +13,9 @@ ghost use Rattle.planet_cli.specs.Replays.{IsReplayOf, KeepsLedger};
 ghost use Rattle.plan_base.specs.declared.tree.Program.{Program};
 ghost use Rattle.packet_frame.specs.declared.frame.PlainFrame.{PlainFrame};
 ghost use Rattle.frame_text.specs.Frames.{frame_text};
-ghost use Rattle.schedule_text.specs.declared.schedule.Schedule.{Schedule};
-ghost use Rattle.world_laws.specs.World.{opening};
-ghost use Rattle.world_laws.specs.Texts.{run_text};
+ghost use Rattle.network_plan.specs.declared.schedule.Schedule.{Schedule};
+ghost use Rattle.world_model.specs.World.{opening};
+ghost use Rattle.world_model.specs.Texts.{run_text};
 ghost use Rattle.planet_cli.specs.declared.status.Refusal.{Refusal};
 
 use crate::by_words::run;
@@ -61,6 +62,8 @@ pub fn planet<F: Files, K: Sink, N: Sink, L: Link, C: Clock, P: Spawner>(
         → outcome_of words.now (F.files files.old) ≡ refused r
         → ¬ (Rose (F.read_faults files.old) (F.read_faults files.new))
         → Gives (Cause.Refused r) result.cause (Rose (N.faults notes.old) (N.faults notes.new)) }
+    // No refusal is, or holds, want of memory.
+    ensures own { IfRefused result.cause IsOwn }
     ensures silent { IsTrue K.tells → IfRefused result.cause (λ _. K.taken out.new ≡ K.taken out.old) }
     ensures read_fault { result.cause ≡ Cause.ReadFault → Rose (F.read_faults files.old) (F.read_faults files.new) }
     ensures write_fault { result.cause ≡ Cause.WriteFault
@@ -87,13 +90,13 @@ pub fn planet<F: Files, K: Sink, N: Sink, L: Link, C: Clock, P: Spawner>(
     ensures note { IsTrue N.tells
         → Noted (N.taken notes.old) (N.taken notes.new) result.cause (Rose (N.faults notes.old) (N.faults notes.new)) }
     // The headline: a replay that is done wrote the trace and the ledger of the written meaning of
-    // its schedule, whose counts are in balance after every event.
+    // its schedule, whose counts are in balance after every event and whose visits are never without a case.
     ensures replayed { IsTrue F.tells
         → IsTrue K.tells
         → (s : Schedule)
         → IsReplayOf words.now (F.files files.old) s
         → result.cause ≡ Cause.Done
-        → K.taken out.new ≡ K.taken out.old ++ run_text s.events (opening s.topology s.frames) }
+        → K.taken out.new ≡ K.taken out.old ++ run_text s.frames s.events (opening s.topology) }
     ensures ledger { IsTrue F.tells → (s : Schedule) → IsReplayOf words.now (F.files files.old) s → KeepsLedger s }
     // The same of `check`: where it is done it wrote the sizes of its typed program.
     ensures checked { IsTrue F.tells

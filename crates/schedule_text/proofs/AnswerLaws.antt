@@ -1,32 +1,36 @@
 -- Each file has a schedule or a first refusal, and only one of them.
-use Rattle.std.proofs.Common.{◌≡◌, ◌⊎◌, inl, inr, ℕ, suc, ◌+◌, ◌<◌, ◌≤◌, Bool, true, false, cond, not, ltb, List, [], ◌∷◌, length, Result, Ok, Err, refl, sym, ap, subst, ◌∙◌, arith}
+use Rattle.std.proofs.Common.{◌≡◌, ◌⊎◌, inl, inr, ℕ, ◌+◌, ◌≤◌, Bool, true, false, not, ltb, List, [], ◌∷◌, length, Result, Ok, Err, refl, sym, ap, ◌∙◌, arith}
 use Rattle.std.specs.List.{list_any}
 use Rattle.std.specs.Option.{ok_or}
 use Rattle.std.specs.Str.{bytes_eq}
 use lib.Chars.{codes}
-use Rattle.schedule_text.specs.declared.fault.LineReason.{LineReason}
-use Rattle.schedule_text.specs.declared.fault.LineReason.TheVariants.{BadHeader, BadWord, TwiceNamed, TooMany}
-use Rattle.schedule_text.specs.declared.fault.LineFault.{LineFault}
-use Rattle.schedule_text.specs.declared.fault.LineFault.TheVariants as faults
+use Rattle.network_plan.specs.declared.schedule.Schedule.{Schedule}
+use Rattle.line_files.specs.declared.fault.LineReason.{LineReason}
+use Rattle.line_files.specs.declared.fault.LineReason.TheVariants.{BadHeader, BadWord, TwiceNamed, TooMany}
+use Rattle.line_files.specs.declared.fault.LineFault.{LineFault}
+use Rattle.line_files.specs.declared.fault.LineFault.TheVariants as faults
+use Rattle.line_files.specs.Lines.{lines, words}
+use Rattle.line_files.specs.Reads.{word_at, end_at, allowed}
+use Rattle.line_files.specs.Files.{is_skipped, at_line}
+use Rattle.line_files.specs.Programs.{named_word}
+use Rattle.line_files.proofs.Keeping.{IfRead, then_keeps, done_keeps, IfStep, step_done, step_none, step_is, at_line_keeps, either_keeps}
+use Rattle.line_files.proofs.Placing.{Placed, OnFault, err_is, fault_done, fault_here, at_line_placed, either_placed, Places, read_placed}
 use Rattle.schedule_text.specs.declared.keyword.NetworkWord.{NetworkWord}
 use Rattle.schedule_text.specs.declared.keyword.NetworkWord.TheVariants as network
-use Rattle.schedule_text.specs.declared.reading.OpenProgram.{OpenProgram}
+use Rattle.schedule_text.specs.declared.reading.BegunProgram.{BegunProgram}
 use Rattle.schedule_text.specs.declared.reading.Reading.{Reading}
 use Rattle.schedule_text.specs.declared.reading.Stage.{Stage}
 use Rattle.schedule_text.specs.declared.reading.Stage.TheVariants as stages
-use Rattle.schedule_text.specs.declared.schedule.Schedule.{Schedule}
+use Rattle.schedule_text.specs.declared.reading.ScheduleFile.{ScheduleFile}
 use Rattle.schedule_text.specs.Answers.{Says, IsRefused, Accepted, Refused}
-use Rattle.schedule_text.specs.Lines.{lines, words}
-use Rattle.schedule_text.specs.Reads.{and_then, word_at, end_at, allowed}
-use Rattle.schedule_text.specs.Parts.{is_called, named_word}
-use Rattle.schedule_text.specs.Schedules.{network_word, frames_line, host_line, link_line, opened, program_line, close_program, network_rest, network_line, event_line, is_skipped, at_line, with_line, staying, header_step, step, schedule_of_reading, finish, read_on, nothing_read, schedule_of}
-use Rattle.schedule_text.proofs.RuleLaws.{IfRead, then_keeps, done_keeps, IfStep, step_done, step_none, step_is, at_line_keeps, either_keeps}
+use Rattle.schedule_text.specs.Parts.{is_called}
+use Rattle.schedule_text.specs.Schedules.{network_word, frames_line, host_line, link_line, begun_at, program_line, close_program, network_rest, network_line, event_line, with_more, staying, step, schedule_of_reading, finish, file_after, schedule_format, nothing_read, schedule_of}
 
 -- a stage's program began at a line up to one
 abbrev Begun : ℕ → Stage → Type 0
 Begun number stages.Header = Unit {0}
 Begun number stages.Network = Unit {0}
-Begun number (stages.Inside begun) = (1 ≤ begun.line) × (begun.line ≤ number)
+Begun number (stages.Inside begun) = (1 ≤ begun.open.line) × (begun.open.line ≤ number)
 Begun number stages.Events = Unit {0}
 
 begun_later : (number : ℕ) (stage : Stage) → Begun number stage → Begun (number + 1) stage
@@ -35,38 +39,7 @@ begun_later number stages.Network b = tt
 begun_later number (stages.Inside begun) b = (b.0, omega (arith, b.1))
 begun_later number stages.Events b = tt
 
--- a refusal at a line up to one
-abbrev Placed : ℕ → LineFault → Type 0
-Placed high (faults.Line n r) = (1 ≤ n) × (n ≤ high)
-Placed high faults.NoMemory = ⊥
-
-placed_to : (high more : ℕ) (e : LineFault) → high ≤ more → Placed high e → Placed more e
-placed_to high more (faults.Line n r) le p = (p.0, omega (arith, p.1, le))
-placed_to high more faults.NoMemory le p = p
-
--- what holds of a refusal
-abbrev OnFault : {B : Type 0} → ℕ → Result B LineFault → Type 0
-OnFault {B} high r = (e : LineFault) → r ≡ Err e → Placed high e
-
-abbrev failed : {B : Type 0} → LineFault → Result B LineFault
-failed e = Err e
-
-err_is : {B : Type 0} (d e : LineFault) → failed {B = B} d ≡ failed e → d ≡ e
-err_is d e h = cc
-
-fault_done : {B : Type 0} (high : ℕ) (x : B) → OnFault {B = B} high (Ok x)
-fault_done high x e h = absurd cc
-
-fault_here : {B : Type 0} (high n : ℕ) (r : LineReason) → 1 ≤ n → n ≤ high → OnFault {B = B} high (Err (faults.Line n r))
-fault_here {B} high n r low le e h = subst (Placed high) (err_is {B = B} (faults.Line n r) e h) (low, le)
-
-at_line_placed : {B : Type 0} (high n : ℕ) (r : Result B LineReason) → 1 ≤ n → n ≤ high → OnFault high (at_line n r)
-at_line_placed high n (Ok x) low le = fault_done high x
-at_line_placed {B} high n (Err r) low le = fault_here {B = B} high n r low le
-
-either_placed : {B : Type 0} (high : ℕ) (t : Bool) (a b : Result B LineFault) → OnFault high a → OnFault high b → OnFault high (cond t a b)
-either_placed high true a b h k = h
-either_placed high false a b h k = k
+-- ---- where a line is refused
 
 step_placed : (number : ℕ) (line : List ℕ) (stage : Stage) (s : Reading) → 1 ≤ number → Begun number stage → OnFault number (step number line stage s)
 unfolding step
@@ -74,15 +47,27 @@ step_placed number line stages.Header s low b = either_placed number (bytes_eq l
 step_placed number line stages.Network s low b = either_placed number (is_skipped line) _ _ (fault_done number (stages.Network, s)) (at_line_placed number number (network_line number (words line) s) low (omega arith))
 step_placed number line (stages.Inside begun) s low b =
     either_placed number (bytes_eq line (codes "end program")) _ _
-    (at_line_placed number begun.line (staying stages.Network (close_program begun s)) b.0 b.1)
+    (at_line_placed number begun.open.line (staying stages.Network (close_program begun s)) b.0 b.1)
     (fault_done number _)
 step_placed number line stages.Events s low b = either_placed number (is_skipped line) _ _ (fault_done number (stages.Events, s)) (at_line_placed number number (staying stages.Events (event_line (words line) s)) low (omega arith))
 
-abbrev BegunBoth : ℕ → Stage × Reading → Type 0
-BegunBoth number x = Begun number x.0
+after_placed : (number : ℕ) (r : Result (Stage × Reading) LineFault) → OnFault number r → OnFault number (file_after r)
+after_placed number (Ok next) h = fault_done number _
+after_placed number (Err d) h e q = h e (ap (λ z. Err z) (err_is {B = ScheduleFile} d e q))
 
-abbrev OpensAt : ℕ → OpenProgram → Type 0
-OpensAt number begun = begun.line ≡ number
+finish_placed : (number : ℕ) (stage : Stage) (s : Reading) → 1 ≤ number → OnFault number (finish number stage s)
+finish_placed number stages.Header s low = fault_here {B = Schedule} number number BadHeader low (omega arith)
+finish_placed number stages.Network s low = fault_here {B = Schedule} number number BadWord low (omega arith)
+finish_placed number (stages.Inside begun) s low = fault_here {B = Schedule} number number BadWord low (omega arith)
+finish_placed number stages.Events s low = fault_done number (schedule_of_reading s)
+
+-- ---- where a program began
+
+abbrev BegunNext : ℕ → Stage × Reading → Type 0
+BegunNext number x = Begun number x.0
+
+abbrev OpensAt : ℕ → BegunProgram → Type 0
+OpensAt number begun = begun.open.line ≡ number
 
 opens : (number : ℕ) (ws : List (List ℕ)) (s : Reading) → IfRead (OpensAt number) (program_line number ws s)
 unfolding program_line
@@ -92,57 +77,57 @@ opens number ws s =
     then_keeps (OpensAt number) (named_word w.0 BadWord) _ (λ name hn.
     then_keeps (OpensAt number) (allowed (not (list_any (is_called w.0) s.programs)) TwiceNamed) _ (λ v hv.
     then_keeps (OpensAt number) (end_at w.1) _ (λ x hx.
-    done_keeps (OpensAt number) (opened number name) refl)))))
+    done_keeps (OpensAt number) (begun_at number name) refl)))))
 
-rest_begun : (kind : NetworkWord) (number : ℕ) (ws : List (List ℕ)) (s : Reading) → 1 ≤ number → IfRead (BegunBoth number) (network_rest kind number ws s)
+rest_begun : (kind : NetworkWord) (number : ℕ) (ws : List (List ℕ)) (s : Reading) → 1 ≤ number → IfRead (BegunNext number) (network_rest kind number ws s)
 unfolding network_rest
-rest_begun network.Frames number ws s low = then_keeps (BegunBoth number) (frames_line ws s) _ (λ t ht. done_keeps (BegunBoth number) (stages.Network, t) tt)
-rest_begun network.Host number ws s low = then_keeps (BegunBoth number) (host_line ws s) _ (λ t ht. done_keeps (BegunBoth number) (stages.Network, t) tt)
-rest_begun network.Link number ws s low = then_keeps (BegunBoth number) (link_line ws s) _ (λ t ht. done_keeps (BegunBoth number) (stages.Network, t) tt)
-rest_begun network.Program number ws s low = then_keeps (BegunBoth number) (program_line number ws s) _ (λ begun hb. done_keeps (BegunBoth number) (stages.Inside begun, s) (omega (arith, opens number ws s begun hb, low), omega (arith, opens number ws s begun hb)))
-rest_begun network.Events number ws s low = then_keeps (BegunBoth number) (end_at ws) _ (λ u hu. done_keeps (BegunBoth number) (stages.Events, s) tt)
+rest_begun network.Frames number ws s low = then_keeps (BegunNext number) (frames_line ws s) _ (λ t ht. done_keeps (BegunNext number) (stages.Network, t) tt)
+rest_begun network.Host number ws s low = then_keeps (BegunNext number) (host_line ws s) _ (λ t ht. done_keeps (BegunNext number) (stages.Network, t) tt)
+rest_begun network.Link number ws s low = then_keeps (BegunNext number) (link_line ws s) _ (λ t ht. done_keeps (BegunNext number) (stages.Network, t) tt)
+rest_begun network.Program number ws s low = then_keeps (BegunNext number) (program_line number ws s) _ (λ begun hb. done_keeps (BegunNext number) (stages.Inside begun, s) (omega (arith, opens number ws s begun hb, low), omega (arith, opens number ws s begun hb)))
+rest_begun network.Events number ws s low = then_keeps (BegunNext number) (end_at ws) _ (λ u hu. done_keeps (BegunNext number) (stages.Events, s) tt)
 
-line_begun : (number : ℕ) (ws : List (List ℕ)) (s : Reading) → 1 ≤ number → IfRead (BegunBoth number) (network_line number ws s)
+line_begun : (number : ℕ) (ws : List (List ℕ)) (s : Reading) → 1 ≤ number → IfRead (BegunNext number) (network_line number ws s)
 unfolding network_line
 line_begun number ws s low =
-    then_keeps (BegunBoth number) (word_at ws) _ (λ w hw.
-    then_keeps (BegunBoth number) (ok_or (network_word w.0) BadWord) _ (λ kind hk.
+    then_keeps (BegunNext number) (word_at ws) _ (λ w hw.
+    then_keeps (BegunNext number) (ok_or (network_word w.0) BadWord) _ (λ kind hk.
     rest_begun kind number w.1 s low))
 
-staying_begun : (number : ℕ) (stage : Stage) (r : Result Reading LineReason) → Begun number stage → IfRead (BegunBoth number) (staying stage r)
-staying_begun number stage (Ok s) b y e = done_keeps (BegunBoth number) (stage, s) b y e
+staying_begun : (number : ℕ) (stage : Stage) (r : Result Reading LineReason) → Begun number stage → IfRead (BegunNext number) (staying stage r)
+staying_begun number stage (Ok s) b y e = done_keeps (BegunNext number) (stage, s) b y e
 staying_begun number stage (Err r) b y e = absurd cc
 
-step_begun : (number : ℕ) (line : List ℕ) (stage : Stage) (s : Reading) → 1 ≤ number → Begun number stage → IfStep (BegunBoth number) (step number line stage s)
+step_begun : (number : ℕ) (line : List ℕ) (stage : Stage) (s : Reading) → 1 ≤ number → Begun number stage → IfStep (BegunNext number) (step number line stage s)
 unfolding step
-step_begun number line stages.Header s low b = either_keeps (BegunBoth number) (bytes_eq line (codes "planet schedule 1")) _ _ (step_done (BegunBoth number) (stages.Network, s) tt) (step_none (BegunBoth number) (faults.Line number BadHeader))
-step_begun number line stages.Network s low b = either_keeps (BegunBoth number) (is_skipped line) _ _ (step_done (BegunBoth number) (stages.Network, s) tt) (at_line_keeps (BegunBoth number) number (network_line number (words line) s) (line_begun number (words line) s low))
+step_begun number line stages.Header s low b = either_keeps (BegunNext number) (bytes_eq line (codes "planet schedule 1")) _ _ (step_done (BegunNext number) (stages.Network, s) tt) (step_none (BegunNext number) (faults.Line number BadHeader))
+step_begun number line stages.Network s low b = either_keeps (BegunNext number) (is_skipped line) _ _ (step_done (BegunNext number) (stages.Network, s) tt) (at_line_keeps (BegunNext number) number (network_line number (words line) s) (line_begun number (words line) s low))
 step_begun number line (stages.Inside begun) s low b =
-    either_keeps (BegunBoth number) (bytes_eq line (codes "end program")) _ _
-    (at_line_keeps (BegunBoth number) begun.line (staying stages.Network (close_program begun s)) (staying_begun number stages.Network (close_program begun s) tt))
-    (step_done (BegunBoth number) (stages.Inside (with_line begun line), s) b)
-step_begun number line stages.Events s low b = either_keeps (BegunBoth number) (is_skipped line) _ _ (step_done (BegunBoth number) (stages.Events, s) tt) (at_line_keeps (BegunBoth number) number (staying stages.Events (event_line (words line) s)) (staying_begun number stages.Events (event_line (words line) s) tt))
+    either_keeps (BegunNext number) (bytes_eq line (codes "end program")) _ _
+    (at_line_keeps (BegunNext number) begun.open.line (staying stages.Network (close_program begun s)) (staying_begun number stages.Network (close_program begun s) tt))
+    (step_done (BegunNext number) (stages.Inside (with_more begun line), s) b)
+step_begun number line stages.Events s low b = either_keeps (BegunNext number) (is_skipped line) _ _ (step_done (BegunNext number) (stages.Events, s) tt) (at_line_keeps (BegunNext number) number (staying stages.Events (event_line (words line) s)) (staying_begun number stages.Events (event_line (words line) s) tt))
 
-finish_placed : (number : ℕ) (stage : Stage) (s : Reading) → 1 ≤ number → OnFault number (finish number stage s)
-finish_placed number stages.Header s low = fault_here {B = Schedule} number number BadHeader low (omega arith)
-finish_placed number stages.Network s low = fault_here {B = Schedule} number number BadWord low (omega arith)
-finish_placed number (stages.Inside begun) s low = fault_here {B = Schedule} number number BadWord low (omega arith)
-finish_placed number stages.Events s low = fault_done number (schedule_of_reading s)
+-- ---- a whole file
 
-stopped_placed : (number more : ℕ) (r : Result (Stage × Reading) LineFault) (f : Stage × Reading → Result Schedule LineFault) → number ≤ more → OnFault number r → ((x : Stage × Reading) → r ≡ Ok x → OnFault more (f x)) → OnFault more (and_then r f)
-stopped_placed number more (Ok x) f le h k e q = k x refl e q
-stopped_placed number more (Err d) f le h k e q = placed_to number more e le (h e (ap failed (err_is {B = Schedule} d e q)))
+abbrev FileBegun : ℕ → ScheduleFile → Type 0
+FileBegun number f = Begun number f.stage
 
-read_placed : (ls : List (List ℕ)) (number : ℕ) (stage : Stage) (s : Reading) → 1 ≤ number → Begun number stage → OnFault (number + length ls) (read_on number ls stage s)
-unfolding read_on
-read_placed [] number stage s low b e h = placed_to number (number + length {A = List ℕ} []) e (omega arith) (finish_placed number stage s low e h)
-read_placed (line ∷ ls) number stage s low b e h =
-    stopped_placed number (number + length (line ∷ ls)) (step number line stage s) _ (omega arith) (step_placed number line stage s low b)
-    (λ next hn d q. placed_to (number + 1 + length ls) (number + length (line ∷ ls)) d (omega arith) (read_placed ls (number + 1) next.0 next.1 (omega (arith, low)) (begun_later number next.0 (step_begun number line stage s low b next hn)) d q)) e h
+after_begun : (number : ℕ) (r : Result (Stage × Reading) LineFault) → IfStep (BegunNext number) r → IfStep (FileBegun number) (file_after r)
+after_begun number (Ok next) h y e = step_done (FileBegun number) _ (h next refl) y e
+after_begun number (Err d) h y e = absurd cc
+
+places : Places schedule_format FileBegun
+places = record {
+  later = λ number f b. begun_later number f.stage b;
+  kept = λ number line f low b. after_begun number (step number line f.stage f.reading) (step_begun number line f.stage f.reading low b);
+  step = λ number line f low b. after_placed number (step number line f.stage f.reading) (step_placed number line f.stage f.reading low b);
+  finish = λ number f low b. finish_placed number f.stage f.reading low;
+}
 
 bytes_placed : (bytes : List ℕ) → OnFault (1 + length (lines bytes)) (schedule_of bytes)
 unfolding schedule_of
-bytes_placed bytes = read_placed (lines bytes) 1 stages.Header nothing_read (omega arith) tt
+bytes_placed bytes = read_placed schedule_format FileBegun places (lines bytes) 1 nothing_read (omega arith) tt
 
 answered : (bytes : List ℕ) (r : Result Schedule LineFault) → schedule_of bytes ≡ r → OnFault (1 + length (lines bytes)) r → Accepted bytes ⊎ Refused bytes
 answered bytes (Ok s) e h = inl (record { schedule = s; says = e })

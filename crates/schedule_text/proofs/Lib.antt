@@ -1,8 +1,4 @@
-pub mod Splits
-pub mod Digits
-pub mod CallLaws
-pub mod TextLaws
-pub mod PackageLists
-pub mod FileLaws
+pub mod NetworkRules
 pub mod RuleLaws
 pub mod AnswerLaws
+pub mod FormatLaws

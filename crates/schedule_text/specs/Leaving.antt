@@ -1,13 +1,11 @@
 -- What a reader of a line leaves, beside the stage that comes next.
-use Rattle.std.specs.Prelude.{◌≡◌, ℕ, Result, Ok, Err}
-use Rattle.plan_base.specs.declared.tree.Chunk.{Chunk}
-use Rattle.schedule_text.specs.declared.fault.LineReason.{LineReason}
-use Rattle.schedule_text.specs.declared.fault.LineFault.{LineFault}
-use Rattle.schedule_text.specs.declared.fault.Stop.{Stop}
+use Rattle.std.specs.Prelude.{◌≡◌, Result, Ok, Err}
+use Rattle.line_files.specs.declared.fault.LineReason.{LineReason}
+use Rattle.line_files.specs.declared.fault.LineFault.{LineFault}
+use Rattle.line_files.specs.declared.fault.Stop.{Stop}
+use Rattle.line_files.specs.Reads.{Fails, FileFails}
 use Rattle.schedule_text.specs.declared.reading.Reading.{Reading}
 use Rattle.schedule_text.specs.declared.reading.Stage.{Stage}
-use Rattle.schedule_text.specs.Reads.{Fails, FileFails}
-use Rattle.schedule_text.specs.Schedules.{Injection}
 
 -- the stage that comes next and the reading that was left are what is read
 abbrev pub LeavesStage : Result Stage Stop → Reading → Result (Stage × Reading) LineReason → Type 0
@@ -18,7 +16,3 @@ LeavesStage (Err e) new read = Fails e read
 abbrev pub LeavesStep : Result Stage LineFault → Reading → Result (Stage × Reading) LineFault → Type 0
 LeavesStep (Ok stage) new read = read ≡ Ok (stage, new)
 LeavesStep (Err e) new read = FileFails e read
-
--- an injection in three parts
-abbrev pub injection : ℕ × Chunk × ℕ → Injection
-injection (n, chunk, bound) = record { host = n; chunk = chunk; bound = bound }

@@ -1,12 +1,4 @@
-pub mod Lines
-pub mod Reads
-pub mod Numbers
-pub mod Packages
 pub mod Parts
-pub mod Calls
-pub mod Built
-pub mod Programs
 pub mod Schedules
 pub mod Leaving
-pub mod Rules
 pub mod Answers

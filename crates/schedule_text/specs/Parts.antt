@@ -1,57 +1,36 @@
--- What the lines of a schedule name: hosts, devices, packages, programs and their functions.
-use Rattle.std.specs.Prelude.{ℕ, ◌+◌, ◌^◌, Bool, true, false, not, ◌&&◌, ◌||◌, if◌then◌else◌, ◌==◌, nat_le, nat_lt, List, [], ◌∷◌, ◌++◌, length, Option, Some, None, Result, Ok, Err}
-use Rattle.std.specs.List.{list_any, find}
+-- What the lines of a schedule name: hosts, devices and programs.
+use Rattle.std.specs.Prelude.{ℕ, Bool, not, List, Result, Ok}
+use Rattle.std.specs.List.{find}
 use Rattle.std.specs.Option.{ok_or}
 use Rattle.std.specs.Str.{bytes_eq}
 use Rattle.plan_base.specs.declared.ids.Host.{Host}
 use Rattle.plan_base.specs.declared.ids.Dev.{Dev}
-use Rattle.plan_base.specs.declared.name.Name.{Name}
-use Rattle.plan_base.specs.Words.{is_name}
-use Rattle.plan_base.specs.declared.tree.Fun.{Fun}
-use Rattle.schedule_text.specs.declared.fault.LineReason.{LineReason}
-use Rattle.schedule_text.specs.declared.fault.LineReason.TheVariants.{BadWord, UnknownHost, UnknownProgram, TwiceNamed, BadArgument}
-use Rattle.schedule_text.specs.declared.schedule.HostSpec.{HostSpec}
+use Rattle.network_plan.specs.declared.schedule.HostSpec.{HostSpec}
+use Rattle.network_plan.specs.Hosts.{Cable, host_of, dev_of, has_host, has_link}
+use Rattle.line_files.specs.declared.fault.LineReason.TheVariants.{UnknownHost, UnknownProgram, TwiceNamed}
+use Rattle.line_files.specs.Reads.{◌>>=◌, Part, word_at, allowed}
+use Rattle.line_files.specs.Numbers.{number_at}
 use Rattle.schedule_text.specs.declared.reading.NamedProgram.{NamedProgram}
-use Rattle.schedule_text.specs.Reads.{◌>>=◌, Part, word_at, allowed}
-use Rattle.schedule_text.specs.Numbers.{number_at}
-
--- a host by its number
-abbrev pub host_of : ℕ → Host
-host_of n = record { 0 = n }
-
--- a device by its number
-abbrev pub dev_of : ℕ → Dev
-dev_of n = record { 0 = n }
-
--- a link: a device of one host and a device of another
-abbrev pub Link : Type 0
-Link = Host × Dev × Host × Dev
-
--- whether a host is among those named so far
-abbrev pub is_host : List HostSpec → ℕ → Bool
-is_host hosts n = list_any (λ h. h.host.0 == n) hosts
-
--- whether a link ends at a device of a host
-abbrev pub ends_link : ℕ → ℕ → Link → Bool
-ends_link n d l = (l.0.0 == n && l.1.0 == d) || (l.2.0 == n && l.3.0 == d)
-
--- whether a device of a host has a link
-abbrev pub is_used : List Link → ℕ → ℕ → Bool
-is_used links n d = list_any (ends_link n d) links
 
 -- the next word as a host that was named
-unfoldable pub host_at : List HostSpec → List (List ℕ) → Part ℕ
+unfoldable pub host_at : List HostSpec → List (List ℕ) → Part Host
 host_at hosts ws = do
   n ← number_at 0 4294967295 ws
-  _ ← allowed (is_host hosts n.0) UnknownHost
-  Ok n
+  _ ← allowed (has_host (host_of n.0) hosts) UnknownHost
+  Ok (host_of n.0, n.1)
+
+-- the next word as a device
+unfoldable pub device_at : List (List ℕ) → Part Dev
+device_at ws = do
+  d ← number_at 0 8 ws
+  Ok (dev_of d.0, d.1)
 
 -- the next word as a device of a host that has no link yet
-unfoldable pub free_device_at : List Link → ℕ → List (List ℕ) → Part ℕ
-free_device_at links n ws = do
+unfoldable pub free_device_at : List Cable → Host → List (List ℕ) → Part Dev
+free_device_at links h ws = do
   d ← number_at 1 8 ws
-  _ ← allowed (not (is_used links n d.0)) TwiceNamed
-  Ok d
+  _ ← allowed (not (has_link h (dev_of d.0) links)) TwiceNamed
+  Ok (dev_of d.0, d.1)
 
 -- whether a program has a name
 abbrev pub is_called : List ℕ → NamedProgram → Bool
@@ -63,18 +42,3 @@ program_at programs ws = do
   w ← word_at ws
   p ← ok_or (find (is_called w.0) programs) UnknownProgram
   Ok (p, w.1)
-
--- whether a function has a name
-abbrev pub has_name : List ℕ → Fun → Bool
-has_name name f = bytes_eq f.name name
-
--- the next word as a function's name
-unfoldable pub entry_at : List Fun → List (List ℕ) → Part Fun
-entry_at funs ws = do
-  w ← word_at ws
-  f ← ok_or (find (has_name w.0) funs) BadArgument
-  Ok (f, w.1)
-
--- a word as a name, or else a reason
-abbrev pub named_word : List ℕ → LineReason → Result Name LineReason
-named_word w reason = if is_name w then Ok w else Err reason

@@ -1,5 +1,5 @@
 -- What each line of a schedule says, and what a whole file says: a schedule, or the first line that is outside the format.
-use Rattle.std.specs.Prelude.{ℕ, ◌+◌, Bool, true, false, not, ◌&&◌, ◌||◌, if◌then◌else◌, ◌==◌, nat_le, nat_lt, List, [], ◌∷◌, ◌++◌, length, Option, Some, None, Result, Ok, Err}
+use Rattle.std.specs.Prelude.{ℕ, Bool, true, false, not, ◌&&◌, if◌then◌else◌, ◌==◌, nat_lt, List, [], ◌∷◌, ◌++◌, length, Option, Some, None, Result, Ok, Err}
 use Rattle.std.specs.List.{list_any}
 use Rattle.std.specs.Option.{ok_or}
 use Rattle.std.specs.Str.{bytes_eq}
@@ -9,34 +9,34 @@ use Rattle.plan_base.specs.declared.ids.Dev.{Dev}
 use Rattle.plan_base.specs.declared.name.Name.{Name}
 use Rattle.plan_base.specs.declared.tree.Chunk.{Chunk}
 use Rattle.plan_base.specs.declared.tree.Program.{Program}
-use Rattle.plan_base.specs.Sizes.{chunk_weight}
-use Rattle.schedule_text.specs.declared.fault.LineReason.{LineReason}
-use Rattle.schedule_text.specs.declared.fault.LineReason.TheVariants.{BadHeader, BadWord, TwiceNamed, TooMany, BadArgument, NotYet}
-use Rattle.schedule_text.specs.declared.fault.LineFault.{LineFault}
-use Rattle.schedule_text.specs.declared.fault.LineFault.TheVariants as faults
-use Rattle.schedule_text.specs.declared.schedule.HostSpec.{HostSpec}
-use Rattle.schedule_text.specs.declared.schedule.Schedule.{Schedule}
-use Rattle.schedule_text.specs.declared.schedule.WorldEvent.{WorldEvent}
-use Rattle.schedule_text.specs.declared.schedule.WorldEvent.TheVariants as happens
+use Rattle.service_api.specs.declared.package.PackageName.{PackageName}
+use Rattle.network_plan.specs.declared.schedule.HostSpec.{HostSpec}
+use Rattle.network_plan.specs.declared.schedule.Schedule.{Schedule}
+use Rattle.network_plan.specs.declared.event.WorldEvent.{WorldEvent}
+use Rattle.network_plan.specs.declared.event.WorldEvent.TheVariants as happens
+use Rattle.network_plan.specs.Hosts.{Cable, host_of, has_host}
+use Rattle.line_files.specs.declared.fault.LineReason.{LineReason}
+use Rattle.line_files.specs.declared.fault.LineReason.TheVariants.{BadHeader, BadWord, TwiceNamed, TooMany, BadArgument}
+use Rattle.line_files.specs.declared.fault.LineFault.{LineFault}
+use Rattle.line_files.specs.declared.fault.LineFault.TheVariants as faults
+use Rattle.line_files.specs.Lines.{words}
+use Rattle.line_files.specs.Reads.{◌>>=◌, word_at, end_at, allowed}
+use Rattle.line_files.specs.Files.{Format, is_skipped, at_line, file_of}
+use Rattle.line_files.specs.Numbers.{number_at}
+use Rattle.line_files.specs.Packages.{packages_at}
+use Rattle.line_files.specs.HexWords.{hex_at}
+use Rattle.line_files.specs.Programs.{opened, with_line, program_in, named_word, injection_at, weighed}
 use Rattle.schedule_text.specs.declared.reading.NamedProgram.{NamedProgram}
 use Rattle.schedule_text.specs.declared.reading.Reading.{Reading}
-use Rattle.schedule_text.specs.declared.reading.OpenProgram.{OpenProgram}
+use Rattle.schedule_text.specs.declared.reading.BegunProgram.{BegunProgram}
 use Rattle.schedule_text.specs.declared.reading.Stage.{Stage}
 use Rattle.schedule_text.specs.declared.reading.Stage.TheVariants as stages
+use Rattle.schedule_text.specs.declared.reading.ScheduleFile.{ScheduleFile}
 use Rattle.schedule_text.specs.declared.keyword.NetworkWord.{NetworkWord}
 use Rattle.schedule_text.specs.declared.keyword.NetworkWord.TheVariants as network
 use Rattle.schedule_text.specs.declared.keyword.EventWord.{EventWord}
 use Rattle.schedule_text.specs.declared.keyword.EventWord.TheVariants as event
-use Rattle.schedule_text.specs.Lines.{lines, words}
-use Rattle.schedule_text.specs.Reads.{◌>>=◌, and_then, Part, word_at, end_at, allowed}
-use Rattle.schedule_text.specs.Numbers.{number_at}
-use Rattle.schedule_text.specs.Packages.{packages_at}
-use Rattle.schedule_text.specs.Parts.{Link, host_of, dev_of, is_host, host_at, free_device_at, is_called, program_at, entry_at, named_word}
-use Rattle.schedule_text.specs.Built.{is_built, lacking, a_tick}
-use Rattle.schedule_text.specs.Programs.{program_in, args_at, chunk_with, typed_chunk}
-
-abbrev pub host_spec : ℕ → HostSpec
-host_spec n = record { host = host_of n }
+use Rattle.schedule_text.specs.Parts.{host_at, device_at, free_device_at, is_called, program_at}
 
 -- the first word of a line of the network
 abbrev pub network_word : List ℕ → Option NetworkWord
@@ -44,7 +44,7 @@ network_word w = if bytes_eq w (codes "frames") then Some network.Frames else (i
 
 -- the first word of an event
 abbrev pub event_word : List ℕ → Option EventWord
-event_word w = if bytes_eq w (codes "inject") then Some event.Inject else (if bytes_eq w (codes "send") then Some event.Send else (if bytes_eq w (codes "deliver") then Some event.Deliver else (if bytes_eq w (codes "lose") then Some event.Lose else (if bytes_eq w (codes "tick") then Some event.Tick else None))))
+event_word w = if bytes_eq w (codes "inject") then Some event.Inject else (if bytes_eq w (codes "send") then Some event.Send else (if bytes_eq w (codes "deliver") then Some event.Deliver else (if bytes_eq w (codes "lose") then Some event.Lose else (if bytes_eq w (codes "tick") then Some event.Tick else (if bytes_eq w (codes "raw") then Some event.Raw else None)))))
 
 -- whether no line of the network was read; a link needs hosts
 abbrev pub is_first : Reading → Bool
@@ -57,19 +57,18 @@ frames_line ws s = do
   _ ← end_at ws
   Ok (record s { frames = true })
 
+-- a host that lacks packages
+abbrev pub host_spec : ℕ → List PackageName → HostSpec
+host_spec n missing = record { host = host_of n; missing = missing }
+
 -- `host N`, then `without PACKAGE` any number of times
 unfoldable pub host_line : List (List ℕ) → Reading → Result Reading LineReason
 host_line ws s = do
   _ ← allowed (nat_lt (length s.hosts) 32) TooMany
   n ← number_at 0 4294967295 ws
-  _ ← allowed (not (is_host s.hosts n.0)) TwiceNamed
+  _ ← allowed (not (has_host (host_of n.0) s.hosts)) TwiceNamed
   missing ← packages_at [] n.1
-  _ ← allowed (is_built (lacking missing)) NotYet
-  Ok (record s { hosts = s.hosts ++ host_spec n.0 ∷ [] })
-
--- the link of two devices of different hosts
-abbrev pub link_of : ℕ → ℕ → ℕ → ℕ → Link
-link_of n d m e = (host_of n, dev_of d, host_of m, dev_of e)
+  Ok (record s { hosts = s.hosts ++ host_spec n.0 missing ∷ [] })
 
 -- `link N D M E`
 unfoldable pub link_line : List (List ℕ) → Reading → Result Reading LineReason
@@ -77,32 +76,32 @@ link_line ws s = do
   n ← host_at s.hosts ws
   d ← free_device_at s.links n.0 n.1
   m ← host_at s.hosts d.1
-  _ ← allowed (not (m.0 == n.0)) BadArgument
+  _ ← allowed (not (m.0.0 == n.0.0)) BadArgument
   e ← free_device_at s.links m.0 m.1
   _ ← end_at e.1
-  Ok (record s { links = s.links ++ link_of n.0 d.0 m.0 e.0 ∷ [] })
+  Ok (record s { links = s.links ++ (n.0, d.0, m.0, e.0) ∷ [] })
 
 -- a program without text, begun at a line
-abbrev pub opened : ℕ → Name → OpenProgram
-opened number name = record { line = number; name = name; text = [] }
+abbrev pub begun_at : ℕ → Name → BegunProgram
+begun_at number name = record { name = name; open = opened number }
 
 -- `program NAME`
-unfoldable pub program_line : ℕ → List (List ℕ) → Reading → Result OpenProgram LineReason
+unfoldable pub program_line : ℕ → List (List ℕ) → Reading → Result BegunProgram LineReason
 program_line number ws s = do
   _ ← allowed (nat_lt (length s.programs) 64) TooMany
   w ← word_at ws
   name ← named_word w.0 BadWord
   _ ← allowed (not (list_any (is_called w.0) s.programs)) TwiceNamed
   _ ← end_at w.1
-  Ok (opened number name)
+  Ok (begun_at number name)
 
 abbrev pub named : Name → Program → NamedProgram
 named name program = record { name = name; program = program }
 
 -- the end of a program's text
-unfoldable pub close_program : OpenProgram → Reading → Result Reading LineReason
+unfoldable pub close_program : BegunProgram → Reading → Result Reading LineReason
 close_program begun s = do
-  program ← program_in begun.text
+  program ← program_in begun.open.text
   Ok (record s { programs = s.programs ++ named begun.name program ∷ [] })
 
 -- a line of the network behind its first word, and what may come next
@@ -134,37 +133,28 @@ network_line number ws s = do
 abbrev pub with_event : Reading → WorldEvent → Reading
 with_event s e = record s { events = s.events ++ e ∷ [] }
 
--- what an injection says: where, what, and with which bound
-pub record Injection : Type 0 where
-  pub host : ℕ
-  pub chunk : Chunk
-  pub bound : ℕ
+-- `inject N PROGRAM ENTRY BOUND ARGS` behind its first word: where, what, and with which bound
+unfoldable pub injected_at : Reading → List (List ℕ) → Result (Host × Chunk × ℕ) LineReason
+injected_at s ws = do
+  h ← host_at s.hosts ws
+  p ← program_at s.programs h.1
+  i ← injection_at p.0.program p.1
+  Ok (h.0, i.0, i.1)
 
--- `inject N PROGRAM ENTRY BOUND ARGS` behind its first word
-unfoldable pub injection_at : Reading → List (List ℕ) → Result Injection LineReason
-injection_at s ws = do
-  n ← host_at s.hosts ws
-  p ← program_at s.programs n.1
-  f ← entry_at p.0.program.funs p.1
-  bound ← number_at 0 65535 f.1
-  args ← args_at bound.1
-  chunk ← typed_chunk (chunk_with p.0.program f.0.name args)
-  Ok (record { host = n.0; chunk = chunk; bound = bound.0 })
-
--- an injection, whose chunk weighs as a value, its tag counted
+-- an injection, whose chunk is weighed last
 unfoldable pub inject_line : List (List ℕ) → Reading → Result Reading LineReason
 inject_line ws s = do
-  i ← injection_at s ws
-  _ ← allowed (nat_le (s.weight + (1 + chunk_weight i.chunk)) 16777216) TooMany
-  Ok (record (with_event s (happens.Inject (host_of i.host) i.chunk i.bound)) { weight = s.weight + (1 + chunk_weight i.chunk) })
+  i ← injected_at s ws
+  total ← weighed s.weight i.1
+  Ok (record (with_event s (happens.Inject i.0 i.1 i.2)) { weight = total })
 
 -- `send N D`
 unfoldable pub send_line : List (List ℕ) → Reading → Result Reading LineReason
 send_line ws s = do
-  n ← host_at s.hosts ws
-  d ← number_at 0 8 n.1
+  h ← host_at s.hosts ws
+  d ← device_at h.1
   _ ← end_at d.1
-  Ok (with_event s (happens.Send (host_of n.0) (dev_of d.0)))
+  Ok (with_event s (happens.Send h.0 d.0))
 
 -- the number of a frame, alone
 unfoldable pub frame_at : List (List ℕ) → Result ℕ LineReason
@@ -188,10 +178,18 @@ lose_line ws s = do
 -- `tick N`
 unfoldable pub tick_line : List (List ℕ) → Reading → Result Reading LineReason
 tick_line ws s = do
-  n ← host_at s.hosts ws
-  _ ← end_at n.1
-  _ ← allowed (is_built a_tick) NotYet
-  Ok s
+  h ← host_at s.hosts ws
+  _ ← end_at h.1
+  Ok (with_event s (happens.Tick h.0))
+
+-- `raw N D HEX`
+unfoldable pub raw_line : List (List ℕ) → Reading → Result Reading LineReason
+raw_line ws s = do
+  h ← host_at s.hosts ws
+  d ← device_at h.1
+  bytes ← hex_at 1 16513 d.1
+  _ ← end_at bytes.1
+  Ok (with_event s (happens.Raw h.0 d.0 bytes.0))
 
 -- an event behind its first word
 unfoldable pub event_rest : EventWord → List (List ℕ) → Reading → Result Reading LineReason
@@ -200,6 +198,7 @@ event_rest event.Send ws s = send_line ws s
 event_rest event.Deliver ws s = deliver_line ws s
 event_rest event.Lose ws s = lose_line ws s
 event_rest event.Tick ws s = tick_line ws s
+event_rest event.Raw ws s = raw_line ws s
 
 -- an event
 unfoldable pub event_line : List (List ℕ) → Reading → Result Reading LineReason
@@ -209,19 +208,9 @@ event_line ws s = do
   _ ← allowed (nat_lt (length s.events) 50000) TooMany
   event_rest k w.1 s
 
--- a line that says nothing: empty, or a comment
-abbrev pub is_skipped : List ℕ → Bool
-is_skipped [] = true
-is_skipped (b ∷ bytes) = b == 35
-
--- a reason at its line
-abbrev pub at_line : {A : Type 0} → ℕ → Result A LineReason → Result A LineFault
-at_line number (Ok x) = Ok x
-at_line number (Err reason) = Err (faults.Line number reason)
-
 -- a line more of a program
-abbrev pub with_line : OpenProgram → List ℕ → OpenProgram
-with_line begun line = record begun { text = begun.text ++ line ++ 10 ∷ [] }
+abbrev pub with_more : BegunProgram → List ℕ → BegunProgram
+with_more begun line = record begun { open = with_line begun.open line }
 
 -- a stage that stays, with what was read
 abbrev pub staying : Stage → Result Reading LineReason → Result (Stage × Reading) LineReason
@@ -237,8 +226,8 @@ abbrev pub network_step : ℕ → List ℕ → Reading → Result (Stage × Read
 network_step number line s = if is_skipped line then Ok (stages.Network, s) else at_line number (network_line number (words line) s)
 
 -- a line of a program, or the line that ends it
-abbrev pub program_step : List ℕ → OpenProgram → Reading → Result (Stage × Reading) LineFault
-program_step line begun s = if bytes_eq line (codes "end program") then at_line begun.line (staying stages.Network (close_program begun s)) else Ok (stages.Inside (with_line begun line), s)
+abbrev pub program_step : List ℕ → BegunProgram → Reading → Result (Stage × Reading) LineFault
+program_step line begun s = if bytes_eq line (codes "end program") then at_line begun.open.line (staying stages.Network (close_program begun s)) else Ok (stages.Inside (with_more begun line), s)
 
 -- an event
 abbrev pub event_step : ℕ → List ℕ → Reading → Result (Stage × Reading) LineFault
@@ -260,15 +249,19 @@ finish number stages.Header s = Err (faults.Line number BadHeader)
 finish number stages.Events s = Ok (schedule_of_reading s)
 finish number _ s = Err (faults.Line number BadWord)
 
--- what the lines from the one with a number on say, behind what those above it said
-unfoldable pub read_on : ℕ → List (List ℕ) → Stage → Reading → Result Schedule LineFault
-read_on number [] stage s = finish number stage s
-read_on number (line ∷ more) stage s = and_then (step number line stage s) (λ next. read_on (number + 1) more next.0 next.1)
+-- a file behind a line
+abbrev pub file_after : Result (Stage × Reading) LineFault → Result ScheduleFile LineFault
+file_after (Ok next) = Ok (record { stage = next.0; reading = next.1 })
+file_after (Err e) = Err e
+
+-- schedules as a format of files of lines
+abbrev pub schedule_format : Format ScheduleFile Schedule
+schedule_format = record { step = λ number line f. file_after (step number line f.stage f.reading); finish = λ number f. finish number f.stage f.reading }
 
 -- nothing read yet
-abbrev pub nothing_read : Reading
-nothing_read = record { frames = false; hosts = []; links = []; programs = []; events = []; weight = 0 }
+abbrev pub nothing_read : ScheduleFile
+nothing_read = record { stage = stages.Header; reading = record { frames = false; hosts = []; links = []; programs = []; events = []; weight = 0 } }
 
 -- what a file says: its schedule, or its first line outside the format with the reason
 unfoldable pub schedule_of : List ℕ → Result Schedule LineFault
-schedule_of bytes = read_on 1 (lines bytes) stages.Header nothing_read
+schedule_of bytes = file_of schedule_format nothing_read bytes

@@ -1,37 +1,30 @@
 ghost use Rattle.std.specs.Prelude.{◌≡◌};
-ghost use Rattle.schedule_text.specs.Reads.{Leaves, Gives};
-ghost use Rattle.schedule_text.specs.Leaving.{injection};
-ghost use Rattle.schedule_text.specs.Schedules.{injection_at, inject_line, send_line, frame_at, deliver_line, lose_line, tick_line, event_rest, event_line};
+ghost use Rattle.line_files.specs.Reads.{Leaves, Gives};
+ghost use Rattle.schedule_text.specs.Schedules.{injected_at, inject_line, send_line, frame_at, deliver_line, lose_line, tick_line, raw_line, event_rest, event_line};
 
-use crate::fault::{LineReason, Stop};
 use crate::keyword::EventWord;
-use crate::numbers::number;
-use crate::parts::{known_entry, known_host, known_program};
-use crate::program::{arguments, typed_chunk};
+use crate::parts::{device, known_host, known_program};
 use crate::reading::Reading;
-use crate::schedule::WorldEvent;
-use crate::words::{Words, allow};
 use chunk_types::CheckedChunk;
-use plan_base::{Dev, Host, chunk_weight};
+use line_files::{LineReason, Stop, Words, allow, hex_bytes, injection, number, weighed};
+use network_plan::WorldEvent;
+use plan_base::Host;
 use std::alloc::Global;
 
 /// `inject N PROGRAM ENTRY BOUND ARGS` behind the first word: where, what and with which bound.
 /// Reasons: `BadWord`, `BadNumber`, `UnknownHost`, `UnknownProgram`, `BadArgument`.
-#[tactic(auto, unfolding(crate::specs::Schedules::injection_at))]
+#[tactic(auto, unfolding(crate::specs::Schedules::injected_at))]
 fn read_injection(
     alloc: Global,
     reading: &Reading,
     words: &mut Words<'_>,
-) -> Result<(u32, CheckedChunk, u32), Stop>
-    ensures { Gives injection result (injection_at reading.now words.old) }
+) -> Result<(Host, CheckedChunk, u32), Stop>
+    ensures { Gives (λ i. i) result (injected_at reading.now words.old) }
 {
-    let n = known_host(reading.hosts.as_slice(), words)?;
+    let host = known_host(reading.hosts.as_slice(), words)?;
     let named = known_program(reading.programs.as_slice(), words)?;
-    let fun = known_entry(named.program.program().funs.as_slice(), words)?;
-    let bound = number(words, 0, 65_535)?;
-    let args = arguments(alloc, words)?;
-    let chunk = typed_chunk(alloc, &named.program, &fun.name, args)?;
-    Ok((n, chunk, bound))
+    let (chunk, bound) = injection(alloc, &named.program, words)?;
+    Ok((host, chunk, bound))
 }
 
 /// An injection behind its first word. Reasons: those of [`read_injection`], and `TooMany`.
@@ -39,14 +32,9 @@ fn read_injection(
 fn inject(alloc: Global, reading: &mut Reading, words: &mut Words<'_>) -> Result<(), Stop>
     ensures { Leaves result reading.new (inject_line words.old reading.old) }
 {
-    let (n, chunk, bound) = read_injection(alloc, reading, words)?;
-    let weight = chunk_weight(chunk.chunk())
-        .saturating_add(1)
-        .saturating_add(reading.weight);
-    allow(weight <= 16_777_216, LineReason::TooMany)?;
-    reading
-        .events
-        .add(WorldEvent::Inject(Host(n), chunk, bound))?;
+    let (host, chunk, bound) = read_injection(alloc, reading, words)?;
+    let weight = weighed(reading.weight, chunk.chunk())?;
+    reading.events.add(WorldEvent::Inject(host, chunk, bound))?;
     reading.weight = weight;
     Ok(())
 }
@@ -56,10 +44,10 @@ fn inject(alloc: Global, reading: &mut Reading, words: &mut Words<'_>) -> Result
 fn send(reading: &mut Reading, words: &mut Words<'_>) -> Result<(), Stop>
     ensures { Leaves result reading.new (send_line words.old reading.old) }
 {
-    let n = known_host(reading.hosts.as_slice(), words)?;
-    let d = number(words, 0, 8)?;
+    let host = known_host(reading.hosts.as_slice(), words)?;
+    let dev = device(words)?;
     words.end()?;
-    reading.events.add(WorldEvent::Send(Host(n), Dev(d)))?;
+    reading.events.add(WorldEvent::Send(host, dev))?;
     Ok(())
 }
 
@@ -93,14 +81,29 @@ fn lose(reading: &mut Reading, words: &mut Words<'_>) -> Result<(), Stop>
     Ok(())
 }
 
-/// `tick N` behind its first word. Reasons: `BadWord`, `BadNumber`, `UnknownHost`, `NotYet`.
+/// `tick N` behind its first word. Reasons: `BadWord`, `BadNumber`, `UnknownHost`.
 #[tactic(auto, unfolding(crate::specs::Schedules::tick_line))]
 fn tick(reading: &mut Reading, words: &mut Words<'_>) -> Result<(), Stop>
     ensures { Leaves result reading.new (tick_line words.old reading.old) }
 {
-    known_host(reading.hosts.as_slice(), words)?;
+    let host = known_host(reading.hosts.as_slice(), words)?;
     words.end()?;
-    Err(Stop::Reason(LineReason::NotYet))
+    reading.events.add(WorldEvent::Tick(host))?;
+    Ok(())
+}
+
+/// `raw N D HEX` behind its first word, of 1 to 16,513 bytes. Reasons: `BadWord`, `BadNumber`, `UnknownHost`,
+/// `BadArgument`.
+#[tactic(auto, unfolding(crate::specs::Schedules::raw_line))]
+fn raw(alloc: Global, reading: &mut Reading, words: &mut Words<'_>) -> Result<(), Stop>
+    ensures { Leaves result reading.new (raw_line words.old reading.old) }
+{
+    let host = known_host(reading.hosts.as_slice(), words)?;
+    let dev = device(words)?;
+    let bytes = hex_bytes(alloc, words, 1, 16_513)?;
+    words.end()?;
+    reading.events.add(WorldEvent::Raw(host, dev, bytes))?;
+    Ok(())
 }
 
 /// An event behind its first word.
@@ -119,6 +122,7 @@ fn read_rest(
         EventWord::Deliver => deliver(reading, words),
         EventWord::Lose => lose(reading, words),
         EventWord::Tick => tick(reading, words),
+        EventWord::Raw => raw(alloc, reading, words),
     }
 }
 

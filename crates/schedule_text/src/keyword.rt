@@ -1,7 +1,7 @@
 ghost use Rattle.std.specs.Prelude.{◌≡◌};
 ghost use Rattle.schedule_text.specs.Schedules.{network_word, event_word};
 
-use crate::words::is;
+use line_files::is;
 
 /// The first word of a line of the network.
 #[derive(Debug, Clone, Copy, PartialEq, Eq)]
@@ -31,6 +31,8 @@ pub enum EventWord {
     Lose,
     /// `tick`
     Tick,
+    /// `raw`
+    Raw,
 }
 
 impl NetworkWord {
@@ -69,6 +71,8 @@ impl EventWord {
             Some(EventWord::Lose)
         } else if is(word, b"tick") {
             Some(EventWord::Tick)
+        } else if is(word, b"raw") {
+            Some(EventWord::Raw)
         } else {
             None
         }

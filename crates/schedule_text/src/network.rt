@@ -1,18 +1,16 @@
 ghost use Rattle.std.specs.Prelude.{◌≡◌};
-ghost use Rattle.schedule_text.specs.Reads.{Leaves, Gives};
+ghost use Rattle.line_files.specs.Reads.{Leaves, Gives};
 ghost use Rattle.schedule_text.specs.Schedules.{is_first, frames_line, host_line, link_line, program_line, close_program, network_rest, network_line};
 ghost use Rattle.schedule_text.specs.Leaving.{LeavesStage};
 
-use crate::fault::{LineReason, Stop};
 use crate::keyword::NetworkWord;
-use crate::numbers::number;
-use crate::package::packages;
-use crate::parts::{free_device, is_known_host, is_known_program, known_host, name_of};
-use crate::program::program;
-use crate::reading::{NamedProgram, OpenProgram, Reading, Stage};
-use crate::schedule::HostSpec;
-use crate::words::{Words, allow};
-use plan_base::{Bytes, Dev, Host};
+use crate::parts::{free_device, is_known_program, known_host};
+use crate::reading::{BegunProgram, NamedProgram, Reading, Stage};
+use line_files::{
+    LineReason, OpenProgram, Stop, Words, allow, name_of, number, packages, program,
+};
+use network_plan::{HostSpec, has_host};
+use plan_base::Host;
 use std::alloc::Global;
 
 /// Whether no line of the network was read.
@@ -34,20 +32,20 @@ fn read_frames(reading: &mut Reading, words: &mut Words<'_>) -> Result<(), Stop>
 }
 
 /// `host N` and the packages that it lacks, behind the first word. Reasons: `TooMany`, `BadWord`,
-/// `BadNumber`, `TwiceNamed`, `NotYet`.
+/// `BadNumber`, `TwiceNamed`.
 #[tactic(auto, unfolding(crate::specs::Schedules::host_line))]
 fn read_host(alloc: Global, reading: &mut Reading, words: &mut Words<'_>) -> Result<(), Stop>
     ensures { Leaves result reading.new (host_line words.old reading.old) }
 {
     allow(reading.hosts.len() < 32, LineReason::TooMany)?;
     let n = number(words, 0, u32::MAX)?;
+    let host = Host(n);
     allow(
-        !is_known_host(reading.hosts.as_slice(), n),
+        !has_host(reading.hosts.as_slice(), host),
         LineReason::TwiceNamed,
     )?;
     let missing = packages(alloc, words)?;
-    allow(missing.is_empty(), LineReason::NotYet)?;
-    reading.hosts.add(HostSpec { host: Host(n) })?;
+    reading.hosts.add(HostSpec { host, missing })?;
     Ok(())
 }
 
@@ -60,10 +58,10 @@ fn read_link(reading: &mut Reading, words: &mut Words<'_>) -> Result<(), Stop>
     let n = known_host(reading.hosts.as_slice(), words)?;
     let d = free_device(reading.links.as_slice(), n, words)?;
     let m = known_host(reading.hosts.as_slice(), words)?;
-    allow(m != n, LineReason::BadArgument)?;
+    allow(m.0 != n.0, LineReason::BadArgument)?;
     let e = free_device(reading.links.as_slice(), m, words)?;
     words.end()?;
-    reading.links.add((Host(n), Dev(d), Host(m), Dev(e)))?;
+    reading.links.add((n, d, m, e))?;
     Ok(())
 }
 
@@ -74,8 +72,8 @@ fn begin_program(
     line: u32,
     reading: &Reading,
     words: &mut Words<'_>,
-) -> Result<OpenProgram, Stop>
-    ensures { Gives (λ o. o) result (program_line line words.old reading.now) }
+) -> Result<BegunProgram, Stop>
+    ensures { Gives (λ b. b) result (program_line line words.old reading.now) }
 {
     allow(reading.programs.len() < 64, LineReason::TooMany)?;
     let word = words.next()?;
@@ -85,21 +83,17 @@ fn begin_program(
         LineReason::TwiceNamed,
     )?;
     words.end()?;
-    let text = Bytes::new(alloc);
-    Ok(OpenProgram { line, name, text })
+    let open = OpenProgram::begun(alloc, line);
+    Ok(BegunProgram { name, open })
 }
 
-/// The end of a program's text. Reasons: `TooMany`, `ProgramRefused`, `NotYet`.
+/// The end of a program's text. Reasons: `TooMany`, `ProgramRefused`.
 #[tactic(auto, unfolding(crate::specs::Schedules::close_program))]
-pub fn end_program(alloc: Global, reading: &mut Reading, begun: OpenProgram) -> Result<(), Stop>
+pub fn end_program(alloc: Global, reading: &mut Reading, begun: BegunProgram) -> Result<(), Stop>
     ensures { Leaves result reading.new (close_program begun reading.old) }
 {
-    let OpenProgram {
-        line: _,
-        name,
-        text,
-    } = begun;
-    let program = program(alloc, text.as_slice())?;
+    let BegunProgram { name, open } = begun;
+    let program = program(alloc, open.text.as_slice())?;
     reading.programs.add(NamedProgram { name, program })?;
     Ok(())
 }

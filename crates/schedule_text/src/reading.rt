@@ -1,5 +1,6 @@
-use crate::schedule::{HostSpecs, Links, WorldEvents};
-use plan_base::{Bytes, Name};
+use line_files::OpenProgram;
+use network_plan::{HostSpecs, Links, WorldEvents};
+use plan_base::Name;
 use plan_items::Items;
 use plan_types::Checked;
 
@@ -34,13 +35,11 @@ pub struct Reading {
 
 /// A program whose lines are being read.
 #[derive(Debug, Drop)]
-pub struct OpenProgram {
-    /// The number of its first line.
-    pub line: u32,
+pub struct BegunProgram {
     /// Its name.
     pub name: Name,
-    /// Its text so far.
-    pub text: Bytes,
+    /// Its first line and its text so far.
+    pub open: OpenProgram,
 }
 
 /// Which lines may come next.
@@ -51,7 +50,16 @@ pub enum Stage {
     /// The network's lines.
     Network,
     /// The text of a program.
-    Inside(OpenProgram),
+    Inside(BegunProgram),
     /// The events.
     Events,
+}
+
+/// A schedule that is being read.
+#[derive(Debug, Drop)]
+pub struct ScheduleFile {
+    /// Which lines may come next.
+    pub stage: Stage,
+    /// What was read.
+    pub reading: Reading,
 }

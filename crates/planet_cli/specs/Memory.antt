@@ -1,0 +1,81 @@
+-- Refusals that are want of memory, or hold it.
+use Rattle.std.specs.Prelude.{◌≡◌, Bool, true, false, if◌then◌else◌}
+use Rattle.plan_base.specs.declared.type_fault.TypeFault.{TypeFault}
+use Rattle.plan_base.specs.declared.type_fault.TypeFault.TheVariants as ill
+use Rattle.plan_lexer.specs.declared.fault.LexFault.{LexFault}
+use Rattle.plan_lexer.specs.declared.fault.LexFault.TheVariants as lex
+use Rattle.plan_grammar.specs.declared.fault.ParseFault.{ParseFault}
+use Rattle.plan_grammar.specs.declared.fault.ParseFault.TheVariants as parse
+use Rattle.program_text.specs.declared.fault.TextFault.{TextFault}
+use Rattle.program_text.specs.declared.fault.TextFault.TheVariants as text
+use Rattle.line_files.specs.declared.fault.LineReason.{LineReason}
+use Rattle.line_files.specs.declared.fault.LineReason.TheVariants.{ProgramRefused}
+use Rattle.chunk_spelling.specs.declared.fault.SpellFault.{SpellFault}
+use Rattle.chunk_spelling.specs.declared.fault.SpellFault.TheVariants as spelling
+use Rattle.packet_frame.specs.declared.fault.FrameFault.{FrameFault}
+use Rattle.packet_frame.specs.declared.fault.FrameFault.TheVariants as framing
+use Rattle.packet_frame.specs.declared.refusal.FrameRefusal.{FrameRefusal}
+use Rattle.chunk_types.specs.declared.fault.Ill.{Ill}
+use Rattle.planet_cli.specs.declared.status.Refusal.{Refusal}
+use Rattle.planet_cli.specs.declared.status.Refusal.TheVariants.{Line, At, Frame, BadHex, TooLong}
+use Rattle.planet_cli.specs.declared.command.Stop.{Stop}
+use Rattle.planet_cli.specs.declared.command.Stop.TheVariants as stops
+
+abbrev pub lex_memory : LexFault → Bool
+lex_memory lex.NoMemory = true
+lex_memory _ = false
+
+abbrev pub parse_memory : ParseFault → Bool
+parse_memory parse.NoMemory = true
+parse_memory _ = false
+
+abbrev pub type_memory : TypeFault → Bool
+type_memory ill.NoMemory = true
+type_memory _ = false
+
+-- of a text
+abbrev pub text_memory : TextFault → Bool
+text_memory (text.Lex f) = lex_memory f
+text_memory (text.Parse f) = parse_memory f
+text_memory (text.Ty f at) = type_memory f
+text_memory text.NoMemory = true
+
+-- of a line
+abbrev pub reason_memory : LineReason → Bool
+reason_memory (ProgramRefused why) = text_memory why
+reason_memory _ = false
+
+abbrev pub spell_memory : SpellFault → Bool
+spell_memory spelling.NoMemory = true
+spell_memory _ = false
+
+abbrev pub fault_memory : FrameFault → Bool
+fault_memory (framing.Spell f) = spell_memory f
+fault_memory framing.NoMemory = true
+fault_memory _ = false
+
+abbrev pub ill_memory : Ill → Bool
+ill_memory (Ill.Code f) = type_memory f
+ill_memory _ = false
+
+-- of a frame
+abbrev pub frame_memory : FrameRefusal → Bool
+frame_memory (FrameRefusal.Misspelled f) = fault_memory f
+frame_memory (FrameRefusal.IllTyped i) = ill_memory i
+frame_memory FrameRefusal.NoMemory = true
+
+-- whether a refusal is want of memory, or holds it
+abbrev pub holds_memory : Refusal → Bool
+holds_memory (Line n reason) = reason_memory reason
+holds_memory (At byte fault) = text_memory fault
+holds_memory (Frame refusal) = frame_memory refusal
+holds_memory BadHex = false
+holds_memory TooLong = false
+
+-- a refusal for a reason of the file's own
+abbrev pub IsOwn : Refusal → Type 0
+IsOwn r = holds_memory r ≡ false
+
+-- why a command stops at a refusal
+abbrev pub stop_of : Refusal → Stop
+stop_of r = if holds_memory r then stops.NoMemory else stops.Refused r

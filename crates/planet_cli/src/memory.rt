@@ -1,0 +1,79 @@
+ghost use Rattle.std.specs.Prelude.{◌≡◌};
+ghost use Rattle.planet_cli.specs.Memory.{text_memory, reason_memory, fault_memory, frame_memory, holds_memory, stop_of};
+
+use crate::command::Stop;
+use crate::status::Refusal;
+use chunk_spelling::SpellFault;
+use chunk_types::Ill;
+use line_files::LineReason;
+use packet_frame::{FrameFault, FrameRefusal};
+use plan_base::TypeFault;
+use plan_grammar::ParseFault;
+use plan_lexer::LexFault;
+use program_text::TextFault;
+
+fn text_memory(fault: &TextFault) -> bool
+    ensures { result ≡ text_memory fault.now }
+{
+    match fault {
+        TextFault::Lex(LexFault::NoMemory) => true,
+        TextFault::Parse(ParseFault::NoMemory) => true,
+        TextFault::Ty(TypeFault::NoMemory, _) => true,
+        TextFault::NoMemory => true,
+        _ => false,
+    }
+}
+
+fn reason_memory(reason: &LineReason) -> bool
+    ensures { result ≡ reason_memory reason.now }
+{
+    match reason {
+        LineReason::ProgramRefused(why) => text_memory(why),
+        _ => false,
+    }
+}
+
+fn fault_memory(fault: &FrameFault) -> bool
+    ensures { result ≡ fault_memory fault.now }
+{
+    match fault {
+        FrameFault::Spell(SpellFault::NoMemory) => true,
+        FrameFault::NoMemory => true,
+        _ => false,
+    }
+}
+
+fn frame_memory(refusal: &FrameRefusal) -> bool
+    ensures { result ≡ frame_memory refusal.now }
+{
+    match refusal {
+        FrameRefusal::Misspelled(fault) => fault_memory(fault),
+        FrameRefusal::IllTyped(Ill::Code(TypeFault::NoMemory)) => true,
+        FrameRefusal::IllTyped(_) => false,
+        FrameRefusal::NoMemory => true,
+    }
+}
+
+// Whether a refusal is want of memory, or holds it.
+fn holds_memory(refusal: &Refusal) -> bool
+    ensures { result ≡ holds_memory refusal.now }
+{
+    match refusal {
+        Refusal::Line(_, reason) => reason_memory(reason),
+        Refusal::At(_, fault) => text_memory(fault),
+        Refusal::Frame(refused) => frame_memory(refused),
+        Refusal::BadHex => false,
+        Refusal::TooLong => false,
+    }
+}
+
+// Why a command stops at a refusal: one that holds want of memory is that.
+pub fn stop_at(refusal: Refusal) -> Stop
+    ensures { result ≡ stop_of refusal }
+{
+    if holds_memory(&refusal) {
+        Stop::NoMemory
+    } else {
+        Stop::Refused(refusal)
+    }
+}
