@@ -86,21 +86,6 @@ ledger\n\
 1.1 granted 5 hops 1 evals 0 live 0 left 4\n\
 end\n";
 
-pub const FIRST_RUN_WITH_TICK_NOT_BUILT: &[u8] = b"planet schedule 1\n\
-host 1\n\
-host 2\n\
-link 1 1 2 1\n\
-program hello\n\
-svc print : (string) -> unit\n\
-fun hi() : unit = print(\"hi\")\n\
-fun go() : unit = print(\"go\"); OnNeighbor(|hi|(), @2, 2, %1)\n\
-end program\n\
-events\n\
-inject 1 hello go 5 ()\n\
-send 1 1\n\
-deliver 1\n\
-tick 1\n";
-
 pub const REORDERED_DELIVERIES: &[u8] = b"planet schedule 1\n\
 host 1\n\
 host 2\n\
@@ -304,70 +289,10 @@ pub const UNKNOWN_HEADER: &[u8] = b"planet schedule 9\n";
 
 pub const EMPTY_FILE: &[u8] = b"";
 
-pub const ABSENT_SERVICE_NOT_BUILT: &[u8] = b"planet schedule 1\n\
-host 1 without resident\n\
-program p\n\
-svc get : (string, int) -> int\n\
-svc print : (string) -> unit\n\
-fun f() : int = let val x : int = try get(\"t\", 1) handle NoService => 0 end in print(\"on\"); x end\n\
-end program\n\
-events\n\
-inject 1 p f 0 ()\n";
-
-pub const FORGED_PACKET_UNKNOWN_WORD: &[u8] = b"planet schedule 1\n\
-host 1\n\
-events\n\
-raw 1 1 504c414e010100000002000000000000000100000001000000030c64656661756c74526f7574650000010166000020016600\n";
-
 pub const LINK_TO_UNKNOWN_HOST: &[u8] = b"planet schedule 1\n\
 host 1\n\
 link 1 1 2 1\n\
 events\n";
-
-pub const NO_BOUND_CAUGHT_NOT_BUILT: &[u8] = b"planet schedule 1\n\
-host 1\n\
-host 2\n\
-link 1 1 2 1\n\
-program p\n\
-svc getRB : () -> int\n\
-svc print : (string) -> unit\n\
-fun g() : unit = ()\n\
-fun f() : unit = try OnRemote(|g|(), @2, getRB() + 1, defaultRoute) handle NoBound => print(\"caught\") end; OnRemote(|g|(), @2, 0, defaultRoute)\n\
-end program\n\
-events\n\
-inject 1 p f 5 ()\n";
-
-pub const PING_THREE_HOSTS_PROGRAM_NOT_BUILT: &[u8] = b"planet schedule 1\n\
-host 1\n\
-host 2\n\
-host 3\n\
-link 1 1 2 1\n\
-link 2 2 3 1\n\
-program ping\n\
-svc thisHostIs : (host) -> bool\n\
-svc getRB : () -> int\n\
-svc print : (string) -> unit\n\
-fun ack() : unit = print(\"Success\")\n\
-fun ping(src : host, dest : host) : unit =\n\
-\x20 if not thisHostIs(dest) then\n\
-\x20   OnRemote(|ping|(src, dest), dest, getRB(), defaultRoute)\n\
-\x20 else OnRemote(|ack|(), src, getRB(), defaultRoute)\n\
-end program\n\
-events\n\
-tick 2\n\
-send 2 1\n\
-send 2 2\n\
-deliver 1\n\
-deliver 2\n\
-inject 1 ping ping 10 (@1, @3)\n\
-send 1 1\n\
-deliver 3\n\
-send 2 2\n\
-deliver 4\n\
-send 3 1\n\
-deliver 5\n\
-send 2 1\n\
-deliver 6\n";
 
 pub const REPEATED_FRAME_UNKNOWN_HEADER: &[u8] = b"planet schedule 2\n\
 host 1\n\

@@ -1,4 +1,4 @@
-use crate::{built_rows, rows, show_rows, visit_rows};
+use crate::{built_rows, forged_rows, route_rows, rows, show_rows, table_rows, visit_rows};
 use node_io::{
     Arrivals, Calls, FileList, MemClock, MemFiles, MemLink, MemSink, MemSpawner, Moments, Statuses,
 };
@@ -201,24 +201,76 @@ fn a_thousand_deep_evals_run_on_an_ordinary_stack(rt: HostRuntime) -> Result<(),
     Ok(())
 }
 
-static WRONG_SCHEDULES: [Refused; 11] = [
+static ROUTES: [Done; 9] = [
+    (route_rows::FIRST_RUN_WITH_TICK, route_rows::FIRST_RUN_WITH_TICK_OUTPUT),
+    (route_rows::PING_THREE_HOSTS, route_rows::PING_THREE_HOSTS_OUTPUT),
+    (route_rows::PING_LAST_FRAME_LOST, route_rows::PING_LAST_FRAME_LOST_OUTPUT),
+    (route_rows::PING_STOPPED_BEFORE_LAST_DELIVERY, route_rows::PING_STOPPED_BEFORE_LAST_DELIVERY_OUTPUT),
+    (route_rows::BOUND_ZERO_NOT_FORWARDED, route_rows::BOUND_ZERO_NOT_FORWARDED_OUTPUT),
+    (route_rows::BOUND_ZERO_EVALUATED_AT_DESTINATION, route_rows::BOUND_ZERO_EVALUATED_AT_DESTINATION_OUTPUT),
+    (route_rows::BOUND_ZERO_CANNOT_SEND, route_rows::BOUND_ZERO_CANNOT_SEND_OUTPUT),
+    (route_rows::ROUTE_TRACED, route_rows::ROUTE_TRACED_OUTPUT),
+    (route_rows::FULL_QUEUE, route_rows::FULL_QUEUE_OUTPUT),
+];
+
+#[test]
+fn ticks_spread_routes(rt: HostRuntime) -> Result<(), Fail> {
+    all_done(&rt, rt.alloc(), "replay", &ROUTES)
+}
+
+static TABLES: [Done; 8] = [
+    (table_rows::NO_BOUND_CAUGHT, table_rows::NO_BOUND_CAUGHT_OUTPUT),
+    (table_rows::ITSELF, table_rows::ITSELF_OUTPUT),
+    (table_rows::WORK_SPENT_KEEPS_TABLE, table_rows::WORK_SPENT_KEEPS_TABLE_OUTPUT),
+    (table_rows::TABLE_ROW_HAS_A_TYPE, table_rows::TABLE_ROW_HAS_A_TYPE_OUTPUT),
+    (table_rows::TABLE_ROW_EXPIRES, table_rows::TABLE_ROW_EXPIRES_OUTPUT),
+    (table_rows::TABLE_FULL, table_rows::TABLE_FULL_OUTPUT),
+    (table_rows::ABSENT_SERVICE, table_rows::ABSENT_SERVICE_OUTPUT),
+    (table_rows::SERVICE_OF_OTHER_TYPE, table_rows::SERVICE_OF_OTHER_TYPE_OUTPUT),
+];
+
+#[test]
+fn programs_keep_rows(rt: HostRuntime) -> Result<(), Fail> {
+    all_done(&rt, rt.alloc(), "replay", &TABLES)
+}
+
+static FORGED: [Done; 8] = [
+    (forged_rows::FORGED_PACKET_EVALUATED, forged_rows::FORGED_PACKET_EVALUATED_OUTPUT),
+    (forged_rows::FORGED_PACKET_WITHOUT_ROUTE, forged_rows::FORGED_PACKET_WITHOUT_ROUTE_OUTPUT),
+    (forged_rows::FORGED_BYTE, forged_rows::FORGED_BYTE_OUTPUT),
+    (forged_rows::FORGED_ILL_TYPED_PACKET, forged_rows::FORGED_ILL_TYPED_PACKET_OUTPUT),
+    (forged_rows::FORGED_ASK, forged_rows::FORGED_ASK_OUTPUT),
+    (forged_rows::FORGED_PACKET_PREFIXES, forged_rows::FORGED_PACKET_PREFIXES_OUTPUT),
+    (forged_rows::FORGED_PASSING_PACKET_PREFIXES, forged_rows::FORGED_PASSING_PACKET_PREFIXES_OUTPUT),
+    (forged_rows::FORGED_ADVERT_PREFIXES, forged_rows::FORGED_ADVERT_PREFIXES_OUTPUT),
+];
+
+#[test]
+fn bytes_from_outside_arrive_as_frames(rt: HostRuntime) -> Result<(), Fail> {
+    all_done(&rt, rt.alloc(), "replay", &FORGED)
+}
+
+#[test]
+fn a_frame_of_one_byte_too_many_is_too_long(rt: HostRuntime) -> Result<(), Fail> {
+    let alloc = rt.alloc();
+    let mut schedule = Vec::from_slice(alloc, b"planet schedule 1\nhost 1\nevents\nraw 1 1 ")?;
+    for _ in 0..16_513 {
+        schedule.extend_from_slice(b"00")?;
+    }
+    let (code, out, notes) = on_bytes(alloc, "replay", schedule.as_slice())?;
+    assert_eq!(rt; code, 0);
+    assert_eq!(rt; notes.taken().len(), 0);
+    assert_eq!(rt;
+        out.taken().as_slice(),
+        b"planet trace 1\n1 arrive @1 %1\n1 drop @1 BadFrame TooLong\nledger\nend\n".as_slice()
+    );
+    Ok(())
+}
+
+static WRONG_SCHEDULES: [Refused; 6] = [
     (rows::UNKNOWN_HEADER, b"planet: line 1: BadHeader\n"),
     (rows::EMPTY_FILE, b"planet: line 1: BadHeader\n"),
-    (
-        rows::FIRST_RUN_WITH_TICK_NOT_BUILT,
-        b"planet: line 14: NotYet\n",
-    ),
-    (rows::ABSENT_SERVICE_NOT_BUILT, b"planet: line 2: NotYet\n"),
-    (
-        rows::FORGED_PACKET_UNKNOWN_WORD,
-        b"planet: line 4: BadWord\n",
-    ),
     (rows::LINK_TO_UNKNOWN_HOST, b"planet: line 3: UnknownHost\n"),
-    (rows::NO_BOUND_CAUGHT_NOT_BUILT, b"planet: line 5: NotYet\n"),
-    (
-        rows::PING_THREE_HOSTS_PROGRAM_NOT_BUILT,
-        b"planet: line 7: NotYet\n",
-    ),
     (
         rows::REPEATED_FRAME_UNKNOWN_HEADER,
         b"planet: line 1: BadHeader\n",
