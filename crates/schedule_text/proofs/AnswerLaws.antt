@@ -27,7 +27,7 @@ use Rattle.schedule_text.specs.Parts.{is_called}
 use Rattle.schedule_text.specs.Schedules.{network_word, frames_line, host_line, link_line, begun_at, program_line, close_program, network_rest, network_line, event_line, with_more, staying, step, schedule_of_reading, finish, file_after, schedule_format, nothing_read, schedule_of}
 
 -- a stage's program began at a line up to one
-abbrev Begun : ℕ → Stage → Type 0
+abbrev pub Begun : ℕ → Stage → Type 0
 Begun number stages.Header = Unit {0}
 Begun number stages.Network = Unit {0}
 Begun number (stages.Inside begun) = (1 ≤ begun.open.line) × (begun.open.line ≤ number)
@@ -110,14 +110,14 @@ step_begun number line stages.Events s low b = either_keeps (BegunNext number) (
 
 -- ---- a whole file
 
-abbrev FileBegun : ℕ → ScheduleFile → Type 0
+abbrev pub FileBegun : ℕ → ScheduleFile → Type 0
 FileBegun number f = Begun number f.stage
 
 after_begun : (number : ℕ) (r : Result (Stage × Reading) LineFault) → IfStep (BegunNext number) r → IfStep (FileBegun number) (file_after r)
 after_begun number (Ok next) h y e = step_done (FileBegun number) _ (h next refl) y e
 after_begun number (Err d) h y e = absurd cc
 
-places : Places schedule_format FileBegun
+pub places : Places schedule_format FileBegun
 places = record {
   later = λ number f b. begun_later number f.stage b;
   kept = λ number line f low b. after_begun number (step number line f.stage f.reading) (step_begun number line f.stage f.reading low b);

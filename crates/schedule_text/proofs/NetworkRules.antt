@@ -11,11 +11,11 @@ use Rattle.network_plan.specs.declared.event.WorldEvent.TheVariants as happens
 use Rattle.network_plan.specs.Hosts.{Cable, has_host, ends_at, has_link}
 use Rattle.network_plan.specs.Rules.{HostsDiffer, LinksApart, KeepsLink, KeepsEvent}
 
-both_false : (a b : Bool) → (a || b) ≡ false → (a ≡ false) × (b ≡ false)
+pub both_false : (a b : Bool) → (a || b) ≡ false → (a ≡ false) × (b ≡ false)
 both_false true b e = absurd cc
 both_false false b e = (refl, e)
 
-swapped : (a b : ℕ) (t : Bool) → eqb a b ≡ t → eqb b a ≡ t
+pub swapped : (a b : ℕ) (t : Bool) → eqb a b ≡ t → eqb b a ≡ t
 swapped a b true e = eq-eqb b a (sym (eqb-true a b e))
 swapped a b false e = ne_eqb b a (λ q. eqb-false a b e (sym q))
 
@@ -58,7 +58,7 @@ event_stays hosts h (happens.Raw at d bytes) k = (host_stays hosts h at k.0, k.1
 pair_swap : (a b c d : ℕ) → (eqb a c && eqb b d) ≡ false → (eqb c a && eqb d b) ≡ false
 pair_swap a b c d e = rw (swap_is a c, swap_is b d) e
 
-ends_apart : (l x : Cable) → ends_at x.0 x.1 l ≡ false → ends_at x.2 x.3 l ≡ false → (ends_at l.0 l.1 x ≡ false) × (ends_at l.2 l.3 x ≡ false)
+pub ends_apart : (l x : Cable) → ends_at x.0 x.1 l ≡ false → ends_at x.2 x.3 l ≡ false → (ends_at l.0 l.1 x ≡ false) × (ends_at l.2 l.3 x ≡ false)
 ends_apart l x e f =
     let e0 = both_false (eqb l.0.0 x.0.0 && eqb l.1.0 x.1.0) (eqb l.2.0 x.0.0 && eqb l.3.0 x.1.0) e in
     let f0 = both_false (eqb l.0.0 x.2.0 && eqb l.1.0 x.3.0) (eqb l.2.0 x.2.0 && eqb l.3.0 x.3.0) f in (

@@ -1,0 +1,270 @@
+-- The events of a schedule are read as they are written.
+use Rattle.std.proofs.Common.{◌≡◌, ℕ, ◌+◌, ◌^◌, ◌<◌, ◌≤◌, Bool, true, false, cond, not, leb, ◌&&◌, List, [], ◌∷◌, ◌++◌, length, map, Option, Some, None, Result, Ok, Err, refl, sym, ap, subst, ◌∙◌, arith, append-nil, append_assoc, length-append}
+use Rattle.std.specs.Prelude.{IsTrue, is_some}
+use Rattle.std.specs.List.{All, list_all, find}
+use Rattle.std.specs.Fmt.{decimal}
+use Rattle.std.specs.Option.{ok_or}
+use Rattle.std.specs.Str.{bytes_eq}
+use lib.Chars.{codes}
+use Rattle.std.proofs.lemmas.Bool.{le-leb}
+use Rattle.std.proofs.lemmas.List.Elements.{All-head, All-tail}
+use Rattle.small_laws.proofs.Bools.{and_both}
+use Rattle.std.proofs.lemmas.Slice.Eq.{bytes_eq-Decides}
+use Rattle.hex.specs.Hex.{decode_of, encode_lower, IsBytes}
+use Rattle.hex.proofs.HexLemmas.{decode_of-encode_lower}
+use Rattle.plan_base.specs.declared.ids.Host.{Host}
+use Rattle.plan_base.specs.declared.ids.Dev.{Dev}
+use Rattle.plan_base.specs.declared.name.Name.{Name}
+use Rattle.plan_base.specs.declared.tree.Chunk.{Chunk}
+use Rattle.plan_base.specs.declared.tree.Fun.{Fun}
+use Rattle.plan_base.specs.declared.tree.Program.{Program}
+use Rattle.plan_base.specs.Sizes.{chunk_weight}
+use Rattle.chunk_types.specs.Chunks.{refusal_of, IsCheckedChunk}
+use Rattle.program_text.specs.Texts.{args_of_text}
+use Rattle.network_plan.specs.declared.event.WorldEvent.{WorldEvent}
+use Rattle.network_plan.specs.declared.event.WorldEvent.TheVariants as happens
+use Rattle.network_plan.specs.declared.schedule.HostSpec.{HostSpec}
+use Rattle.network_plan.specs.Hosts.{has_host}
+use Rattle.network_plan.specs.Rules.{KeepsEvent, KeepsInjection, MayArrive}
+use Rattle.line_files.specs.declared.fault.LineReason.{LineReason}
+use Rattle.line_files.specs.declared.fault.LineReason.TheVariants.{BadWord, UnknownProgram, TooMany, BadArgument}
+use Rattle.line_files.specs.Lines.{words, spaced}
+use Rattle.line_files.specs.Reads.{◌>>=◌, rest_at, end_at, allowed}
+use Rattle.line_files.specs.Files.{is_skipped, at_line}
+use Rattle.line_files.specs.HexWords.{hex_of, sized, hex_at}
+use Rattle.line_files.specs.Programs.{has_name, entry_at, args_at, chunk_with, typed_chunk, injection_at, weighed}
+use Rattle.line_files.proofs.Again.{without}
+use Rattle.line_files.proofs.Splits.{rest_all}
+use Rattle.line_files.proofs.TextLaws.{args_formed, not_refused}
+use Rattle.schedule_text.specs.declared.reading.NamedProgram.{NamedProgram}
+use Rattle.schedule_text.specs.declared.reading.Reading.{Reading}
+use Rattle.schedule_text.specs.declared.reading.Stage.{Stage}
+use Rattle.schedule_text.specs.declared.reading.Stage.TheVariants as stages
+use Rattle.schedule_text.specs.Parts.{is_called, program_at}
+use Rattle.schedule_text.specs.Schedules.{with_event, injected_at, inject_line, send_line, frame_at, deliver_line, lose_line, tick_line, raw_line, event_rest, event_line, staying, step, file_after, schedule_format}
+use Rattle.schedule_laws.specs.Written.{NamedText, Written, event_words, IsWritten, EventIsWritten, weights}
+use Rattle.schedule_laws.proofs.WordLaws.{Free, words_are, words_rest, number_free, name_free, hex_free}
+use Rattle.schedule_laws.proofs.ReadSteps.{then_ok, allowed_ok, not_ok, below_ok, within_ok, number_ok, host_ok, device_ok, Leads, leads-nil, leads-cons}
+use Rattle.schedule_laws.proofs.NetworkRead.{file_at}
+use Rattle.schedule_laws.proofs.ProgramsRead.{titled}
+
+abbrev pub with_events : Reading → List WorldEvent → ℕ → Reading
+with_events s es weight = record s { events = es; weight = weight }
+
+-- a host that is named has a number below 2^32
+abbrev pub SmallHosts : List HostSpec → Type 0
+SmallHosts hosts = (h : Host) → has_host h hosts ≡ true → h.0 < 2 ^ 32
+
+-- ---- injections
+
+found_same : (name : List ℕ) (ps : List NamedText) (p : NamedText) → find (λ q. bytes_eq q.name name) ps ≡ Some p → find (is_called name) (map titled ps) ≡ Some (titled p)
+found_same name [] p e = absurd cc
+found_same name (q ∷ qs) p e = by (bytes_eq q.name name) refl e
+  where
+    by : (t : Bool) → bytes_eq q.name name ≡ t → cond t (Some q) (find (λ r. bytes_eq r.name name) qs) ≡ Some p → cond t (Some (titled q)) (find (is_called name) (map titled qs)) ≡ Some (titled p)
+    by true is h = let same : q ≡ p = cc in ap (λ r. Some (titled r)) same
+    by false is h = found_same name qs p h
+
+program_ok : (ps : List NamedText) (w : Written) (c : Chunk) (ws : List (List ℕ)) (k : IsWritten ps w c) → program_at (map titled ps) (w.program ∷ ws) ≡ Ok (titled k.program, ws)
+unfolding program_at
+program_ok ps w c ws k = then_ok _ (titled k.program) _ _ (ap (λ o. ok_or o UnknownProgram) (found_same w.program ps k.program k.listed)) refl
+
+name_found : (name : List ℕ) (fs : List Fun) (f : Fun) → find (has_name name) fs ≡ Some f → f.name ≡ name
+name_found name [] f e = absurd cc
+name_found name (g ∷ gs) f e = by (bytes_eq g.name name) refl e
+  where
+    by : (t : Bool) → bytes_eq g.name name ≡ t → cond t (Some g) (find (has_name name) gs) ≡ Some f → f.name ≡ name
+    by true is h = let same : g ≡ f = cc in subst (λ x. x.name ≡ name) same ((bytes_eq-Decides g.name name).0 is)
+    by false is h = name_found name gs f h
+
+entry_ok : (c : Chunk) (f : Fun) (ws : List (List ℕ)) → find (has_name c.entry) c.code.funs ≡ Some f → entry_at c.code.funs (c.entry ∷ ws) ≡ Ok (f, ws)
+unfolding entry_at
+entry_ok c f ws e = then_ok _ f _ _ (ap (λ o. ok_or o BadArgument) e) refl
+
+args_ok : (c : Chunk) (text : List ℕ) → length text ≤ 65536 → args_of_text text ≡ Some c.args → args_at (words text) ≡ Ok c.args
+unfolding args_at
+args_ok c text short e =
+    then_ok (rest_at (words text)) text _ _ (rest_all text)
+    (then_ok _ tt _ _ (within_ok (length text) 65536 BadArgument short) (ap (λ o. ok_or o BadArgument) e))
+
+chunk_ok : (c : Chunk) → not (is_some (refusal_of c)) ≡ true → typed_chunk c ≡ Ok c
+unfolding typed_chunk
+chunk_ok c e = then_ok _ tt _ _ (allowed_ok (not (is_some (refusal_of c))) BadArgument e) refl
+
+injection_ok : (ps : List NamedText) (w : Written) (c : Chunk) (bound : ℕ) → IsWritten ps w c → KeepsInjection c bound → injection_at c.code (c.entry ∷ decimal bound ∷ words w.args) ≡ Ok (c, bound)
+unfolding injection_at
+injection_ok ps w c bound k keeps =
+    let same : chunk_with c.code k.function.name c.args ≡ c = ap (λ name. chunk_with c.code name c.args) (name_found c.entry c.code.funs k.function k.found) in
+    then_ok _ (k.function, decimal bound ∷ words w.args) _ _ (entry_ok c k.function (decimal bound ∷ words w.args) k.found)
+    (then_ok _ (bound, words w.args) _ _ (number_ok 0 65535 bound (words w.args) (omega (arith, keeps.0)) (omega arith) keeps.0)
+    (then_ok _ c.args _ _ (args_ok c w.args k.short k.args)
+    (then_ok _ c _ _ (ap typed_chunk same ∙ chunk_ok c (not_refused c (args_formed w.args c.args k.short k.args) keeps.1)) refl)))
+
+weighed_ok : (sum : ℕ) (c : Chunk) → sum + (1 + chunk_weight c) ≤ 16777216 → weighed sum c ≡ Ok (sum + (1 + chunk_weight c))
+unfolding weighed
+weighed_ok sum c few = then_ok _ tt _ _ (within_ok (sum + (1 + chunk_weight c)) 16777216 TooMany few) refl
+
+-- ---- events
+
+-- what is asked of an event that is written behind a network
+pub record IsReady (ps : List NamedText) (by : Chunk → Written) (s : Reading) : Type 0 where
+  pub programs : s.programs ≡ map titled ps
+  pub small : SmallHosts s.hosts
+
+injected_ok : (ps : List NamedText) (by : Chunk → Written) (s : Reading) (h : Host) (c : Chunk) (bound : ℕ) → IsReady ps by s → has_host h s.hosts ≡ true → KeepsInjection c bound → IsWritten ps (by c) c
+    → injected_at s (decimal h.0 ∷ (by c).program ∷ c.entry ∷ decimal bound ∷ words (by c).args) ≡ Ok (h, c, bound)
+unfolding injected_at
+injected_ok ps by s h c bound ready known keeps k =
+    then_ok _ (h, (by c).program ∷ c.entry ∷ decimal bound ∷ words (by c).args) _ _ (host_ok s.hosts h _ (ready.small h known) known)
+    (then_ok _ (titled k.program, c.entry ∷ decimal bound ∷ words (by c).args) _ _ (ap (λ q. program_at q ((by c).program ∷ c.entry ∷ decimal bound ∷ words (by c).args)) ready.programs ∙ program_ok ps (by c) c _ k)
+    (then_ok _ (c, bound) _ _ (ap (λ code. injection_at code (c.entry ∷ decimal bound ∷ words (by c).args)) k.code ∙ injection_ok ps (by c) c bound k keeps) refl))
+
+-- the words of an event's line, as they are read
+abbrev read_words : (Chunk → Written) → WorldEvent → List (List ℕ)
+read_words by (happens.Inject h chunk bound) = codes "inject" ∷ decimal h.0 ∷ (by chunk).program ∷ chunk.entry ∷ decimal bound ∷ words (by chunk).args
+read_words by (happens.Send h d) = event_words by (happens.Send h d)
+read_words by (happens.Deliver k) = event_words by (happens.Deliver k)
+read_words by (happens.Lose k) = event_words by (happens.Lose k)
+read_words by (happens.Tick h) = event_words by (happens.Tick h)
+read_words by (happens.Raw h d bytes) = event_words by (happens.Raw h d bytes)
+
+abbrev weight_of : WorldEvent → ℕ
+weight_of e = weights (e ∷ [])
+
+-- a reading behind an event
+abbrev pub behind_event : Reading → WorldEvent → Reading
+behind_event s e = record (with_event s e) { weight = s.weight + weight_of e }
+
+inject_ok : (ps : List NamedText) (by : Chunk → Written) (s : Reading) (h : Host) (c : Chunk) (bound : ℕ) → IsReady ps by s → has_host h s.hosts ≡ true → KeepsInjection c bound → IsWritten ps (by c) c
+    → s.weight + (1 + chunk_weight c) ≤ 16777216 → inject_line (decimal h.0 ∷ (by c).program ∷ c.entry ∷ decimal bound ∷ words (by c).args) s ≡ Ok (behind_event s (happens.Inject h c bound))
+unfolding inject_line
+inject_ok ps by s h c bound ready known keeps k few =
+    let none : 1 + chunk_weight c ≡ 1 + chunk_weight c + 0 = omega arith in
+    then_ok _ (h, c, bound) _ _ (injected_ok ps by s h c bound ready known keeps k)
+    (then_ok _ (s.weight + (1 + chunk_weight c)) _ _ (weighed_ok s.weight c few) (ap (λ (n : ℕ). Ok (record (with_event s (happens.Inject h c bound)) { weight = s.weight + n })) none))
+
+abbrev said : Reading → Result Reading LineReason
+said s = Ok s
+
+-- what weighs nothing
+unweighed : (s : Reading) (e : WorldEvent) → weight_of e ≡ 0 → said (with_event s e) ≡ said (behind_event s e)
+unweighed s e h = let n : s.weight ≡ s.weight + weight_of e = omega (arith, h) in ap (λ (w : ℕ). said (record (with_event s e) { weight = w })) n
+
+send_ok : (s : Reading) (h : Host) (d : Dev) → SmallHosts s.hosts → has_host h s.hosts ≡ true → d.0 ≤ 8 → send_line (decimal h.0 ∷ decimal d.0 ∷ []) s ≡ said (behind_event s (happens.Send h d))
+unfolding send_line
+send_ok s h d small known few =
+    then_ok _ (h, decimal d.0 ∷ []) _ _ (host_ok s.hosts h _ (small h known) known)
+    (then_ok _ (d, []) _ _ (device_ok d [] few) (unweighed s (happens.Send h d) refl))
+
+frame_ok : (k : ℕ) → k < 2 ^ 32 → frame_at (decimal k ∷ []) ≡ Ok k
+unfolding frame_at
+frame_ok k small = then_ok _ (k, []) _ _ (number_ok 0 4294967295 k [] (omega (arith, small)) (omega arith) (omega (arith, small))) refl
+
+deliver_ok : (s : Reading) (k : ℕ) → k < 2 ^ 32 → deliver_line (decimal k ∷ []) s ≡ said (behind_event s (happens.Deliver k))
+unfolding deliver_line
+deliver_ok s k small = then_ok _ k _ _ (frame_ok k small) (unweighed s (happens.Deliver k) refl)
+
+lose_ok : (s : Reading) (k : ℕ) → k < 2 ^ 32 → lose_line (decimal k ∷ []) s ≡ said (behind_event s (happens.Lose k))
+unfolding lose_line
+lose_ok s k small = then_ok _ k _ _ (frame_ok k small) (unweighed s (happens.Lose k) refl)
+
+tick_ok : (s : Reading) (h : Host) → SmallHosts s.hosts → has_host h s.hosts ≡ true → tick_line (decimal h.0 ∷ []) s ≡ said (behind_event s (happens.Tick h))
+unfolding tick_line
+tick_ok s h small known = then_ok _ (h, []) _ _ (host_ok s.hosts h _ (small h known) known) (unweighed s (happens.Tick h) refl)
+
+hex_ok : (bytes : List ℕ) → MayArrive bytes → hex_at 1 16513 (encode_lower bytes ∷ []) ≡ Ok (bytes, [])
+unfolding hex_at
+hex_ok bytes m =
+    let few : (leb 1 (length bytes) && leb (length bytes) 16513) ≡ true = and_both (leb 1 (length bytes)) (leb (length bytes) 16513) (le-leb 1 (length bytes) m.some) (le-leb (length bytes) 16513 m.few) in
+    let is : sized 1 16513 (hex_of (decode_of (encode_lower bytes))) ≡ Some bytes =
+        ap (λ r. sized 1 16513 (hex_of r)) (decode_of-encode_lower bytes m.are_bytes) ∙ ap (λ b. cond b (Some bytes) None) few in
+    then_ok _ bytes _ _ (ap (λ o. ok_or o BadArgument) is) refl
+
+raw_ok : (s : Reading) (h : Host) (d : Dev) (bytes : List ℕ) → SmallHosts s.hosts → has_host h s.hosts ≡ true → d.0 ≤ 8 → MayArrive bytes
+    → raw_line (decimal h.0 ∷ decimal d.0 ∷ encode_lower bytes ∷ []) s ≡ said (behind_event s (happens.Raw h d bytes))
+unfolding raw_line
+raw_ok s h d bytes small known few m =
+    then_ok _ (h, decimal d.0 ∷ encode_lower bytes ∷ []) _ _ (host_ok s.hosts h _ (small h known) known)
+    (then_ok _ (d, encode_lower bytes ∷ []) _ _ (device_ok d _ few)
+    (then_ok _ (bytes, []) _ _ (hex_ok bytes m) (unweighed s (happens.Raw h d bytes) refl)))
+
+event_said : (ps : List NamedText) (by : Chunk → Written) (s : Reading) (e : WorldEvent) → IsReady ps by s → length s.events < 50000 → KeepsEvent s.hosts e → EventIsWritten ps by e → s.weight + weight_of e ≤ 16777216
+    → event_line (read_words by e) s ≡ said (behind_event s e)
+unfolding event_line event_rest
+event_said ps by s (happens.Inject h c bound) ready room keeps k few =
+    then_ok _ tt _ _ (below_ok (length s.events) 50000 TooMany room) (inject_ok ps by s h c bound ready keeps.0 keeps.1 k.1 (omega (arith, few)))
+event_said ps by s (happens.Send h d) ready room keeps k few = then_ok _ tt _ _ (below_ok (length s.events) 50000 TooMany room) (send_ok s h d ready.small keeps.0 keeps.1)
+event_said ps by s (happens.Deliver n) ready room keeps k few = then_ok _ tt _ _ (below_ok (length s.events) 50000 TooMany room) (deliver_ok s n keeps)
+event_said ps by s (happens.Lose n) ready room keeps k few = then_ok _ tt _ _ (below_ok (length s.events) 50000 TooMany room) (lose_ok s n keeps)
+event_said ps by s (happens.Tick h) ready room keeps k few = then_ok _ tt _ _ (below_ok (length s.events) 50000 TooMany room) (tick_ok s h ready.small keeps)
+event_said ps by s (happens.Raw h d bytes) ready room keeps k few = then_ok _ tt _ _ (below_ok (length s.events) 50000 TooMany room) (raw_ok s h d bytes ready.small keeps.0 keeps.1 keeps.2)
+
+-- ---- lines of events
+
+host_free : (hosts : List HostSpec) (h : Host) → SmallHosts hosts → has_host h hosts ≡ true → (without 32 (decimal h.0) ≡ true) × (without 10 (decimal h.0) ≡ true)
+host_free hosts h small known = number_free h.0 (let n = small h known in omega (arith, n))
+
+-- an event's line has no line feed
+pub event_line_free : (ps : List NamedText) (by : Chunk → Written) (hosts : List HostSpec) (e : WorldEvent) → SmallHosts hosts → KeepsEvent hosts e → EventIsWritten ps by e → Free 10 (event_words by e)
+event_line_free ps by hosts (happens.Inject h c bound) small keeps k =
+    (refl, (host_free hosts h small keeps.0).1, (name_free (by c).program k.0).1, (name_free c.entry k.1.entry).1, (number_free bound (omega (arith, keeps.1.0))).1, k.1.line, tt)
+event_line_free ps by hosts (happens.Send h d) small keeps k = (refl, (host_free hosts h small keeps.0).1, (number_free d.0 (omega (arith, keeps.1))).1, tt)
+event_line_free ps by hosts (happens.Deliver n) small keeps k = (refl, (number_free n (omega (arith, keeps))).1, tt)
+event_line_free ps by hosts (happens.Lose n) small keeps k = (refl, (number_free n (omega (arith, keeps))).1, tt)
+event_line_free ps by hosts (happens.Tick h) small keeps k = (refl, (host_free hosts h small keeps).1, tt)
+event_line_free ps by hosts (happens.Raw h d bytes) small keeps k = (refl, (host_free hosts h small keeps.0).1, (number_free d.0 (omega (arith, keeps.1))).1, (hex_free bytes keeps.2.are_bytes).1, tt)
+
+event_words_are : (ps : List NamedText) (by : Chunk → Written) (hosts : List HostSpec) (e : WorldEvent) → SmallHosts hosts → KeepsEvent hosts e → EventIsWritten ps by e → words (spaced (event_words by e)) ≡ read_words by e
+event_words_are ps by hosts (happens.Inject h c bound) small keeps k =
+    words_rest (codes "inject") (decimal h.0 ∷ (by c).program ∷ c.entry ∷ decimal bound ∷ []) (by c).args
+    (refl, (host_free hosts h small keeps.0).0, (name_free (by c).program k.0).0, (name_free c.entry k.1.entry).0, (number_free bound (omega (arith, keeps.1.0))).0, tt)
+event_words_are ps by hosts (happens.Send h d) small keeps k = words_are (codes "send") _ (refl, (host_free hosts h small keeps.0).0, (number_free d.0 (omega (arith, keeps.1))).0, tt)
+event_words_are ps by hosts (happens.Deliver n) small keeps k = words_are (codes "deliver") _ (refl, (number_free n (omega (arith, keeps))).0, tt)
+event_words_are ps by hosts (happens.Lose n) small keeps k = words_are (codes "lose") _ (refl, (number_free n (omega (arith, keeps))).0, tt)
+event_words_are ps by hosts (happens.Tick h) small keeps k = words_are (codes "tick") _ (refl, (host_free hosts h small keeps).0, tt)
+event_words_are ps by hosts (happens.Raw h d bytes) small keeps k = words_are (codes "raw") _ (refl, (host_free hosts h small keeps.0).0, (number_free d.0 (omega (arith, keeps.1))).0, (hex_free bytes keeps.2.are_bytes).0, tt)
+
+says_something : (by : Chunk → Written) (e : WorldEvent) → is_skipped (spaced (event_words by e)) ≡ false
+says_something by (happens.Inject h c bound) = refl
+says_something by (happens.Send h d) = refl
+says_something by (happens.Deliver n) = refl
+says_something by (happens.Lose n) = refl
+says_something by (happens.Tick h) = refl
+says_something by (happens.Raw h d bytes) = refl
+
+event_step_ok : (line : List ℕ) (ws : List (List ℕ)) (s t : Reading) (number : ℕ) → is_skipped line ≡ false → words line ≡ ws → event_line ws s ≡ said t → schedule_format.step number line (file_at stages.Events s) ≡ Ok (file_at stages.Events t)
+unfolding step
+event_step_ok line ws s t number some are is =
+    ap (λ b. file_after (cond b (Ok (stages.Events, s)) (at_line number (staying stages.Events (event_line (words line) s))))) some
+    ∙ (ap (λ v. file_after (at_line number (staying stages.Events (event_line v s)))) are ∙ ap (λ r. file_after (at_line number (staying stages.Events r))) is)
+
+more_weight : (e : WorldEvent) (es : List WorldEvent) → weights (e ∷ es) ≡ weight_of e + weights es
+more_weight (happens.Inject h c bound) es = omega arith
+more_weight (happens.Send h d) es = refl
+more_weight (happens.Deliver n) es = refl
+more_weight (happens.Lose n) es = refl
+more_weight (happens.Tick h) es = refl
+more_weight (happens.Raw h d bytes) es = refl
+
+-- events are read behind others
+pub events_read : (ps : List NamedText) (by : Chunk → Written) (rest seen : List WorldEvent) (s : Reading) (weight : ℕ) → IsReady ps by s → length (seen ++ rest) ≤ 50000 → All (KeepsEvent s.hosts) rest → All (EventIsWritten ps by) rest → weight + weights rest ≤ 16777216
+    → Leads (map (λ e. spaced (event_words by e)) rest) (file_at stages.Events (with_events s seen weight)) (file_at stages.Events (with_events s (seen ++ rest) (weight + weights rest)))
+events_read ps by [] seen s weight ready few keeps written light =
+    let n : weight ≡ weight + weights [] = omega arith in
+    subst (λ (w : ℕ). Leads [] (file_at stages.Events (with_events s seen weight)) (file_at stages.Events (with_events s (seen ++ []) w))) n
+    (subst (λ es. Leads [] (file_at stages.Events (with_events s seen weight)) (file_at stages.Events (with_events s es weight))) (sym (append-nil seen)) (leads-nil (file_at stages.Events (with_events s seen weight))))
+events_read ps by (e ∷ rest) seen s weight ready few keeps written light =
+    let join : (seen ++ e ∷ []) ++ rest ≡ seen ++ e ∷ rest = append_assoc seen (e ∷ []) rest in
+    let total = more_weight e rest in
+    let sum : weight + weight_of e + weights rest ≡ weight + weights (e ∷ rest) = omega (arith, total) in
+    let room : length seen < 50000 = omega (arith, few, length-append seen (e ∷ rest)) in
+    let k = All-head (KeepsEvent s.hosts) e rest keeps in
+    let w = All-head (EventIsWritten ps by) e rest written in
+    let is_ready : IsReady ps by (with_events s seen weight) = record { programs = ready.programs; small = ready.small } in
+    let one = event_said ps by (with_events s seen weight) e is_ready room k w (omega (arith, light, sum)) in
+    let most : weight + weight_of e + weights rest ≤ 16777216 = omega (arith, light, sum) in
+    let last = events_read ps by rest (seen ++ e ∷ []) s (weight + weight_of e) ready (subst (λ es. length es ≤ 50000) (sym join) few) (All-tail (KeepsEvent s.hosts) e rest keeps) (All-tail (EventIsWritten ps by) e rest written) most in
+    let moved = subst (λ es. Leads (map (λ x. spaced (event_words by x)) rest) (file_at stages.Events (with_events s (seen ++ e ∷ []) (weight + weight_of e))) (file_at stages.Events (with_events s es (weight + weights (e ∷ rest))))) join
+      (subst (λ (n : ℕ). Leads (map (λ x. spaced (event_words by x)) rest) (file_at stages.Events (with_events s (seen ++ e ∷ []) (weight + weight_of e))) (file_at stages.Events (with_events s ((seen ++ e ∷ []) ++ rest) n))) sum last) in
+    leads-cons (spaced (event_words by e)) (map (λ x. spaced (event_words by x)) rest) (file_at stages.Events (with_events s seen weight)) (file_at stages.Events (with_events s (seen ++ e ∷ []) (weight + weight_of e))) (file_at stages.Events (with_events s (seen ++ e ∷ rest) (weight + weights (e ∷ rest))))
+    (λ number. event_step_ok (spaced (event_words by e)) (read_words by e) (with_events s seen weight) (with_events s (seen ++ e ∷ []) (weight + weight_of e)) number (says_something by e) (event_words_are ps by s.hosts e ready.small k w) one) moved
