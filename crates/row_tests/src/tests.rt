@@ -71,12 +71,23 @@ fn on_bytes(alloc: Global, command: &str, bytes: &[u8]) -> Result<(u8, MemSink, 
 /// A file, and the output of a command that is done with it.
 type Done = (&'static [u8], &'static [u8]);
 
+fn is_done(
+    rt: &impl Abort,
+    alloc: Global,
+    command: &str,
+    bytes: &[u8],
+    output: &[u8],
+) -> Result<(), Fail> {
+    let (code, out, notes) = on_bytes(alloc, command, bytes)?;
+    assert_eq!(rt; code, 0);
+    assert_eq!(rt; out.taken().as_slice(), output);
+    assert_eq!(rt; notes.taken().as_slice(), b"".as_slice());
+    Ok(())
+}
+
 fn all_done(rt: &impl Abort, alloc: Global, command: &str, table: &[Done]) -> Result<(), Fail> {
     for (bytes, output) in table {
-        let (code, out, notes) = on_bytes(alloc, command, bytes)?;
-        assert_eq!(rt; code, 0);
-        assert_eq!(rt; out.taken().as_slice(), *output);
-        assert_eq!(rt; notes.taken().as_slice(), b"".as_slice());
+        is_done(rt, alloc, command, bytes, output)?;
     }
     Ok(())
 }
@@ -201,21 +212,29 @@ fn a_thousand_deep_evals_run_on_an_ordinary_stack(rt: HostRuntime) -> Result<(),
     Ok(())
 }
 
-static ROUTES: [Done; 9] = [
+static ROUTES: [Done; 5] = [
     (route_rows::FIRST_RUN_WITH_TICK, route_rows::FIRST_RUN_WITH_TICK_OUTPUT),
     (route_rows::PING_THREE_HOSTS, route_rows::PING_THREE_HOSTS_OUTPUT),
     (route_rows::PING_LAST_FRAME_LOST, route_rows::PING_LAST_FRAME_LOST_OUTPUT),
     (route_rows::PING_STOPPED_BEFORE_LAST_DELIVERY, route_rows::PING_STOPPED_BEFORE_LAST_DELIVERY_OUTPUT),
-    (route_rows::BOUND_ZERO_NOT_FORWARDED, route_rows::BOUND_ZERO_NOT_FORWARDED_OUTPUT),
-    (route_rows::BOUND_ZERO_EVALUATED_AT_DESTINATION, route_rows::BOUND_ZERO_EVALUATED_AT_DESTINATION_OUTPUT),
-    (route_rows::BOUND_ZERO_CANNOT_SEND, route_rows::BOUND_ZERO_CANNOT_SEND_OUTPUT),
     (route_rows::ROUTE_TRACED, route_rows::ROUTE_TRACED_OUTPUT),
-    (route_rows::FULL_QUEUE, route_rows::FULL_QUEUE_OUTPUT),
 ];
 
 #[test]
 fn ticks_spread_routes(rt: HostRuntime) -> Result<(), Fail> {
     all_done(&rt, rt.alloc(), "replay", &ROUTES)
+}
+
+static BOUNDS: [Done; 4] = [
+    (route_rows::BOUND_ZERO_NOT_FORWARDED, route_rows::BOUND_ZERO_NOT_FORWARDED_OUTPUT),
+    (route_rows::BOUND_ZERO_EVALUATED_AT_DESTINATION, route_rows::BOUND_ZERO_EVALUATED_AT_DESTINATION_OUTPUT),
+    (route_rows::BOUND_ZERO_CANNOT_SEND, route_rows::BOUND_ZERO_CANNOT_SEND_OUTPUT),
+    (route_rows::FULL_QUEUE, route_rows::FULL_QUEUE_OUTPUT),
+];
+
+#[test]
+fn packets_pass_where_their_bound_and_the_queue_allow(rt: HostRuntime) -> Result<(), Fail> {
+    all_done(&rt, rt.alloc(), "replay", &BOUNDS)
 }
 
 static TABLES: [Done; 8] = [
@@ -234,20 +253,45 @@ fn programs_keep_rows(rt: HostRuntime) -> Result<(), Fail> {
     all_done(&rt, rt.alloc(), "replay", &TABLES)
 }
 
-static FORGED: [Done; 8] = [
+static FORGED: [Done; 5] = [
     (forged_rows::FORGED_PACKET_EVALUATED, forged_rows::FORGED_PACKET_EVALUATED_OUTPUT),
     (forged_rows::FORGED_PACKET_WITHOUT_ROUTE, forged_rows::FORGED_PACKET_WITHOUT_ROUTE_OUTPUT),
     (forged_rows::FORGED_BYTE, forged_rows::FORGED_BYTE_OUTPUT),
     (forged_rows::FORGED_ILL_TYPED_PACKET, forged_rows::FORGED_ILL_TYPED_PACKET_OUTPUT),
     (forged_rows::FORGED_ASK, forged_rows::FORGED_ASK_OUTPUT),
-    (forged_rows::FORGED_PACKET_PREFIXES, forged_rows::FORGED_PACKET_PREFIXES_OUTPUT),
-    (forged_rows::FORGED_PASSING_PACKET_PREFIXES, forged_rows::FORGED_PASSING_PACKET_PREFIXES_OUTPUT),
-    (forged_rows::FORGED_ADVERT_PREFIXES, forged_rows::FORGED_ADVERT_PREFIXES_OUTPUT),
 ];
 
 #[test]
 fn bytes_from_outside_arrive_as_frames(rt: HostRuntime) -> Result<(), Fail> {
     all_done(&rt, rt.alloc(), "replay", &FORGED)
+}
+
+#[test]
+fn beginnings_of_frames_from_outside_are_dropped_where_they_are_cut(
+    rt: HostRuntime,
+) -> Result<(), Fail> {
+    let alloc = rt.alloc();
+    is_done(
+        &rt,
+        alloc,
+        "replay",
+        forged_rows::FORGED_PACKET_PREFIXES,
+        forged_rows::FORGED_PACKET_PREFIXES_OUTPUT,
+    )?;
+    is_done(
+        &rt,
+        alloc,
+        "replay",
+        forged_rows::FORGED_PASSING_PACKET_PREFIXES,
+        forged_rows::FORGED_PASSING_PACKET_PREFIXES_OUTPUT,
+    )?;
+    is_done(
+        &rt,
+        alloc,
+        "replay",
+        forged_rows::FORGED_ADVERT_PREFIXES,
+        forged_rows::FORGED_ADVERT_PREFIXES_OUTPUT,
+    )
 }
 
 #[test]

@@ -225,6 +225,7 @@ event_words_are ps by hosts (happens.Tick h) small keeps k = words_are (codes "t
 event_words_are ps by hosts (happens.Raw h d bytes) small keeps k = words_are (codes "raw") _ (refl, (host_free hosts h small keeps.0).0, (number_free d.0 (omega (arith, keeps.1))).0, (hex_free bytes keeps.2.are_bytes).0, tt)
 
 says_something : (by : Chunk → Written) (e : WorldEvent) → is_skipped (spaced (event_words by e)) ≡ false
+unfolding spaced
 says_something by (happens.Inject h c bound) = refl
 says_something by (happens.Send h d) = refl
 says_something by (happens.Deliver n) = refl

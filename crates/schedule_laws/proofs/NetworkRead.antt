@@ -131,6 +131,7 @@ with_hosts s hosts = record s { hosts = hosts }
 -- hosts are read behind others
 pub hosts_read : (rest seen : List HostSpec) (s : Reading) → length (seen ++ rest) ≤ 32 → HostsDiffer (seen ++ rest) → All IsNumbered rest → All LacksEach rest
     → Leads (map (λ h. spaced (host_words h)) rest) (file_at stages.Network (with_hosts s seen)) (file_at stages.Network (with_hosts s (seen ++ rest)))
+unfolding spaced
 hosts_read [] seen s few differ small lacks = subst (λ hs. Leads [] (file_at stages.Network (with_hosts s seen)) (file_at stages.Network (with_hosts s hs))) (sym (append-nil seen)) (leads-nil (file_at stages.Network (with_hosts s seen)))
 hosts_read (h ∷ rest) seen s few differ small lacks =
     let e : (seen ++ h ∷ []) ++ rest ≡ seen ++ h ∷ rest = append_assoc seen (h ∷ []) rest in
@@ -186,6 +187,7 @@ with_links s links = record s { links = links }
 -- links are read behind others
 pub links_read : (rest seen : List Cable) (s : Reading) → LinksApart (seen ++ rest) → All (KeepsLink s.hosts) rest → All IsSmallLink rest
     → Leads (map (λ l. spaced (link_words l)) rest) (file_at stages.Network (with_links s seen)) (file_at stages.Network (with_links s (seen ++ rest)))
+unfolding spaced
 links_read [] seen s apart keeps small = subst (λ ls. Leads [] (file_at stages.Network (with_links s seen)) (file_at stages.Network (with_links s ls))) (sym (append-nil seen)) (leads-nil (file_at stages.Network (with_links s seen)))
 links_read (l ∷ rest) seen s apart keeps small =
     let e : (seen ++ l ∷ []) ++ rest ≡ seen ++ l ∷ rest = append_assoc seen (l ∷ []) rest in

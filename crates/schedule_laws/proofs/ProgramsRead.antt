@@ -106,6 +106,7 @@ inside_read (line ∷ text) begun s program number k e =
 
 program_read : (p : NamedText) (s : Reading) → length s.programs < 64 → IsNamedText p → list_any (is_called p.name) s.programs ≡ false
     → Leads (program_lines p) (file_at stages.Network s) (file_at stages.Network (with_programs s (s.programs ++ titled p ∷ [])))
+unfolding spaced
 program_read p s room k new number =
     then_lines (spaced (first_words p)) (p.text ++ codes "end program" ∷ []) (file_at stages.Network s) (file_at (stages.Inside (begun_at number p.name)) s) _ number
     (network_step_ok (codes "program") (p.name ∷ []) s s (stages.Inside (begun_at number p.name)) number (first_free p k.name) refl (begins_said p s number (begun_at number p.name) (begins_ok p s number room k.name new)))

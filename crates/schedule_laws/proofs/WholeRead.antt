@@ -13,7 +13,7 @@ use Rattle.network_plan.specs.declared.schedule.Schedule.{Schedule}
 use Rattle.network_plan.specs.declared.event.WorldEvent.{WorldEvent}
 use Rattle.network_plan.specs.Hosts.{Cable, has_host}
 use Rattle.network_plan.specs.Rules.{KeepsLink, KeepsEvent}
-use Rattle.line_files.specs.Lines.{lines, spaced}
+use Rattle.line_files.specs.Lines.{lines, spaced, behind}
 use Rattle.line_files.specs.Files.{read_on}
 use Rattle.line_files.proofs.Again.{without}
 use Rattle.schedule_text.specs.declared.reading.Reading.{Reading}
@@ -127,8 +127,8 @@ module _ (ps : List NamedText) (by : Chunk → Written) (s : Schedule) (is : IsS
   programs_lead : Leads (flat_map program_lines ps) (file_at stages.Network linked) (file_at stages.Network carried)
   programs_lead = programs_read ps [] linked is.few is.differ is.programs
 
-  events_begin : (number : ℕ) → schedule_format.step number (spaced (codes "events" ∷ [])) (file_at stages.Network carried) ≡ Ok (file_at stages.Events carried)
-  unfolding network_line network_rest
+  events_begin : (number : ℕ) → schedule_format.step number (codes "events") (file_at stages.Network carried) ≡ Ok (file_at stages.Events carried)
+  unfolding network_line network_rest spaced behind
   events_begin number = network_step_ok (codes "events") [] carried carried stages.Events number (refl, tt) refl refl
 
   events_lead : Leads (map (λ e. spaced (event_words by e)) s.events) (file_at stages.Events carried) (file_at stages.Events whole)
@@ -149,6 +149,7 @@ unfolding network_line network_rest frames_line
 frames_said number = refl
 
 frames_lead : (frames : Bool) → Leads (frames_lines frames) (file_at stages.Network nothing_shown) (file_at stages.Network (shown frames))
+unfolding spaced behind
 frames_lead true = leads-one (codes "frames") (file_at stages.Network nothing_shown) (file_at stages.Network (shown true)) (λ number. network_step_ok (codes "frames") [] nothing_shown (shown true) stages.Network number (refl, tt) refl (frames_said number))
 frames_lead false = leads-nil (file_at stages.Network nothing_shown)
 

@@ -34,11 +34,13 @@ spread_lines (l ∷ ls) k = line_first l (spread ls) k.0 ∙ ap (λ z. l ∷ z) 
 
 -- the words of a line are those that it was made of
 pub words_are : (w : List ℕ) (ws : List (List ℕ)) → Free 32 (w ∷ ws) → words (spaced (w ∷ ws)) ≡ w ∷ ws
+unfolding spaced behind
 words_are w [] k = ap words (append-nil w) ∙ word_alone w k.0
 words_are w (v ∷ vs) k = word_first w (spaced (v ∷ vs)) k.0 ∙ ap (λ z. w ∷ z) (words_are v vs k.1)
 
 -- and behind them any rest
 pub words_rest : (w : List ℕ) (ws : List (List ℕ)) (rest : List ℕ) → Free 32 (w ∷ ws) → words (spaced ((w ∷ ws) ++ rest ∷ [])) ≡ (w ∷ ws) ++ words rest
+unfolding spaced behind
 words_rest w [] rest k = word_first w (rest ++ []) k.0 ∙ ap (λ z. w ∷ words z) (append-nil rest)
 words_rest w (v ∷ vs) rest k = word_first w (spaced ((v ∷ vs) ++ rest ∷ [])) k.0 ∙ ap (λ z. w ∷ z) (words_rest v vs rest k.1)
 
