@@ -1,5 +1,5 @@
 -- How the hosts of a line follow each other.
-use Rattle.std.proofs.Common.{◌≡◌, ℕ, suc, ◌+◌, ◌<◌, Bool, true, false, ltb, List, [], ◌∷◌, ◌++◌, length, Option, Some, None, Result, Ok, Err, refl, sym, ap, ◌∙◌, arith}
+use Rattle.std.proofs.Common.{◌≡◌, ℕ, ◌<◌, Bool, true, false, ltb, List, [], ◌∷◌, ◌++◌, length, Option, Some, None, Result, Ok, refl, sym, ap, ◌∙◌, arith}
 use Rattle.std.specs.Option.{ok_or}
 use Rattle.plan_base.specs.declared.ids.Host.{Host}
 use Rattle.network_plan.specs.Hosts.{host_of}
@@ -7,7 +7,7 @@ use Rattle.line_files.specs.declared.fault.LineReason.{LineReason}
 use Rattle.line_files.specs.declared.fault.LineReason.TheVariants.{BadNumber, TooMany, BadArgument}
 use Rattle.line_files.specs.declared.fault.Stop.{Stop}
 use Rattle.line_files.specs.declared.fault.Stop.TheVariants as stops
-use Rattle.line_files.specs.Reads.{◌>>=◌, word_at, has_word, allowed, Fails}
+use Rattle.line_files.specs.Reads.{◌>>=◌, has_word, allowed, Fails}
 use Rattle.line_files.specs.Numbers.{number_in, number_at}
 use Rattle.line_files.specs.HostLists.{is_above, host_more, hosts_from}
 

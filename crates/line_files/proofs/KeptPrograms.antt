@@ -1,8 +1,7 @@
 -- The programs of a file are typed, and so are the chunks that are injected.
-use Rattle.std.proofs.Common.{◌≡◌, ℕ, ◌+◌, ◌≤◌, Bool, true, false, not, leb, List, length, Option, Some, None, Result, Ok, Err, refl, ap}
+use Rattle.std.proofs.Common.{◌≡◌, ℕ, ◌+◌, ◌≤◌, not, leb, List, length, Result, Ok, Err, refl, ap}
 use Rattle.std.specs.Prelude.{IsTrue, is_some}
-use Rattle.std.specs.List.{list_all, find}
-use Rattle.std.specs.Option.{ok_or}
+use Rattle.std.specs.List.{list_all}
 use Rattle.std.proofs.lemmas.Bool.{leb-true}
 use Rattle.plan_base.specs.declared.tree.Chunk.{Chunk}
 use Rattle.plan_base.specs.declared.tree.Program.{Program}
@@ -14,11 +13,10 @@ use Rattle.chunk_types.specs.Chunks.{refusal_of, IsCheckedChunk}
 use Rattle.program_text.specs.declared.fault.TextFault.{TextFault}
 use Rattle.program_text.specs.Texts.{program_of, args_of_text}
 use Rattle.network_plan.specs.Rules.{KeepsInjection}
-use Rattle.line_files.specs.declared.fault.LineReason.{LineReason}
-use Rattle.line_files.specs.declared.fault.LineReason.TheVariants.{BadWord, TooMany, BadArgument}
-use Rattle.line_files.specs.Reads.{◌>>=◌, word_at, rest_at, allowed}
+use Rattle.line_files.specs.declared.fault.LineReason.TheVariants.{TooMany, BadArgument}
+use Rattle.line_files.specs.Reads.{rest_at, allowed}
 use Rattle.line_files.specs.Numbers.{number_at}
-use Rattle.line_files.specs.Programs.{accepted, program_in, has_name, entry_at, args_at, chunk_with, typed_chunk, injection_at, call_at, weighed}
+use Rattle.line_files.specs.Programs.{accepted, program_in, entry_at, args_at, chunk_with, typed_chunk, injection_at, call_at, weighed}
 use Rattle.line_files.proofs.TextLaws.{program_checked, args_good, chunk_checked}
 use Rattle.line_files.proofs.Keeping.{IfRead, ok_is, then_keeps, done_keeps, allowed_true, ok_or_is, number_is}
 

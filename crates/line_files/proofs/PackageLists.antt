@@ -1,5 +1,5 @@
 -- How the packages of a line follow each other.
-use Rattle.std.proofs.Common.{◌≡◌, ℕ, suc, ◌+◌, ◌<◌, Bool, true, false, not, List, [], ◌∷◌, ◌++◌, length, Option, Some, None, Result, Ok, Err, refl, sym, ap, subst, ◌∙◌, arith}
+use Rattle.std.proofs.Common.{◌≡◌, ℕ, ◌<◌, Bool, true, false, not, List, [], ◌∷◌, ◌++◌, length, Option, Some, None, Result, Ok, Err, refl, sym, ap, ◌∙◌, arith}
 use Rattle.std.specs.List.{list_any}
 use Rattle.std.specs.Option.{ok_or}
 use Rattle.std.specs.Str.{bytes_eq}
@@ -9,7 +9,7 @@ use Rattle.line_files.specs.declared.fault.LineReason.TheVariants.{BadWord, Twic
 use Rattle.line_files.specs.declared.fault.Stop.{Stop}
 use Rattle.line_files.specs.declared.fault.Stop.TheVariants as stops
 use Rattle.service_api.specs.declared.package.PackageName.{PackageName}
-use Rattle.line_files.specs.Reads.{◌>>=◌, word_at, has_word, allowed, Fails}
+use Rattle.line_files.specs.Reads.{◌>>=◌, has_word, allowed, Fails}
 use Rattle.line_files.specs.Packages.{package_of, same_package, package_at, one_package, packages_at}
 
 alone : {A : Type 0} (t : Bool) (y : Result A LineReason) → (allowed t BadWord >>= λ _. Err BadWord) ≡ y → Err BadWord ≡ y

@@ -1,5 +1,5 @@
 -- The names of files in lines.
-use Rattle.std.specs.Prelude.{ℕ, List, Result, Ok}
+use Rattle.std.specs.Prelude.{ℕ, List, Ok}
 use Rattle.network_plan.specs.FileNames.{is_file_name}
 use Rattle.line_files.specs.declared.fault.LineReason.TheVariants.{BadWord}
 use Rattle.line_files.specs.Reads.{◌>>=◌, Part, word_at, allowed}

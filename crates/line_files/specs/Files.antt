@@ -1,5 +1,5 @@
 -- A file line by line, up to its first line that is outside the format.
-use Rattle.std.specs.Prelude.{ℕ, ◌+◌, Bool, true, false, ◌==◌, List, [], ◌∷◌, Result, Ok, Err}
+use Rattle.std.specs.Prelude.{ℕ, ◌+◌, Bool, true, ◌==◌, List, [], ◌∷◌, Result, Ok, Err}
 use Rattle.line_files.specs.declared.fault.LineReason.{LineReason}
 use Rattle.line_files.specs.declared.fault.LineFault.{LineFault}
 use Rattle.line_files.specs.declared.fault.LineFault.TheVariants as faults

@@ -45,10 +45,10 @@ both_alike R S (Err e) (Ok y) f g k h = absurd k
 -- ---- programs and stages behind a line more
 
 abbrev later : BegunProgram → BegunProgram
-later b = record b { open = record b.open { line = b.open.line + 1 } }
+later b = record b { source = record b.source { line = b.source.line + 1 } }
 
 abbrev ProgramMoves : ℕ → BegunProgram → BegunProgram → Type 0
-ProgramMoves at b c = (c ≡ later b) × (at < b.open.line)
+ProgramMoves at b c = (c ≡ later b) × (at < b.source.line)
 
 abbrev StageMoves : ℕ → Stage → Stage → Type 0
 StageMoves at stages.Network stages.Network = Unit {0}
@@ -115,12 +115,12 @@ close_same : (b : BegunProgram) (s : Reading) → close_program (later b) s ≡ 
 unfolding close_program
 close_same b s = refl
 
-inside_moves : (at number : ℕ) (line : List ℕ) (b : BegunProgram) (s : Reading) → at < b.open.line → Moves (FileMoves at) at (file_after (step number line (stages.Inside b) s)) (file_after (step (number + 1) line (stages.Inside (later b)) s))
+inside_moves : (at number : ℕ) (line : List ℕ) (b : BegunProgram) (s : Reading) → at < b.source.line → Moves (FileMoves at) at (file_after (step number line (stages.Inside b) s)) (file_after (step (number + 1) line (stages.Inside (later b)) s))
 unfolding step
 inside_moves at number line b s lt =
     either_moves at (bytes_eq line (codes "end program")) _ _ _ _
-    (subst (λ q. Moves (FileMoves at) at (file_after (at_line b.open.line (staying stages.Network (close_program b s)))) (file_after (at_line (b.open.line + 1) (staying stages.Network q)))) (sym (close_same b s))
-    (at_moves at b.open.line _ _ lt (staying_moves at stages.Network (close_program b s) tt)))
+    (subst (λ q. Moves (FileMoves at) at (file_after (at_line b.source.line (staying stages.Network (close_program b s)))) (file_after (at_line (b.source.line + 1) (staying stages.Network q)))) (sym (close_same b s))
+    (at_moves at b.source.line _ _ lt (staying_moves at stages.Network (close_program b s) tt)))
     ((refl, lt), refl)
 
 stage_moves : (at number : ℕ) (line : List ℕ) (stage other : Stage) (s : Reading) → at < number → StageMoves at stage other → Moves (FileMoves at) at (file_after (step number line stage s)) (file_after (step (number + 1) line other s))

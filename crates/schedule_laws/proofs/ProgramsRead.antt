@@ -61,16 +61,16 @@ begins_said p s number begun e = then_ok (program_line number (p.name ∷ []) s)
 
 text_step : (line : List ℕ) (begun : BegunProgram) (s : Reading) (number : ℕ) → bytes_eq line (codes "end program") ≡ false → schedule_format.step number line (file_at (stages.Inside begun) s) ≡ Ok (file_at (stages.Inside (with_more begun line)) s)
 unfolding step
-text_step line begun s number e = ap (λ b. file_after (cond b (at_line begun.open.line (staying stages.Network (close_program begun s))) (Ok (stages.Inside (with_more begun line), s)))) e
+text_step line begun s number e = ap (λ b. file_after (cond b (at_line begun.source.line (staying stages.Network (close_program begun s))) (Ok (stages.Inside (with_more begun line), s)))) e
 
-close_ok : (begun : BegunProgram) (s : Reading) (program : Program) → program_in begun.open.text ≡ Ok program → close_program begun s ≡ Ok (with_programs s (s.programs ++ named begun.name program ∷ []))
+close_ok : (begun : BegunProgram) (s : Reading) (program : Program) → program_in begun.source.text ≡ Ok program → close_program begun s ≡ Ok (with_programs s (s.programs ++ named begun.name program ∷ []))
 unfolding close_program
-close_ok begun s program e = then_ok (program_in begun.open.text) program _ _ e refl
+close_ok begun s program e = then_ok (program_in begun.source.text) program _ _ e refl
 
-end_step : (begun : BegunProgram) (s : Reading) (program : Program) (number : ℕ) → program_in begun.open.text ≡ Ok program
+end_step : (begun : BegunProgram) (s : Reading) (program : Program) (number : ℕ) → program_in begun.source.text ≡ Ok program
     → schedule_format.step number (codes "end program") (file_at (stages.Inside begun) s) ≡ Ok (file_at stages.Network (with_programs s (s.programs ++ named begun.name program ∷ [])))
 unfolding step
-end_step begun s program number e = ap (λ r. file_after (at_line begun.open.line (staying stages.Network r))) (close_ok begun s program e)
+end_step begun s program number e = ap (λ r. file_after (at_line begun.source.line (staying stages.Network r))) (close_ok begun s program e)
 
 -- one line, and then others
 then_lines : (line : List ℕ) (ls : List (List ℕ)) (f g h : ScheduleFile) (number : ℕ) → schedule_format.step number line f ≡ Ok g → after_lines (number + 1) ls g ≡ Ok h → after_lines number (line ∷ ls) f ≡ Ok h
@@ -81,18 +81,18 @@ no_lines : (f : ScheduleFile) (number : ℕ) → after_lines number [] f ≡ Ok 
 unfolding after_lines
 no_lines f number = refl
 
-more_text : (begun : BegunProgram) (line : List ℕ) (text : List (List ℕ)) (program : Program) → program_in (begun.open.text ++ spread (line ∷ text)) ≡ Ok program → program_in ((with_more begun line).open.text ++ spread text) ≡ Ok program
+more_text : (begun : BegunProgram) (line : List ℕ) (text : List (List ℕ)) (program : Program) → program_in (begun.source.text ++ spread (line ∷ text)) ≡ Ok program → program_in ((with_more begun line).source.text ++ spread text) ≡ Ok program
 unfolding spread
 more_text begun line text program e =
     let inner : (line ++ 10 ∷ []) ++ spread text ≡ line ++ 10 ∷ spread text = append_assoc line (10 ∷ []) (spread text) in
-    let outer : (begun.open.text ++ (line ++ 10 ∷ [])) ++ spread text ≡ begun.open.text ++ (line ++ 10 ∷ spread text) = append_assoc begun.open.text (line ++ 10 ∷ []) (spread text) ∙ ap (λ z. begun.open.text ++ z) inner in
+    let outer : (begun.source.text ++ (line ++ 10 ∷ [])) ++ spread text ≡ begun.source.text ++ (line ++ 10 ∷ spread text) = append_assoc begun.source.text (line ++ 10 ∷ []) (spread text) ∙ ap (λ z. begun.source.text ++ z) inner in
     ap program_in outer ∙ e
 
-no_text : (begun : BegunProgram) (program : Program) → program_in (begun.open.text ++ spread []) ≡ Ok program → program_in begun.open.text ≡ Ok program
+no_text : (begun : BegunProgram) (program : Program) → program_in (begun.source.text ++ spread []) ≡ Ok program → program_in begun.source.text ≡ Ok program
 unfolding spread
-no_text begun program e = ap program_in (sym (append-nil begun.open.text)) ∙ e
+no_text begun program e = ap program_in (sym (append-nil begun.source.text)) ∙ e
 
-inside_read : (text : List (List ℕ)) (begun : BegunProgram) (s : Reading) (program : Program) (number : ℕ) → All IsTextLine text → program_in (begun.open.text ++ spread text) ≡ Ok program
+inside_read : (text : List (List ℕ)) (begun : BegunProgram) (s : Reading) (program : Program) (number : ℕ) → All IsTextLine text → program_in (begun.source.text ++ spread text) ≡ Ok program
     → after_lines number (text ++ codes "end program" ∷ []) (file_at (stages.Inside begun) s) ≡ Ok (file_at stages.Network (with_programs s (s.programs ++ named begun.name program ∷ [])))
 inside_read [] begun s program number k e =
     let last = file_at stages.Network (with_programs s (s.programs ++ named begun.name program ∷ [])) in

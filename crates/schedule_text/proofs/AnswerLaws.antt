@@ -1,5 +1,5 @@
 -- Each file has a schedule or a first refusal, and only one of them.
-use Rattle.std.proofs.Common.{◌≡◌, ◌⊎◌, inl, inr, ℕ, ◌+◌, ◌≤◌, Bool, true, false, not, ltb, List, [], ◌∷◌, length, Result, Ok, Err, refl, sym, ap, ◌∙◌, arith}
+use Rattle.std.proofs.Common.{◌≡◌, ◌⊎◌, inl, inr, ℕ, ◌+◌, ◌≤◌, not, ltb, List, length, Result, Ok, Err, refl, sym, ap, ◌∙◌, arith}
 use Rattle.std.specs.List.{list_any}
 use Rattle.std.specs.Option.{ok_or}
 use Rattle.std.specs.Str.{bytes_eq}
@@ -11,10 +11,10 @@ use Rattle.line_files.specs.declared.fault.LineFault.{LineFault}
 use Rattle.line_files.specs.declared.fault.LineFault.TheVariants as faults
 use Rattle.line_files.specs.Lines.{lines, words}
 use Rattle.line_files.specs.Reads.{word_at, end_at, allowed}
-use Rattle.line_files.specs.Files.{is_skipped, at_line}
+use Rattle.line_files.specs.Files.{is_skipped}
 use Rattle.line_files.specs.Programs.{named_word}
 use Rattle.line_files.proofs.Keeping.{IfRead, then_keeps, done_keeps, IfStep, step_done, step_none, step_is, at_line_keeps, either_keeps}
-use Rattle.line_files.proofs.Placing.{Placed, OnFault, err_is, fault_done, fault_here, at_line_placed, either_placed, Places, read_placed}
+use Rattle.line_files.proofs.Placing.{OnFault, err_is, fault_done, fault_here, at_line_placed, either_placed, Places, read_placed}
 use Rattle.schedule_text.specs.declared.keyword.NetworkWord.{NetworkWord}
 use Rattle.schedule_text.specs.declared.keyword.NetworkWord.TheVariants as network
 use Rattle.schedule_text.specs.declared.reading.BegunProgram.{BegunProgram}
@@ -30,7 +30,7 @@ use Rattle.schedule_text.specs.Schedules.{network_word, frames_line, host_line, 
 abbrev pub Begun : ℕ → Stage → Type 0
 Begun number stages.Header = Unit {0}
 Begun number stages.Network = Unit {0}
-Begun number (stages.Inside begun) = (1 ≤ begun.open.line) × (begun.open.line ≤ number)
+Begun number (stages.Inside begun) = (1 ≤ begun.source.line) × (begun.source.line ≤ number)
 Begun number stages.Events = Unit {0}
 
 begun_later : (number : ℕ) (stage : Stage) → Begun number stage → Begun (number + 1) stage
@@ -47,12 +47,12 @@ step_placed number line stages.Header s low b = either_placed number (bytes_eq l
 step_placed number line stages.Network s low b = either_placed number (is_skipped line) _ _ (fault_done number (stages.Network, s)) (at_line_placed number number (network_line number (words line) s) low (omega arith))
 step_placed number line (stages.Inside begun) s low b =
     either_placed number (bytes_eq line (codes "end program")) _ _
-    (at_line_placed number begun.open.line (staying stages.Network (close_program begun s)) b.0 b.1)
+    (at_line_placed number begun.source.line (staying stages.Network (close_program begun s)) b.0 b.1)
     (fault_done number _)
 step_placed number line stages.Events s low b = either_placed number (is_skipped line) _ _ (fault_done number (stages.Events, s)) (at_line_placed number number (staying stages.Events (event_line (words line) s)) low (omega arith))
 
 after_placed : (number : ℕ) (r : Result (Stage × Reading) LineFault) → OnFault number r → OnFault number (file_after r)
-after_placed number (Ok next) h = fault_done number _
+after_placed number (Ok next) h e q = absurd cc
 after_placed number (Err d) h e q = h e (ap (λ z. Err z) (err_is {B = ScheduleFile} d e q))
 
 finish_placed : (number : ℕ) (stage : Stage) (s : Reading) → 1 ≤ number → OnFault number (finish number stage s)
@@ -67,7 +67,7 @@ abbrev BegunNext : ℕ → Stage × Reading → Type 0
 BegunNext number x = Begun number x.0
 
 abbrev OpensAt : ℕ → BegunProgram → Type 0
-OpensAt number begun = begun.open.line ≡ number
+OpensAt number begun = begun.source.line ≡ number
 
 opens : (number : ℕ) (ws : List (List ℕ)) (s : Reading) → IfRead (OpensAt number) (program_line number ws s)
 unfolding program_line
@@ -104,7 +104,7 @@ step_begun number line stages.Header s low b = either_keeps (BegunNext number) (
 step_begun number line stages.Network s low b = either_keeps (BegunNext number) (is_skipped line) _ _ (step_done (BegunNext number) (stages.Network, s) tt) (at_line_keeps (BegunNext number) number (network_line number (words line) s) (line_begun number (words line) s low))
 step_begun number line (stages.Inside begun) s low b =
     either_keeps (BegunNext number) (bytes_eq line (codes "end program")) _ _
-    (at_line_keeps (BegunNext number) begun.open.line (staying stages.Network (close_program begun s)) (staying_begun number stages.Network (close_program begun s) tt))
+    (at_line_keeps (BegunNext number) begun.source.line (staying stages.Network (close_program begun s)) (staying_begun number stages.Network (close_program begun s) tt))
     (step_done (BegunNext number) (stages.Inside (with_more begun line), s) b)
 step_begun number line stages.Events s low b = either_keeps (BegunNext number) (is_skipped line) _ _ (step_done (BegunNext number) (stages.Events, s) tt) (at_line_keeps (BegunNext number) number (staying stages.Events (event_line (words line) s)) (staying_begun number stages.Events (event_line (words line) s) tt))
 

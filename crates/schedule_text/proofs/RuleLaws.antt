@@ -1,5 +1,5 @@
 -- Each line keeps the rules of a schedule, so a file's schedule keeps them.
-use Rattle.std.proofs.Common.{◌≡◌, ◌≢◌, ℕ, ◌+◌, ◌<◌, ◌≤◌, ◌^◌, Bool, true, false, cond, not, eqb, ltb, List, [], ◌∷◌, ◌++◌, length, Option, Some, None, Result, Ok, Err, refl, arith, length-append}
+use Rattle.std.proofs.Common.{◌≡◌, ℕ, ◌<◌, ◌≤◌, ◌^◌, Bool, true, false, cond, not, eqb, ltb, List, [], ◌∷◌, ◌++◌, length, Option, Some, Result, Ok, Err, refl, subst, arith, length-append}
 use Rattle.std.specs.Prelude.{IfOk}
 use Rattle.std.specs.List.{All, find}
 use Rattle.std.specs.Option.{ok_or}
@@ -31,7 +31,7 @@ use Rattle.line_files.specs.Numbers.{number_at}
 use Rattle.line_files.specs.Packages.{packages_at}
 use Rattle.line_files.specs.HexWords.{hex_at}
 use Rattle.line_files.specs.Programs.{program_in, injection_at, weighed}
-use Rattle.line_files.proofs.Keeping.{IfRead, then_keeps, done_keeps, allowed_true, allowed_not, allowed_below, ok_or_is, InRange, number_is, AreSized, hex_is, packages_are, IfStep, step_done, step_none, at_line_keeps, either_keeps, read_keeps}
+use Rattle.line_files.proofs.Keeping.{IfRead, then_keeps, done_keeps, allowed_true, allowed_not, allowed_below, ok_or_is, number_is, AreSized, hex_is, packages_are, IfStep, step_done, step_none, at_line_keeps, either_keeps, read_keeps}
 use Rattle.line_files.proofs.KeptPrograms as kept
 use Rattle.line_files.proofs.FileLaws as whole
 use Rattle.schedule_text.specs.declared.keyword.NetworkWord.{NetworkWord}
@@ -45,7 +45,7 @@ use Rattle.schedule_text.specs.declared.reading.Stage.{Stage}
 use Rattle.schedule_text.specs.declared.reading.Stage.TheVariants as stages
 use Rattle.schedule_text.specs.declared.reading.ScheduleFile.{ScheduleFile}
 use Rattle.schedule_text.specs.Parts.{host_at, device_at, free_device_at, is_called, program_at}
-use Rattle.schedule_text.specs.Schedules.{network_word, event_word, is_first, frames_line, host_spec, host_line, link_line, program_line, named, close_program, network_rest, network_line, with_event, injected_at, inject_line, send_line, frame_at, deliver_line, lose_line, tick_line, raw_line, event_rest, event_line, staying, header_step, network_step, program_step, event_step, step, schedule_of_reading, finish, file_after, schedule_format, nothing_read, schedule_of}
+use Rattle.schedule_text.specs.Schedules.{network_word, event_word, is_first, frames_line, host_spec, host_line, link_line, program_line, named, close_program, network_rest, network_line, with_event, injected_at, inject_line, send_line, frame_at, deliver_line, lose_line, tick_line, raw_line, event_rest, event_line, staying, step, schedule_of_reading, finish, file_after, schedule_format, nothing_read, schedule_of}
 use Rattle.schedule_text.proofs.NetworkRules.{differ_push, link_stays, event_stays, apart_push}
 
 -- ---- what a line names
@@ -183,10 +183,10 @@ frames_keeps ws s k =
 close_keeps : (begun : BegunProgram) (s : Reading) → Keeps s → IfRead Keeps (close_program begun s)
 unfolding close_program
 close_keeps begun s k =
-    then_keeps Keeps (program_in begun.open.text) _ (λ program hp.
+    then_keeps Keeps (program_in begun.source.text) _ (λ program hp.
     done_keeps Keeps _ (record {
       network = k.network;
-      programs = All-push IsNamed s.programs (named begun.name program) k.programs (kept.program_is begun.open.text program hp);
+      programs = All-push IsNamed s.programs (named begun.name program) k.programs (kept.program_is begun.source.text program hp);
       few = k.few;
       events = k.events;
     }))
@@ -311,7 +311,7 @@ step_keeps number line stages.Header s k = either_keeps KeepsNext (bytes_eq line
 step_keeps number line stages.Network s k = either_keeps KeepsNext (is_skipped line) _ _ (step_done KeepsNext (stages.Network, s) k) (at_line_keeps KeepsNext number (network_line number (words line) s) (network_keeps number (words line) s k))
 step_keeps number line (stages.Inside begun) s k =
     either_keeps KeepsNext (bytes_eq line (codes "end program")) _ _
-    (at_line_keeps KeepsNext begun.open.line (staying stages.Network (close_program begun s)) (staying_keeps stages.Network (close_program begun s) (close_keeps begun s k)))
+    (at_line_keeps KeepsNext begun.source.line (staying stages.Network (close_program begun s)) (staying_keeps stages.Network (close_program begun s) (close_keeps begun s k)))
     (step_done KeepsNext _ k)
 step_keeps number line stages.Events s k = either_keeps KeepsNext (is_skipped line) _ _ (step_done KeepsNext (stages.Events, s) k) (at_line_keeps KeepsNext number (staying stages.Events (event_line (words line) s)) (staying_keeps stages.Events (event_line (words line) s) (event_keeps (words line) s k)))
 

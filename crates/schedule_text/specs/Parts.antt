@@ -1,5 +1,5 @@
 -- What the lines of a schedule name: hosts, devices and programs.
-use Rattle.std.specs.Prelude.{ℕ, Bool, not, List, Result, Ok}
+use Rattle.std.specs.Prelude.{ℕ, Bool, not, List, Ok}
 use Rattle.std.specs.List.{find}
 use Rattle.std.specs.Option.{ok_or}
 use Rattle.std.specs.Str.{bytes_eq}

@@ -5,7 +5,6 @@ use Rattle.std.specs.Option.{ok_or}
 use Rattle.std.specs.Str.{bytes_eq}
 use lib.Chars.{codes}
 use Rattle.plan_base.specs.declared.ids.Host.{Host}
-use Rattle.plan_base.specs.declared.ids.Dev.{Dev}
 use Rattle.plan_base.specs.declared.name.Name.{Name}
 use Rattle.plan_base.specs.declared.tree.Chunk.{Chunk}
 use Rattle.plan_base.specs.declared.tree.Program.{Program}
@@ -14,7 +13,7 @@ use Rattle.network_plan.specs.declared.schedule.HostSpec.{HostSpec}
 use Rattle.network_plan.specs.declared.schedule.Schedule.{Schedule}
 use Rattle.network_plan.specs.declared.event.WorldEvent.{WorldEvent}
 use Rattle.network_plan.specs.declared.event.WorldEvent.TheVariants as happens
-use Rattle.network_plan.specs.Hosts.{Cable, host_of, has_host}
+use Rattle.network_plan.specs.Hosts.{host_of, has_host}
 use Rattle.line_files.specs.declared.fault.LineReason.{LineReason}
 use Rattle.line_files.specs.declared.fault.LineReason.TheVariants.{BadHeader, BadWord, TwiceNamed, TooMany, BadArgument}
 use Rattle.line_files.specs.declared.fault.LineFault.{LineFault}
@@ -83,7 +82,7 @@ link_line ws s = do
 
 -- a program without text, begun at a line
 abbrev pub begun_at : ℕ → Name → BegunProgram
-begun_at number name = record { name = name; open = opened number }
+begun_at number name = record { name = name; source = opened number }
 
 -- `program NAME`
 unfoldable pub program_line : ℕ → List (List ℕ) → Reading → Result BegunProgram LineReason
@@ -101,7 +100,7 @@ named name program = record { name = name; program = program }
 -- the end of a program's text
 unfoldable pub close_program : BegunProgram → Reading → Result Reading LineReason
 close_program begun s = do
-  program ← program_in begun.open.text
+  program ← program_in begun.source.text
   Ok (record s { programs = s.programs ++ named begun.name program ∷ [] })
 
 -- a line of the network behind its first word, and what may come next
@@ -210,7 +209,7 @@ event_line ws s = do
 
 -- a line more of a program
 abbrev pub with_more : BegunProgram → List ℕ → BegunProgram
-with_more begun line = record begun { open = with_line begun.open line }
+with_more begun line = record begun { source = with_line begun.source line }
 
 -- a stage that stays, with what was read
 abbrev pub staying : Stage → Result Reading LineReason → Result (Stage × Reading) LineReason
@@ -227,7 +226,7 @@ network_step number line s = if is_skipped line then Ok (stages.Network, s) else
 
 -- a line of a program, or the line that ends it
 abbrev pub program_step : List ℕ → BegunProgram → Reading → Result (Stage × Reading) LineFault
-program_step line begun s = if bytes_eq line (codes "end program") then at_line begun.open.line (staying stages.Network (close_program begun s)) else Ok (stages.Inside (with_more begun line), s)
+program_step line begun s = if bytes_eq line (codes "end program") then at_line begun.source.line (staying stages.Network (close_program begun s)) else Ok (stages.Inside (with_more begun line), s)
 
 -- an event
 abbrev pub event_step : ℕ → List ℕ → Reading → Result (Stage × Reading) LineFault

@@ -6,9 +6,7 @@ ghost use Rattle.schedule_text.specs.Leaving.{LeavesStage};
 use crate::keyword::NetworkWord;
 use crate::parts::{free_device, is_known_program, known_host};
 use crate::reading::{BegunProgram, NamedProgram, Reading, Stage};
-use line_files::{
-    LineReason, OpenProgram, Stop, Words, allow, name_of, number, packages, program,
-};
+use line_files::{LineReason, OpenProgram, Stop, Words, allow, name_of, number, packages, program};
 use network_plan::{HostSpec, has_host};
 use plan_base::Host;
 use std::alloc::Global;
@@ -83,8 +81,8 @@ fn begin_program(
         LineReason::TwiceNamed,
     )?;
     words.end()?;
-    let open = OpenProgram::begun(alloc, line);
-    Ok(BegunProgram { name, open })
+    let source = OpenProgram::begun(alloc, line);
+    Ok(BegunProgram { name, source })
 }
 
 /// The end of a program's text. Reasons: `TooMany`, `ProgramRefused`.
@@ -92,8 +90,8 @@ fn begin_program(
 pub fn end_program(alloc: Global, reading: &mut Reading, begun: BegunProgram) -> Result<(), Stop>
     ensures { Leaves result reading.new (close_program begun reading.old) }
 {
-    let BegunProgram { name, open } = begun;
-    let program = program(alloc, open.text.as_slice())?;
+    let BegunProgram { name, source } = begun;
+    let program = program(alloc, source.text.as_slice())?;
     reading.programs.add(NamedProgram { name, program })?;
     Ok(())
 }

@@ -55,10 +55,10 @@ fn program_step(
 {
     if !is(line, b"end program") {
         let mut begun = begun;
-        begun.open.add_line(line)?;
+        begun.source.add_line(line)?;
         return Ok(Stage::Inside(begun));
     }
-    let number = begun.open.line;
+    let number = begun.source.line;
     match end_program(alloc, reading, begun) {
         Ok(()) => Ok(Stage::Network),
         Err(stop) => Err(stopped_at(number, stop)),

@@ -39,7 +39,7 @@ pub struct BegunProgram {
     /// Its name.
     pub name: Name,
     /// Its first line and its text so far.
-    pub open: OpenProgram,
+    pub source: OpenProgram,
 }
 
 /// Which lines may come next.
