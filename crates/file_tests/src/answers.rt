@@ -48,12 +48,7 @@ fn joined(alloc: Global, front: &[u8], back: &[u8]) -> Result<Vec<u8>, AllocErro
     Ok(all)
 }
 
-pub fn all_hold(
-    rt: &impl Abort,
-    alloc: Global,
-    front: &[u8],
-    cases: &[Case],
-) -> Result<(), Fail> {
+pub fn all_hold(rt: &impl Abort, alloc: Global, front: &[u8], cases: &[Case]) -> Result<(), Fail> {
     for c in cases {
         let bytes = joined(alloc, front, c.0)?;
         is_answered(rt, alloc, bytes.as_slice(), c.1, c.2);

@@ -78,7 +78,8 @@ fn at_most_64_programs(rt: HostRuntime) -> Result<(), Fail> {
 
 #[test]
 fn arguments_have_at_most_65_536_bytes(rt: HostRuntime) -> Result<(), Fail> {
-    let front = b"planet schedule 1\nhost 1\nprogram p\nfun f() : unit = ()\nend program\nevents\ninject 1 p f 5 (";
+    let front =
+        b"planet schedule 1\nhost 1\nprogram p\nfun f() : unit = ()\nend program\nevents\ninject 1 p f 5 (";
     let full = repeated(rt.alloc(), front, b" ", 65_534, b")\n")?;
     is_answered(&rt, rt.alloc(), full.as_slice(), 0, "");
     let over = repeated(rt.alloc(), front, b" ", 65_535, b")\n")?;
@@ -98,7 +99,8 @@ fn raw_bytes_are_at_most_16_513(rt: HostRuntime) -> Result<(), Fail> {
 
 #[test]
 fn at_most_8_devices(rt: HostRuntime) -> Result<(), Fail> {
-    let network = b"planet schedule 1\nhost 1\nhost 2\nlink 1 1 2 1\nlink 1 2 2 2\nlink 1 3 2 3\nlink 1 4 2 4\nlink 1 5 2 5\nlink 1 6 2 6\nlink 1 7 2 7\nlink 1 8 2 8\n";
+    let network =
+        b"planet schedule 1\nhost 1\nhost 2\nlink 1 1 2 1\nlink 1 2 2 2\nlink 1 3 2 3\nlink 1 4 2 4\nlink 1 5 2 5\nlink 1 6 2 6\nlink 1 7 2 7\nlink 1 8 2 8\n";
     let full = repeated(rt.alloc(), network, b"events\n", 1, b"")?;
     is_answered(&rt, rt.alloc(), full.as_slice(), 0, "");
     let over = repeated(rt.alloc(), network, b"link 1 9 2 9\n", 1, b"")?;

@@ -194,4 +194,3 @@ pub static ARGUMENTS: [Case; 6] = [
     (b"inject 1 p f 5 (7, [\"a\"]\n", 7, "BadArgument"),
     (b"inject 1 p f 5 (n, [\"a\"])\n", 7, "BadArgument"),
 ];
-

@@ -140,7 +140,10 @@ fn put_events(text: &mut String, events: &[WorldEvent]) -> Result<(), AllocError
 #[test]
 fn a_whole_schedule(rt: HostRuntime) -> Result<(), Fail> {
     let text = said(rt.alloc(), FIRST_RUN)?;
-    assert_eq!(rt; text.as_str(), "host 1\nhost 2\nlink 1 1 2 1\ninject 1 bound 5\nsend 1 1\ndeliver 1\n");
+    assert_eq!(rt;
+        text.as_str(),
+        "host 1\nhost 2\nlink 1 1 2 1\ninject 1 bound 5\nsend 1 1\ndeliver 1\n"
+    );
     Ok(())
 }
 
@@ -151,6 +154,9 @@ const EACH_FORM: &[u8] =
 #[test]
 fn a_schedule_with_each_form(rt: HostRuntime) -> Result<(), Fail> {
     let text = said(rt.alloc(), EACH_FORM)?;
-    assert_eq!(rt; text.as_str(), "frames\nhost 4294967295 without host without net\nhost 0\nlink 0 8 4294967295 1\ntick 0\nraw 4294967295 0 0 255 255 16\ninject 0 bound 65535\nsend 0 8\nlose 4294967295\ndeliver 0\n");
+    assert_eq!(rt;
+        text.as_str(),
+        "frames\nhost 4294967295 without host without net\nhost 0\nlink 0 8 4294967295 1\ntick 0\nraw 4294967295 0 0 255 255 16\ninject 0 bound 65535\nsend 0 8\nlose 4294967295\ndeliver 0\n"
+    );
     Ok(())
 }

@@ -1,7 +1,7 @@
 -- The events of a schedule are read as they are written.
-use Rattle.std.proofs.Common.{◌≡◌, ℕ, ◌+◌, ◌^◌, ◌<◌, ◌≤◌, Bool, true, false, cond, not, leb, ◌&&◌, List, [], ◌∷◌, ◌++◌, length, map, Option, Some, None, Result, Ok, Err, refl, sym, ap, subst, ◌∙◌, arith, append-nil, append_assoc, length-append}
-use Rattle.std.specs.Prelude.{IsTrue, is_some}
-use Rattle.std.specs.List.{All, list_all, find}
+use Rattle.std.proofs.Common.{◌≡◌, ℕ, ◌+◌, ◌^◌, ◌<◌, ◌≤◌, Bool, true, false, cond, not, leb, ◌&&◌, List, [], ◌∷◌, ◌++◌, length, map, Some, None, Result, Ok, refl, sym, ap, subst, ◌∙◌, arith, append-nil, append_assoc, length-append}
+use Rattle.std.specs.Prelude.{is_some}
+use Rattle.std.specs.List.{All, find}
 use Rattle.std.specs.Fmt.{decimal}
 use Rattle.std.specs.Option.{ok_or}
 use Rattle.std.specs.Str.{bytes_eq}
@@ -10,16 +10,14 @@ use Rattle.std.proofs.lemmas.Bool.{le-leb}
 use Rattle.std.proofs.lemmas.List.Elements.{All-head, All-tail}
 use Rattle.small_laws.proofs.Bools.{and_both}
 use Rattle.std.proofs.lemmas.Slice.Eq.{bytes_eq-Decides}
-use Rattle.hex.specs.Hex.{decode_of, encode_lower, IsBytes}
+use Rattle.hex.specs.Hex.{decode_of, encode_lower}
 use Rattle.hex.proofs.HexLemmas.{decode_of-encode_lower}
 use Rattle.plan_base.specs.declared.ids.Host.{Host}
 use Rattle.plan_base.specs.declared.ids.Dev.{Dev}
-use Rattle.plan_base.specs.declared.name.Name.{Name}
 use Rattle.plan_base.specs.declared.tree.Chunk.{Chunk}
 use Rattle.plan_base.specs.declared.tree.Fun.{Fun}
-use Rattle.plan_base.specs.declared.tree.Program.{Program}
 use Rattle.plan_base.specs.Sizes.{chunk_weight}
-use Rattle.chunk_types.specs.Chunks.{refusal_of, IsCheckedChunk}
+use Rattle.chunk_types.specs.Chunks.{refusal_of}
 use Rattle.program_text.specs.Texts.{args_of_text}
 use Rattle.network_plan.specs.declared.event.WorldEvent.{WorldEvent}
 use Rattle.network_plan.specs.declared.event.WorldEvent.TheVariants as happens
@@ -27,24 +25,22 @@ use Rattle.network_plan.specs.declared.schedule.HostSpec.{HostSpec}
 use Rattle.network_plan.specs.Hosts.{has_host}
 use Rattle.network_plan.specs.Rules.{KeepsEvent, KeepsInjection, MayArrive}
 use Rattle.line_files.specs.declared.fault.LineReason.{LineReason}
-use Rattle.line_files.specs.declared.fault.LineReason.TheVariants.{BadWord, UnknownProgram, TooMany, BadArgument}
+use Rattle.line_files.specs.declared.fault.LineReason.TheVariants.{UnknownProgram, TooMany, BadArgument}
 use Rattle.line_files.specs.Lines.{words, spaced}
-use Rattle.line_files.specs.Reads.{◌>>=◌, rest_at, end_at, allowed}
+use Rattle.line_files.specs.Reads.{rest_at}
 use Rattle.line_files.specs.Files.{is_skipped, at_line}
 use Rattle.line_files.specs.HexWords.{hex_of, sized, hex_at}
 use Rattle.line_files.specs.Programs.{has_name, entry_at, args_at, chunk_with, typed_chunk, injection_at, weighed}
 use Rattle.line_files.proofs.Again.{without}
 use Rattle.line_files.proofs.Splits.{rest_all}
 use Rattle.line_files.proofs.TextLaws.{args_formed, not_refused}
-use Rattle.schedule_text.specs.declared.reading.NamedProgram.{NamedProgram}
 use Rattle.schedule_text.specs.declared.reading.Reading.{Reading}
-use Rattle.schedule_text.specs.declared.reading.Stage.{Stage}
 use Rattle.schedule_text.specs.declared.reading.Stage.TheVariants as stages
 use Rattle.schedule_text.specs.Parts.{is_called, program_at}
 use Rattle.schedule_text.specs.Schedules.{with_event, injected_at, inject_line, send_line, frame_at, deliver_line, lose_line, tick_line, raw_line, event_rest, event_line, staying, step, file_after, schedule_format}
 use Rattle.schedule_laws.specs.Written.{NamedText, Written, event_words, IsWritten, EventIsWritten, weights}
 use Rattle.schedule_laws.proofs.WordLaws.{Free, words_are, words_rest, number_free, name_free, hex_free}
-use Rattle.schedule_laws.proofs.ReadSteps.{then_ok, allowed_ok, not_ok, below_ok, within_ok, number_ok, host_ok, device_ok, Leads, leads-nil, leads-cons}
+use Rattle.schedule_laws.proofs.ReadSteps.{then_ok, allowed_ok, below_ok, within_ok, number_ok, host_ok, device_ok, Leads, leads-nil, leads-cons}
 use Rattle.schedule_laws.proofs.NetworkRead.{file_at}
 use Rattle.schedule_laws.proofs.ProgramsRead.{titled}
 
@@ -59,11 +55,11 @@ SmallHosts hosts = (h : Host) → has_host h hosts ≡ true → h.0 < 2 ^ 32
 
 found_same : (name : List ℕ) (ps : List NamedText) (p : NamedText) → find (λ q. bytes_eq q.name name) ps ≡ Some p → find (is_called name) (map titled ps) ≡ Some (titled p)
 found_same name [] p e = absurd cc
-found_same name (q ∷ qs) p e = by (bytes_eq q.name name) refl e
+found_same name (q ∷ qs) p e = by (bytes_eq q.name name) (λ h. found_same name qs p h) e
   where
-    by : (t : Bool) → bytes_eq q.name name ≡ t → cond t (Some q) (find (λ r. bytes_eq r.name name) qs) ≡ Some p → cond t (Some (titled q)) (find (is_called name) (map titled qs)) ≡ Some (titled p)
-    by true is h = let same : q ≡ p = cc in ap (λ r. Some (titled r)) same
-    by false is h = found_same name qs p h
+    by : (t : Bool) → (find (λ r. bytes_eq r.name name) qs ≡ Some p → find (is_called name) (map titled qs) ≡ Some (titled p)) → cond t (Some q) (find (λ r. bytes_eq r.name name) qs) ≡ Some p → cond t (Some (titled q)) (find (is_called name) (map titled qs)) ≡ Some (titled p)
+    by true more h = let same : q ≡ p = cc in ap (λ r. Some (titled r)) same
+    by false more h = more h
 
 program_ok : (ps : List NamedText) (w : Written) (c : Chunk) (ws : List (List ℕ)) (k : IsWritten ps w c) → program_at (map titled ps) (w.program ∷ ws) ≡ Ok (titled k.program, ws)
 unfolding program_at
@@ -71,11 +67,11 @@ program_ok ps w c ws k = then_ok _ (titled k.program) _ _ (ap (λ o. ok_or o Unk
 
 name_found : (name : List ℕ) (fs : List Fun) (f : Fun) → find (has_name name) fs ≡ Some f → f.name ≡ name
 name_found name [] f e = absurd cc
-name_found name (g ∷ gs) f e = by (bytes_eq g.name name) refl e
+name_found name (g ∷ gs) f e = by (bytes_eq g.name name) refl (λ h. name_found name gs f h) e
   where
-    by : (t : Bool) → bytes_eq g.name name ≡ t → cond t (Some g) (find (has_name name) gs) ≡ Some f → f.name ≡ name
-    by true is h = let same : g ≡ f = cc in subst (λ x. x.name ≡ name) same ((bytes_eq-Decides g.name name).0 is)
-    by false is h = name_found name gs f h
+    by : (t : Bool) → bytes_eq g.name name ≡ t → (find (has_name name) gs ≡ Some f → f.name ≡ name) → cond t (Some g) (find (has_name name) gs) ≡ Some f → f.name ≡ name
+    by true is more h = let same : g ≡ f = cc in subst (λ x. x.name ≡ name) same ((bytes_eq-Decides g.name name).0 is)
+    by false is more h = more h
 
 entry_ok : (c : Chunk) (f : Fun) (ws : List (List ℕ)) → find (has_name c.entry) c.code.funs ≡ Some f → entry_at c.code.funs (c.entry ∷ ws) ≡ Ok (f, ws)
 unfolding entry_at
@@ -177,7 +173,7 @@ unfolding hex_at
 hex_ok bytes m =
     let few : (leb 1 (length bytes) && leb (length bytes) 16513) ≡ true = and_both (leb 1 (length bytes)) (leb (length bytes) 16513) (le-leb 1 (length bytes) m.some) (le-leb (length bytes) 16513 m.few) in
     let is : sized 1 16513 (hex_of (decode_of (encode_lower bytes))) ≡ Some bytes =
-        ap (λ r. sized 1 16513 (hex_of r)) (decode_of-encode_lower bytes m.are_bytes) ∙ ap (λ b. cond b (Some bytes) None) few in
+    ap (λ r. sized 1 16513 (hex_of r)) (decode_of-encode_lower bytes m.are_bytes) ∙ ap (λ b. cond b (Some bytes) None) few in
     then_ok _ bytes _ _ (ap (λ o. ok_or o BadArgument) is) refl
 
 raw_ok : (s : Reading) (h : Host) (d : Dev) (bytes : List ℕ) → SmallHosts s.hosts → has_host h s.hosts ≡ true → d.0 ≤ 8 → MayArrive bytes
@@ -207,25 +203,24 @@ host_free hosts h small known = number_free h.0 (let n = small h known in omega 
 -- an event's line has no line feed
 pub event_line_free : (ps : List NamedText) (by : Chunk → Written) (hosts : List HostSpec) (e : WorldEvent) → SmallHosts hosts → KeepsEvent hosts e → EventIsWritten ps by e → Free 10 (event_words by e)
 event_line_free ps by hosts (happens.Inject h c bound) small keeps k =
-    (refl, (host_free hosts h small keeps.0).1, (name_free (by c).program k.0).1, (name_free c.entry k.1.entry).1, (number_free bound (omega (arith, keeps.1.0))).1, k.1.line, tt)
-event_line_free ps by hosts (happens.Send h d) small keeps k = (refl, (host_free hosts h small keeps.0).1, (number_free d.0 (omega (arith, keeps.1))).1, tt)
-event_line_free ps by hosts (happens.Deliver n) small keeps k = (refl, (number_free n (omega (arith, keeps))).1, tt)
-event_line_free ps by hosts (happens.Lose n) small keeps k = (refl, (number_free n (omega (arith, keeps))).1, tt)
-event_line_free ps by hosts (happens.Tick h) small keeps k = (refl, (host_free hosts h small keeps).1, tt)
-event_line_free ps by hosts (happens.Raw h d bytes) small keeps k = (refl, (host_free hosts h small keeps.0).1, (number_free d.0 (omega (arith, keeps.1))).1, (hex_free bytes keeps.2.are_bytes).1, tt)
+    (refl, ((host_free hosts h small keeps.0).1, ((name_free (by c).program k.0).1, ((name_free c.entry k.1.entry).1, ((number_free bound (omega (arith, keeps.1.0))).1, (k.1.line, tt))))))
+event_line_free ps by hosts (happens.Send h d) small keeps k = (refl, ((host_free hosts h small keeps.0).1, ((number_free d.0 (omega (arith, keeps.1))).1, tt)))
+event_line_free ps by hosts (happens.Deliver n) small keeps k = (refl, ((number_free n (omega (arith, keeps))).1, tt))
+event_line_free ps by hosts (happens.Lose n) small keeps k = (refl, ((number_free n (omega (arith, keeps))).1, tt))
+event_line_free ps by hosts (happens.Tick h) small keeps k = (refl, ((host_free hosts h small keeps).1, tt))
+event_line_free ps by hosts (happens.Raw h d bytes) small keeps k = (refl, ((host_free hosts h small keeps.0).1, ((number_free d.0 (omega (arith, keeps.1))).1, ((hex_free bytes keeps.2.are_bytes).1, tt))))
 
 event_words_are : (ps : List NamedText) (by : Chunk → Written) (hosts : List HostSpec) (e : WorldEvent) → SmallHosts hosts → KeepsEvent hosts e → EventIsWritten ps by e → words (spaced (event_words by e)) ≡ read_words by e
 event_words_are ps by hosts (happens.Inject h c bound) small keeps k =
     words_rest (codes "inject") (decimal h.0 ∷ (by c).program ∷ c.entry ∷ decimal bound ∷ []) (by c).args
-    (refl, (host_free hosts h small keeps.0).0, (name_free (by c).program k.0).0, (name_free c.entry k.1.entry).0, (number_free bound (omega (arith, keeps.1.0))).0, tt)
-event_words_are ps by hosts (happens.Send h d) small keeps k = words_are (codes "send") _ (refl, (host_free hosts h small keeps.0).0, (number_free d.0 (omega (arith, keeps.1))).0, tt)
-event_words_are ps by hosts (happens.Deliver n) small keeps k = words_are (codes "deliver") _ (refl, (number_free n (omega (arith, keeps))).0, tt)
-event_words_are ps by hosts (happens.Lose n) small keeps k = words_are (codes "lose") _ (refl, (number_free n (omega (arith, keeps))).0, tt)
-event_words_are ps by hosts (happens.Tick h) small keeps k = words_are (codes "tick") _ (refl, (host_free hosts h small keeps).0, tt)
-event_words_are ps by hosts (happens.Raw h d bytes) small keeps k = words_are (codes "raw") _ (refl, (host_free hosts h small keeps.0).0, (number_free d.0 (omega (arith, keeps.1))).0, (hex_free bytes keeps.2.are_bytes).0, tt)
+    (refl, ((host_free hosts h small keeps.0).0, ((name_free (by c).program k.0).0, ((name_free c.entry k.1.entry).0, ((number_free bound (omega (arith, keeps.1.0))).0, tt)))))
+event_words_are ps by hosts (happens.Send h d) small keeps k = words_are (codes "send") _ (refl, ((host_free hosts h small keeps.0).0, ((number_free d.0 (omega (arith, keeps.1))).0, tt)))
+event_words_are ps by hosts (happens.Deliver n) small keeps k = words_are (codes "deliver") _ (refl, ((number_free n (omega (arith, keeps))).0, tt))
+event_words_are ps by hosts (happens.Lose n) small keeps k = words_are (codes "lose") _ (refl, ((number_free n (omega (arith, keeps))).0, tt))
+event_words_are ps by hosts (happens.Tick h) small keeps k = words_are (codes "tick") _ (refl, ((host_free hosts h small keeps).0, tt))
+event_words_are ps by hosts (happens.Raw h d bytes) small keeps k = words_are (codes "raw") _ (refl, ((host_free hosts h small keeps.0).0, ((number_free d.0 (omega (arith, keeps.1))).0, ((hex_free bytes keeps.2.are_bytes).0, tt))))
 
 says_something : (by : Chunk → Written) (e : WorldEvent) → is_skipped (spaced (event_words by e)) ≡ false
-unfolding spaced
 says_something by (happens.Inject h c bound) = refl
 says_something by (happens.Send h d) = refl
 says_something by (happens.Deliver n) = refl
@@ -239,13 +234,16 @@ event_step_ok line ws s t number some are is =
     ap (λ b. file_after (cond b (Ok (stages.Events, s)) (at_line number (staying stages.Events (event_line (words line) s))))) some
     ∙ (ap (λ v. file_after (at_line number (staying stages.Events (event_line v s)))) are ∙ ap (λ r. file_after (at_line number (staying stages.Events r))) is)
 
+nothing_more : (e : WorldEvent) (es : List WorldEvent) → weight_of e ≡ 0 → weights es ≡ weight_of e + weights es
+nothing_more e es z = omega (arith, z)
+
 more_weight : (e : WorldEvent) (es : List WorldEvent) → weights (e ∷ es) ≡ weight_of e + weights es
 more_weight (happens.Inject h c bound) es = omega arith
-more_weight (happens.Send h d) es = refl
-more_weight (happens.Deliver n) es = refl
-more_weight (happens.Lose n) es = refl
-more_weight (happens.Tick h) es = refl
-more_weight (happens.Raw h d bytes) es = refl
+more_weight (happens.Send h d) es = nothing_more (happens.Send h d) es refl
+more_weight (happens.Deliver n) es = nothing_more (happens.Deliver n) es refl
+more_weight (happens.Lose n) es = nothing_more (happens.Lose n) es refl
+more_weight (happens.Tick h) es = nothing_more (happens.Tick h) es refl
+more_weight (happens.Raw h d bytes) es = nothing_more (happens.Raw h d bytes) es refl
 
 -- events are read behind others
 pub events_read : (ps : List NamedText) (by : Chunk → Written) (rest seen : List WorldEvent) (s : Reading) (weight : ℕ) → IsReady ps by s → length (seen ++ rest) ≤ 50000 → All (KeepsEvent s.hosts) rest → All (EventIsWritten ps by) rest → weight + weights rest ≤ 16777216
@@ -266,6 +264,6 @@ events_read ps by (e ∷ rest) seen s weight ready few keeps written light =
     let most : weight + weight_of e + weights rest ≤ 16777216 = omega (arith, light, sum) in
     let last = events_read ps by rest (seen ++ e ∷ []) s (weight + weight_of e) ready (subst (λ es. length es ≤ 50000) (sym join) few) (All-tail (KeepsEvent s.hosts) e rest keeps) (All-tail (EventIsWritten ps by) e rest written) most in
     let moved = subst (λ es. Leads (map (λ x. spaced (event_words by x)) rest) (file_at stages.Events (with_events s (seen ++ e ∷ []) (weight + weight_of e))) (file_at stages.Events (with_events s es (weight + weights (e ∷ rest))))) join
-      (subst (λ (n : ℕ). Leads (map (λ x. spaced (event_words by x)) rest) (file_at stages.Events (with_events s (seen ++ e ∷ []) (weight + weight_of e))) (file_at stages.Events (with_events s ((seen ++ e ∷ []) ++ rest) n))) sum last) in
+    (subst (λ (n : ℕ). Leads (map (λ x. spaced (event_words by x)) rest) (file_at stages.Events (with_events s (seen ++ e ∷ []) (weight + weight_of e))) (file_at stages.Events (with_events s ((seen ++ e ∷ []) ++ rest) n))) sum last) in
     leads-cons (spaced (event_words by e)) (map (λ x. spaced (event_words by x)) rest) (file_at stages.Events (with_events s seen weight)) (file_at stages.Events (with_events s (seen ++ e ∷ []) (weight + weight_of e))) (file_at stages.Events (with_events s (seen ++ e ∷ rest) (weight + weights (e ∷ rest))))
     (λ number. event_step_ok (spaced (event_words by e)) (read_words by e) (with_events s seen weight) (with_events s (seen ++ e ∷ []) (weight + weight_of e)) number (says_something by e) (event_words_are ps by s.hosts e ready.small k w) one) moved

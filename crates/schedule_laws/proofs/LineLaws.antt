@@ -1,18 +1,13 @@
 -- Lines before a refusal are inside the format, and lines that say nothing only count.
-use Rattle.std.proofs.Common.{◌≡◌, ℕ, zero, suc, ◌+◌, ◌≤◌, ◌<◌, Bool, true, false, cond, leb, List, [], ◌∷◌, ◌++◌, length, take, Option, Some, None, Result, Ok, Err, refl, sym, ap, subst, ◌∙◌, arith}
-use Rattle.std.specs.Option.{ok_or}
-use Rattle.std.specs.Str.{bytes_eq}
-use lib.Chars.{codes}
-use Rattle.std.proofs.lemmas.Bool.{gt-leb}
+use Rattle.std.proofs.Common.{◌≡◌, ℕ, zero, suc, ◌+◌, ◌≤◌, ◌<◌, List, [], ◌∷◌, take, Result, Ok, Err, refl, ap, ◌∙◌, arith}
 use Rattle.network_plan.specs.declared.schedule.Schedule.{Schedule}
 use Rattle.line_files.specs.declared.fault.LineReason.{LineReason}
-use Rattle.line_files.specs.declared.fault.LineReason.TheVariants.{BadHeader, BadWord}
 use Rattle.line_files.specs.declared.fault.LineFault.{LineFault}
 use Rattle.line_files.specs.declared.fault.LineFault.TheVariants as faults
-use Rattle.line_files.specs.Lines.{lines, words}
+use Rattle.line_files.specs.Lines.{lines}
 use Rattle.line_files.specs.Reads.{and_then}
-use Rattle.line_files.specs.Files.{is_skipped, read_on}
-use Rattle.line_files.proofs.Placing.{Placed, OnFault, err_is}
+use Rattle.line_files.specs.Files.{read_on}
+use Rattle.line_files.proofs.Placing.{OnFault, err_is}
 use Rattle.schedule_text.specs.declared.reading.ScheduleFile.{ScheduleFile}
 use Rattle.schedule_text.specs.Answers.{IsRefused}
 use Rattle.schedule_laws.specs.Lines.{after_lines, AreInside}

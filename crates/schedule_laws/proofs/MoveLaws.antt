@@ -1,5 +1,5 @@
 -- A line that says nothing moves the lines behind it, and changes nothing else.
-use Rattle.std.proofs.Common.{◌≡◌, ℕ, ◌+◌, ◌<◌, ◌≤◌, Bool, true, false, cond, not, leb, ltb, List, [], ◌∷◌, ◌++◌, length, Result, Ok, Err, refl, sym, ap, subst, ◌∙◌, arith}
+use Rattle.std.proofs.Common.{◌≡◌, ℕ, ◌+◌, ◌<◌, Bool, true, false, cond, not, ltb, List, [], ◌∷◌, ◌++◌, length, Result, Ok, Err, refl, sym, ap, subst, ◌∙◌, arith}
 use Rattle.std.specs.List.{list_any}
 use Rattle.std.specs.Option.{ok_or}
 use Rattle.std.specs.Str.{bytes_eq}
@@ -22,8 +22,8 @@ use Rattle.schedule_text.specs.declared.reading.Stage.{Stage}
 use Rattle.schedule_text.specs.declared.reading.Stage.TheVariants as stages
 use Rattle.schedule_text.specs.declared.reading.ScheduleFile.{ScheduleFile}
 use Rattle.schedule_text.specs.Parts.{is_called}
-use Rattle.schedule_laws.specs.Lines.{after_lines, IsOutside, EndOutside, moved, IsMoved}
-use Rattle.schedule_text.specs.Schedules.{network_word, frames_line, host_line, link_line, begun_at, program_line, close_program, network_rest, network_line, event_line, with_more, staying, step, schedule_of_reading, finish, file_after, schedule_format, nothing_read, schedule_of}
+use Rattle.schedule_laws.specs.Lines.{after_lines, IsOutside, EndOutside, IsMoved}
+use Rattle.schedule_text.specs.Schedules.{network_word, frames_line, host_line, link_line, program_line, close_program, network_rest, network_line, event_line, staying, step, finish, file_after, schedule_format, nothing_read, schedule_of}
 
 -- ---- parts of lines
 
@@ -195,15 +195,21 @@ read_moves (line ∷ ls) at number f g lt m =
 
 pub read_behind : (before more : List (List ℕ)) (number : ℕ) (f g : ScheduleFile) → after_lines number before f ≡ Ok g → read_on schedule_format number (before ++ more) f ≡ read_on schedule_format (number + length before) more g
 unfolding after_lines read_on
-read_behind [] more number f g e = let same : f ≡ g = cc in ap (λ x. read_on schedule_format number more x) same
-read_behind (line ∷ before) more number f g e = behind (schedule_format.step number line f) refl e
+read_behind [] more number f g e =
+    let same : f ≡ g = cc in
+    let here : number ≡ number + length {A = List ℕ} [] = omega arith in
+    ap (λ x. read_on schedule_format number more x) same ∙ ap (λ (n : ℕ). read_on schedule_format n more g) here
+read_behind (line ∷ before) more number f g e = behind (schedule_format.step number line f) refl (λ h q. read_behind before more (number + 1) h g q) e
   where
     shift : (r : Result Schedule LineFault) → read_on schedule_format (number + 1 + length before) more g ≡ r → read_on schedule_format (number + length (line ∷ before)) more g ≡ r
     shift r q = let n : number + 1 + length before ≡ number + length (line ∷ before) = omega arith in subst (λ k. read_on schedule_format k more g ≡ r) n q
-    behind : (r : Result ScheduleFile LineFault) → schedule_format.step number line f ≡ r → and_then r (λ h. after_lines (number + 1) before h) ≡ Ok g
+
+    behind : (r : Result ScheduleFile LineFault) → schedule_format.step number line f ≡ r
+        → ((h : ScheduleFile) → after_lines (number + 1) before h ≡ Ok g → read_on schedule_format (number + 1) (before ++ more) h ≡ read_on schedule_format (number + 1 + length before) more g)
+        → and_then r (λ h. after_lines (number + 1) before h) ≡ Ok g
         → and_then (schedule_format.step number line f) (λ h. read_on schedule_format (number + 1) (before ++ more) h) ≡ read_on schedule_format (number + length (line ∷ before)) more g
-    behind (Ok h) is q = ap (λ z. and_then z (λ h. read_on schedule_format (number + 1) (before ++ more) h)) is ∙ sym (shift _ (sym (read_behind before more (number + 1) h g q)))
-    behind (Err d) is q = absurd cc
+    behind (Ok h) is again q = ap (λ z. and_then z (λ h. read_on schedule_format (number + 1) (before ++ more) h)) is ∙ sym (shift _ (sym (again h q)))
+    behind (Err d) is again q = absurd cc
 
 skipped_step : (number : ℕ) (line : List ℕ) (stage : Stage) (s : Reading) → is_skipped line ≡ true → IsOutside stage → file_after (step number line stage s) ≡ Ok (record { stage = stage; reading = s })
 unfolding step
@@ -239,6 +245,6 @@ skipped_moves bytes more before after line is longer skipped end =
     let f = end.inside.file in
     let one : read_on schedule_format 1 (lines bytes) nothing_read ≡ read_on schedule_format (1 + length before) after f = ap (λ ls. read_on schedule_format 1 ls nothing_read) is ∙ read_behind before after 1 nothing_read f end.inside.said in
     let two : read_on schedule_format 1 (lines more) nothing_read ≡ read_on schedule_format (1 + length before + 1) after f =
-        ap (λ ls. read_on schedule_format 1 ls nothing_read) longer ∙ (read_behind before (line ∷ after) 1 nothing_read f end.inside.said ∙ skipped_more (1 + length before) line after f skipped end.outside) in
+    ap (λ ls. read_on schedule_format 1 ls nothing_read) longer ∙ (read_behind before (line ∷ after) 1 nothing_read f end.inside.said ∙ skipped_more (1 + length before) line after f skipped end.outside) in
     let m = read_moves after (length before) (1 + length before) f f (omega arith) (outside_moves (length before) f.stage end.outside, refl) in
     as_moved (length before) _ _ (subst (λ r. Moves SameSaid (length before) r (read_on schedule_format 1 (lines more) nothing_read)) (sym one) (subst (λ q. Moves SameSaid (length before) (read_on schedule_format (1 + length before) after f) q) (sym two) m))

@@ -1,11 +1,9 @@
 -- The network of a schedule is read as it is written.
-use Rattle.std.proofs.Common.{◌≡◌, ◌≢◌, ℕ, ◌+◌, ◌^◌, ◌<◌, ◌≤◌, Bool, true, false, cond, not, eqb, ◌&&◌, ◌||◌, List, [], ◌∷◌, ◌++◌, length, map, Option, Some, None, Result, Ok, Err, refl, sym, ap, subst, ◌∙◌, arith, append-nil, append_assoc, length-append}
+use Rattle.std.proofs.Common.{◌≡◌, ◌≢◌, ℕ, ◌^◌, ◌<◌, ◌≤◌, false, cond, not, eqb, ◌||◌, List, [], ◌∷◌, ◌++◌, length, map, Ok, refl, sym, ap, subst, ◌∙◌, arith, append-nil, append_assoc, length-append}
 use Rattle.std.specs.List.{All, list_any}
 use Rattle.std.specs.Fmt.{decimal}
-use Rattle.std.specs.Option.{ok_or}
-use Rattle.std.specs.Str.{bytes_eq}
 use lib.Chars.{codes}
-use Rattle.std.proofs.lemmas.Bool.{ne_eqb, not_from_false}
+use Rattle.std.proofs.lemmas.Bool.{ne_eqb}
 use Rattle.std.proofs.lemmas.List.Folds.{list_any-append}
 use Rattle.std.proofs.lemmas.List.Elements.{All-head, All-tail}
 use Rattle.plan_base.specs.declared.ids.Host.{Host}
@@ -15,12 +13,11 @@ use Rattle.service_api.specs.declared.package.PackageName.TheVariants as package
 use Rattle.network_plan.specs.declared.schedule.HostSpec.{HostSpec}
 use Rattle.network_plan.specs.Hosts.{Cable, has_host, ends_at, has_link}
 use Rattle.network_plan.specs.Rules.{HostsDiffer, PackagesDiffer, LinksApart, KeepsLink}
-use Rattle.line_files.specs.declared.fault.LineReason.{LineReason}
-use Rattle.line_files.specs.declared.fault.LineReason.TheVariants.{BadWord, TwiceNamed, TooMany, BadArgument}
+use Rattle.line_files.specs.declared.fault.LineReason.TheVariants.{TwiceNamed, TooMany, BadArgument}
 use Rattle.line_files.specs.Lines.{words, spaced}
-use Rattle.line_files.specs.Reads.{◌>>=◌, end_at, allowed}
+use Rattle.line_files.specs.Reads.{◌>>=◌, allowed}
 use Rattle.line_files.specs.Files.{is_skipped, at_line}
-use Rattle.line_files.specs.Packages.{package_of, same_package, package_at, one_package, packages_at}
+use Rattle.line_files.specs.Packages.{same_package, package_at, one_package, packages_at}
 use Rattle.schedule_text.specs.declared.reading.Reading.{Reading}
 use Rattle.schedule_text.specs.declared.reading.Stage.{Stage}
 use Rattle.schedule_text.specs.declared.reading.Stage.TheVariants as stages
@@ -29,7 +26,7 @@ use Rattle.schedule_text.specs.Schedules.{host_line, link_line, network_rest, ne
 use Rattle.schedule_text.proofs.NetworkRules.{both_false, swapped, ends_apart}
 use Rattle.schedule_laws.specs.Written.{package_word, lacking_words, host_words, link_words}
 use Rattle.schedule_laws.proofs.WordLaws.{Free, words_are, number_free}
-use Rattle.schedule_laws.proofs.ReadSteps.{then_ok, allowed_ok, not_ok, below_ok, number_ok, host_ok, free_device_ok, Leads, leads-nil, leads-cons}
+use Rattle.schedule_laws.proofs.ReadSteps.{then_ok, not_ok, below_ok, number_ok, host_ok, free_device_ok, Leads, leads-nil, leads-cons}
 
 abbrev pub file_at : Stage → Reading → ScheduleFile
 file_at stage s = record { stage = stage; reading = s }
@@ -63,17 +60,12 @@ fresh_package : (seen : List PackageName) (p : PackageName) (ps : List PackageNa
 fresh_package [] p ps d = refl
 fresh_package (q ∷ qs) p ps d = rw (differs p q (all_middle (λ x. x ≢ q) qs p ps d.0), fresh_package qs p ps d.1) refl
 
-package_is : (p : PackageName) → package_of (package_word p) ≡ Some p
-package_is packages.Net = refl
-package_is packages.Resident = refl
-package_is packages.Host = refl
-
 one_package_ok : (seen : List PackageName) (p : PackageName) (ws : List (List ℕ)) → list_any (same_package p) seen ≡ false
     → one_package seen (codes "without" ∷ package_word p ∷ ws) ≡ Ok (seen ++ p ∷ [], ws)
 unfolding one_package package_at
-one_package_ok seen p ws new =
-    then_ok _ tt _ _ (allowed_ok (bytes_eq (codes "without") (codes "without")) BadWord refl)
-    (then_ok _ p _ _ (ap (λ o. ok_or o BadWord) (package_is p)) (then_ok _ tt _ _ (not_ok (list_any (same_package p) seen) TwiceNamed new) refl))
+one_package_ok seen packages.Net ws new = ap (λ t. allowed (not t) TwiceNamed >>= λ _. Ok (seen ++ packages.Net ∷ [], ws)) new
+one_package_ok seen packages.Resident ws new = ap (λ t. allowed (not t) TwiceNamed >>= λ _. Ok (seen ++ packages.Resident ∷ [], ws)) new
+one_package_ok seen packages.Host ws new = ap (λ t. allowed (not t) TwiceNamed >>= λ _. Ok (seen ++ packages.Host ∷ [], ws)) new
 
 packages_ok : (seen ps : List PackageName) → PackagesDiffer (seen ++ ps) → packages_at seen (lacking_words ps) ≡ Ok (seen ++ ps)
 unfolding packages_at lacking_words
@@ -86,9 +78,9 @@ packages_ok seen (p ∷ ps) d =
 lacking_words_free : (ps : List PackageName) → Free 32 (lacking_words ps) × Free 10 (lacking_words ps)
 unfolding lacking_words
 lacking_words_free [] = (tt, tt)
-lacking_words_free (packages.Net ∷ ps) = let k = lacking_words_free ps in ((refl, refl, k.0), (refl, refl, k.1))
-lacking_words_free (packages.Resident ∷ ps) = let k = lacking_words_free ps in ((refl, refl, k.0), (refl, refl, k.1))
-lacking_words_free (packages.Host ∷ ps) = let k = lacking_words_free ps in ((refl, refl, k.0), (refl, refl, k.1))
+lacking_words_free (packages.Net ∷ ps) = let k = lacking_words_free ps in ((refl, (refl, k.0)), (refl, (refl, k.1)))
+lacking_words_free (packages.Resident ∷ ps) = let k = lacking_words_free ps in ((refl, (refl, k.0)), (refl, (refl, k.1)))
+lacking_words_free (packages.Host ∷ ps) = let k = lacking_words_free ps in ((refl, (refl, k.0)), (refl, (refl, k.1)))
 
 -- ---- hosts
 
@@ -103,7 +95,7 @@ pub host_words_free : (h : HostSpec) → IsNumbered h → Free 32 (host_words h)
 host_words_free h small =
     let n = number_free h.host.0 (omega (arith, small)) in
     let k = lacking_words_free h.missing in
-    ((refl, n.0, k.0), (refl, n.1, k.1))
+    ((refl, (n.0, k.0)), (refl, (n.1, k.1)))
 
 host_line_ok : (h : HostSpec) (s : Reading) → length s.hosts < 32 → IsNumbered h → has_host h.host s.hosts ≡ false → LacksEach h
     → host_line (decimal h.host.0 ∷ lacking_words h.missing) s ≡ Ok (record s { hosts = s.hosts ++ h ∷ [] })
@@ -131,14 +123,13 @@ with_hosts s hosts = record s { hosts = hosts }
 -- hosts are read behind others
 pub hosts_read : (rest seen : List HostSpec) (s : Reading) → length (seen ++ rest) ≤ 32 → HostsDiffer (seen ++ rest) → All IsNumbered rest → All LacksEach rest
     → Leads (map (λ h. spaced (host_words h)) rest) (file_at stages.Network (with_hosts s seen)) (file_at stages.Network (with_hosts s (seen ++ rest)))
-unfolding spaced
 hosts_read [] seen s few differ small lacks = subst (λ hs. Leads [] (file_at stages.Network (with_hosts s seen)) (file_at stages.Network (with_hosts s hs))) (sym (append-nil seen)) (leads-nil (file_at stages.Network (with_hosts s seen)))
 hosts_read (h ∷ rest) seen s few differ small lacks =
     let e : (seen ++ h ∷ []) ++ rest ≡ seen ++ h ∷ rest = append_assoc seen (h ∷ []) rest in
     let room : length seen < 32 = omega (arith, few, length-append seen (h ∷ rest)) in
     let one = host_line_ok h (with_hosts s seen) room (All-head IsNumbered h rest small) (fresh_host seen h rest differ) (All-head LacksEach h rest lacks) in
     let last = subst (λ hs. Leads (map (λ g. spaced (host_words g)) rest) (file_at stages.Network (with_hosts s (seen ++ h ∷ []))) (file_at stages.Network (with_hosts s hs))) e
-      (hosts_read rest (seen ++ h ∷ []) s (subst (λ hs. length hs ≤ 32) (sym e) few) (subst HostsDiffer (sym e) differ) (All-tail IsNumbered h rest small) (All-tail LacksEach h rest lacks)) in
+    (hosts_read rest (seen ++ h ∷ []) s (subst (λ hs. length hs ≤ 32) (sym e) few) (subst HostsDiffer (sym e) differ) (All-tail IsNumbered h rest small) (All-tail LacksEach h rest lacks)) in
     leads-cons (spaced (host_words h)) (map (λ g. spaced (host_words g)) rest) (file_at stages.Network (with_hosts s seen)) (file_at stages.Network (with_hosts s (seen ++ h ∷ []))) (file_at stages.Network (with_hosts s (seen ++ h ∷ rest)))
     (λ number. network_step_ok (codes "host") _ (with_hosts s seen) (with_hosts s (seen ++ h ∷ [])) stages.Network number (host_words_free h (All-head IsNumbered h rest small)).0 refl (host_said h (with_hosts s seen) _ number one)) last
 
@@ -153,7 +144,7 @@ link_words_free hosts l k small =
     let d = number_free l.1.0 (omega (arith, k.from_device.1)) in
     let m = number_free l.2.0 (omega (arith, small.1)) in
     let e = number_free l.3.0 (omega (arith, k.to_device.1)) in
-    ((refl, n.0, d.0, m.0, e.0, tt), (refl, n.1, d.1, m.1, e.1, tt))
+    ((refl, (n.0, (d.0, (m.0, (e.0, tt))))), (refl, (n.1, (d.1, (m.1, (e.1, tt))))))
 
 link_line_ok : (l : Cable) (s : Reading) → KeepsLink s.hosts l → IsSmallLink l → has_link l.0 l.1 s.links ≡ false → has_link l.2 l.3 s.links ≡ false
     → link_line (decimal l.0.0 ∷ decimal l.1.0 ∷ decimal l.2.0 ∷ decimal l.3.0 ∷ []) s ≡ Ok (record s { links = s.links ++ l ∷ [] })
@@ -187,7 +178,6 @@ with_links s links = record s { links = links }
 -- links are read behind others
 pub links_read : (rest seen : List Cable) (s : Reading) → LinksApart (seen ++ rest) → All (KeepsLink s.hosts) rest → All IsSmallLink rest
     → Leads (map (λ l. spaced (link_words l)) rest) (file_at stages.Network (with_links s seen)) (file_at stages.Network (with_links s (seen ++ rest)))
-unfolding spaced
 links_read [] seen s apart keeps small = subst (λ ls. Leads [] (file_at stages.Network (with_links s seen)) (file_at stages.Network (with_links s ls))) (sym (append-nil seen)) (leads-nil (file_at stages.Network (with_links s seen)))
 links_read (l ∷ rest) seen s apart keeps small =
     let e : (seen ++ l ∷ []) ++ rest ≡ seen ++ l ∷ rest = append_assoc seen (l ∷ []) rest in
@@ -196,6 +186,6 @@ links_read (l ∷ rest) seen s apart keeps small =
     let free = fresh_link seen l rest apart in
     let one = link_line_ok l (with_links s seen) k n free.0 free.1 in
     let last = subst (λ ls. Leads (map (λ m. spaced (link_words m)) rest) (file_at stages.Network (with_links s (seen ++ l ∷ []))) (file_at stages.Network (with_links s ls))) e
-      (links_read rest (seen ++ l ∷ []) s (subst LinksApart (sym e) apart) (All-tail (KeepsLink s.hosts) l rest keeps) (All-tail IsSmallLink l rest small)) in
+    (links_read rest (seen ++ l ∷ []) s (subst LinksApart (sym e) apart) (All-tail (KeepsLink s.hosts) l rest keeps) (All-tail IsSmallLink l rest small)) in
     leads-cons (spaced (link_words l)) (map (λ m. spaced (link_words m)) rest) (file_at stages.Network (with_links s seen)) (file_at stages.Network (with_links s (seen ++ l ∷ []))) (file_at stages.Network (with_links s (seen ++ l ∷ rest)))
     (λ number. network_step_ok (codes "link") _ (with_links s seen) (with_links s (seen ++ l ∷ [])) stages.Network number (link_words_free s.hosts l k n).0 refl (link_said l (with_links s seen) _ number one)) last

@@ -1,25 +1,20 @@
 -- The programs of a schedule are read as they are written.
-use Rattle.std.proofs.Common.{◌≡◌, ℕ, ◌+◌, ◌^◌, ◌<◌, ◌≤◌, Bool, true, false, cond, not, ◌||◌, List, [], ◌∷◌, ◌++◌, length, map, Option, Some, None, Result, Ok, Err, refl, sym, ap, subst, ◌∙◌, arith, append-nil, append_assoc, length-append}
+use Rattle.std.proofs.Common.{◌≡◌, ℕ, ◌+◌, ◌<◌, ◌≤◌, true, false, cond, List, [], ◌∷◌, ◌++◌, length, map, Ok, Err, refl, sym, ap, subst, ◌∙◌, arith, append-nil, append_assoc, length-append}
 use Rattle.std.specs.List.{All, list_any, flat_map}
-use Rattle.std.specs.Option.{ok_or}
 use Rattle.std.specs.Str.{bytes_eq}
 use lib.Chars.{codes}
 use Rattle.std.proofs.lemmas.List.Folds.{list_any-append}
 use Rattle.std.proofs.lemmas.List.Elements.{All-head, All-tail}
-use Rattle.plan_base.specs.declared.name.Name.{Name}
 use Rattle.plan_base.specs.declared.tree.Program.{Program}
 use Rattle.plan_base.specs.Words.{is_name}
-use Rattle.line_files.specs.declared.fault.LineReason.{LineReason}
 use Rattle.line_files.specs.declared.fault.LineReason.TheVariants.{BadWord, TwiceNamed, TooMany}
-use Rattle.line_files.specs.declared.fault.LineFault.{LineFault}
 use Rattle.line_files.specs.Lines.{spaced}
-use Rattle.line_files.specs.Reads.{◌>>=◌, and_then, end_at, allowed}
+use Rattle.line_files.specs.Reads.{and_then}
 use Rattle.line_files.specs.Files.{at_line}
-use Rattle.line_files.specs.Programs.{program_in, named_word}
+use Rattle.line_files.specs.Programs.{program_in}
 use Rattle.schedule_text.specs.declared.reading.NamedProgram.{NamedProgram}
 use Rattle.schedule_text.specs.declared.reading.BegunProgram.{BegunProgram}
 use Rattle.schedule_text.specs.declared.reading.Reading.{Reading}
-use Rattle.schedule_text.specs.declared.reading.Stage.{Stage}
 use Rattle.schedule_text.specs.declared.reading.Stage.TheVariants as stages
 use Rattle.schedule_text.specs.declared.reading.ScheduleFile.{ScheduleFile}
 use Rattle.schedule_text.specs.Parts.{is_called}
@@ -27,8 +22,8 @@ use Rattle.schedule_text.specs.Schedules.{begun_at, program_line, named, close_p
 use Rattle.schedule_text.proofs.NetworkRules.{both_false}
 use Rattle.schedule_laws.specs.Lines.{after_lines}
 use Rattle.schedule_laws.specs.Written.{spread, NamedText, program_lines, IsTextLine, IsNamedText, NamesDiffer}
-use Rattle.schedule_laws.proofs.WordLaws.{Free, words_are, name_free}
-use Rattle.schedule_laws.proofs.ReadSteps.{then_ok, allowed_ok, not_ok, below_ok, Leads, leads-nil, leads-append}
+use Rattle.schedule_laws.proofs.WordLaws.{Free, name_free}
+use Rattle.schedule_laws.proofs.ReadSteps.{then_ok, not_ok, below_ok, Leads, leads-nil, leads-append}
 use Rattle.schedule_laws.proofs.NetworkRead.{file_at, network_step_ok}
 
 abbrev pub titled : NamedText → NamedProgram
@@ -43,7 +38,7 @@ abbrev first_words : NamedText → List (List ℕ)
 first_words p = codes "program" ∷ p.name ∷ []
 
 first_free : (p : NamedText) → is_name p.name ≡ true → Free 32 (first_words p)
-first_free p name = (refl, (name_free p.name name).0, tt)
+first_free p name = (refl, ((name_free p.name name).0, tt))
 
 begins_ok : (p : NamedText) (s : Reading) (number : ℕ) → length s.programs < 64 → is_name p.name ≡ true → list_any (is_called p.name) s.programs ≡ false
     → program_line number (p.name ∷ []) s ≡ Ok (begun_at number p.name)
@@ -84,9 +79,10 @@ no_lines f number = refl
 more_text : (begun : BegunProgram) (line : List ℕ) (text : List (List ℕ)) (program : Program) → program_in (begun.source.text ++ spread (line ∷ text)) ≡ Ok program → program_in ((with_more begun line).source.text ++ spread text) ≡ Ok program
 unfolding spread
 more_text begun line text program e =
-    let inner : (line ++ 10 ∷ []) ++ spread text ≡ line ++ 10 ∷ spread text = append_assoc line (10 ∷ []) (spread text) in
-    let outer : (begun.source.text ++ (line ++ 10 ∷ [])) ++ spread text ≡ begun.source.text ++ (line ++ 10 ∷ spread text) = append_assoc begun.source.text (line ++ 10 ∷ []) (spread text) ∙ ap (λ z. begun.source.text ++ z) inner in
-    ap program_in outer ∙ e
+    let front = begun.source.text in
+    let one : (front ++ line ++ 10 ∷ []) ++ spread text ≡ (front ++ line) ++ 10 ∷ spread text = append_assoc (front ++ line) (10 ∷ []) (spread text) in
+    let two : (front ++ line) ++ 10 ∷ spread text ≡ front ++ (line ++ 10 ∷ spread text) = append_assoc front line (10 ∷ spread text) in
+    ap program_in (one ∙ two) ∙ e
 
 no_text : (begun : BegunProgram) (program : Program) → program_in (begun.source.text ++ spread []) ≡ Ok program → program_in begun.source.text ≡ Ok program
 unfolding spread
@@ -106,7 +102,6 @@ inside_read (line ∷ text) begun s program number k e =
 
 program_read : (p : NamedText) (s : Reading) → length s.programs < 64 → IsNamedText p → list_any (is_called p.name) s.programs ≡ false
     → Leads (program_lines p) (file_at stages.Network s) (file_at stages.Network (with_programs s (s.programs ++ titled p ∷ [])))
-unfolding spaced
 program_read p s room k new number =
     then_lines (spaced (first_words p)) (p.text ++ codes "end program" ∷ []) (file_at stages.Network s) (file_at (stages.Inside (begun_at number p.name)) s) _ number
     (network_step_ok (codes "program") (p.name ∷ []) s s (stages.Inside (begun_at number p.name)) number (first_free p k.name) refl (begins_said p s number (begun_at number p.name) (begins_ok p s number room k.name new)))
@@ -122,7 +117,7 @@ fresh_name (q ∷ qs) p rest d =
 
 map-length : {X Y : Type 0} (f : X → Y) (xs : List X) → length (map f xs) ≡ length xs
 map-length f [] = refl
-map-length f (x ∷ xs) = ap (λ n. 1 + n) (map-length f xs)
+map-length f (x ∷ xs) = omega (arith, map-length f xs)
 
 map-push : {X Y : Type 0} (f : X → Y) (xs : List X) (x : X) → map f xs ++ f x ∷ [] ≡ map f (xs ++ x ∷ [])
 map-push f [] x = refl
@@ -138,5 +133,5 @@ programs_read (p ∷ rest) seen s few differ all =
     let one = program_read p (with_programs s (map titled seen)) room (All-head IsNamedText p rest all) (fresh_name seen p rest differ) in
     let first = subst (λ ps. Leads (program_lines p) (file_at stages.Network (with_programs s (map titled seen))) (file_at stages.Network (with_programs s ps))) (map-push titled seen p) one in
     let last = subst (λ ps. Leads (flat_map program_lines rest) (file_at stages.Network (with_programs s (map titled (seen ++ p ∷ [])))) (file_at stages.Network (with_programs s (map titled ps)))) e
-      (programs_read rest (seen ++ p ∷ []) s (subst (λ ps. length ps ≤ 64) (sym e) few) (subst NamesDiffer (sym e) differ) (All-tail IsNamedText p rest all)) in
+    (programs_read rest (seen ++ p ∷ []) s (subst (λ ps. length ps ≤ 64) (sym e) few) (subst NamesDiffer (sym e) differ) (All-tail IsNamedText p rest all)) in
     leads-append (program_lines p) (flat_map program_lines rest) (file_at stages.Network (with_programs s (map titled seen))) (file_at stages.Network (with_programs s (map titled (seen ++ p ∷ [])))) (file_at stages.Network (with_programs s (map titled (seen ++ p ∷ rest)))) first last

@@ -1,18 +1,17 @@
 -- Steps of a reading that go on.
-use Rattle.std.proofs.Common.{◌≡◌, ℕ, ◌+◌, ◌^◌, ◌<◌, ◌≤◌, Bool, true, false, not, ltb, leb, List, [], ◌∷◌, ◌++◌, length, Option, Some, None, Result, Ok, Err, refl, sym, ap, subst, ◌∙◌, arith}
+use Rattle.std.proofs.Common.{◌≡◌, ℕ, ◌+◌, ◌^◌, ◌<◌, ◌≤◌, Bool, true, false, not, ltb, leb, List, [], ◌∷◌, ◌++◌, Result, Ok, Err, refl, sym, ap, subst, ◌∙◌, arith}
 use Rattle.std.specs.Fmt.{decimal}
 use Rattle.std.specs.Option.{ok_or}
 use Rattle.std.proofs.lemmas.Bool.{lt-ltb, le-leb}
 use Rattle.plan_base.specs.declared.ids.Host.{Host}
 use Rattle.plan_base.specs.declared.ids.Dev.{Dev}
 use Rattle.network_plan.specs.declared.schedule.HostSpec.{HostSpec}
-use Rattle.network_plan.specs.Hosts.{Cable, host_of, dev_of, has_host, has_link}
+use Rattle.network_plan.specs.Hosts.{Cable, has_host, has_link}
 use Rattle.line_files.specs.declared.fault.LineReason.{LineReason}
 use Rattle.line_files.specs.declared.fault.LineReason.TheVariants.{BadNumber, UnknownHost, TwiceNamed}
 use Rattle.line_files.specs.declared.fault.LineFault.{LineFault}
-use Rattle.line_files.specs.Reads.{◌>>=◌, and_then, Part, allowed}
-use Rattle.line_files.specs.Files.{read_on}
-use Rattle.line_files.specs.Numbers.{number_in, number_at}
+use Rattle.line_files.specs.Reads.{◌>>=◌, and_then, allowed}
+use Rattle.line_files.specs.Numbers.{number_at}
 use Rattle.line_files.proofs.Again.{number_again}
 use Rattle.schedule_text.specs.declared.reading.ScheduleFile.{ScheduleFile}
 use Rattle.schedule_text.specs.Parts.{host_at, device_at, free_device_at}

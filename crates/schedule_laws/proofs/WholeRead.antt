@@ -1,33 +1,29 @@
 -- A schedule that is written says itself.
-use Rattle.std.proofs.Common.{◌≡◌, ℕ, ◌+◌, ◌^◌, ◌<◌, ◌≤◌, Bool, true, false, eqb, ◌||◌, cond, List, [], ◌∷◌, ◌++◌, length, map, Result, Ok, Err, refl, sym, ap, subst, ◌∙◌, arith, append-nil}
-use Rattle.std.specs.List.{All, list_all, flat_map}
-use Rattle.std.specs.Str.{bytes_eq}
+use Rattle.std.proofs.Common.{◌≡◌, ℕ, ◌+◌, ◌^◌, ◌<◌, Bool, true, false, eqb, ◌||◌, List, [], ◌∷◌, length, map, Ok, refl, sym, ap, subst, ◌∙◌, arith, append-nil}
+use Rattle.std.specs.List.{All, flat_map}
 use lib.Chars.{codes}
 use Rattle.std.proofs.lemmas.Bool.{eqb-true}
 use Rattle.std.proofs.lemmas.List.Elements.{All-head, All-tail}
 use Rattle.plan_base.specs.declared.ids.Host.{Host}
 use Rattle.plan_base.specs.declared.tree.Chunk.{Chunk}
-use Rattle.plan_base.specs.Words.{is_name}
 use Rattle.network_plan.specs.declared.schedule.HostSpec.{HostSpec}
 use Rattle.network_plan.specs.declared.schedule.Schedule.{Schedule}
 use Rattle.network_plan.specs.declared.event.WorldEvent.{WorldEvent}
 use Rattle.network_plan.specs.Hosts.{Cable, has_host}
 use Rattle.network_plan.specs.Rules.{KeepsLink, KeepsEvent}
-use Rattle.line_files.specs.Lines.{lines, spaced, behind}
+use Rattle.line_files.specs.Lines.{spaced}
 use Rattle.line_files.specs.Files.{read_on}
 use Rattle.line_files.proofs.Again.{without}
 use Rattle.schedule_text.specs.declared.reading.Reading.{Reading}
-use Rattle.schedule_text.specs.declared.reading.Stage.{Stage}
 use Rattle.schedule_text.specs.declared.reading.Stage.TheVariants as stages
-use Rattle.schedule_text.specs.declared.reading.ScheduleFile.{ScheduleFile}
 use Rattle.schedule_text.specs.Answers.{Says}
 use Rattle.schedule_text.specs.Schedules.{frames_line, network_rest, network_line, step, schedule_format, nothing_read, schedule_of}
-use Rattle.schedule_laws.specs.Written.{spread, NamedText, Written, host_words, link_words, event_words, program_lines, frames_lines, schedule_lines, schedule_text, IsTextLine, IsNamedText, EventIsWritten, weights, IsSchedule}
+use Rattle.schedule_laws.specs.Written.{NamedText, Written, host_words, link_words, event_words, program_lines, frames_lines, schedule_lines, schedule_text, IsTextLine, IsNamedText, EventIsWritten, weights, IsSchedule}
 use Rattle.schedule_laws.proofs.WordLaws.{Free, free-append, spread_lines, line_is, name_free}
 use Rattle.schedule_laws.proofs.ReadSteps.{Leads, leads-nil, leads-cons, leads-one, leads-append}
 use Rattle.schedule_laws.proofs.NetworkRead.{file_at, network_step_ok, host_words_free, hosts_read, link_words_free, links_read}
 use Rattle.schedule_laws.proofs.ProgramsRead.{titled, programs_read}
-use Rattle.schedule_laws.proofs.EventsRead.{SmallHosts, IsReady, event_line_free, events_read}
+use Rattle.schedule_laws.proofs.EventsRead.{SmallHosts, event_line_free, events_read}
 use Rattle.schedule_laws.proofs.MoveLaws.{read_behind}
 
 -- ---- hosts that are named have small numbers
@@ -60,7 +56,7 @@ text_free [] k = tt
 text_free (line ∷ text) k = ((All-head IsTextLine line text k).0, text_free text (All-tail IsTextLine line text k))
 
 program_free : (p : NamedText) → IsNamedText p → Free 10 (program_lines p)
-program_free p k = (line_is (codes "program" ∷ p.name ∷ []) (refl, (name_free p.name k.name).1, tt), free-append 10 p.text (codes "end program" ∷ []) (text_free p.text k.lines) (refl, tt))
+program_free p k = (line_is (codes "program" ∷ p.name ∷ []) (refl, ((name_free p.name k.name).1, tt)), free-append 10 p.text (codes "end program" ∷ []) (text_free p.text k.lines) (refl, tt))
 
 programs_free : (ps : List NamedText) → All IsNamedText ps → Free 10 (flat_map program_lines ps)
 programs_free [] k = tt
@@ -95,27 +91,29 @@ module _ (ps : List NamedText) (by : Chunk → Written) (s : Schedule) (is : IsS
 
   lines_free : Free 10 (schedule_lines ps by s)
   unfolding schedule_lines
-  lines_free =
-      (refl, free-append 10 (frames_lines s.frames) _ (frames_free s.frames)
-      (free-append 10 (map (λ h. spaced (host_words h)) s.topology.hosts) _ hosts_free
-      (free-append 10 (map (λ l. spaced (link_words l)) s.topology.links) _ links_free
-      (free-append 10 (flat_map program_lines ps) _ (programs_free ps is.programs) (refl, events_free)))))
+  lines_free = (
+    refl,
+    free-append 10 (frames_lines s.frames) _ (frames_free s.frames)
+        (free-append 10 (map (λ h. spaced (host_words h)) s.topology.hosts) _ hosts_free
+        (free-append 10 (map (λ l. spaced (link_words l)) s.topology.links) _ links_free
+        (free-append 10 (flat_map program_lines ps) _ (programs_free ps is.programs) (refl, events_free)))),
+  )
 
   -- ---- what they say
 
-  begun : Reading
+  abbrev begun : Reading
   begun = record { frames = s.frames; hosts = []; links = []; programs = []; events = []; weight = 0 }
 
-  hosted : Reading
+  abbrev hosted : Reading
   hosted = record { frames = s.frames; hosts = s.topology.hosts; links = []; programs = []; events = []; weight = 0 }
 
-  linked : Reading
+  abbrev linked : Reading
   linked = record { frames = s.frames; hosts = s.topology.hosts; links = s.topology.links; programs = []; events = []; weight = 0 }
 
-  carried : Reading
+  abbrev carried : Reading
   carried = record { frames = s.frames; hosts = s.topology.hosts; links = s.topology.links; programs = map titled ps; events = []; weight = 0 }
 
-  whole : Reading
+  abbrev whole : Reading
   whole = record { frames = s.frames; hosts = s.topology.hosts; links = s.topology.links; programs = map titled ps; events = s.events; weight = 0 + weights s.events }
 
   hosts_lead : Leads (map (λ h. spaced (host_words h)) s.topology.hosts) (file_at stages.Network begun) (file_at stages.Network hosted)
@@ -128,16 +126,16 @@ module _ (ps : List NamedText) (by : Chunk → Written) (s : Schedule) (is : IsS
   programs_lead = programs_read ps [] linked is.few is.differ is.programs
 
   events_begin : (number : ℕ) → schedule_format.step number (codes "events") (file_at stages.Network carried) ≡ Ok (file_at stages.Events carried)
-  unfolding network_line network_rest spaced behind
+  unfolding network_line network_rest
   events_begin number = network_step_ok (codes "events") [] carried carried stages.Events number (refl, tt) refl refl
 
   events_lead : Leads (map (λ e. spaced (event_words by e)) s.events) (file_at stages.Events carried) (file_at stages.Events whole)
-  events_lead = events_read ps by s.events [] carried 0 (record { programs = refl; small = small }) is.rules.few is.rules.events is.injected is.weight
+  events_lead = events_read ps by s.events [] carried 0 (record { programs = refl; small = small }) is.rules.few is.rules.events is.injected (omega (arith, is.weight))
 
-nothing_shown : Reading
+abbrev nothing_shown : Reading
 nothing_shown = record { frames = false; hosts = []; links = []; programs = []; events = []; weight = 0 }
 
-shown : Bool → Reading
+abbrev shown : Bool → Reading
 shown frames = record nothing_shown { frames = frames }
 
 header_step : (number : ℕ) → schedule_format.step number (codes "planet schedule 1") nothing_read ≡ Ok (file_at stages.Network nothing_shown)
@@ -149,7 +147,6 @@ unfolding network_line network_rest frames_line
 frames_said number = refl
 
 frames_lead : (frames : Bool) → Leads (frames_lines frames) (file_at stages.Network nothing_shown) (file_at stages.Network (shown frames))
-unfolding spaced behind
 frames_lead true = leads-one (codes "frames") (file_at stages.Network nothing_shown) (file_at stages.Network (shown true)) (λ number. network_step_ok (codes "frames") [] nothing_shown (shown true) stages.Network number (refl, tt) refl (frames_said number))
 frames_lead false = leads-nil (file_at stages.Network nothing_shown)
 

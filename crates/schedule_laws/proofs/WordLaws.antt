@@ -1,12 +1,12 @@
 -- Words and lines that are written are read again.
-use Rattle.std.proofs.Common.{◌≡◌, ℕ, zero, suc, ◌+◌, ◌^◌, ◌<◌, ◌≤◌, Bool, true, false, cond, not, eqb, ◌&&◌, ◌||◌, List, [], ◌∷◌, ◌++◌, length, Option, Some, None, Result, Ok, Err, is_some, refl, sym, ap, subst, ◌∙◌, arith, append-nil}
-use Rattle.std.specs.List.{All, AllPass, list_all}
-use Rattle.std.specs.Char.{is_ascii_alphabetic, is_ascii_alphanumeric}
+use Rattle.std.proofs.Common.{◌≡◌, ℕ, ◌^◌, ◌<◌, Bool, true, not, eqb, List, [], ◌∷◌, ◌++◌, refl, ap, ◌∙◌, arith, append-nil}
+use Rattle.std.specs.List.{AllPass, list_all}
+use Rattle.std.specs.Char.{is_ascii_alphabetic}
 use Rattle.std.specs.Fmt.{decimal}
 use Rattle.std.proofs.lemmas.Bool.Decides.{nat_tests}
 use Rattle.std.proofs.lemmas.List.Elements.{All-head, All-tail}
 use Rattle.small_laws.proofs.Bools.{both_true, and_both}
-use Rattle.hex.specs.Hex.{hex_digit_value, is_hex_digit, encode_lower, IsBytes}
+use Rattle.hex.specs.Hex.{is_hex_digit, encode_lower, IsBytes}
 use Rattle.hex.proofs.HexLemmas.{decode_of-encode_lower, decode_of-ok}
 use Rattle.plan_base.specs.Words.{is_word_byte, is_word, is_name}
 use Rattle.line_files.specs.Lines.{lines, words, spaced, behind}
@@ -34,24 +34,20 @@ spread_lines (l ∷ ls) k = line_first l (spread ls) k.0 ∙ ap (λ z. l ∷ z) 
 
 -- the words of a line are those that it was made of
 pub words_are : (w : List ℕ) (ws : List (List ℕ)) → Free 32 (w ∷ ws) → words (spaced (w ∷ ws)) ≡ w ∷ ws
-unfolding spaced behind
 words_are w [] k = ap words (append-nil w) ∙ word_alone w k.0
 words_are w (v ∷ vs) k = word_first w (spaced (v ∷ vs)) k.0 ∙ ap (λ z. w ∷ z) (words_are v vs k.1)
 
 -- and behind them any rest
 pub words_rest : (w : List ℕ) (ws : List (List ℕ)) (rest : List ℕ) → Free 32 (w ∷ ws) → words (spaced ((w ∷ ws) ++ rest ∷ [])) ≡ (w ∷ ws) ++ words rest
-unfolding spaced behind
 words_rest w [] rest k = word_first w (rest ++ []) k.0 ∙ ap (λ z. w ∷ words z) (append-nil rest)
 words_rest w (v ∷ vs) rest k = word_first w (spaced ((v ∷ vs) ++ rest ∷ [])) k.0 ∙ ap (λ z. w ∷ z) (words_rest v vs rest k.1)
 
 behind_line : (ws : List (List ℕ)) → Free 10 ws → without 10 (behind ws) ≡ true
-unfolding behind
 behind_line [] k = refl
 behind_line (w ∷ ws) k = without-append 10 w (behind ws) k.0 (behind_line ws k.1)
 
 -- a line of words has no line feed
 pub line_is : (ws : List (List ℕ)) → Free 10 ws → without 10 (spaced ws) ≡ true
-unfolding spaced
 line_is [] k = refl
 line_is (w ∷ ws) k = without-append 10 w (behind ws) k.0 (behind_line ws k.1)
 

@@ -77,7 +77,7 @@ frames_lines false = []
 unfoldable pub schedule_lines : List NamedText → (Chunk → Written) → Schedule → List (List ℕ)
 schedule_lines programs by s =
     codes "planet schedule 1" ∷ (frames_lines s.frames ++ (map (λ h. spaced (host_words h)) s.topology.hosts ++ (map (λ l. spaced (link_words l)) s.topology.links
-      ++ (flat_map program_lines programs ++ (codes "events" ∷ map (λ e. spaced (event_words by e)) s.events)))))
+    ++ (flat_map program_lines programs ++ (codes "events" ∷ map (λ e. spaced (event_words by e)) s.events)))))
 
 -- a schedule as a text
 abbrev pub schedule_text : List NamedText → (Chunk → Written) → Schedule → List ℕ
@@ -128,10 +128,10 @@ weights (happens.Inject h chunk bound ∷ es) = 1 + chunk_weight chunk + weights
 weights (_ ∷ es) = weights es
 
 -- a schedule within its limits, whose programs and arguments are written
-pub record IsSchedule (programs : List NamedText) (by : Chunk → Written) (s : Schedule) : Type 0 where
+pub record IsSchedule (ps : List NamedText) (by : Chunk → Written) (s : Schedule) : Type 0 where
   pub rules : KeepsRules s
-  pub few : length programs ≤ 64
-  pub programs : All IsNamedText programs
-  pub differ : NamesDiffer programs
-  pub injected : All (EventIsWritten programs by) s.events
+  pub few : length ps ≤ 64
+  pub programs : All IsNamedText ps
+  pub differ : NamesDiffer ps
+  pub injected : All (EventIsWritten ps by) s.events
   pub weight : weights s.events ≤ 16777216
