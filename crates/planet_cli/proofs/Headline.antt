@@ -18,6 +18,7 @@ use Rattle.network_laws.proofs.Giving.{opening_bounded, opening_grants}
 use Rattle.network_laws.proofs.Opening.{opening_sound}
 use Rattle.network_laws.proofs.Visits.{run_ends}
 use Rattle.network_laws.proofs.Wires.{opening_leads, opening_once}
+use Rattle.world_routes.proofs.Reaching.{run_keeps_routes}
 use Rattle.planet_cli.specs.declared.status.Cause.{Cause}
 use Rattle.planet_cli.specs.declared.status.Cause.TheVariants.{Done, WriteFault}
 use Rattle.planet_cli.specs.declared.status.Cause.TheVariants as causes
@@ -75,6 +76,7 @@ replay_ledger words files s r =
       leads = λ k. opening_leads t (take k s.events);
       sound = λ k. run_sound (take k s.events) (opening t) (All-take event_fits k s.events fits) (opening_sound t keeps.network);
       visits = λ k. run_ends k s.events (opening t) fits (opening_sound t keeps.network);
+      routes = λ k none. run_keeps_routes t (take k s.events) keeps.network none;
     }
 
 checked_outcome : (words : List (List ℕ)) (files : FileMap) (p : Program) (c : IsCheckOf words files p) → outcome_of words files ≡ judged program_limit program_refusal program_output c.bytes
