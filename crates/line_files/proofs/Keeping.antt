@@ -133,7 +133,7 @@ other_package k p e same =
     let yes : same_package k p ≡ true = subst (λ q. same_package k q ≡ true) same (same_itself k) in
     absurd (let both = sym yes ∙ e in cc)
 
-either_false : (a b : Bool) → (a || b) ≡ false → (a ≡ false) × (b ≡ false)
+pub either_false : (a b : Bool) → (a || b) ≡ false → (a ≡ false) × (b ≡ false)
 either_false true b e = absurd cc
 either_false false b e = (refl, e)
 

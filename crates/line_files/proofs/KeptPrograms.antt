@@ -17,7 +17,7 @@ use Rattle.line_files.specs.declared.fault.LineReason.TheVariants.{TooMany, BadA
 use Rattle.line_files.specs.Reads.{rest_at, allowed}
 use Rattle.line_files.specs.Numbers.{number_at}
 use Rattle.line_files.specs.Programs.{accepted, program_in, entry_at, args_at, chunk_with, typed_chunk, injection_at, call_at, weighed}
-use Rattle.line_files.proofs.TextLaws.{program_checked, args_good, chunk_checked}
+use Rattle.line_files.proofs.TextLaws.{AreGood, program_checked, args_good, chunk_checked}
 use Rattle.line_files.proofs.Keeping.{IfRead, ok_is, then_keeps, done_keeps, allowed_true, ok_or_is, number_is}
 
 accepted_is : (r : Result Program TextFault) (p : Program) → accepted r ≡ Ok p → r ≡ Ok p
@@ -30,9 +30,6 @@ unfolding program_in
 program_is text =
     then_keeps IsChecked (allowed (leb (length text) 65536) TooMany) _ (λ u small p hp.
     program_checked text p (leb-true (length text) 65536 (allowed_true (leb (length text) 65536) TooMany u small)) (accepted_is (program_of text) p hp))
-
-abbrev AreGood : List Value → Type 0
-AreGood vs = IsTrue (list_all well_formed_value vs) × IsTrue (list_all value_has_types vs)
 
 args_are : (ws : List (List ℕ)) → IfRead AreGood (args_at ws)
 unfolding args_at

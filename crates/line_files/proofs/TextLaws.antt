@@ -63,7 +63,7 @@ program_checked text p small e = tokens_checked (length text) (tokens_of text) p
 
 -- ---- arguments
 
-abbrev AreGood : List Value → Type 0
+abbrev pub AreGood : List Value → Type 0
 AreGood vs = IsTrue (list_all well_formed_value vs) × IsTrue (list_all value_has_types vs)
 
 read_good : (tokens : List Token) (end : ℕ) (vs : List Value) → AreTokens 0 end tokens → args_of tokens end ≡ Ok vs → AreGood vs

@@ -23,7 +23,8 @@ use Rattle.schedule_text.specs.declared.reading.Stage.{Stage}
 use Rattle.schedule_text.specs.declared.reading.Stage.TheVariants as stages
 use Rattle.schedule_text.specs.declared.reading.ScheduleFile.{ScheduleFile}
 use Rattle.schedule_text.specs.Schedules.{host_line, link_line, network_rest, network_line, step, file_after, schedule_format}
-use Rattle.schedule_text.proofs.NetworkRules.{both_false, swapped, ends_apart}
+use Rattle.line_files.proofs.Keeping.{either_false}
+use Rattle.schedule_text.proofs.NetworkRules.{swapped, ends_apart}
 use Rattle.schedule_laws.specs.Written.{package_word, lacking_words, host_words, link_words}
 use Rattle.schedule_laws.proofs.WordLaws.{Free, words_are, number_free}
 use Rattle.schedule_laws.proofs.ReadSteps.{then_ok, not_ok, below_ok, number_ok, host_ok, free_device_ok, Leads, leads-nil, leads-cons}
@@ -114,7 +115,7 @@ fresh_host : (seen : List HostSpec) (h : HostSpec) (rest : List HostSpec) → Ho
 fresh_host [] h rest d = refl
 fresh_host (g ∷ gs) h rest d =
     let e : (has_host g.host gs || has_host g.host (h ∷ rest)) ≡ false = sym (list_any-append (λ x. eqb x.host.0 g.host.0) gs (h ∷ rest)) ∙ d.0 in
-    let k = both_false (eqb h.host.0 g.host.0) (has_host g.host rest) (both_false (has_host g.host gs) (has_host g.host (h ∷ rest)) e).1 in
+    let k = either_false (eqb h.host.0 g.host.0) (has_host g.host rest) (either_false (has_host g.host gs) (has_host g.host (h ∷ rest)) e).1 in
     rw (swapped h.host.0 g.host.0 false k.0, fresh_host gs h rest d.1) refl
 
 abbrev with_hosts : Reading → List HostSpec → Reading
@@ -163,7 +164,7 @@ link_said l s t number e = then_ok (link_line (decimal l.0.0 ∷ decimal l.1.0 �
 end_of : (h : Host) (d : Dev) (ms : List Cable) (l : Cable) (rest : List Cable) → has_link h d (ms ++ l ∷ rest) ≡ false → ends_at h d l ≡ false
 end_of h d ms l rest e =
     let k : (has_link h d ms || has_link h d (l ∷ rest)) ≡ false = sym (list_any-append (ends_at h d) ms (l ∷ rest)) ∙ e in
-    (both_false (ends_at h d l) (has_link h d rest) (both_false (has_link h d ms) (has_link h d (l ∷ rest)) k).1).0
+    (either_false (ends_at h d l) (has_link h d rest) (either_false (has_link h d ms) (has_link h d (l ∷ rest)) k).1).0
 
 fresh_link : (seen : List Cable) (l : Cable) (rest : List Cable) → LinksApart (seen ++ l ∷ rest) → (has_link l.0 l.1 seen ≡ false) × (has_link l.2 l.3 seen ≡ false)
 fresh_link [] l rest a = (refl, refl)

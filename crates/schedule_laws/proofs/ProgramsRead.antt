@@ -19,7 +19,7 @@ use Rattle.schedule_text.specs.declared.reading.Stage.TheVariants as stages
 use Rattle.schedule_text.specs.declared.reading.ScheduleFile.{ScheduleFile}
 use Rattle.schedule_text.specs.Parts.{is_called}
 use Rattle.schedule_text.specs.Schedules.{begun_at, program_line, named, close_program, network_rest, network_line, with_more, staying, step, file_after, schedule_format}
-use Rattle.schedule_text.proofs.NetworkRules.{both_false}
+use Rattle.line_files.proofs.Keeping.{either_false}
 use Rattle.schedule_laws.specs.Lines.{after_lines}
 use Rattle.schedule_laws.specs.Written.{spread, NamedText, program_lines, IsTextLine, IsNamedText, NamesDiffer}
 use Rattle.schedule_laws.proofs.WordLaws.{Free, name_free}
@@ -111,8 +111,8 @@ fresh_name : (seen : List NamedText) (p : NamedText) (rest : List NamedText) →
 fresh_name [] p rest d = refl
 fresh_name (q ∷ qs) p rest d =
     let e = sym (list_any-append (λ x. bytes_eq q.name x.name) qs (p ∷ rest)) ∙ d.0 in
-    let k = both_false (list_any (λ x. bytes_eq q.name x.name) qs) (list_any (λ x. bytes_eq q.name x.name) (p ∷ rest)) e in
-    let n = both_false (bytes_eq q.name p.name) (list_any (λ x. bytes_eq q.name x.name) rest) k.1 in
+    let k = either_false (list_any (λ x. bytes_eq q.name x.name) qs) (list_any (λ x. bytes_eq q.name x.name) (p ∷ rest)) e in
+    let n = either_false (bytes_eq q.name p.name) (list_any (λ x. bytes_eq q.name x.name) rest) k.1 in
     rw (n.0, fresh_name qs p rest d.1) refl
 
 map-length : {X Y : Type 0} (f : X → Y) (xs : List X) → length (map f xs) ≡ length xs

@@ -5,7 +5,7 @@ use Rattle.line_files.specs.declared.fault.LineFault.{LineFault}
 use Rattle.line_files.specs.declared.fault.LineFault.TheVariants as faults
 use Rattle.line_files.specs.Reads.{FileGives}
 
-abbrev same : Schedule → Schedule
+abbrev pub same : Schedule → Schedule
 same s = s
 
 pub gives_same : (r total : Result Schedule LineFault) → r ≡ total → FileGives same r total

@@ -1,4 +1,4 @@
 pub mod NetworkRules
+pub mod FormatLaws
 pub mod RuleLaws
 pub mod AnswerLaws
-pub mod FormatLaws

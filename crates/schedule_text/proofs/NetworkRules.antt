@@ -8,11 +8,8 @@ use Rattle.network_plan.specs.declared.schedule.HostSpec.{HostSpec}
 use Rattle.network_plan.specs.declared.event.WorldEvent.{WorldEvent}
 use Rattle.network_plan.specs.declared.event.WorldEvent.TheVariants as happens
 use Rattle.network_plan.specs.Hosts.{Cable, has_host, ends_at, has_link}
+use Rattle.line_files.proofs.Keeping.{either_false}
 use Rattle.network_plan.specs.Rules.{HostsDiffer, LinksApart, KeepsLink, KeepsEvent}
-
-pub both_false : (a b : Bool) → (a || b) ≡ false → (a ≡ false) × (b ≡ false)
-both_false true b e = absurd cc
-both_false false b e = (refl, e)
 
 pub swapped : (a b : ℕ) (t : Bool) → eqb a b ≡ t → eqb b a ≡ t
 swapped a b true e = eq-eqb b a (sym (eqb-true a b e))
@@ -30,7 +27,7 @@ host_stays hosts h n e = rw (list_any-append (λ g. eqb g.host.0 n.0) hosts (h �
 pub differ_push : (hosts : List HostSpec) (x : HostSpec) → HostsDiffer hosts → has_host x.host hosts ≡ false → HostsDiffer (hosts ++ x ∷ [])
 differ_push [] x d e = (refl, tt)
 differ_push (h ∷ hosts) x d e =
-    let f = both_false (eqb h.host.0 x.host.0) (has_host x.host hosts) e in
+    let f = either_false (eqb h.host.0 x.host.0) (has_host x.host hosts) e in
     let new : has_host h.host (hosts ++ x ∷ []) ≡ false = rw (list_any-append (λ g. eqb g.host.0 h.host.0) hosts (x ∷ []), d.0, swapped h.host.0 x.host.0 false f.0) refl in
     (new, differ_push hosts x d.1 f.1)
 
@@ -59,8 +56,8 @@ pair_swap a b c d e = rw (swap_is a c, swap_is b d) e
 
 pub ends_apart : (l x : Cable) → ends_at x.0 x.1 l ≡ false → ends_at x.2 x.3 l ≡ false → (ends_at l.0 l.1 x ≡ false) × (ends_at l.2 l.3 x ≡ false)
 ends_apart l x e f =
-    let e0 = both_false (eqb l.0.0 x.0.0 && eqb l.1.0 x.1.0) (eqb l.2.0 x.0.0 && eqb l.3.0 x.1.0) e in
-    let f0 = both_false (eqb l.0.0 x.2.0 && eqb l.1.0 x.3.0) (eqb l.2.0 x.2.0 && eqb l.3.0 x.3.0) f in (
+    let e0 = either_false (eqb l.0.0 x.0.0 && eqb l.1.0 x.1.0) (eqb l.2.0 x.0.0 && eqb l.3.0 x.1.0) e in
+    let f0 = either_false (eqb l.0.0 x.2.0 && eqb l.1.0 x.3.0) (eqb l.2.0 x.2.0 && eqb l.3.0 x.3.0) f in (
       rw (pair_swap l.0.0 l.1.0 x.0.0 x.1.0 e0.0, pair_swap l.0.0 l.1.0 x.2.0 x.3.0 f0.0) refl,
       rw (pair_swap l.2.0 l.3.0 x.0.0 x.1.0 e0.1, pair_swap l.2.0 l.3.0 x.2.0 x.3.0 f0.1) refl,
     )
@@ -72,7 +69,7 @@ used_push links x h d e f = rw (list_any-append (ends_at h d) links (x ∷ []), 
 pub apart_push : (links : List Cable) (x : Cable) → LinksApart links → has_link x.0 x.1 links ≡ false → has_link x.2 x.3 links ≡ false → LinksApart (links ++ x ∷ [])
 apart_push [] x a e f = (refl, refl, tt)
 apart_push (l ∷ links) x a e f =
-    let e0 = both_false (ends_at x.0 x.1 l) (has_link x.0 x.1 links) e in
-    let f0 = both_false (ends_at x.2 x.3 l) (has_link x.2 x.3 links) f in
+    let e0 = either_false (ends_at x.0 x.1 l) (has_link x.0 x.1 links) e in
+    let f0 = either_false (ends_at x.2 x.3 l) (has_link x.2 x.3 links) f in
     let ends = ends_apart l x e0.0 f0.0 in
     (used_push links x l.0 l.1 a.0 ends.0, used_push links x l.2 l.3 a.1 ends.1, apart_push links x a.2 e0.1 f0.1)

@@ -46,6 +46,7 @@ use Rattle.schedule_text.specs.declared.reading.Stage.TheVariants as stages
 use Rattle.schedule_text.specs.declared.reading.ScheduleFile.{ScheduleFile}
 use Rattle.schedule_text.specs.Parts.{host_at, device_at, free_device_at, is_called, program_at}
 use Rattle.schedule_text.specs.Schedules.{network_word, event_word, is_first, frames_line, host_spec, host_line, link_line, program_line, named, close_program, network_rest, network_line, with_event, injected_at, inject_line, send_line, frame_at, deliver_line, lose_line, tick_line, raw_line, event_rest, event_line, staying, step, schedule_of_reading, finish, file_after, schedule_format, nothing_read, schedule_of}
+use Rattle.schedule_text.proofs.FormatLaws.{same}
 use Rattle.schedule_text.proofs.NetworkRules.{differ_push, link_stays, event_stays, apart_push}
 
 -- ---- what a line names
@@ -353,9 +354,6 @@ nothing_keeps = record {
 pub schedule_keeps : (bytes : List ℕ) (s : Schedule) → schedule_of bytes ≡ Ok s → KeepsRules s
 unfolding schedule_of
 schedule_keeps bytes s e = read_keeps schedule_format KeepsFile KeepsRules line_keeps (λ number f k. finish_keeps number f.stage f.reading k) (lines bytes) 1 nothing_read nothing_keeps s e
-
-abbrev same : Schedule → Schedule
-same s = s
 
 pub is_keeping : (bytes : List ℕ) (r : Result Schedule LineFault) → FileGives same r (schedule_of bytes) → IfOk r KeepsRules
 is_keeping bytes r h = whole.is_keeping KeepsRules r (schedule_of bytes) h (schedule_keeps bytes)
