@@ -1,7 +1,6 @@
 -- A replay that is done wrote the run of its schedule, and that run is in balance. A check that is done wrote the sizes of its
 -- program.
-use Rattle.std.proofs.Common.{◌≡◌, ℕ, Bool, true, false, cond, nat_lt, ◌⊎◌, inl, inr, List, length, take, Option, Some, None, Result, Ok, refl, sym, ap, ◌∙◌, subst}
-use Rattle.std.specs.List.{All}
+use Rattle.std.proofs.Common.{◌≡◌, ℕ, Bool, true, false, cond, nat_lt, inl, inr, List, length, take, Option, Some, None, Ok, refl, sym, ap, ◌∙◌, subst}
 use Rattle.std.proofs.lemmas.List.Elements.{All-take}
 use Rattle.node_io.specs.FileMaps.{FileMap}
 use Rattle.plan_base.specs.declared.tree.Program.{Program}
@@ -21,11 +20,10 @@ use Rattle.network_laws.proofs.Wires.{opening_leads, opening_once}
 use Rattle.world_routes.proofs.Reaching.{run_keeps_routes}
 use Rattle.planet_cli.specs.declared.status.Cause.{Cause}
 use Rattle.planet_cli.specs.declared.status.Cause.TheVariants.{Done, WriteFault}
-use Rattle.planet_cli.specs.declared.status.Cause.TheVariants as causes
 use Rattle.planet_cli.specs.declared.status.Refusal.{Refusal}
 use Rattle.planet_cli.specs.declared.status.Refusal.TheVariants.{TooLong}
 use Rattle.planet_cli.specs.Refusals.{Gives}
-use Rattle.planet_cli.specs.Outcomes.{Outcome, refused, whole, ruled, judged, outcome_at, answered, outcome_of, output_of, IsWhole}
+use Rattle.planet_cli.specs.Outcomes.{Outcome, refused, ruled, judged, outcome_at, answered, outcome_of, output_of, IsWhole}
 use Rattle.planet_cli.specs.Schedules.{schedule_limit, schedule_refusal, schedule_output, output_in}
 use Rattle.planet_cli.specs.Checks.{program_limit, program_refusal, program_output, sizes_text, sizes_of, IsCheckOf}
 use Rattle.planet_cli.specs.Replays.{IsReplayOf, KeepsLedger}

@@ -2,7 +2,7 @@
 use Rattle.std.proofs.Common.{◌≡◌, ◌≢◌, ℕ, Bool, true, false, cond, List, [], ◌∷◌, length, Option, Some, None, refl}
 use Rattle.std.specs.Str.{bytes_eq}
 use lib.Chars.{codes}
-use Rattle.planet_cli.specs.Requests.{Request, replay, check, show, inject, fleet, node, grow, is_file_name, number_in, node_for, grow_for, built, request_of}
+use Rattle.planet_cli.specs.Requests.{is_file_name, number_in, node_for, grow_for, built, request_of}
 
 two_cases : (is_node is_grow is_name : Bool) (file : List ℕ) (turns seed n : Option ℕ)
     → built (cond is_node (cond is_name (node_for file turns) None) (cond is_grow (grow_for seed n) None)) ≡ None

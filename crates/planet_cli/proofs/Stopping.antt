@@ -1,5 +1,5 @@
 -- Where a command stops at a refusal.
-use Rattle.std.proofs.Common.{◌≡◌, Bool, true, false, cond, Result, Err, refl, sym, subst}
+use Rattle.std.proofs.Common.{◌≡◌, Bool, true, false, cond, Err, refl, sym, subst}
 use Rattle.std.specs.Prelude.{IsErrOf}
 use Rattle.planet_cli.specs.declared.command.Stop.{Stop}
 use Rattle.planet_cli.specs.declared.command.Stop.TheVariants as stops

@@ -1,9 +1,9 @@
 -- What words and files make of a call, before any fault.
-use Rattle.std.specs.Prelude.{ℕ, ◌≡◌, Bool, true, false, nat_lt, if◌then◌else◌, List, [], length, Option, Some, None}
+use Rattle.std.specs.Prelude.{ℕ, nat_lt, if◌then◌else◌, List, [], length, Option, Some, None}
 use Rattle.node_io.specs.FileMaps.{FileMap, file_at}
 use Rattle.planet_cli.specs.declared.status.Refusal.{Refusal}
 use Rattle.planet_cli.specs.declared.status.Refusal.TheVariants.{TooLong}
-use Rattle.planet_cli.specs.Requests.{Request, replay, check, show, inject, fleet, node, grow, request_of}
+use Rattle.planet_cli.specs.Requests.{Request, replay, check, show, request_of}
 use Rattle.planet_cli.specs.Schedules.{schedule_limit, schedule_refusal, schedule_output}
 use Rattle.planet_cli.specs.Checks.{program_limit, program_refusal, program_output}
 use Rattle.planet_cli.specs.Shows.{frame_limit, frame_refusal, frame_output}

@@ -1,4 +1,4 @@
-use Rattle.std.proofs.Common.{ℕ, List, ◌++◌, ap, ◌∙◌}
+use Rattle.std.proofs.Common.{◌++◌, ap, ◌∙◌}
 use Rattle.planet_cli.proofs.Headline.{done_found, replay_output, replay_ledger, check_output}
 use Rattle.planet_cli.proofs.Showing.{show_output, show_is_whole, show_found}
 use Rattle.planet_cli.proofs.top.planet.Goals as goal
