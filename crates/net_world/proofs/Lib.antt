@@ -1,7 +1,4 @@
-pub mod NodeLaws
-pub mod RowLaws
+pub mod EventLaws
+pub mod OpeningLaws
 pub mod RunLaws
-pub mod SendLaws
-pub mod StateLaws
-pub mod TextLaws
-pub mod TurnLaws
+pub mod StandLaws

@@ -1,5 +1,2 @@
-pub mod Queued
-pub mod Rows
-pub mod Running
 pub mod Stands
-pub mod Turns
+pub mod Running

@@ -1,15 +1,15 @@
--- What stands after an event, and after some events.
-use Rattle.std.specs.Prelude.{◌≡◌, ℕ, List, ◌++◌}
-use Rattle.schedule_text.specs.declared.schedule.WorldEvent.{WorldEvent}
-use Rattle.world_laws.specs.declared.lines.Entry.{Entry}
-use Rattle.world_laws.specs.World.{WorldState, happens, entries, world_after, history_of}
+-- What a network and its ledger must be for an event's lines to be counted.
+use Rattle.std.specs.Prelude.{List}
+use Rattle.service_api.specs.Services.{Standing}
+use Rattle.network_plan.specs.declared.event.WorldEvent.{WorldEvent}
+use Rattle.bound_ledger.specs.Rows.{FamilyRow}
+use Rattle.run_ledger.specs.Counting.{LinesFit}
+use Rattle.world_model.specs.World.{WorldState, happens}
+use Rattle.net_world.specs.declared.network.Network.{Network}
+use Rattle.net_world.specs.Stands.{WorldStands}
 
--- the network is as after the event, and the history has its entries
-pub record IsAfterEvent (old : WorldState) (before : List Entry) (event : WorldEvent) (new : WorldState) (after : List Entry) : Type 0 where
-  pub world : new ≡ (happens old event).world
-  pub history : after ≡ before ++ entries old event
-
--- the network is as after the events, and the history has their entries
-pub record IsAfterEvents (old : WorldState) (events : List WorldEvent) (new : WorldState) (history : List Entry) : Type 0 where
-  pub world : new ≡ world_after events old
-  pub entries_of : history ≡ history_of events old
+-- the lines of an event can be counted, at a state for which the network stands
+pub record IsCountable {S : Type 0} (stands : S → Standing) (n : Network S) (e : WorldEvent) (rows : List FamilyRow) : Type 0 where
+  pub state : WorldState
+  pub is : WorldStands stands n state
+  pub fits : LinesFit rows (happens state e).lines

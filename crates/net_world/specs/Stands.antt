@@ -1,41 +1,38 @@
--- Which state of a definition a node or a network stands for.
-use Rattle.std.specs.Prelude.{◌≡◌, ℕ, List, map, slice_get, slice_set, Option, Some}
-use Rattle.world_laws.specs.declared.acts.Acts.{Acts}
-use Rattle.world_laws.specs.declared.lines.Line.{Line}
-use Rattle.service_api.specs.PrintsLaws.{prints_stand}
-use Rattle.world_laws.specs.State.{NodeState}
-use Rattle.world_laws.specs.Node.{Step}
-use Rattle.world_laws.specs.World.{WorldState, Happened}
-use Rattle.net_world.specs.declared.node.Node.{Node}
-use Rattle.net_world.specs.declared.world.World.{World}
+-- Which state of the definition a network stands for.
+use Rattle.std.specs.Prelude.{◌≡◌, List, [], ◌∷◌, slice_get, slice_set, Some, ℕ}
+use Rattle.service_api.specs.Services.{Standing}
+use Rattle.node_model.specs.declared.acts.Acts.{Acts}
+use Rattle.node_model.specs.State.{NodeState}
+use Rattle.node_model.specs.Node.{Step}
+use Rattle.node_core.specs.declared.node.Node.{Node}
+use Rattle.node_core.specs.Stands.{NodeStands}
+use Rattle.world_model.specs.declared.lines.Line.{Line}
+use Rattle.world_model.specs.World.{WorldState, Happened}
+use Rattle.net_world.specs.declared.network.Network.{Network}
 
--- the node, with what its services stand for and its queues as lists of packets
-abbrev pub node_state : Node → NodeState
-node_state n = record { here = n.here; neighbours = n.neighbours; routes = n.router; services = prints_stand n.services; queues = n.queues.items; serial = n.serial }
+-- each node stands for the state at its place
+abbrev pub AllStand : {S : Type 0} → (S → Standing) → List (Node S) → List NodeState → Type 0
+AllStand stands [] [] = Unit {0}
+AllStand stands (n ∷ ns) (s ∷ ss) = NodeStands stands n s × AllStand stands ns ss
+AllStand stands _ _ = ⊥
 
--- the acts and the frame of a step are those of its definition, and so is the node afterwards
-pub record IsStep (step : Step) (acts : Acts) (new : NodeState) : Type 0 where
-  pub list : acts.list ≡ step.acts
-  pub frame : acts.frame ≡ step.frame
-  pub node : new ≡ step.node
+-- a network stands for a state: its nodes for the states of nodes; all else is equal
+pub record WorldStands {S : Type 0} (stands : S → Standing) (n : Network S) (w : WorldState) : Type 0 where
+  pub nodes : AllStand stands n.nodes.items w.nodes
+  pub links : n.links ≡ w.links
+  pub wire : n.wire ≡ w.wire
+  pub next : n.«next» ≡ w.«next»
+  pub made : n.made ≡ w.made
 
--- the nodes of a network
-unfoldable pub states : List Node → List NodeState
-states nodes = map node_state nodes
+-- the lines of an event are those of its definition, and the network stands for the state after it
+pub record IsHappened {S : Type 0} (stands : S → Standing) (event : Happened) (lines : List Line) (new : Network S) : Type 0 where
+  pub list : lines ≡ event.lines
+  pub world : WorldStands stands new event.world
 
 -- the node at a place made a step, and no other changed
-pub record StepsAt (step : NodeState → Step) (old : List NodeState) (at : ℕ) (acts : Acts) (new : List NodeState) : Type 0 where
+pub record StepsAt {S : Type 0} (stands : S → Standing) (step : NodeState → Step) (old : List NodeState) (at : ℕ) (acts : Acts) (new : List (Node S)) : Type 0 where
   pub node : NodeState
   pub there : slice_get old at ≡ Some node
   pub list : acts.list ≡ (step node).acts
   pub frame : acts.frame ≡ (step node).frame
-  pub after : new ≡ slice_set old at (step node).node
-
--- the network
-abbrev pub world_state : World → WorldState
-world_state w = record { frames = w.frames; nodes = states w.nodes.items; links = w.links; wire = w.wire; next = w.next; made = w.made }
-
--- the lines of an event are those of its definition, and so is the network afterwards
-pub record IsHappened (event : Happened) (lines : List Line) (new : WorldState) : Type 0 where
-  pub list : lines ≡ event.lines
-  pub world : new ≡ event.world
+  pub after : AllStand stands new (slice_set old at (step node).node)

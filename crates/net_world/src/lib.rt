@@ -1,16 +1,13 @@
-//! A network of nodes and the run of a schedule in it.
+//! A network of nodes as a fold over their steps, and the run of a schedule in it.
 #![tactic(auto)]
 
-mod ledger;
-mod node;
-mod outgoing;
-mod rows;
+mod ends;
+mod lines;
+mod network;
+mod nodes;
+mod opening;
 mod runs;
-mod sends;
-mod text;
-mod turns;
 mod world;
 
-pub use node::Node;
 pub use runs::{RunFault, run};
 pub use world::World;

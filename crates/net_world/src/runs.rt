@@ -1,24 +1,32 @@
-ghost use Rattle.std.specs.Prelude.{◌≡◌, ◌++◌, ◌+◌, ◌≤◌, ◌<◌, ◌-◌, ◌^◌, [], ℕ, map, take, length, IsTrue, IfOk, OnOk, IsErrOf};
+ghost use Rattle.std.specs.Prelude.{◌≡◌, ◌++◌, ◌+◌, ◌≤◌, ◌<◌, ◌-◌, ◌^◌, [], ℕ, List, map, take, codes, length, All, IsTrue, IfOk, OnOk, IsErrOf};
 ghost use Rattle.plan_base.specs.declared.ids.Family.{Family as FamilyOf};
 ghost use Rattle.node_io.specs.Causes.{Rose};
 ghost use Rattle.node_io.specs.Pieces.{AppendsFront};
-ghost use Rattle.world_laws.specs.World as spec;
-ghost use Rattle.world_laws.specs.Counts.{Balanced, IsBounded, granted};
-ghost use Rattle.world_laws.specs.Sound.{IsSound, EventsFit, HostsDiffer, event_fits};
-ghost use Rattle.world_laws.specs.Packets.{IsGranted};
-ghost use Rattle.world_laws.specs.Texts.{entries_text, ledger_text, run_text};
-ghost use Rattle.net_world.specs.Stands.{world_state};
-ghost use Rattle.net_world.specs.Running.{IsAfterEvent, IsAfterEvents};
+ghost use Rattle.network_plan.specs.Rules.{KeepsRules};
+ghost use Rattle.world_model.specs.World as spec;
+ghost use Rattle.world_model.specs.World.{WorldState, opening};
+ghost use Rattle.world_model.specs.declared.lines.Entry.{Entry as EntryOf};
+ghost use Rattle.world_model.specs.Counts.{Balanced, IsBounded, IsGranted};
+ghost use Rattle.world_model.specs.Sound.{IsSound, event_fits};
+ghost use Rattle.world_model.specs.Wires.{IsOnce, WireLeads};
+ghost use Rattle.world_model.specs.Visits.{EndsWell, visits_after};
+ghost use Rattle.world_model.specs.Texts.{entries_text, ledger_text, run_text};
+ghost use Rattle.world_routes.specs.Roads.{NotRaw};
+ghost use Rattle.world_routes.specs.Routes.{RunKeepsRoutes};
+ghost use Rattle.run_ledger.specs.Stands.{Stands};
+ghost use Rattle.net_world.specs.Stands.{WorldStands};
+ghost use Rattle.net_world.specs.Running.{IsCountable};
 
-use crate::ledger::put_ledger;
-use crate::text::put_entries;
 use crate::world::World;
+use bound_ledger::Ledger;
+use network_plan::{Schedule, WorldEvent};
 use node_io::{Failed, Sink, put_all};
 use plan_base::{Bytes, NoMemory};
 use plan_items::Items;
-use schedule_text::{Schedule, WorldEvent};
-use std::alloc::{AllocError, Global};
-use world_laws::{Entries, Entry, Lines};
+use run_ledger::count_lines;
+use run_text::{put_ledger, put_lines};
+use service_api::Services;
+use std::alloc::Global;
 
 /// Why a run ended early.
 #[derive(Debug, Clone, Copy, PartialEq, Eq)]
@@ -49,167 +57,155 @@ impl From<NoMemory> for RunFault {
     }
 }
 
-impl From<AllocError> for RunFault {
-    ghost use Rattle.net_world.specs.declared.runs.RunFault.TheVariants.{NoMemory};
-
-    ghost from_gives = { λ _ e. e ≡ NoMemory };
-
-    fn from(_refused: AllocError) -> RunFault {
-        RunFault::NoMemory
-    }
-}
-
-/// The lines of an event with its number.
-fn number_lines(alloc: Global, event: u32, lines: Lines) -> Result<Entries, AllocError>
-    ensures { IfOk result (λ entries. entries ≡ map (spec.entry_at event) lines) }
-{
-    let mut entries = Items::new(alloc);
-    for line in lines.into_vec() {
-        entries.add(Entry { event, line })?;
-    }
-    Ok(entries)
-}
-
-/// Makes an event, keeps its lines, and gives their text.
-#[tactic(auto, unfolding(world_laws::specs::World::entries))]
-fn make_event(
+/// Makes an event, counts its lines, and gives their text.
+fn make_event<S: Services>(
     alloc: Global,
-    world: &mut World,
-    history: &mut Entries,
+    world: &mut World<S>,
+    ledger: &mut Ledger,
+    frames: bool,
     event: &WorldEvent,
 ) -> Result<Bytes, NoMemory>
-    requires sound { IsSound (world_state world.old) }
     requires fits { event_fits event.now }
-    requires few { (world_state world.old).made < 2 ^ 32 - 2 }
-    ensures text { IfOk result (λ text. text ≡ entries_text (spec.entries (world_state world.old) event.now)) }
-    ensures after { OnOk result (IsAfterEvent (world_state world.old) history.old event.now (world_state world.new) history.new) }
-    ensures sound { OnOk result (IsSound (world_state world.new)) }
-    ensures made { OnOk result ((world_state world.new).made ≡ (world_state world.old).made + 1) }
+    requires few { world.old.made < 2 ^ 32 - 2 }
+    requires counts { IsCountable S.stands world.old event.now ledger.old }
+    ensures text { (w : WorldState) → WorldStands S.stands world.old w → IfOk result (λ text. text ≡ entries_text frames (spec.entries w event.now)) }
+    ensures world { (w : WorldState) → WorldStands S.stands world.old w → OnOk result (WorldStands S.stands world.new (spec.happens w event.now).world) }
+    ensures ledger { (w : WorldState) (h : List EntryOf) → WorldStands S.stands world.old w → Stands h ledger.old → OnOk result (Stands (h ++ spec.entries w event.now) ledger.new) }
+    ensures made { OnOk result (world.new.made ≡ world.old.made + 1) }
 {
     let number = world.made() + 1;
     let lines = world.step(alloc, event)?;
-    let entries = number_lines(alloc, number, lines)?;
+    count_lines(ledger, lines.as_slice())?;
     let mut text = Bytes::new(alloc);
-    put_entries(alloc, &mut text, entries.as_slice())?;
-    history.append(entries)?;
+    put_lines(alloc, &mut text, frames, number, lines.as_slice())?;
     Ok(text)
 }
 
-/// Makes an event and writes its lines.
-fn run_event<K: Sink>(
+/// Makes an event, counts its lines and writes them.
+fn run_event<S: Services, K: Sink>(
     alloc: Global,
-    world: &mut World,
-    history: &mut Entries,
+    world: &mut World<S>,
+    ledger: &mut Ledger,
+    frames: bool,
     event: &WorldEvent,
     out: &mut K,
 ) -> Result<(), RunFault>
-    requires sound { IsSound (world_state world.old) }
     requires fits { event_fits event.now }
-    requires few { (world_state world.old).made < 2 ^ 32 - 2 }
-    ensures whole { IsTrue K.tells → OnOk result (K.taken out.new ≡ K.taken out.old ++ entries_text (spec.entries (world_state world.old) event.now)) }
-    ensures front { IsTrue K.tells → AppendsFront (K.taken out.old) (K.taken out.new) (entries_text (spec.entries (world_state world.old) event.now)) }
+    requires few { world.old.made < 2 ^ 32 - 2 }
+    requires counts { IsCountable S.stands world.old event.now ledger.old }
+    ensures whole { (w : WorldState) → WorldStands S.stands world.old w → IsTrue K.tells → OnOk result (K.taken out.new ≡ K.taken out.old ++ entries_text frames (spec.entries w event.now)) }
+    ensures front { (w : WorldState) → WorldStands S.stands world.old w → IsTrue K.tells → AppendsFront (K.taken out.old) (K.taken out.new) (entries_text frames (spec.entries w event.now)) }
     ensures write { IsErrOf result RunFault.WriteFault → Rose (K.faults out.old) (K.faults out.new) }
     ensures later { K.faults out.old ≤ K.faults out.new }
-    ensures after { OnOk result (IsAfterEvent (world_state world.old) history.old event.now (world_state world.new) history.new) }
-    ensures sound { OnOk result (IsSound (world_state world.new)) }
-    ensures made { OnOk result ((world_state world.new).made ≡ (world_state world.old).made + 1) }
+    ensures world { (w : WorldState) → WorldStands S.stands world.old w → OnOk result (WorldStands S.stands world.new (spec.happens w event.now).world) }
+    ensures ledger { (w : WorldState) (h : List EntryOf) → WorldStands S.stands world.old w → Stands h ledger.old → OnOk result (Stands (h ++ spec.entries w event.now) ledger.new) }
+    ensures made { OnOk result (world.new.made ≡ world.old.made + 1) }
 {
-    let text = make_event(alloc, world, history, event)?;
+    let text = make_event(alloc, world, ledger, frames, event)?;
     put_all(out, text.as_slice())?;
     Ok(())
 }
 
-/// Makes events in order and writes their lines.
-fn run_events<K: Sink>(
+/// Makes the events of a schedule in order, counts their lines and writes them. Conditions: nothing has happened in
+/// the network, and nothing was counted.
+fn run_events<S: Services, K: Sink>(
     alloc: Global,
-    world: &mut World,
-    history: &mut Entries,
-    events: &[WorldEvent],
+    schedule: &Schedule,
+    world: &mut World<S>,
+    ledger: &mut Ledger,
     out: &mut K,
 ) -> Result<(), RunFault>
-    requires sound { IsSound (world_state world.old) }
-    requires fits { EventsFit events.now }
-    requires few { (world_state world.old).made + length events.now < 2 ^ 32 - 2 }
-    requires empty { history.old ≡ [] }
-    ensures whole { IsTrue K.tells → OnOk result (K.taken out.new ≡ K.taken out.old ++ entries_text (spec.history_of events.now (world_state world.old))) }
-    ensures front { IsTrue K.tells → AppendsFront (K.taken out.old) (K.taken out.new) (entries_text (spec.history_of events.now (world_state world.old))) }
+    requires rules { KeepsRules schedule.now }
+    requires opening { WorldStands S.stands world.old (opening schedule.now.topology) }
+    requires empty { Stands [] ledger.old }
+    ensures whole { IsTrue K.tells → OnOk result (K.taken out.new ≡ K.taken out.old ++ entries_text schedule.now.frames (spec.history_of schedule.now.events (opening schedule.now.topology))) }
+    ensures front { IsTrue K.tells → AppendsFront (K.taken out.old) (K.taken out.new) (entries_text schedule.now.frames (spec.history_of schedule.now.events (opening schedule.now.topology))) }
     ensures write { IsErrOf result RunFault.WriteFault → Rose (K.faults out.old) (K.faults out.new) }
     ensures later { K.faults out.old ≤ K.faults out.new }
-    ensures after { OnOk result (IsAfterEvents (world_state world.old) events.now (world_state world.new) history.new) }
+    ensures ledger { OnOk result (Stands (spec.history_of schedule.now.events (opening schedule.now.topology)) ledger.new) }
 {
+    let events = schedule.events.as_slice();
     for event in events {
-        run_event(alloc, world, history, event, out)?;
+        run_event(alloc, world, ledger, schedule.frames, event, out)?;
     }
     Ok(())
 }
 
 /// The text of a ledger.
-fn ledger_bytes(alloc: Global, history: &[Entry], world: &World) -> Result<Bytes, NoMemory>
-    requires law { (f : FamilyOf) → Balanced f history.now (world_state world.now) }
-    requires small { (f : FamilyOf) → granted f history.now ≤ 65535 }
-    ensures { IfOk result (λ text. text ≡ ledger_text history.now (world_state world.now)) }
+fn ledger_bytes(alloc: Global, ledger: &Ledger) -> Result<Bytes, NoMemory>
+    ensures { (h : List EntryOf) (w : WorldState) → Stands h ledger.now → ((f : FamilyOf) → Balanced f h w) → IfOk result (λ text. text ≡ ledger_text h w) }
 {
     let mut text = Bytes::new(alloc);
-    put_ledger(alloc, &mut text, history, world)?;
+    put_ledger(alloc, &mut text, ledger)?;
     Ok(text)
 }
 
-/// Writes the trace and the ledger of events. Conditions: nothing happened in the network yet, each
-/// family stays in balance, and its injections have at most 65,535.
-fn write_run<K: Sink>(
+/// Writes the trace and the ledger of a schedule's events. Condition: nothing has happened in the network.
+fn write_run<S: Services, K: Sink>(
     alloc: Global,
-    world: &mut World,
-    events: &[WorldEvent],
+    schedule: &Schedule,
+    world: &mut World<S>,
     out: &mut K,
 ) -> Result<(), RunFault>
-    requires sound { IsSound (world_state world.old) }
-    requires made { (world_state world.old).made ≡ 0 }
-    requires fits { EventsFit events.now }
-    requires few { length events.now ≤ 50000 }
-    requires law { (f : FamilyOf) → Balanced f (spec.history_of events.now (world_state world.old)) (spec.world_after events.now (world_state world.old)) }
-    requires small { (f : FamilyOf) → granted f (spec.history_of events.now (world_state world.old)) ≤ 65535 }
-    ensures whole { IsTrue K.tells → OnOk result (K.taken out.new ≡ K.taken out.old ++ run_text events.now (world_state world.old)) }
-    ensures front { IsTrue K.tells → AppendsFront (K.taken out.old) (K.taken out.new) (run_text events.now (world_state world.old)) }
+    requires rules { KeepsRules schedule.now }
+    requires opening { WorldStands S.stands world.old (opening schedule.now.topology) }
+    ensures whole { IsTrue K.tells → OnOk result (K.taken out.new ≡ K.taken out.old ++ run_text schedule.now.frames schedule.now.events (opening schedule.now.topology)) }
+    ensures front { IsTrue K.tells → AppendsFront (K.taken out.old) (K.taken out.new) (run_text schedule.now.frames schedule.now.events (opening schedule.now.topology)) }
     ensures write { IsErrOf result RunFault.WriteFault → Rose (K.faults out.old) (K.faults out.new) }
     ensures later { K.faults out.old ≤ K.faults out.new }
 {
-    let mut history = Items::new(alloc);
+    let mut ledger = Ledger::new(alloc)?;
     put_all(out, b"planet trace 1\n")?;
-    run_events(alloc, world, &mut history, events, out)?;
-    let text = ledger_bytes(alloc, history.as_slice(), world)?;
+    run_events(alloc, schedule, world, &mut ledger, out)?;
+    let text = ledger_bytes(alloc, &ledger)?;
     put_all(out, text.as_slice())?;
     Ok(())
 }
 
 /// Runs a schedule and writes its trace and its ledger.
-fn run_schedule<K: Sink>(alloc: Global, schedule: &Schedule, out: &mut K) -> Result<(), RunFault>
-    requires hosts { HostsDiffer schedule.now.topology.hosts }
-    requires few { length schedule.now.events ≤ 50000 }
-    requires fits { EventsFit schedule.now.events }
-    ensures whole { IsTrue K.tells → OnOk result (K.taken out.new ≡ K.taken out.old ++ run_text schedule.now.events (spec.opening schedule.now.topology schedule.now.frames)) }
-    ensures front { IsTrue K.tells → AppendsFront (K.taken out.old) (K.taken out.new) (run_text schedule.now.events (spec.opening schedule.now.topology schedule.now.frames)) }
+fn run_schedule<S: Services + Drop, K: Sink>(
+    alloc: Global,
+    schedule: &Schedule,
+    services: Items<S>,
+    out: &mut K,
+) -> Result<(), RunFault>
+    requires rules { KeepsRules schedule.now }
+    requires services { map S.stands services ≡ map spec.opening_services schedule.now.topology.hosts }
+    ensures whole { IsTrue K.tells → OnOk result (K.taken out.new ≡ K.taken out.old ++ run_text schedule.now.frames schedule.now.events (opening schedule.now.topology)) }
+    ensures front { IsTrue K.tells → AppendsFront (K.taken out.old) (K.taken out.new) (run_text schedule.now.frames schedule.now.events (opening schedule.now.topology)) }
     ensures write { IsErrOf result RunFault.WriteFault → Rose (K.faults out.old) (K.faults out.new) }
     ensures later { K.faults out.old ≤ K.faults out.new }
 {
-    let mut world = World::new(alloc, &schedule.topology, schedule.frames)?;
-    write_run(alloc, &mut world, schedule.events.as_slice(), out)?;
+    let mut world = World::new(alloc, &schedule.topology, services)?;
+    write_run(alloc, schedule, &mut world, out)?;
     Ok(())
 }
 
-/// Runs a schedule and writes its trace and its ledger to `out`. Conditions: the topology names no
-/// host twice, there are at most 50,000 events, and an injected bound is at most 65,535.
-pub fn run<K: Sink>(alloc: Global, schedule: &Schedule, out: &mut K) -> Result<(), RunFault>
-    requires hosts { HostsDiffer schedule.now.topology.hosts }
-    requires few { length schedule.now.events ≤ 50000 }
-    requires fits { EventsFit schedule.now.events }
-    ensures whole { IsTrue K.tells → OnOk result (K.taken out.new ≡ K.taken out.old ++ run_text schedule.now.events (spec.opening schedule.now.topology schedule.now.frames)) }
-    ensures front { IsTrue K.tells → AppendsFront (K.taken out.old) (K.taken out.new) (run_text schedule.now.events (spec.opening schedule.now.topology schedule.now.frames)) }
+/// Runs a schedule and writes its trace and its ledger to `out`; no event's lines are kept. After each prefix of its
+/// events: each family is in balance, is bounded and granted; each frame's number went once, and each frame on the
+/// wire leads over its link; the network keeps what every network keeps; and the visits of the event behind it are
+/// never without a case, and would end by themselves; and where no bytes came from outside, the law of routes holds. `services`: one for each host, in the order of hosts.
+/// Condition: the schedule keeps its rules.
+pub fn run<S: Services + Drop, K: Sink>(
+    alloc: Global,
+    schedule: &Schedule,
+    services: Items<S>,
+    out: &mut K,
+) -> Result<(), RunFault>
+    requires rules { KeepsRules schedule.now }
+    requires services { map S.stands services ≡ map spec.opening_services schedule.now.topology.hosts }
+    ensures whole { IsTrue K.tells → OnOk result (K.taken out.new ≡ K.taken out.old ++ run_text schedule.now.frames schedule.now.events (opening schedule.now.topology)) }
+    ensures front { IsTrue K.tells → AppendsFront (K.taken out.old) (K.taken out.new) (run_text schedule.now.frames schedule.now.events (opening schedule.now.topology)) }
     ensures write { IsErrOf result RunFault.WriteFault → Rose (K.faults out.old) (K.faults out.new) }
     ensures later { K.faults out.old ≤ K.faults out.new }
-    ensures law { (k : ℕ) (f : FamilyOf) → Balanced f (spec.history_of (take k schedule.now.events) (spec.opening schedule.now.topology schedule.now.frames)) (spec.world_after (take k schedule.now.events) (spec.opening schedule.now.topology schedule.now.frames)) }
-    ensures bounded { (k : ℕ) (f : FamilyOf) → IsBounded f (spec.history_of (take k schedule.now.events) (spec.opening schedule.now.topology schedule.now.frames)) (spec.world_after (take k schedule.now.events) (spec.opening schedule.now.topology schedule.now.frames)) }
-    ensures granted { (k : ℕ) (f : FamilyOf) → IsGranted f (spec.history_of (take k schedule.now.events) (spec.opening schedule.now.topology schedule.now.frames)) (spec.world_after (take k schedule.now.events) (spec.opening schedule.now.topology schedule.now.frames)) }
-    ensures sound { (k : ℕ) → IsSound (spec.world_after (take k schedule.now.events) (spec.opening schedule.now.topology schedule.now.frames)) }
+    ensures law { (k : ℕ) (f : FamilyOf) → Balanced f (spec.history_of (take k schedule.now.events) (opening schedule.now.topology)) (spec.world_after (take k schedule.now.events) (opening schedule.now.topology)) }
+    ensures bounded { (k : ℕ) (f : FamilyOf) → IsBounded f (spec.history_of (take k schedule.now.events) (opening schedule.now.topology)) (spec.world_after (take k schedule.now.events) (opening schedule.now.topology)) }
+    ensures granted { (k : ℕ) (f : FamilyOf) → IsGranted f (spec.history_of (take k schedule.now.events) (opening schedule.now.topology)) (spec.world_after (take k schedule.now.events) (opening schedule.now.topology)) }
+    ensures once { (k : ℕ) (n : ℕ) → IsOnce n (spec.history_of (take k schedule.now.events) (opening schedule.now.topology)) (spec.world_after (take k schedule.now.events) (opening schedule.now.topology)) }
+    ensures leads { (k : ℕ) → WireLeads schedule.now.topology.links (spec.world_after (take k schedule.now.events) (opening schedule.now.topology)).wire }
+    ensures sound { (k : ℕ) → IsSound (spec.world_after (take k schedule.now.events) (opening schedule.now.topology)) }
+    ensures visits { (k : ℕ) → All EndsWell (visits_after k schedule.now.events (opening schedule.now.topology)) }
+    ensures routes { (k : ℕ) → All NotRaw (take k schedule.now.events) → RunKeepsRoutes (take k schedule.now.events) (opening schedule.now.topology) }
 {
-    run_schedule(alloc, schedule, out)
+    run_schedule(alloc, schedule, services, out)
 }

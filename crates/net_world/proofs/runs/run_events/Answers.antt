@@ -1,49 +1,81 @@
-use Rattle.std.proofs.Common.{◌≡◌, ◌+◌, ◌<◌, ◌++◌, [], get_or, take, refl, sym, ap, ◌∙◌, arith}
+use Rattle.std.proofs.Common.{◌+◌, ◌<◌, ◌≤◌, ◌++◌, get_or, length, sym, ap, ◌∙◌, subst, arith}
 use Rattle.std.proofs.lemmas.List.{append-nil}
 use Rattle.std.proofs.lemmas.List.Elements.{All-get_or}
-use Rattle.world_laws.specs.Sound.{event_fits}
-use Rattle.world_laws.specs.Texts.{entries_text}
-use Rattle.net_world.specs.Stands.{world_state}
-use Rattle.net_world.proofs.RunLaws.{events_none, text_none, events_more, written_more, front_event, events_all, text_all, front_all}
+use Rattle.world_model.specs.World.{opening}
+use Rattle.world_model.specs.Sound.{event_fits}
+use Rattle.net_world.proofs.RunLaws.{stands_none, counts_none, text_none, opening_made, events_fit, countable, stands_next, counts_next, written_next, front_event, text_all, counts_all, front_all}
 use Rattle.net_world.proofs.runs.run_events.Goals as goal
 
 pub loop-event-init : goal.loop-event-init
-loop-event-init g c = record {
-  after = events_none (world_state c.args.world.now) c.args.events.now c.args.history.now c.requires.empty;
-  sound = c.requires.sound;
-  made = omega arith;
-  later = omega arith;
-  written = λ t. sym (append-nil (g.K.Sink.taken c.args.out.now)) ∙ ap (λ x. g.K.Sink.taken c.args.out.now ++ x) (sym (text_none (world_state c.args.world.now) c.args.events.now));
-}
+loop-event-init g c =
+    let s = c.args.schedule.now in
+    record {
+      world = stands_none g.S.Services.stands c.args.world.now (opening s.topology) s.events c.requires.opening;
+      ledger = counts_none c.args.ledger.now (opening s.topology) s.events c.requires.empty;
+      made = c.requires.opening.made ∙ opening_made s.topology;
+      later = omega arith;
+      written = λ t. sym (append-nil (g.K.Sink.taken c.args.out.now)) ∙ ap (λ x. g.K.Sink.taken c.args.out.now ++ x) (sym (text_none s.frames (opening s.topology) s.events));
+    }
 
 pub run_event-requires-clause-fits : goal.run_event-requires-clause-fits
-run_event-requires-clause-fits g c = let h = All-get_or event_fits c.args.events.now c.loop-event.event-index c.event-item.result c.loop-event-test.true c.requires.fits in rw (sym c.event-item.is) at h
+run_event-requires-clause-fits g c =
+    let s = c.args.schedule.now in
+    let within = subst (λ es. c.loop-event.event-index < length es) c.as_slice-events.ensures c.loop-event-test.true in
+    let is = c.event-item.is ∙ ap (λ es. get_or es c.loop-event.event-index c.event-item.result) c.as_slice-events.ensures in
+    subst event_fits (sym is) (All-get_or event_fits s.events c.loop-event.event-index c.event-item.result within (events_fit s c.requires.rules))
+
+pub run_event-requires-clause-few : goal.run_event-requires-clause-few
+run_event-requires-clause-few g c =
+    let within = subst (λ es. c.loop-event.event-index < length es) c.as_slice-events.ensures c.loop-event-test.true in
+    omega (arith, within, c.loop-event.invariant.made, c.requires.rules.few)
+
+pub run_event-requires-clause-counts : goal.run_event-requires-clause-counts
+run_event-requires-clause-counts g c =
+    let s = c.args.schedule.now in
+    let within = subst (λ es. c.loop-event.event-index < length es) c.as_slice-events.ensures c.loop-event-test.true in
+    let is = c.event-item.is ∙ ap (λ es. get_or es c.loop-event.event-index c.event-item.result) c.as_slice-events.ensures in
+    countable g.S.Services.stands c.loop-event.world s c.loop-event.event-index c.event-item.result c.loop-event.ledger within is c.requires.rules c.loop-event.invariant.world c.loop-event.invariant.ledger
 
 pub loop-event-preserved : goal.loop-event-preserved
 loop-event-preserved g c =
-    let w = world_state c.args.world.now in
+    let s = c.args.schedule.now in
+    let w = opening s.topology in
     let i = c.loop-event.invariant in
+    let within = subst (λ es. c.loop-event.event-index < length es) c.as_slice-events.ensures c.loop-event-test.true in
+    let is = c.event-item.is ∙ ap (λ es. get_or es c.loop-event.event-index c.event-item.result) c.as_slice-events.ensures in
+    let done = c.in_ok-run_event.ensures in
     record {
-      after = events_more w c.args.events.now c.loop-event.event-index c.event-item.result c.loop-event-test.true c.event-item.is (world_state c.loop-event.world) (world_state c.run_event.new.world)
-          c.loop-event.history c.run_event.new.history i.after c.in_ok-run_event.ensures.after;
-      sound = c.in_ok-run_event.ensures.sound;
-      made = omega (arith, i.made, c.in_ok-run_event.ensures.made);
+      world = stands_next w s.events c.loop-event.event-index c.event-item.result within is g.S.Services.stands c.run_event.new.world (done.world _ i.world);
+      ledger = counts_next w s.events c.loop-event.event-index c.event-item.result within is c.run_event.new.ledger (done.ledger _ _ i.world i.ledger);
+      made = done.made ∙ ap (λ n. n + 1) i.made;
       later = omega (arith, i.later, c.run_event.ensures.later);
-      written = λ t. written_more w c.args.events.now c.loop-event.event-index c.event-item.result c.loop-event-test.true c.event-item.is (world_state c.loop-event.world)
-          (g.K.Sink.taken c.args.out.now) (g.K.Sink.taken c.loop-event.out) (g.K.Sink.taken c.run_event.new.out) i.after.world (i.written t) (c.in_ok-run_event.ensures.whole t);
+      written = λ t. written_next w s.events c.loop-event.event-index c.event-item.result within is s.frames (g.K.Sink.taken c.args.out.now) (g.K.Sink.taken c.loop-event.out) (g.K.Sink.taken c.run_event.new.out) (i.written t) (done.whole _ i.world t);
     }
 
 pub returns-in_err-run_event-clause-front : goal.returns-in_err-run_event-clause-front
-returns-in_err-run_event-clause-front g c = λ t. let i = c.loop-event.invariant in
-    front_event (world_state c.args.world.now) c.args.events.now c.loop-event.event-index c.event-item.result c.loop-event-test.true c.event-item.is (world_state c.loop-event.world)
-    (g.K.Sink.taken c.args.out.now) (g.K.Sink.taken c.loop-event.out) (g.K.Sink.taken c.run_event.new.out) i.after.world (i.written t) (c.run_event.ensures.front t)
+returns-in_err-run_event-clause-front g c = λ t.
+    let s = c.args.schedule.now in
+    let i = c.loop-event.invariant in
+    let within = subst (λ es. c.loop-event.event-index < length es) c.as_slice-events.ensures c.loop-event-test.true in
+    let is = c.event-item.is ∙ ap (λ es. get_or es c.loop-event.event-index c.event-item.result) c.as_slice-events.ensures in
+    front_event (opening s.topology) s.events c.loop-event.event-index c.event-item.result within is s.frames (g.K.Sink.taken c.args.out.now) (g.K.Sink.taken c.loop-event.out) (g.K.Sink.taken c.run_event.new.out) (i.written t)
+    (c.run_event.ensures.front _ i.world t)
 
 pub returns-clause-whole : goal.returns-clause-whole
-returns-clause-whole g c = λ t. text_all (world_state c.args.world.now) c.args.events.now c.loop-event.event-index (g.K.Sink.taken c.args.out.now) (g.K.Sink.taken c.loop-event.out) c.loop-event-test.false (c.loop-event.invariant.written t)
+returns-clause-whole g c = λ t.
+    let s = c.args.schedule.now in
+    let all = subst (λ es. length es ≤ c.loop-event.event-index) c.as_slice-events.ensures c.loop-event-test.false in
+    text_all s.frames (opening s.topology) s.events c.loop-event.event-index (g.K.Sink.taken c.args.out.now) (g.K.Sink.taken c.loop-event.out) all (c.loop-event.invariant.written t)
 
 pub returns-clause-front : goal.returns-clause-front
-returns-clause-front g c = λ t. front_all (g.K.Sink.taken c.args.out.now) (g.K.Sink.taken c.loop-event.out) _
-    (text_all (world_state c.args.world.now) c.args.events.now c.loop-event.event-index (g.K.Sink.taken c.args.out.now) (g.K.Sink.taken c.loop-event.out) c.loop-event-test.false (c.loop-event.invariant.written t))
+returns-clause-front g c = λ t.
+    let s = c.args.schedule.now in
+    let all = subst (λ es. length es ≤ c.loop-event.event-index) c.as_slice-events.ensures c.loop-event-test.false in
+    front_all (g.K.Sink.taken c.args.out.now) (g.K.Sink.taken c.loop-event.out) _
+    (text_all s.frames (opening s.topology) s.events c.loop-event.event-index (g.K.Sink.taken c.args.out.now) (g.K.Sink.taken c.loop-event.out) all (c.loop-event.invariant.written t))
 
-pub returns-clause-after : goal.returns-clause-after
-returns-clause-after g c = events_all (world_state c.args.world.now) c.args.events.now c.loop-event.event-index (world_state c.loop-event.world) c.loop-event.history c.loop-event-test.false c.loop-event.invariant.after
+pub returns-clause-ledger : goal.returns-clause-ledger
+returns-clause-ledger g c =
+    let s = c.args.schedule.now in
+    let all = subst (λ es. length es ≤ c.loop-event.event-index) c.as_slice-events.ensures c.loop-event-test.false in
+    counts_all c.loop-event.ledger (opening s.topology) s.events c.loop-event.event-index all c.loop-event.invariant.ledger

@@ -1,0 +1,165 @@
+-- Nodes and their states, place by place; the lines and neighbours of one more.
+use Rattle.std.proofs.Common.{get_or, ◌≡◌, ℕ, zero, suc, ◌+◌, ◌<◌, cond, List, Vec, [], ◌∷◌, ◌++◌, length, refl, sym, ap, ◌∙◌, arith, subst, append_assoc}
+use Rattle.std.proofs.lemmas.List.{append-nil, with_items_is}
+use Rattle.std.specs.Vec.{with_items}
+use Rattle.std.specs.Prelude.{slice_get, slice_set, Option, Some, None, Result, Ok, Err, IfOk}
+use Rattle.std.specs.List.{position_from}
+use Rattle.std.proofs.lemmas.Iterator.Adapters.{position_from-zero}
+use Rattle.std.proofs.lemmas.Option.{slice_get-get_or}
+use Rattle.plan_base.specs.declared.ids.Host.{Host}
+use Rattle.plan_base.specs.declared.ids.Dev.{Dev}
+use Rattle.plan_base.specs.declared.memory.NoMemory.{NoMemory}
+use Rattle.packet_frame.specs.declared.frame.PlainFrame.{PlainFrame}
+use Rattle.packet_frame.specs.Typed.{Accepts}
+use Rattle.frame_text.proofs.OneAnswer.{accepts_is}
+use Rattle.service_api.specs.Services.{Standing}
+use Rattle.node_model.specs.declared.acts.Act.{Act}
+use Rattle.node_model.specs.declared.acts.Acts.{Acts}
+use Rattle.node_model.specs.State.{NodeState, is_host}
+use Rattle.node_model.specs.Node.{Step, frame_step, arrived, arrive_step, take_from, take_step}
+use Rattle.node_core.specs.declared.node.Node.{Node}
+use Rattle.node_core.specs.Stands.{NodeStands, IsStep}
+use Rattle.world_model.specs.declared.lines.Line.{Line}
+use Rattle.world_model.specs.declared.lines.Line.TheVariants.{At}
+use Rattle.world_model.specs.World.{Cables, place_of, lines_at, peer_of, neighbour_at, neighbours_to}
+use Rattle.net_world.specs.Stands.{AllStand, StepsAt}
+
+-- ---- lines and neighbours
+
+pub lines_none : (before : List Line) (h : Host) → before ≡ before ++ lines_at h []
+unfolding lines_at
+lines_none before h = sym (append-nil before)
+
+acts_more : (h : Host) (acts : List Act) (act : Act) → lines_at h (acts ++ act ∷ []) ≡ lines_at h acts ++ At h act ∷ []
+unfolding lines_at
+acts_more h [] act = refl
+acts_more h (a ∷ acts) act = ap (λ ls. At h a ∷ ls) (acts_more h acts act)
+
+pub lines_more : (before : List Line) (h : Host) (acts : List Act) (act : Act) → (before ++ lines_at h acts) ++ At h act ∷ [] ≡ before ++ lines_at h (acts ++ act ∷ [])
+lines_more before h acts act = append_assoc before (lines_at h acts) (At h act ∷ []) ∙ ap (λ x. before ++ x) (sym (acts_more h acts act))
+
+pub neighbours_none : (links : Cables) (h : Host) → neighbours_to links h 0 ≡ []
+unfolding neighbours_to
+neighbours_none links h = refl
+
+pub neighbours_more : (links : Cables) (h : Host) (n : ℕ) → neighbours_to links h (n + 1) ≡ neighbours_to links h n ++ neighbour_at (record { 0 = n + 1 }) (peer_of links h (record { 0 = n + 1 }))
+unfolding neighbours_to
+neighbours_more links h n = let e : n + 1 ≡ suc n = omega arith in ap (λ m. neighbours_to links h m) e
+
+-- ---- lists that don't change
+
+pub set_same_item : {X : Type 0} (xs : List X) (i : ℕ) (x : X) → slice_get xs i ≡ Some x → slice_set xs i x ≡ xs
+set_same_item [] i x e = refl
+set_same_item (y ∷ xs) zero x e = let h : y ≡ x = cc in ap (λ z. z ∷ xs) (sym h)
+set_same_item (y ∷ xs) (suc i) x e = ap (λ zs. y ∷ zs) (set_same_item xs i x e)
+
+take_from_nothing : (node : NodeState) (d : Dev) (o : Option (List PlainFrame)) → (take_from node d o).frame ≡ None → (take_from node d o).node ≡ node
+take_from_nothing node d None e = refl
+take_from_nothing node d (Some []) e = refl
+take_from_nothing node d (Some (p ∷ queue)) e = cc
+
+take_nothing : (node : NodeState) (d : Dev) → (take_step node d).frame ≡ None → (take_step node d).node ≡ node
+unfolding take_step
+take_nothing node d e = take_from_nothing node d (slice_get node.queues d.0) e
+
+-- a frame that arrives by its bytes
+by_bytes : (bytes : List ℕ) (x : PlainFrame) (node : NodeState) (d : Dev) → Accepts bytes x → arrive_step node d bytes ≡ frame_step node d x
+unfolding arrive_step
+by_bytes bytes x node d h = ap (arrived node d) (accepts_is bytes x h)
+
+pub if_ok : {T E : Type 0} (P Q : T → Type 0) (r : Result T E) → ((x : T) → P x → Q x) → IfOk r P → IfOk r Q
+if_ok P Q (Ok x) f h = f x h
+if_ok P Q (Err e) f h = h
+
+module _ {S : Type 0} (stands : S → Standing) where
+  -- the state at a place of a node
+  record Found (n : Node S) (states : List NodeState) (at : ℕ) : Type 0 where
+    state : NodeState
+    there : slice_get states at ≡ Some state
+    is : NodeStands stands n state
+
+  found : (nodes : List (Node S)) (states : List NodeState) (at : ℕ) (n : Node S) → AllStand stands nodes states → slice_get nodes at ≡ Some n → Found n states at
+  found [] [] at n h e = cc
+  found [] (s ∷ ss) at n h e = absurd h
+  found (m ∷ ns) [] at n h e = absurd h
+  found (m ∷ ns) (s ∷ ss) zero n h e = let same : m ≡ n = cc in record { state = s; there = refl; is = subst (λ x. NodeStands stands x s) same h.0 }
+  found (m ∷ ns) (s ∷ ss) (suc at) n h e = let f = found ns ss at n h.1 e in record { state = f.state; there = f.there; is = f.is }
+
+  with_one : (nodes : List (Node S)) (states : List NodeState) (at : ℕ) (n : Node S) (s : NodeState) → AllStand stands nodes states → NodeStands stands n s → AllStand stands (slice_set nodes at n) (slice_set states at s)
+  with_one [] [] at n s h one = h
+  with_one [] (t ∷ ss) at n s h one = absurd h
+  with_one (m ∷ ns) [] at n s h one = absurd h
+  with_one (m ∷ ns) (t ∷ ss) zero n s h one = (one, h.1)
+  with_one (m ∷ ns) (t ∷ ss) (suc at) n s h one = (h.0, with_one ns ss at n s h.1 one)
+
+  pub one_more : (nodes : List (Node S)) (states : List NodeState) (n : Node S) (s : NodeState) → AllStand stands nodes states → NodeStands stands n s → AllStand stands (nodes ++ n ∷ []) (states ++ s ∷ [])
+  one_more [] [] n s h one = (one, tt)
+  one_more [] (t ∷ ss) n s h one = absurd h
+  one_more (m ∷ ns) [] n s h one = absurd h
+  one_more (m ∷ ns) (t ∷ ss) n s h one = (h.0, one_more ns ss n s h.1 one)
+
+  stand_length : (nodes : List (Node S)) (states : List NodeState) → AllStand stands nodes states → length nodes ≡ length states
+  stand_length [] [] h = refl
+  stand_length [] (t ∷ ss) h = absurd h
+  stand_length (m ∷ ns) [] h = absurd h
+  stand_length (m ∷ ns) (t ∷ ss) h = ap suc (stand_length ns ss h.1)
+
+  -- nodes that were lent and stand for as many states are the nodes afterwards
+  pub given_back : {Z : Type 0} (v : Vec (Node S) Z) (new : List (Node S)) (old states : List NodeState) → AllStand stands v.items old → AllStand stands new states → length states ≡ length old → (with_items v new).items ≡ new
+  given_back v new old states h k e = with_items_is v new (stand_length new states k ∙ e ∙ sym (stand_length v.items old h) ∙ sym v.ok.0)
+
+  -- ---- the place of a host
+
+  from_place : (h : Host) (i : ℕ) (nodes : List (Node S)) (states : List NodeState) → AllStand stands nodes states → position_from (λ n. is_host n.here h) i nodes ≡ position_from (λ (s : NodeState). is_host s.here h) i states
+  from_place h i [] [] a = refl
+  from_place h i [] (s ∷ ss) a = absurd a
+  from_place h i (n ∷ ns) [] a = absurd a
+  from_place h i (n ∷ ns) (s ∷ ss) a =
+      ap (λ (g : Host). cond (is_host g h) (Some i) (position_from (λ n. is_host n.here h) (i + 1) ns)) a.0.here
+      ∙ ap (λ o. cond (is_host s.here h) (Some i) o) (from_place h (i + 1) ns ss a.1)
+
+  pub place_is : (h : Host) (nodes : List (Node S)) (states : List NodeState) → AllStand stands nodes states → position_from (λ n. is_host n.here h) 0 nodes ≡ place_of states h
+  place_is h nodes states a = from_place h 0 nodes states a ∙ sym (position_from-zero (λ (s : NodeState). is_host s.here h) states)
+
+  -- ---- steps
+
+  steps_at : (step : NodeState → Step) (nodes : List (Node S)) (states : List NodeState) (at : ℕ) (acts : Acts) (after : Node S) (before : Node S) → AllStand stands nodes states → (f : Found before states at)
+      → IsStep stands (step f.state) acts after → StepsAt stands step states at acts (slice_set nodes at after)
+  steps_at step nodes states at acts after before a f done = record {
+    node = f.state;
+    there = f.there;
+    list = done.list;
+    frame = done.frame;
+    after = with_one nodes states at after (step f.state).node a done.node;
+  }
+
+  -- a step of the node at a place, where it finds memory
+  pub stepped_at : (step : NodeState → Step) (nodes : List (Node S)) (at : ℕ) (d after : Node S) (r : Result Acts NoMemory) → at < length nodes
+      → ((s : NodeState) → NodeStands stands (get_or nodes at d) s → IfOk r (λ acts. IsStep stands (step s) acts after))
+      → (states : List NodeState) → AllStand stands nodes states → IfOk r (λ acts. StepsAt stands step states at acts (slice_set nodes at after))
+  stepped_at step nodes at d after r h each states a =
+      let f = found nodes states at (get_or nodes at d) a (slice_get-get_or nodes at d h) in
+      if_ok (λ acts. IsStep stands (step f.state) acts after) (λ acts. StepsAt stands step states at acts (slice_set nodes at after)) r
+      (λ acts done. steps_at step nodes states at acts after (get_or nodes at d) a f done) (each f.state f.is)
+
+  nothing_taken : (d : Dev) (states : List NodeState) (at : ℕ) (acts : Acts) (new : List (Node S)) → StepsAt stands (λ node. take_step node d) states at acts new → acts.frame ≡ None → AllStand stands new states
+  nothing_taken d states at acts new s e =
+      subst (AllStand stands new) (ap (slice_set states at) (take_nothing s.node d (sym s.frame ∙ e)) ∙ set_same_item states at s.node s.there) s.after
+
+  -- a take that finds nothing leaves all nodes as they were
+  pub unchanged_at : (dev : Dev) (new : List (Node S)) (at : ℕ) (r : Result Acts NoMemory) (states : List NodeState)
+      → IfOk r (λ acts. StepsAt stands (λ node. take_step node dev) states at acts new) → IfOk r (λ acts. acts.frame ≡ None → AllStand stands new states)
+  unchanged_at dev new at r states h = if_ok (λ acts. StepsAt stands (λ node. take_step node dev) states at acts new) (λ acts. acts.frame ≡ None → AllStand stands new states) r
+      (λ acts s e. nothing_taken dev states at acts new s e) h
+
+  -- what arrives as the bytes of a frame arrives as that frame
+  pub handed_at : (dev : Dev) (bytes : List ℕ) (x : PlainFrame) (new : List (Node S)) (at : ℕ) (r : Result Acts NoMemory) (states : List NodeState) → Accepts bytes x
+      → IfOk r (λ acts. StepsAt stands (λ node. arrive_step node dev bytes) states at acts new) → IfOk r (λ acts. StepsAt stands (λ node. frame_step node dev x) states at acts new)
+  handed_at dev bytes x new at r states h done = if_ok (λ acts. StepsAt stands (λ node. arrive_step node dev bytes) states at acts new) (λ acts. StepsAt stands (λ node. frame_step node dev x) states at acts new) r
+      (λ acts s. record {
+        node = s.node;
+        there = s.there;
+        list = s.list ∙ ap (λ (t : Step). t.acts) (by_bytes bytes x s.node dev h);
+        frame = s.frame ∙ ap (λ (t : Step). t.frame) (by_bytes bytes x s.node dev h);
+        after = subst (AllStand stands new) (ap (λ (t : Step). slice_set states at t.node) (by_bytes bytes x s.node dev h)) s.after;
+      }) done

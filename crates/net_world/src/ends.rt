@@ -1,0 +1,94 @@
+ghost use Rattle.std.specs.Prelude.{◌≡◌, ◌++◌, ◌<◌, length, position, IfOk, IfSome, OnOk};
+ghost use Rattle.world_model.specs.World as spec;
+
+use network_plan::Link;
+use plan_base::{Dev, Host, NoMemory};
+use plan_items::Items;
+use service_api::Neighbours;
+use std::alloc::Global;
+use world_model::{LinkEnd, Wired};
+
+/// The number of devices of a node that links may use.
+const LINK_DEVICES: u32 = 8;
+
+/// Whether this is one end of a link.
+fn has_end(host: Host, dev: Dev, end: Host, at: Dev) -> bool
+    ensures { result ≡ spec.has_end host dev end at }
+{
+    end.0 == host.0 && at.0 == dev.0
+}
+
+/// The place of the first link that is on a device of a host.
+fn link_place(links: &[Link], host: Host, dev: Dev) -> Option<usize>
+    ensures { result ≡ position (spec.is_on host dev) links.now }
+{
+    links.iter().position(|l| (l.0.0 == host.0 && l.1.0 == dev.0)
+        || (l.2.0 == host.0 && l.3.0 == dev.0))
+}
+
+/// The end to which a link leads from a device of a host.
+#[tactic(auto, unfolding(world_model::specs::World::peer_of))]
+fn peer_of(links: &[Link], host: Host, dev: Dev) -> Option<LinkEnd>
+    ensures { result ≡ spec.peer_of links.now host dev }
+{
+    let at = link_place(links, host, dev)?;
+    let link = links.get(at)?;
+    if has_end(host, dev, link.0, link.1) {
+        Some(LinkEnd {
+            host: link.2,
+            dev: link.3,
+        })
+    } else {
+        Some(LinkEnd {
+            host: link.0,
+            dev: link.1,
+        })
+    }
+}
+
+/// The same for every device; device 0 leads to the node itself.
+#[tactic(auto, unfolding(world_model::specs::World::far_end))]
+pub fn far_end(links: &[Link], host: Host, dev: Dev) -> Option<LinkEnd>
+    ensures { result ≡ spec.far_end links.now host dev }
+{
+    if dev.0 == 0 {
+        Some(LinkEnd { host, dev })
+    } else {
+        peer_of(links, host, dev)
+    }
+}
+
+/// Adds the neighbour on a device, where there is one.
+fn add_neighbour(
+    neighbours: &mut Neighbours,
+    links: &[Link],
+    host: Host,
+    dev: Dev,
+) -> Result<(), NoMemory>
+    ensures { OnOk result (neighbours.new ≡ neighbours.old ++ spec.neighbour_at dev (spec.peer_of links.now host dev)) }
+{
+    if let Some(far) = peer_of(links, host, dev) {
+        neighbours.add((far.host, dev))?;
+    }
+    Ok(())
+}
+
+/// The neighbours of a host, by device.
+#[tactic(auto, using(crate::proofs::StandLaws::neighbours_none, crate::proofs::StandLaws::neighbours_more))]
+pub fn neighbours_of(alloc: Global, links: &[Link], host: Host) -> Result<Neighbours, NoMemory>
+    ensures { IfOk result (λ neighbours. neighbours ≡ spec.neighbours_to links.now host 8) }
+{
+    let mut neighbours = Items::new(alloc);
+    for before in 0..LINK_DEVICES {
+        add_neighbour(&mut neighbours, links, host, Dev(before + 1))?;
+    }
+    Ok(neighbours)
+}
+
+/// The place of a frame number on the wire.
+pub fn wire_place(wire: &[Wired], number: u32) -> Option<usize>
+    ensures place { result ≡ spec.wire_place wire.now number }
+    ensures within { IfSome result (λ at. at < length wire.now) }
+{
+    wire.iter().position(|x| x.number == number)
+}

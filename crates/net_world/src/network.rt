@@ -1,0 +1,219 @@
+ghost use Rattle.std.specs.Prelude.{◌≡◌, ◌≤◌, ◌<◌, ◌+◌, ◌-◌, ◌^◌, ◌∷◌, [], map, IfOk, OnErr};
+ghost use Rattle.network_plan.specs.Rules.{KeepsNetwork};
+ghost use Rattle.world_model.specs.World as spec;
+ghost use Rattle.world_model.specs.World.{WorldState};
+ghost use Rattle.wire_bytes.specs.Fields.{IsBytes};
+ghost use Rattle.world_model.specs.Sound.{event_fits};
+ghost use Rattle.world_model.specs.declared.lines.Line.TheVariants as line;
+ghost use Rattle.net_world.specs.Stands.{WorldStands, IsHappened};
+
+use crate::ends::{far_end, wire_place};
+use crate::lines::{forged_lines, no_lines, one_line, with_acts, with_wire};
+use crate::nodes::{arrive_at, hand_to, inject_at, node_place, take_at, tick_at};
+use crate::opening::open_nodes;
+use chunk_types::CheckedChunk;
+use network_plan::{Links, Topology, WorldEvent};
+use node_core::Node;
+use node_model::Acts;
+use plan_base::{Dev, Host, NoMemory};
+use plan_items::Items;
+use service_api::Services;
+use spelled_frame::SpelledFrame;
+use std::alloc::Global;
+use world_model::{Line, Lines, LinkEnd, Wire, Wired};
+
+/// The number of frames that the wire holds.
+const WIRE_ROOM: usize = 4096;
+
+/// The parts of a network: its nodes, its links, the frames on the wire, the number of the next frame and
+/// the number of events so far.
+#[derive(Drop)]
+pub struct Network<S: Services> {
+    nodes: Vec<Node<S>>,
+    links: Links,
+    wire: Wire,
+    next: u32,
+    made: u32,
+}
+
+/// The line of an event that changes nothing.
+fn nothing(alloc: Global) -> Result<Lines, NoMemory>
+    ensures { IfOk result (λ lines. lines ≡ line.Nothing ∷ []) }
+{
+    one_line(alloc, Line::Nothing)
+}
+
+impl<S: Services + Drop> Network<S> {
+    /// The network of a topology, in which nothing has happened. `services`: one for each host, in the
+    /// order of hosts.
+    #[tactic(auto, unfolding(world_model::specs::World::opening))]
+    pub fn open(
+        alloc: Global,
+        topology: &Topology,
+        services: Items<S>,
+    ) -> Result<Network<S>, NoMemory>
+        requires rules { KeepsNetwork topology.now }
+        requires services { map S.stands services ≡ map spec.opening_services topology.now.hosts }
+        ensures stands { IfOk result (λ n. WorldStands S.stands n (spec.opening topology.now)) }
+        ensures next { IfOk result (λ n. n.«next» ≤ n.made + 1) }
+    {
+        let links = Items::from_slice(alloc, topology.links.as_slice())?;
+        let nodes = open_nodes(alloc, topology, services)?;
+        Ok(Network {
+            nodes,
+            links,
+            wire: Items::new(alloc),
+            next: 1,
+            made: 0,
+        })
+    }
+}
+
+impl<S: Services> Network<S> {
+    fn inject(
+        &mut self,
+        alloc: Global,
+        host: Host,
+        chunk: &CheckedChunk,
+        bound: u32,
+    ) -> Result<Lines, NoMemory>
+        requires small { bound ≤ 65535 }
+        ensures ok { (w : WorldState) → WorldStands S.stands self.old w → IfOk result (λ lines. IsHappened S.stands (spec.injects w host chunk.now bound) lines self.new) }
+        ensures next { self.new.next ≡ self.old.next }
+        ensures made { self.new.made ≡ self.old.made }
+    {
+        let Some(at) = node_place(self.nodes.as_slice(), host) else {
+            return nothing(alloc);
+        };
+        let acts = inject_at(alloc, &mut self.nodes, at, chunk, bound)?;
+        with_acts(no_lines(alloc), host, acts.list)
+    }
+
+    fn tick(&mut self, alloc: Global, host: Host) -> Result<Lines, NoMemory>
+        ensures ok { (w : WorldState) → WorldStands S.stands self.old w → IfOk result (λ lines. IsHappened S.stands (spec.ticks w host) lines self.new) }
+        ensures next { self.new.next ≡ self.old.next }
+        ensures made { self.new.made ≡ self.old.made }
+    {
+        let Some(at) = node_place(self.nodes.as_slice(), host) else {
+            return nothing(alloc);
+        };
+        let acts = tick_at(alloc, &mut self.nodes, at)?;
+        with_acts(no_lines(alloc), host, acts.list)
+    }
+
+    fn raw(&mut self, alloc: Global, host: Host, dev: Dev, bytes: &[u8]) -> Result<Lines, NoMemory>
+        requires { IsBytes bytes.now }
+        ensures ok { (w : WorldState) → WorldStands S.stands self.old w → IfOk result (λ lines. IsHappened S.stands (spec.raws w host dev bytes.now) lines self.new) }
+        ensures next { self.new.next ≡ self.old.next }
+        ensures made { self.new.made ≡ self.old.made }
+    {
+        let Some(at) = node_place(self.nodes.as_slice(), host) else {
+            return nothing(alloc);
+        };
+        let before = forged_lines(alloc, host, bytes)?;
+        let acts = arrive_at(alloc, &mut self.nodes, at, dev, bytes)?;
+        with_acts(before, host, acts.list)
+    }
+
+    fn send(&mut self, alloc: Global, host: Host, dev: Dev) -> Result<Lines, NoMemory>
+        requires few { self.old.next < 2 ^ 32 - 1 }
+        ensures ok { (w : WorldState) → WorldStands S.stands self.old w → IfOk result (λ lines. IsHappened S.stands (spec.sends w host dev) lines self.new) }
+        ensures next { self.new.next ≤ self.old.next + 1 }
+        ensures still { OnErr result (self.new.next ≡ self.old.next) }
+        ensures made { self.new.made ≡ self.old.made }
+    {
+        let Some(at) = node_place(self.nodes.as_slice(), host) else {
+            return nothing(alloc);
+        };
+        let Some(to) = far_end(self.links.as_slice(), host, dev) else {
+            return nothing(alloc);
+        };
+        if self.wire.len() >= WIRE_ROOM {
+            return nothing(alloc);
+        }
+        let Acts { list, frame } = take_at(alloc, &mut self.nodes, at, dev)?;
+        let Some(frame) = frame else {
+            return nothing(alloc);
+        };
+        let number = self.next;
+        let before = with_acts(no_lines(alloc), host, list)?;
+        let lines = with_wire(alloc, before, number, &frame)?;
+        let from = LinkEnd { host, dev };
+        self.wire.add(Wired {
+            number,
+            from,
+            to,
+            frame,
+        })?;
+        self.next += 1;
+        Ok(lines)
+    }
+
+    fn deliver(&mut self, alloc: Global, number: u32) -> Result<Lines, NoMemory>
+        ensures ok { (w : WorldState) → WorldStands S.stands self.old w → IfOk result (λ lines. IsHappened S.stands (spec.delivers w number) lines self.new) }
+        ensures next { self.new.next ≡ self.old.next }
+        ensures made { self.new.made ≡ self.old.made }
+    {
+        let Some(place) = wire_place(self.wire.as_slice(), number) else {
+            return nothing(alloc);
+        };
+        let to = self.wire.at(place).to;
+        let Some(at) = node_place(self.nodes.as_slice(), to.host) else {
+            return nothing(alloc);
+        };
+        let x = self.wire.remove(place);
+        let acts = hand_to(alloc, &mut self.nodes, at, to.dev, &x.frame)?;
+        let before = one_line(alloc, Line::Off(x.number))?;
+        with_acts(before, to.host, acts.list)
+    }
+
+    fn lose(&mut self, alloc: Global, number: u32) -> Result<Lines, NoMemory>
+        ensures ok { (w : WorldState) → WorldStands S.stands self.old w → IfOk result (λ lines. IsHappened S.stands (spec.loses w number) lines self.new) }
+        ensures next { self.new.next ≡ self.old.next }
+        ensures made { self.new.made ≡ self.old.made }
+    {
+        let Some(place) = wire_place(self.wire.as_slice(), number) else {
+            return nothing(alloc);
+        };
+        let lost = self.wire.remove(place);
+        let mut lines = one_line(alloc, Line::Off(lost.number))?;
+        lines.add(Line::Lost(lost.frame.what()))?;
+        Ok(lines)
+    }
+
+    /// An event, which isn't counted yet, and its lines.
+    pub fn act(&mut self, alloc: Global, event: &WorldEvent) -> Result<Lines, NoMemory>
+        requires fits { event_fits event.now }
+        requires few { self.old.next < 2 ^ 32 - 1 }
+        ensures ok { (w : WorldState) → WorldStands S.stands self.old w → IfOk result (λ lines. IsHappened S.stands (spec.acted w event.now) lines self.new) }
+        ensures next { self.new.next ≤ self.old.next + 1 }
+        ensures still { OnErr result (self.new.next ≡ self.old.next) }
+        ensures made { self.new.made ≡ self.old.made }
+    {
+        match event {
+            WorldEvent::Inject(host, chunk, bound) => self.inject(alloc, *host, chunk, *bound),
+            WorldEvent::Send(host, dev) => self.send(alloc, *host, *dev),
+            WorldEvent::Deliver(number) => self.deliver(alloc, *number),
+            WorldEvent::Lose(number) => self.lose(alloc, *number),
+            WorldEvent::Tick(host) => self.tick(alloc, *host),
+            WorldEvent::Raw(host, dev, bytes) => self.raw(alloc, *host, *dev, bytes.as_slice()),
+        }
+    }
+
+    /// Counts an event. Condition: fewer than 2^32 - 1 were counted.
+    pub fn count(&mut self)
+        requires { self.old.made < 2 ^ 32 - 1 }
+        ensures made { self.new.made ≡ self.old.made + 1 }
+        ensures next { self.new.next ≡ self.old.next }
+        ensures stands { (w : WorldState) → WorldStands S.stands self.old w → WorldStands S.stands self.new (spec.counted w) }
+    {
+        self.made += 1;
+    }
+
+    /// The number of events so far.
+    pub fn made(&self) -> u32
+        ensures { result ≡ self.now.made }
+    {
+        self.made
+    }
+}

@@ -1,0 +1,108 @@
+ghost use Rattle.std.specs.Prelude.{◌≡◌, ◌≤◌, ◌<◌, [], List, length, IfOk, IfSome, None};
+ghost use Rattle.std.specs.List.{position_from};
+ghost use Rattle.node_model.specs.State.{NodeState, is_host};
+ghost use Rattle.node_model.specs.Node.{inject_step, frame_step, arrive_step, tick_step, take_step};
+ghost use Rattle.world_model.specs.World as spec;
+ghost use Rattle.net_world.specs.Stands.{AllStand, StepsAt};
+
+use chunk_types::CheckedChunk;
+use node_core::Node;
+use node_model::Acts;
+use plan_base::{Dev, Host, NoMemory};
+use service_api::Services;
+use spelled_frame::SpelledFrame;
+use std::alloc::Global;
+
+/// The place of the first node of a host.
+fn host_place<S: Services>(nodes: &[Node<S>], host: Host) -> Option<usize>
+    ensures place { result ≡ position_from (λ n. is_host n.here host) 0 nodes.now }
+    ensures within { IfSome result (λ at. at < length nodes.now) }
+{
+    let mut at = 0;
+    let mut rest = nodes;
+    while let [node, later @ ..] = rest {
+        if node.here().0 == host.0 {
+            return Some(at);
+        }
+        at += 1;
+        rest = later;
+    }
+    None
+}
+
+/// The place of a host's node.
+pub fn node_place<S: Services>(nodes: &[Node<S>], host: Host) -> Option<usize>
+    ensures place { (states : List NodeState) → AllStand S.stands nodes.now states → result ≡ spec.place_of states host }
+    ensures within { IfSome result (λ at. at < length nodes.now) }
+{
+    host_place(nodes, host)
+}
+
+/// An injection at the node at this place, with a bound of at most 65,535.
+pub fn inject_at<S: Services>(
+    alloc: Global,
+    nodes: &mut [Node<S>],
+    at: usize,
+    chunk: &CheckedChunk,
+    bound: u32,
+) -> Result<Acts, NoMemory>
+    requires within { at < length nodes.old }
+    requires small { bound ≤ 65535 }
+    ensures { (states : List NodeState) → AllStand S.stands nodes.old states → IfOk result (λ acts. StepsAt S.stands (λ node. inject_step [] node chunk.now bound) states at acts nodes.new) }
+{
+    nodes[at].inject(alloc, chunk, bound)
+}
+
+/// Bytes arrive at the node at this place.
+pub fn arrive_at<S: Services>(
+    alloc: Global,
+    nodes: &mut [Node<S>],
+    at: usize,
+    dev: Dev,
+    bytes: &[u8],
+) -> Result<Acts, NoMemory>
+    requires { at < length nodes.old }
+    ensures { (states : List NodeState) → AllStand S.stands nodes.old states → IfOk result (λ acts. StepsAt S.stands (λ node. arrive_step node dev bytes.now) states at acts nodes.new) }
+{
+    nodes[at].arrive(alloc, dev, bytes)
+}
+
+/// A frame arrives at the node at this place, by its bytes.
+pub fn hand_to<S: Services>(
+    alloc: Global,
+    nodes: &mut [Node<S>],
+    at: usize,
+    dev: Dev,
+    frame: &SpelledFrame,
+) -> Result<Acts, NoMemory>
+    requires { at < length nodes.old }
+    ensures { (states : List NodeState) → AllStand S.stands nodes.old states → IfOk result (λ acts. StepsAt S.stands (λ node. frame_step node dev frame.now) states at acts nodes.new) }
+{
+    arrive_at(alloc, nodes, at, dev, frame.bytes())
+}
+
+/// A tick of the node at this place.
+pub fn tick_at<S: Services>(
+    alloc: Global,
+    nodes: &mut [Node<S>],
+    at: usize,
+) -> Result<Acts, NoMemory>
+    requires { at < length nodes.old }
+    ensures { (states : List NodeState) → AllStand S.stands nodes.old states → IfOk result (λ acts. StepsAt S.stands tick_step states at acts nodes.new) }
+{
+    nodes[at].tick(alloc)
+}
+
+/// The first frame of a device is taken at the node at this place.
+pub fn take_at<S: Services>(
+    alloc: Global,
+    nodes: &mut [Node<S>],
+    at: usize,
+    dev: Dev,
+) -> Result<Acts, NoMemory>
+    requires { at < length nodes.old }
+    ensures step { (states : List NodeState) → AllStand S.stands nodes.old states → IfOk result (λ acts. StepsAt S.stands (λ node. take_step node dev) states at acts nodes.new) }
+    ensures same { (states : List NodeState) → AllStand S.stands nodes.old states → IfOk result (λ acts. acts.frame ≡ None → AllStand S.stands nodes.new states) }
+{
+    nodes[at].take(alloc, dev)
+}
