@@ -1,6 +1,0 @@
-//! Packets kept as the bytes of their frames.
-#![tactic(auto)]
-
-mod spelled;
-
-pub use spelled::SpelledPacket;
