@@ -3,4 +3,5 @@ pub mod Changed
 pub mod Fits
 pub mod Steps
 pub mod Over
+pub mod Expiries
 pub mod Limits

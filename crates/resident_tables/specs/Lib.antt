@@ -1,4 +1,5 @@
 pub mod Counted
 pub mod Tables
+pub mod Expiries
 pub mod Layers
 pub mod PartRows

@@ -1,5 +1,6 @@
 ghost use Rattle.std.specs.Prelude.{◌≡◌, ◌≤◌, length, min, IfOk, OnOk, OnErr};
 ghost use Rattle.table_rows.specs.Rows.{put_row, without_row, living, rows_size};
+ghost use Rattle.resident_tables.specs.Expiries.{least_expiry};
 ghost use Rattle.resident_tables.specs.Layers.{put_all, without_all};
 ghost use Rattle.resident_tables.specs.PartRows.{part_row};
 
@@ -92,6 +93,19 @@ pub fn total_size(rows: &[Row]) -> u64
         total = total.saturating_add(row.size());
     }
     total
+}
+
+/// The least of `bound` and the ticks at which the rows go.
+pub fn least_expiry(rows: &[Row], bound: u64) -> u64
+    ensures { result ≡ least_expiry bound rows.now }
+{
+    let mut least = bound;
+    let mut rest = rows;
+    while let [row, later @ ..] = rest {
+        least = least.min(row.expiry);
+        rest = later;
+    }
+    least
 }
 
 /// The same rows.

@@ -9,7 +9,9 @@ ghost use Rattle.resident_tables.specs.Tables.{row_of, IsPut, IsGot};
 
 use crate::counts::{Counts, bytes_after};
 use crate::fault::TableFault;
-use crate::moves::{copy_rows, drop_expired, drop_gone, put_each, put_parts, total_size};
+use crate::moves::{
+    copy_rows, drop_expired, drop_gone, least_expiry, put_each, put_parts, total_size,
+};
 use crate::next::take_key;
 use crate::overlay::Overlay;
 use crate::parts::Parts;
@@ -28,11 +30,14 @@ pub struct Tables {
     /// The bytes of all rows.
     bytes: u64,
     next: i64,
+    /// No row goes before this tick.
+    earliest: u64,
 }
 
 impl Model for Tables {
     ghost use Rattle.std.specs.Prelude.{◌≡◌, true, pos, ◌≤ℤ◌};
     ghost use Rattle.table_rows.specs.Rows.{fits, rows_size};
+    ghost use Rattle.resident_tables.specs.Expiries.{AllStay};
     ghost use Rattle.resident_tables.specs.Tables.{Table, table_code};
 
     ghost Value = { Table };
@@ -41,7 +46,7 @@ impl Model for Tables {
 
     ghost view = { λ t. record { rows = t.rows.items; «next» = t.«next»; spare = t.rows.spare } };
 
-    ghost invariant = { λ t. (t.bytes ≡ rows_size t.rows.items) × (fits t.rows.items ≡ true) × (pos 1 ≤ℤ t.«next») };
+    ghost invariant = { λ t. record { bytes : t.bytes ≡ rows_size t.rows.items; fit : fits t.rows.items ≡ true; least : pos 1 ≤ℤ t.«next»; stay : AllStay t.earliest t.rows.items } };
 }
 
 impl Tables {
@@ -54,6 +59,7 @@ impl Tables {
             rows: KeyedList::new(alloc),
             bytes: 0,
             next: 1,
+            earliest: u64::MAX,
         }
     }
 
@@ -139,6 +145,7 @@ impl Tables {
             return Err(TableFault::NoMemory);
         };
         self.bytes = counts.bytes;
+        self.earliest = self.earliest.min(expiry);
         Ok(())
     }
 
@@ -175,13 +182,17 @@ impl Tables {
         self.bytes = counts.bytes;
     }
 
-    /// Drops the rows that aren't there any more at the tick `now`. Takes no memory.
+    /// Drops the rows that aren't there any more at the tick `now`. Takes no memory, and one look where no row goes.
     pub fn expire(&mut self, now: u64)
         ensures rows { self.new.rows ≡ living now self.old.rows }
         ensures next_key { self.new.«next» ≡ self.old.«next» }
     {
+        if now < self.earliest {
+            return;
+        }
         drop_expired(&mut self.rows, now);
         self.bytes = total_size(self.rows.as_slice());
+        self.earliest = least_expiry(self.rows.as_slice(), u64::MAX);
     }
 
     /// Gives the next key out; none exactly where it is 2^63 - 1. Takes no memory.
@@ -213,6 +224,7 @@ impl Tables {
         ensures next_key { self.new.«next» ≡ changes.«next» }
     {
         let (gone, puts, counted, next) = changes.into_parts();
+        self.earliest = least_expiry(puts.as_slice(), self.earliest);
         drop_gone(&mut self.rows, gone);
         put_each(&mut self.rows, puts);
         self.bytes = bytes_after(counted, self.bytes);
@@ -229,6 +241,7 @@ impl Tables {
             rows: self.rows.over(alloc, rows)?,
             bytes: self.bytes,
             next: self.next,
+            earliest: self.earliest,
         })
     }
 }
