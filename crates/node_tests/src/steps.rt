@@ -1,3 +1,6 @@
+ghost use Rattle.std.specs.Prelude.{◌≡◌, true};
+ghost use Rattle.node_model.specs.Fits.{comes_within};
+
 use chunk_types::{CheckedChunk, chunk_of};
 use hex::decode;
 use network_plan::{Event, NodeConfig};
@@ -39,9 +42,9 @@ fn chunk(alloc: Global, text: &[u8], entry: &[u8]) -> Result<CheckedChunk, Fail>
 // Host 1 of the network of hosts 3, 1 and 2, with host 2 on device 1.
 fn node(alloc: Global, serial: u64) -> Result<Node<Prints>, Fail> {
     let mut hosts = Items::new(alloc);
-    for host in [3, 1, 2] {
-        hosts.add(Host(host))?;
-    }
+    hosts.add(Host(3))?;
+    hosts.add(Host(1))?;
+    hosts.add(Host(2))?;
     let mut neighbours = Items::new(alloc);
     neighbours.add((Host(2), Dev(1)))?;
     let config = NodeConfig {
@@ -53,6 +56,17 @@ fn node(alloc: Global, serial: u64) -> Result<Node<Prints>, Fail> {
     Ok(Node::new(alloc, config, Prints::new())?)
 }
 
+// Whether an event may come to a node: a bound of at most 65,535, a device of at most 8.
+fn comes(event: &Event) -> bool
+    ensures { result ≡ true → comes_within event.now }
+{
+    match event {
+        Event::Inject(_, bound) => *bound <= 65_535,
+        Event::Frame(dev, _) => dev.0 <= 8,
+        _ => true,
+    }
+}
+
 // Makes a step, whose acts are these lines.
 fn step(
     rt: &impl Abort,
@@ -61,6 +75,9 @@ fn step(
     event: &Event,
     expected: &str,
 ) -> Result<(), Fail> {
+    if !comes(event) {
+        return Err(Fail::from("no event of a node"));
+    }
     let acts = node.step(alloc, event)?;
     let mut text = Bytes::new(alloc);
     for act in acts.list.as_slice() {
