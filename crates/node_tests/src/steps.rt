@@ -5,7 +5,7 @@ use chunk_types::{CheckedChunk, chunk_of};
 use hex::decode;
 use network_plan::{Event, NodeConfig};
 use node_core::{Node, put_act};
-use node_model::Act;
+use node_model::{Act, Acts};
 use plan_base::{Bytes, Dev, Family, Host, Name};
 use plan_items::Items;
 use plan_meaning::Outcome;
@@ -67,22 +67,33 @@ fn comes(event: &Event) -> bool
     }
 }
 
+// The acts of a step.
+fn acts_of(alloc: Global, node: &mut Node<Prints>, event: Event) -> Result<Acts, Fail> {
+    if !comes(&event) {
+        return Err(Fail::from("no event of a node"));
+    }
+    Ok(node.step(alloc, &event)?)
+}
+
+// The lines of acts of host 1 at event 1.
+fn lines_of(alloc: Global, acts: &[Act]) -> Result<Bytes, Fail> {
+    let mut text = Bytes::new(alloc);
+    for act in acts {
+        put_act(alloc, 1, Host(1), act, &mut text)?;
+    }
+    Ok(text)
+}
+
 // Makes a step, whose acts are these lines.
 fn step(
     rt: &impl Abort,
     alloc: Global,
     node: &mut Node<Prints>,
-    event: &Event,
+    event: Event,
     expected: &str,
 ) -> Result<(), Fail> {
-    if !comes(event) {
-        return Err(Fail::from("no event of a node"));
-    }
-    let acts = node.step(alloc, event)?;
-    let mut text = Bytes::new(alloc);
-    for act in acts.list.as_slice() {
-        put_act(alloc, 1, Host(1), act, &mut text)?;
-    }
+    let acts = acts_of(alloc, node, event)?;
+    let text = lines_of(alloc, acts.list.as_slice())?;
     assert_eq!(rt; text.as_slice(), expected.as_bytes());
     Ok(())
 }
@@ -97,16 +108,18 @@ const ACKS: &[u8] = b"fun f() : unit = ()\n";
 fn the_last_serial_number(rt: HostRuntime) -> Result<(), Fail> {
     let alloc = rt.alloc();
     let mut node = node(alloc, 18_446_744_073_709_551_614)?;
-    let event = Event::Inject(chunk(alloc, ACKS, b"f")?, 5);
     step(
         &rt,
         alloc,
         &mut node,
-        &event,
+        Event::Inject(chunk(alloc, ACKS, b"f")?, 5),
         "1 inject @1 1.18446744073709551614 bound 5\n1 value @1 1.18446744073709551614 () evals 0 left 5\n",
     )?;
-    step(&rt, alloc, &mut node, &event, "1 drop @1 SerialsSpent\n")?;
-    step(&rt, alloc, &mut node, &event, "1 drop @1 SerialsSpent\n")
+    for _ in 0..2 {
+        let event = Event::Inject(chunk(alloc, ACKS, b"f")?, 5);
+        step(&rt, alloc, &mut node, event, "1 drop @1 SerialsSpent\n")?;
+    }
+    Ok(())
 }
 
 #[test]
@@ -117,14 +130,14 @@ fn packets_that_arrive(rt: HostRuntime) -> Result<(), Fail> {
         &rt,
         alloc,
         &mut node,
-        &frame(alloc, 1, FOR_HOST_1)?,
+        frame(alloc, 1, FOR_HOST_1)?,
         "1 arrive @1 %1\n1 value @1 2.1 () evals 0 left 3\n",
     )?;
     step(
         &rt,
         alloc,
         &mut node,
-        &frame(alloc, 1, FOR_HOST_2)?,
+        frame(alloc, 1, FOR_HOST_2)?,
         "1 arrive @1 %1\n1 queue @1 %1 2.2 bound 1\n",
     )?;
     assert_eq!(rt; node.queued(Dev(1)), 1);
@@ -132,11 +145,11 @@ fn packets_that_arrive(rt: HostRuntime) -> Result<(), Fail> {
         &rt,
         alloc,
         &mut node,
-        &Event::Take(Dev(1)),
+        Event::Take(Dev(1)),
         "1 send @1 %1 2.2\n",
     )?;
-    step(&rt, alloc, &mut node, &Event::Take(Dev(1)), "")?;
-    step(&rt, alloc, &mut node, &Event::Take(Dev(9)), "")?;
+    step(&rt, alloc, &mut node, Event::Take(Dev(1)), "")?;
+    step(&rt, alloc, &mut node, Event::Take(Dev(9)), "")?;
     assert_eq!(rt; node.queued(Dev(1)), 0);
     Ok(())
 }
@@ -157,7 +170,7 @@ fn frames_that_do_not_belong(rt: HostRuntime) -> Result<(), Fail> {
         ),
         (1, "ff", "1 arrive @1 %1\n1 drop @1 BadFrame Truncated 0\n"),
     ] {
-        step(&rt, alloc, &mut node, &frame(alloc, dev, hex)?, line)?;
+        step(&rt, alloc, &mut node, frame(alloc, dev, hex)?, line)?;
     }
     for (hex, line) in [
         (
@@ -181,7 +194,7 @@ fn frames_that_do_not_belong(rt: HostRuntime) -> Result<(), Fail> {
             &rt,
             alloc,
             &mut node,
-            &Event::Control(bytes(alloc, hex)?),
+            Event::Control(bytes(alloc, hex)?),
             line,
         )?;
     }
@@ -203,49 +216,49 @@ fn ticks_and_routes(rt: HostRuntime) -> Result<(), Fail> {
         &rt,
         alloc,
         &mut node,
-        &frame(alloc, 1, far)?,
+        frame(alloc, 1, far)?,
         "1 arrive @1 %1\n1 drop @1 NoRoute 2.3 bound 2\n",
     )?;
     step(
         &rt,
         alloc,
         &mut node,
-        &Event::Tick,
+        Event::Tick,
         "1 tick @1 now 1\n1 advert @1 %1\n",
     )?;
     step(
         &rt,
         alloc,
         &mut node,
-        &Event::Take(Dev(1)),
+        Event::Take(Dev(1)),
         "1 send @1 %1 advert\n",
     )?;
     step(
         &rt,
         alloc,
         &mut node,
-        &frame(alloc, 1, ADVERT)?,
+        frame(alloc, 1, ADVERT)?,
         "1 arrive @1 %1\n1 heard @1 %1\n",
     )?;
     step(
         &rt,
         alloc,
         &mut node,
-        &frame(alloc, 1, far)?,
+        frame(alloc, 1, far)?,
         "1 arrive @1 %1\n1 queue @1 %1 2.3 bound 1\n",
     )?;
     step(
         &rt,
         alloc,
         &mut node,
-        &frame(alloc, 1, empty)?,
+        frame(alloc, 1, empty)?,
         "1 arrive @1 %1\n1 drop @1 NoBound 2.4 bound 0\n",
     )?;
     step(
         &rt,
         alloc,
         &mut node,
-        &frame(alloc, 1, other)?,
+        frame(alloc, 1, other)?,
         "1 arrive @1 %1\n1 drop @1 NoService 2.5 bound 2\n",
     )
 }
@@ -255,13 +268,12 @@ fn ticks_and_routes(rt: HostRuntime) -> Result<(), Fail> {
 fn a_full_device(rt: HostRuntime) -> Result<(), Fail> {
     let alloc = rt.alloc();
     let mut node = node(alloc, 1)?;
-    let through = frame(alloc, 1, FOR_HOST_2)?;
     for _ in 0..64 {
         step(
             &rt,
             alloc,
             &mut node,
-            &through,
+            frame(alloc, 1, FOR_HOST_2)?,
             "1 arrive @1 %1\n1 queue @1 %1 2.2 bound 1\n",
         )?;
     }
@@ -269,14 +281,14 @@ fn a_full_device(rt: HostRuntime) -> Result<(), Fail> {
         &rt,
         alloc,
         &mut node,
-        &through,
+        frame(alloc, 1, FOR_HOST_2)?,
         "1 arrive @1 %1\n1 drop @1 QueueFull 2.2 bound 2\n",
     )?;
     step(
         &rt,
         alloc,
         &mut node,
-        &Event::Tick,
+        Event::Tick,
         "1 tick @1 now 1\n1 drop @1 QueueFull advert\n",
     )?;
     assert_eq!(rt; node.queued(Dev(1)), 64);
@@ -295,16 +307,24 @@ fun no() : unit = OnNeighbor(|z|(), @2, 9, %1)\n";
         &rt,
         alloc,
         &mut node,
-        &Event::Inject(chunk(alloc, text, b"go")?, 5),
+        Event::Inject(chunk(alloc, text, b"go")?, 5),
         "1 inject @1 1.1 bound 5\n1 print @1 \"go\"\n1 value @1 1.1 () evals 0 left 3\n1 queue @1 %1 1.1 bound 1\n",
     )?;
     step(
         &rt,
         alloc,
         &mut node,
-        &Event::Inject(chunk(alloc, text, b"no")?, 5),
+        Event::Inject(chunk(alloc, text, b"no")?, 5),
         "1 inject @1 1.2 bound 5\n1 raised @1 1.2 NoBound evals 0 left 5\n",
     )
+}
+
+// Host 3 tells an act at event 7 so.
+fn told(rt: &impl Abort, alloc: Global, act: Act, expected: &str) -> Result<(), Fail> {
+    let mut text = Bytes::new(alloc);
+    put_act(alloc, 7, Host(3), &act, &mut text)?;
+    assert_eq!(rt; text.as_slice(), expected.as_bytes());
+    Ok(())
 }
 
 // The lines of acts that no row above has.
@@ -315,18 +335,9 @@ fn lines_of_acts(rt: HostRuntime) -> Result<(), Fail> {
         source: Host(1),
         serial: 2,
     };
-    for (act, line) in [
-        (
-            Act::Ended(family, Outcome::WorkSpent, 0, 5),
-            "7 spent @3 1.2 left 5\n",
-        ),
-        (Act::NoMemory, "7 drop @3 NoMemory\n"),
-    ] {
-        let mut text = Bytes::new(alloc);
-        put_act(alloc, 7, Host(3), &act, &mut text)?;
-        assert_eq!(rt; text.as_slice(), line.as_bytes());
-    }
-    Ok(())
+    let spent = Act::Ended(family, Outcome::WorkSpent, 0, 5);
+    told(&rt, alloc, spent, "7 spent @3 1.2 left 5\n")?;
+    told(&rt, alloc, Act::NoMemory, "7 drop @3 NoMemory\n")
 }
 
 // The place of the first field that isn't whole among the first `count` bytes of a packet's frame.
@@ -359,7 +370,7 @@ fn cut_packets(rt: HostRuntime) -> Result<(), Fail> {
                 &rt,
                 alloc,
                 &mut node,
-                &Event::Frame(Dev(2), cut),
+                Event::Frame(Dev(2), cut),
                 line.as_str(),
             )?;
         }
@@ -386,7 +397,7 @@ fn cut_frames(rt: HostRuntime) -> Result<(), Fail> {
             &rt,
             alloc,
             &mut node,
-            &Event::Frame(Dev(1), cut),
+            Event::Frame(Dev(1), cut),
             line.as_str(),
         )?;
         let line = format!(in alloc;
@@ -394,7 +405,7 @@ fn cut_frames(rt: HostRuntime) -> Result<(), Fail> {
         )?;
         let mut cut = Bytes::new(alloc);
         cut.add_all(&whole.as_slice()[..count])?;
-        step(&rt, alloc, &mut node, &Event::Control(cut), line.as_str())?;
+        step(&rt, alloc, &mut node, Event::Control(cut), line.as_str())?;
         count += 1;
     }
     Ok(())
