@@ -34,6 +34,9 @@ fn bytes(alloc: Global, hex: &str) -> Result<Bytes, Fail> {
 }
 
 fn chunk(alloc: Global, text: &[u8], entry: &[u8]) -> Result<CheckedChunk, Fail> {
+    if text.len() > 65_536 {
+        return Err(Fail::from("a text that is too long"));
+    }
     let program = read_program(alloc, text)?;
     let entry = Name::read(alloc, entry)?;
     Ok(chunk_of(alloc, &program, &entry, Items::new(alloc))?)
@@ -340,6 +343,15 @@ fn lines_of_acts(rt: HostRuntime) -> Result<(), Fail> {
     told(&rt, alloc, Act::NoMemory, "7 drop @3 NoMemory\n")
 }
 
+// The first `count` bytes.
+fn front(alloc: Global, whole: &Bytes, count: usize) -> Result<Bytes, Fail> {
+    let mut front = Bytes::new(alloc);
+    for byte in whole.as_slice().iter().take(count) {
+        front.add(*byte)?;
+    }
+    Ok(front)
+}
+
 // The place of the first field that isn't whole among the first `count` bytes of a packet's frame.
 fn cut_packet(count: usize) -> usize {
     match count {
@@ -364,8 +376,7 @@ fn cut_packets(rt: HostRuntime) -> Result<(), Fail> {
         for count in 0..50 {
             let place = cut_packet(count);
             let line = format!(in alloc; "1 arrive @1 %2\n1 drop @1 BadFrame Truncated {place}\n")?;
-            let mut cut = Bytes::new(alloc);
-            cut.add_all(&whole.as_slice()[..count])?;
+            let cut = front(alloc, &whole, count)?;
             step(
                 &rt,
                 alloc,
@@ -391,8 +402,7 @@ fn cut_frames(rt: HostRuntime) -> Result<(), Fail> {
         24, 24, 24, 28, 28, 28, 28, 32, 32, 32, 32,
     ] {
         let line = format!(in alloc; "1 arrive @1 %1\n1 drop @1 BadFrame Truncated {place}\n")?;
-        let mut cut = Bytes::new(alloc);
-        cut.add_all(&whole.as_slice()[..count])?;
+        let cut = front(alloc, &whole, count)?;
         step(
             &rt,
             alloc,
@@ -403,8 +413,7 @@ fn cut_frames(rt: HostRuntime) -> Result<(), Fail> {
         let line = format!(in alloc;
             "1 arrive @1 control\n1 drop @1 BadFrame Truncated {place}\n"
         )?;
-        let mut cut = Bytes::new(alloc);
-        cut.add_all(&whole.as_slice()[..count])?;
+        let cut = front(alloc, &whole, count)?;
         step(&rt, alloc, &mut node, Event::Control(cut), line.as_str())?;
         count += 1;
     }
