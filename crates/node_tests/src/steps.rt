@@ -367,6 +367,22 @@ fn cut_packet(count: usize) -> usize {
     }
 }
 
+// The same of an advert's frame with three rows.
+fn cut_advert(count: usize) -> usize {
+    match count {
+        0..=3 => 0,
+        4 | 5 => count,
+        6..=9 => 6,
+        10 | 11 => 10,
+        12..=15 => 12,
+        16..=19 => 16,
+        20..=23 => 20,
+        24..=27 => 24,
+        28..=31 => 28,
+        _ => 32,
+    }
+}
+
 #[test]
 fn cut_packets(rt: HostRuntime) -> Result<(), Fail> {
     let alloc = rt.alloc();
@@ -396,11 +412,8 @@ fn cut_frames(rt: HostRuntime) -> Result<(), Fail> {
     let alloc = rt.alloc();
     let mut node = node(alloc, 1)?;
     let whole = bytes(alloc, ADVERT)?;
-    let mut count = 0;
-    for place in [
-        0, 0, 0, 0, 4, 5, 6, 6, 6, 6, 10, 10, 12, 12, 12, 12, 16, 16, 16, 16, 20, 20, 20, 20, 24,
-        24, 24, 24, 28, 28, 28, 28, 32, 32, 32, 32,
-    ] {
+    for count in 0..36 {
+        let place = cut_advert(count);
         let line = format!(in alloc; "1 arrive @1 %1\n1 drop @1 BadFrame Truncated {place}\n")?;
         let cut = front(alloc, &whole, count)?;
         step(
@@ -415,7 +428,6 @@ fn cut_frames(rt: HostRuntime) -> Result<(), Fail> {
         )?;
         let cut = front(alloc, &whole, count)?;
         step(&rt, alloc, &mut node, Event::Control(cut), line.as_str())?;
-        count += 1;
     }
     Ok(())
 }
