@@ -6,13 +6,13 @@ mod built_rows;
 #[cfg(test)]
 mod forged_rows;
 #[cfg(test)]
+mod kept_rows;
+#[cfg(test)]
 mod route_rows;
 #[cfg(test)]
 mod rows;
 #[cfg(test)]
 mod show_rows;
-#[cfg(test)]
-mod table_rows;
 #[cfg(test)]
 mod tests;
 #[cfg(test)]

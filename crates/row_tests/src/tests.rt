@@ -1,4 +1,4 @@
-use crate::{built_rows, forged_rows, route_rows, rows, show_rows, table_rows, visit_rows};
+use crate::{built_rows, forged_rows, kept_rows, route_rows, rows, show_rows, visit_rows};
 use node_io::{
     Arrivals, Calls, FileList, MemClock, MemFiles, MemLink, MemSink, MemSpawner, Moments, Statuses,
 };
@@ -213,10 +213,22 @@ fn a_thousand_deep_evals_run_on_an_ordinary_stack(rt: HostRuntime) -> Result<(),
 }
 
 static ROUTES: [Done; 5] = [
-    (route_rows::FIRST_RUN_WITH_TICK, route_rows::FIRST_RUN_WITH_TICK_OUTPUT),
-    (route_rows::PING_THREE_HOSTS, route_rows::PING_THREE_HOSTS_OUTPUT),
-    (route_rows::PING_LAST_FRAME_LOST, route_rows::PING_LAST_FRAME_LOST_OUTPUT),
-    (route_rows::PING_STOPPED_BEFORE_LAST_DELIVERY, route_rows::PING_STOPPED_BEFORE_LAST_DELIVERY_OUTPUT),
+    (
+        route_rows::FIRST_RUN_WITH_TICK,
+        route_rows::FIRST_RUN_WITH_TICK_OUTPUT,
+    ),
+    (
+        route_rows::PING_THREE_HOSTS,
+        route_rows::PING_THREE_HOSTS_OUTPUT,
+    ),
+    (
+        route_rows::PING_LAST_FRAME_LOST,
+        route_rows::PING_LAST_FRAME_LOST_OUTPUT,
+    ),
+    (
+        route_rows::PING_STOPPED_BEFORE_LAST_DELIVERY,
+        route_rows::PING_STOPPED_BEFORE_LAST_DELIVERY_OUTPUT,
+    ),
     (route_rows::ROUTE_TRACED, route_rows::ROUTE_TRACED_OUTPUT),
 ];
 
@@ -226,9 +238,18 @@ fn ticks_spread_routes(rt: HostRuntime) -> Result<(), Fail> {
 }
 
 static BOUNDS: [Done; 4] = [
-    (route_rows::BOUND_ZERO_NOT_FORWARDED, route_rows::BOUND_ZERO_NOT_FORWARDED_OUTPUT),
-    (route_rows::BOUND_ZERO_EVALUATED_AT_DESTINATION, route_rows::BOUND_ZERO_EVALUATED_AT_DESTINATION_OUTPUT),
-    (route_rows::BOUND_ZERO_CANNOT_SEND, route_rows::BOUND_ZERO_CANNOT_SEND_OUTPUT),
+    (
+        route_rows::BOUND_ZERO_NOT_FORWARDED,
+        route_rows::BOUND_ZERO_NOT_FORWARDED_OUTPUT,
+    ),
+    (
+        route_rows::BOUND_ZERO_EVALUATED_AT_DESTINATION,
+        route_rows::BOUND_ZERO_EVALUATED_AT_DESTINATION_OUTPUT,
+    ),
+    (
+        route_rows::BOUND_ZERO_CANNOT_SEND,
+        route_rows::BOUND_ZERO_CANNOT_SEND_OUTPUT,
+    ),
     (route_rows::FULL_QUEUE, route_rows::FULL_QUEUE_OUTPUT),
 ];
 
@@ -238,14 +259,29 @@ fn packets_pass_where_their_bound_and_the_queue_allow(rt: HostRuntime) -> Result
 }
 
 static TABLES: [Done; 8] = [
-    (table_rows::NO_BOUND_CAUGHT, table_rows::NO_BOUND_CAUGHT_OUTPUT),
-    (table_rows::ITSELF, table_rows::ITSELF_OUTPUT),
-    (table_rows::WORK_SPENT_KEEPS_TABLE, table_rows::WORK_SPENT_KEEPS_TABLE_OUTPUT),
-    (table_rows::TABLE_ROW_HAS_A_TYPE, table_rows::TABLE_ROW_HAS_A_TYPE_OUTPUT),
-    (table_rows::TABLE_ROW_EXPIRES, table_rows::TABLE_ROW_EXPIRES_OUTPUT),
-    (table_rows::TABLE_FULL, table_rows::TABLE_FULL_OUTPUT),
-    (table_rows::ABSENT_SERVICE, table_rows::ABSENT_SERVICE_OUTPUT),
-    (table_rows::SERVICE_OF_OTHER_TYPE, table_rows::SERVICE_OF_OTHER_TYPE_OUTPUT),
+    (
+        kept_rows::NO_BOUND_CAUGHT,
+        kept_rows::NO_BOUND_CAUGHT_OUTPUT,
+    ),
+    (kept_rows::ITSELF, kept_rows::ITSELF_OUTPUT),
+    (
+        kept_rows::WORK_SPENT_KEEPS_TABLE,
+        kept_rows::WORK_SPENT_KEEPS_TABLE_OUTPUT,
+    ),
+    (
+        kept_rows::TABLE_ROW_HAS_A_TYPE,
+        kept_rows::TABLE_ROW_HAS_A_TYPE_OUTPUT,
+    ),
+    (
+        kept_rows::TABLE_ROW_EXPIRES,
+        kept_rows::TABLE_ROW_EXPIRES_OUTPUT,
+    ),
+    (kept_rows::TABLE_FULL, kept_rows::TABLE_FULL_OUTPUT),
+    (kept_rows::ABSENT_SERVICE, kept_rows::ABSENT_SERVICE_OUTPUT),
+    (
+        kept_rows::SERVICE_OF_OTHER_TYPE,
+        kept_rows::SERVICE_OF_OTHER_TYPE_OUTPUT,
+    ),
 ];
 
 #[test]
@@ -254,10 +290,19 @@ fn programs_keep_rows(rt: HostRuntime) -> Result<(), Fail> {
 }
 
 static FORGED: [Done; 5] = [
-    (forged_rows::FORGED_PACKET_EVALUATED, forged_rows::FORGED_PACKET_EVALUATED_OUTPUT),
-    (forged_rows::FORGED_PACKET_WITHOUT_ROUTE, forged_rows::FORGED_PACKET_WITHOUT_ROUTE_OUTPUT),
+    (
+        forged_rows::FORGED_PACKET_EVALUATED,
+        forged_rows::FORGED_PACKET_EVALUATED_OUTPUT,
+    ),
+    (
+        forged_rows::FORGED_PACKET_WITHOUT_ROUTE,
+        forged_rows::FORGED_PACKET_WITHOUT_ROUTE_OUTPUT,
+    ),
     (forged_rows::FORGED_BYTE, forged_rows::FORGED_BYTE_OUTPUT),
-    (forged_rows::FORGED_ILL_TYPED_PACKET, forged_rows::FORGED_ILL_TYPED_PACKET_OUTPUT),
+    (
+        forged_rows::FORGED_ILL_TYPED_PACKET,
+        forged_rows::FORGED_ILL_TYPED_PACKET_OUTPUT,
+    ),
     (forged_rows::FORGED_ASK, forged_rows::FORGED_ASK_OUTPUT),
 ];
 
