@@ -1,6 +1,6 @@
 use live_io::{HostClock, HostSpawner, UdpLink};
 use node_io::{Clock, Failed, Got, Link, Peer, Peers, RECEIVED_MAX, Spawner};
-use plan_base::{Dev, Text, Texts};
+use plan_base::{Bytes, Dev, Text, Texts};
 use std::alloc::{AllocError, Global};
 use std::net::{Ipv4Addr, UdpSocket};
 use std::test::Fail;
@@ -16,6 +16,15 @@ fn free_port(rt: &HostRuntime) -> Result<u16, Fail> {
 
 fn text(alloc: Global, of: &[u8]) -> Result<Text, AllocError> {
     Ok(Text::of(Vec::from_slice(alloc, of)?))
+}
+
+/// So many bytes.
+fn sevens(alloc: Global, count: u32) -> Result<Bytes, AllocError> {
+    let mut bytes = Bytes::new(alloc);
+    for _ in 0..count {
+        bytes.add(7)?;
+    }
+    Ok(bytes)
 }
 
 /// What comes first within some receivings.
@@ -44,7 +53,20 @@ fn a_link_hears_itself_over_loopback(rt: HostRuntime) -> Result<(), Fail> {
     assert!(rt; link.send(dev, b"frame").is_ok());
     assert_eq!(rt; first(&mut link, &mut buf), Got::Frame(dev, 5));
     assert_eq!(rt; &buf[..5], b"frame".as_slice());
-    assert!(rt; link.send(dev, &[7u8; 20_000]).is_ok());
+    Ok(())
+}
+
+#[test]
+fn a_long_datagram_is_cut(rt: HostRuntime) -> Result<(), Fail> {
+    let alloc = rt.alloc();
+    let port = free_port(&rt)?;
+    let dev = Dev(3);
+    let peers = Peers::from_slice(alloc, &[Peer { dev, port }])?;
+    let long = sevens(alloc, 20_000)?;
+    let mut link = UdpLink::new(alloc, &rt);
+    let mut buf = [0u8; RECEIVED_MAX];
+    assert!(rt; link.bind(port, &peers).is_ok());
+    assert!(rt; link.send(dev, long.as_slice()).is_ok());
     assert_eq!(rt; first(&mut link, &mut buf), Got::Frame(dev, RECEIVED_MAX));
     Ok(())
 }
