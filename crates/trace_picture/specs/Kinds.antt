@@ -1,6 +1,5 @@
 -- What each line of a trace is drawn as, and its label.
 use Rattle.std.specs.Prelude.{ℕ, Bool, true, false, List, [], ◌++◌, codes}
-use Rattle.std.specs.List.{count_by}
 use Rattle.std.specs.Fmt.{decimal}
 use Rattle.plan_base.specs.declared.ids.Family.{Family}
 use Rattle.trace_lines.specs.declared.line.Line.{Line}

@@ -1,10 +1,9 @@
 -- The SVG text of a drawing.
-use Rattle.std.specs.Prelude.{ℕ, ◌+◌, ◌*◌, Bool, true, false, List, [], ◌∷◌, ◌++◌, codes, Option, Some, None, length, ◌==◌, if◌then◌else◌}
+use Rattle.std.specs.Prelude.{ℕ, ◌+◌, ◌*◌, List, [], ◌++◌, codes, Option, Some, None, length, ◌==◌, if◌then◌else◌}
 use Rattle.std.specs.List.{flat_map}
 use Rattle.std.specs.Fmt.{decimal}
 use Rattle.trace_lines.specs.declared.line.Row.{Row}
 use Rattle.trace_lines.specs.Lines.{family_text}
-use Rattle.trace_picture.specs.declared.drawing.Spot.{Spot}
 use Rattle.trace_picture.specs.declared.drawing.Lane.{Lane}
 use Rattle.trace_picture.specs.declared.drawing.Kind.{Kind}
 use Rattle.trace_picture.specs.declared.drawing.Kind.TheVariants as kind
