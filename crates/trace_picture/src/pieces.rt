@@ -1,0 +1,84 @@
+ghost use Rattle.std.specs.Prelude.{◌≡◌, ◌+◌, ◌*◌, ◌++◌, codes, IfOk, OnOk};
+ghost use Rattle.std.specs.Fmt.{decimal};
+ghost use Rattle.std.specs.String.{string_bytes};
+ghost use Rattle.trace_picture.specs.Places.{x_of, y_of, point_text, path_text, at_text, text_text};
+
+use crate::drawing::Spot;
+use crate::escape::put_shown;
+use plan_base::{Bytes, NoMemory};
+use std::alloc::{AllocError, Global};
+
+/// Pixels from the left.
+pub(crate) fn x_of(across: u32) -> u64
+    ensures { result ≡ x_of across }
+{
+    u64::from(across) * 110 + 30
+}
+
+/// Pixels from the top.
+pub(crate) fn y_of(row: u32) -> u64
+    ensures { result ≡ y_of row }
+{
+    u64::from(row) * 18 + 66
+}
+
+/// A place in pixels.
+#[tactic(auto, unfolding(crate::specs::Places::point_text))]
+fn point(alloc: Global, at: Spot) -> Result<String, AllocError>
+    ensures { IfOk result (λ text. string_bytes text ≡ point_text at) }
+{
+    let x = x_of(at.across);
+    let y = y_of(at.row);
+    format!(in alloc; "{x} {y}")
+}
+
+/// Appends a place in pixels.
+pub(crate) fn put_point(alloc: Global, out: &mut Bytes, at: Spot) -> Result<(), NoMemory>
+    ensures { OnOk result (out.new ≡ out.old ++ point_text at) }
+{
+    let text = point(alloc, at)?;
+    out.add_all(text.as_bytes())?;
+    Ok(())
+}
+
+/// Appends the beginning of a path of this class, up to its first place.
+#[tactic(auto, unfolding(crate::specs::Places::path_text))]
+pub(crate) fn put_path(
+    alloc: Global,
+    out: &mut Bytes,
+    class: &[u8],
+    at: Spot,
+) -> Result<(), NoMemory>
+    ensures { OnOk result (out.new ≡ out.old ++ path_text class.now at) }
+{
+    out.add_all(b"<path class='")?;
+    out.add_all(class)?;
+    out.add_all(b"' d='M")?;
+    put_point(alloc, out, at)
+}
+
+/// What places a text in pixels.
+#[tactic(auto, unfolding(crate::specs::Places::at_text))]
+fn at_text(alloc: Global, x: u64, y: u64) -> Result<String, AllocError>
+    ensures { IfOk result (λ text. string_bytes text ≡ at_text x y) }
+{
+    format!(in alloc; "' x='{x}' y='{y}'>")
+}
+
+/// Appends the beginning of a text of this class, up to its first byte.
+#[tactic(auto, unfolding(crate::specs::Places::text_text))]
+pub(crate) fn put_text(
+    alloc: Global,
+    out: &mut Bytes,
+    class: &[u8],
+    x: u64,
+    y: u64,
+) -> Result<(), NoMemory>
+    ensures { OnOk result (out.new ≡ out.old ++ text_text class.now x y) }
+{
+    out.add_all(b"<text class='")?;
+    out.add_all(class)?;
+    let place = at_text(alloc, x, y)?;
+    out.add_all(place.as_bytes())?;
+    Ok(())
+}

@@ -1,0 +1,236 @@
+use crate::drawing::{Spot, Stroke};
+use crate::lanes::column;
+use plan_base::{Dev, Host};
+use std::alloc::{AllocError, Global};
+use trace_lines::{Entry, Line, What};
+
+/// The way of a frame.
+#[derive(Clone, Copy, Drop)]
+pub(crate) struct Journey {
+    pub from: Spot,
+    pub to: Spot,
+    pub device: u32,
+    /// What was sent.
+    pub what: Stroke,
+    /// How the way ended; `Open` as long as it has not.
+    pub stroke: Stroke,
+}
+
+/// Where the frames of a device come out.
+#[derive(Clone, Copy, Drop)]
+pub(crate) struct Link {
+    pub across: u32,
+    pub device: u32,
+    pub far: u32,
+}
+
+/// Where a line stands, and which frame it is about, by the order on the wire.
+#[derive(Clone, Copy, Drop)]
+pub(crate) struct Place {
+    pub at: Spot,
+    pub begins: bool,
+    pub frame: Option<usize>,
+}
+
+/// The most links that are remembered. Where the far end of a link isn't known, a frame that was
+/// lost on it is drawn to the right.
+const MOST_LINKS: usize = 1_024;
+
+/// The lines gone through so far.
+#[derive(Drop)]
+pub(crate) struct Walk {
+    hosts: Vec<u32>,
+    /// The frames by the order on the wire: frame K is at K - 1.
+    pub journeys: Vec<Journey>,
+    pub links: Vec<Link>,
+    pub row: u32,
+    event: u64,
+    is_row_used: bool,
+    sender: u32,
+    device: u32,
+    what: Stroke,
+    /// The frame that left the wire in this event.
+    taken: Option<usize>,
+}
+
+/// Whether a line takes a row of its own.
+fn takes_row(line: &Line) -> bool {
+    match line {
+        Line::Sent(..) | Line::Wire(_) | Line::WireShown(..) | Line::Off(_) => false,
+        _ => true,
+    }
+}
+
+impl Walk {
+    /// No line yet.
+    pub fn new(alloc: Global, hosts: Vec<u32>) -> Walk {
+        Walk {
+            hosts,
+            journeys: Vec::new(alloc),
+            links: Vec::new(alloc),
+            row: 0,
+            event: 0,
+            is_row_used: false,
+            sender: 0,
+            device: 0,
+            what: Stroke::Packet,
+            taken: None,
+        }
+    }
+
+    fn next_row(&mut self) {
+        self.row = self.row.saturating_add(1);
+        self.is_row_used = false;
+    }
+
+    /// Goes down to the row of a line, and answers whether its event begins.
+    fn go_down(&mut self, entry: &Entry) -> bool {
+        let begins = entry.event != self.event;
+        if begins {
+            self.event = entry.event;
+            self.taken = None;
+            self.next_row();
+        }
+        if takes_row(&entry.line) {
+            if self.is_row_used {
+                self.next_row();
+            }
+            self.is_row_used = true;
+        }
+        begins
+    }
+
+    fn add_link(&mut self, across: u32, device: u32, far: u32) -> Result<(), AllocError> {
+        if self.links.len() < MOST_LINKS && far_end(&self.links, across, device).is_none() {
+            self.links.push(Link {
+                across,
+                device,
+                far,
+            })?;
+        }
+        Ok(())
+    }
+
+    /// Puts the frame that was sent last onto the wire.
+    fn set_off(&mut self) -> Result<Place, AllocError> {
+        let at = Spot {
+            across: self.sender,
+            row: self.row,
+        };
+        let frame = self.journeys.len();
+        self.journeys.push(Journey {
+            from: at,
+            to: Spot {
+                across: self.sender,
+                row: self.row.saturating_add(1),
+            },
+            device: self.device,
+            what: self.what,
+            stroke: Stroke::Open,
+        })?;
+        Ok(self.place(at.across, Some(frame)))
+    }
+
+    fn place(&self, across: u32, frame: Option<usize>) -> Place {
+        Place {
+            at: Spot {
+                across,
+                row: self.row,
+            },
+            begins: false,
+            frame,
+        }
+    }
+
+    /// The frame that left the wire came out here.
+    fn come_out(&mut self, across: u32, device: u32) -> Result<Place, AllocError> {
+        let place = self.place(across, self.taken);
+        let Some(frame) = self.taken else {
+            return Ok(place);
+        };
+        let Some(journey) = self.journeys.get_mut(frame) else {
+            return Ok(place);
+        };
+        journey.to = place.at;
+        journey.stroke = journey.what;
+        let (from, out) = (journey.from.across, journey.device);
+        self.add_link(from, out, across)?;
+        self.add_link(across, device, from)?;
+        Ok(place)
+    }
+
+    /// The frame that left the wire was lost. The label stands in the next row.
+    fn vanish(&mut self) -> Place {
+        let place = self.place(0, self.taken);
+        self.next_row();
+        self.is_row_used = true;
+        if let Some(frame) = self.taken {
+            if let Some(journey) = self.journeys.get_mut(frame) {
+                journey.to = place.at;
+                journey.stroke = Stroke::Lost;
+            }
+        }
+        place
+    }
+
+    /// A frame leaves its queue.
+    fn leave(&mut self, across: u32, device: u32, what: What) -> Place {
+        self.sender = across;
+        self.device = device;
+        self.what = match what {
+            What::Packet(_) => Stroke::Packet,
+            What::Advert => Stroke::Advert,
+        };
+        self.place(across, None)
+    }
+
+    /// Takes frame `number` off the wire.
+    fn take_off(&mut self, number: u32) -> Place {
+        self.taken = match usize::try_from(number) {
+            Ok(n) => n.checked_sub(1),
+            Err(_) => None,
+        };
+        self.place(0, None)
+    }
+
+    fn across(&self, host: Host) -> u32 {
+        column(&self.hosts, host.0)
+    }
+
+    fn place_of(&mut self, line: &Line) -> Result<Place, AllocError> {
+        match line {
+            Line::Sent(h, Dev(d), what) => Ok(self.leave(self.across(*h), *d, *what)),
+            Line::Wire(_) | Line::WireShown(..) => self.set_off(),
+            Line::Off(number) => Ok(self.take_off(*number)),
+            Line::Arrived(h, Dev(d)) => self.come_out(self.across(*h), *d),
+            Line::Lost(..) | Line::LostAdvert => Ok(self.vanish()),
+            _ => match line.host() {
+                Some(h) => Ok(self.place(self.across(h), None)),
+                None => Ok(self.place(0, None)),
+            },
+        }
+    }
+
+    /// The frames, and the links that they showed.
+    pub fn ways(self) -> (Vec<Journey>, Vec<Link>) {
+        (self.journeys, self.links)
+    }
+
+    /// Goes on by a line, and answers where it stands.
+    pub fn step(&mut self, entry: &Entry) -> Result<Place, AllocError> {
+        let begins = self.go_down(entry);
+        let place = self.place_of(&entry.line)?;
+        Ok(Place { begins, ..place })
+    }
+}
+
+/// Where the frames of a device come out, where that is known.
+pub(crate) fn far_end(links: &[Link], across: u32, device: u32) -> Option<u32> {
+    let i = links
+        .iter()
+        .position(|l| l.across == across && l.device == device)?;
+    match links.get(i) {
+        Some(l) => Some(l.far),
+        None => None,
+    }
+}

@@ -1,0 +1,82 @@
+ghost use Rattle.std.specs.Prelude.{◌≡◌, ◌++◌, OnOk};
+ghost use Rattle.std.specs.List.{flat_map};
+ghost use Rattle.trace_picture.specs.Pictures.{arrow_text, inward_text, outward_text, way_text};
+
+use crate::drawing::{Kind, Mark};
+use crate::pieces::{put_path, put_point};
+use crate::words::stroke_word;
+use plan_base::{Bytes, NoMemory};
+use std::alloc::Global;
+
+/// Appends the arrow of a frame.
+#[tactic(auto, unfolding(crate::specs::Pictures::arrow_text))]
+fn put_arrow(alloc: Global, out: &mut Bytes, m: &Mark) -> Result<(), NoMemory>
+    ensures { OnOk result (out.new ≡ out.old ++ arrow_text m.now) }
+{
+    put_path(alloc, out, stroke_word(m.stroke), m.at)?;
+    out.add_all(b"L")?;
+    put_point(alloc, out, m.to)?;
+    out.add_all(b"'/>\n")?;
+    Ok(())
+}
+
+/// Appends an arrow from outside, or nothing where the frame came off the wire.
+#[tactic(auto, unfolding(crate::specs::Pictures::inward_text))]
+fn put_inward(alloc: Global, out: &mut Bytes, m: &Mark) -> Result<(), NoMemory>
+    ensures { OnOk result (out.new ≡ out.old ++ inward_text m.now) }
+{
+    if !m.is_outside {
+        return Ok(());
+    }
+    put_path(alloc, out, stroke_word(m.stroke), m.at)?;
+    out.add_all(b"m-80 -12L")?;
+    put_point(alloc, out, m.at)?;
+    out.add_all(b"'/>\n")?;
+    Ok(())
+}
+
+/// Appends an arrow to the outside, or nothing where the frame went onto the wire.
+#[tactic(auto, unfolding(crate::specs::Pictures::outward_text))]
+fn put_outward(alloc: Global, out: &mut Bytes, m: &Mark) -> Result<(), NoMemory>
+    ensures { OnOk result (out.new ≡ out.old ++ outward_text m.now) }
+{
+    if !m.is_outside {
+        return Ok(());
+    }
+    put_path(alloc, out, stroke_word(m.stroke), m.at)?;
+    out.add_all(b"l80 12")?;
+    out.add_all(b"'/>\n")?;
+    Ok(())
+}
+
+/// Appends the arrow of a mark, where it has one.
+#[tactic(auto, unfolding(crate::specs::Pictures::way_text))]
+fn put_way(alloc: Global, out: &mut Bytes, m: &Mark) -> Result<(), NoMemory>
+    ensures { OnOk result (out.new ≡ out.old ++ way_text m.now) }
+{
+    match m.kind {
+        Kind::Frame => put_arrow(alloc, out, m),
+        Kind::Arrival => put_inward(alloc, out, m),
+        Kind::Sending => put_outward(alloc, out, m),
+        Kind::Loss
+        | Kind::Value
+        | Kind::Exception
+        | Kind::Spent
+        | Kind::Dropped
+        | Kind::Note
+        | Kind::Start
+        | Kind::Forgery
+        | Kind::Aside
+        | Kind::Unseen => Ok(()),
+    }
+}
+
+/// Appends the arrows of marks.
+pub(crate) fn put_ways(alloc: Global, out: &mut Bytes, marks: &[Mark]) -> Result<(), NoMemory>
+    ensures { OnOk result (out.new ≡ out.old ++ flat_map way_text marks.now) }
+{
+    for m in marks {
+        put_way(alloc, out, m)?;
+    }
+    Ok(())
+}
