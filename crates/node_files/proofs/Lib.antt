@@ -1,0 +1,9 @@
+pub mod PartLaws
+pub mod Placed
+pub mod NodeLaws
+pub mod AskLaws
+pub mod FleetLaws
+pub mod ConfigLaws
+pub mod ChunkLaws
+pub mod LogLaws
+pub mod LogTextLaws
