@@ -165,6 +165,7 @@ impl AskReading {
     }
 
     /// The header.
+    #[tactic(auto, unfolding(crate::specs::Asks::ask_step_at))]
     fn header(&mut self, number: u32, line: &[u8]) -> Result<(), LineFault>
         ensures { FileLeaves result self.new (ask_step_at AskStage.Header number line.now self.old) }
     {
@@ -176,6 +177,7 @@ impl AskReading {
     }
 
     /// A line behind the header and in front of the program.
+    #[tactic(auto, unfolding(crate::specs::Asks::ask_step_at))]
     fn usual(
         &mut self,
         alloc: Global,
@@ -222,6 +224,7 @@ impl AskReading {
     }
 
     /// A line behind the program.
+    #[tactic(auto, unfolding(crate::specs::Asks::ask_step_at))]
     fn behind(&mut self, number: u32, line: &[u8]) -> Result<(), LineFault>
         ensures { FileLeaves result self.new (ask_step_at AskStage.Behind number line.now self.old) }
     {
@@ -264,7 +267,6 @@ impl LineFile for AskReading {
 
     ghost format = { ask_format };
 
-    #[tactic(auto, unfolding(crate::specs::Asks::ask_step_at))]
     fn line(&mut self, alloc: Global, number: u32, line: &[u8]) -> Result<(), LineFault> {
         match self.stage {
             AskStage::Header => self.header(number, line),

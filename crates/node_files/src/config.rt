@@ -356,6 +356,7 @@ impl ConfigReading {
     }
 
     /// The header.
+    #[tactic(auto, unfolding(crate::specs::Configs::config_step_at))]
     fn header(&mut self, number: u32, line: &[u8]) -> Result<(), LineFault>
         ensures { FileLeaves result self.new (config_step_at ConfigStage.Header number line.now self.old) }
     {
@@ -367,6 +368,7 @@ impl ConfigReading {
     }
 
     /// A line up to the name of the log.
+    #[tactic(auto, unfolding(crate::specs::Configs::config_step_at))]
     fn usual(
         &mut self,
         alloc: Global,
@@ -387,6 +389,7 @@ impl ConfigReading {
     }
 
     /// A line behind it.
+    #[tactic(auto, unfolding(crate::specs::Configs::config_step_at))]
     fn later(
         &mut self,
         alloc: Global,
@@ -461,7 +464,6 @@ impl LineFile for ConfigReading {
 
     ghost format = { config_format };
 
-    #[tactic(auto, unfolding(crate::specs::Configs::config_step_at))]
     fn line(&mut self, alloc: Global, number: u32, line: &[u8]) -> Result<(), LineFault> {
         match self.stage {
             ConfigStage::Header => self.header(number, line),

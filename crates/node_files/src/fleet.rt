@@ -106,6 +106,7 @@ impl FleetReading {
     }
 
     /// The header.
+    #[tactic(auto, unfolding(crate::specs::Fleets::fleet_step_at))]
     fn header(&mut self, number: u32, line: &[u8]) -> Result<(), LineFault>
         ensures { FileLeaves result self.new (fleet_step_at false number line.now self.old) }
     {
@@ -117,6 +118,7 @@ impl FleetReading {
     }
 
     /// A line behind the header.
+    #[tactic(auto, unfolding(crate::specs::Fleets::fleet_step_at))]
     fn usual(&mut self, alloc: Global, number: u32, line: &[u8]) -> Result<(), LineFault>
         ensures { FileLeaves result self.new (fleet_step_at true number line.now self.old) }
     {

@@ -304,6 +304,7 @@ impl LogReading {
     }
 
     /// The header.
+    #[tactic(auto, unfolding(crate::specs::Logs::log_step_at))]
     fn header(&mut self, number: u32, line: &[u8]) -> Result<(), LineFault>
         ensures { FileLeaves result self.new (log_step_at LogStage.Header number line.now self.old) }
     {
@@ -315,6 +316,7 @@ impl LogReading {
     }
 
     /// The line of the node's own host.
+    #[tactic(auto, unfolding(crate::specs::Logs::log_step_at))]
     fn host_step(&mut self, number: u32, line: &[u8]) -> Result<(), LineFault>
         ensures { FileLeaves result self.new (log_step_at LogStage.Host number line.now self.old) }
     {
@@ -329,6 +331,7 @@ impl LogReading {
     }
 
     /// The line of the network's hosts.
+    #[tactic(auto, unfolding(crate::specs::Logs::log_step_at))]
     fn hosts_step(&mut self, alloc: Global, number: u32, line: &[u8]) -> Result<(), LineFault>
         ensures { FileLeaves result self.new (log_step_at LogStage.Hosts number line.now self.old) }
     {
@@ -343,6 +346,7 @@ impl LogReading {
     }
 
     /// A line between the hosts and the entries.
+    #[tactic(auto, unfolding(crate::specs::Logs::log_step_at))]
     fn node_step(
         &mut self,
         alloc: Global,
@@ -363,6 +367,7 @@ impl LogReading {
     }
 
     /// The line of an entry.
+    #[tactic(auto, unfolding(crate::specs::Logs::log_step_at))]
     fn entry_step(&mut self, alloc: Global, number: u32, line: &[u8]) -> Result<(), LineFault>
         ensures { FileLeaves result self.new (log_step_at LogStage.Events number line.now self.old) }
     {
@@ -400,7 +405,6 @@ impl LineFile for LogReading {
 
     ghost format = { log_format };
 
-    #[tactic(auto, unfolding(crate::specs::Logs::log_step_at))]
     fn line(&mut self, alloc: Global, number: u32, line: &[u8]) -> Result<(), LineFault> {
         match self.stage {
             LogStage::Header => self.header(number, line),
