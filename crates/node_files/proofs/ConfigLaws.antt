@@ -145,7 +145,7 @@ unfolding port_line
 port_keeps ws s k =
     then_keeps Kept (behind_word (codes "port") ws) _ (λ more hm.
     then_keeps Kept (last_number 1 65535 more) _ (λ p hp.
-    done_keeps Kept (record s { stage = stages.Wants head.Control; port = p }) (k.0, (k.1, last_number_is 1 65535 more p hp))))
+    done_keeps Kept (record s { stage = stages.Wants head.Control; port = p }) (k.0, k.1, last_number_is 1 65535 more p hp)))
 
 control_keeps : (ws : List (List ℕ)) (s : ConfigReading) → KeptAt (stages.Wants head.Control) s → IfRead Kept (control_line ws s)
 unfolding control_line
@@ -154,14 +154,14 @@ control_keeps ws s k =
     then_keeps Kept (free_port s more) _ (λ p hp.
     then_keeps Kept (end_at p.1) _ (λ u hu.
     let f = free_port_is s more p hp in
-    done_keeps Kept (record s { stage = stages.Wants head.Period; control = p.0 }) (k.0, (k.1.0, (k.1.1, (f.port, λ e. f.other (sym e))))))))
+    done_keeps Kept (record s { stage = stages.Wants head.Period; control = p.0 }) (k.0, k.1, (k.2, f.port, λ e. f.other (sym e))))))
 
 period_keeps : (ws : List (List ℕ)) (s : ConfigReading) → KeptAt (stages.Wants head.Period) s → IfRead Kept (period_line ws s)
 unfolding period_line
 period_keeps ws s k =
     then_keeps Kept (behind_word (codes "period") ws) _ (λ more hm.
     then_keeps Kept (last_number 1 60000 more) _ (λ n hn.
-    done_keeps Kept (record s { stage = stages.Wants head.Log; period = n }) (k.0, (k.1.0, (k.1.1, last_number_is 1 60000 more n hn)))))
+    done_keeps Kept (record s { stage = stages.Wants head.Log; period = n }) (k.0, k.1, k.2, last_number_is 1 60000 more n hn)))
 
 no_devices : (here : Host) (hosts : List Host) (port control : ℕ) (ns : List (Host × Dev)) (ds : List (Dev × ℕ)) → ns ≡ [] → ds ≡ [] → IsPort port → IsPort control → control ≢ port → KeepsDevices here hosts port control ns ds
 no_devices here hosts port control [] [] en ed p c apart = record {
@@ -180,9 +180,9 @@ log_keeps ws s k =
     then_keeps Kept (behind_word (codes "log") ws) _ (λ more hm.
     then_keeps Kept (file_name_at more) _ (λ file hf.
     then_keeps Kept (end_at file.1) _ (λ u hu.
-    let p = k.1.1.0 in
+    let p = k.2 in
     done_keeps Kept (record s { stage = stages.Tail parts.Devices; log = file.0 })
-    (k.1.0, (no_devices s.here s.hosts s.port s.control s.neighbours s.devs k.0.0 k.0.1.0 p.0 p.1.0 p.1.1, (k.0.1.1, (k.1.1.1, file_name_is more file hf)))))))
+    (k.1, no_devices s.here s.hosts s.port s.control s.neighbours s.devs k.0.0 k.0.1 p.0 p.1 p.2, k.0.2, k.3, file_name_is more file hf))))
 
 wanted_keeps : (w : HeadWord) (ws : List (List ℕ)) (s : ConfigReading) → KeptAt (stages.Wants w) s → IfRead Kept (wanted_line w ws s)
 unfolding wanted_line
@@ -236,16 +236,16 @@ device_keeps ws s l k =
     then_keeps Kept (free_port s n.1) _ (λ p hp.
     then_keeps Kept (end_at p.1) _ (λ u hu.
     done_keeps Kept (with_device s n.0 p.0) (late_is s.stage (with_device s n.0 p.0) l
-    (k.0, (more_devices s n.0 p.0 k.1.0 (neighbour_is s.here s.hosts s.neighbours ws n hn) (free_port_is s n.1 p hp), k.1.1))))))
+    (k.0, more_devices s n.0 p.0 k.1 (neighbour_is s.here s.hosts s.neighbours ws n hn) (free_port_is s n.1 p hp), k.2, k.3, k.4)))))
 
 missing_keeps : (ws : List (List ℕ)) (s : ConfigReading) → Whole s → IfRead Kept (missing_line ws s)
 unfolding missing_line
 missing_keeps ws s k =
     then_keeps Kept (package_at s.missing ws) _ (λ missing hm.
     then_keeps Kept (end_at missing.1) _ (λ u hu.
-    let t = k.1.1.0 in
+    let t = k.2 in
     done_keeps Kept (record s { stage = stages.Tail parts.Missing; missing = missing.0 })
-    (k.0, (k.1.0, (record { missing = package_is s.missing ws t.missing missing hm; checked = t.checked; injects = t.injects; sum = t.sum; few = t.few }, k.1.1.1)))))
+    (k.0, k.1, record { missing = package_is s.missing ws t.missing missing hm; checked = t.checked; injects = t.injects; sum = t.sum; few = t.few }, k.3, k.4)))
 
 program_keeps : (number : ℕ) (ws : List (List ℕ)) (s : ConfigReading) → Whole s → IfRead Kept (program_line number ws s)
 unfolding program_line
@@ -253,7 +253,7 @@ program_keeps number ws s k =
     then_keeps Kept (end_at ws) _ (λ u hu.
     done_keeps Kept (record s { stage = stages.Inside; program = opened number }) k)
 
-weights_push : (is : List (ℕ × ℕ × Chunk)) (i : ℕ × ℕ × Chunk) → weights (is ++ i ∷ []) ≡ weights is + (1 + chunk_weight i.1.1)
+weights_push : (is : List (ℕ × ℕ × Chunk)) (i : ℕ × ℕ × Chunk) → weights (is ++ i ∷ []) ≡ weights is + (1 + chunk_weight i.2)
 weights_push [] i = omega arith
 weights_push (j ∷ js) i = omega (arith, weights_push js i)
 
@@ -268,26 +268,23 @@ inject_keeps ws s l k =
     then_keeps Kept (behind_word (codes "inject") turn.1) _ (λ more hm.
     then_keeps Kept (injection_at program more) _ (λ i hi.
     then_keeps Kept (weighed s.weight i.0) _ (λ total hw.
-    let t = k.1.1.0 in
+    let t = k.2 in
     let turns = number_is 1 1000000 ws turn ht in
     let in_all = weighed_is s.weight i.0 total hw in
     let program_is_checked = checked_is s.checked program t.checked (ok_or_is s.checked UnknownProgram program hp) in
-    let next : ConfigReading = record s { at = s.at ++ (turn.0, (i.1, i.0)) ∷ []; weight = total } in
+    let next : ConfigReading = record s { at = s.at ++ (turn.0, i.1, i.0) ∷ []; weight = total } in
     done_keeps Kept next (late_is s.stage next l (
       k.0,
-      (
-        k.1.0,
-        (
-          record {
-            missing = t.missing;
-            checked = t.checked;
-            injects = All-push KeepsInject s.at (turn.0, (i.1, i.0)) t.injects (turns.0, (turns.1, injection_is program more program_is_checked i hi));
-            sum = omega (arith, in_all.0, t.sum, weights_push s.at (turn.0, (i.1, i.0)));
-            few = in_all.1;
-          },
-          k.1.1.1,
-        ),
-      ),
+      k.1,
+      record {
+        missing = t.missing;
+        checked = t.checked;
+        injects = All-push KeepsInject s.at (turn.0, i.1, i.0) t.injects (turns.0, turns.1, injection_is program more program_is_checked i hi);
+        sum = omega (arith, in_all.0, t.sum, weights_push s.at (turn.0, i.1, i.0));
+        few = in_all.1;
+      },
+      k.3,
+      k.4,
     )))))))
 
 rest_keeps : (w : TailWord) (number : ℕ) (ws : List (List ℕ)) (s : ConfigReading) → IsLate s.stage → Whole s → IfRead Kept (tail_rest w number ws s)
@@ -309,9 +306,9 @@ close_keeps : (s : ConfigReading) → Whole s → IfRead Kept (close_program s)
 unfolding close_program
 close_keeps s k =
     then_keeps Kept (program_in s.program.text) _ (λ p hp.
-    let t = k.1.1.0 in
+    let t = k.2 in
     done_keeps Kept (record s { stage = stages.Tail parts.Behind; checked = Some p })
-    (k.0, (k.1.0, (record { missing = t.missing; checked = program_is s.program.text p hp; injects = t.injects; sum = t.sum; few = t.few }, k.1.1.1))))
+    (k.0, k.1, record { missing = t.missing; checked = program_is s.program.text p hp; injects = t.injects; sum = t.sum; few = t.few }, k.3, k.4))
 
 step_keeps : (stage : ConfigStage) (number : ℕ) (line : List ℕ) (s : ConfigReading) → s.stage ≡ stage → Kept s → IfStep Kept (config_step_at stage number line s)
 unfolding config_step_at
@@ -332,14 +329,14 @@ step_keeps stages.Inside number line s e k =
 said_keeps : (s : ConfigReading) → Whole s → KeepsServe (config_said s)
 said_keeps s k =
     let h = k.0 in
-    let d = k.1.0 in
-    let t = k.1.1.0 in
+    let d = k.1 in
+    let t = k.2 in
     record {
       node = record { few = h.rises.few; ascend = h.rises.ascend; numbers = h.rises.numbers; here = h.listed; neighbours = d.neighbours; devices = d.ascend; serial = omega arith };
       serial = refl;
       missing = t.missing;
-      period = k.1.1.1.0;
-      log = k.1.1.1.1;
+      period = k.3;
+      log = k.4;
       devices = d.same;
       ports = d.ports;
       apart = d.apart;
@@ -354,7 +351,7 @@ end_keeps (stages.Tail part) number s e k = step_done KeepsServe (config_said s)
 end_keeps stages.Inside number s e k y h = absurd cc
 
 nothing_keeps : Kept nothing_read
-nothing_keeps = (refl, (refl, record { missing = tt; checked = tt; injects = All-nil KeepsInject; sum = refl; few = omega arith }))
+nothing_keeps = (refl, refl, record { missing = tt; checked = tt; injects = All-nil KeepsInject; sum = refl; few = omega arith })
 
 config_keeps : (bytes : List ℕ) → IfStep KeepsServe (config_of bytes)
 config_keeps bytes =
@@ -414,7 +411,7 @@ rest_begun number ws s low b tail.At =
     then_keeps (Begun number) (behind_word (codes "inject") turn.1) _ (λ more hm.
     then_keeps (Begun number) (injection_at program more) _ (λ i hi.
     then_keeps (Begun number) (weighed s.weight i.0) _ (λ total hw.
-    done_keeps (Begun number) (record s { at = s.at ++ (turn.0, (i.1, i.0)) ∷ []; weight = total }) b)))))
+    done_keeps (Begun number) (record s { at = s.at ++ (turn.0, i.1, i.0) ∷ []; weight = total }) b)))))
 
 tail_begun : (part : TailPart) (number : ℕ) (ws : List (List ℕ)) (s : ConfigReading) → 1 ≤ number → Begun number s → IfRead (Begun number) (tail_line part number ws s)
 unfolding tail_line

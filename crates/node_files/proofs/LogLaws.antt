@@ -7,6 +7,7 @@ use lib.Chars.{codes}
 use Rattle.std.proofs.lemmas.List.Elements.{All-nil, All-push}
 use Rattle.plan_base.specs.declared.ids.Host.{Host}
 use Rattle.plan_base.specs.declared.ids.Dev.{Dev}
+use Rattle.plan_base.specs.declared.tree.Chunk.{Chunk}
 use Rattle.service_api.specs.declared.package.PackageName.{PackageName}
 use Rattle.network_plan.specs.declared.event.Event.TheVariants as events
 use Rattle.network_plan.specs.declared.event.LogEvent.{LogEvent}
@@ -46,7 +47,7 @@ use Rattle.node_files.proofs.ChunkLaws.{typed_read}
 
 -- ---- entries
 
-abbrev CheckedFront : _ × List (List ℕ) → Type 0
+abbrev CheckedFront : Chunk × List (List ℕ) → Type 0
 CheckedFront x = IsCheckedChunk x.0
 
 chunk_is : (ws : List (List ℕ)) → IfRead CheckedFront (chunk_at ws)
@@ -153,7 +154,7 @@ network_keeps : (ws : List (List ℕ)) (s : LogReading) → Fresh s → IfRead K
 unfolding network_line
 network_keeps ws s k =
     then_keeps Kept (hosts_line s.here ws) _ (λ hosts hh.
-    done_keeps Kept (record s { stage = stages.Node false; hosts = hosts }) (hosts_line_is s.here ws hosts hh, (no_devices s.here hosts s.neighbours k.0, k.1)))
+    done_keeps Kept (record s { stage = stages.Node false; hosts = hosts }) (hosts_line_is s.here ws hosts hh, no_devices s.here hosts s.neighbours k.0, k.1))
 
 device_keeps : (ws : List (List ℕ)) (s : LogReading) → IsLate s.stage → Whole s → IfRead Kept (device_line ws s)
 unfolding device_line
@@ -164,13 +165,11 @@ device_keeps ws s l k =
     let next : LogReading = record s { neighbours = placed device_of n.0 s.neighbours } in
     done_keeps Kept next (late_is s.stage next l (
       k.0,
-      (
-        record {
-          neighbours = all_placed (IsNeighbour s.here s.hosts) device_of n.0 s.neighbours new.neighbour k.1.0.neighbours;
-          ascend = ascend_placed n.0 s.neighbours new.free k.1.0.ascend;
-        },
-        k.1.1,
-      ),
+      record {
+        neighbours = all_placed (IsNeighbour s.here s.hosts) device_of n.0 s.neighbours new.neighbour k.1.neighbours;
+        ascend = ascend_placed n.0 s.neighbours new.free k.1.ascend;
+      },
+      k.2,
     ))))
 
 missing_keeps : (ws : List (List ℕ)) (s : LogReading) → Whole s → IfRead Kept (missing_line ws s)
@@ -178,9 +177,9 @@ unfolding missing_line
 missing_keeps ws s k =
     then_keeps Kept (package_at s.missing ws) _ (λ missing hm.
     then_keeps Kept (end_at missing.1) _ (λ u hu.
-    let r = k.1.1 in
+    let r = k.2 in
     done_keeps Kept (record s { stage = stages.Node true; missing = missing.0 })
-    (k.0, (k.1.0, record { missing = package_is s.missing ws r.missing missing hm; few = r.few; events = r.events }))))
+    (k.0, k.1, record { missing = package_is s.missing ws r.missing missing hm; few = r.few; events = r.events })))
 
 events_keeps : (ws : List (List ℕ)) (s : LogReading) → Whole s → IfRead Kept (events_line ws s)
 unfolding events_line
@@ -207,18 +206,16 @@ entry_keeps ws s l k =
     then_keeps Kept (ok_or (entry_word w.0) BadWord) _ (λ kind hk.
     then_keeps Kept (allowed (ltb (length s.events) 50000) TooMany) _ (λ u hu.
     then_keeps Kept (entry_rest kind w.1) _ (λ e he.
-    let r = k.1.1 in
+    let r = k.2 in
     let next : LogReading = record s { events = s.events ++ e ∷ [] } in
     done_keeps Kept next (late_is s.stage next l (
       k.0,
-      (
-        k.1.0,
-        record {
-          missing = r.missing;
-          few = omega (arith, length-append s.events (e ∷ []), allowed_below (length s.events) 50000 TooMany u hu);
-          events = All-push KeepsEntry s.events e r.events (rest_is kind w.1 e he);
-        },
-      ),
+      k.1,
+      record {
+        missing = r.missing;
+        few = omega (arith, length-append s.events (e ∷ []), allowed_below (length s.events) 50000 TooMany u hu);
+        events = All-push KeepsEntry s.events e r.events (rest_is kind w.1 e he);
+      },
     ))))))
 
 step_keeps : (stage : LogStage) (number : ℕ) (line : List ℕ) (s : LogReading) → s.stage ≡ stage → Kept s → IfStep Kept (log_step_at stage number line s)
@@ -242,8 +239,8 @@ step_keeps stages.Events number line s e k =
 said_keeps : (s : LogReading) → Whole s → KeepsLog (log_said s)
 said_keeps s k =
     let h = k.0 in
-    let d = k.1.0 in
-    let r = k.1.1 in
+    let d = k.1 in
+    let r = k.2 in
     record {
       node = record { few = h.rises.few; ascend = h.rises.ascend; numbers = h.rises.numbers; here = h.listed; neighbours = d.neighbours; devices = d.ascend; serial = omega arith };
       serial = refl;

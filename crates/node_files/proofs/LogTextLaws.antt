@@ -67,14 +67,14 @@ line_is w ws = ap (λ (l : List ℕ). w ++ l) (closing_is ws) ∙ sym (append_as
 
 words_again : (w : List ℕ) (ws : List (List ℕ)) → Clean (w ∷ ws) → words (spaced (w ∷ ws)) ≡ w ∷ ws
 words_again w [] c = rw (append-nil w) (word_alone w c.0)
-words_again w (v ∷ vs) c = word_first w (v ++ behind vs) c.0 ∙ ap (λ (l : List (List ℕ)). w ∷ l) (words_again v vs c.1.1)
+words_again w (v ∷ vs) c = word_first w (v ++ behind vs) c.0 ∙ ap (λ (l : List (List ℕ)). w ∷ l) (words_again v vs c.2)
 
 behind_clean : (ws : List (List ℕ)) → Clean ws → without 10 (behind ws) ≡ true
 behind_clean [] c = refl
-behind_clean (w ∷ ws) c = without-append 10 (32 ∷ w) (behind ws) c.1.0 (behind_clean ws c.1.1)
+behind_clean (w ∷ ws) c = without-append 10 (32 ∷ w) (behind ws) c.1 (behind_clean ws c.2)
 
 spaced_clean : (w : List ℕ) (ws : List (List ℕ)) → Clean (w ∷ ws) → without 10 (spaced (w ∷ ws)) ≡ true
-spaced_clean w ws c = without-append 10 w (behind ws) c.1.0 (behind_clean ws c.1.1)
+spaced_clean w ws c = without-append 10 w (behind ws) c.1 (behind_clean ws c.2)
 
 lines_again : (w : List ℕ) (ws : List (List ℕ)) (more : List ℕ) → Clean (w ∷ ws) → lines (line_text (w ∷ ws) ++ more) ≡ spaced (w ∷ ws) ∷ lines more
 lines_again w ws more c =
@@ -123,7 +123,7 @@ usual_again n w ws s u read says c e = rw (says, words_again w ws c, e) refl
 -- ---- numbers
 
 clean_number : (n : ℕ) → n < 2 ^ 64 → (ws : List (List ℕ)) → Clean ws → Clean (decimal n ∷ ws)
-clean_number n small ws c = (number_without 32 n (omega arith) small, (number_without 10 n (omega arith) small, c))
+clean_number n small ws c = (number_without 32 n (omega arith) small, number_without 10 n (omega arith) small, c)
 
 number_reads : (low high n : ℕ) (ws : List (List ℕ)) → n < 2 ^ 64 → low ≤ n → n ≤ high → number_at low high (decimal n ∷ ws) ≡ Ok (n, ws)
 unfolding number_at
@@ -140,7 +140,7 @@ unfolding host_line behind_word
 host_reads h small = rw (last_reads 0 4294967295 h.0 (omega (arith, small)) (omega arith) (omega (arith, small))) refl
 
 host_clean : (h : Host) → h.0 < 2 ^ 32 → Clean (host_words h)
-host_clean h small = (refl, (refl, clean_number h.0 (omega (arith, small)) [] tt))
+host_clean h small = (refl, refl, clean_number h.0 (omega (arith, small)) [] tt)
 
 -- a state behind some lines
 abbrev state : LogStage → Host → List Host → List (Host × Dev) → List PackageName → List LogEvent → LogReading
@@ -197,7 +197,7 @@ hosts_lead : (here : Host) (hosts : List Host) → length hosts ≤ 32 → Ascen
 unfolding log_step_at network_line
 hosts_lead here hosts few a small listed =
     let ws = map (λ (g : Host). decimal g.0) hosts in
-    let clean : Clean (codes "hosts" ∷ ws) = (refl, (refl, hosts_clean hosts small)) in
+    let clean : Clean (codes "hosts" ∷ ws) = (refl, refl, hosts_clean hosts small) in
     leads_line (codes "hosts") ws (state stages.Hosts here [] [] [] []) (state (stages.Node false) here hosts [] [] []) clean
     (λ n. usual_again n (codes "hosts") ws (state stages.Hosts here [] [] [] []) (state (stages.Node false) here hosts [] [] []) (λ vs. network_line vs (state stages.Hosts here [] [] [] [])) (says_hosts ws) clean (rw (hosts_read here hosts few a small listed) refl))
 
@@ -239,7 +239,7 @@ placed_last (m ∷ ms) n h =
     ge-ltb a b less = le-ltb a b (omega (arith, less))
 
 device_clean : (n : Host × Dev) → n.0.0 < 2 ^ 32 → n.1.0 ≤ 8 → Clean (device_words n)
-device_clean n small few = (refl, (refl, clean_number n.1.0 (omega (arith, few)) (decimal n.0.0 ∷ []) (clean_number n.0.0 (omega (arith, small)) [] tt)))
+device_clean n small few = (refl, refl, clean_number n.1.0 (omega (arith, few)) (decimal n.0.0 ∷ []) (clean_number n.0.0 (omega (arith, small)) [] tt))
 
 neighbour_reads : (here : Host) (hosts : List Host) (seen : List (Host × Dev)) (n : Host × Dev) → n.0.0 < 2 ^ 32 → IsNeighbour here hosts n → has_device n.1.0 seen ≡ false → neighbour_at here hosts seen (decimal n.1.0 ∷ decimal n.0.0 ∷ []) ≡ Ok (n, [])
 unfolding neighbour_at
@@ -290,9 +290,9 @@ package_again packages.Resident = refl
 package_again packages.Host = refl
 
 package_clean : (p : PackageName) → Clean (package_word p ∷ [])
-package_clean packages.Net = (refl, (refl, tt))
-package_clean packages.Resident = (refl, (refl, tt))
-package_clean packages.Host = (refl, (refl, tt))
+package_clean packages.Net = (refl, refl, tt)
+package_clean packages.Resident = (refl, refl, tt)
+package_clean packages.Host = (refl, refl, tt)
 
 others_differ : (p q : PackageName) → p ≢ q → same_package p q ≡ false
 others_differ packages.Net packages.Net h = absurd (h refl)
@@ -328,7 +328,7 @@ unfolding log_step_at
 missing_leads lacks here hosts ns seen p new =
     let s = state (stages.Node lacks) here hosts ns seen [] in
     let u = state (stages.Node true) here hosts ns (seen ++ (p ∷ [])) [] in
-    let clean : Clean (missing_words p) = (refl, (refl, package_clean p)) in
+    let clean : Clean (missing_words p) = (refl, refl, package_clean p) in
     leads_line (codes "without") (package_word p ∷ []) s u clean
     (λ n. usual_again n (codes "without") (package_word p ∷ []) s u (λ ws. node_line lacks ws s) refl clean (missing_reads lacks here hosts ns seen p new))
 
@@ -344,8 +344,8 @@ unfolding log_step_at
 events_lead lacks here hosts ns missing =
     let s = state (stages.Node lacks) here hosts ns missing [] in
     let u = state stages.Events here hosts ns missing [] in
-    leads_line (codes "events") [] s u (refl, (refl, tt))
-    (λ n. usual_again n (codes "events") [] s u (λ ws. node_line lacks ws s) refl (refl, (refl, tt)) (events_reads lacks here hosts ns missing))
+    leads_line (codes "events") [] s u (refl, refl, tt)
+    (λ n. usual_again n (codes "events") [] s u (λ ws. node_line lacks ws s) refl (refl, refl, tt) (events_reads lacks here hosts ns missing))
 
 tail_leads : (lacks : Bool) (here : Host) (hosts : List Host) (ns : List (Host × Dev)) (all seen ps : List PackageName) → seen ++ ps ≡ all → PackagesDiffer all
     → LeadsTo (flat_map text.missing_line ps ++ line_text (codes "events" ∷ [])) (state (stages.Node lacks) here hosts ns seen []) (state stages.Events here hosts ns all [])
@@ -385,7 +385,7 @@ hex_spaces (b ∷ bs) h =
     (and_both _ _ high.0 (and_both _ _ low.0 rest.0), and_both _ _ high.1 (and_both _ _ low.1 rest.1))
 
 hex_clean : (bytes : List ℕ) (ws : List (List ℕ)) → IsBytes bytes → Clean ws → Clean (encode_lower bytes ∷ ws)
-hex_clean bytes ws h c = let k = hex_spaces bytes h in (k.0, (k.1, c))
+hex_clean bytes ws h c = let k = hex_spaces bytes h in (k.0, k.1, c)
 
 sized_again : (low high : ℕ) (bytes : List ℕ) → low ≤ length bytes → length bytes ≤ high → sized low high (Some bytes) ≡ Some bytes
 sized_again low high bytes a b = rw (le-leb low (length bytes) a, le-leb (length bytes) high b) refl
@@ -446,12 +446,12 @@ entry_reads (logged.Step (events.Take d)) k s = take_reads d k
 entry_reads logged.Lost k s = lost_reads
 
 entry_clean : (e : LogEvent) → KeepsEntry e → IsSpellable e → Clean (entry_words e)
-entry_clean (logged.Step (events.Inject c bound)) k s = (refl, (refl, clean_number bound (omega (arith, k.0)) (encode_lower (chunk_bytes c) ∷ []) (hex_clean (chunk_bytes c) [] s.are_bytes tt)))
-entry_clean (logged.Step (events.Frame d bytes)) k s = (refl, (refl, clean_number d.0 (omega (arith, k.0)) (encode_lower bytes ∷ []) (hex_clean bytes [] (λ i. k.1.are_bytes i) tt)))
-entry_clean (logged.Step (events.Control bytes)) k s = (refl, (refl, hex_clean bytes [] (λ i. k.are_bytes i) tt))
-entry_clean (logged.Step events.Tick) k s = (refl, (refl, tt))
-entry_clean (logged.Step (events.Take d)) k s = (refl, (refl, clean_number d.0 (omega (arith, k)) [] tt))
-entry_clean logged.Lost k s = (refl, (refl, tt))
+entry_clean (logged.Step (events.Inject c bound)) k s = (refl, refl, clean_number bound (omega (arith, k.0)) (encode_lower (chunk_bytes c) ∷ []) (hex_clean (chunk_bytes c) [] s.are_bytes tt))
+entry_clean (logged.Step (events.Frame d bytes)) k s = (refl, refl, clean_number d.0 (omega (arith, k.0)) (encode_lower bytes ∷ []) (hex_clean bytes [] (λ i. k.1.are_bytes i) tt))
+entry_clean (logged.Step (events.Control bytes)) k s = (refl, refl, hex_clean bytes [] (λ i. k.are_bytes i) tt)
+entry_clean (logged.Step events.Tick) k s = (refl, refl, tt)
+entry_clean (logged.Step (events.Take d)) k s = (refl, refl, clean_number d.0 (omega (arith, k)) [] tt)
+entry_clean logged.Lost k s = (refl, refl, tt)
 
 -- the first word of an entry, and the others
 abbrev first_of : LogEvent → List ℕ

@@ -1,4 +1,4 @@
-ghost use Rattle.std.specs.Prelude.{◌≡◌, ◌≤◌, ◌⊎◌, length, Ok, Err, IfOk, IfErr, MatchResult};
+ghost use Rattle.std.specs.Prelude.{◌≡◌, ◌≤◌, ◌⊎◌, length, Ok, Err, IfOk, IfErr, OnOk, MatchResult};
 ghost use Rattle.line_files.specs.Reads.{Leaves, FileLeaves, Reads, GivesWith};
 ghost use Rattle.network_plan.specs.NodeRules.{KeepsServe};
 ghost use Rattle.network_plan.specs.declared.serve.ServeConfig.{ServeConfig as Serving};
