@@ -267,6 +267,7 @@ impl LineFile for AskReading {
 
     ghost format = { ask_format };
 
+    #[tactic(auto, unfolding(crate::specs::Asks::ask_step_at))]
     fn line(&mut self, alloc: Global, number: u32, line: &[u8]) -> Result<(), LineFault> {
         match self.stage {
             AskStage::Header => self.header(number, line),
@@ -287,7 +288,7 @@ impl LineFile for AskReading {
     }
 }
 
-#[tactic(auto, using(line_files::proofs::FileLaws::is_found, line_files::proofs::FileLaws::is_only, line_files::proofs::FileLaws::is_fault, crate::proofs::AskLaws::ask_rules))]
+#[tactic(auto, using(line_files::proofs::FileLaws::is_found, line_files::proofs::FileLaws::is_only, line_files::proofs::FileLaws::is_fault))]
 /// The request that a file is. Condition: at most 4,194,304 bytes.
 ///
 /// The fault is the first line outside the format with its reason, or `NoMemory`. What is wrong with the entry or its

@@ -464,6 +464,7 @@ impl LineFile for ConfigReading {
 
     ghost format = { config_format };
 
+    #[tactic(auto, unfolding(crate::specs::Configs::config_step_at))]
     fn line(&mut self, alloc: Global, number: u32, line: &[u8]) -> Result<(), LineFault> {
         match self.stage {
             ConfigStage::Header => self.header(number, line),
@@ -485,7 +486,7 @@ impl LineFile for ConfigReading {
     }
 }
 
-#[tactic(auto, using(line_files::proofs::FileLaws::is_found, line_files::proofs::FileLaws::is_only, line_files::proofs::FileLaws::is_fault, crate::proofs::ConfigLaws::config_rules))]
+#[tactic(auto, using(line_files::proofs::FileLaws::is_found, line_files::proofs::FileLaws::is_only, line_files::proofs::FileLaws::is_fault))]
 /// The configuration that a file is. Condition: at most 4,194,304 bytes.
 ///
 /// The fault is the first line outside the format with its reason, or `NoMemory`.

@@ -427,7 +427,7 @@ impl LineFile for LogReading {
     }
 }
 
-#[tactic(auto, using(line_files::proofs::FileLaws::is_found, line_files::proofs::FileLaws::is_only, line_files::proofs::FileLaws::is_fault, crate::proofs::LogLaws::log_rules))]
+#[tactic(auto, using(line_files::proofs::FileLaws::is_found, line_files::proofs::FileLaws::is_only, line_files::proofs::FileLaws::is_fault))]
 /// The log that a file is. Condition: at most 4,194,304 bytes.
 ///
 /// The fault is the first line outside the format with its reason, or `NoMemory`.
