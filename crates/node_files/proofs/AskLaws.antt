@@ -14,7 +14,7 @@ use Rattle.line_files.specs.declared.fault.LineFault.{LineFault}
 use Rattle.line_files.specs.Lines.{lines, words}
 use Rattle.line_files.specs.Reads.{word_at, end_at, rest_at, FileGives}
 use Rattle.line_files.specs.Programs.{opened, with_line, program_in, call_at}
-use Rattle.line_files.proofs.FileLaws.{same, is_keeping}
+use Rattle.line_files.proofs.FileLaws.{is_keeping}
 use Rattle.line_files.proofs.Keeping.{IfRead, then_keeps, done_keeps, none_keeps, IfStep, step_done, step_none, at_line_keeps, either_keeps, read_keeps}
 use Rattle.line_files.proofs.KeptPrograms.{program_is, call_is}
 use Rattle.line_files.proofs.Placing.{OnFault, fault_done, fault_here, at_line_placed, either_placed, Places}
@@ -26,7 +26,7 @@ use Rattle.node_files.specs.declared.ask.AskReading.{AskReading}
 use Rattle.node_files.specs.Parts.{behind_word, last_number}
 use Rattle.node_files.specs.Asks.{to_line, from_line, bound_line, entry_line, program_line, wanted_line, close_program, inside_line, ask_step_at, early, request_of, ask_end, ask_format, nothing_asked, ask_of}
 use Rattle.node_files.specs.Answers.{Accepted, Refused}
-use Rattle.node_files.proofs.PartLaws.{last_number_is, header_keeps, usual_keeps, header_placed, usual_placed, answered}
+use Rattle.node_files.proofs.PartLaws.{same, last_number_is, header_keeps, usual_keeps, header_placed, usual_placed, answered}
 
 -- ---- the rules
 
@@ -115,7 +115,7 @@ request_keeps program s checked k =
 
 end_keeps : (checked : Option Program) (number : ℕ) (s : AskReading) → HasChecked checked → Keeps s → IfStep KeepsAsk (ask_end checked number s)
 end_keeps None number s c k y e = absurd cc
-end_keeps (Some program) number s c k = at_line_keeps KeepsAsk s.entry_line (request_of program s) (request_keeps program s c k)
+end_keeps (Some program) number s c k y e = at_line_keeps KeepsAsk s.entry_line (request_of program s) (request_keeps program s c k) y e
 
 nothing_keeps : Keeps nothing_asked
 nothing_keeps = record { to = (omega arith, omega arith); from = (omega arith, omega arith); bound = omega arith; checked = tt }

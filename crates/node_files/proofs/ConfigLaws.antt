@@ -27,7 +27,7 @@ use Rattle.line_files.specs.Numbers.{number_at}
 use Rattle.line_files.specs.Packages.{package_at}
 use Rattle.line_files.specs.FileNames.{file_name_at}
 use Rattle.line_files.specs.Programs.{opened, with_line, program_in, injection_at, weighed}
-use Rattle.line_files.proofs.FileLaws.{same, is_keeping}
+use Rattle.line_files.proofs.FileLaws.{is_keeping}
 use Rattle.line_files.proofs.Keeping.{IfRead, InRange, then_keeps, done_keeps, allowed_true, allowed_not, ok_or_is, number_is, file_name_is, package_is, AreHosts, IfStep, step_done, at_line_keeps, either_keeps, read_keeps}
 use Rattle.line_files.proofs.KeptPrograms.{program_is, injection_is, weighed_is}
 use Rattle.line_files.proofs.Placing.{OnFault, fault_done, fault_here, at_line_placed, either_placed, Places}
@@ -44,7 +44,7 @@ use Rattle.node_files.specs.Parts.{behind_word, last_number}
 use Rattle.node_files.specs.Nodes.{host_line, hosts_line, neighbour_at, placed, device_of, port_device}
 use Rattle.node_files.specs.Configs.{port_line, is_used, free_port, control_line, period_line, log_line, wanted_line, tail_word, may_come, with_device, device_line, missing_line, program_line, inject_line, tail_rest, tail_line, close_program, inside_line, config_step_at, config_said, config_end, config_format, nothing_read, config_of}
 use Rattle.node_files.specs.Answers.{Accepted, Refused}
-use Rattle.node_files.proofs.PartLaws.{last_number_is, header_keeps, usual_keeps, header_placed, usual_placed, answered}
+use Rattle.node_files.proofs.PartLaws.{same, last_number_is, header_keeps, usual_keeps, header_placed, usual_placed, answered}
 use Rattle.node_files.proofs.Placed.{all_placed, same_devices, ascend_placed, all_ports, ports_differ}
 use Rattle.node_files.proofs.NodeLaws.{hosts_line_is, neighbour_is, IsNew}
 
@@ -347,7 +347,7 @@ said_keeps s k =
 end_keeps : (stage : ConfigStage) (number : ℕ) (s : ConfigReading) → s.stage ≡ stage → Kept s → IfStep KeepsServe (config_end stage number s)
 end_keeps stages.Header number s e k y h = absurd cc
 end_keeps (stages.Wants w) number s e k y h = absurd cc
-end_keeps (stages.Tail part) number s e k = step_done KeepsServe (config_said s) (said_keeps s (subst (λ t. KeptAt t s) e k))
+end_keeps (stages.Tail part) number s e k y h = step_done KeepsServe (config_said s) (said_keeps s (subst (λ t. KeptAt t s) e k)) y h
 end_keeps stages.Inside number s e k y h = absurd cc
 
 nothing_keeps : Kept nothing_read

@@ -18,7 +18,7 @@ use Rattle.line_files.specs.Lines.{lines}
 use Rattle.line_files.specs.Reads.{word_at, end_at, allowed, FileGives}
 use Rattle.line_files.specs.Numbers.{number_at}
 use Rattle.line_files.specs.FileNames.{file_name_at}
-use Rattle.line_files.proofs.FileLaws.{same, is_keeping}
+use Rattle.line_files.proofs.FileLaws.{is_keeping}
 use Rattle.line_files.proofs.Keeping.{IfRead, then_keeps, done_keeps, allowed_below, number_is, file_name_is, IfStep, step_done, read_keeps}
 use Rattle.line_files.proofs.Placing.{OnFault, fault_done, fault_here, Places}
 use Rattle.node_files.specs.declared.fleet.KidWord.{KidWord}
@@ -27,7 +27,7 @@ use Rattle.node_files.specs.declared.fleet.FleetReading.{FleetReading}
 use Rattle.node_files.specs.Parts.{last_number}
 use Rattle.node_files.specs.Fleets.{kid_word, node_kid, ask_kid, kid_rest, kid_line, fleet_step_at, fleet_end, fleet_format, no_children, fleet_of}
 use Rattle.node_files.specs.Answers.{Accepted, Refused}
-use Rattle.node_files.proofs.PartLaws.{last_number_is, header_keeps, usual_keeps, header_placed, usual_placed, answered}
+use Rattle.node_files.proofs.PartLaws.{same, last_number_is, header_keeps, usual_keeps, header_placed, usual_placed, answered}
 
 -- ---- the rules
 
@@ -80,7 +80,7 @@ step_keeps true number line s k = usual_keeps Keeps number line s (λ ws. kid_li
 end_keeps : (begun some : Bool) (number : ℕ) (s : FleetReading) → ltb 0 (length s.children) ≡ some → Keeps s → IfStep KeepsFleet (fleet_end begun some number s)
 end_keeps false some number s h k y e = absurd cc
 end_keeps true false number s h k y e = absurd cc
-end_keeps true true number s h k = step_done KeepsFleet (record { children = s.children }) (record { some = omega (arith, ltb-true 0 (length s.children) h); few = k.few; children = k.children })
+end_keeps true true number s h k y e = step_done KeepsFleet (record { children = s.children }) (record { some = omega (arith, ltb-true 0 (length s.children) h); few = k.few; children = k.children }) y e
 
 fleet_keeps : (bytes : List ℕ) → IfStep KeepsFleet (fleet_of bytes)
 fleet_keeps bytes =

@@ -24,7 +24,7 @@ use Rattle.line_files.specs.Reads.{word_at, end_at, allowed, FileGives}
 use Rattle.line_files.specs.Numbers.{number_at}
 use Rattle.line_files.specs.Packages.{package_at}
 use Rattle.line_files.specs.HexWords.{hex_at}
-use Rattle.line_files.proofs.FileLaws.{same, is_keeping}
+use Rattle.line_files.proofs.FileLaws.{is_keeping}
 use Rattle.line_files.proofs.Keeping.{IfRead, then_keeps, done_keeps, allowed_below, ok_or_is, number_is, AreSized, hex_is, package_is, AreHosts, IfStep, step_done, read_keeps}
 use Rattle.line_files.proofs.Placing.{OnFault, fault_done, fault_here, Places}
 use Rattle.chunk_types.specs.Chunks.{IsCheckedChunk}
@@ -40,7 +40,7 @@ use Rattle.node_files.specs.Nodes.{host_line, hosts_line, neighbour_at, placed, 
 use Rattle.node_files.specs.ChunkWords.{typed_chunk, chunk_at}
 use Rattle.node_files.specs.Logs.{own_line, network_line, node_word, may_come, device_line, missing_line, events_line, node_rest, node_line, entry_word, inject_entry, frame_entry, control_entry, take_entry, entry_rest, entry_line, log_step_at, log_said, log_end, log_format, nothing_logged, log_of}
 use Rattle.node_files.specs.Answers.{Accepted, Refused}
-use Rattle.node_files.proofs.PartLaws.{last_number_is, header_keeps, usual_keeps, header_placed, usual_placed, answered}
+use Rattle.node_files.proofs.PartLaws.{same, last_number_is, header_keeps, usual_keeps, header_placed, usual_placed, answered}
 use Rattle.node_files.proofs.Placed.{all_placed, ascend_placed}
 use Rattle.node_files.proofs.NodeLaws.{hosts_line_is, neighbour_is}
 use Rattle.node_files.proofs.ChunkLaws.{typed_read}
@@ -254,7 +254,7 @@ end_keeps stages.Header number s e k y h = absurd cc
 end_keeps stages.Host number s e k y h = absurd cc
 end_keeps stages.Hosts number s e k y h = absurd cc
 end_keeps (stages.Node lacks) number s e k y h = absurd cc
-end_keeps stages.Events number s e k = step_done KeepsLog (log_said s) (said_keeps s (subst (λ t. KeptAt t s) e k))
+end_keeps stages.Events number s e k y h = step_done KeepsLog (log_said s) (said_keeps s (subst (λ t. KeptAt t s) e k)) y h
 
 nothing_keeps : Kept nothing_logged
 nothing_keeps = (refl, record { missing = tt; few = omega arith; events = All-nil KeepsEntry })

@@ -14,6 +14,10 @@ use Rattle.line_files.proofs.Placing.{Placed, OnFault, fault_done, fault_here, a
 use Rattle.node_files.specs.Parts.{last_number, header_line, usual_line}
 use Rattle.node_files.specs.Answers.{Accepted, Refused}
 
+-- a value as it is
+abbrev pub same : {T : Type 0} → T → T
+same s = s
+
 pub last_number_is : (low high : ℕ) (ws : List (List ℕ)) → IfRead (InRange low high) (last_number low high ws)
 unfolding last_number
 last_number_is low high ws =

@@ -1,7 +1,7 @@
 use Rattle.std.proofs.Common.{subst}
 use Rattle.line_files.specs.Files.{file_of}
 use Rattle.line_files.specs.Reads.{FileGives}
-use Rattle.line_files.proofs.FileLaws.{same}
+use Rattle.node_files.proofs.PartLaws.{same}
 use Rattle.node_files.specs.declared.ask.AskReading.{AskReading}
 use Rattle.node_files.specs.Asks.{ask_format}
 use Rattle.node_files.proofs.AskLaws.{ask_rules}

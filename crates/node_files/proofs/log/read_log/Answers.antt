@@ -1,7 +1,7 @@
 use Rattle.std.proofs.Common.{subst}
 use Rattle.line_files.specs.Files.{file_of}
 use Rattle.line_files.specs.Reads.{FileGives}
-use Rattle.line_files.proofs.FileLaws.{same}
+use Rattle.node_files.proofs.PartLaws.{same}
 use Rattle.node_files.specs.declared.log.LogReading.{LogReading}
 use Rattle.node_files.specs.Logs.{log_format}
 use Rattle.node_files.proofs.LogLaws.{log_rules}
