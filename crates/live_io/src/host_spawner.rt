@@ -1,0 +1,143 @@
+ghost use Rattle.std.specs.Prelude.{◌≡◌, ◌++◌, ◌∷◌, [], false, filter, IfSome, MatchOption};
+ghost use Rattle.node_io.specs.Children.{is_other, IsFresh};
+
+use crate::counts::raise;
+use node_io::{Child, Failed, Spawner};
+use plan_base::{Text, Texts};
+use std::alloc::Global;
+use std::process::{Child as Process, Command, Processes, Stdio};
+use std::{io, str};
+
+/// Child processes of one program, which are given their words. Their standard input is empty, what they write to
+/// standard output is dropped, and their notes pass to standard error.
+///
+/// A child that ended without a status is a fault, and so is a word that isn't UTF-8.
+#[derive(Drop)]
+pub struct HostSpawner<'a, R: Processes> {
+    alloc: Global,
+    system: &'a R,
+    program: Text,
+    // the number of the next child, and those not yet waited for
+    next: u32,
+    children: Vec<Child>,
+    processes: Vec<(Child, Process<R::Started>)>,
+    faults: u64,
+}
+
+impl<'a, R: Processes> HostSpawner<'a, R> {
+    /// A spawner of the program with this path: no fault is counted, and no child is open.
+    pub fn new(alloc: Global, system: &'a R, program: Text) -> HostSpawner<'a, R>
+        ensures faults { result.faults ≡ 0 }
+        ensures children { result.children.items ≡ [] }
+    {
+        HostSpawner {
+            alloc,
+            system,
+            program,
+            next: 0,
+            children: Vec::new(alloc),
+            processes: Vec::new(alloc),
+            faults: 0,
+        }
+    }
+}
+
+// A text as words of a command have it.
+fn utf8_text(text: &Text) -> io::Result<&str> {
+    match str::from_utf8(text.as_slice()) {
+        Ok(text) => Ok(text),
+        Err(_) => Err(io::Error::from(io::ErrorKind::InvalidInput)),
+    }
+}
+
+// Starts the program with these words.
+fn run<R: Processes>(
+    alloc: Global,
+    system: &R,
+    program: &Text,
+    words: &Texts,
+) -> io::Result<Process<R::Started>> {
+    let mut command = Command::new(alloc, utf8_text(program)?)?;
+    for word in words.as_slice() {
+        command.arg(utf8_text(word)?)?;
+    }
+    command.stdin(Stdio::null());
+    command.stdout(Stdio::null());
+    command.spawn(system)
+}
+
+// Takes the process of this child off the list, and answers its exit status once it has ended, where it has one.
+fn status_of<R: Processes>(
+    processes: &mut Vec<(Child, Process<R::Started>)>,
+    child: Child,
+) -> Option<u8> {
+    let at = processes.iter().position(|entry| entry.0.0 == child.0)?;
+    let (_, mut process) = processes.swap_remove(at);
+    let status = process.wait().ok()?;
+    u8::try_from(status.code()?).ok()
+}
+
+// Whether a child is open.
+fn is_open(children: &[Child], child: Child) -> bool
+    ensures { result ≡ false → IsFresh children.now child }
+{
+    children.contains(&child)
+}
+
+impl<R: Processes> HostSpawner<'_, R> {
+    // Starts the next child, where its number is free, there is room for it, and the system starts it.
+    fn start_next(&mut self, words: &Texts) -> Option<Child>
+        ensures children { MatchOption result
+            (self.new.children.items ≡ self.old.children.items)
+            (λ child. self.new.children.items ≡ self.old.children.items ++ child ∷ []) }
+        ensures fresh { IfSome result (IsFresh self.old.children.items) }
+        ensures faults { self.new.faults ≡ self.old.faults }
+    {
+        let child = Child(self.next);
+        if is_open(self.children.as_slice(), child) {
+            return None;
+        }
+        self.children.reserve(1).ok()?;
+        self.processes.reserve(1).ok()?;
+        let process = run(self.alloc, self.system, &self.program, words).ok()?;
+        self.children.push_reserved(child);
+        self.processes.push_reserved((child, process));
+        self.next = self.next.wrapping_add(1);
+        Some(child)
+    }
+}
+
+impl<R: Processes> Spawner for HostSpawner<'_, R> {
+    ghost faults = { λ s. s.faults };
+
+    ghost children = { λ s. s.children.items };
+
+    ghost tells = { false };
+
+    ghost statuses = { λ _. [] };
+
+    ghost started = { λ _. 0 };
+
+    ghost starts = { λ _. [] };
+
+    fn start(&mut self, words: &Texts) -> Result<Child, Failed> {
+        match self.start_next(words) {
+            Some(child) => Ok(child),
+            None => {
+                raise(&mut self.faults);
+                Err(Failed)
+            }
+        }
+    }
+
+    fn wait(&mut self, child: Child) -> Result<u8, Failed> {
+        self.children.retain(|other| other.0 != child.0);
+        match status_of::<R>(&mut self.processes, child) {
+            Some(status) => Ok(status),
+            None => {
+                raise(&mut self.faults);
+                Err(Failed)
+            }
+        }
+    }
+}

@@ -1,0 +1,13 @@
+//! The real outside of a running node: a link over UDP on loopback, the system's clock, and child processes.
+//!
+//! None of them tells what it holds. Each counts its faults, and fails only where its count rose.
+#![tactic(auto)]
+
+mod counts;
+mod host_clock;
+mod host_spawner;
+mod udp_link;
+
+pub use host_clock::HostClock;
+pub use host_spawner::HostSpawner;
+pub use udp_link::UdpLink;
