@@ -112,7 +112,7 @@ module _ (here : Host) (s : NodeState) (es : List LogEvent) (i n : ℕ) (d e : L
       record {
         count = more.0;
         is = x.is ∙ ap (λ y. mid ++ take x.count (lines_text here (entries_at n (acts_of (node_after s (take i es)) y)))) same ∙ ap (λ l. l ++ take x.count lines) before ∙ append_assoc old first (take x.count lines)
-          ∙ ap (λ l. old ++ l) (sym (take_into first lines x.count) ∙ more.1 ∙ ap (take more.0) (sym whole));
+            ∙ ap (λ l. old ++ l) (sym (take_into first lines x.count) ∙ more.1 ∙ ap (take more.0) (sym whole));
       }
 
 pub all_written : (here : Host) (s : NodeState) (es : List LogEvent) (i : ℕ) (old new : List ℕ) → length es ≤ i → new ≡ old ++ lines_text here (played 0 s (take i es)) → new ≡ old ++ lines_text here (played 0 s es)

@@ -4,7 +4,7 @@ ghost use Rattle.serve_model.specs.Runs.{entries_at};
 ghost use Rattle.serve_model.specs.Texts.{lines_text};
 
 use node_core::put_act;
-use node_model::Act;
+use node_model::{Act, ActList};
 use plan_base::{Bytes, Host, NoMemory};
 use std::alloc::Global;
 
@@ -13,25 +13,20 @@ fn put_acts(
     alloc: Global,
     number: u64,
     here: Host,
-    acts: &[Act],
+    acts: ActList,
     out: &mut Bytes,
 ) -> Result<(), NoMemory>
-    ensures { OnOk result (out.new ≡ out.old ++ lines_text here (entries_at number acts.now)) }
+    ensures { OnOk result (out.new ≡ out.old ++ lines_text here (entries_at number acts)) }
 {
-    for act in acts {
-        put_act(alloc, number, here, act, out)?;
+    for act in acts.into_vec() {
+        put_act(alloc, number, here, &act, out)?;
     }
     Ok(())
 }
 
 /// The lines of the acts of a step with this number.
-pub fn step_lines(
-    alloc: Global,
-    number: u64,
-    here: Host,
-    acts: &[Act],
-) -> Result<Bytes, NoMemory>
-    ensures { IfOk result (λ text. text ≡ lines_text here (entries_at number acts.now)) }
+pub fn step_lines(alloc: Global, number: u64, here: Host, acts: ActList) -> Result<Bytes, NoMemory>
+    ensures { IfOk result (λ text. text ≡ lines_text here (entries_at number acts)) }
 {
     let mut text = Bytes::new(alloc);
     put_acts(alloc, number, here, acts, &mut text)?;

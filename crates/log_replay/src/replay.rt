@@ -33,7 +33,7 @@ fn event_lines<S: Services>(
     ensures after { (s : NodeState) → NodeStands S.stands node.old s → OnOk result (NodeStands S.stands node.new (node_step s event.now).node) }
 {
     let acts = node.step(alloc, event)?;
-    step_lines(alloc, number, here, acts.list.as_slice())
+    step_lines(alloc, number, here, acts.list)
 }
 
 /// Makes an entry again, and gives its lines.

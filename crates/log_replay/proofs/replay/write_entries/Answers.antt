@@ -37,7 +37,7 @@ returns-in_err-write_entry-clause-front g c = λ t s h.
     let es = c.args.entries.now in
     let l = c.loop-entry.invariant in
     next_front c.args.here s es i (c.loop-entry.number + 1) e e (g.K.Sink.taken c.args.out.now) (g.K.Sink.taken c.loop-entry.out) (g.K.Sink.taken c.write_entry.new.out)
-        c.loop-entry-test.true c.entry-item.is (ap (λ n. n + 1) l.number) (l.written t s h) (c.write_entry.ensures.front t (node_after s (take i es)) (l.stands s h))
+    c.loop-entry-test.true c.entry-item.is (ap (λ n. n + 1) l.number) (l.written t s h) (c.write_entry.ensures.front t (node_after s (take i es)) (l.stands s h))
 
 pub returns-clause-whole : goal.returns-clause-whole
 returns-clause-whole g c = λ t s h. all_written c.args.here s c.args.entries.now c.loop-entry.entry-index (g.K.Sink.taken c.args.out.now) (g.K.Sink.taken c.loop-entry.out) (omega (arith, c.loop-entry-test.false)) (c.loop-entry.invariant.written t s h)
