@@ -1,0 +1,4 @@
+pub mod Parts
+pub mod Asks
+pub mod Fleets
+pub mod Answers
