@@ -10,7 +10,7 @@ use plan_base::{Bytes, Dev, Family, Host, Name};
 use plan_items::Items;
 use plan_meaning::Outcome;
 use program_text::read_program;
-use service_api::Prints;
+use service_registry::Registry;
 use std::alloc::Global;
 use std::process::Abort;
 use std::test::Fail;
@@ -43,7 +43,7 @@ fn chunk(alloc: Global, text: &[u8], entry: &[u8]) -> Result<CheckedChunk, Fail>
 }
 
 // Host 1 of the network of hosts 3, 1 and 2, with host 2 on device 1.
-fn node(alloc: Global, serial: u64) -> Result<Node<Prints>, Fail> {
+fn node(alloc: Global, serial: u64) -> Result<Node<Registry>, Fail> {
     let mut hosts = Items::new(alloc);
     hosts.add(Host(3))?;
     hosts.add(Host(1))?;
@@ -56,7 +56,8 @@ fn node(alloc: Global, serial: u64) -> Result<Node<Prints>, Fail> {
         neighbours,
         serial,
     };
-    Ok(Node::new(alloc, config, Prints::new())?)
+    let services = Registry::new(alloc, Items::new(alloc).as_slice());
+    Ok(Node::new(alloc, config, services)?)
 }
 
 // Whether an event may come to a node: a bound of at most 65,535, a device of at most 8.
@@ -71,7 +72,7 @@ fn comes(event: &Event) -> bool
 }
 
 // The acts of a step.
-fn acts_of(alloc: Global, node: &mut Node<Prints>, event: Event) -> Result<Acts, Fail> {
+fn acts_of(alloc: Global, node: &mut Node<Registry>, event: Event) -> Result<Acts, Fail> {
     if !comes(&event) {
         return Err(Fail::from("no event of a node"));
     }
@@ -91,7 +92,7 @@ fn lines_of(alloc: Global, acts: &[Act]) -> Result<Bytes, Fail> {
 fn step(
     rt: &impl Abort,
     alloc: Global,
-    node: &mut Node<Prints>,
+    node: &mut Node<Registry>,
     event: Event,
     expected: &str,
 ) -> Result<(), Fail> {

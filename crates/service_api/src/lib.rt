@@ -1,5 +1,5 @@
 //! What a visit sees of the services of a node: [`Services`] with its meanings and laws, [`Ctx`], [`Router`],
-//! notes and answers, the types of services ([`Scheme`], [`instance`]), and [`Prints`], which offers `print` alone.
+//! notes and answers, and the types of services ([`Scheme`], [`instance`]).
 #![tactic(auto)]
 
 mod advert;
@@ -8,7 +8,6 @@ mod ctx;
 mod laws;
 mod matching;
 mod package;
-mod prints;
 mod router;
 mod scheme;
 mod services;
@@ -19,7 +18,6 @@ pub use ctx::{Ctx, Neighbours};
 pub use laws::instances;
 pub use matching::instance;
 pub use package::{PackageName, Packages};
-pub use prints::Prints;
 pub use router::{Hop, RouteRow, RouteRows, Router};
 pub use scheme::{Scheme, SchemeTy, SchemeTys};
 pub use services::Services;

@@ -6,7 +6,8 @@ use plan_eval::visit;
 use plan_items::Items;
 use plan_meaning::{Outcome, Visit};
 use program_text::read_program;
-use service_api::{Ctx, Prints, Router, Services};
+use service_api::{Ctx, Router, Services};
+use service_registry::Registry;
 use std::alloc::Global;
 use std::test::Fail;
 
@@ -57,7 +58,7 @@ fn visited(alloc: Global, text: &[u8], bound: u32) -> Result<(Option<i64>, u32, 
     requires small { bound ≤ 65535 }
 {
     let packet = packet_of(alloc, text, bound)?;
-    let mut services = Prints::new();
+    let mut services = Registry::new(alloc, Items::new(alloc).as_slice());
     services.begin(alloc)?;
     Ok(shown(&visit(alloc, &packet, &mut services, &around(alloc, &packet))?))
 }
