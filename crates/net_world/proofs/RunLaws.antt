@@ -28,7 +28,7 @@ use Rattle.network_laws.proofs.Giving.{opening_bounded, opening_grants}
 use Rattle.network_laws.proofs.Opening.{opening_sound}
 use Rattle.network_laws.proofs.Visits.{run_ends}
 use Rattle.run_ledger.specs.Stands.{Stands}
-use Rattle.run_ledger.proofs.Runs.{event_fits_at}
+use Rattle.run_ledger.proofs.Runs.{event_fits_at, history_of-push, world_after-push}
 use Rattle.net_world.specs.declared.network.Network.{Network}
 use Rattle.net_world.specs.Stands.{WorldStands}
 use Rattle.net_world.specs.Running.{IsCountable}
@@ -36,16 +36,6 @@ use Rattle.net_world.specs.Running.{IsCountable}
 pub entries_text-append : (frames : Bool) (xs ys : List Entry) → entries_text frames (xs ++ ys) ≡ entries_text frames xs ++ entries_text frames ys
 unfolding entries_text
 entries_text-append frames xs ys = flat_map-append (entry_text frames) xs ys
-
-world_after-push : (es : List WorldEvent) (e : WorldEvent) (w : WorldState) → world_after (es ++ e ∷ []) w ≡ (happens (world_after es w) e).world
-unfolding world_after
-world_after-push [] e w = refl
-world_after-push (x ∷ es) e w = world_after-push es e (happens w x).world
-
-history_of-push : (es : List WorldEvent) (e : WorldEvent) (w : WorldState) → history_of (es ++ e ∷ []) w ≡ history_of es w ++ entries (world_after es w) e
-unfolding history_of world_after
-history_of-push [] e w = append-nil (entries w e)
-history_of-push (x ∷ es) e w = ap (λ h. entries w x ++ h) (history_of-push es e (happens w x).world) ∙ sym (append_assoc (entries w x) (history_of es (happens w x).world) (entries (world_after es (happens w x).world) e))
 
 history_of-append : (es fs : List WorldEvent) (w : WorldState) → history_of (es ++ fs) w ≡ history_of es w ++ history_of fs (world_after es w)
 unfolding history_of world_after

@@ -1,6 +1,6 @@
 -- A network keeps its limits at the beginning.
-use Rattle.std.proofs.Common.{◌≡◌, ℕ, zero, suc, ◌+◌, ◌<◌, ◌≤◌, ◌^◌, List, [], ◌∷◌, ◌++◌, refl, sym, ap, ◌∙◌, subst, arith, length}
-use Rattle.std.specs.Prelude.{map, ◌==◌, ◌||◌, Option, Some, None, All}
+use Rattle.std.proofs.Common.{ℕ, zero, suc, ◌+◌, ◌<◌, ◌≤◌, ◌^◌, List, [], ◌∷◌, ◌++◌, refl, sym, ◌∙◌, subst, arith, length}
+use Rattle.std.specs.Prelude.{map, Option, Some, None, All}
 use Rattle.std.proofs.lemmas.List.Elements.{All-nil, All-cons, All-head, All-tail, All-append, All-weaker}
 use Rattle.std.proofs.lemmas.List.{append-nil, length-append, length-map}
 use Rattle.plan_base.specs.declared.ids.Host.{Host}
@@ -8,25 +8,19 @@ use Rattle.plan_base.specs.declared.ids.Dev.{Dev}
 use Rattle.service_api.specs.Services.{AreGoodRows, IsGoodValue}
 use Rattle.service_meaning.specs.Beginning.{no_rows, present_without}
 use Rattle.service_meaning.proofs.Goods.{serve_good}
-use Rattle.network_plan.specs.Hosts.{has_host}
 use Rattle.network_plan.specs.Rules.{HostsDiffer, KeepsNetwork}
 use Rattle.network_plan.specs.declared.schedule.HostSpec.{HostSpec}
 use Rattle.network_plan.specs.declared.schedule.Topology.{Topology}
-use Rattle.dv_routing.specs.Routing.{is_among}
 use Rattle.dv_routing.specs.Sorted as sorted
 use Rattle.node_model.specs.State.{Links, new_node}
 use Rattle.node_model.specs.Fits.{FrameKeeps, NetworkFits, ConfigFits, ServicesFit, NodeFits}
-use Rattle.node_laws.proofs.HostLaws.{new_node_fits}
+use Rattle.node_laws.proofs.HostLaws.{same_among, new_node_fits}
 use Rattle.world_model.specs.declared.lines.LinkEnd.{LinkEnd}
 use Rattle.world_model.specs.World.{Cables, peer_of, neighbour_at, neighbours_to, opening_services, config_of, opening_node, opening}
 use Rattle.world_model.specs.Sound.{WiredFits, Rise, DevicesFit, IsSound}
 use Rattle.network_laws.proofs.Fitting.{rise-push}
 
 -- ---- hosts
-
-same_among : (x : Host) (hs : List HostSpec) → is_among (map (λ s. s.host) hs) x ≡ has_host x hs
-same_among x [] = refl
-same_among x (h ∷ hs) = ap (λ b. (h.host.0 == x.0) || b) (same_among x hs)
 
 differ_as : (hs : List HostSpec) → HostsDiffer hs → sorted.HostsDiffer (map (λ s. s.host) hs)
 differ_as [] d = tt

@@ -20,8 +20,8 @@ use Rattle.network_plan.specs.declared.event.WorldEvent.TheVariants.{Inject, Sen
 use Rattle.node_model.specs.State.{NodeState, is_host}
 use Rattle.node_model.specs.Node.{next_serial, injected_packet}
 use Rattle.node_model.specs.Visits.{around}
-use Rattle.node_model.specs.Fits.{FrameKeeps, NodeFits}
-use Rattle.node_laws.proofs.Fitting.{Taken, taken_in}
+use Rattle.node_model.specs.Fits.{NodeFits}
+use Rattle.node_laws.proofs.Fitting.{Taken, taken_in, kept_taken}
 use Rattle.node_laws.proofs.VisitLaws.{has_case}
 use Rattle.world_model.specs.declared.lines.Wired.{Wired}
 use Rattle.world_model.specs.World.{WorldState, place_of, wire_place, happens}
@@ -46,12 +46,6 @@ module _ (node : NodeState) (p : Packet) (good : IsGood node.services) (near : l
     case = has_case node p good near k;
     ends = visit_can_end p.chunk (around node p) p.family (begun_now node.services) k 0 good_start;
   }) (All-nil EndsWell)
-
--- a frame on its way is as good as one that is accepted
-on_its_way : (x : PlainFrame) → FrameKeeps x → Taken x
-on_its_way (PlainFrame.Packet p) h = h
-on_its_way (PlainFrame.Advert a) h = tt
-on_its_way (PlainFrame.Ask bound chunk) h = absurd h
 
 cases : (t : Bool) (vs ws : List Visiting) → All EndsWell vs → All EndsWell ws → All EndsWell (cond t vs ws)
 cases true vs ws a b = a
@@ -84,7 +78,7 @@ at_host_ends w h visits e s = at_node_ends w.nodes visits (place_of w.nodes h) (
 
 of_wired_ends : (w : WorldState) (place : Option ℕ) (o : Option Wired) → item_at w.wire place ≡ o → IsSound w → All EndsWell (of_wired w o)
 of_wired_ends w place None e s = All-nil EndsWell
-of_wired_ends w (Some at) (Some x) e s = at_host_ends w x.to.host (frame_visits x.frame) (λ node n. frame_ends x.frame node (on_its_way x.frame (wired_of w.«next» w.wire at x e s.wire).frame) n) s
+of_wired_ends w (Some at) (Some x) e s = at_host_ends w x.to.host (frame_visits x.frame) (λ node n. frame_ends x.frame node (kept_taken x.frame (wired_of w.«next» w.wire at x e s.wire).frame) n) s
 of_wired_ends w None (Some x) e s = cc
 
 delivered_ends : (w : WorldState) (number : ℕ) → IsSound w → All EndsWell (delivered_visits w number)

@@ -179,7 +179,7 @@ taken_in bytes (PlainFrame.Packet p) h = let f = h.spells.fits in record { bound
 taken_in bytes (PlainFrame.Advert a) h = tt
 taken_in bytes (PlainFrame.Ask bound chunk) h = let f = h.spells.fits in (f.0, record { typed = h.typed; formed = chunk_is_formed chunk f.1.0 })
 
-kept_taken : (x : PlainFrame) → FrameKeeps x → Taken x
+pub kept_taken : (x : PlainFrame) → FrameKeeps x → Taken x
 kept_taken (PlainFrame.Packet p) h = h
 kept_taken (PlainFrame.Advert a) h = tt
 kept_taken (PlainFrame.Ask bound chunk) h = absurd h

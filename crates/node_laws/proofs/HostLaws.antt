@@ -1,15 +1,22 @@
--- The hosts of a network, sorted, and a node at the beginning.
-use Rattle.std.proofs.Common.{◌≡◌, ◌<◌, ◌≤◌, ◌^◌, ◌++◌, ℕ, List, [], ◌∷◌, take, drop, length, sym, ◌∙◌, subst, arith}
-use Rattle.std.specs.Prelude.{All}
+-- The hosts of a network, among others and sorted, and a node at the beginning.
+use Rattle.std.proofs.Common.{◌≡◌, ◌<◌, ◌≤◌, ◌^◌, ◌++◌, ℕ, List, [], ◌∷◌, take, drop, length, refl, sym, ap, ◌∙◌, subst, arith}
+use Rattle.std.specs.Prelude.{All, map, ◌==◌, ◌||◌}
 use Rattle.std.proofs.lemmas.List.Elements.{All-nil, All-cons, All-head, All-tail, All-append, All-take, All-drop}
 use Rattle.plan_base.specs.declared.ids.Host.{Host}
 use Rattle.service_api.specs.Services.{Standing}
+use Rattle.network_plan.specs.Hosts.{has_host}
 use Rattle.network_plan.specs.declared.node.NodeConfig.{NodeConfig}
+use Rattle.network_plan.specs.declared.schedule.HostSpec.{HostSpec}
+use Rattle.dv_routing.specs.Routing.{is_among}
 use Rattle.dv_routing.specs.Sorted.{place_of, with_host, sorted_into}
 use Rattle.dv_routing.proofs.Sorting.{sorted_length, sorted_ascends}
 use Rattle.node_model.specs.State.{new_node}
 use Rattle.node_model.specs.Fits.{FrameKeeps, HostsFit, NetworkFits, ConfigFits, ServicesFit, NodeFits}
 use Rattle.node_laws.proofs.Keeping.{none_kept}
+
+pub same_among : (x : Host) (hs : List HostSpec) → is_among (map (λ s. s.host) hs) x ≡ has_host x hs
+same_among x [] = refl
+same_among x (h ∷ hs) = ap (λ b. (h.host.0 == x.0) || b) (same_among x hs)
 
 module _ (P : Host → Type 0) where
   with_all : (x : Host) (hs : List Host) → P x → All P hs → All P (with_host x hs)

@@ -18,6 +18,7 @@ use Rattle.service_meaning.specs.declared.service.Service.{Service}
 use Rattle.service_meaning.specs.Offered.{Present, offered, type_of}
 use Rattle.service_meaning.specs.Serving.{serve, serve_at, serve_offered}
 use Rattle.service_meaning.proofs.Goods.{serve_good}
+use Rattle.service_registry.proofs.ArgumentReads.{with_next}
 use Rattle.service_registry.specs.Held.{rows_of, rows_begun, IsKept}
 use Rattle.service_registry.specs.Meets.{Meets}
 
@@ -45,13 +46,10 @@ living_good now rows h = record {
   greatest = h.greatest;
 }
 
-abbrev with_rows : List Row → ℤ → Rows
-with_rows rows «next» = record { rows = rows; «next» = «next» }
-
 pub expired_good : (t u : Table) (now : ℕ) → u.rows ≡ living now t.rows → u.«next» ≡ t.«next» → AreGoodRows (rows_of t) → AreGoodRows (rows_of u)
 expired_good t u now e f g =
     let h = living_good now (rows_of t) g in
-    subst (λ (xs : List Row). AreGoodRows (with_rows xs u.«next»)) (sym e) (subst (λ (z : ℤ). AreGoodRows (with_rows (living now t.rows) z)) (sym f) h)
+    subst (λ (xs : List Row). AreGoodRows (with_next xs u.«next»)) (sym e) (subst (λ (z : ℤ). AreGoodRows (with_next (living now t.rows) z)) (sym f) h)
 
 pub expired_kept : (t u : Table) (c : Option Layer) (b : Bool) → rows_begun t c ≡ None → IsKept t c b → IsKept u c b
 expired_kept t u None b h k = k

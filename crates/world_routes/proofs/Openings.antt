@@ -21,6 +21,7 @@ use Rattle.route_laws.proofs.Lookups.{all_get}
 use Rattle.route_laws.proofs.Walking.{opening_true}
 use Rattle.node_model.specs.State.{routing_of, no_queues, new_node}
 use Rattle.node_model.specs.Fits.{QueuesKeep}
+use Rattle.node_laws.proofs.HostLaws.{same_among}
 use Rattle.node_laws.proofs.Keeping.{none_kept}
 use Rattle.world_model.specs.declared.lines.LinkEnd.{LinkEnd}
 use Rattle.world_model.specs.declared.lines.Wired.{Wired}
@@ -44,12 +45,8 @@ has_of (h ∷ hs) s k =
       | inr later ↦ ap (λ t. (h.host.0 == s.host.0) || t) (has_of hs s later) ∙ or_true (h.host.0 == s.host.0)
     ]
 
-among_hosts : (x : Host) (hs : List HostSpec) → is_among (map (λ s. s.host) hs) x ≡ has_host x hs
-among_hosts x [] = refl
-among_hosts x (h ∷ hs) = ap (λ b. (h.host.0 == x.0) || b) (among_hosts x hs)
-
 among_sorted : (x : Host) (hs : List HostSpec) → has_host x hs ≡ true → is_among (sorted_into [] (map (λ s. s.host) hs)) x ≡ true
-among_sorted x hs e = sorted_same (map (λ s. s.host) hs) x ∙ (among_hosts x hs ∙ e)
+among_sorted x hs e = sorted_same (map (λ s. s.host) hs) x ∙ (same_among x hs ∙ e)
 
 -- a host of the network has a node
 node_there : (t : Topology) (hs : List HostSpec) (m : Host) → has_host m hs ≡ true → (r : Routing) × (routing_in (map (opening_node t) hs) m ≡ Some r)
