@@ -1,9 +1,7 @@
-use chunk_spelling::SpellFault;
 use chunk_types::Ill;
-use packet_frame::{
-    CheckedPacket, Frame, FrameFault, FrameRefusal, get_frame, put_advert, put_ask, put_packet,
-};
-use plan_base::{Bytes, Limit, NoMemory};
+use frame_text::put_reason;
+use packet_frame::{CheckedPacket, Frame, FrameFault, get_frame, put_advert, put_ask, put_packet};
+use plan_base::{Bytes, NoMemory};
 use std::alloc::Global;
 use std::test::Fail;
 
@@ -50,11 +48,17 @@ const ASK_CUT_AT: [u32; 21] = [
     0, 0, 0, 0, 4, 5, 6, 6, 6, 6, 10, 11, 12, 13, 14, 15, 16, 17, 18, 19, 20,
 ];
 
-// The fault of the bytes' spelling, if they have one.
-fn fault(alloc: Global, bytes: &[u8]) -> Option<FrameFault> {
+fn told(alloc: Global, fault: FrameFault) -> Result<Bytes, NoMemory> {
+    let mut out = Bytes::new(alloc);
+    put_reason(alloc, &fault, &mut out)?;
+    Ok(out)
+}
+
+// Why the bytes are no frame, as it is told; nothing where they are one.
+fn refusal(alloc: Global, bytes: &[u8]) -> Result<Bytes, NoMemory> {
     match get_frame(alloc, bytes) {
-        Err(FrameRefusal::Misspelled(fault)) => Some(fault),
-        _ => None,
+        Err(fault) => told(alloc, fault),
+        Ok(_) => Ok(Bytes::new(alloc)),
     }
 }
 
@@ -122,68 +126,63 @@ fn an_ill_typed_packet_is_refused(rt: HostRuntime) {
     assert!(rt;
         matches!(
             get_frame(rt.alloc(), ILL_TYPED),
-            Err(FrameRefusal::IllTyped(Ill::Argument(0)))
+            Err(FrameFault::IllTyped(Ill::Argument(0)))
         )
     );
 }
 
-// Each proper front of these bytes is cut off at its place: where `from` says, in the name or the chunk.
-fn is_cut(alloc: Global, bytes: &[u8], places: &[u32], from: u32) -> bool {
+// Each proper front of these bytes is cut off at its place.
+fn is_cut(alloc: Global, bytes: &[u8], places: &[u32]) -> Result<bool, Fail> {
     for length in 0..bytes.len() {
         let Some(at) = places.get(length) else {
-            return false;
+            return Ok(false);
         };
-        let expected = if *at < from {
-            FrameFault::Truncated(*at)
-        } else {
-            FrameFault::Spell(SpellFault::Truncated(*at))
-        };
-        if fault(alloc, &bytes[..length]) != Some(expected) {
-            return false;
+        let expected = format!(in alloc; "Truncated {at}")?;
+        if refusal(alloc, &bytes[..length])?.as_slice() != expected.as_bytes() {
+            return Ok(false);
         }
     }
-    true
+    Ok(true)
 }
 
 // Each proper front of each frame is cut off at the field that isn't whole.
 #[test]
-fn fronts_of_frames_are_cut_off(rt: HostRuntime) {
+fn fronts_of_frames_are_cut_off(rt: HostRuntime) -> Result<(), Fail> {
     let alloc = rt.alloc();
     for packet in [PACKET.as_slice(), ILL_TYPED, ARRIVED, PASSING] {
-        assert!(rt; is_cut(alloc, packet, &PACKET_CUT_AT, 26));
+        assert!(rt; is_cut(alloc, packet, &PACKET_CUT_AT)?);
     }
-    assert!(rt; is_cut(alloc, ADVERT, &ADVERT_CUT_AT, 36));
-    assert!(rt; is_cut(alloc, ASK, &ASK_CUT_AT, 10));
+    assert!(rt; is_cut(alloc, ADVERT, &ADVERT_CUT_AT)?);
+    assert!(rt; is_cut(alloc, ASK, &ASK_CUT_AT)?);
+    Ok(())
 }
 
 // Each fault of the frame's own fields, at its place.
 #[test]
-fn faults(rt: HostRuntime) {
+fn faults(rt: HostRuntime) -> Result<(), Fail> {
     for (bytes, expected) in [
-        (b"PLAM\x01\x03".as_slice(), FrameFault::BadMagic),
-        (b"PLAN\x02\x03", FrameFault::BadVersion),
-        (b"PLAN\x01\x00", FrameFault::BadKind),
-        (b"PLAN\x01\x04", FrameFault::BadKind),
-        (b"PLAN\x01\x03\x00\x01\x00\x00", FrameFault::BoundTooLarge),
+        (b"PLAM\x01\x03".as_slice(), "BadMagic"),
+        (b"PLAN\x02\x03", "BadVersion"),
+        (b"PLAN\x01\x00", "BadKind"),
+        (b"PLAN\x01\x04", "BadKind"),
+        (b"PLAN\x01\x03\x00\x01\x00\x00", "BoundTooLarge"),
         (
             b"PLAN\x01\x02\x00\x00\x00\x02\x00\x21",
-            FrameFault::Spell(SpellFault::OverLimit(Limit::Hosts, 10)),
+            "OverLimit hosts 10",
         ),
         (
             b"PLAN\x01\x02\x00\x00\x00\x02\x00\x01\x00\x00\x00\x01\x00\x01\x00\x00",
-            FrameFault::Spell(SpellFault::OverLimit(Limit::Cost, 16)),
+            "OverLimit cost 16",
         ),
         (
             b"PLAN\x01\x02\x00\x00\x00\x02\x00\x02\x00\x00\x00\x01\x00\x00\x00\x01\x00\x00\x00\x01",
-            FrameFault::BadOrder(20),
+            "BadOrder 20",
         ),
-        (
-            b"PLAN\x01\x02\x00\x00\x00\x02\x00\x00\x00",
-            FrameFault::Trailing(12),
-        ),
+        (b"PLAN\x01\x02\x00\x00\x00\x02\x00\x00\x00", "Trailing 12"),
     ] {
-        assert_eq!(rt; fault(rt.alloc(), bytes), Some(expected));
+        assert_eq!(rt; refusal(rt.alloc(), bytes)?.as_slice(), expected.as_bytes());
     }
+    Ok(())
 }
 
 // An ask whose chunk has a list that claims 65,535 items is read to the end of 16,512 bytes; one byte more is too long.
@@ -197,13 +196,13 @@ fn long_frames(rt: HostRuntime) -> Result<(), Fail> {
         bytes.push(0x10)?;
     }
     assert_eq!(rt;
-        fault(rt.alloc(), bytes.as_slice()),
-        Some(FrameFault::Spell(SpellFault::Truncated(16512)))
+        refusal(rt.alloc(), bytes.as_slice())?.as_slice(),
+        b"Truncated 16512".as_slice()
     );
     bytes.push(0x10)?;
     assert_eq!(rt;
-        fault(rt.alloc(), bytes.as_slice()),
-        Some(FrameFault::TooLong)
+        refusal(rt.alloc(), bytes.as_slice())?.as_slice(),
+        b"TooLong".as_slice()
     );
     Ok(())
 }

@@ -1,6 +1,6 @@
 use chunk_spelling::SpellFault;
 use frame_text::{print_frame, put_reason};
-use packet_frame::{FrameFault, FrameRefusal, get_frame};
+use packet_frame::{FrameFault, get_frame};
 use plan_base::{Bytes, Limit};
 use std::test::Fail;
 
@@ -22,7 +22,7 @@ fn an_advert_is_told(rt: HostRuntime) -> Result<(), Fail> {
 fn a_refusal_is_told(rt: HostRuntime) -> Result<(), Fail> {
     let mut out = Bytes::new(rt.alloc());
     let fault = FrameFault::Spell(SpellFault::OverLimit(Limit::Depth, 33));
-    put_reason(rt.alloc(), &FrameRefusal::Misspelled(fault), &mut out)?;
+    put_reason(rt.alloc(), &fault, &mut out)?;
     assert_eq!(rt; out.as_slice(), b"OverLimit depth 33".as_slice());
     Ok(())
 }

@@ -12,7 +12,6 @@ use Rattle.chunk_types.specs.Chunks.{illness}
 use Rattle.chunk_types.proofs.Values.{chunk_only, chunk_found}
 use Rattle.packet_frame.specs.declared.fault.FrameFault.{FrameFault}
 use Rattle.packet_frame.specs.declared.frame.PlainFrame.{PlainFrame}
-use Rattle.packet_frame.specs.declared.refusal.FrameRefusal.{FrameRefusal}
 use Rattle.packet_frame.specs.Bytes.{frame_bytes}
 use Rattle.packet_frame.specs.Forms.{FrameFits, frame_at}
 use Rattle.packet_frame.specs.Frames.{SpellsFrame, SpellingFault, too_long, begins, carried}
@@ -59,9 +58,9 @@ pub accepts_is : (bytes : List ℕ) (x : PlainFrame) → Accepts bytes x → fra
 unfolding frame_of
 accepts_is bytes x h = ap typed_of (spelled_is bytes x h.spells) ∙ ap (or_ill x) (carried_well x h.spells.fits h.typed)
 
-pub first_is : (bytes : List ℕ) (e : FrameRefusal) → IsBytes bytes → FrameFirst e bytes → frame_of bytes ≡ Err e
+pub first_is : (bytes : List ℕ) (e : FrameFault) → IsBytes bytes → FrameFirst e bytes → frame_of bytes ≡ Err e
 unfolding frame_of
-first_is bytes e h (misspelled f s is) = ap typed_of (fault_is bytes h f s) ∙ ap Err (sym is)
+first_is bytes e h (misspelled s) = ap typed_of (fault_is bytes h e s)
 first_is bytes e h (ill_typed x spells c) = ap typed_of (spelled_is bytes x spells) ∙ ap (or_ill x) (ap illness_in c.is_carried ∙ c.first) ∙ ap Err (sym c.is)
 
 -- ---- and the answer is a frame only where the bytes spell it and its chunk is typed
@@ -83,7 +82,7 @@ module _ (bytes : List ℕ) (x : PlainFrame) where
   by_spelling h (inl (y, spells)) e = by_illness y spells (illness_in (carried y)) refl (sym (ap typed_of (spelled_is bytes y spells)) ∙ e)
   by_spelling h (inr (f, first)) e = absurd (err_is_no_ok (sym (ap typed_of (fault_is bytes h f first)) ∙ e))
     where
-      err_is_no_ok : {r : FrameRefusal} → Err r ≡ Ok x → ⊥
+      err_is_no_ok : {r : FrameFault} → Err r ≡ Ok x → ⊥
       err_is_no_ok q = cc
 
 pub found_is : (bytes : List ℕ) (x : PlainFrame) → IsBytes bytes → frame_of bytes ≡ Ok x → Accepts bytes x

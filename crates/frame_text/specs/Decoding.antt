@@ -6,7 +6,6 @@ use Rattle.chunk_types.specs.Chunks.{illness}
 use Rattle.plan_base.specs.declared.tree.Chunk.{Chunk}
 use Rattle.packet_frame.specs.declared.fault.FrameFault.{FrameFault}
 use Rattle.packet_frame.specs.declared.frame.PlainFrame.{PlainFrame}
-use Rattle.packet_frame.specs.declared.refusal.FrameRefusal.{FrameRefusal}
 use Rattle.packet_frame.specs.Forms.{frame_at}
 use Rattle.packet_frame.specs.Frames.{begins, carried}
 
@@ -19,19 +18,19 @@ all_read count (Err e) = Err e
 abbrev pub spelled_of : List ℕ → Result PlainFrame FrameFault
 spelled_of bytes = if nat_le (length bytes) 16512 then all_read (length bytes) (frame_at (begins bytes)) else Err FrameFault.TooLong
 
-abbrev pub or_ill : PlainFrame → Option Ill → Result PlainFrame FrameRefusal
+abbrev pub or_ill : PlainFrame → Option Ill → Result PlainFrame FrameFault
 or_ill x None = Ok x
-or_ill x (Some i) = Err (FrameRefusal.IllTyped i)
+or_ill x (Some i) = Err (FrameFault.IllTyped i)
 
 -- what is wrong with a chunk, if there is one
 abbrev pub illness_in : Option Chunk → Option Ill
 illness_in None = None
 illness_in (Some c) = illness c
 
-abbrev pub typed_of : Result PlainFrame FrameFault → Result PlainFrame FrameRefusal
+abbrev pub typed_of : Result PlainFrame FrameFault → Result PlainFrame FrameFault
 typed_of (Ok x) = or_ill x (illness_in (carried x))
-typed_of (Err f) = Err (FrameRefusal.Misspelled f)
+typed_of (Err f) = Err f
 
 -- the frame that the bytes spell, whose chunk is typed, or the first refusal
-unfoldable pub frame_of : List ℕ → Result PlainFrame FrameRefusal
+unfoldable pub frame_of : List ℕ → Result PlainFrame FrameFault
 frame_of bytes = typed_of (spelled_of bytes)

@@ -2,12 +2,12 @@ ghost use Rattle.std.specs.Prelude.{◌≡◌, List, ℕ, Ok, Err};
 ghost use Rattle.wire_bytes.specs.Fields.{IsBytes};
 ghost use Rattle.packet_frame.specs.Typed.{Accepts, FrameFirst};
 ghost use Rattle.packet_frame.specs.declared.frame.PlainFrame.{PlainFrame};
-ghost use Rattle.packet_frame.specs.declared.refusal.FrameRefusal.{FrameRefusal};
+ghost use Rattle.packet_frame.specs.declared.fault.FrameFault.{FrameFault};
 ghost use Rattle.frame_text.specs.Decoding.{frame_of};
 
 /// Laws of the one answer: it is the frame exactly where the bytes spell a typed one, and else the first refusal.
 pub fn reading_laws()
     ensures frame { (bytes : List ℕ) (x : PlainFrame) → Accepts bytes x → frame_of bytes ≡ Ok x }
     ensures only { (bytes : List ℕ) (x : PlainFrame) → IsBytes bytes → frame_of bytes ≡ Ok x → Accepts bytes x }
-    ensures refusal { (bytes : List ℕ) (e : FrameRefusal) → IsBytes bytes → FrameFirst e bytes → frame_of bytes ≡ Err e }
+    ensures refusal { (bytes : List ℕ) (e : FrameFault) → IsBytes bytes → FrameFirst e bytes → frame_of bytes ≡ Err e }
 {}

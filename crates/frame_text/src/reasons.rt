@@ -1,10 +1,10 @@
 ghost use Rattle.std.specs.Prelude.{◌≡◌, ◌++◌, codes, IfOk, OnOk, OnErr};
 ghost use Rattle.std.specs.String.{string_bytes};
-ghost use Rattle.frame_text.specs.Reasons.{spelling_text, fault_text, ill_text, reason_text};
+ghost use Rattle.frame_text.specs.Reasons.{spelling_text, ill_text, reason_text};
 
 use chunk_spelling::SpellFault;
 use chunk_types::Ill;
-use packet_frame::{FrameFault, FrameRefusal};
+use packet_frame::FrameFault;
 use plan_base::{Bytes, NoMemory};
 use std::alloc::{AllocError, Global};
 
@@ -25,24 +25,6 @@ fn spelling_reason(alloc: Global, fault: &SpellFault) -> Result<String, AllocErr
     }
 }
 
-// A fault of a frame's spelling.
-fn fault_reason(alloc: Global, fault: &FrameFault) -> Result<String, AllocError>
-    ensures { IfOk result (λ text. string_bytes text ≡ fault_text fault.now) }
-{
-    match fault {
-        FrameFault::TooLong => String::from_str(alloc, "TooLong"),
-        FrameFault::Truncated(at) => format!(in alloc; "Truncated {at}"),
-        FrameFault::BadMagic => String::from_str(alloc, "BadMagic"),
-        FrameFault::BadVersion => String::from_str(alloc, "BadVersion"),
-        FrameFault::BadKind => String::from_str(alloc, "BadKind"),
-        FrameFault::Spell(fault) => spelling_reason(alloc, fault),
-        FrameFault::BoundTooLarge => String::from_str(alloc, "BoundTooLarge"),
-        FrameFault::BadOrder(at) => format!(in alloc; "BadOrder {at}"),
-        FrameFault::Trailing(at) => format!(in alloc; "Trailing {at}"),
-        FrameFault::NoMemory => String::from_str(alloc, "NoMemory"),
-    }
-}
-
 // What is wrong with a chunk's types.
 fn ill_reason(alloc: Global, ill: &Ill) -> Result<String, AllocError>
     ensures { IfOk result (λ text. string_bytes text ≡ ill_text ill.now) }
@@ -56,22 +38,30 @@ fn ill_reason(alloc: Global, ill: &Ill) -> Result<String, AllocError>
 }
 
 #[tactic(auto, unfolding(crate::specs::Reasons::reason_text))]
-fn reason_of(alloc: Global, refusal: &FrameRefusal) -> Result<String, AllocError>
-    ensures { IfOk result (λ text. string_bytes text ≡ reason_text refusal.now) }
+fn reason_of(alloc: Global, fault: &FrameFault) -> Result<String, AllocError>
+    ensures { IfOk result (λ text. string_bytes text ≡ reason_text fault.now) }
 {
-    match refusal {
-        FrameRefusal::Misspelled(fault) => fault_reason(alloc, fault),
-        FrameRefusal::IllTyped(ill) => ill_reason(alloc, ill),
-        FrameRefusal::NoMemory => String::from_str(alloc, "NoMemory"),
+    match fault {
+        FrameFault::TooLong => String::from_str(alloc, "TooLong"),
+        FrameFault::Truncated(at) => format!(in alloc; "Truncated {at}"),
+        FrameFault::BadMagic => String::from_str(alloc, "BadMagic"),
+        FrameFault::BadVersion => String::from_str(alloc, "BadVersion"),
+        FrameFault::BadKind => String::from_str(alloc, "BadKind"),
+        FrameFault::Spell(fault) => spelling_reason(alloc, fault),
+        FrameFault::BoundTooLarge => String::from_str(alloc, "BoundTooLarge"),
+        FrameFault::BadOrder(at) => format!(in alloc; "BadOrder {at}"),
+        FrameFault::Trailing(at) => format!(in alloc; "Trailing {at}"),
+        FrameFault::IllTyped(ill) => ill_reason(alloc, ill),
+        FrameFault::NoMemory => String::from_str(alloc, "NoMemory"),
     }
 }
 
 /// Appends why bytes are no frame, as a note says it. Where memory is refused, `out` stays.
-pub fn put_reason(alloc: Global, refusal: &FrameRefusal, out: &mut Bytes) -> Result<(), NoMemory>
-    ensures whole { OnOk result (out.new ≡ out.old ++ reason_text refusal.now) }
+pub fn put_reason(alloc: Global, fault: &FrameFault, out: &mut Bytes) -> Result<(), NoMemory>
+    ensures whole { OnOk result (out.new ≡ out.old ++ reason_text fault.now) }
     ensures stays { OnErr result (out.new ≡ out.old) }
 {
-    let text = reason_of(alloc, refusal)?;
+    let text = reason_of(alloc, fault)?;
     out.add_all(text.as_bytes())?;
     Ok(())
 }

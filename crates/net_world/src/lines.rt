@@ -2,13 +2,13 @@ ghost use Rattle.std.specs.Prelude.{◌≡◌, ◌∷◌, ◌++◌, ◌⊎◌, [
 ghost use Rattle.wire_bytes.specs.Fields.{IsBytes};
 ghost use Rattle.packet_frame.specs.Bytes.{frame_bytes};
 ghost use Rattle.packet_frame.specs.Typed.{plain_of};
-ghost use Rattle.packet_frame.specs.declared.refusal.FrameRefusal.{FrameRefusal};
+ghost use Rattle.packet_frame.specs.declared.fault.FrameFault.{FrameFault};
 ghost use Rattle.frame_text.specs.Decoding.{frame_of};
 ghost use Rattle.world_model.specs.World as spec;
 ghost use Rattle.world_model.specs.declared.lines.Line.TheVariants as line;
 
 use node_model::ActList;
-use packet_frame::{Frame, FrameRefusal, get_frame};
+use packet_frame::{Frame, FrameFault, get_frame};
 use plan_base::{Bytes, Host, NoMemory};
 use plan_items::Items;
 use spelled_frame::SpelledFrame;
@@ -43,10 +43,10 @@ pub fn with_acts(before: Lines, host: Host, acts: ActList) -> Result<Lines, NoMe
 }
 
 /// Reads a frame; the answer is that of the definition, where memory is there.
-fn read_frame(alloc: Global, bytes: &[u8]) -> Result<Frame, FrameRefusal>
+fn read_frame(alloc: Global, bytes: &[u8]) -> Result<Frame, FrameFault>
     requires { IsBytes bytes.now }
     ensures found { IfOk result (λ x. frame_of bytes.now ≡ Ok (plain_of x)) }
-    ensures fault { IfErr result (λ e. (e ≡ FrameRefusal.NoMemory) ⊎ (frame_of bytes.now ≡ Err e)) }
+    ensures fault { IfErr result (λ e. (e ≡ FrameFault.NoMemory) ⊎ (frame_of bytes.now ≡ Err e)) }
 {
     get_frame(alloc, bytes)
 }
@@ -68,7 +68,7 @@ pub fn forged_lines(alloc: Global, host: Host, bytes: &[u8]) -> Result<Lines, No
 {
     match read_frame(alloc, bytes) {
         Ok(frame) => lines_of(alloc, host, &frame),
-        Err(FrameRefusal::NoMemory) => Err(NoMemory),
+        Err(FrameFault::NoMemory) => Err(NoMemory),
         Err(_) => Ok(no_lines(alloc)),
     }
 }

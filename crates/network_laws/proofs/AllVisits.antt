@@ -7,7 +7,7 @@ use Rattle.plan_base.specs.declared.ids.Dev.{Dev}
 use Rattle.plan_base.specs.declared.tree.Chunk.{Chunk}
 use Rattle.plan_base.specs.declared.tree.Packet.{Packet}
 use Rattle.packet_frame.specs.declared.frame.PlainFrame.{PlainFrame}
-use Rattle.packet_frame.specs.declared.refusal.FrameRefusal.{FrameRefusal}
+use Rattle.packet_frame.specs.declared.fault.FrameFault.{FrameFault}
 use Rattle.packet_frame.specs.Bytes.{frame_bytes}
 use Rattle.frame_text.specs.Decoding.{frame_of}
 use Rattle.service_api.specs.declared.advert.Advert.{Advert}
@@ -135,7 +135,7 @@ frame_ends node d (PlainFrame.Packet p) = packet_ends node d p
 frame_ends node d (PlainFrame.Advert a) = advert_none node d a
 frame_ends node d (PlainFrame.Ask bound chunk) = two_none (Arrived d) Misplaced node refl refl
 
-arrived_ends : (node : NodeState) (d : Dev) (r : Result PlainFrame FrameRefusal) → Ends (arrived node d r) (length (bytes_visits r node))
+arrived_ends : (node : NodeState) (d : Dev) (r : Result PlainFrame FrameFault) → Ends (arrived node d r) (length (bytes_visits r node))
 arrived_ends node d (Ok x) = frame_ends node d x
 arrived_ends node d (Err e) = two_none (Arrived d) (Bad e) node refl refl
 
@@ -179,7 +179,7 @@ acts_end h acts = line_sum-at line_ends h acts
 nothing_has : (w : WorldState) → Has (nothing w) 0
 nothing_has w = line_sum-one line_ends Nothing
 
-forged_none : (h : Host) (r : Result PlainFrame FrameRefusal) → line_sum line_ends (forged h r) ≡ 0
+forged_none : (h : Host) (r : Result PlainFrame FrameFault) → line_sum line_ends (forged h r) ≡ 0
 forged_none h (Ok (PlainFrame.Packet p)) = line_sum-one line_ends (Forged h p.family p.bound)
 forged_none h (Ok (PlainFrame.Advert a)) = line_sum-nil line_ends
 forged_none h (Ok (PlainFrame.Ask bound chunk)) = line_sum-nil line_ends

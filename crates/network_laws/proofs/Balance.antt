@@ -6,7 +6,7 @@ use Rattle.plan_base.specs.declared.ids.Dev.{Dev}
 use Rattle.plan_base.specs.declared.ids.Family.{Family}
 use Rattle.plan_base.specs.declared.tree.Chunk.{Chunk}
 use Rattle.packet_frame.specs.declared.frame.PlainFrame.{PlainFrame}
-use Rattle.packet_frame.specs.declared.refusal.FrameRefusal.{FrameRefusal}
+use Rattle.packet_frame.specs.declared.fault.FrameFault.{FrameFault}
 use Rattle.packet_frame.specs.Bytes.{frame_bytes}
 use Rattle.frame_text.specs.Decoding.{frame_of}
 use Rattle.network_plan.specs.declared.schedule.HostSpec.{HostSpec}
@@ -113,7 +113,7 @@ module _ (f : Family) where
   ticks_balance : (w : WorldState) (h : Host) → EventBalance w (ticks w h)
   ticks_balance w h = steps_balance w h [] tick_step 0 no_lines (record { balances = tick_balances f; frame = tick_frame })
 
-  forged_begins : (h : Host) (r : Result PlainFrame FrameRefusal) → Begins (forged h r) (frame_came f r)
+  forged_begins : (h : Host) (r : Result PlainFrame FrameFault) → Begins (forged h r) (frame_came f r)
   forged_begins h (Ok (PlainFrame.Packet p)) = one_line (Forged h p.family p.bound) (frame_came f (Ok (PlainFrame.Packet p))) refl refl refl refl
   forged_begins h (Ok (PlainFrame.Advert a)) = no_lines
   forged_begins h (Ok (PlainFrame.Ask bound chunk)) = no_lines

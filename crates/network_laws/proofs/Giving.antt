@@ -10,7 +10,7 @@ use Rattle.plan_base.specs.declared.ids.Dev.{Dev}
 use Rattle.plan_base.specs.declared.ids.Family.{Family}
 use Rattle.plan_base.specs.declared.tree.Chunk.{Chunk}
 use Rattle.packet_frame.specs.declared.frame.PlainFrame.{PlainFrame}
-use Rattle.packet_frame.specs.declared.refusal.FrameRefusal.{FrameRefusal}
+use Rattle.packet_frame.specs.declared.fault.FrameFault.{FrameFault}
 use Rattle.packet_frame.specs.Bytes.{frame_bytes}
 use Rattle.frame_text.specs.Decoding.{frame_of}
 use Rattle.network_plan.specs.Hosts.{has_host}
@@ -117,7 +117,7 @@ module _ (f : Family) where
   unfolding steps
   steps_give w h before step b g = step_place_gives w h before step (place_of w.nodes h) b g
 
-  forged_begins : (h : Host) (bytes : List ℕ) (r : Result PlainFrame FrameRefusal) → IsBytes bytes → frame_of bytes ≡ r → Begins (forged h r)
+  forged_begins : (h : Host) (bytes : List ℕ) (r : Result PlainFrame FrameFault) → IsBytes bytes → frame_of bytes ≡ r → Begins (forged h r)
   forged_begins h bytes (Ok (PlainFrame.Packet p)) b e = record {
     none = line_sum-one (line_injections f) (Forged h p.family p.bound);
     limit = omega (
@@ -383,7 +383,7 @@ module _ (f : Family) where
       let i = line_sum-at (line_injections f) h acts in
       inject_adds f node chunk bound q (omega arith)
 
-  forged_one : (h : Host) (r : Result PlainFrame FrameRefusal) → line_sum (line_forged f) (forged h r) ≡ came_one f r
+  forged_one : (h : Host) (r : Result PlainFrame FrameFault) → line_sum (line_forged f) (forged h r) ≡ came_one f r
   forged_one h (Ok (PlainFrame.Packet p)) = line_sum-one (line_forged f) (Forged h p.family p.bound)
   forged_one h (Ok (PlainFrame.Advert a)) = line_sum-nil (line_forged f)
   forged_one h (Ok (PlainFrame.Ask bound chunk)) = line_sum-nil (line_forged f)

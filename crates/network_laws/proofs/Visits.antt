@@ -7,7 +7,7 @@ use Rattle.plan_base.specs.declared.tree.Chunk.{Chunk}
 use Rattle.plan_base.specs.declared.tree.Packet.{Packet}
 use Rattle.wire_bytes.specs.Fields.{IsBytes}
 use Rattle.packet_frame.specs.declared.frame.PlainFrame.{PlainFrame}
-use Rattle.packet_frame.specs.declared.refusal.FrameRefusal.{FrameRefusal}
+use Rattle.packet_frame.specs.declared.fault.FrameFault.{FrameFault}
 use Rattle.frame_text.specs.Decoding.{frame_of}
 use Rattle.frame_text.proofs.OneAnswer.{found_is}
 use Rattle.chunk_types.specs.Chunks.{IsCheckedChunk}
@@ -56,7 +56,7 @@ frame_ends (PlainFrame.Packet p) node h n = cases (is_host p.dest node.here) (on
 frame_ends (PlainFrame.Advert a) node h n = All-nil EndsWell
 frame_ends (PlainFrame.Ask bound chunk) node h n = All-nil EndsWell
 
-bytes_end : (bytes : List ℕ) (r : Result PlainFrame FrameRefusal) (node : NodeState) → IsBytes bytes → frame_of bytes ≡ r → NodeFits node → All EndsWell (bytes_visits r node)
+bytes_end : (bytes : List ℕ) (r : Result PlainFrame FrameFault) (node : NodeState) → IsBytes bytes → frame_of bytes ≡ r → NodeFits node → All EndsWell (bytes_visits r node)
 bytes_end bytes (Ok x) node b e n = frame_ends x node (taken_in bytes x (found_is bytes x b e)) n
 bytes_end bytes (Err e) node b h n = All-nil EndsWell
 

@@ -8,7 +8,7 @@ use Rattle.std.proofs.lemmas.Bool.Decides.{nat_tests}
 use Rattle.plan_base.specs.declared.ids.Host.{Host}
 use Rattle.plan_base.specs.declared.ids.Dev.{Dev}
 use Rattle.packet_frame.specs.declared.frame.PlainFrame.{PlainFrame}
-use Rattle.packet_frame.specs.declared.refusal.FrameRefusal.{FrameRefusal}
+use Rattle.packet_frame.specs.declared.fault.FrameFault.{FrameFault}
 use Rattle.packet_frame.specs.Bytes.{frame_bytes}
 use Rattle.frame_text.specs.Decoding.{frame_of}
 use Rattle.network_plan.specs.declared.schedule.Topology.{Topology}
@@ -106,7 +106,7 @@ module _ (n : ℕ) where
   unfolding steps
   steps_move w h before step b = step_place_moves w h before step (place_of w.nodes h) b
 
-  quiet_forged : (h : Host) (r : Result PlainFrame FrameRefusal) → Quiet (forged h r)
+  quiet_forged : (h : Host) (r : Result PlainFrame FrameFault) → Quiet (forged h r)
   quiet_forged h (Ok (PlainFrame.Packet p)) = quiet_one (Forged h p.family p.bound) refl refl
   quiet_forged h (Ok (PlainFrame.Advert a)) = quiet_none
   quiet_forged h (Ok (PlainFrame.Ask bound chunk)) = quiet_none

@@ -8,7 +8,7 @@ use Rattle.plan_base.specs.declared.tree.Packet.{Packet}
 use Rattle.wire_bytes.specs.Fields.{IsBytes}
 use Rattle.packet_frame.specs.declared.checked.Frame.{Frame}
 use Rattle.packet_frame.specs.declared.frame.PlainFrame.{PlainFrame}
-use Rattle.packet_frame.specs.declared.refusal.FrameRefusal.{FrameRefusal}
+use Rattle.packet_frame.specs.declared.fault.FrameFault.{FrameFault}
 use Rattle.packet_frame.specs.Typed.{plain_of, Accepts, FrameFirst}
 use Rattle.frame_text.specs.Decoding.{frame_of}
 use Rattle.frame_text.proofs.OneAnswer.{accepts_is, first_is}
@@ -89,15 +89,15 @@ module _ {S : Type 0} (stands : S → Standing) where
 
 -- ---- readings
 
-pub read_found : (bytes : List ℕ) (r : Result Frame FrameRefusal) → IfOk r (λ x. Accepts bytes (plain_of x)) → IfOk r (λ x. frame_of bytes ≡ Ok (plain_of x))
+pub read_found : (bytes : List ℕ) (r : Result Frame FrameFault) → IfOk r (λ x. Accepts bytes (plain_of x)) → IfOk r (λ x. frame_of bytes ≡ Ok (plain_of x))
 read_found bytes (Ok x) h = accepts_is bytes (plain_of x) h
 read_found bytes (Err e) h = h
 
-refused_so : (bytes : List ℕ) (e : FrameRefusal) → IsBytes bytes → (e ≡ FrameRefusal.NoMemory) ⊎ FrameFirst e bytes → (e ≡ FrameRefusal.NoMemory) ⊎ (frame_of bytes ≡ Err e)
+refused_so : (bytes : List ℕ) (e : FrameFault) → IsBytes bytes → (e ≡ FrameFault.NoMemory) ⊎ FrameFirst e bytes → (e ≡ FrameFault.NoMemory) ⊎ (frame_of bytes ≡ Err e)
 refused_so bytes e b (inl h) = inl h
 refused_so bytes e b (inr h) = inr (first_is bytes e b h)
 
-pub read_fault : (bytes : List ℕ) (r : Result Frame FrameRefusal) → IsBytes bytes → IfErr r (λ e. (e ≡ FrameRefusal.NoMemory) ⊎ FrameFirst e bytes) → IfErr r (λ e. (e ≡ FrameRefusal.NoMemory) ⊎ (frame_of bytes ≡ Err e))
+pub read_fault : (bytes : List ℕ) (r : Result Frame FrameFault) → IsBytes bytes → IfErr r (λ e. (e ≡ FrameFault.NoMemory) ⊎ FrameFirst e bytes) → IfErr r (λ e. (e ≡ FrameFault.NoMemory) ⊎ (frame_of bytes ≡ Err e))
 read_fault bytes (Ok x) b h = h
 read_fault bytes (Err e) b h = refused_so bytes e b h
 
@@ -106,7 +106,7 @@ asked_so bytes (PlainFrame.Packet p) h = tt
 asked_so bytes (PlainFrame.Advert a) h = tt
 asked_so bytes (PlainFrame.Ask bound chunk) h = h.spells.fits.0
 
-pub read_within : (bytes : List ℕ) (r : Result Frame FrameRefusal) → IfOk r (λ x. Accepts bytes (plain_of x)) → IfOk r (λ x. asks_within (plain_of x))
+pub read_within : (bytes : List ℕ) (r : Result Frame FrameFault) → IfOk r (λ x. Accepts bytes (plain_of x)) → IfOk r (λ x. asks_within (plain_of x))
 read_within bytes (Ok x) h = asked_so bytes (plain_of x) h
 read_within bytes (Err e) h = h
 

@@ -9,7 +9,7 @@ ghost use Rattle.node_model.specs.Fits.{ConfigFits, NodeFits, comes_fit, comes_w
 ghost use Rattle.node_core.specs.Queued.{has_first, queued_at, TakesFirst};
 ghost use Rattle.wire_bytes.specs.Fields.{IsBytes};
 ghost use Rattle.packet_frame.specs.Typed.{plain_of};
-ghost use Rattle.packet_frame.specs.declared.refusal.FrameRefusal.{FrameRefusal};
+ghost use Rattle.packet_frame.specs.declared.fault.FrameFault.{FrameFault};
 ghost use Rattle.frame_text.specs.Decoding.{frame_of};
 ghost use Rattle.node_core.specs.Turns.{IsResting};
 ghost use Rattle.node_core.specs.Stands.{NodeStands, IsStep, own_family, own_packet, asks_within};
@@ -23,7 +23,7 @@ use chunk_types::{CheckedChunk, CheckedPacket};
 use link_queue::Queue;
 use network_plan::{Event, NodeConfig};
 use node_model::{Act, ActList, Acts, Reason};
-use packet_frame::{Frame, FrameRefusal, get_frame};
+use packet_frame::{Frame, FrameFault, get_frame};
 use plan_base::{Dev, Family, Host, NoMemory};
 use plan_items::Items;
 use remote_calls::default_route;
@@ -139,9 +139,9 @@ fn are_bytes(bytes: &[u8])
 }
 
 /// Reads a frame; the answer is that of the definition, where memory is there.
-fn read_frame(alloc: Global, bytes: &[u8]) -> Result<Frame, FrameRefusal>
+fn read_frame(alloc: Global, bytes: &[u8]) -> Result<Frame, FrameFault>
     ensures found { IfOk result (λ x. frame_of bytes.now ≡ Ok (plain_of x)) }
-    ensures fault { IfErr result (λ e. (e ≡ FrameRefusal.NoMemory) ⊎ (frame_of bytes.now ≡ Err e)) }
+    ensures fault { IfErr result (λ e. (e ≡ FrameFault.NoMemory) ⊎ (frame_of bytes.now ≡ Err e)) }
     ensures within { IfOk result (λ x. asks_within (plain_of x)) }
 {
     are_bytes(bytes);
@@ -444,7 +444,7 @@ impl<S: Services> Node<S> {
     {
         match read_frame(alloc, bytes) {
             Ok(frame) => self.arrive_frame(alloc, dev, &frame),
-            Err(FrameRefusal::NoMemory) => Err(NoMemory),
+            Err(FrameFault::NoMemory) => Err(NoMemory),
             Err(refusal) => self.only_acts(alloc, Act::Arrived(dev), Act::Bad(refusal)),
         }
     }
@@ -472,7 +472,7 @@ impl<S: Services> Node<S> {
     {
         match read_frame(alloc, bytes) {
             Ok(frame) => self.ask_frame(alloc, &frame),
-            Err(FrameRefusal::NoMemory) => Err(NoMemory),
+            Err(FrameFault::NoMemory) => Err(NoMemory),
             Err(refusal) => self.only_acts(alloc, Act::Asked, Act::Bad(refusal)),
         }
     }

@@ -6,7 +6,7 @@ ghost use Rattle.node_model.specs.Texts as spec;
 
 use frame_text::put_reason;
 use node_model::{Act, Reason, What};
-use packet_frame::FrameRefusal;
+use packet_frame::FrameFault;
 use plan_base::{Bytes, Dev, Family, Host, NoMemory, Value};
 use plan_meaning::Outcome;
 use plan_printer::print_value;
@@ -248,7 +248,7 @@ fn put_bad(
     alloc: Global,
     out: &mut Bytes,
     host: Host,
-    refusal: &FrameRefusal,
+    refusal: &FrameFault,
 ) -> Result<(), NoMemory>
     ensures { OnOk result (out.new ≡ out.old ++ (spec.head_text (codes "drop") host ++ (codes " BadFrame " ++ reason_text refusal.now))) }
 {

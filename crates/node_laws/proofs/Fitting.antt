@@ -9,7 +9,7 @@ use Rattle.plan_base.specs.declared.tree.Chunk.{Chunk}
 use Rattle.plan_base.specs.declared.tree.Packet.{Packet}
 use Rattle.wire_bytes.specs.Fields.{IsBytes}
 use Rattle.packet_frame.specs.declared.frame.PlainFrame.{PlainFrame}
-use Rattle.packet_frame.specs.declared.refusal.FrameRefusal.{FrameRefusal}
+use Rattle.packet_frame.specs.declared.fault.FrameFault.{FrameFault}
 use Rattle.packet_frame.specs.Typed.{Accepts}
 use Rattle.packet_frame.proofs.Carried.{chunk_is_formed}
 use Rattle.frame_text.specs.Decoding.{frame_of}
@@ -193,7 +193,7 @@ frame_taken_fits node d (PlainFrame.Ask bound chunk) h n = still _ node n
 pub frame_fits : (node : NodeState) (d : Dev) (x : PlainFrame) → FrameKeeps x → NodeFits node → StepFits (frame_step node d x)
 frame_fits node d x h n = frame_taken_fits node d x (kept_taken x h) n
 
-arrived_fits : (node : NodeState) (d : Dev) (bytes : List ℕ) (r : Result PlainFrame FrameRefusal) → IsBytes bytes → frame_of bytes ≡ r → NodeFits node → StepFits (arrived node d r)
+arrived_fits : (node : NodeState) (d : Dev) (bytes : List ℕ) (r : Result PlainFrame FrameFault) → IsBytes bytes → frame_of bytes ≡ r → NodeFits node → StepFits (arrived node d r)
 arrived_fits node d bytes (Ok x) b e n = frame_taken_fits node d x (taken_in bytes x (found_is bytes x b e)) n
 arrived_fits node d bytes (Err e) b h n = still _ node n
 
@@ -206,7 +206,7 @@ asked_taken node (PlainFrame.Packet p) h n = still _ node n
 asked_taken node (PlainFrame.Advert a) h n = still _ node n
 asked_taken node (PlainFrame.Ask bound chunk) h n = inject_fits (Asked ∷ []) node chunk bound h.0 h.1 n
 
-asked_fits : (node : NodeState) (bytes : List ℕ) (r : Result PlainFrame FrameRefusal) → IsBytes bytes → frame_of bytes ≡ r → NodeFits node → StepFits (asked node r)
+asked_fits : (node : NodeState) (bytes : List ℕ) (r : Result PlainFrame FrameFault) → IsBytes bytes → frame_of bytes ≡ r → NodeFits node → StepFits (asked node r)
 asked_fits node bytes (Ok x) b e n = asked_taken node x (taken_in bytes x (found_is bytes x b e)) n
 asked_fits node bytes (Err e) b h n = still _ node n
 

@@ -10,7 +10,7 @@ use Rattle.plan_base.specs.declared.ids.Family.{Family}
 use Rattle.plan_base.specs.declared.tree.Chunk.{Chunk}
 use Rattle.plan_base.specs.declared.tree.Packet.{Packet}
 use Rattle.packet_frame.specs.declared.frame.PlainFrame.{PlainFrame}
-use Rattle.packet_frame.specs.declared.refusal.FrameRefusal.{FrameRefusal}
+use Rattle.packet_frame.specs.declared.fault.FrameFault.{FrameFault}
 use Rattle.frame_text.specs.Decoding.{frame_of}
 use Rattle.service_api.specs.declared.advert.Advert.{Advert}
 use Rattle.service_api.specs.declared.answer.Note.{Note}
@@ -124,7 +124,7 @@ module _ (c : Act → ℕ) (z : OnlyInjects c) where
   frame_none node d (PlainFrame.Advert a) = advert_none node d a
   frame_none node d (PlainFrame.Ask bound chunk) = two_none _ _ (z (Arrived d) refl) (z Misplaced refl)
 
-  arrived_none : (node : NodeState) (d : Dev) (r : Result PlainFrame FrameRefusal) → act_sum c (arrived node d r).acts ≡ 0
+  arrived_none : (node : NodeState) (d : Dev) (r : Result PlainFrame FrameFault) → act_sum c (arrived node d r).acts ≡ 0
   arrived_none node d (Ok x) = frame_none node d x
   arrived_none node d (Err e) = two_none _ _ (z (Arrived d) refl) (z (Bad e) refl)
 
@@ -328,11 +328,11 @@ module _ (f : Family) where
   frame_adds node d (PlainFrame.Ask bound chunk) h q = q
 
   -- how many packets of this family bytes are accepted as
-  abbrev pub came_one : Result PlainFrame FrameRefusal → ℕ
+  abbrev pub came_one : Result PlainFrame FrameFault → ℕ
   came_one (Ok x) = frame_one f x
   came_one (Err e) = 0
 
-  arrived_adds : (node : NodeState) (d : Dev) (r : Result PlainFrame FrameRefusal) → came_one r ≡ 0 → count_in node.queues ≡ 0 → count_in (arrived node d r).node.queues ≡ 0
+  arrived_adds : (node : NodeState) (d : Dev) (r : Result PlainFrame FrameFault) → came_one r ≡ 0 → count_in node.queues ≡ 0 → count_in (arrived node d r).node.queues ≡ 0
   arrived_adds node d (Ok x) h q = frame_adds node d x h q
   arrived_adds node d (Err e) h q = q
 

@@ -10,7 +10,7 @@ use Rattle.plan_base.specs.declared.ids.Family.{Family}
 use Rattle.plan_base.specs.declared.tree.Chunk.{Chunk}
 use Rattle.plan_base.specs.declared.tree.Packet.{Packet}
 use Rattle.packet_frame.specs.declared.frame.PlainFrame.{PlainFrame}
-use Rattle.packet_frame.specs.declared.refusal.FrameRefusal.{FrameRefusal}
+use Rattle.packet_frame.specs.declared.fault.FrameFault.{FrameFault}
 use Rattle.frame_text.specs.Decoding.{frame_of}
 use Rattle.plan_meaning.specs.declared.sent.Sent.{Sent}
 use Rattle.service_api.specs.declared.advert.Advert.{Advert}
@@ -322,7 +322,7 @@ module _ (f : Family) where
   frame_balances node d (PlainFrame.Advert a) = advert_balances node d a
   frame_balances node d (PlainFrame.Ask bound chunk) = only_balances (Arrived d) Misplaced node node refl (begins_none (Arrived d) refl refl refl refl) (begins_none Misplaced refl refl refl refl)
 
-  arrived_balances : (node : NodeState) (d : Dev) (r : Result PlainFrame FrameRefusal) → StepBalances f (frame_came f r) node (arrived node d r)
+  arrived_balances : (node : NodeState) (d : Dev) (r : Result PlainFrame FrameFault) → StepBalances f (frame_came f r) node (arrived node d r)
   arrived_balances node d (Ok x) = frame_balances node d x
   arrived_balances node d (Err e) = only_balances (Arrived d) (Bad e) node node refl (begins_none (Arrived d) refl refl refl refl) (begins_none (Bad e) refl refl refl refl)
 
@@ -333,7 +333,7 @@ module _ (f : Family) where
   misplaced_balances : (node : NodeState) → StepBalances f 0 node (only_acts Asked Misplaced node)
   misplaced_balances node = only_balances Asked Misplaced node node refl (begins_none Asked refl refl refl refl) (begins_none Misplaced refl refl refl refl)
 
-  asked_balances : (node : NodeState) (r : Result PlainFrame FrameRefusal) → StepBalances f 0 node (asked node r)
+  asked_balances : (node : NodeState) (r : Result PlainFrame FrameFault) → StepBalances f 0 node (asked node r)
   asked_balances node (Ok (PlainFrame.Ask bound chunk)) = inject_balances (Asked ∷ []) node chunk bound (begins_none Asked refl refl refl refl)
   asked_balances node (Ok (PlainFrame.Packet p)) = misplaced_balances node
   asked_balances node (Ok (PlainFrame.Advert a)) = misplaced_balances node

@@ -6,7 +6,7 @@ use Rattle.plan_base.specs.declared.ids.Dev.{Dev}
 use Rattle.plan_base.specs.declared.tree.Chunk.{Chunk}
 use Rattle.plan_base.specs.declared.tree.Packet.{Packet}
 use Rattle.packet_frame.specs.declared.frame.PlainFrame.{PlainFrame}
-use Rattle.packet_frame.specs.declared.refusal.FrameRefusal.{FrameRefusal}
+use Rattle.packet_frame.specs.declared.fault.FrameFault.{FrameFault}
 use Rattle.frame_text.specs.Decoding.{frame_of}
 use Rattle.network_plan.specs.declared.event.Event.{Event}
 use Rattle.network_plan.specs.declared.event.Event.TheVariants as event
@@ -123,11 +123,11 @@ module _ (d : ℕ) where
   frame_joins node dev (PlainFrame.Advert a) = advert_joins node dev a
   frame_joins node dev (PlainFrame.Ask bound chunk) = still node
 
-  arrived_joins : (node : NodeState) (dev : Dev) (r : Result PlainFrame FrameRefusal) → StepJoins node (arrived node dev r)
+  arrived_joins : (node : NodeState) (dev : Dev) (r : Result PlainFrame FrameFault) → StepJoins node (arrived node dev r)
   arrived_joins node dev (Ok x) = frame_joins node dev x
   arrived_joins node dev (Err e) = still node
 
-  asked_joins : (node : NodeState) (r : Result PlainFrame FrameRefusal) → StepJoins node (asked node r)
+  asked_joins : (node : NodeState) (r : Result PlainFrame FrameFault) → StepJoins node (asked node r)
   asked_joins node (Ok (PlainFrame.Ask bound chunk)) = inject_joins (Asked ∷ []) node chunk bound
   asked_joins node (Ok (PlainFrame.Packet p)) = still node
   asked_joins node (Ok (PlainFrame.Advert a)) = still node

@@ -9,7 +9,7 @@ use Rattle.plan_base.specs.declared.ids.Family.{Family}
 use Rattle.plan_base.specs.declared.tree.Chunk.{Chunk}
 use Rattle.plan_base.specs.declared.tree.Packet.{Packet}
 use Rattle.packet_frame.specs.declared.frame.PlainFrame.{PlainFrame}
-use Rattle.packet_frame.specs.declared.refusal.FrameRefusal.{FrameRefusal}
+use Rattle.packet_frame.specs.declared.fault.FrameFault.{FrameFault}
 use Rattle.frame_text.specs.Decoding.{frame_of}
 use Rattle.service_api.specs.declared.advert.Advert.{Advert}
 use Rattle.service_api.specs.declared.router.Hop.{Hop}
@@ -98,7 +98,7 @@ frame_stays node d (PlainFrame.Packet p) = packet_stays node d p
 frame_stays node d (PlainFrame.Advert a) = advert_stays node d a
 frame_stays node d (PlainFrame.Ask bound chunk) = still _ node
 
-arrived_stays : (node : NodeState) (d : Dev) (r : Result PlainFrame FrameRefusal) → StepStays node (arrived node d r)
+arrived_stays : (node : NodeState) (d : Dev) (r : Result PlainFrame FrameFault) → StepStays node (arrived node d r)
 arrived_stays node d (Ok x) = frame_stays node d x
 arrived_stays node d (Err e) = still _ node
 
@@ -171,7 +171,7 @@ frame_frame node d (PlainFrame.Packet p) = packet_frame node d p
 frame_frame node d (PlainFrame.Advert a) = advert_frame node d a
 frame_frame node d (PlainFrame.Ask bound chunk) = refl
 
-arrived_frame : (node : NodeState) (d : Dev) (r : Result PlainFrame FrameRefusal) → NoFrame (arrived node d r)
+arrived_frame : (node : NodeState) (d : Dev) (r : Result PlainFrame FrameFault) → NoFrame (arrived node d r)
 arrived_frame node d (Ok x) = frame_frame node d x
 arrived_frame node d (Err e) = refl
 

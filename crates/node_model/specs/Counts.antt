@@ -3,7 +3,7 @@ use Rattle.std.specs.Prelude.{◌≡◌, ℕ, ◌+◌, Bool, ◌==◌, ◌&&◌,
 use Rattle.plan_base.specs.declared.ids.Family.{Family}
 use Rattle.plan_base.specs.declared.tree.Packet.{Packet}
 use Rattle.packet_frame.specs.declared.frame.PlainFrame.{PlainFrame}
-use Rattle.packet_frame.specs.declared.refusal.FrameRefusal.{FrameRefusal}
+use Rattle.packet_frame.specs.declared.fault.FrameFault.{FrameFault}
 use Rattle.frame_text.specs.Decoding.{frame_of}
 use Rattle.network_plan.specs.declared.event.Event.{Event}
 use Rattle.network_plan.specs.declared.event.Event.TheVariants as event
@@ -98,7 +98,7 @@ node_packets f node = queues_sum (frame_one f) node.queues
 -- ---- the balance of a step
 
 -- what comes in with bytes that are accepted as a packet
-abbrev pub frame_came : Family → Result PlainFrame FrameRefusal → ℕ
+abbrev pub frame_came : Family → Result PlainFrame FrameFault → ℕ
 frame_came f (Ok x) = frame_live f x
 frame_came f (Err e) = 0
 

@@ -5,7 +5,7 @@ use Rattle.plan_base.specs.declared.ids.Dev.{Dev}
 use Rattle.plan_base.specs.declared.tree.Chunk.{Chunk}
 use Rattle.plan_base.specs.declared.tree.Packet.{Packet}
 use Rattle.packet_frame.specs.declared.frame.PlainFrame.{PlainFrame}
-use Rattle.packet_frame.specs.declared.refusal.FrameRefusal.{FrameRefusal}
+use Rattle.packet_frame.specs.declared.fault.FrameFault.{FrameFault}
 use Rattle.frame_text.specs.Decoding.{frame_of}
 use Rattle.service_api.specs.declared.advert.Advert.{Advert}
 use Rattle.service_api.specs.declared.router.Hop.{Hop}
@@ -152,7 +152,7 @@ frame_step node d (PlainFrame.Packet p) = packet_step node d p
 frame_step node d (PlainFrame.Advert a) = advert_step node d a
 frame_step node d (PlainFrame.Ask bound chunk) = only_acts (Arrived d) Misplaced node
 
-abbrev pub arrived : NodeState → Dev → Result PlainFrame FrameRefusal → Step
+abbrev pub arrived : NodeState → Dev → Result PlainFrame FrameFault → Step
 arrived node d (Ok x) = frame_step node d x
 arrived node d (Err e) = only_acts (Arrived d) (Bad e) node
 
@@ -160,7 +160,7 @@ arrived node d (Err e) = only_acts (Arrived d) (Bad e) node
 unfoldable pub arrive_step : NodeState → Dev → List ℕ → Step
 arrive_step node d bytes = arrived node d (frame_of bytes)
 
-abbrev pub asked : NodeState → Result PlainFrame FrameRefusal → Step
+abbrev pub asked : NodeState → Result PlainFrame FrameFault → Step
 asked node (Ok (PlainFrame.Ask bound chunk)) = inject_step (Asked ∷ []) node chunk bound
 asked node (Ok x) = only_acts Asked Misplaced node
 asked node (Err e) = only_acts Asked (Bad e) node

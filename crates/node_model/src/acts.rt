@@ -1,4 +1,4 @@
-use packet_frame::FrameRefusal;
+use packet_frame::FrameFault;
 use plan_base::{Dev, Family};
 use plan_items::Items;
 use plan_meaning::Outcome;
@@ -39,7 +39,7 @@ pub enum Act {
     /// A packet of this family was dropped with this bound.
     Dropped(Reason, Family, u32),
     /// The bytes that arrived are no frame, for this reason.
-    Bad(FrameRefusal),
+    Bad(FrameFault),
     /// The frame that arrived doesn't belong there.
     Misplaced,
     /// Its advert was queued on this device.

@@ -11,9 +11,7 @@ use Rattle.chunk_types.specs.Chunks.{illness}
 use Rattle.packet_frame.specs.declared.fault.FrameFault.{FrameFault}
 use Rattle.packet_frame.specs.declared.frame.PlainFrame.{PlainFrame}
 use Rattle.packet_frame.specs.declared.checked.Frame.{Frame}
-use Rattle.packet_frame.specs.declared.refusal.FrameRefusal.{FrameRefusal}
 use Rattle.packet_frame.specs.Frames.{SpellsFrame, SpellingFault}
-use Rattle.packet_frame.specs.Refusals.{of_fault}
 use Rattle.packet_frame.specs.Typed.{plain_of, CarriesTyped, Accepts, CarriesIll, FrameFirst, misspelled, ill_typed}
 use Rattle.packet_frame.proofs.Sizes.{chunk_small}
 
@@ -28,29 +26,17 @@ chunk_is_small c h = let l = chunk_small c h in omega (arith, l)
 
 -- ---- bytes that spell no frame
 
-misspelled_is : (bytes : List ℕ) (f : FrameFault) → SpellingFault f bytes → (of_fault f ≡ FrameRefusal.NoMemory) ⊎ FrameFirst (of_fault f) bytes
-misspelled_is bytes FrameFault.NoMemory h = inl refl
-misspelled_is bytes FrameFault.TooLong h = inr (misspelled _ h refl)
-misspelled_is bytes (FrameFault.Truncated at) h = inr (misspelled _ h refl)
-misspelled_is bytes FrameFault.BadMagic h = inr (misspelled _ h refl)
-misspelled_is bytes FrameFault.BadVersion h = inr (misspelled _ h refl)
-misspelled_is bytes FrameFault.BadKind h = inr (misspelled _ h refl)
-misspelled_is bytes (FrameFault.Spell e) h = inr (misspelled _ h refl)
-misspelled_is bytes FrameFault.BoundTooLarge h = inr (misspelled _ h refl)
-misspelled_is bytes (FrameFault.BadOrder at) h = inr (misspelled _ h refl)
-misspelled_is bytes (FrameFault.Trailing at) h = inr (misspelled _ h refl)
-
-pub read_fault : (bytes : List ℕ) (f : FrameFault) → (f ≡ FrameFault.NoMemory) ⊎ SpellingFault f bytes → (of_fault f ≡ FrameRefusal.NoMemory) ⊎ FrameFirst (of_fault f) bytes
-read_fault bytes f (inl h) = inl (ap of_fault h)
-read_fault bytes f (inr h) = misspelled_is bytes f h
+pub read_fault : (bytes : List ℕ) (f : FrameFault) → (f ≡ FrameFault.NoMemory) ⊎ SpellingFault f bytes → (f ≡ FrameFault.NoMemory) ⊎ FrameFirst f bytes
+read_fault bytes f (inl h) = inl h
+read_fault bytes f (inr h) = inr (misspelled h)
 
 -- ---- bytes that spell one
 
 module _ (bytes : List ℕ) (plain : PlainFrame) (spells : SpellsFrame bytes plain) where
-  pub whole_fault : (r : Result Frame FrameRefusal) → IfErr r (λ e. (e ≡ FrameRefusal.NoMemory) ⊎ CarriesIll plain e) → IfErr r (λ e. (e ≡ FrameRefusal.NoMemory) ⊎ FrameFirst e bytes)
+  pub whole_fault : (r : Result Frame FrameFault) → IfErr r (λ e. (e ≡ FrameFault.NoMemory) ⊎ CarriesIll plain e) → IfErr r (λ e. (e ≡ FrameFault.NoMemory) ⊎ FrameFirst e bytes)
   whole_fault (Ok x) h = tt
   whole_fault (Err e) h = by_case h
     where
-      by_case : (e ≡ FrameRefusal.NoMemory) ⊎ CarriesIll plain e → (e ≡ FrameRefusal.NoMemory) ⊎ FrameFirst e bytes
+      by_case : (e ≡ FrameFault.NoMemory) ⊎ CarriesIll plain e → (e ≡ FrameFault.NoMemory) ⊎ FrameFirst e bytes
       by_case (inl m) = inl m
       by_case (inr i) = inr (ill_typed plain spells i)

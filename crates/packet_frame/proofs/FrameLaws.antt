@@ -244,6 +244,7 @@ fails_is (FrameFault.Spell _) r h = inr h
 fails_is FrameFault.BoundTooLarge r h = inr h
 fails_is (FrameFault.BadOrder _) r h = inr h
 fails_is (FrameFault.Trailing _) r h = inr h
+fails_is (FrameFault.IllTyped _) r h = inr h
 fails_is FrameFault.NoMemory r h = inl refl
 
 module _ (bytes : List ℕ) (f : Front) (first : f.at ≡ 0) (all : f.rest ≡ bytes) where

@@ -4,5 +4,4 @@ pub mod Fields
 pub mod Forms
 pub mod Frames
 pub mod Reading
-pub mod Refusals
 pub mod Typed

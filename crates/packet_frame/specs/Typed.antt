@@ -7,7 +7,6 @@ use Rattle.chunk_types.specs.Chunks.{illness}
 use Rattle.packet_frame.specs.declared.fault.FrameFault.{FrameFault}
 use Rattle.packet_frame.specs.declared.frame.PlainFrame.{PlainFrame}
 use Rattle.packet_frame.specs.declared.checked.Frame.{Frame}
-use Rattle.packet_frame.specs.declared.refusal.FrameRefusal.{FrameRefusal}
 use Rattle.packet_frame.specs.Frames.{SpellsFrame, SpellingFault, carried}
 
 -- what a frame spells
@@ -28,14 +27,14 @@ pub record Accepts (bytes : List ℕ) (x : PlainFrame) : Type 0 where
   pub typed : CarriesTyped x
 
 -- what is wrong with the chunk that a frame carries
-pub record CarriesIll (x : PlainFrame) (e : FrameRefusal) : Type 0 where
+pub record CarriesIll (x : PlainFrame) (e : FrameFault) : Type 0 where
   pub chunk : Chunk
   pub ill : Ill
   pub is_carried : carried x ≡ Some chunk
   pub first : illness chunk ≡ Some ill
-  pub is : e ≡ FrameRefusal.IllTyped ill
+  pub is : e ≡ FrameFault.IllTyped ill
 
 -- the first fault of bytes that are no typed frame: that of their spelling, and then that of the chunk's types
-pub data FrameFirst (e : FrameRefusal) (bytes : List ℕ) : Type 0 where
-  misspelled : (f : FrameFault) → SpellingFault f bytes → e ≡ FrameRefusal.Misspelled f → FrameFirst e bytes
+pub data FrameFirst (e : FrameFault) (bytes : List ℕ) : Type 0 where
+  misspelled : SpellingFault e bytes → FrameFirst e bytes
   ill_typed : (x : PlainFrame) → SpellsFrame bytes x → CarriesIll x e → FrameFirst e bytes

@@ -7,9 +7,9 @@ ghost use Rattle.packet_frame.specs.Forms.{FrameFits};
 ghost use Rattle.packet_frame.specs.Typed.{plain_of, CarriesTyped, CarriesIll, Accepts, FrameFirst};
 ghost use Rattle.packet_frame.specs.declared.frame.PlainFrame.{PlainFrame as Plain};
 
+use crate::fault::FrameFault;
 use crate::frame::PlainFrame;
 use crate::get::get_plain_frame;
-use crate::refusal::FrameRefusal;
 use chunk_types::{CheckedChunk, CheckedPacket, ChunkFault, check_chunk};
 use plan_base::{Chunk, Packet};
 use service_api::Advert;
@@ -28,26 +28,26 @@ pub enum Frame {
 
 /// A chunk that was read, where it is typed.
 #[tactic(auto, using(crate::proofs::Carried::chunk_is_formed, crate::proofs::Carried::chunk_is_full, crate::proofs::Carried::chunk_is_small))]
-fn typed_chunk(alloc: Global, chunk: Chunk) -> Result<CheckedChunk, FrameRefusal>
+fn typed_chunk(alloc: Global, chunk: Chunk) -> Result<CheckedChunk, FrameFault>
     requires { a_whole_chunk.Fits chunk }
     ensures found { IfOk result (λ k. (k ≡ chunk) × IsTypedChunk chunk) }
-    ensures only { IsTypedChunk chunk → MatchResult result (λ k. k ≡ chunk) (λ e. e ≡ FrameRefusal.NoMemory) }
-    ensures fault { IfErr result (λ e. (e ≡ FrameRefusal.NoMemory) ⊎ ((i : Wrong) × (illness chunk ≡ Some i) × (e ≡ FrameRefusal.IllTyped i))) }
+    ensures only { IsTypedChunk chunk → MatchResult result (λ k. k ≡ chunk) (λ e. e ≡ FrameFault.NoMemory) }
+    ensures fault { IfErr result (λ e. (e ≡ FrameFault.NoMemory) ⊎ ((i : Wrong) × (illness chunk ≡ Some i) × (e ≡ FrameFault.IllTyped i))) }
 {
     match check_chunk(alloc, chunk) {
         Ok(k) => Ok(k),
-        Err(ChunkFault::Ill(ill)) => Err(FrameRefusal::IllTyped(ill)),
-        Err(_) => Err(FrameRefusal::NoMemory),
+        Err(ChunkFault::Ill(ill)) => Err(FrameFault::IllTyped(ill)),
+        Err(_) => Err(FrameFault::NoMemory),
     }
 }
 
 /// A packet that was read, where its chunk is typed.
-fn checked_packet(alloc: Global, p: Packet) -> Result<CheckedPacket, FrameRefusal>
+fn checked_packet(alloc: Global, p: Packet) -> Result<CheckedPacket, FrameFault>
     requires fits { a_whole_chunk.Fits p.chunk }
     requires bound { p.bound ≤ 65535 }
     ensures found { IfOk result (λ k. (k ≡ p) × IsTypedChunk p.chunk) }
-    ensures only { IsTypedChunk p.chunk → MatchResult result (λ k. k ≡ p) (λ e. e ≡ FrameRefusal.NoMemory) }
-    ensures fault { IfErr result (λ e. (e ≡ FrameRefusal.NoMemory) ⊎ ((i : Wrong) × (illness p.chunk ≡ Some i) × (e ≡ FrameRefusal.IllTyped i))) }
+    ensures only { IsTypedChunk p.chunk → MatchResult result (λ k. k ≡ p) (λ e. e ≡ FrameFault.NoMemory) }
+    ensures fault { IfErr result (λ e. (e ≡ FrameFault.NoMemory) ⊎ ((i : Wrong) × (illness p.chunk ≡ Some i) × (e ≡ FrameFault.IllTyped i))) }
 {
     let Packet {
         family,
@@ -61,11 +61,11 @@ fn checked_packet(alloc: Global, p: Packet) -> Result<CheckedPacket, FrameRefusa
 }
 
 /// A frame that was read, where its chunk is typed.
-fn checked(alloc: Global, plain: PlainFrame) -> Result<Frame, FrameRefusal>
+fn checked(alloc: Global, plain: PlainFrame) -> Result<Frame, FrameFault>
     requires { FrameFits plain }
     ensures found { IfOk result (λ x. (plain_of x ≡ plain) × CarriesTyped plain) }
-    ensures only { CarriesTyped plain → MatchResult result (λ x. plain_of x ≡ plain) (λ e. e ≡ FrameRefusal.NoMemory) }
-    ensures fault { IfErr result (λ e. (e ≡ FrameRefusal.NoMemory) ⊎ CarriesIll plain e) }
+    ensures only { CarriesTyped plain → MatchResult result (λ x. plain_of x ≡ plain) (λ e. e ≡ FrameFault.NoMemory) }
+    ensures fault { IfErr result (λ e. (e ≡ FrameFault.NoMemory) ⊎ CarriesIll plain e) }
 {
     match plain {
         PlainFrame::Packet(p) => Ok(Frame::Packet(checked_packet(alloc, p)?)),
@@ -78,10 +78,10 @@ fn checked(alloc: Global, plain: PlainFrame) -> Result<Frame, FrameRefusal>
 ///
 /// Ok exactly where all the bytes, at most 16,512, are its spelling and its chunk is typed; otherwise the first fault:
 /// that of the spelling, and then what is wrong with the chunk's types.
-pub fn get_frame(alloc: Global, bytes: &[u8]) -> Result<Frame, FrameRefusal>
+pub fn get_frame(alloc: Global, bytes: &[u8]) -> Result<Frame, FrameFault>
     ensures found { IfOk result (λ x. Accepts bytes.now (plain_of x)) }
-    ensures only { (x : Plain) → Accepts bytes.now x → MatchResult result (λ y. plain_of y ≡ x) (λ e. e ≡ FrameRefusal.NoMemory) }
-    ensures fault { IfErr result (λ e. (e ≡ FrameRefusal.NoMemory) ⊎ FrameFirst e bytes.now) }
+    ensures only { (x : Plain) → Accepts bytes.now x → MatchResult result (λ y. plain_of y ≡ x) (λ e. e ≡ FrameFault.NoMemory) }
+    ensures fault { IfErr result (λ e. (e ≡ FrameFault.NoMemory) ⊎ FrameFirst e bytes.now) }
 {
     let plain = get_plain_frame(alloc, bytes)?;
     checked(alloc, plain)

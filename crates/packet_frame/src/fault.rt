@@ -3,11 +3,12 @@ ghost use Rattle.packet_frame.specs.Faults.{of_spelling};
 ghost use Rattle.packet_frame.specs.declared.fault.FrameFault.TheVariants.{Truncated as CutOff, NoMemory};
 
 use chunk_spelling::SpellFault;
+use chunk_types::Ill;
 use std::alloc::AllocError;
 use wire_bytes::Truncated;
 
-/// Why bytes were not taken as a frame; a place is a byte number from 0.
-#[derive(Debug, Clone, Copy, PartialEq, Eq)]
+/// Why bytes are no frame whose chunk is typed; a place is a byte number from 0.
+#[derive(Debug, Drop)]
 pub enum FrameFault {
     /// They are more than 16,512.
     TooLong,
@@ -27,6 +28,8 @@ pub enum FrameFault {
     BadOrder(u32),
     /// Bytes are left over from this place on.
     Trailing(u32),
+    /// The bytes spell a frame, and the chunk that it carries isn't typed.
+    IllTyped(Ill),
     /// Memory was refused.
     NoMemory,
 }

@@ -8,12 +8,10 @@ mod get;
 mod kind;
 mod laws;
 mod put;
-mod refusal;
 
 pub use checked::{Frame, get_frame};
 pub use chunk_types::CheckedPacket;
 pub use fault::FrameFault;
 pub use laws::frame_laws;
 pub use put::{put_advert, put_ask, put_packet};
-pub use refusal::FrameRefusal;
 pub use service_api::{Advert, AdvertRow, AdvertRows};

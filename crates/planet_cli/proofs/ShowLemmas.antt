@@ -5,7 +5,7 @@ use Rattle.std.proofs.lemmas.Bool.{eq-eqb, ne_eqb, le-ltb}
 use Rattle.std.proofs.lemmas.List.{length-take}
 use Rattle.hex.specs.Hex.{decode_of, IsBytes}
 use Rattle.hex.proofs.HexLemmas.{decode_of-ok}
-use Rattle.packet_frame.specs.declared.refusal.FrameRefusal.{FrameRefusal}
+use Rattle.packet_frame.specs.declared.fault.FrameFault.{FrameFault}
 use Rattle.packet_frame.specs.Typed.{FrameFirst}
 use Rattle.frame_text.specs.Decoding.{frame_of}
 use Rattle.frame_text.proofs.OneAnswer.{first_is}
@@ -47,7 +47,7 @@ decoded_bytes text bytes h = (decode_of-ok text bytes h).3
 
 -- ---- a frame that is refused
 
-pub frame_stopped : (T : Type 0) (bytes : List ℕ) (e : FrameRefusal) (s : Stop) → s ≡ stop_of (Frame e) → IsBytes bytes → (e ≡ FrameRefusal.NoMemory) ⊎ FrameFirst e bytes
+pub frame_stopped : (T : Type 0) (bytes : List ℕ) (e : FrameFault) (s : Stop) → s ≡ stop_of (Frame e) → IsBytes bytes → (e ≡ FrameFault.NoMemory) ⊎ FrameFirst e bytes
     → IfStoppedRefused {T = T} (Err s) (λ r. framed_refusal (frame_of bytes) ≡ Some r)
 frame_stopped T bytes e s is h (inl none) =
     let P : Stop → Type 0 = λ q. IfStoppedRefused {T = T} (Err q) (λ r. framed_refusal (frame_of bytes) ≡ Some r) in

@@ -6,7 +6,7 @@ use Rattle.hex.specs.declared.error.FromHexError.{FromHexError}
 use Rattle.hex.proofs.HexLemmas.{decode_of-ok}
 use Rattle.node_io.specs.FileMaps.{FileMap, file_at}
 use Rattle.packet_frame.specs.declared.frame.PlainFrame.{PlainFrame}
-use Rattle.packet_frame.specs.declared.refusal.FrameRefusal.{FrameRefusal}
+use Rattle.packet_frame.specs.declared.fault.FrameFault.{FrameFault}
 use Rattle.packet_frame.specs.Typed.{Accepts}
 use Rattle.frame_text.specs.Frames.{frame_text}
 use Rattle.frame_text.specs.Decoding.{frame_of}
@@ -53,7 +53,7 @@ unrefused false None text h = refl
 unrefused false (Some r) text h = absurd h
 
 module _ (text : List ℕ) where
-  frame_found : (bytes : List ℕ) → decode_of (without_feed text) ≡ Ok bytes → (r : Result PlainFrame FrameRefusal) → frame_of bytes ≡ r → framed_refusal r ≡ None
+  frame_found : (bytes : List ℕ) → decode_of (without_feed text) ≡ Ok bytes → (r : Result PlainFrame FrameFault) → frame_of bytes ≡ r → framed_refusal r ≡ None
       → (x : PlainFrame) × Accepts bytes x
   frame_found bytes d (Ok x) e h = (x, found_is bytes x (decode_of-ok (without_feed text) bytes d).3 e)
   frame_found bytes d (Err f) e h = absurd (cc)

@@ -14,7 +14,6 @@ use Rattle.chunk_spelling.specs.declared.fault.SpellFault.{SpellFault}
 use Rattle.chunk_spelling.specs.declared.fault.SpellFault.TheVariants as spelling
 use Rattle.packet_frame.specs.declared.fault.FrameFault.{FrameFault}
 use Rattle.packet_frame.specs.declared.fault.FrameFault.TheVariants as framing
-use Rattle.packet_frame.specs.declared.refusal.FrameRefusal.{FrameRefusal}
 use Rattle.chunk_types.specs.declared.fault.Ill.{Ill}
 use Rattle.planet_cli.specs.declared.status.Refusal.{Refusal}
 use Rattle.planet_cli.specs.declared.status.Refusal.TheVariants.{Line, At, Frame, BadHex, TooLong}
@@ -49,26 +48,22 @@ abbrev pub spell_memory : SpellFault → Bool
 spell_memory spelling.NoMemory = true
 spell_memory _ = false
 
-abbrev pub fault_memory : FrameFault → Bool
-fault_memory (framing.Spell f) = spell_memory f
-fault_memory framing.NoMemory = true
-fault_memory _ = false
-
 abbrev pub ill_memory : Ill → Bool
 ill_memory (Ill.Code f) = type_memory f
 ill_memory _ = false
 
 -- of a frame
-abbrev pub frame_memory : FrameRefusal → Bool
-frame_memory (FrameRefusal.Misspelled f) = fault_memory f
-frame_memory (FrameRefusal.IllTyped i) = ill_memory i
-frame_memory FrameRefusal.NoMemory = true
+abbrev pub frame_memory : FrameFault → Bool
+frame_memory (framing.Spell f) = spell_memory f
+frame_memory (framing.IllTyped i) = ill_memory i
+frame_memory framing.NoMemory = true
+frame_memory _ = false
 
 -- whether a refusal is want of memory, or holds it
 abbrev pub holds_memory : Refusal → Bool
 holds_memory (Line n reason) = reason_memory reason
 holds_memory (At byte fault) = text_memory fault
-holds_memory (Frame refusal) = frame_memory refusal
+holds_memory (Frame fault) = frame_memory fault
 holds_memory BadHex = false
 holds_memory TooLong = false
 

@@ -3,7 +3,7 @@ use Rattle.std.specs.Prelude.{◌≡◌, ℕ, ◌-◌, ◌==◌, List, [], lengt
 use Rattle.hex.specs.Hex.{decode_of}
 use Rattle.hex.specs.declared.error.FromHexError.{FromHexError}
 use Rattle.packet_frame.specs.declared.frame.PlainFrame.{PlainFrame}
-use Rattle.packet_frame.specs.declared.refusal.FrameRefusal.{FrameRefusal}
+use Rattle.packet_frame.specs.declared.fault.FrameFault.{FrameFault}
 use Rattle.packet_frame.specs.Typed.{Accepts}
 use Rattle.frame_text.specs.Frames.{frame_text}
 use Rattle.frame_text.specs.Decoding.{frame_of}
@@ -21,12 +21,12 @@ abbrev pub without_feed : List ℕ → List ℕ
 without_feed text = if get_or text (length text - 1) 0 == 10 then take (length text - 1) text else text
 
 -- the refusal of a frame that was read
-abbrev pub framed_refusal : Result PlainFrame FrameRefusal → Option Refusal
+abbrev pub framed_refusal : Result PlainFrame FrameFault → Option Refusal
 framed_refusal (Ok x) = None
 framed_refusal (Err e) = Some (Frame e)
 
 -- what it says
-abbrev pub framed_text : Result PlainFrame FrameRefusal → List ℕ
+abbrev pub framed_text : Result PlainFrame FrameFault → List ℕ
 framed_text (Ok x) = frame_text x
 framed_text (Err e) = []
 

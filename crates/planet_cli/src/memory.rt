@@ -1,12 +1,12 @@
 ghost use Rattle.std.specs.Prelude.{◌≡◌};
-ghost use Rattle.planet_cli.specs.Memory.{text_memory, reason_memory, fault_memory, frame_memory, holds_memory, stop_of};
+ghost use Rattle.planet_cli.specs.Memory.{text_memory, reason_memory, frame_memory, holds_memory, stop_of};
 
 use crate::command::Stop;
 use crate::status::Refusal;
 use chunk_spelling::SpellFault;
 use chunk_types::Ill;
 use line_files::LineReason;
-use packet_frame::{FrameFault, FrameRefusal};
+use packet_frame::FrameFault;
 use plan_base::TypeFault;
 use plan_grammar::ParseFault;
 use plan_lexer::LexFault;
@@ -33,24 +33,14 @@ fn reason_memory(reason: &LineReason) -> bool
     }
 }
 
-fn fault_memory(fault: &FrameFault) -> bool
-    ensures { result ≡ fault_memory fault.now }
+fn frame_memory(fault: &FrameFault) -> bool
+    ensures { result ≡ frame_memory fault.now }
 {
     match fault {
         FrameFault::Spell(SpellFault::NoMemory) => true,
+        FrameFault::IllTyped(Ill::Code(TypeFault::NoMemory)) => true,
         FrameFault::NoMemory => true,
         _ => false,
-    }
-}
-
-fn frame_memory(refusal: &FrameRefusal) -> bool
-    ensures { result ≡ frame_memory refusal.now }
-{
-    match refusal {
-        FrameRefusal::Misspelled(fault) => fault_memory(fault),
-        FrameRefusal::IllTyped(Ill::Code(TypeFault::NoMemory)) => true,
-        FrameRefusal::IllTyped(_) => false,
-        FrameRefusal::NoMemory => true,
     }
 }
 
@@ -61,7 +51,7 @@ fn holds_memory(refusal: &Refusal) -> bool
     match refusal {
         Refusal::Line(_, reason) => reason_memory(reason),
         Refusal::At(_, fault) => text_memory(fault),
-        Refusal::Frame(refused) => frame_memory(refused),
+        Refusal::Frame(fault) => frame_memory(fault),
         Refusal::BadHex => false,
         Refusal::TooLong => false,
     }

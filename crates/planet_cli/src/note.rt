@@ -6,7 +6,7 @@ ghost use Rattle.planet_cli.specs.Refusals.{Gives};
 use crate::status::{Cause, Refusal};
 use line_files::LineReason;
 use node_io::{Sink, put_all};
-use packet_frame::FrameRefusal;
+use packet_frame::FrameFault;
 use plan_base::{Bytes, Host, NoMemory};
 use program_text::{TextFault, place_of, put_reason};
 use std::alloc::Global;
@@ -72,7 +72,7 @@ fn text_note(alloc: Global, byte: u32, fault: &TextFault) -> Result<Bytes, NoMem
 }
 
 // The note of a refused frame with its line feed.
-fn frame_note(alloc: Global, refused: &FrameRefusal) -> Result<Bytes, NoMemory>
+fn frame_note(alloc: Global, refused: &FrameFault) -> Result<Bytes, NoMemory>
     ensures { IfOk result (λ note. note ≡ refusal_text (Refusal.Frame refused.now)) }
 {
     let mut note = bytes_of(alloc, b"planet: frame ")?;

@@ -1,5 +1,5 @@
 use line_files::LineReason;
-use packet_frame::FrameRefusal;
+use packet_frame::FrameFault;
 use plan_base::Host;
 use program_text::TextFault;
 
@@ -43,7 +43,7 @@ pub enum Refusal {
     /// The text is no typed program: the byte of the first refusal, from 0, and the refusal.
     At(u32, TextFault),
     /// The bytes are no frame whose chunk is typed.
-    Frame(FrameRefusal),
+    Frame(FrameFault),
     /// The file is no hex.
     BadHex,
     /// The file has more bytes than its limit.

@@ -10,7 +10,7 @@ use Rattle.plan_base.specs.declared.tree.Chunk.{Chunk}
 use Rattle.bound_ledger.specs.Rows.{same_family}
 use Rattle.bound_ledger.proofs.RowLaws.{same_is}
 use Rattle.packet_frame.specs.declared.frame.PlainFrame.{PlainFrame}
-use Rattle.packet_frame.specs.declared.refusal.FrameRefusal.{FrameRefusal}
+use Rattle.packet_frame.specs.declared.fault.FrameFault.{FrameFault}
 use Rattle.packet_frame.specs.Bytes.{frame_bytes}
 use Rattle.frame_text.specs.Decoding.{frame_of}
 use Rattle.network_plan.specs.declared.event.WorldEvent.{WorldEvent}
@@ -176,7 +176,7 @@ steps_once : (w : WorldState) (h : Host) (before : List Line) (step : NodeState 
 unfolding steps
 steps_once w h before step k = step_place_once w h before step (place_of w.nodes h) k
 
-forged_once : (h : Host) (r : Result PlainFrame FrameRefusal) → line_sum line_grants (forged h r) ≤ 1
+forged_once : (h : Host) (r : Result PlainFrame FrameFault) → line_sum line_grants (forged h r) ≤ 1
 forged_once h (Ok (PlainFrame.Packet p)) = omega (arith, line_sum-one line_grants (Forged h p.family p.bound))
 forged_once h (Ok (PlainFrame.Advert a)) = omega (arith, line_sum-nil line_grants)
 forged_once h (Ok (PlainFrame.Ask bound chunk)) = omega (arith, line_sum-nil line_grants)

@@ -1,7 +1,7 @@
 -- The frame that bytes spell, and what it holds.
 use Rattle.std.specs.Prelude.{◌≡◌, ℕ, List, [], Result, Ok, Err}
 use Rattle.packet_frame.specs.declared.frame.PlainFrame.{PlainFrame}
-use Rattle.packet_frame.specs.declared.refusal.FrameRefusal.{FrameRefusal}
+use Rattle.packet_frame.specs.declared.fault.FrameFault.{FrameFault}
 use Rattle.packet_frame.specs.Typed.{Accepts}
 use Rattle.frame_text.specs.Decoding.{frame_of}
 use Rattle.spelled_frame.specs.declared.spelled.What.{What}
@@ -11,7 +11,7 @@ use Rattle.spelled_frame.specs.declared.spelled.What.TheVariants as what
 abbrev pub no_frame : PlainFrame
 no_frame = PlainFrame.Advert (record { host = record { 0 = 0 }; rows = [] })
 
-abbrev pub frame_or : Result PlainFrame FrameRefusal → PlainFrame
+abbrev pub frame_or : Result PlainFrame FrameFault → PlainFrame
 frame_or (Ok x) = x
 frame_or (Err e) = no_frame
 

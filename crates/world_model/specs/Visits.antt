@@ -4,7 +4,7 @@ use Rattle.plan_base.specs.declared.ids.Host.{Host}
 use Rattle.plan_base.specs.declared.tree.Chunk.{Chunk}
 use Rattle.plan_base.specs.declared.tree.Packet.{Packet}
 use Rattle.packet_frame.specs.declared.frame.PlainFrame.{PlainFrame}
-use Rattle.packet_frame.specs.declared.refusal.FrameRefusal.{FrameRefusal}
+use Rattle.packet_frame.specs.declared.fault.FrameFault.{FrameFault}
 use Rattle.frame_text.specs.Decoding.{frame_of}
 use Rattle.service_api.specs.Services.{begun_now}
 use Rattle.meaning_laws.specs.Laws.{VisitEnds}
@@ -35,7 +35,7 @@ abbrev pub frame_visits : PlainFrame → NodeState → List Visiting
 frame_visits (PlainFrame.Packet p) node = if is_host p.dest node.here then one_visit node p else []
 frame_visits _ node = []
 
-abbrev pub bytes_visits : Result PlainFrame FrameRefusal → NodeState → List Visiting
+abbrev pub bytes_visits : Result PlainFrame FrameFault → NodeState → List Visiting
 bytes_visits (Ok x) node = frame_visits x node
 bytes_visits (Err e) node = []
 

@@ -4,7 +4,7 @@ use Rattle.plan_base.specs.declared.ids.Host.{Host}
 use Rattle.plan_base.specs.declared.ids.Dev.{Dev}
 use Rattle.plan_base.specs.declared.tree.Chunk.{Chunk}
 use Rattle.packet_frame.specs.declared.frame.PlainFrame.{PlainFrame}
-use Rattle.packet_frame.specs.declared.refusal.FrameRefusal.{FrameRefusal}
+use Rattle.packet_frame.specs.declared.fault.FrameFault.{FrameFault}
 use Rattle.packet_frame.specs.Bytes.{frame_bytes}
 use Rattle.frame_text.specs.Decoding.{frame_of}
 use Rattle.service_api.specs.Services.{Standing}
@@ -112,7 +112,7 @@ abbrev pub ticks : WorldState → Host → Happened
 ticks w h = steps w h [] tick_step
 
 -- bytes from outside that are accepted as a packet grant its bound
-abbrev pub forged : Host → Result PlainFrame FrameRefusal → List Line
+abbrev pub forged : Host → Result PlainFrame FrameFault → List Line
 forged h (Ok (PlainFrame.Packet p)) = Forged h p.family p.bound ∷ []
 forged h _ = []
 
