@@ -4,5 +4,6 @@ pub mod CountLaws
 pub mod Fitting
 pub mod Giving
 pub mod Opening
+pub mod Orders
 pub mod Wires
 pub mod Visits

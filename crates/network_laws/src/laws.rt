@@ -3,11 +3,13 @@ ghost use Rattle.plan_base.specs.declared.ids.Family.{Family};
 ghost use Rattle.network_plan.specs.Rules.{HostsDiffer, KeepsNetwork};
 ghost use Rattle.network_plan.specs.declared.schedule.Topology.{Topology};
 ghost use Rattle.network_plan.specs.declared.event.WorldEvent.{WorldEvent};
+ghost use Rattle.plan_base.specs.declared.tree.Packet.{Packet};
+ghost use Rattle.node_model.specs.Visits.{around};
 ghost use Rattle.world_model.specs.World.{WorldState, happens, opening, world_after, history_of};
 ghost use Rattle.world_model.specs.Counts.{line_sum, Balanced, IsBounded, IsGranted};
 ghost use Rattle.world_model.specs.Visits.{EndsWell, event_visits, line_ends};
 ghost use Rattle.world_model.specs.Wires.{IsOnce, WireLeads};
-ghost use Rattle.world_model.specs.Sound.{IsSound, event_fits, EventsFit};
+ghost use Rattle.world_model.specs.Sound.{IsOrdered, IsSound, event_fits, EventsFit};
 
 /// From the beginning on, each run is in balance, for each family.
 pub fn runs_balance()
@@ -48,4 +50,9 @@ pub fn frames_lead_over_links()
 pub fn visits_end_well()
     ensures all { (w : WorldState) (e : WorldEvent) → line_sum line_ends (happens w e).lines ≡ length (event_visits w e) }
     ensures well { (w : WorldState) (e : WorldEvent) → event_fits e → IsSound w → All EndsWell (event_visits w e) }
+{}
+
+/// What stands around each visit of a packet is in order: neighbours by device and routes by host, each once.
+pub fn contexts_are_ordered()
+    ensures { (w : WorldState) → IsSound w → All (λ node. (p : Packet) → IsOrdered (around node p)) w.nodes }
 {}

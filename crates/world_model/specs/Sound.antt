@@ -1,9 +1,12 @@
 -- What every network keeps.
-use Rattle.std.specs.Prelude.{◌≡◌, ℕ, ◌+◌, ◌≤◌, ◌<◌, List, [], ◌∷◌, length, All}
+use Rattle.std.specs.Prelude.{◌≡◌, ℕ, ◌+◌, ◌≤◌, ◌<◌, IsTrue, Option, Some, None, List, [], ◌∷◌, length, All}
 use Rattle.plan_base.specs.declared.ids.Host.{Host}
 use Rattle.wire_bytes.specs.Fields.{IsBytes}
 use Rattle.packet_frame.specs.declared.frame.PlainFrame.{PlainFrame}
 use Rattle.chunk_types.specs.Chunks.{IsCheckedChunk}
+use Rattle.service_api.specs.declared.ctx.Ctx.{Ctx}
+use Rattle.service_api.specs.declared.router.RouteRow.{RouteRow}
+use Rattle.service_api.specs.Adverts.{is_above}
 use Rattle.network_plan.specs.declared.event.WorldEvent.{WorldEvent}
 use Rattle.network_plan.specs.declared.event.WorldEvent.TheVariants.{Inject, Send, Deliver, Lose, Tick, Raw}
 use Rattle.node_model.specs.State.{Links, NodeState}
@@ -26,6 +29,16 @@ pub record DevicesFit (node : NodeState) : Type 0 where
   pub queues : length node.queues ≡ 9
   pub devices : All (λ link. (1 ≤ link.1.0) × (link.1.0 ≤ 8)) node.neighbours
   pub once : Rise (λ link. link.1.0) node.neighbours
+
+-- each route is to a host above those before it
+abbrev pub RoutesAscend : Option ℕ → List RouteRow → Type 0
+RoutesAscend before [] = Unit {0}
+RoutesAscend before (r ∷ rs) = IsTrue (is_above before r.host.0) × RoutesAscend (Some r.host.0) rs
+
+-- what stands around a visit is in order: neighbours by device and routes by host, each once
+pub record IsOrdered (c : Ctx) : Type 0 where
+  pub neighbours : Rise (λ link. link.1.0) c.neighbours
+  pub routes : RoutesAscend None c.router
 
 abbrev pub number_of : Wired → ℕ
 number_of x = x.number
