@@ -1,0 +1,3 @@
+pub mod ExactLaws
+pub mod ProgramsAgain
+pub mod ValuesAgain
