@@ -23,6 +23,8 @@ const FOR_HOST_2: &str = "504c414e01010000000200000000000000020000000200000002\
 0c64656661756c74526f7574650000010166000020016600";
 // The advert of host 2: itself with 0, hosts 1 and 3 with 1.
 const ADVERT: &str = "504c414e0102000000020003000000010000000100000002000000000000000300000001";
+// The advert of host 3, with no host in it.
+const ADVERT_OF_3: &str = "504c414e0102000000030000";
 // An ask with bound 10.
 const ASK: &str = "504c414e01030000000a0000010166000020016600";
 // A packet whose argument is a string where the entry takes an int.
@@ -166,6 +168,11 @@ fn frames_that_do_not_belong(rt: HostRuntime) -> Result<(), Fail> {
         (1, ASK, "1 arrive @1 %1\n1 drop @1 BadFrame Misplaced\n"),
         (0, ADVERT, "1 arrive @1 %0\n1 drop @1 BadFrame Misplaced\n"),
         (2, ADVERT, "1 arrive @1 %2\n1 drop @1 BadFrame Misplaced\n"),
+        (
+            1,
+            ADVERT_OF_3,
+            "1 arrive @1 %1\n1 drop @1 BadFrame Misplaced\n",
+        ),
         (1, ADVERT, "1 arrive @1 %1\n1 heard @1 %1\n"),
         (
             1,
