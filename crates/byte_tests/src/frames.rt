@@ -185,22 +185,6 @@ fn faults(rt: HostRuntime) -> Result<(), Fail> {
     Ok(())
 }
 
-// Each limit of the frame's own fields: at it the reading goes on to the end of the bytes.
-#[test]
-fn fields_at_their_limits(rt: HostRuntime) -> Result<(), Fail> {
-    for (bytes, expected) in [
-        (b"PLAN\x01\x03\x00\x00\xff\xff".as_slice(), "Truncated 10"),
-        (b"PLAN\x01\x02\x00\x00\x00\x02\x00\x20", "Truncated 12"),
-        (
-            b"PLAN\x01\x02\x00\x00\x00\x02\x00\x01\x00\x00\x00\x01\x00\x00\xff\xff\x00",
-            "Trailing 20",
-        ),
-    ] {
-        assert_eq!(rt; refusal(rt.alloc(), bytes)?.as_slice(), expected.as_bytes());
-    }
-    Ok(())
-}
-
 // An ask whose chunk has a list that claims 65,535 items is read to the end of 16,512 bytes; one byte more is too long.
 #[test]
 fn long_frames(rt: HostRuntime) -> Result<(), Fail> {

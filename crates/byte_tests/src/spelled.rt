@@ -268,30 +268,6 @@ fn counts_of_programs(rt: HostRuntime) {
     }
 }
 
-// Each count of a program at its limit: the reading goes on to the end of the bytes.
-#[test]
-fn counts_at_their_limits(rt: HostRuntime) {
-    for (bytes, place) in [
-        (b"\x40".as_slice(), 1),
-        (b"\x00\x40", 2),
-        (b"\x00\x00\x40", 3),
-        (b"\x00\x00\x01\x01\x66\x08", 6),
-        (b"\x01\x01\x67\x08", 4),
-        (b"\x00\x00\x01\x01\x66\x00\x00\x33\x08", 9),
-        (b"\x00\x00\x01\x01\x66\x00\x00\x35\x20\x08", 10),
-        (b"\x00\x00\x01\x01\x66\x00\x00\x2b\x01\x78\x08", 11),
-        (
-            b"\x00\x01\x20abcdefghijklmnopqrstuvwxyz012345",
-            35,
-        ),
-    ] {
-        assert_eq!(rt;
-            program_fault(&rt, rt.alloc(), bytes),
-            Some(SpellFault::Truncated(place))
-        );
-    }
-}
-
 fn chunk_fault(rt: &impl Abort, alloc: Global, bytes: &[u8]) -> Option<SpellFault> {
     assert!(rt; bytes.len() < 4000000);
     get_chunk(alloc, &mut Cursor::over(bytes)).err()

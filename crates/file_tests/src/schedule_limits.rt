@@ -57,18 +57,6 @@ fn injected_chunks_weigh_at_most_16_777_216_bytes(rt: HostRuntime) -> Result<(),
     Ok(())
 }
 
-// With its code and its tag a chunk weighs 18 bytes more than the text that it is called with.
-#[test]
-fn a_chunk_weighs_at_most_16_384_bytes(rt: HostRuntime) -> Result<(), Fail> {
-    let front =
-        b"planet schedule 1\nhost 1\nprogram p\nfun f(x : string) : unit = ()\nend program\nevents\ninject 1 p f 5 (\"";
-    let full = repeated(rt.alloc(), front, b"a", 16_366, b"\")\n")?;
-    is_answered(&rt, rt.alloc(), full.as_slice(), 0, "");
-    let over = repeated(rt.alloc(), front, b"a", 16_367, b"\")\n")?;
-    is_answered(&rt, rt.alloc(), over.as_slice(), 7, "BadArgument");
-    Ok(())
-}
-
 #[test]
 fn at_most_32_hosts(rt: HostRuntime) -> Result<(), Fail> {
     let full = numbered(rt.alloc(), "host ", 32, "\n")?;

@@ -139,7 +139,6 @@ fn values_and_arguments_are_read(rt: HostRuntime) -> Result<(), Fail> {
             Ok(Value::List(Ty::Int, _))
         )
     );
-    assert!(rt; parse_value(rt.alloc(), b"[[[[[[[1]]]]]]]").is_ok());
     assert!(rt; parse_args(rt.alloc(), b"(1, \"a\") (* two *)").is_ok());
     let table: [(&[u8], ParseFault); 6] = [
         (

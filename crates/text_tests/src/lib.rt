@@ -6,8 +6,6 @@ mod arguments;
 #[cfg(test)]
 mod drafts;
 #[cfg(test)]
-mod limits;
-#[cfg(test)]
 mod printed;
 #[cfg(test)]
 mod round_trips;

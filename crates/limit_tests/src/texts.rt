@@ -1,7 +1,7 @@
 // Each limit of a program's text, at it and one past it.
 
 use plan_base::Bytes;
-use program_text::{TextFault, place_of, put_reason, read_program};
+use program_text::{TextFault, place_of, put_reason, read_args, read_program};
 use std::alloc::Global;
 use std::process::Abort;
 use std::test::Fail;
@@ -72,7 +72,15 @@ fn all_hold(rt: &impl Abort, alloc: Global, table: &[Items]) -> Result<(), Fail>
 }
 
 static DECLARATIONS: [Items; 5] = [
-    ("", "fun f", "() : unit = ()", "\n", "", 64, "TooMany functions"),
+    (
+        "",
+        "fun f",
+        "() : unit = ()",
+        "\n",
+        "",
+        64,
+        "TooMany functions",
+    ),
     (
         "",
         "svc s",
@@ -179,13 +187,7 @@ fn so_many_parts(rt: HostRuntime) -> Result<(), Fail> {
 }
 
 /// A text that stands so many times between two others, and what one time more is refused for.
-type Times = (
-    &'static str,
-    &'static str,
-    u32,
-    &'static str,
-    &'static str,
-);
+type Times = (&'static str, &'static str, u32, &'static str, &'static str);
 
 fn repeated(alloc: Global, times: &Times, count: u32) -> Result<String, Fail> {
     let (front, part, _, back, _) = *times;
@@ -257,4 +259,12 @@ fn at_most_4_096_expressions(rt: HostRuntime) -> Result<(), Fail> {
     let over = format!(in rt.alloc(); "{front}fun e() : bool = not true")?;
     let refusal = format!(in rt.alloc(); "TooMany nodes at {}", front.len())?;
     is_answered(&rt, rt.alloc(), over.as_str(), refusal.as_str())
+}
+
+// Seven lists stand inside each other, and no eighth.
+#[test]
+fn so_deep_a_value(rt: HostRuntime) -> Result<(), Fail> {
+    assert!(rt; read_args(rt.alloc(), b"([[[[[[[1]]]]]]])")?.is_some());
+    assert!(rt; read_args(rt.alloc(), b"([[[[[[[[1]]]]]]]])")?.is_none());
+    Ok(())
 }
