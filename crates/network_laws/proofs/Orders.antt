@@ -1,5 +1,5 @@
 -- What stands around a visit is in order.
-use Rattle.std.proofs.Common.{◌≡◌, ℕ, Option, Some, None, List, [], ◌∷◌}
+use Rattle.std.proofs.Common.{ℕ, Option, Some, None, List, [], ◌∷◌}
 use Rattle.std.specs.Prelude.{map, All}
 use Rattle.std.proofs.lemmas.List.Elements.{All-nil, All-cons, All-head, All-tail}
 use Rattle.plan_base.specs.declared.tree.Packet.{Packet}
@@ -15,11 +15,11 @@ use Rattle.world_model.specs.Sound.{RoutesAscend, IsOrdered, DevicesFit, IsSound
 
 rows_ascend : (before : Option ℕ) (rows : List RouteRow) → RowsFit before (map advert_row rows) → RoutesAscend before rows
 rows_ascend before [] h = tt
-rows_ascend before (r ∷ rs) h = (h.0.0, rows_ascend (Some r.host.0) rs h.1.1)
+rows_ascend before (r ∷ rs) h = (h.0.0, rows_ascend (Some r.host.0) rs h.2)
 
 routes_ascend : (r : Routing) → AdvertFits (own_advert r) → RoutesAscend None (all_routes r)
 unfolding own_advert
-routes_ascend r h = rows_ascend None (all_routes r) h.1.1
+routes_ascend r h = rows_ascend None (all_routes r) h.2
 
 node_ordered : (node : NodeState) (p : Packet) → NodeFits node → DevicesFit node → IsOrdered (around node p)
 node_ordered node p n d = record {

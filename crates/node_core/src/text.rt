@@ -244,12 +244,7 @@ fn put_plain(
 }
 
 /// Why bytes are no frame.
-fn put_bad(
-    alloc: Global,
-    out: &mut Bytes,
-    host: Host,
-    refusal: &FrameFault,
-) -> Result<(), NoMemory>
+fn put_bad(alloc: Global, out: &mut Bytes, host: Host, refusal: &FrameFault) -> Result<(), NoMemory>
     ensures { OnOk result (out.new ≡ out.old ++ (spec.head_text (codes "drop") host ++ (codes " BadFrame " ++ reason_text refusal.now))) }
 {
     put_head(alloc, out, b"drop", host)?;
