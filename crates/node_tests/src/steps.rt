@@ -23,6 +23,8 @@ const FOR_HOST_2: &str = "504c414e01010000000200000000000000020000000200000002\
 0c64656661756c74526f7574650000010166000020016600";
 // The advert of host 2: itself with 0, hosts 1 and 3 with 1.
 const ADVERT: &str = "504c414e0102000000020003000000010000000100000002000000000000000300000001";
+// The advert of host 3, with no host in it.
+const ADVERT_OF_3: &str = "504c414e0102000000030000";
 // An ask with bound 10.
 const ASK: &str = "504c414e01030000000a0000010166000020016600";
 // A packet whose argument is a string where the entry takes an int.
@@ -166,6 +168,11 @@ fn frames_that_do_not_belong(rt: HostRuntime) -> Result<(), Fail> {
         (1, ASK, "1 arrive @1 %1\n1 drop @1 BadFrame Misplaced\n"),
         (0, ADVERT, "1 arrive @1 %0\n1 drop @1 BadFrame Misplaced\n"),
         (2, ADVERT, "1 arrive @1 %2\n1 drop @1 BadFrame Misplaced\n"),
+        (
+            1,
+            ADVERT_OF_3,
+            "1 arrive @1 %1\n1 drop @1 BadFrame Misplaced\n",
+        ),
         (1, ADVERT, "1 arrive @1 %1\n1 heard @1 %1\n"),
         (
             1,
@@ -305,8 +312,8 @@ fn ends_of_visits(rt: HostRuntime) -> Result<(), Fail> {
     let alloc = rt.alloc();
     let mut node = node(alloc, 1)?;
     let text =
-        b"svc print : (string) -> unit\nfun z() : unit = ()\nfun go() : unit = print(\"go\"); OnNeighbor(|z|(), @2, 2, %1)\n\
-fun no() : unit = OnNeighbor(|z|(), @2, 9, %1)\n";
+        b"svc print : (string) -> unit\nsvc deliver : (int, int) -> unit\nfun z() : unit = ()\nfun go() : unit = print(\"go\"); OnNeighbor(|z|(), @2, 2, %1)\n\
+fun no() : unit = OnNeighbor(|z|(), @2, 9, %1)\nfun to() : unit = deliver(7, 9)\n";
     step(
         &rt,
         alloc,
@@ -320,6 +327,13 @@ fun no() : unit = OnNeighbor(|z|(), @2, 9, %1)\n";
         &mut node,
         Event::Inject(chunk(alloc, text, b"no")?, 5),
         "1 inject @1 1.2 bound 5\n1 raised @1 1.2 NoBound evals 0 left 5\n",
+    )?;
+    step(
+        &rt,
+        alloc,
+        &mut node,
+        Event::Inject(chunk(alloc, text, b"to")?, 5),
+        "1 inject @1 1.3 bound 5\n1 port @1 7 9\n1 value @1 1.3 () evals 0 left 5\n",
     )
 }
 
@@ -384,6 +398,49 @@ fn cut_advert(count: usize) -> usize {
     }
 }
 
+// The first `count` bytes come over each device and on control, and are told to be cut off at that place.
+fn cut_off(
+    rt: &impl Abort,
+    alloc: Global,
+    node: &mut Node<Registry>,
+    whole: &Bytes,
+    count: usize,
+    place: usize,
+) -> Result<(), Fail> {
+    for dev in 0..9 {
+        let line = format!(in alloc; "1 arrive @1 %{dev}\n1 drop @1 BadFrame Truncated {place}\n")?;
+        let event = Event::Frame(Dev(dev), front(alloc, whole, count)?);
+        step(rt, alloc, node, event, line.as_str())?;
+    }
+    let line = format!(in alloc; "1 arrive @1 control\n1 drop @1 BadFrame Truncated {place}\n")?;
+    let event = Event::Control(front(alloc, whole, count)?);
+    step(rt, alloc, node, event, line.as_str())
+}
+
+// The node of the tests is as it was at first: its time, its serial number, its routes and its queues.
+fn is_as_before(rt: &impl Abort, alloc: Global, node: &mut Node<Registry>) -> Result<(), Fail> {
+    for dev in 0..9 {
+        assert_eq!(rt; node.queued(Dev(dev)), 0);
+    }
+    let text = b"svc getDist : (host) -> int fun f() : int = getDist(@3)";
+    step(
+        rt,
+        alloc,
+        node,
+        Event::Inject(chunk(alloc, text, b"f")?, 5),
+        "1 inject @1 1.1 bound 5\n1 raised @1 1.1 NoRoute evals 0 left 5\n",
+    )?;
+    step(
+        rt,
+        alloc,
+        node,
+        Event::Tick,
+        "1 tick @1 now 1\n1 advert @1 %1\n",
+    )
+}
+
+// Every proper front of a packet for the host and of one through it is refused on each device and on control, with
+// the place of its first field that isn't whole, and changes nothing.
 #[test]
 fn cut_packets(rt: HostRuntime) -> Result<(), Fail> {
     let alloc = rt.alloc();
@@ -391,44 +448,20 @@ fn cut_packets(rt: HostRuntime) -> Result<(), Fail> {
     for hex in [FOR_HOST_1, FOR_HOST_2] {
         let whole = bytes(alloc, hex)?;
         for count in 0..50 {
-            let place = cut_packet(count);
-            let line = format!(in alloc; "1 arrive @1 %2\n1 drop @1 BadFrame Truncated {place}\n")?;
-            let cut = front(alloc, &whole, count)?;
-            step(
-                &rt,
-                alloc,
-                &mut node,
-                Event::Frame(Dev(2), cut),
-                line.as_str(),
-            )?;
+            cut_off(&rt, alloc, &mut node, &whole, count, cut_packet(count))?;
         }
     }
-    Ok(())
+    is_as_before(&rt, alloc, &mut node)
 }
 
-// Every proper front of a frame is refused on each device and on control, with the place of its first field that
-// isn't whole.
+// The same of an advert.
 #[test]
-fn cut_frames(rt: HostRuntime) -> Result<(), Fail> {
+fn cut_adverts(rt: HostRuntime) -> Result<(), Fail> {
     let alloc = rt.alloc();
     let mut node = node(alloc, 1)?;
     let whole = bytes(alloc, ADVERT)?;
     for count in 0..36 {
-        let place = cut_advert(count);
-        let line = format!(in alloc; "1 arrive @1 %1\n1 drop @1 BadFrame Truncated {place}\n")?;
-        let cut = front(alloc, &whole, count)?;
-        step(
-            &rt,
-            alloc,
-            &mut node,
-            Event::Frame(Dev(1), cut),
-            line.as_str(),
-        )?;
-        let line = format!(in alloc;
-            "1 arrive @1 control\n1 drop @1 BadFrame Truncated {place}\n"
-        )?;
-        let cut = front(alloc, &whole, count)?;
-        step(&rt, alloc, &mut node, Event::Control(cut), line.as_str())?;
+        cut_off(&rt, alloc, &mut node, &whole, count, cut_advert(count))?;
     }
-    Ok(())
+    is_as_before(&rt, alloc, &mut node)
 }

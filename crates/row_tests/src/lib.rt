@@ -8,6 +8,8 @@ mod forged_rows;
 #[cfg(test)]
 mod kept_rows;
 #[cfg(test)]
+mod limits;
+#[cfg(test)]
 mod route_rows;
 #[cfg(test)]
 mod rows;

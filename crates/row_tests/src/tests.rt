@@ -54,7 +54,11 @@ fn call(
 }
 
 // The code, the output and the notes of a command on a file of these bytes.
-fn on_bytes(alloc: Global, command: &str, bytes: &[u8]) -> Result<(u8, MemSink, MemSink), Fail> {
+pub fn on_bytes(
+    alloc: Global,
+    command: &str,
+    bytes: &[u8],
+) -> Result<(u8, MemSink, MemSink), Fail> {
     let mut files = files_of(alloc, bytes, &[])?;
     let mut out = sink(alloc)?;
     let mut notes = sink(alloc)?;
@@ -135,7 +139,7 @@ fn schedules_give_their_output(rt: HostRuntime) -> Result<(), Fail> {
     all_done(&rt, rt.alloc(), "replay", &RUNS)
 }
 
-static VISITS: [Done; 13] = [
+static VISITS: [Done; 14] = [
     (visit_rows::NESTED_EVALS, visit_rows::NESTED_EVALS_OUTPUT),
     (
         visit_rows::SIXTEEN_NESTED_EVALS,
@@ -162,6 +166,7 @@ static VISITS: [Done; 13] = [
         visit_rows::SEND_BY_UNKNOWN_ROUTE_NAME_OUTPUT,
     ),
     (visit_rows::WORK_SPENT, visit_rows::WORK_SPENT_OUTPUT),
+    (visit_rows::ALL_WORK, visit_rows::ALL_WORK_OUTPUT),
     (visit_rows::FOLDS, visit_rows::FOLDS_OUTPUT),
     (
         visit_rows::ARITHMETIC_EDGES,
@@ -517,42 +522,6 @@ fn a_missing_file_is_a_read_fault(rt: HostRuntime) -> Result<(), Fail> {
         notes.taken().as_slice(),
         b"planet: read fault\n".as_slice()
     );
-    Ok(())
-}
-
-#[test]
-fn a_file_of_one_byte_too_many_is_too_long(rt: HostRuntime) -> Result<(), Fail> {
-    let alloc = rt.alloc();
-    let mut bytes = Vec::new(alloc);
-    bytes.resize(4_194_305, b'#')?;
-    let (code, out, notes) = on_bytes(alloc, "replay", bytes.as_slice())?;
-    assert_eq!(rt; code, 2);
-    assert_eq!(rt; out.taken().len(), 0);
-    assert_eq!(rt; notes.taken().as_slice(), b"planet: TooLong\n".as_slice());
-    Ok(())
-}
-
-#[test]
-fn a_program_of_one_byte_too_many_is_too_long(rt: HostRuntime) -> Result<(), Fail> {
-    let alloc = rt.alloc();
-    let mut bytes = Vec::from_slice(alloc, b"fun f() : unit = ()\n")?;
-    bytes.resize(65_537, b'\n')?;
-    let (code, out, notes) = on_bytes(alloc, "check", bytes.as_slice())?;
-    assert_eq!(rt; code, 2);
-    assert_eq!(rt; out.taken().len(), 0);
-    assert_eq!(rt; notes.taken().as_slice(), b"planet: TooLong\n".as_slice());
-    Ok(())
-}
-
-#[test]
-fn a_frame_of_one_digit_too_many_is_too_long(rt: HostRuntime) -> Result<(), Fail> {
-    let alloc = rt.alloc();
-    let mut bytes = Vec::new(alloc);
-    bytes.resize(33_026, b'0')?;
-    let (code, out, notes) = on_bytes(alloc, "show", bytes.as_slice())?;
-    assert_eq!(rt; code, 2);
-    assert_eq!(rt; out.taken().len(), 0);
-    assert_eq!(rt; notes.taken().as_slice(), b"planet: TooLong\n".as_slice());
     Ok(())
 }
 

@@ -156,6 +156,48 @@ ledger\n\
 1.1 granted 5 hops 0 evals 0 live 0 left 5\n\
 end\n";
 
+// f0 takes 2 units of work, and each function behind it 6 more than twice those of the one before: f18 takes 8 times
+// 2^18, less 6. A call takes 2 more, a sequence 2, and a let 6 and the length of its text: 4,000,000 with a text of
+// ten bytes.
+pub const ALL_WORK: &[u8] = b"planet schedule 1\n\
+host 1\n\
+program p\n\
+fun f0() : unit = ()\n\
+fun f1() : unit = f0(); f0()\n\
+fun f2() : unit = f1(); f1()\n\
+fun f3() : unit = f2(); f2()\n\
+fun f4() : unit = f3(); f3()\n\
+fun f5() : unit = f4(); f4()\n\
+fun f6() : unit = f5(); f5()\n\
+fun f7() : unit = f6(); f6()\n\
+fun f8() : unit = f7(); f7()\n\
+fun f9() : unit = f8(); f8()\n\
+fun f10() : unit = f9(); f9()\n\
+fun f11() : unit = f10(); f10()\n\
+fun f12() : unit = f11(); f11()\n\
+fun f13() : unit = f12(); f12()\n\
+fun f14() : unit = f13(); f13()\n\
+fun f15() : unit = f14(); f14()\n\
+fun f16() : unit = f15(); f15()\n\
+fun f17() : unit = f16(); f16()\n\
+fun f18() : unit = f17(); f17()\n\
+fun all() : unit = let val s : string = \"0123456789\" in f18(); f17(); f16(); f15(); f13(); f8(); f5() end\n\
+fun more() : unit = let val s : string = \"0123456789a\" in f18(); f17(); f16(); f15(); f13(); f8(); f5() end\n\
+end program\n\
+events\n\
+inject 1 p all 5 ()\n\
+inject 1 p more 5 ()\n";
+
+pub const ALL_WORK_OUTPUT: &[u8] = b"planet trace 1\n\
+1 inject @1 1.1 bound 5\n\
+1 value @1 1.1 () evals 0 left 5\n\
+2 inject @1 1.2 bound 5\n\
+2 spent @1 1.2 left 5\n\
+ledger\n\
+1.1 granted 5 hops 0 evals 0 live 0 left 5\n\
+1.2 granted 5 hops 0 evals 0 live 0 left 5\n\
+end\n";
+
 pub const FOLDS: &[u8] = b"planet schedule 1\n\
 host 1\n\
 program p\n\

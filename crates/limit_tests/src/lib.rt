@@ -1,0 +1,9 @@
+//! Limits of programs, frames and chunks, each at it and one past it.
+#![tactic(auto)]
+
+#[cfg(test)]
+mod files;
+#[cfg(test)]
+mod frames;
+#[cfg(test)]
+mod texts;
