@@ -28,15 +28,7 @@ static SIZES: [Filled; 6] = [
         b"",
         b"planet: line 1: BadHeader\n",
     ),
-    (
-        "replay",
-        b"",
-        b'#',
-        4_194_305,
-        2,
-        b"",
-        b"planet: TooLong\n",
-    ),
+    ("replay", b"", b'#', 4_194_305, 2, b"", b"planet: TooLong\n"),
     (
         "check",
         UNIT,
@@ -46,33 +38,9 @@ static SIZES: [Filled; 6] = [
         b"ok functions 1 nodes 1 code 8\n",
         b"",
     ),
-    (
-        "check",
-        UNIT,
-        b'\n',
-        65_537,
-        2,
-        b"",
-        b"planet: TooLong\n",
-    ),
-    (
-        "show",
-        b"",
-        b'0',
-        33_025,
-        2,
-        b"",
-        b"planet: BadHex\n",
-    ),
-    (
-        "show",
-        b"",
-        b'0',
-        33_026,
-        2,
-        b"",
-        b"planet: TooLong\n",
-    ),
+    ("check", UNIT, b'\n', 65_537, 2, b"", b"planet: TooLong\n"),
+    ("show", b"", b'0', 33_025, 2, b"", b"planet: BadHex\n"),
+    ("show", b"", b'0', 33_026, 2, b"", b"planet: TooLong\n"),
 ];
 
 fn is_answered(rt: &impl Abort, alloc: Global, filled: &Filled) -> Result<(), Fail> {
@@ -113,11 +81,16 @@ fn adverts_output(alloc: Global) -> Result<String, Fail> {
     for number in 1..4_097u32 {
         let at = number.saturating_mul(2);
         let before = at.saturating_sub(1);
-        write!(trace, "{before} tick @1 now {number}\n{before} advert @1 %1\n")?;
+        write!(
+            trace,
+            "{before} tick @1 now {number}\n{before} advert @1 %1\n"
+        )?;
         write!(trace, "{at} send @1 %1 advert\n{at} wire {number}\n")?;
     }
     trace.push_str("8193 tick @1 now 4097\n8193 advert @1 %1\n8194 nothing\n")?;
-    trace.push_str("8195 off 1\n8195 lost advert\n8196 send @1 %1 advert\n8196 wire 4097\nledger\nend\n")?;
+    trace.push_str(
+        "8195 off 1\n8195 lost advert\n8196 send @1 %1 advert\n8196 wire 4097\nledger\nend\n",
+    )?;
     Ok(trace)
 }
 
@@ -127,9 +100,6 @@ fn the_wire_has_4_096_frames(rt: HostRuntime) -> Result<(), Fail> {
     let schedule = adverts(alloc)?;
     let (code, out, _) = on_bytes(alloc, "replay", schedule.as_bytes())?;
     assert_eq!(rt; code, 0);
-    assert_eq!(rt;
-        out.taken().as_slice(),
-        adverts_output(alloc)?.as_bytes()
-    );
+    assert_eq!(rt; out.taken().as_slice(), adverts_output(alloc)?.as_bytes());
     Ok(())
 }
