@@ -1,0 +1,4 @@
+pub mod Moves
+pub mod Quotes
+pub mod Blobs
+pub mod Nested
