@@ -1,0 +1,150 @@
+ghost use Rattle.std.specs.Prelude.{◌≡◌, ◌++◌, ◌≤◌, ◌<◌, ◌^◌, length, IsTrue, IfOk, OnOk, IsErrOf};
+ghost use Rattle.std.specs.List.{All};
+ghost use Rattle.network_plan.specs.NodeRules.{KeepsEntry, KeepsLog, KeepsNode, KeepsNodeEvent};
+ghost use Rattle.node_io.specs.Causes.{Rose};
+ghost use Rattle.node_io.specs.Pieces.{AppendsFront};
+ghost use Rattle.node_model.specs.State.{NodeState, new_node};
+ghost use Rattle.node_model.specs.Node.{node_step};
+ghost use Rattle.node_core.specs.Stands.{NodeStands, IsStep};
+ghost use Rattle.node_core.specs.Turns.{IsResting};
+ghost use Rattle.serve_model.specs.Runs.{acts_of, node_by, entries_at, played, node_after};
+ghost use Rattle.serve_model.specs.Texts.{lines_text, whole_trace};
+
+use crate::fault::ReplayFault;
+use crate::lines::{lost_lines, step_lines};
+use network_plan::{Event, Log, LogEvent, NodeConfig};
+use node_core::Node;
+use node_io::{Sink, put_all};
+use plan_base::{Bytes, Host, NoMemory};
+use plan_items::Items;
+use service_api::Services;
+use std::alloc::Global;
+
+/// Makes a step again, and gives its lines.
+fn event_lines<S: Services>(
+    alloc: Global,
+    node: &mut Node<S>,
+    here: Host,
+    number: u64,
+    event: &Event,
+) -> Result<Bytes, NoMemory>
+    requires { KeepsNodeEvent event.now }
+    ensures text { (s : NodeState) → NodeStands S.stands node.old s → IfOk result (λ text. text ≡ lines_text here (entries_at number (node_step s event.now).acts)) }
+    ensures after { (s : NodeState) → NodeStands S.stands node.old s → OnOk result (NodeStands S.stands node.new (node_step s event.now).node) }
+{
+    let acts = node.step(alloc, event)?;
+    step_lines(alloc, number, here, acts.list.as_slice())
+}
+
+/// Makes an entry again, and gives its lines.
+fn entry_lines<S: Services>(
+    alloc: Global,
+    node: &mut Node<S>,
+    here: Host,
+    number: u64,
+    entry: &LogEvent,
+) -> Result<Bytes, NoMemory>
+    requires { KeepsEntry entry.now }
+    ensures text { (s : NodeState) → NodeStands S.stands node.old s → IfOk result (λ text. text ≡ lines_text here (entries_at number (acts_of s entry.now))) }
+    ensures after { (s : NodeState) → NodeStands S.stands node.old s → OnOk result (NodeStands S.stands node.new (node_by s entry.now)) }
+{
+    match entry {
+        LogEvent::Step(event) => event_lines(alloc, node, here, number, event),
+        LogEvent::Lost => lost_lines(alloc, number, here),
+    }
+}
+
+/// Makes an entry again, and writes its lines.
+fn write_entry<S: Services, K: Sink>(
+    alloc: Global,
+    node: &mut Node<S>,
+    here: Host,
+    number: u64,
+    entry: &LogEvent,
+    out: &mut K,
+) -> Result<(), ReplayFault>
+    requires { KeepsEntry entry.now }
+    ensures whole { IsTrue K.tells → (s : NodeState) → NodeStands S.stands node.old s → OnOk result (K.taken out.new ≡ K.taken out.old ++ lines_text here (entries_at number (acts_of s entry.now))) }
+    ensures front { IsTrue K.tells → (s : NodeState) → NodeStands S.stands node.old s → AppendsFront (K.taken out.old) (K.taken out.new) (lines_text here (entries_at number (acts_of s entry.now))) }
+    ensures after { (s : NodeState) → NodeStands S.stands node.old s → OnOk result (NodeStands S.stands node.new (node_by s entry.now)) }
+    ensures write { IsErrOf result ReplayFault.WriteFault → Rose (K.faults out.old) (K.faults out.new) }
+    ensures later { K.faults out.old ≤ K.faults out.new }
+{
+    let text = entry_lines(alloc, node, here, number, entry)?;
+    put_all(out, text.as_slice())?;
+    Ok(())
+}
+
+/// Makes the entries of a log again, and writes their lines.
+fn write_entries<S: Services, K: Sink>(
+    alloc: Global,
+    node: &mut Node<S>,
+    here: Host,
+    entries: &[LogEvent],
+    out: &mut K,
+) -> Result<(), ReplayFault>
+    requires keeps { All KeepsEntry entries.now }
+    requires few { length entries.now ≤ 50000 }
+    ensures whole { IsTrue K.tells → (s : NodeState) → NodeStands S.stands node.old s → OnOk result (K.taken out.new ≡ K.taken out.old ++ lines_text here (played 0 s entries.now)) }
+    ensures front { IsTrue K.tells → (s : NodeState) → NodeStands S.stands node.old s → AppendsFront (K.taken out.old) (K.taken out.new) (lines_text here (played 0 s entries.now)) }
+    ensures write { IsErrOf result ReplayFault.WriteFault → Rose (K.faults out.old) (K.faults out.new) }
+    ensures later { K.faults out.old ≤ K.faults out.new }
+{
+    let mut number = 0;
+    for entry in entries {
+        number += 1;
+        write_entry(alloc, node, here, number, entry, out)?;
+    }
+    Ok(())
+}
+
+/// How a node begins, once more.
+fn copy_of(alloc: Global, node: &NodeConfig) -> Result<NodeConfig, NoMemory>
+    ensures { IfOk result (λ copy. copy ≡ node.now) }
+{
+    let hosts = Items::from_slice(alloc, node.hosts.as_slice())?;
+    let neighbours = Items::from_slice(alloc, node.neighbours.as_slice())?;
+    Ok(NodeConfig {
+        here: node.here,
+        hosts,
+        neighbours,
+        serial: node.serial,
+    })
+}
+
+/// A node at its beginning.
+fn open<S: Services + Drop>(
+    alloc: Global,
+    config: &NodeConfig,
+    services: S,
+) -> Result<Node<S>, NoMemory>
+    requires keeps { KeepsNode config.now }
+    requires services { IsResting (S.stands services) }
+    ensures { IfOk result (λ node. NodeStands S.stands node (new_node config.now (S.stands services))) }
+{
+    let config = copy_of(alloc, config)?;
+    Node::new(alloc, config, services)
+}
+
+/// Writes the trace of a log: its first line, the lines of each entry's step at a new node with these services, with
+/// `drop @H NoMemory` for one that found no memory, and `end`. Conditions: the log keeps its rules, and no `begin` of the
+/// services is open. Where it fails, what was written is a front of the trace.
+pub fn run_log<S: Services + Drop, K: Sink>(
+    alloc: Global,
+    log: &Log,
+    services: S,
+    out: &mut K,
+) -> Result<(), ReplayFault>
+    requires keeps { KeepsLog log.now }
+    requires services { IsResting (S.stands services) }
+    ensures whole { IsTrue K.tells → OnOk result (K.taken out.new ≡ K.taken out.old ++ whole_trace log.now.node.here (played 0 (new_node log.now.node (S.stands services)) log.now.events)) }
+    ensures front { IsTrue K.tells → AppendsFront (K.taken out.old) (K.taken out.new) (whole_trace log.now.node.here (played 0 (new_node log.now.node (S.stands services)) log.now.events)) }
+    ensures write { IsErrOf result ReplayFault.WriteFault → Rose (K.faults out.old) (K.faults out.new) }
+    ensures later { K.faults out.old ≤ K.faults out.new }
+{
+    let mut node = open(alloc, &log.node, services)?;
+    put_all(out, b"planet trace 1\n")?;
+    write_entries(alloc, &mut node, log.node.here, log.events.as_slice(), out)?;
+    put_all(out, b"end\n")?;
+    Ok(())
+}
