@@ -1,0 +1,159 @@
+-- The lines of a fleet, its statuses, and its end.
+use Rattle.std.proofs.Common.{◌≡◌, ◌≢◌, ℕ, Bool, false, OnOk, Result, Ok, Err, zero, suc, ◌+◌, ◌<◌, ◌≤◌, ◌==◌, if◌then◌else◌, List, [], ◌∷◌, ◌++◌, length, take, drop, get_or, Some, slice_get, refl, sym, ◌∙◌, ap, arith, append-nil, append_assoc}
+use Rattle.std.proofs.lemmas.List.{length_push, length-drop, take_more, drop_more, drop_all, get_or-drop}
+use Rattle.std.proofs.lemmas.Option.{slice_get_within, get_or_from_slice_get}
+use Rattle.std.proofs.Math.Seq.{take-append-add, take-length}
+use Rattle.std.proofs.Math.Dec.{eqb-suc-zero}
+use Rattle.std.proofs.lemmas.Bool.{eq-eqb}
+use Rattle.std.specs.Result.{is_err}
+use Rattle.plan_base.specs.declared.ids.Host.{Host}
+use Rattle.network_plan.specs.declared.fleet.Kid.{Kid}
+use Rattle.node_io.specs.Pieces.{AppendsFront}
+use Rattle.fleet_run.specs.Fleets.{kid_line, kid_host, fleet_text, fleet_end, Writes}
+use Rattle.fleet_run.specs.declared.fault.FleetFault.{FleetFault}
+use Rattle.fleet_run.specs.declared.fault.FleetFault.TheVariants.{StartFault, WaitFault, WriteFault, NoMemory}
+use Rattle.fleet_run.specs.declared.reports.FleetEnd.{FleetEnd}
+use Rattle.fleet_run.specs.declared.reports.FleetEnd.TheVariants.{Well, Failed}
+
+-- ---- lines
+
+pub text_none : (kids : List Kid) → fleet_text kids [] ≡ []
+unfolding fleet_text
+text_none [] = refl
+text_none (kid ∷ kids) = refl
+
+pub text_more : (kids : List Kid) (ss : List ℕ) (s : ℕ) (d : Kid) → length ss < length kids
+    → fleet_text kids (ss ++ s ∷ []) ≡ fleet_text kids ss ++ kid_line (get_or kids (length ss) d) s
+unfolding fleet_text
+text_more [] ss s d h = absurd (omega (arith, h))
+text_more (kid ∷ kids) [] s d h = ap (λ l. kid_line kid s ++ l) (text_none kids) ∙ append-nil (kid_line kid s)
+text_more (kid ∷ kids) (t ∷ ss) s d h =
+    ap (λ l. kid_line kid t ++ l) (text_more kids ss s d (omega (arith, h))) ∙ sym (append_assoc (kid_line kid t) (fleet_text kids ss) (kid_line (get_or kids (length ss) d) s))
+
+-- what the lines of the first statuses leave of those of more
+text_split : (kids : List Kid) (given : List ℕ) (n : ℕ) → (rest : List ℕ) × (fleet_text kids given ≡ fleet_text kids (take n given) ++ rest)
+unfolding fleet_text
+text_split [] given n = ([], refl)
+text_split (kid ∷ kids) [] zero = ([], refl)
+text_split (kid ∷ kids) [] (suc n) = ([], refl)
+text_split (kid ∷ kids) (s ∷ given) zero = (kid_line kid s ++ fleet_text kids given, refl)
+text_split (kid ∷ kids) (s ∷ given) (suc n) =
+    let more = text_split kids given n in
+    (more.0, ap (λ l. kid_line kid s ++ l) more.1 ∙ sym (append_assoc (kid_line kid s) (fleet_text kids (take n given)) more.0))
+
+-- statuses past the children give no lines
+pub text_enough : (kids : List Kid) (given : List ℕ) → fleet_text kids (take (length kids) given) ≡ fleet_text kids given
+unfolding fleet_text
+text_enough [] given = refl
+text_enough (kid ∷ kids) [] = refl
+text_enough (kid ∷ kids) (s ∷ given) = ap (λ l. kid_line kid s ++ l) (text_enough kids given)
+
+-- ---- fronts
+
+front_more : (n : ℕ) (xs ys : List ℕ) → (m : ℕ) × (take n xs ≡ take m (xs ++ ys))
+front_more zero xs ys = (0, refl)
+front_more (suc n) [] ys = (0, refl)
+front_more (suc n) (x ∷ xs) ys = let more = front_more n xs ys in (suc more.0, ap (λ l. x ∷ l) more.1)
+
+pub front_all : (old new bytes : List ℕ) → new ≡ old ++ bytes → AppendsFront old new bytes
+front_all old new bytes h = record { count = length bytes; is = h ∙ ap (λ l. old ++ l) (sym (take-length bytes)) }
+
+-- a front of the lines of the first statuses is one of the lines of all
+pub front_of_given : (kids : List Kid) (given : List ℕ) (n : ℕ) (old new : List ℕ) → AppendsFront old new (fleet_text kids (take n given)) → AppendsFront old new (fleet_text kids given)
+front_of_given kids given n old new f =
+    let split = text_split kids given n in
+    let more = front_more f.count (fleet_text kids (take n given)) split.0 in
+    record { count = more.0; is = f.is ∙ ap (λ l. old ++ l) (more.1 ∙ ap (take more.0) (sym split.1)) }
+
+-- every answer leaves a front of the lines
+pub front_written : (fault : FleetFault) (old new text : List ℕ) → Writes {T = Unit {0}} (Err fault) old new text → AppendsFront old new text
+front_written StartFault old new text w = record { count = 0; is = w ∙ sym (append-nil old) }
+front_written WaitFault old new text w = front_all old new text w
+front_written WriteFault old new text w = w
+front_written NoMemory old new text w = front_all old new text w
+
+-- ---- one line more
+
+module _ (kids : List Kid) (ss more : List ℕ) (s i : ℕ) (kid : Kid) (piece old mid new : List ℕ) (count : length ss ≡ i) (inside : i < length kids) (is : kid ≡ get_or kids i kid)
+    (line : piece ≡ kid_line kid s) (grown : more ≡ ss ++ s ∷ []) (before : mid ≡ old ++ fleet_text kids ss) where
+  text_next : fleet_text kids more ≡ fleet_text kids ss ++ piece
+  text_next =
+      let room : length ss < length kids = omega (arith, count, inside) in
+      ap (fleet_text kids) grown ∙ text_more kids ss s kid room ∙ ap (λ n. fleet_text kids ss ++ kid_line (get_or kids n kid) s) count ∙ ap (λ k. fleet_text kids ss ++ kid_line k s) (sym is)
+      ∙ ap (λ l. fleet_text kids ss ++ l) (sym line)
+
+  pub lines_next : new ≡ mid ++ piece → new ≡ old ++ fleet_text kids more
+  lines_next e = e ∙ ap (λ l. l ++ piece) before ∙ append_assoc old (fleet_text kids ss) piece ∙ ap (λ l. old ++ l) (sym text_next)
+
+  pub front_next : AppendsFront mid new piece → AppendsFront old new (fleet_text kids more)
+  front_next f =
+      let first = fleet_text kids ss in
+      record {
+        count = length first + f.count;
+        is = f.is ∙ ap (λ l. l ++ take f.count piece) before ∙ append_assoc old first (take f.count piece)
+            ∙ ap (λ l. old ++ l) (sym (ap (take (length first + f.count)) text_next ∙ take-append-add first piece f.count));
+      }
+
+-- ---- statuses
+
+pub given_none : (n : ℕ) (all ss : List ℕ) → ss ≡ [] → ss ≡ take (length ss) (drop n all)
+given_none n all ss e = e ∙ ap (λ l. take (length l) (drop n all)) (sym e)
+
+pub given_next : (n i : ℕ) (all ss more : List ℕ) (s : ℕ) → more ≡ ss ++ s ∷ [] → length ss ≡ i → ss ≡ take (length ss) (drop n all) → slice_get all (n + i) ≡ Some s
+    → more ≡ take (length more) (drop n all)
+given_next n i all ss more s grown count e k =
+    let inside : n + i < length all = slice_get_within all (n + i) s k in
+    let room : i < length (drop n all) = omega (arith, inside, length-drop n all) in
+    let same : get_or (drop n all) i s ≡ s = get_or-drop n all i s ∙ get_or_from_slice_get all (n + i) s s k in
+    let size : length more ≡ i + 1 = ap (λ l. length l) grown ∙ length_push ss s ∙ ap (λ m. m + 1) count in
+    grown ∙ ap (λ l. l ++ s ∷ []) e ∙ ap (λ m. take m (drop n all) ++ s ∷ []) count ∙ ap (λ x. take i (drop n all) ++ x ∷ []) (sym same) ∙ sym (take_more (drop n all) i s room)
+    ∙ ap (λ m. take m (drop n all)) (sym size)
+
+-- the lines of the given statuses, where there is one of each child
+pub whole_given : (kids : List Kid) (given ss old new : List ℕ) → length ss ≡ length kids → ss ≡ take (length ss) given → new ≡ old ++ fleet_text kids ss → new ≡ old ++ fleet_text kids given
+whole_given kids given ss old new all e w =
+    w ∙ ap (λ l. old ++ fleet_text kids l) (e ∙ ap (λ n. take n given) all) ∙ ap (λ l. old ++ l) (text_enough kids given)
+
+-- ---- ends
+
+well_by : (s : ℕ) (x y : FleetEnd) → s ≡ 0 → (if s == 0 then x else y) ≡ x
+well_by s x y e = ap (λ b. if b then x else y) (eq-eqb s 0 e)
+
+failed_by : (s : ℕ) (x y : FleetEnd) → s ≢ 0 → (if s == 0 then x else y) ≡ y
+failed_by zero x y ne = absurd (ne refl)
+failed_by (suc s) x y ne = ap (λ b. if b then x else y) (eqb-suc-zero s)
+
+end_more : (kids : List Kid) (ss : List ℕ) (i : ℕ) (d : Kid) → i < length kids → i < length ss
+    → fleet_end (drop i kids) (drop i ss) ≡ (if get_or ss i 0 == 0 then fleet_end (drop (i + 1) kids) (drop (i + 1) ss) else Failed (kid_host (get_or kids i d)) (get_or ss i 0))
+unfolding fleet_end
+end_more kids ss i d h k = ap (λ l. fleet_end l (drop i ss)) (drop_more kids i d h) ∙ ap (λ l. fleet_end (get_or kids i d ∷ drop (i + 1) kids) l) (drop_more ss i 0 k)
+
+-- a child that ended well, and one that failed
+pub end_well : (kids : List Kid) (ss : List ℕ) (i : ℕ) (kid : Kid) → i < length kids → i < length ss → get_or ss i 0 ≡ 0
+    → fleet_end (drop i kids) (drop i ss) ≡ fleet_end (drop (i + 1) kids) (drop (i + 1) ss)
+end_well kids ss i kid h k e = end_more kids ss i kid h k ∙ well_by (get_or ss i 0) (fleet_end (drop (i + 1) kids) (drop (i + 1) ss)) (Failed (kid_host (get_or kids i kid)) (get_or ss i 0)) e
+
+pub end_failed : (kids : List Kid) (ss : List ℕ) (i : ℕ) (kid : Kid) (host : Host) → i < length kids → i < length ss → kid ≡ get_or kids i kid → host ≡ kid_host kid → get_or ss i 0 ≢ 0
+    → fleet_end (drop i kids) (drop i ss) ≡ Failed host (get_or ss i 0)
+end_failed kids ss i kid host h k is of_kid ne =
+    end_more kids ss i kid h k ∙ failed_by (get_or ss i 0) (fleet_end (drop (i + 1) kids) (drop (i + 1) ss)) (Failed (kid_host (get_or kids i kid)) (get_or ss i 0)) ne
+    ∙ ap (λ x. Failed (kid_host x) (get_or ss i 0)) (sym is) ∙ ap (λ x. Failed x (get_or ss i 0)) (sym of_kid)
+
+pub end_none : (kids : List Kid) (ss : List ℕ) (i : ℕ) → length kids ≤ i → fleet_end (drop i kids) (drop i ss) ≡ Well
+unfolding fleet_end
+end_none kids ss i h = ap (λ l. fleet_end l (drop i ss)) (drop_all i kids h)
+
+end_enough : (kids : List Kid) (given : List ℕ) → fleet_end kids (take (length kids) given) ≡ fleet_end kids given
+unfolding fleet_end
+end_enough [] given = refl
+end_enough (kid ∷ kids) [] = refl
+end_enough (kid ∷ kids) (s ∷ given) = ap (λ e. if s == 0 then e else Failed (kid_host kid) s) (end_enough kids given)
+
+pub end_given : (kids : List Kid) (given ss : List ℕ) (end : FleetEnd) → length ss ≡ length kids → ss ≡ take (length ss) given → end ≡ fleet_end kids ss → end ≡ fleet_end kids given
+end_given kids given ss end all e w = w ∙ ap (fleet_end kids) (e ∙ ap (λ n. take n given) all) ∙ end_enough kids given
+
+-- ---- results
+
+pub ok_of : {T E : Type 0} (r : Result T E) (X : Type 0) (b : Bool) → b ≡ is_err r → b ≡ false → OnOk r X → X
+ok_of (Ok x) X b e f h = h
+ok_of (Err y) X b e f h = absurd (cc)

@@ -1,0 +1,2 @@
+pub mod ChildLaws
+pub mod FleetLaws

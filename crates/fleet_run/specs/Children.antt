@@ -1,0 +1,24 @@
+-- Children that were started and are waited for.
+use Rattle.std.specs.Prelude.{ℕ, ◌≡◌, ◌+◌, List, [], ◌∷◌, ◌++◌}
+use Rattle.node_io.specs.declared.spawner.Child.{Child}
+use Rattle.node_io.specs.Children.{IsFresh}
+
+-- each child is apart from these and from those started behind it
+abbrev pub AreApart : List Child → List Child → Type 0
+AreApart base [] = Unit {0}
+AreApart base (c ∷ cs) = IsFresh base c × (IsFresh cs c × AreApart base cs)
+
+-- the running children are these and then those still to be waited for, each apart from all others
+pub record AreOpen (base running waiting : List Child) : Type 0 where
+  pub is : running ≡ base ++ waiting
+  pub apart : AreApart base waiting
+
+-- the children are numbered from this number on
+abbrev pub AreNumbered : ℕ → List Child → Type 0
+AreNumbered n [] = Unit {0}
+AreNumbered n (c ∷ cs) = (c.0 ≡ n) × AreNumbered (n + 1) cs
+
+-- some of these are open besides those that were open before
+pub record LeavesOpen (old new : List Child) : Type 0 where
+  pub still : List Child
+  pub is : new ≡ old ++ still

@@ -1,0 +1,101 @@
+ghost use Rattle.std.specs.Prelude.{◌≡◌, ◌≢◌, ◌≤◌, ◌++◌, ◌∷◌, ◌⊎◌, [], IsTrue, IfOk, IsErrOf, Ok, Err, length};
+ghost use Rattle.std.specs.String.{string_bytes};
+ghost use Rattle.network_plan.specs.Hosts.{dev_of};
+ghost use Rattle.network_plan.specs.NodeRules.{KeepsAsk};
+ghost use Rattle.node_io.specs.Causes.{HasCause, Rose};
+ghost use Rattle.node_io.specs.Links.{HasPeer, Sends, Binds};
+ghost use Rattle.fleet_run.specs.Asks.{ask_frame, ask_peers, asked_line, ask_line, BindsAsk, SendsAsk, WritesAsk};
+
+use crate::fault::AskFault;
+use network_plan::AskFile;
+use node_io::{Failed, Link, Peer, Peers, Sink, put_all};
+use packet_frame::put_ask;
+use plan_base::{Bytes, Dev, NoMemory};
+use plan_items::Items;
+use std::alloc::Global;
+
+// The peer of a request.
+fn peers_of(alloc: Global, ask: &AskFile) -> Result<Peers, NoMemory>
+    ensures { IfOk result (λ peers. peers ≡ ask_peers ask.now) }
+{
+    let peer = Peer {
+        dev: Dev(0),
+        port: ask.to,
+    };
+    let mut peers = Items::new(alloc);
+    peers.add(peer)?;
+    Ok(peers)
+}
+
+// The line of a request whose frame has so many bytes.
+fn line_of(alloc: Global, port: u16, bytes: usize) -> Result<String, NoMemory>
+    ensures { IfOk result (λ line. string_bytes line ≡ asked_line port bytes) }
+{
+    Ok(format!(in alloc; "asked {port} bytes {bytes}\n")?)
+}
+
+// What a request needs before anything is done for it.
+#[derive(Drop)]
+struct Prepared {
+    frame: Bytes,
+    peers: Peers,
+    line: String,
+}
+
+fn prepare(alloc: Global, ask: &AskFile) -> Result<Prepared, NoMemory>
+    requires { KeepsAsk ask.now }
+    ensures frame { IfOk result (λ made. made.frame ≡ ask_frame ask.now) }
+    ensures peers { IfOk result (λ made. made.peers ≡ ask_peers ask.now) }
+    ensures line { IfOk result (λ made. string_bytes made.line ≡ ask_line ask.now) }
+{
+    let frame = put_ask(alloc, ask.bound, &ask.chunk)?;
+    let peers = peers_of(alloc, ask)?;
+    let line = line_of(alloc, ask.to, frame.len())?;
+    Ok(Prepared { frame, peers, line })
+}
+
+// Binds a port with its peers and sends one frame on device 0, which is among them.
+fn send_one<L: Link>(link: &mut L, port: u16, peers: &Peers, frame: &[u8]) -> Result<(), Failed>
+    requires { HasPeer peers.now (dev_of 0) }
+    ensures binds { IsTrue L.tells → Binds (L.binds link.old) (L.binds link.new) (port, peers.now) result }
+    ensures sent { IsTrue L.tells → Sends (L.sent link.old) (L.sent link.new) (dev_of 0, frame.now) result }
+    ensures script { IsTrue L.tells → L.script link.new ≡ L.script link.old }
+    ensures cause { HasCause (L.faults link.old) (L.faults link.new) result }
+{
+    link.bind(port, peers)?;
+    link.send(Dev(0), frame)
+}
+
+/// Sends a request: binds its port with device 0 at the port of the node as the one peer, sends the one frame on
+/// device 0, and writes `asked PORT bytes N`. Condition: the request keeps its rules. What takes memory comes before
+/// the binding.
+pub fn inject<L: Link, K: Sink>(
+    alloc: Global,
+    ask: &AskFile,
+    link: &mut L,
+    out: &mut K,
+) -> Result<(), AskFault>
+    requires { KeepsAsk ask.now }
+    ensures binds { IsTrue L.tells → BindsAsk result (L.binds link.old) (L.binds link.new) ask.now }
+    ensures sent { IsTrue L.tells → SendsAsk result (L.sent link.old) (L.sent link.new) ask.now }
+    ensures line { IsTrue K.tells → WritesAsk result (K.taken out.old) (K.taken out.new) ask.now }
+    ensures script { IsTrue L.tells → L.script link.new ≡ L.script link.old }
+    ensures link_fault { IsErrOf result AskFault.LinkFault → Rose (L.faults link.old) (L.faults link.new) }
+    ensures write_fault { IsErrOf result AskFault.WriteFault → Rose (K.faults out.old) (K.faults out.new) }
+    ensures complete { ¬ (Rose (L.faults link.old) (L.faults link.new))
+        → ¬ (Rose (K.faults out.old) (K.faults out.new))
+        → (result ≡ Ok tt) ⊎ (result ≡ Err AskFault.NoMemory) }
+    ensures link_later { L.faults link.old ≤ L.faults link.new }
+    ensures later { K.faults out.old ≤ K.faults out.new }
+{
+    let Ok(made) = prepare(alloc, ask) else {
+        return Err(AskFault::NoMemory);
+    };
+    if send_one(link, ask.from, &made.peers, made.frame.as_slice()).is_err() {
+        return Err(AskFault::LinkFault);
+    }
+    match put_all(out, made.line.as_bytes()) {
+        Ok(()) => Ok(()),
+        Err(_) => Err(AskFault::WriteFault),
+    }
+}

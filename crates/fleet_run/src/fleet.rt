@@ -1,0 +1,82 @@
+ghost use Rattle.std.specs.Prelude.{◌≡◌, ◌++◌, ◌≤◌, ◌⊎◌, Ok, Err, IsTrue, IsOk, IsErrOf, IfOk, OnOk, [], drop, length, vec_capacity};
+ghost use Rattle.node_io.specs.Causes.{Rose, one_more};
+ghost use Rattle.node_io.specs.Pieces.{AppendsFront};
+ghost use Rattle.fleet_run.specs.Fleets.{fleet_starts, fleet_text, fleet_end, Asks, Waits, Reports};
+
+use crate::fault::FleetFault;
+use crate::reports::{FleetEnd, end_of, report_all};
+use crate::starts::{start_all, wait_all};
+use crate::words::starts_of;
+use network_plan::{Fleet, Kid};
+use node_io::{Child, Sink, Spawner};
+use plan_base::{NoMemory, Texts};
+use plan_items::Items;
+use std::alloc::Global;
+
+// What a fleet needs before its first start: the words of the starts, and room for its children and their statuses.
+#[derive(Drop)]
+struct Prepared {
+    starts: Items<Texts>,
+    started: Vec<Child>,
+    statuses: Vec<u8>,
+}
+
+fn prepare(alloc: Global, kids: &[Kid]) -> Result<Prepared, NoMemory>
+    ensures starts { IfOk result (λ made. made.starts ≡ fleet_starts kids.now) }
+    ensures none { IfOk result (λ made. (made.started.items ≡ []) × (made.statuses.items ≡ [])) }
+    ensures room { IfOk result (λ made. (vec_capacity made.started ≡ length kids.now) × (vec_capacity made.statuses ≡ length kids.now)) }
+{
+    let starts = starts_of(alloc, kids)?;
+    let started = Vec::with_capacity(alloc, kids.len())?;
+    let statuses = Vec::with_capacity(alloc, kids.len())?;
+    Ok(Prepared {
+        starts,
+        started,
+        statuses,
+    })
+}
+
+/// Starts the children of a fleet, in order, waits for each, in order, and writes `node @H status S` or `ask @H status S`
+/// for each. After a failed start those already started are waited for, without lines. A failed wait, a line that isn't
+/// written, and want of memory end the waiting.
+pub fn run_fleet<P: Spawner, K: Sink>(
+    alloc: Global,
+    fleet: &Fleet,
+    spawn: &mut P,
+    out: &mut K,
+) -> Result<FleetEnd, FleetFault>
+    ensures starts { IsTrue P.tells → Asks result (P.starts spawn.old) (P.starts spawn.new) (fleet_starts fleet.now.children) }
+    ensures waited { Waits result (P.children spawn.old) (P.children spawn.new) (Rose (one_more (P.faults spawn.old)) (P.faults spawn.new)) }
+    ensures reports { Reports fleet.now.children result K.tells (K.taken out.old) (K.taken out.new) P.tells (drop (P.started spawn.old) (P.statuses spawn.old)) }
+    // Where both tell: the lines of the statuses that the spawner gives, and a front of them after every answer.
+    ensures whole { IsTrue P.tells
+        → IsTrue K.tells
+        → OnOk result (K.taken out.new ≡ K.taken out.old ++ fleet_text fleet.now.children (drop (P.started spawn.old) (P.statuses spawn.old))) }
+    ensures front { IsTrue P.tells
+        → IsTrue K.tells
+        → AppendsFront (K.taken out.old) (K.taken out.new) (fleet_text fleet.now.children (drop (P.started spawn.old) (P.statuses spawn.old))) }
+    ensures ended { IsTrue P.tells
+        → IfOk result (λ end. end ≡ fleet_end fleet.now.children (drop (P.started spawn.old) (P.statuses spawn.old))) }
+    ensures statuses { IsTrue P.tells → P.statuses spawn.new ≡ P.statuses spawn.old }
+    ensures start_fault { IsErrOf result FleetFault.StartFault → Rose (P.faults spawn.old) (P.faults spawn.new) }
+    ensures wait_fault { IsErrOf result FleetFault.WaitFault → Rose (P.faults spawn.old) (P.faults spawn.new) }
+    ensures write_fault { IsErrOf result FleetFault.WriteFault → Rose (K.faults out.old) (K.faults out.new) }
+    ensures complete { ¬ (Rose (P.faults spawn.old) (P.faults spawn.new))
+        → ¬ (Rose (K.faults out.old) (K.faults out.new))
+        → IsOk result ⊎ IsErrOf result FleetFault.NoMemory }
+    ensures spawn_later { P.faults spawn.old ≤ P.faults spawn.new }
+    ensures later { K.faults out.old ≤ K.faults out.new }
+{
+    let kids = fleet.children.as_slice();
+    let Ok(mut made) = prepare(alloc, kids) else {
+        return Err(FleetFault::NoMemory);
+    };
+    if start_all(made.starts.as_slice(), spawn, &mut made.started).is_err() {
+        wait_all(&made.started, spawn);
+        return Err(FleetFault::StartFault);
+    }
+    match report_all(alloc, kids, &made.started, spawn, out, &mut made.statuses) {
+        Ok(()) => Ok(end_of(kids, &made.statuses)),
+        Err(fault) => Err(fault),
+    }
+}
