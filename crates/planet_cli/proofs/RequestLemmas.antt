@@ -13,8 +13,8 @@ node_unbuilt true false file turns = refl
 node_unbuilt false is_name file turns = refl
 
 -- no command with two words is built but `grow`
-pub built-not_grow : (command a b : List ℕ) → bytes_eq command (codes "grow") ≡ false → built (with_two command a b) ≡ None
-built-not_grow command a b h =
+pub built_not_grow : (command a b : List ℕ) → bytes_eq command (codes "grow") ≡ false → built (with_two command a b) ≡ None
+built_not_grow command a b h =
     let other : Option Request = cond (bytes_eq command (codes "node")) (cond (is_file_name a) (node_for a (number_in 1 1000000 b)) None) None in
     ap (λ t. built (cond t (grow_for (number_in 0 18446744073709551615 a) (number_in 1 50000 b)) other)) h
     ∙ node_unbuilt (bytes_eq command (codes "node")) (is_file_name a) a (number_in 1 1000000 b)

@@ -42,7 +42,7 @@ fn command_on<'a>(name: &[u8], file: &'a str) -> Option<Command<'a>>
 }
 
 // The command of that name with two words, or `None` where there is none that is built.
-#[tactic(auto, using(crate::proofs::RequestLemmas::built-not_grow))]
+#[tactic(auto, using(crate::proofs::RequestLemmas::built_not_grow))]
 fn command_with<'a>(name: &[u8], first: &[u8], second: &[u8]) -> Option<Command<'a>>
     ensures named { MatchOption result (built (with_two name.now first.now second.now) ≡ None) (λ c. built (with_two name.now first.now second.now) ≡ Some (request_for c)) }
     ensures fits { IfSome result command_fits }
