@@ -6,7 +6,7 @@ ghost use Rattle.net_world.specs.Stands.{WorldStands};
 ghost use Rattle.grow_run.specs.Pings as spec;
 ghost use Rattle.grow_run.specs.Fitting.{choice_fits};
 
-use crate::ping::ping;
+use crate::pings::ping;
 use event_draws::{Choice, choose};
 use net_world::World;
 use network_plan::WorldEvent;

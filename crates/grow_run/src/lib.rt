@@ -4,7 +4,7 @@
 
 mod events;
 mod growth;
-mod ping;
+mod pings;
 mod run;
 
 pub use run::grow;

@@ -6,7 +6,7 @@ ghost use Rattle.grown_network.specs.Grow.{ring};
 ghost use Rattle.grow_run.specs.Pings as spec;
 
 use crate::growth::Growth;
-use crate::ping::ping_program;
+use crate::pings::ping_program;
 use net_world::RunFault;
 use node_io::{Sink, put_all};
 use plan_base::{Bytes, NoMemory};
