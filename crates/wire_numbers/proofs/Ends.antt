@@ -20,9 +20,9 @@ unfolding lowest
 lowest_push [] x = refl
 lowest_push (y ∷ ys) x = ap (λ o. Some (at_most y.number o)) (lowest_push ys x) ∙ ap Some (either_lower y.number x.number (lowest ys))
 
-pub lowest_next : (xs : List Wired) (i : ℕ) (d : Wired) (found : Option ℕ) (n : ℕ) → i < length xs → found ≡ lowest (take i xs) → n ≡ at_most (get_or xs i d).number found → Some n ≡ lowest (take (i + 1) xs)
-lowest_next xs i d found n within f e =
-    ap Some (e ∙ ap (at_most (get_or xs i d).number) f) ∙ sym (lowest_push (take i xs) (get_or xs i d)) ∙ ap lowest (sym (take_at_read xs i d within).1)
+pub lowest_next : (xs : List Wired) (i : ℕ) (x : Wired) (found : Option ℕ) (n : ℕ) → i < length xs → x ≡ get_or xs i x → found ≡ lowest (take i xs) → n ≡ at_most x.number found → Some n ≡ lowest (take (i + 1) xs)
+lowest_next xs i x found n within is f e =
+    ap Some (e ∙ ap (at_most x.number) f) ∙ sym (lowest_push (take i xs) x) ∙ ap lowest (ap (λ y. take i xs ++ y ∷ []) is ∙ sym (take_at_read xs i x within).1)
 
 pub lowest_all : (xs : List Wired) (i : ℕ) (found : Option ℕ) → length xs ≤ i → found ≡ lowest (take i xs) → found ≡ lowest xs
 lowest_all xs i found e h = h ∙ ap lowest (take_all i xs e)
@@ -42,9 +42,9 @@ unfolding highest
 highest_push [] x = refl
 highest_push (y ∷ ys) x = ap (λ o. Some (at_least y.number o)) (highest_push ys x) ∙ ap Some (either_higher y.number x.number (highest ys))
 
-pub highest_next : (xs : List Wired) (i : ℕ) (d : Wired) (found : Option ℕ) (n : ℕ) → i < length xs → found ≡ highest (take i xs) → n ≡ at_least (get_or xs i d).number found → Some n ≡ highest (take (i + 1) xs)
-highest_next xs i d found n within f e =
-    ap Some (e ∙ ap (at_least (get_or xs i d).number) f) ∙ sym (highest_push (take i xs) (get_or xs i d)) ∙ ap highest (sym (take_at_read xs i d within).1)
+pub highest_next : (xs : List Wired) (i : ℕ) (x : Wired) (found : Option ℕ) (n : ℕ) → i < length xs → x ≡ get_or xs i x → found ≡ highest (take i xs) → n ≡ at_least x.number found → Some n ≡ highest (take (i + 1) xs)
+highest_next xs i x found n within is f e =
+    ap Some (e ∙ ap (at_least x.number) f) ∙ sym (highest_push (take i xs) x) ∙ ap highest (ap (λ y. take i xs ++ y ∷ []) is ∙ sym (take_at_read xs i x within).1)
 
 pub highest_all : (xs : List Wired) (i : ℕ) (found : Option ℕ) → length xs ≤ i → found ≡ highest (take i xs) → found ≡ highest xs
 highest_all xs i found e h = h ∙ ap highest (take_all i xs e)
