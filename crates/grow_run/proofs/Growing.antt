@@ -1,23 +1,26 @@
 -- A network with one event more, and with all of them.
-use Rattle.std.proofs.Common.{◌≡◌, ℕ, suc, ◌+◌, ◌-◌, ◌<◌, ◌≤◌, List, [], ◌∷◌, ◌++◌, length, refl, sym, ap, ◌∙◌, append_assoc, subst, arith}
+use Rattle.std.proofs.Common.{◌≡◌, ℕ, suc, ◌+◌, ◌-◌, ◌<◌, ◌≤◌, List, [], ◌∷◌, ◌++◌, length, Ok, refl, sym, ap, ◌∙◌, append_assoc, subst, arith}
 use Rattle.std.specs.Prelude.{nat_lt, if◌then◌else◌}
 use Rattle.std.proofs.lemmas.List.{append-nil, length-append}
 use Rattle.std.proofs.lemmas.List.Elements.{All-nil, All-push}
 use Rattle.rand_pcg.specs.Lcg.{Lcg}
 use Rattle.plan_base.specs.declared.ids.Host.{Host}
 use Rattle.plan_base.specs.declared.tree.Chunk.{Chunk}
+use Rattle.plan_base.specs.declared.tree.Program.{Program}
+use Rattle.program_text.specs.Texts.{program_of}
 use Rattle.service_api.specs.Services.{Standing}
 use Rattle.network_plan.specs.declared.event.WorldEvent.{WorldEvent}
 use Rattle.world_model.specs.World.{WorldState, happens, entries, world_after, history_of, opening}
 use Rattle.world_model.specs.Sound.{event_fits, EventsFit}
 use Rattle.run_ledger.specs.Stands.{Stands}
 use Rattle.run_ledger.proofs.Runs.{world_after-push, history_of-push, event_fits_ledger}
-use Rattle.grown_network.specs.Grow.{ring, next_event, grown}
-use Rattle.grown_network.specs.Summaries.{summary_of}
+use Rattle.grown_network.specs.Grow.{ring, next_event, grown, Grow}
+use Rattle.grown_network.specs.Summaries.{summary_of, grown_text, GrowText}
 use Rattle.grown_network.proofs.RingRules.{ring_keeps}
 use Rattle.net_world.specs.Stands.{WorldStands}
 use Rattle.net_world.specs.Running.{IsCountable}
 use Rattle.net_world.proofs.RunLaws.{opening_made}
+use Rattle.grow_run.specs.Pings.{ping_text, ping as ping_of, output_with, grow_output}
 use Rattle.grow_run.specs.declared.growth.Growth.{Growth}
 
 -- a network before its first event
@@ -108,3 +111,9 @@ module _ {S : Type 0} (stands : S → Standing) (ping : Host → Host → Chunk)
 
   pub grown_summary : (made : ℕ) (g : Growth S) → Grows stands ping n first made g → n ≤ made → g.summary ≡ summary_of (history_of (grown ping n first (opening ring)) (opening ring))
   grown_summary made g grows done = grows.summary ∙ ap (λ es. summary_of (history_of es (opening ring))) (all_made made g grows done)
+
+-- what is written of a network whose pings have the program that was read
+pub output_is : (seed n : ℕ) (code : Program) → program_of ping_text ≡ Ok code
+    → grown_text seed n (history_of (Grow (ping_of code) seed n) (opening ring)) (world_after (Grow (ping_of code) seed n) (opening ring)) ≡ grow_output seed n
+unfolding grow_output GrowText
+output_is seed n code reads = ap (output_with seed n) (sym reads)
