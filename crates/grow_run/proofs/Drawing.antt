@@ -15,7 +15,7 @@ use Rattle.grown_network.specs.Grow.{event_of, drawn, next_event}
 use Rattle.event_draws.specs.declared.choice.Choice.{Choice}
 use Rattle.event_draws.specs.declared.choice.Choice.TheVariants.{Deliver, Lose}
 use Rattle.event_draws.specs.Draws.{draw, choose_tick, choose_inject, choose_send, choose_by, choose}
-use Rattle.grow_run.specs.Fitting.{choice_fits}
+use Rattle.grow_run.specs.Events.{choice_fits, drawn_event}
 
 by_number : (g : Lcg) (lowest highest : ℕ) (a b c d e : Bool)
     → choice_fits (cond a (Lose lowest, g) (cond b (choose_tick g) (cond c (choose_inject g) (cond d (choose_send g) (cond e (Deliver lowest, g) (Deliver highest, g)))))).0
@@ -40,18 +40,18 @@ choice_is lowest highest g choice after is = subst (λ (p : Choice × Lcg). choi
 
 -- what was drawn for a network, from the ends of its wire
 pub drawn_is : (ping : Host → Host → Chunk) (g after : Lcg) (w : WorldState) (wire : List Wired) (low high : Option ℕ) (choice : Choice) (e : WorldEvent) → low ≡ lowest wire → high ≡ highest wire → wire ≡ w.wire
-    → (choice, after) ≡ choose low high g → e ≡ event_of ping choice → (e, after) ≡ (event_of ping (drawn g w).0, (drawn g w).1)
+    → (choice, after) ≡ choose low high g → e ≡ event_of ping choice → (e, after) ≡ drawn_event ping g w
 drawn_is ping g after w wire low high choice e l h same c is =
     let own : (choice, after) ≡ drawn g w = c ∙ (λ i. choose ((l ∙ ap lowest same) i) ((h ∙ ap highest same) i) g) in
     ap (λ x. (x, after)) is ∙ ap (λ (p : Choice × Lcg). (event_of ping p.0, p.1)) own
 
 module _ (ping : Host → Host → Chunk) (g : Lcg) (w : WorldState) (made : ℕ) (same : made ≡ w.made) where
-  by_made : (b : Bool) → nat_lt made 8 ≡ b → (if b then (Tick (host_of (made + 1)), g) else (event_of ping (drawn g w).0, (drawn g w).1)) ≡ next_event ping g w
-  by_made b is = ap (λ c. if c then (Tick (host_of (made + 1)), g) else (event_of ping (drawn g w).0, (drawn g w).1)) (sym is)
-      ∙ ap (λ m. if nat_lt m 8 then (Tick (host_of (m + 1)), g) else (event_of ping (drawn g w).0, (drawn g w).1)) same
+  by_made : (b : Bool) → nat_lt made 8 ≡ b → (if b then (Tick (host_of (made + 1)), g) else drawn_event ping g w) ≡ next_event ping g w
+  by_made b is = ap (λ c. if c then (Tick (host_of (made + 1)), g) else drawn_event ping g w) (sym is)
+      ∙ ap (λ m. if nat_lt m 8 then (Tick (host_of (m + 1)), g) else drawn_event ping g w) same
 
   pub ticks_first : made < 8 → (Tick (host_of (made + 1)), g) ≡ next_event ping g w
   ticks_first h = by_made true (lt-ltb made 8 h)
 
-  pub draws_then : (e : WorldEvent) (after : Lcg) → 8 ≤ made → (e, after) ≡ (event_of ping (drawn g w).0, (drawn g w).1) → (e, after) ≡ next_event ping g w
+  pub draws_then : (e : WorldEvent) (after : Lcg) → 8 ≤ made → (e, after) ≡ drawn_event ping g w → (e, after) ≡ next_event ping g w
   draws_then e after h is = is ∙ by_made false (le-ltb made 8 h)

@@ -56,9 +56,9 @@ still_start = refl
 
 module _ {S : Type 0} (stands : S → Standing) (ping : Host → Host → Chunk) (n : ℕ) (first : Lcg) where
   pub grows_none : (g : Growth S) → g.words ≡ first → WorldStands stands g.world (opening ring) → Stands [] g.ledger → g.summary ≡ summary_of [] → Grows stands ping n first 0 g
-  grows_none g words world ledger summary = record {
+  grows_none g words world ledger summary = let all_left : n - 0 ≡ n = omega arith in let back = sym still_start in record {
     events = [];
-    all = (λ i. grown ping n (words i) (still_start (~ i)));
+    all = ap (λ k. grown ping k g.words (world_after [] start)) all_left ∙ (λ i. grown ping n (words i) (back i));
     many = refl;
     fits = All-nil event_fits;
     world = subst (WorldStands stands g.world) still_start world;

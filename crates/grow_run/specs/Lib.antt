@@ -1,2 +1,2 @@
 pub mod Pings
-pub mod Fitting
+pub mod Events

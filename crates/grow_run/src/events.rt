@@ -4,7 +4,7 @@ ghost use Rattle.world_model.specs.Sound.{event_fits};
 ghost use Rattle.grown_network.specs.Grow as grow;
 ghost use Rattle.net_world.specs.Stands.{WorldStands};
 ghost use Rattle.grow_run.specs.Pings as spec;
-ghost use Rattle.grow_run.specs.Fitting.{choice_fits};
+ghost use Rattle.grow_run.specs.Events.{choice_fits, drawn_event};
 
 use crate::pings::ping;
 use event_draws::{Choice, choose};
@@ -47,7 +47,7 @@ fn drawn_event<S: Services>(
     world: &World<S>,
     words: &mut Lcg64Xsh32,
 ) -> Result<WorldEvent, NoMemory>
-    ensures event { (w : WorldState) → WorldStands S.stands world.now w → IfOk result (λ e. (e, words.new) ≡ (grow.event_of (spec.ping code.now) (grow.drawn words.old w).0, (grow.drawn words.old w).1)) }
+    ensures event { (w : WorldState) → WorldStands S.stands world.now w → IfOk result (λ e. (e, words.new) ≡ drawn_event (spec.ping code.now) words.old w) }
     ensures fits { IfOk result event_fits }
 {
     let choice = choose(words, world.lowest(), world.highest());

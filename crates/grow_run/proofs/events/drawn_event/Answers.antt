@@ -1,3 +1,4 @@
+use Rattle.std.proofs.Common.{◌≡◌}
 use Rattle.grown_network.specs.Grow as grow
 use Rattle.net_world.proofs.StandLaws.{if_ok}
 use Rattle.grow_run.specs.Pings.{ping}

@@ -8,14 +8,14 @@ use Rattle.grown_network.proofs.RingRules.{ring_keeps}
 use Rattle.net_world.specs.Stands.{WorldStands}
 use Rattle.grow_run.proofs.growth.Growth.begin.Goals as goal
 
-pub new-world-requires-clause-rules : goal.new-world-requires-clause-rules
-new-world-requires-clause-rules g c = subst KeepsNetwork (sym c.in_ok-topology.ensures) ring_keeps
+pub new-requires-clause-rules : goal.new-requires-clause-rules
+new-requires-clause-rules g c = subst KeepsNetwork (sym c.in_ok-topology.ensures) ring_keeps
 
-pub new-world-requires-clause-services : goal.new-world-requires-clause-services
-new-world-requires-clause-services g c = c.requires ∙ ap (λ t. map opening_services t.hosts) (sym c.in_ok-topology.ensures)
+pub new-requires-clause-services : goal.new-requires-clause-services
+new-requires-clause-services g c = c.requires.services ∙ ap (λ t. map opening_services t.hosts) (sym c.in_ok-topology.ensures)
 
 pub returns-clause-world : goal.returns-clause-world
-returns-clause-world g c = subst (λ t. WorldStands g.S.Services.stands c.in_ok-world.ok (opening t)) c.in_ok-topology.ensures c.in_ok-world.ensures
+returns-clause-world g c = subst (λ t. WorldStands g.S.Services.stands c.in_ok-world.world (opening t)) c.in_ok-topology.ensures c.in_ok-world.ensures
 
 pub returns-clause-ledger : goal.returns-clause-ledger
 returns-clause-ledger g c = subst (Stands []) (sym c.in_ok-ledger.ensures) nothing_stands
