@@ -1,5 +1,5 @@
 -- Hosts as arguments are well formed and lack no types.
-use Rattle.std.proofs.Common.{◌≡◌, Bool, true, ◌&&◌, List, [], ◌∷◌, IsTrue, sym, ap, ◌∙◌, subst}
+use Rattle.std.proofs.Common.{◌≡◌, true, ◌&&◌, List, [], ◌∷◌, IsTrue, ap, ◌∙◌}
 use Rattle.std.specs.List.{list_all}
 use Rattle.plan_base.specs.declared.ids.Host.{Host}
 use Rattle.plan_base.specs.declared.tree.Value.{Value}

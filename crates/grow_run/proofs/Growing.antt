@@ -1,6 +1,5 @@
 -- A network with one event more, and with all of them.
 use Rattle.std.proofs.Common.{◌≡◌, ℕ, suc, ◌+◌, ◌-◌, ◌<◌, ◌≤◌, List, [], ◌∷◌, ◌++◌, length, Ok, refl, sym, ap, ◌∙◌, append_assoc, subst, arith}
-use Rattle.std.specs.Prelude.{nat_lt, if◌then◌else◌}
 use Rattle.std.proofs.lemmas.List.{append-nil, length-append}
 use Rattle.std.proofs.lemmas.List.Elements.{All-nil, All-push}
 use Rattle.rand_pcg.specs.Lcg.{Lcg}
@@ -75,27 +74,27 @@ module _ {S : Type 0} (stands : S → Standing) (ping : Host → Host → Chunk)
     fits = event_fits_ledger ring grows.events e g.ledger ring_keeps.hosts grows.fits fits (subst (λ k. k < 50000) (sym grows.many) few) grows.ledger;
   }
 
-  pub grows_next : (made : ℕ) (g new : Growth S) (e : WorldEvent) (grows : Grows stands ping n first made g) → made < n
-      → (e, new.words) ≡ next_event ping g.words (world_after grows.events (opening ring)) → event_fits e
+  pub grows_next : (made : ℕ) (g new : Growth S) (after : Lcg) (e : WorldEvent) (grows : Grows stands ping n first made g) → made < n
+      → (e, after) ≡ next_event ping g.words (world_after grows.events (opening ring)) → new.words ≡ after → event_fits e
       → WorldStands stands new.world (happens (world_after grows.events (opening ring)) e).world
       → new.world.made ≡ g.world.made + 1
       → Stands (history_of grows.events (opening ring) ++ entries (world_after grows.events (opening ring)) e) new.ledger
       → new.summary ≡ summary_of (history_of grows.events (opening ring) ++ entries (world_after grows.events (opening ring)) e)
       → Grows stands ping n first (made + 1) new
-  grows_next made g new e grows within drawn fits world number ledger summary =
+  grows_next made g new after e grows within drawn words fits world number ledger summary =
       let w = world_after grows.events (opening ring) in
       let left : suc (n - (made + 1)) ≡ n - made = omega (arith, within) in
-      let after = world_after-push grows.events e (opening ring) in
+      let pushed = world_after-push grows.events e (opening ring) in
       let history = history_of-push grows.events e (opening ring) in
       record {
         events = grows.events ++ e ∷ [];
-        all = ap (λ x. (grows.events ++ e ∷ []) ++ grown ping (n - (made + 1)) new.words x) after
+        all = ap (λ x. (grows.events ++ e ∷ []) ++ grown ping (n - (made + 1)) new.words x) pushed
             ∙ append_assoc grows.events (e ∷ []) (grown ping (n - (made + 1)) new.words (happens w e).world)
-            ∙ ap (λ x. grows.events ++ x) (one_more ping (n - (made + 1)) g.words new.words w e drawn ∙ ap (λ k. grown ping k g.words w) left)
+            ∙ ap (λ x. grows.events ++ x) (one_more ping (n - (made + 1)) g.words new.words w e (ap (λ x. (e, x)) words ∙ drawn) ∙ ap (λ k. grown ping k g.words w) left)
             ∙ grows.all;
         many = omega (arith, length-append grows.events (e ∷ []), grows.many);
         fits = All-push event_fits grows.events e grows.fits fits;
-        world = subst (WorldStands stands new.world) (sym after) world;
+        world = subst (WorldStands stands new.world) (sym pushed) world;
         number = number ∙ ap (λ k. k + 1) grows.number;
         ledger = subst (λ h. Stands h new.ledger) (sym history) ledger;
         summary = summary ∙ ap summary_of (sym history);

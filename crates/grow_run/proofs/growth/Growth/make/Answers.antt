@@ -1,4 +1,4 @@
-use Rattle.std.proofs.Common.{◌≡◌, ◌∙◌, ◌+◌, ◌++◌, refl, sym, ap, subst}
+use Rattle.std.proofs.Common.{◌∙◌, ◌+◌, ◌++◌, refl, sym, ap, subst}
 use Rattle.run_ledger.specs.Counting.{LinesFit}
 use Rattle.run_ledger.specs.Stands.{Stands}
 use Rattle.grown_network.specs.Summaries.{summary_of}
