@@ -1,5 +1,5 @@
 -- A network that grows by itself: its hosts and links, and each of its events.
-use Rattle.std.specs.Prelude.{ℕ, zero, suc, ◌+◌, nat_lt, if◌then◌else◌, List, [], ◌∷◌, Option, Some, None, min, max}
+use Rattle.std.specs.Prelude.{ℕ, zero, suc, ◌+◌, nat_lt, if◌then◌else◌, List, [], ◌∷◌}
 use Rattle.rand_pcg.specs.Lcg.{Lcg}
 use Rattle.plan_base.specs.declared.ids.Host.{Host}
 use Rattle.plan_base.specs.declared.tree.Chunk.{Chunk}
@@ -11,7 +11,7 @@ use Rattle.network_plan.specs.declared.event.WorldEvent.TheVariants as event
 use Rattle.event_draws.specs.declared.choice.Choice.{Choice}
 use Rattle.event_draws.specs.declared.choice.Choice.TheVariants as choice
 use Rattle.event_draws.specs.Draws.{begun, choose}
-use Rattle.world_model.specs.declared.lines.Wired.{Wired}
+use Rattle.wire_numbers.specs.Numbers.{lowest, highest}
 use Rattle.world_model.specs.World.{WorldState, happens, opening}
 
 -- a host with all packages
@@ -28,24 +28,6 @@ ring = record {
   hosts = whole_host 1 ∷ whole_host 2 ∷ whole_host 3 ∷ whole_host 4 ∷ whole_host 5 ∷ whole_host 6 ∷ whole_host 7 ∷ whole_host 8 ∷ [];
   links = ring_link 1 2 ∷ ring_link 2 3 ∷ ring_link 3 4 ∷ ring_link 4 5 ∷ ring_link 5 6 ∷ ring_link 6 7 ∷ ring_link 7 8 ∷ ring_link 8 1 ∷ [];
 }
-
-abbrev pub at_most : ℕ → Option ℕ → ℕ
-at_most n None = n
-at_most n (Some m) = min n m
-
--- the least number of a frame on the wire, if there is one
-unfoldable pub lowest : List Wired → Option ℕ
-lowest [] = None
-lowest (x ∷ xs) = Some (at_most x.number (lowest xs))
-
-abbrev pub at_least : ℕ → Option ℕ → ℕ
-at_least n None = n
-at_least n (Some m) = max n m
-
--- the greatest number of a frame on the wire, if there is one
-unfoldable pub highest : List Wired → Option ℕ
-highest [] = None
-highest (x ∷ xs) = Some (at_least x.number (highest xs))
 
 -- the event that was drawn; what is injected is the ping from one host to the other
 abbrev pub event_of : (Host → Host → Chunk) → Choice → WorldEvent

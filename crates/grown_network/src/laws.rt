@@ -1,25 +1,13 @@
-ghost use Rattle.std.specs.Prelude.{◌≡◌, ◌++◌, ◌∷◌, [], ℕ, List, Some};
+ghost use Rattle.std.specs.Prelude.{◌≡◌, ℕ, List};
 ghost use Rattle.plan_base.specs.declared.ids.Family.{Family};
 ghost use Rattle.bound_ledger.specs.Rows.{FamilyRow, OneEach};
 ghost use Rattle.world_model.specs.declared.lines.Entry.{Entry};
-ghost use Rattle.world_model.specs.declared.lines.Wired.{Wired};
 ghost use Rattle.world_model.specs.World.{WorldState};
 ghost use Rattle.world_model.specs.Counts.{Balanced};
-ghost use Rattle.world_model.specs.Sound.{Rise, number_of};
 ghost use Rattle.run_ledger.specs.Stands.{Stands};
 ghost use Rattle.network_plan.specs.Rules.{KeepsNetwork};
-ghost use Rattle.grown_network.specs.Grow.{lowest, highest, ring};
+ghost use Rattle.grown_network.specs.Grow.{ring};
 ghost use Rattle.grown_network.specs.Summaries.{summary_of, row_sums, summary_text, grown_text};
-
-/// On a wire in the order of its numbers the first frame has the lowest.
-pub fn first_is_lowest()
-    ensures { (x : Wired) (xs : List Wired) → Rise number_of (x ∷ xs) → lowest (x ∷ xs) ≡ Some x.number }
-{}
-
-/// And the last frame has the highest.
-pub fn last_is_highest()
-    ensures { (xs : List Wired) (x : Wired) → Rise number_of (xs ++ x ∷ []) → highest (xs ++ x ∷ []) ≡ Some x.number }
-{}
 
 /// The summary with the sums of rows that stand for a history is that of the history.
 pub fn summaries_are_counts()

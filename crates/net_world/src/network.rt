@@ -5,6 +5,7 @@ ghost use Rattle.world_model.specs.World.{WorldState};
 ghost use Rattle.wire_bytes.specs.Fields.{IsBytes};
 ghost use Rattle.world_model.specs.Sound.{event_fits};
 ghost use Rattle.world_model.specs.declared.lines.Line.TheVariants as line;
+ghost use Rattle.wire_numbers.specs.Numbers as numbers;
 ghost use Rattle.net_world.specs.Stands.{WorldStands, IsHappened};
 
 use crate::ends::{far_end, wire_place};
@@ -20,6 +21,7 @@ use plan_items::Items;
 use service_api::Services;
 use spelled_frame::SpelledFrame;
 use std::alloc::Global;
+use wire_numbers::{highest, lowest};
 use world_model::{Line, Lines, LinkEnd, Wire, Wired};
 
 /// The number of frames that the wire holds.
@@ -215,5 +217,19 @@ impl<S: Services> Network<S> {
         ensures { result ≡ self.now.made }
     {
         self.made
+    }
+
+    /// The lowest number on the wire.
+    pub fn lowest(&self) -> Option<u32>
+        ensures { result ≡ numbers.lowest self.now.wire }
+    {
+        lowest(self.wire.as_slice())
+    }
+
+    /// The highest number on the wire.
+    pub fn highest(&self) -> Option<u32>
+        ensures { result ≡ numbers.highest self.now.wire }
+    {
+        highest(self.wire.as_slice())
     }
 }

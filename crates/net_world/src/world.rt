@@ -8,6 +8,7 @@ ghost use Rattle.world_model.specs.Sound.{IsSound, event_fits};
 ghost use Rattle.world_model.specs.Visits.{EndsWell, event_visits};
 ghost use Rattle.world_routes.specs.Roads.{NotRaw};
 ghost use Rattle.world_routes.specs.Routes.{Reached, KeepsRoutes};
+ghost use Rattle.wire_numbers.specs.Numbers as numbers;
 ghost use Rattle.net_world.specs.Stands.{WorldStands, IsHappened};
 
 use crate::network::Network;
@@ -60,6 +61,20 @@ impl<S: Services> World<S> {
         ensures { result ≡ self.now.made }
     {
         self.network.made()
+    }
+
+    /// The lowest number of a frame on the wire, or `None` where it is empty. Takes no memory.
+    pub fn lowest(&self) -> Option<u32>
+        ensures { result ≡ numbers.lowest self.now.wire }
+    {
+        self.network.lowest()
+    }
+
+    /// The highest number of a frame on the wire, or `None` where it is empty. Takes no memory.
+    pub fn highest(&self) -> Option<u32>
+        ensures { result ≡ numbers.highest self.now.wire }
+    {
+        self.network.highest()
     }
 
     /// One event, as the definition has it for each state for which the network stands, and its lines: in balance

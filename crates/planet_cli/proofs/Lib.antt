@@ -4,3 +4,4 @@ pub mod Headline
 pub mod Stopping
 pub mod ShowLemmas
 pub mod Showing
+pub mod Growing

@@ -1,10 +1,17 @@
 -- The commands in the code, as requests.
+use Rattle.std.specs.Prelude.{◌≤◌}
 use Rattle.planet_cli.specs.declared.words.Command.{Command}
-use Rattle.planet_cli.specs.declared.words.Command.TheVariants.{Replay, Check, Show}
-use Rattle.planet_cli.specs.Requests.{Request, replay, check, show}
+use Rattle.planet_cli.specs.declared.words.Command.TheVariants.{Replay, Check, Show, Grow}
+use Rattle.planet_cli.specs.Requests.{Request, replay, check, show, grow}
 
 -- the request that a command stands for
 abbrev pub request_for : Command → Request
 request_for (Replay file) = replay file.now
 request_for (Check file) = check file.now
 request_for (Show file) = show file.now
+request_for (Grow seed n) = grow seed n
+
+-- a network grows by at most 50,000 events
+abbrev pub command_fits : Command → Type 0
+command_fits (Grow seed n) = n ≤ 50000
+command_fits _ = Unit {0}

@@ -1,9 +1,10 @@
 -- What words and files make of a call, before any fault.
 use Rattle.std.specs.Prelude.{ℕ, nat_lt, if◌then◌else◌, List, [], length, Option, Some, None}
 use Rattle.node_io.specs.FileMaps.{FileMap, file_at}
+use Rattle.grow_run.specs.Pings.{grow_output}
 use Rattle.planet_cli.specs.declared.status.Refusal.{Refusal}
 use Rattle.planet_cli.specs.declared.status.Refusal.TheVariants.{TooLong}
-use Rattle.planet_cli.specs.Requests.{Request, replay, check, show, request_of}
+use Rattle.planet_cli.specs.Requests.{Request, replay, check, show, grow, request_of}
 use Rattle.planet_cli.specs.Schedules.{schedule_limit, schedule_refusal, schedule_output}
 use Rattle.planet_cli.specs.Checks.{program_limit, program_refusal, program_output}
 use Rattle.planet_cli.specs.Shows.{frame_limit, frame_refusal, frame_output}
@@ -34,6 +35,7 @@ abbrev pub answered : Option Request → FileMap → Outcome
 answered (Some (replay file)) files = outcome_at schedule_limit schedule_refusal schedule_output (file_at files file)
 answered (Some (check file)) files = outcome_at program_limit program_refusal program_output (file_at files file)
 answered (Some (show file)) files = outcome_at frame_limit frame_refusal frame_output (file_at files file)
+answered (Some (grow seed n)) files = whole (grow_output seed n)
 answered _ files = unasked
 
 -- what words make of the files

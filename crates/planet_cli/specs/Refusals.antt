@@ -55,6 +55,18 @@ IsFileCause LinkFault = ⊥
 IsFileCause SpawnFault = ⊥
 IsFileCause (NodesFailed h s) = ⊥
 
+-- a command that reads no file and writes one text ends with no other causes
+abbrev pub IsOutputCause : Cause → Type 0
+IsOutputCause Done = Unit {0}
+IsOutputCause WriteFault = Unit {0}
+IsOutputCause NoMemory = Unit {0}
+IsOutputCause (Refused r) = ⊥
+IsOutputCause ReadFault = ⊥
+IsOutputCause Usage = ⊥
+IsOutputCause LinkFault = ⊥
+IsOutputCause SpawnFault = ⊥
+IsOutputCause (NodesFailed h s) = ⊥
+
 -- the wanted cause is given, or want of memory, or a fault of writing where a note wasn't written
 abbrev pub Gives : Cause → Cause → Type 0 → Type 0
 Gives wanted given unwritten = (given ≡ wanted) ⊎ ((given ≡ NoMemory) ⊎ ((given ≡ WriteFault) × unwritten))

@@ -1,8 +1,9 @@
 -- The commands that words name.
-use Rattle.std.specs.Prelude.{ℕ, Bool, true, false, ◌&&◌, ◌^◌, ◌*◌, ◌+◌, ◌-◌, ◌==◌, nat_le, nat_lt, if◌then◌else◌, List, [], ◌∷◌, length, Option, Some, None}
-use Rattle.std.specs.List.{list_all}
-use Rattle.std.specs.Str.{bytes_eq, is_utf8}
+use Rattle.std.specs.Prelude.{ℕ, ◌^◌, ◌-◌, if◌then◌else◌, List, [], ◌∷◌, Option, Some, None}
+use Rattle.std.specs.Str.{bytes_eq}
 use lib.Chars.{codes}
+use Rattle.network_plan.specs.FileNames.{is_file_name}
+use Rattle.line_files.specs.Numbers.{number_in}
 
 -- what words ask for: a command with its file or its numbers
 pub data Request : Type 0 where
@@ -13,29 +14,6 @@ pub data Request : Type 0 where
   fleet : List ℕ → Request
   node : List ℕ → ℕ → Request
   grow : ℕ → ℕ → Request
-
--- a file name is 1 to 255 bytes of UTF-8
-abbrev pub is_file_name : List ℕ → Bool
-is_file_name w = nat_lt 0 (length w) && (nat_le (length w) 255 && is_utf8 w)
-
-abbrev is_digit : ℕ → Bool
-is_digit b = nat_le 48 b && nat_le b 57
-
-abbrev number_from : ℕ → List ℕ → ℕ
-number_from n [] = n
-number_from n (d ∷ ds) = number_from (n * 10 + (d - 48)) ds
-
-abbrev is_padded : List ℕ → Bool
-is_padded [] = true
-is_padded (d ∷ []) = false
-is_padded (d ∷ e ∷ ds) = d == 48
-
-abbrev within : ℕ → ℕ → ℕ → Option ℕ
-within low high n = if nat_le low n && nat_le n high then Some n else None
-
--- the number from low to high that a word spells, in decimal digits without leading zeros
-abbrev pub number_in : ℕ → ℕ → List ℕ → Option ℕ
-number_in low high w = if is_padded w then None else (if list_all is_digit w then within low high (number_from 0 w) else None)
 
 -- a command of one file
 abbrev pub with_file : List ℕ → List ℕ → Option Request
@@ -57,8 +35,8 @@ grow_for (Some seed) (Some n) = Some (grow seed n)
 
 -- `node FILE TURNS` and `grow SEED N`
 abbrev pub with_two : List ℕ → List ℕ → List ℕ → Option Request
-with_two command a b = if bytes_eq command (codes "node") then (if is_file_name a then node_for a (number_in 1 1000000 b) else None)
-    else (if bytes_eq command (codes "grow") then grow_for (number_in 0 (2 ^ 64 - 1) a) (number_in 1 50000 b) else None)
+with_two command a b = if bytes_eq command (codes "grow") then grow_for (number_in 0 (2 ^ 64 - 1) a) (number_in 1 50000 b)
+    else (if bytes_eq command (codes "node") then (if is_file_name a then node_for a (number_in 1 1000000 b) else None) else None)
 
 -- the command that words name, if they name one
 abbrev pub named_by : List (List ℕ) → Option Request
@@ -71,6 +49,7 @@ abbrev pub built : Option Request → Option Request
 built (Some (replay file)) = Some (replay file)
 built (Some (check file)) = Some (check file)
 built (Some (show file)) = Some (show file)
+built (Some (grow seed n)) = Some (grow seed n)
 built _ = None
 
 -- what words ask for, of the commands that are built

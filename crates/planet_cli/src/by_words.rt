@@ -10,6 +10,7 @@ ghost use Rattle.planet_cli.specs.declared.status.Refusal.{Refusal};
 
 use crate::by_file::on_file;
 use crate::check::Check;
+use crate::grow::on_seed;
 use crate::replay::Replay;
 use crate::show::Show;
 use crate::status::Cause;
@@ -58,5 +59,6 @@ pub fn run<F: Files, K: Sink>(alloc: Global, words: &Texts, files: &mut F, out: 
         Some(Command::Replay(file)) => on_file::<Replay, F, K>(alloc, files, file, out),
         Some(Command::Check(file)) => on_file::<Check, F, K>(alloc, files, file, out),
         Some(Command::Show(file)) => on_file::<Show, F, K>(alloc, files, file, out),
+        Some(Command::Grow(seed, events)) => on_seed(alloc, seed, events, out),
     }
 }

@@ -6,6 +6,7 @@ mod by_file;
 mod by_words;
 mod check;
 mod command;
+mod grow;
 mod memory;
 mod note;
 mod replay;

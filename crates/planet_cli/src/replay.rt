@@ -26,8 +26,8 @@ const SCHEDULE_MAX: usize = 4_194_304;
 /// `replay FILE`: the trace and the ledger of a schedule.
 pub struct Replay;
 
-// The services of each host: the packages but for those that it lacks, and no rows.
-fn services_of(alloc: Global, hosts: &[HostSpec]) -> Result<Items<Registry>, NoMemory>
+/// The services of each host: the packages but for those that it lacks, and no rows.
+pub fn services_of(alloc: Global, hosts: &[HostSpec]) -> Result<Items<Registry>, NoMemory>
     ensures { IfOk result (λ services. map standing services ≡ map opening_services hosts.now) }
 {
     let mut services = Items::new(alloc);

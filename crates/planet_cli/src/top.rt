@@ -1,7 +1,7 @@
-ghost use Rattle.std.specs.Prelude.{◌≡◌, ◌++◌, ◌⊎◌, List, ℕ, IsTrue, Some, None};
+ghost use Rattle.std.specs.Prelude.{◌≡◌, ◌++◌, ◌⊎◌, List, ℕ, IsTrue, Some, None, Ok};
 ghost use Rattle.node_io.specs.Causes.{Rose};
 ghost use Rattle.node_io.specs.Pieces.{AppendsFront};
-ghost use Rattle.planet_cli.specs.Requests.{show, request_of};
+ghost use Rattle.planet_cli.specs.Requests.{show, grow, request_of};
 ghost use Rattle.planet_cli.specs.Memory.{IsOwn};
 ghost use Rattle.planet_cli.specs.Outcomes.{refused, outcome_of, output_of, IsWhole};
 ghost use Rattle.planet_cli.specs.Refusals.{IfRefused, IfNodesFailed, Gives, code_of};
@@ -14,6 +14,9 @@ ghost use Rattle.plan_base.specs.declared.tree.Program.{Program};
 ghost use Rattle.packet_frame.specs.declared.frame.PlainFrame.{PlainFrame};
 ghost use Rattle.frame_text.specs.Frames.{frame_text};
 ghost use Rattle.network_plan.specs.declared.schedule.Schedule.{Schedule};
+ghost use Rattle.program_text.specs.Texts.{program_of};
+ghost use Rattle.grown_network.specs.Summaries.{GrowText};
+ghost use Rattle.grow_run.specs.Pings.{ping_text, ping};
 ghost use Rattle.world_model.specs.World.{opening};
 ghost use Rattle.world_model.specs.Texts.{run_text};
 ghost use Rattle.planet_cli.specs.declared.status.Refusal.{Refusal};
@@ -122,6 +125,15 @@ pub fn planet<F: Files, K: Sink, N: Sink, L: Link, C: Clock, P: Spawner>(
         → IsShowOf words.now (F.files files.old) x
         → result.cause ≡ Cause.Done
         → K.taken out.new ≡ K.taken out.old ++ frame_text x }
+    // And of `grow`, which is never refused: where it is done it wrote the summary of the network of its seed.
+    ensures grown_whole { (seed n : ℕ) → request_of words.now ≡ Some (grow seed n) → IsWhole (outcome_of words.now (F.files files.old)) }
+    ensures grown { IsTrue F.tells
+        → IsTrue K.tells
+        → (seed n : ℕ) (code : Program)
+        → request_of words.now ≡ Some (grow seed n)
+        → program_of ping_text ≡ Ok code
+        → result.cause ≡ Cause.Done
+        → K.taken out.new ≡ K.taken out.old ++ GrowText (ping code) seed n }
     ensures asked { IsTrue F.tells → AsksFor (request_of words.now) (F.asked files.old) (F.asked files.new) }
     ensures made { IsTrue F.tells → F.made files.new ≡ F.made files.old }
     ensures files { IsTrue F.tells → F.files files.new ≡ F.files files.old }

@@ -1,13 +1,10 @@
-ghost use Rattle.std.specs.Prelude.{◌≡◌, true, false, MatchOption};
-ghost use Rattle.std.specs.Str.{bytes_eq, is_utf8};
-ghost use Rattle.planet_cli.specs.Requests.{built, with_file, is_file_name, request_of};
-ghost use Rattle.planet_cli.specs.Commands.{request_for};
+ghost use Rattle.std.specs.Prelude.{◌≡◌, IfSome, MatchOption};
+ghost use Rattle.std.specs.Str.{bytes_eq};
+ghost use Rattle.planet_cli.specs.Requests.{built, with_file, with_two, request_of};
+ghost use Rattle.planet_cli.specs.Commands.{request_for, command_fits};
 
+use line_files::{as_file_name, decimal, number_of};
 use plan_base::Texts;
-use std::str;
-
-/// The longest file name, in bytes.
-const NAME_MAX: usize = 255;
 
 /// What words ask for, of the commands that are built.
 #[derive(Clone, Copy)]
@@ -18,25 +15,8 @@ pub enum Command<'a> {
     Check(&'a str),
     /// `show FILE`
     Show(&'a str),
-}
-
-fn utf8_text(bytes: &[u8]) -> Option<&str>
-    ensures { MatchOption result (is_utf8 bytes.now ≡ false) (λ text. (text.now ≡ bytes.now) × (is_utf8 bytes.now ≡ true)) }
-{
-    match str::from_utf8(bytes) {
-        Ok(text) => Some(text),
-        Err(_) => None,
-    }
-}
-
-// The word as a file name, or `None` where it is none.
-fn file_name(word: &[u8]) -> Option<&str>
-    ensures { MatchOption result (is_file_name word.now ≡ false) (λ name. (name.now ≡ word.now) × (is_file_name word.now ≡ true)) }
-{
-    if word.is_empty() || word.len() > NAME_MAX {
-        return None;
-    }
-    utf8_text(word)
+    /// `grow SEED N`, with N from 1 to 50,000
+    Grow(u64, u32),
 }
 
 fn is(word: &[u8], name: &[u8]) -> bool
@@ -61,12 +41,26 @@ fn command_on<'a>(name: &[u8], file: &'a str) -> Option<Command<'a>>
     None
 }
 
+// The command of that name with two words, or `None` where there is none that is built.
+#[tactic(auto, using(crate::proofs::RequestLemmas::built_not_grow))]
+fn command_with<'a>(name: &[u8], first: &[u8], second: &[u8]) -> Option<Command<'a>>
+    ensures named { MatchOption result (built (with_two name.now first.now second.now) ≡ None) (λ c. built (with_two name.now first.now second.now) ≡ Some (request_for c)) }
+    ensures fits { IfSome result command_fits }
+{
+    if is(name, b"grow") {
+        return Some(Command::Grow(decimal(first)?, number_of(second, 1, 50_000)?));
+    }
+    None
+}
+
 /// What the words ask for, or `None` where they are none of the commands.
 pub fn read_words(words: &Texts) -> Option<Command<'_>>
-    ensures { MatchOption result (request_of words.now ≡ None) (λ c. request_of words.now ≡ Some (request_for c)) }
+    ensures named { MatchOption result (request_of words.now ≡ None) (λ c. request_of words.now ≡ Some (request_for c)) }
+    ensures fits { IfSome result command_fits }
 {
-    if words.len() != 2 {
-        return None;
+    match words.as_slice() {
+        [name, file] => command_on(name.as_slice(), as_file_name(file.as_slice())?),
+        [name, first, second] => command_with(name.as_slice(), first.as_slice(), second.as_slice()),
+        _ => None,
     }
-    command_on(words.at(0).as_slice(), file_name(words.at(1).as_slice())?)
 }

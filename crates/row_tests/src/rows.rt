@@ -325,3 +325,10 @@ program p\n\
 fun f() : int = true\n\
 end program\n\
 events\n";
+
+pub const GROWN_BY_TICKS: &[u8] = b"planet grow 7 8\n\
+hosts 8 links 8 events 8\n\
+lines 24\n\
+visits 0 drops 0 lost 0\n\
+granted 0 hops 0 evals 0 live 0 left 0\n\
+end\n";

@@ -504,6 +504,62 @@ fn file_words_that_name_no_file_are_usage(rt: HostRuntime) -> Result<(), Fail> {
     Ok(())
 }
 
+// Seeds and numbers of events that no network grows by.
+const GROWS_NOT: [(&str, &str); 7] = [
+    ("18446744073709551616", "8"),
+    ("7", "0"),
+    ("7", "50001"),
+    ("07", "8"),
+    ("7", "+8"),
+    ("seven", "8"),
+    ("", "8"),
+];
+
+#[test]
+fn grow_words_out_of_range_are_usage(rt: HostRuntime) -> Result<(), Fail> {
+    for (seed, events) in GROWS_NOT {
+        let (code, written, notes) = refused_words(rt.alloc(), &["grow", seed, events])?;
+        assert_eq!(rt; (code, written), (1, 0), "grow {seed} {events}");
+        assert_eq!(rt; notes.taken().as_slice(), USAGE);
+    }
+    Ok(())
+}
+
+// The code, the output and the notes of a network that grows.
+fn grown(alloc: Global, seed: &str, events: &str) -> Result<(u8, MemSink, MemSink), Fail> {
+    let mut files = files_of(alloc, b"", &[])?;
+    let mut out = sink(alloc)?;
+    let mut notes = sink(alloc)?;
+    let status = call(
+        alloc,
+        &["grow", seed, events],
+        &mut files,
+        &mut out,
+        &mut notes,
+    )?;
+    Ok((status.code, out, notes))
+}
+
+#[test]
+fn hosts_tick_before_a_network_grows(rt: HostRuntime) -> Result<(), Fail> {
+    let (code, out, notes) = grown(rt.alloc(), "7", "8")?;
+    assert_eq!(rt; code, 0);
+    assert_eq!(rt; out.taken().as_slice(), rows::GROWN_BY_TICKS);
+    assert_eq!(rt; notes.taken().len(), 0);
+    Ok(())
+}
+
+#[test]
+fn a_seed_grows_one_network(rt: HostRuntime) -> Result<(), Fail> {
+    let (code, out, notes) = grown(rt.alloc(), "7", "20000")?;
+    assert_eq!(rt; code, 0);
+    assert_eq!(rt; notes.taken().len(), 0);
+    let (code, again, _notes) = grown(rt.alloc(), "7", "20000")?;
+    assert_eq!(rt; code, 0);
+    assert_eq!(rt; out.taken().as_slice(), again.taken().as_slice());
+    Ok(())
+}
+
 #[test]
 fn a_missing_file_is_a_read_fault(rt: HostRuntime) -> Result<(), Fail> {
     let alloc = rt.alloc();

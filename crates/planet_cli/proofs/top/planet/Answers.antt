@@ -1,6 +1,7 @@
 use Rattle.std.proofs.Common.{◌++◌, ap, ◌∙◌}
 use Rattle.planet_cli.proofs.Headline.{done_found, replay_output, replay_ledger, check_output}
 use Rattle.planet_cli.proofs.Showing.{show_output, show_is_whole, show_found}
+use Rattle.planet_cli.proofs.Growing.{grow_is_whole, grow_text}
 use Rattle.planet_cli.proofs.top.planet.Goals as goal
 
 pub returns-clause-replayed : goal.returns-clause-replayed
@@ -32,3 +33,12 @@ returns-clause-shown_only g c =
     λ files_tell file asks done.
     let found = done_found _ _ _ c.settle-cause.ensures.gives done in
     show_found _ _ file asks (c.run-found.ensures.accepted files_tell found)
+
+pub returns-clause-grown_whole : goal.returns-clause-grown_whole
+returns-clause-grown_whole g c = λ seed n asked. grow_is_whole _ _ seed n asked
+
+pub returns-clause-grown : goal.returns-clause-grown
+returns-clause-grown g c =
+    λ files_tell out_tells seed n code asked reads done.
+    let found = done_found _ _ _ c.settle-cause.ensures.gives done in
+    c.run-found.ensures.whole files_tell out_tells found ∙ ap (λ text. g.K.Sink.taken c.args.out.now ++ text) (grow_text _ _ seed n code asked reads)

@@ -1,0 +1,118 @@
+-- A network with one event more, and with all of them.
+use Rattle.std.proofs.Common.{◌≡◌, ℕ, suc, ◌+◌, ◌-◌, ◌<◌, ◌≤◌, List, [], ◌∷◌, ◌++◌, length, Ok, refl, sym, ap, ◌∙◌, append_assoc, subst, arith}
+use Rattle.std.proofs.lemmas.List.{append-nil, length-append}
+use Rattle.std.proofs.lemmas.List.Elements.{All-nil, All-push}
+use Rattle.rand_pcg.specs.Lcg.{Lcg}
+use Rattle.plan_base.specs.declared.ids.Host.{Host}
+use Rattle.plan_base.specs.declared.tree.Chunk.{Chunk}
+use Rattle.plan_base.specs.declared.tree.Program.{Program}
+use Rattle.program_text.specs.Texts.{program_of}
+use Rattle.service_api.specs.Services.{Standing}
+use Rattle.network_plan.specs.declared.event.WorldEvent.{WorldEvent}
+use Rattle.world_model.specs.World.{WorldState, happens, entries, world_after, history_of, opening}
+use Rattle.world_model.specs.Sound.{event_fits, EventsFit}
+use Rattle.run_ledger.specs.Stands.{Stands}
+use Rattle.run_ledger.proofs.Runs.{world_after-push, history_of-push, event_fits_ledger}
+use Rattle.grown_network.specs.Grow.{ring, next_event, grown, Grow}
+use Rattle.grown_network.specs.Summaries.{summary_of, grown_text, GrowText}
+use Rattle.grown_network.proofs.RingRules.{ring_keeps}
+use Rattle.net_world.specs.Stands.{WorldStands}
+use Rattle.net_world.specs.Running.{IsCountable}
+use Rattle.net_world.proofs.RunLaws.{opening_made}
+use Rattle.grow_run.specs.Pings.{ping_text, ping as ping_of, output_with, grow_output}
+use Rattle.grow_run.specs.declared.growth.Growth.{Growth}
+
+-- a network before its first event
+abbrev start : WorldState
+start = opening ring
+
+-- some of n events were made, and the growth stands for what came of them
+pub record Grows {S : Type 0} (stands : S → Standing) (ping : Host → Host → Chunk) (n : ℕ) (first : Lcg) (made : ℕ) (g : Growth S) : Type 0 where
+  pub events : List WorldEvent
+  pub all : events ++ grown ping (n - made) g.words (world_after events (opening ring)) ≡ grown ping n first (opening ring)
+  pub many : length events ≡ made
+  pub fits : EventsFit events
+  pub world : WorldStands stands g.world (world_after events (opening ring))
+  pub number : g.world.made ≡ made
+  pub ledger : Stands (history_of events (opening ring)) g.ledger
+  pub summary : g.summary ≡ summary_of (history_of events (opening ring))
+
+one_more : (ping : Host → Host → Chunk) (m : ℕ) (g after : Lcg) (w : WorldState) (e : WorldEvent) → (e, after) ≡ next_event ping g w → e ∷ grown ping m after (happens w e).world ≡ grown ping (suc m) g w
+unfolding grown
+one_more ping m g after w e is = ap (λ (p : WorldEvent × Lcg). p.0 ∷ grown ping m p.1 (happens w p.0).world) is
+
+none_left : (ping : Host → Host → Chunk) (m : ℕ) (g : Lcg) (w : WorldState) → m ≡ 0 → grown ping m g w ≡ []
+unfolding grown
+none_left ping m g w is = ap (λ k. grown ping k g w) is
+
+nothing_made : [] ≡ history_of [] start
+unfolding history_of
+nothing_made = refl
+
+still_start : start ≡ world_after [] start
+unfolding world_after
+still_start = refl
+
+module _ {S : Type 0} (stands : S → Standing) (ping : Host → Host → Chunk) (n : ℕ) (first : Lcg) where
+  pub grows_none : (g : Growth S) → g.words ≡ first → WorldStands stands g.world (opening ring) → Stands [] g.ledger → g.summary ≡ summary_of [] → Grows stands ping n first 0 g
+  grows_none g words world ledger summary = let all_left : n - 0 ≡ n = omega arith in let back = sym still_start in record {
+    events = [];
+    all = ap (λ k. grown ping k g.words (world_after [] start)) all_left ∙ (λ i. grown ping n (words i) (back i));
+    many = refl;
+    fits = All-nil event_fits;
+    world = subst (WorldStands stands g.world) still_start world;
+    number = world.made ∙ opening_made ring;
+    ledger = subst (λ h. Stands h g.ledger) nothing_made ledger;
+    summary = summary ∙ ap summary_of nothing_made;
+  }
+
+  -- the lines of the next event can be counted
+  pub grows_countable : (made : ℕ) (g : Growth S) (e : WorldEvent) → Grows stands ping n first made g → made < 50000 → event_fits e → IsCountable stands g.world e g.ledger
+  grows_countable made g e grows few fits = record {
+    state = world_after grows.events (opening ring);
+    is = grows.world;
+    fits = event_fits_ledger ring grows.events e g.ledger ring_keeps.hosts grows.fits fits (subst (λ k. k < 50000) (sym grows.many) few) grows.ledger;
+  }
+
+  pub grows_next : (made : ℕ) (g new : Growth S) (after : Lcg) (e : WorldEvent) (grows : Grows stands ping n first made g) → made < n
+      → (e, after) ≡ next_event ping g.words (world_after grows.events (opening ring)) → new.words ≡ after → event_fits e
+      → WorldStands stands new.world (happens (world_after grows.events (opening ring)) e).world
+      → new.world.made ≡ g.world.made + 1
+      → Stands (history_of grows.events (opening ring) ++ entries (world_after grows.events (opening ring)) e) new.ledger
+      → new.summary ≡ summary_of (history_of grows.events (opening ring) ++ entries (world_after grows.events (opening ring)) e)
+      → Grows stands ping n first (made + 1) new
+  grows_next made g new after e grows within drawn words fits world number ledger summary =
+      let w = world_after grows.events (opening ring) in
+      let left : suc (n - (made + 1)) ≡ n - made = omega (arith, within) in
+      let pushed = world_after-push grows.events e (opening ring) in
+      let history = history_of-push grows.events e (opening ring) in
+      record {
+        events = grows.events ++ e ∷ [];
+        all = ap (λ x. (grows.events ++ e ∷ []) ++ grown ping (n - (made + 1)) new.words x) pushed
+            ∙ append_assoc grows.events (e ∷ []) (grown ping (n - (made + 1)) new.words (happens w e).world)
+            ∙ ap (λ x. grows.events ++ x) (one_more ping (n - (made + 1)) g.words new.words w e (ap (λ x. (e, x)) words ∙ drawn) ∙ ap (λ k. grown ping k g.words w) left)
+            ∙ grows.all;
+        many = omega (arith, length-append grows.events (e ∷ []), grows.many);
+        fits = All-push event_fits grows.events e grows.fits fits;
+        world = subst (WorldStands stands new.world) (sym pushed) world;
+        number = number ∙ ap (λ k. k + 1) grows.number;
+        ledger = subst (λ h. Stands h new.ledger) (sym history) ledger;
+        summary = summary ∙ ap summary_of (sym history);
+      }
+
+  all_made : (made : ℕ) (g : Growth S) (grows : Grows stands ping n first made g) → n ≤ made → grows.events ≡ grown ping n first (opening ring)
+  all_made made g grows done =
+      let none : n - made ≡ 0 = omega (arith, done) in
+      sym (append-nil grows.events) ∙ ap (λ x. grows.events ++ x) (sym (none_left ping (n - made) g.words (world_after grows.events (opening ring)) none)) ∙ grows.all
+
+  pub grown_ledger : (made : ℕ) (g : Growth S) → Grows stands ping n first made g → n ≤ made → Stands (history_of (grown ping n first (opening ring)) (opening ring)) g.ledger
+  grown_ledger made g grows done = subst (λ es. Stands (history_of es (opening ring)) g.ledger) (all_made made g grows done) grows.ledger
+
+  pub grown_summary : (made : ℕ) (g : Growth S) → Grows stands ping n first made g → n ≤ made → g.summary ≡ summary_of (history_of (grown ping n first (opening ring)) (opening ring))
+  grown_summary made g grows done = grows.summary ∙ ap (λ es. summary_of (history_of es (opening ring))) (all_made made g grows done)
+
+-- what is written of a network whose pings have the program that was read
+pub output_is : (seed n : ℕ) (code : Program) → program_of ping_text ≡ Ok code
+    → grown_text seed n (history_of (Grow (ping_of code) seed n) (opening ring)) (world_after (Grow (ping_of code) seed n) (opening ring)) ≡ grow_output seed n
+unfolding grow_output GrowText
+output_is seed n code reads = ap (output_with seed n) (sym reads)

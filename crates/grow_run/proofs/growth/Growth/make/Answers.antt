@@ -1,0 +1,27 @@
+use Rattle.std.proofs.Common.{◌∙◌, ◌+◌, ◌++◌, refl, sym, ap, subst}
+use Rattle.run_ledger.specs.Counting.{LinesFit}
+use Rattle.run_ledger.specs.Stands.{Stands}
+use Rattle.grown_network.specs.Summaries.{summary_of}
+use Rattle.net_world.proofs.RunLaws.{entries_are}
+use Rattle.grow_run.proofs.growth.Growth.make.Goals as goal
+
+pub count_lines-requires : goal.count_lines-requires
+count_lines-requires g c =
+    let counts = c.requires.counts in
+    let lines = (c.in_ok-lines.ensures.ok counts.state counts.is).list in
+    record { fits = subst (LinesFit c.args.self.now.ledger) (sym (c.as_slice.ensures ∙ lines)) counts.fits }
+
+pub returns-clause-world : goal.returns-clause-world
+returns-clause-world g c = λ w h. (c.in_ok-lines.ensures.ok w h).world
+
+pub returns-clause-ledger : goal.returns-clause-ledger
+returns-clause-ledger g c = λ w old h s.
+    let lines = (c.in_ok-lines.ensures.ok w h).list in
+    let own = entries_are w c.args.event.now _ (c.args.self.now.world.made + 1) c.args.self.now.world.made refl h.made (c.as_slice.ensures ∙ lines) in
+    subst (λ x. Stands (old ++ x) c.count_lines.new.ledger) own (c.in_ok-count_lines.ensures old (c.args.self.now.world.made + 1) s)
+
+pub returns-clause-summary : goal.returns-clause-summary
+returns-clause-summary g c = λ w old h s.
+    let lines = (c.in_ok-lines.ensures.ok w h).list in
+    let own = entries_are w c.args.event.now _ (c.args.self.now.world.made + 1) c.args.self.now.world.made refl h.made (c.as_slice-2.ensures ∙ lines) in
+    c.count.ensures old (c.args.self.now.world.made + 1) s ∙ ap (λ x. summary_of (old ++ x)) own

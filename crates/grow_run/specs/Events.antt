@@ -1,0 +1,19 @@
+-- Which choices are events, and what is drawn for the next event.
+use Rattle.std.specs.Prelude.{◌≤◌}
+use Rattle.rand_pcg.specs.Lcg.{Lcg}
+use Rattle.plan_base.specs.declared.ids.Host.{Host}
+use Rattle.plan_base.specs.declared.tree.Chunk.{Chunk}
+use Rattle.network_plan.specs.declared.event.WorldEvent.{WorldEvent}
+use Rattle.event_draws.specs.declared.choice.Choice.{Choice}
+use Rattle.event_draws.specs.declared.choice.Choice.TheVariants.{Send}
+use Rattle.world_model.specs.World.{WorldState}
+use Rattle.grown_network.specs.Grow.{event_of, drawn}
+
+-- a device is at most 8
+abbrev pub choice_fits : Choice → Type 0
+choice_fits (Send h d) = d.0 ≤ 8
+choice_fits _ = Unit {0}
+
+-- the event that is drawn for a network, and the generator after it
+abbrev pub drawn_event : (Host → Host → Chunk) → Lcg → WorldState → WorldEvent × Lcg
+drawn_event ping g w = (event_of ping (drawn g w).0, (drawn g w).1)

@@ -1,0 +1,72 @@
+ghost use Rattle.std.specs.Prelude.{◌≡◌, ◌≤◌, IfOk};
+ghost use Rattle.world_model.specs.World.{WorldState};
+ghost use Rattle.world_model.specs.Sound.{event_fits};
+ghost use Rattle.grown_network.specs.Grow as grow;
+ghost use Rattle.net_world.specs.Stands.{WorldStands};
+ghost use Rattle.grow_run.specs.Pings as spec;
+ghost use Rattle.grow_run.specs.Events.{choice_fits, drawn_event};
+
+use crate::pings::ping;
+use event_draws::{Choice, choose};
+use net_world::World;
+use network_plan::WorldEvent;
+use plan_base::{Host, NoMemory};
+use plan_types::Checked;
+use rand_pcg::Lcg64Xsh32;
+use service_api::Services;
+use std::alloc::Global;
+
+/// The bound of an injection.
+const BOUND: u32 = 20;
+
+/// The hosts of the network. Each of them ticks once before anything is drawn.
+const HOSTS: u32 = 8;
+
+/// The event that was drawn.
+fn event_of(alloc: Global, code: &Checked, choice: Choice) -> Result<WorldEvent, NoMemory>
+    requires { choice_fits choice }
+    ensures event { IfOk result (λ e. e ≡ grow.event_of (spec.ping code.now) choice) }
+    ensures fits { IfOk result event_fits }
+{
+    match choice {
+        Choice::Inject(from, to) => {
+            let chunk = ping(alloc, code, from, to)?;
+            Ok(WorldEvent::Inject(from, chunk, BOUND))
+        }
+        Choice::Send(host, dev) => Ok(WorldEvent::Send(host, dev)),
+        Choice::Deliver(number) => Ok(WorldEvent::Deliver(number)),
+        Choice::Lose(number) => Ok(WorldEvent::Lose(number)),
+        Choice::Tick(host) => Ok(WorldEvent::Tick(host)),
+    }
+}
+
+/// The event that is drawn next.
+fn drawn_event<S: Services>(
+    alloc: Global,
+    code: &Checked,
+    world: &World<S>,
+    words: &mut Lcg64Xsh32,
+) -> Result<WorldEvent, NoMemory>
+    ensures event { (w : WorldState) → WorldStands S.stands world.now w → IfOk result (λ e. (e, words.new) ≡ drawn_event (spec.ping code.now) words.old w) }
+    ensures fits { IfOk result event_fits }
+{
+    let choice = choose(words, world.lowest(), world.highest());
+    event_of(alloc, code, choice)
+}
+
+/// The next event of a network: first each host ticks once, in order, and then what is drawn happens.
+pub fn next_event<S: Services>(
+    alloc: Global,
+    code: &Checked,
+    world: &World<S>,
+    words: &mut Lcg64Xsh32,
+) -> Result<WorldEvent, NoMemory>
+    ensures event { (w : WorldState) → WorldStands S.stands world.now w → IfOk result (λ e. (e, words.new) ≡ grow.next_event (spec.ping code.now) words.old w) }
+    ensures fits { IfOk result event_fits }
+{
+    let made = world.made();
+    if made < HOSTS {
+        return Ok(WorldEvent::Tick(Host(made + 1)));
+    }
+    drawn_event(alloc, code, world, words)
+}
