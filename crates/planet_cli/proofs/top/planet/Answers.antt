@@ -35,10 +35,10 @@ returns-clause-shown_only g c =
     show_found _ _ file asks (c.run-found.ensures.accepted files_tell found)
 
 pub returns-clause-grown_whole : goal.returns-clause-grown_whole
-returns-clause-grown_whole g c = λ seed n asked. grow_is_whole _ _ seed n asked
+returns-clause-grown_whole g c = λ seed n asked. grow_is_whole c.args.words.now (g.F.Files.files c.args.files.now) seed n asked
 
 pub returns-clause-grown : goal.returns-clause-grown
 returns-clause-grown g c =
     λ files_tell out_tells seed n code asked reads done.
     let found = done_found _ _ _ c.settle-cause.ensures.gives done in
-    c.run-found.ensures.whole files_tell out_tells found ∙ ap (λ text. g.K.Sink.taken c.args.out.now ++ text) (grow_text _ _ seed n code asked reads)
+    c.run-found.ensures.whole files_tell out_tells found ∙ ap (λ text. g.K.Sink.taken c.args.out.now ++ text) (grow_text c.args.words.now (g.F.Files.files c.args.files.now) seed n code asked reads)
