@@ -1,0 +1,67 @@
+-- The texts of a step.
+use Rattle.std.proofs.Common.{◌≡◌, ℕ, ◌+◌, ◌<◌, Bool, true, false, List, [], ◌∷◌, ◌++◌, length, map, take, get_or, Option, Some, None, Result, Ok, Err, IfOk, IfSome, refl, sym, ◌∙◌, ap, subst, arith, append-nil, append_assoc}
+use Rattle.std.specs.List.{flat_map}
+use Rattle.std.proofs.lemmas.Grind.{take_at_read}
+use Rattle.std.proofs.lemmas.Bool.{false≢true}
+use Rattle.plan_base.specs.declared.ids.Host.{Host}
+use Rattle.network_plan.specs.declared.event.Event.{Event}
+use Rattle.network_plan.specs.declared.event.LogEvent.TheVariants as entry
+use Rattle.service_api.specs.Services.{Standing}
+use Rattle.node_files.specs.LogTexts.{entry_text}
+use Rattle.node_model.specs.declared.acts.Act.{Act}
+use Rattle.node_model.specs.declared.acts.Act.TheVariants.{NoMemory}
+use Rattle.node_model.specs.declared.acts.Acts.{Acts}
+use Rattle.node_model.specs.State.{NodeState}
+use Rattle.node_model.specs.Node.{node_step}
+use Rattle.node_model.specs.Texts.{act_line}
+use Rattle.node_core.specs.declared.node.Node.{Node}
+use Rattle.node_core.specs.Stands.{NodeStands, IsStep}
+use Rattle.serve_model.specs.Runs.{acts_of, node_by, entries_at}
+use Rattle.serve_model.specs.Texts.{trace_line, lines_text}
+use Rattle.serve_model.specs.Follow.{entry_of}
+use Rattle.node_serve.specs.declared.steps.Stepped.{Stepped}
+use Rattle.node_serve.specs.declared.steps.Stepped.TheVariants.{Lost, Took}
+use Rattle.node_serve.specs.declared.steps.StepTexts.{StepTexts}
+use Rattle.node_serve.specs.Steps.{was_lost, frame_of, Written}
+
+-- ---- lines
+
+pub lines_none : (here : Host) (n : ℕ) → lines_text here (entries_at n []) ≡ []
+unfolding lines_text
+lines_none here n = refl
+
+pub lines_more : (here : Host) (n : ℕ) (acts : List Act) (a : Act) → lines_text here (entries_at n (acts ++ a ∷ [])) ≡ lines_text here (entries_at n acts) ++ act_line n here a
+unfolding lines_text
+lines_more here n [] a = append-nil (act_line n here a)
+lines_more here n (b ∷ acts) a = ap (λ l. act_line n here b ++ l) (lines_more here n acts a) ∙ sym (append_assoc (act_line n here b) (lines_text here (entries_at n acts)) (act_line n here a))
+
+pub lines_step : (here : Host) (n : ℕ) (acts : List Act) (i : ℕ) (d : Act) → i < length acts → lines_text here (entries_at n (take (i + 1) acts)) ≡ lines_text here (entries_at n (take i acts)) ++ act_line n here (get_or acts i d)
+lines_step here n acts i d h = ap (λ l. lines_text here (entries_at n l)) (take_at_read acts i d h).1 ∙ lines_more here n (take i acts) (get_or acts i d)
+
+pub lines_one : (here : Host) (n : ℕ) (a : Act) → lines_text here (entries_at n (a ∷ [])) ≡ [] ++ act_line n here a
+lines_one here n a = lines_more here n [] a ∙ ap (λ l. l ++ act_line n here a) (lines_none here n)
+
+-- ---- steps
+
+pub written_lost : {S : Type 0} (stands : S → Standing) (here : Host) (n : ℕ) (s : NodeState) (e : Event) (texts : StepTexts) (new : Node S) → NodeStands stands new s
+    → texts.line ≡ entry_text entry.Lost → texts.lines ≡ lines_text here (entries_at n (NoMemory ∷ [])) → texts.made ≡ Lost → Written stands here n s e texts new
+written_lost stands here n s e texts new h line lines made = record {
+  line = line ∙ ap (λ m. entry_text (entry_of (was_lost m) e)) (sym made);
+  lines = lines ∙ ap (λ m. lines_text here (entries_at n (acts_of s (entry_of (was_lost m) e)))) (sym made);
+  node = subst (λ m. NodeStands stands new (node_by s (entry_of (was_lost m) e))) (sym made) h;
+  frame = λ f. absurd (false≢true (sym f ∙ ap was_lost made));
+}
+
+pub written_took : {S : Type 0} (stands : S → Standing) (here : Host) (n : ℕ) (s : NodeState) (x e : Event) (acts : Acts) (texts : StepTexts) (new : Node S) → x ≡ e → IsStep stands (node_step s x) acts new
+    → texts.line ≡ entry_text (entry.Step x) → texts.lines ≡ lines_text here (entries_at n acts.list) → texts.made ≡ Took acts.frame → Written stands here n s e texts new
+written_took stands here n s x e acts texts new same h line lines made = record {
+  line = line ∙ ap (λ y. entry_text (entry.Step y)) same ∙ ap (λ m. entry_text (entry_of (was_lost m) e)) (sym made);
+  lines = lines ∙ ap (λ l. lines_text here (entries_at n l)) (h.list ∙ ap (λ y. (node_step s y).acts) same) ∙ ap (λ m. lines_text here (entries_at n (acts_of s (entry_of (was_lost m) e)))) (sym made);
+  node = subst (λ m. NodeStands stands new (node_by s (entry_of (was_lost m) e))) (sym made) (subst (λ y. NodeStands stands new (node_step s y).node) same h.node);
+  frame = λ f. ap frame_of made ∙ h.frame ∙ ap (λ y. (node_step s y).frame) same;
+}
+
+-- three facts of a result
+pub three : {T E : Type 0} (r : Result T E) (P Q R W : T → Type 0) → IfOk r P → IfOk r Q → IfOk r R → ((t : T) → P t → Q t → R t → W t) → IfOk r W
+three (Ok t) P Q R W p q w f = f t p q w
+three (Err e) P Q R W p q w f = tt

@@ -1,0 +1,91 @@
+ghost use Rattle.std.specs.Prelude.{◌≡◌, ◌≤◌, ◌<◌, ◌⊎◌, ◌++◌, ◌∷◌, [], ℕ, List, Option, Some, IsTrue, IsErrOf, IfSome, IfErr, IfOk, MatchResult, OnOk, OnErr, length, drop, get_or, slice_get, is_some};
+ghost use Rattle.network_plan.specs.declared.event.Event.{Event as EventOf};
+ghost use Rattle.network_plan.specs.NodeRules.{KeepsNodeEvent, KeepsServe};
+ghost use Rattle.node_io.specs.Causes.{Rose};
+ghost use Rattle.node_io.specs.Links.{Heard, has_peer, next_heard};
+ghost use Rattle.serve_model.specs.Runs as spec;
+ghost use Rattle.node_serve.specs.Shown.{Seen, Shows, Leaves, Stopped};
+ghost use Rattle.node_serve.specs.Standing.{StandsFor, Makes, seen_of};
+
+use crate::fault::ServeFault;
+use crate::server::Server;
+use crate::steps::Stepped;
+use network_plan::{Event, ServeConfig};
+use node_io::{Files, Sink};
+use plan_base::Dev;
+use service_api::Services;
+use spelled_frame::SpelledFrame;
+use std::alloc::Global;
+
+impl<S: Services> Server<S> {
+    /// A frame to the node itself arrives.
+    fn come_back<F: Files, K: Sink>(
+        &mut self,
+        alloc: Global,
+        cfg: &ServeConfig,
+        files: &mut F,
+        out: &mut K,
+        frame: Option<SpelledFrame>,
+    ) -> Result<(), ServeFault>
+        requires writing { IsTrue (F.writing files.old) }
+        ensures run { IsTrue F.tells → IsTrue K.tells → (sent : List Heard) (base : Seen) (r : spec.Running) → StandsFor S.stands self.old r → Shows cfg.now base (seen_of (F.files files.old) (F.target files.old) (K.taken out.old) sent) r → Leaves (StandsFor S.stands self.new) cfg.now base (seen_of (F.files files.new) (F.target files.new) (K.taken out.new) sent) r (spec.come_back frame) result }
+        ensures write { IsErrOf result ServeFault.WriteFault → Rose (F.write_faults files.old) (F.write_faults files.new) ⊎ Rose (K.faults out.old) (K.faults out.new) }
+        ensures no_link { IsErrOf result ServeFault.LinkFault → ⊥ }
+        ensures later { (F.write_faults files.old ≤ F.write_faults files.new) × (K.faults out.old ≤ K.faults out.new) }
+        ensures writing { IsTrue (F.writing files.new) }
+        ensures kept { IsTrue F.tells → (F.asked files.new ≡ F.asked files.old) × (F.made files.new ≡ F.made files.old) }
+        ensures same { (F.read_faults files.new ≡ F.read_faults files.old) × (F.reading files.new ≡ F.reading files.old) }
+    {
+        let Some(frame) = frame else {
+            return Ok(());
+        };
+        let event = Some(Event::Frame(Dev(0), frame.into_bytes()));
+        self.step(alloc, cfg, files, out, &event)
+    }
+
+    /// The first frame to the node itself is taken, and arrives. A refused taking ends this.
+    fn take_back<F: Files, K: Sink>(
+        &mut self,
+        alloc: Global,
+        cfg: &ServeConfig,
+        files: &mut F,
+        out: &mut K,
+    ) -> Result<(), ServeFault>
+        requires writing { IsTrue (F.writing files.old) }
+        ensures run { IsTrue F.tells → IsTrue K.tells → (sent : List Heard) (base : Seen) (r : spec.Running) → StandsFor S.stands self.old r → Shows cfg.now base (seen_of (F.files files.old) (F.target files.old) (K.taken out.old) sent) r → Leaves (StandsFor S.stands self.new) cfg.now base (seen_of (F.files files.new) (F.target files.new) (K.taken out.new) sent) r (spec.take_back) result }
+        ensures write { IsErrOf result ServeFault.WriteFault → Rose (F.write_faults files.old) (F.write_faults files.new) ⊎ Rose (K.faults out.old) (K.faults out.new) }
+        ensures no_link { IsErrOf result ServeFault.LinkFault → ⊥ }
+        ensures later { (F.write_faults files.old ≤ F.write_faults files.new) × (K.faults out.old ≤ K.faults out.new) }
+        ensures writing { IsTrue (F.writing files.new) }
+        ensures kept { IsTrue F.tells → (F.asked files.new ≡ F.asked files.old) × (F.made files.new ≡ F.made files.old) }
+        ensures same { (F.read_faults files.new ≡ F.read_faults files.old) × (F.reading files.new ≡ F.reading files.old) }
+    {
+        match self.make(alloc, cfg, files, out, &Some(Event::Take(Dev(0))))? {
+            Stepped::Lost => Ok(()),
+            Stepped::Took(frame) => self.come_back(alloc, cfg, files, out, frame),
+        }
+    }
+
+    /// A frame to the node itself arrives, where one is queued.
+    pub(crate) fn loop_back<F: Files, K: Sink>(
+        &mut self,
+        alloc: Global,
+        cfg: &ServeConfig,
+        files: &mut F,
+        out: &mut K,
+    ) -> Result<(), ServeFault>
+        requires writing { IsTrue (F.writing files.old) }
+        ensures run { IsTrue F.tells → IsTrue K.tells → (sent : List Heard) (base : Seen) (r : spec.Running) → StandsFor S.stands self.old r → Shows cfg.now base (seen_of (F.files files.old) (F.target files.old) (K.taken out.old) sent) r → Leaves (StandsFor S.stands self.new) cfg.now base (seen_of (F.files files.new) (F.target files.new) (K.taken out.new) sent) r (spec.loop_back) result }
+        ensures write { IsErrOf result ServeFault.WriteFault → Rose (F.write_faults files.old) (F.write_faults files.new) ⊎ Rose (K.faults out.old) (K.faults out.new) }
+        ensures no_link { IsErrOf result ServeFault.LinkFault → ⊥ }
+        ensures later { (F.write_faults files.old ≤ F.write_faults files.new) × (K.faults out.old ≤ K.faults out.new) }
+        ensures writing { IsTrue (F.writing files.new) }
+        ensures kept { IsTrue F.tells → (F.asked files.new ≡ F.asked files.old) × (F.made files.new ≡ F.made files.old) }
+        ensures same { (F.read_faults files.new ≡ F.read_faults files.old) × (F.reading files.new ≡ F.reading files.old) }
+    {
+        if self.node.queued(Dev(0)) == 0 {
+            return Ok(());
+        }
+        self.take_back(alloc, cfg, files, out)
+    }
+}

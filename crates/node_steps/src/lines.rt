@@ -1,0 +1,44 @@
+ghost use Rattle.std.specs.Prelude.{◌≡◌, ◌++◌, ◌∷◌, [], IfOk, OnOk};
+ghost use Rattle.node_model.specs.declared.acts.Act.TheVariants as act;
+ghost use Rattle.serve_model.specs.Runs.{entries_at};
+ghost use Rattle.serve_model.specs.Texts.{lines_text};
+
+use node_core::put_act;
+use node_model::{Act, ActList};
+use plan_base::{Bytes, Host, NoMemory};
+use std::alloc::Global;
+
+/// Appends the lines of acts.
+fn put_acts(
+    alloc: Global,
+    number: u64,
+    here: Host,
+    acts: ActList,
+    out: &mut Bytes,
+) -> Result<(), NoMemory>
+    ensures { OnOk result (out.new ≡ out.old ++ lines_text here (entries_at number acts)) }
+{
+    for act in acts.into_vec() {
+        put_act(alloc, number, here, &act, out)?;
+    }
+    Ok(())
+}
+
+/// The lines of the acts of a step with this number.
+pub fn step_lines(alloc: Global, number: u64, here: Host, acts: ActList) -> Result<Bytes, NoMemory>
+    ensures { IfOk result (λ text. text ≡ lines_text here (entries_at number acts)) }
+{
+    let mut text = Bytes::new(alloc);
+    put_acts(alloc, number, here, acts, &mut text)?;
+    Ok(text)
+}
+
+/// The line of a step with this number that found no memory.
+#[tactic(auto, using(crate::proofs::LineLaws::lines_one))]
+pub fn lost_lines(alloc: Global, number: u64, here: Host) -> Result<Bytes, NoMemory>
+    ensures { IfOk result (λ text. text ≡ lines_text here (entries_at number (act.NoMemory ∷ []))) }
+{
+    let mut text = Bytes::new(alloc);
+    put_act(alloc, number, here, &Act::NoMemory, &mut text)?;
+    Ok(text)
+}
