@@ -1,7 +1,10 @@
 -- What stands outside while a run goes on.
 use Rattle.std.specs.Prelude.{◌≡◌, ℕ, ◌≤◌, ◌⊎◌, List, ◌++◌, take, drop, Result, MatchResult}
+use Rattle.std.specs.List.{All}
 use Rattle.network_plan.specs.declared.serve.ServeConfig.{ServeConfig}
-use Rattle.node_files.specs.LogTexts.{log_text}
+use Rattle.network_plan.specs.declared.event.LogEvent.{LogEvent}
+use Rattle.network_plan.specs.NodeRules.{KeepsEntry}
+use Rattle.node_files.specs.LogTexts.{log_text, IsSpellable}
 use Rattle.node_io.specs.FileMaps.{FileMap, ChangesOnly}
 use Rattle.node_io.specs.Pieces.{AppendsFront}
 use Rattle.node_io.specs.Links.{Heard}
@@ -23,12 +26,18 @@ run_log cfg r = log_text (record { node = cfg.node; missing = cfg.missing; event
 abbrev pub run_trace : ServeConfig → Running → List ℕ
 run_trace cfg r = begun_trace cfg.node.here r.entries
 
+-- an entry keeps the limits of logs, and its line can be read again
+pub record IsReadable (e : LogEvent) : Type 0 where
+  pub keeps : KeepsEntry e
+  pub spells : IsSpellable e
+
 -- since the beginning, the log is that of the run so far, the trace was written, and the frames were sent
 pub record Shows (cfg : ServeConfig) (base seen : Seen) (r : Running) : Type 0 where
   pub log : ChangesOnly base.files seen.files cfg.log (run_log cfg r)
   pub target : seen.target ≡ cfg.log
   pub out : seen.taken ≡ base.taken ++ run_trace cfg r
   pub sent : seen.sent ≡ base.sent ++ r.sent
+  pub readable : All IsReadable r.events
 
 -- the log and what was written are fronts of those of the run so far, and its frames were sent
 pub record Fronts (cfg : ServeConfig) (base seen : Seen) (r : Running) : Type 0 where

@@ -17,6 +17,7 @@ use Rattle.node_core.specs.Stands.{NodeStands}
 use Rattle.serve_model.specs.Runs.{acts_of, node_by, entries_at}
 use Rattle.serve_model.specs.Follow.{entry_of}
 use Rattle.serve_model.specs.Texts.{lines_text}
+use Rattle.node_serve.specs.Shown.{IsReadable}
 use Rattle.node_serve.specs.declared.steps.Stepped.{Stepped}
 use Rattle.node_serve.specs.declared.steps.Stepped.TheVariants.{Lost, Took}
 use Rattle.node_serve.specs.declared.steps.StepTexts.{StepTexts}
@@ -37,6 +38,7 @@ pub record Written {S : Type 0} (stands : S → Standing) (here : Host) (number 
   pub lines : texts.lines ≡ lines_text here (entries_at number (acts_of s (entry_of (was_lost texts.made) e)))
   pub node : NodeStands stands new (node_by s (entry_of (was_lost texts.made) e))
   pub frame : was_lost texts.made ≡ false → frame_of texts.made ≡ (node_step s e).frame
+  pub readable : IsReadable (entry_of (was_lost texts.made) e)
 
 -- a line of the log and its lines of the trace were written, or fronts of them, the log first
 pub data WrittenFront (old new : FileMap) (target line taken grown lines : List ℕ) : Type 0 where

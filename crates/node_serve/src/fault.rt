@@ -4,12 +4,12 @@ use node_io::Failed;
 use plan_base::NoMemory;
 use std::alloc::AllocError;
 
-/// Why a node stopped serving.
+/// Why a node stopped serving before the last turn was made and written.
 #[derive(Debug, Clone, Copy, PartialEq, Eq)]
 pub enum ServeFault {
-    /// The link failed.
+    /// The link failed; its count of faults rose.
     LinkFault,
-    /// The log or the output could not be written.
+    /// The log or the output could not be written; a count of faults rose.
     WriteFault,
     /// Memory was refused at the opening or in writing a line.
     NoMemory,

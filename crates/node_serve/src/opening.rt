@@ -1,23 +1,22 @@
-ghost use Rattle.std.specs.Prelude.{◌≡◌, ◌∷◌, ℕ, List, IfOk, length, map};
+ghost use Rattle.std.specs.Prelude.{◌≡◌, ◌++◌, ◌≤◌, ◌⊎◌, ℕ, List, IfOk, IsErrOf, IsTrue, OnOk, codes, length};
 ghost use Rattle.network_plan.specs.NodeRules.{KeepsServe};
 ghost use Rattle.node_files.specs.LogTexts.{head_text};
-ghost use Rattle.node_model.specs.State.{new_node};
-ghost use Rattle.node_core.specs.Turns.{IsResting};
-ghost use Rattle.serve_model.specs.Runs.{opened, peers_of};
-ghost use Rattle.node_serve.specs.Standing.{StandsFor};
+ghost use Rattle.node_io.specs.Causes.{Rose};
+ghost use Rattle.node_io.specs.FileMaps.{ChangesOnly, SavesFront, Names};
+ghost use Rattle.node_io.specs.Links.{Binds};
+ghost use Rattle.node_io.specs.Pieces.{AppendsFront};
+ghost use Rattle.serve_model.specs.Runs.{peers_of};
+ghost use Rattle.node_serve.specs.Served.{Opens, outside_of, own_bind};
 
-use crate::server::Server;
-use network_plan::{NodeConfig, ServeConfig};
-use node_core::Node;
+use crate::fault::ServeFault;
+use network_plan::ServeConfig;
 use node_files::put_log_head;
-use node_io::{Peer, Peers, RECEIVED_MAX};
+use node_io::{Files, Link, Peer, Peers, RECEIVED_MAX, Sink, put_all, put_file};
 use plan_base::{Bytes, Dev, NoMemory};
-use plan_items::Items;
-use service_api::Services;
 use std::alloc::Global;
 
 /// The peers of a node: its owner on device 0, and its neighbours.
-pub(crate) fn peers_of(alloc: Global, cfg: &ServeConfig) -> Result<Peers, NoMemory>
+fn peers_of(alloc: Global, cfg: &ServeConfig) -> Result<Peers, NoMemory>
     ensures { IfOk result (λ peers. peers ≡ peers_of cfg.now) }
 {
     let mut peers = Peers::new(alloc);
@@ -34,29 +33,6 @@ pub(crate) fn peers_of(alloc: Global, cfg: &ServeConfig) -> Result<Peers, NoMemo
     Ok(peers)
 }
 
-/// How a node begins, once more.
-fn copy_of(alloc: Global, node: &NodeConfig) -> Result<NodeConfig, NoMemory>
-    ensures { IfOk result (λ copy. copy ≡ node.now) }
-{
-    let hosts = Items::from_slice(alloc, node.hosts.as_slice())?;
-    let neighbours = Items::from_slice(alloc, node.neighbours.as_slice())?;
-    Ok(NodeConfig {
-        here: node.here,
-        hosts,
-        neighbours,
-        serial: node.serial,
-    })
-}
-
-/// The log's lines up to `events`.
-pub(crate) fn log_head(alloc: Global, cfg: &ServeConfig) -> Result<Bytes, NoMemory>
-    ensures { IfOk result (λ text. text ≡ head_text cfg.now.node cfg.now.missing) }
-{
-    let mut text = Bytes::new(alloc);
-    put_log_head(alloc, &cfg.node, cfg.missing.as_slice(), &mut text)?;
-    Ok(text)
-}
-
 /// Room for what the link hears.
 pub(crate) fn room(alloc: Global) -> Result<Vec<u8>, NoMemory>
     ensures { IfOk result (λ room. length room.items ≡ 16513) }
@@ -64,24 +40,84 @@ pub(crate) fn room(alloc: Global) -> Result<Vec<u8>, NoMemory>
     Ok(vec![in alloc; 0; RECEIVED_MAX]?)
 }
 
-impl<S: Services + Drop> Server<S> {
-    /// A server of a new node. Conditions: the configuration keeps its rules, and no `begin` of the services is open.
-    pub(crate) fn open(
-        alloc: Global,
-        cfg: &ServeConfig,
-        services: S,
-    ) -> Result<Server<S>, NoMemory>
-        requires keeps { KeepsServe cfg.now }
-        requires services { IsResting (S.stands services) }
-        ensures { IfOk result (λ server. StandsFor S.stands server (opened (new_node cfg.now.node (S.stands services)))) }
-    {
-        let config = copy_of(alloc, &cfg.node)?;
-        let node = Node::new(alloc, config, services)?;
-        Ok(Server {
-            node,
-            last: 0,
-            held: false,
-            steps: 0,
-        })
+/// Binds the link at the node's own port, with its peers.
+fn bind<L: Link>(alloc: Global, cfg: &ServeConfig, link: &mut L) -> Result<(), ServeFault>
+    ensures bound { OnOk result (L.bound link.new ≡ peers_of cfg.now) }
+    ensures binds { IsTrue L.tells → Binds (L.binds link.old) (L.binds link.new) (own_bind cfg.now) result }
+    ensures kept { IsTrue L.tells → (L.script link.new ≡ L.script link.old) × (L.sent link.new ≡ L.sent link.old) }
+    ensures link { IsErrOf result ServeFault.LinkFault → Rose (L.faults link.old) (L.faults link.new) }
+    ensures no_write { IsErrOf result ServeFault.WriteFault → ⊥ }
+    ensures later { L.faults link.old ≤ L.faults link.new }
+{
+    let peers = peers_of(alloc, cfg)?;
+    match link.bind(cfg.port, &peers) {
+        Ok(()) => Ok(()),
+        Err(_) => Err(ServeFault::LinkFault),
     }
+}
+
+/// The log's lines up to `events`.
+fn log_head(alloc: Global, cfg: &ServeConfig) -> Result<Bytes, NoMemory>
+    ensures { IfOk result (λ text. text ≡ head_text cfg.now.node cfg.now.missing) }
+{
+    let mut text = Bytes::new(alloc);
+    put_log_head(alloc, &cfg.node, cfg.missing.as_slice(), &mut text)?;
+    Ok(text)
+}
+
+/// Makes the log, and writes its lines up to `events`.
+fn begin_log<F: Files>(alloc: Global, cfg: &ServeConfig, files: &mut F) -> Result<(), ServeFault>
+    requires keeps { KeepsServe cfg.now }
+    ensures whole { IsTrue F.tells → OnOk result (ChangesOnly (F.files files.old) (F.files files.new) cfg.now.log (head_text cfg.now.node cfg.now.missing)) }
+    ensures front { IsTrue F.tells → SavesFront (F.files files.old) (F.files files.new) cfg.now.log (head_text cfg.now.node cfg.now.missing) }
+    ensures target { IsTrue F.tells → OnOk result (F.target files.new ≡ cfg.now.log) }
+    ensures writing { OnOk result (IsTrue (F.writing files.new)) }
+    ensures made { IsTrue F.tells → Names (F.made files.old) (F.made files.new) cfg.now.log result }
+    ensures asked { IsTrue F.tells → F.asked files.new ≡ F.asked files.old }
+    ensures write { IsErrOf result ServeFault.WriteFault → Rose (F.write_faults files.old) (F.write_faults files.new) }
+    ensures no_link { IsErrOf result ServeFault.LinkFault → ⊥ }
+    ensures later { F.write_faults files.old ≤ F.write_faults files.new }
+    ensures same { (F.read_faults files.new ≡ F.read_faults files.old) × (F.reading files.new ≡ F.reading files.old) }
+{
+    let head = log_head(alloc, cfg)?;
+    files.write_to(cfg.log.as_str())?;
+    put_file(files, head.as_slice())?;
+    Ok(())
+}
+
+/// Writes the trace's first line.
+fn begin_trace<K: Sink>(out: &mut K) -> Result<(), ServeFault>
+    ensures whole { IsTrue K.tells → OnOk result (K.taken out.new ≡ K.taken out.old ++ codes "planet trace 1\n") }
+    ensures front { IsTrue K.tells → AppendsFront (K.taken out.old) (K.taken out.new) (codes "planet trace 1\n") }
+    ensures write { IsErrOf result ServeFault.WriteFault → Rose (K.faults out.old) (K.faults out.new) }
+    ensures no_link { IsErrOf result ServeFault.LinkFault → ⊥ }
+    ensures later { K.faults out.old ≤ K.faults out.new }
+{
+    put_all(out, b"planet trace 1\n")?;
+    Ok(())
+}
+
+/// Binds the link, begins the log and begins the trace, in this order.
+pub(crate) fn begin<L: Link, F: Files, K: Sink>(
+    alloc: Global,
+    cfg: &ServeConfig,
+    link: &mut L,
+    files: &mut F,
+    out: &mut K,
+) -> Result<(), ServeFault>
+    requires keeps { KeepsServe cfg.now }
+    ensures opens { IsTrue F.tells → IsTrue K.tells → IsTrue L.tells → (last : ℕ) (answers : List ℕ) → Opens cfg.now (outside_of (L.script link.old) (L.sent link.old) (L.binds link.old) last answers (F.files files.old) (K.taken out.old)) (outside_of (L.script link.new) (L.sent link.new) (L.binds link.new) last answers (F.files files.new) (K.taken out.new)) (F.target files.new) result }
+    ensures bound { OnOk result (L.bound link.new ≡ peers_of cfg.now) }
+    ensures writing { OnOk result (IsTrue (F.writing files.new)) }
+    ensures made { IsTrue F.tells → Names (F.made files.old) (F.made files.new) cfg.now.log result }
+    ensures asked { IsTrue F.tells → F.asked files.new ≡ F.asked files.old }
+    ensures write { IsErrOf result ServeFault.WriteFault → Rose (F.write_faults files.old) (F.write_faults files.new) ⊎ Rose (K.faults out.old) (K.faults out.new) }
+    ensures link { IsErrOf result ServeFault.LinkFault → Rose (L.faults link.old) (L.faults link.new) }
+    ensures later { (F.write_faults files.old ≤ F.write_faults files.new) × (K.faults out.old ≤ K.faults out.new) }
+    ensures later_link { L.faults link.old ≤ L.faults link.new }
+    ensures same { (F.read_faults files.new ≡ F.read_faults files.old) × (F.reading files.new ≡ F.reading files.old) }
+{
+    bind(alloc, cfg, link)?;
+    begin_log(alloc, cfg, files)?;
+    begin_trace(out)
 }

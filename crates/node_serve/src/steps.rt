@@ -8,14 +8,15 @@ ghost use Rattle.network_plan.specs.declared.event.LogEvent.TheVariants as entry
 ghost use Rattle.node_files.specs.LogTexts.{entry_text};
 ghost use Rattle.serve_model.specs.Runs.{entries_at};
 ghost use Rattle.serve_model.specs.Texts.{lines_text};
+ghost use Rattle.node_serve.specs.Shown.{IsReadable};
 ghost use Rattle.node_serve.specs.Steps.{Written};
 ghost use Rattle.node_serve.specs.declared.steps.Stepped.TheVariants as stepped;
 
-use log_replay::{lost_lines, step_lines};
 use network_plan::Event;
 use node_core::Node;
 use node_files::{put_log_line, put_lost_line};
 use node_model::Acts;
+use node_steps::{lost_lines, step_lines};
 use plan_base::{Bytes, Host, NoMemory};
 use service_api::Services;
 use spelled_frame::SpelledFrame;
@@ -41,7 +42,8 @@ pub(crate) struct StepTexts {
 /// The line of the log of an event.
 fn event_text(alloc: Global, event: &Event) -> Result<Bytes, NoMemory>
     requires { KeepsNodeEvent event.now }
-    ensures { IfOk result (λ text. text ≡ entry_text (entry.Step event.now)) }
+    ensures text { IfOk result (λ text. text ≡ entry_text (entry.Step event.now)) }
+    ensures readable { OnOk result (IsReadable (entry.Step event.now)) }
 {
     let mut text = Bytes::new(alloc);
     put_log_line(alloc, event, &mut text)?;
@@ -84,10 +86,11 @@ fn took_texts(
     ensures line { IfOk result (λ texts. texts.line ≡ entry_text (entry.Step event.now)) }
     ensures lines { IfOk result (λ texts. texts.lines ≡ lines_text here (entries_at number acts.list)) }
     ensures made { IfOk result (λ texts. texts.made ≡ stepped.Took acts.frame) }
+    ensures readable { OnOk result (IsReadable (entry.Step event.now)) }
 {
     let Acts { list, frame } = acts;
     let line = event_text(alloc, event)?;
-    let lines = step_lines(alloc, number, here, list.as_slice())?;
+    let lines = step_lines(alloc, number, here, list)?;
     Ok(StepTexts {
         line,
         lines,
