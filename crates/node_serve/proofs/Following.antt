@@ -163,7 +163,7 @@ tick_over stands after cfg base seen r period t over a h = record {
   grows = ext_trans r a.done (marked t a.done) a.grows (ext_marked t a.done);
   is = λ refused f. ap (marked t) (a.is refused f) ∙ sym (if_true (nat_le (r.last + period) t) (marked t (make Tick refused r)) r over);
   stands_for = h;
-  shows = record { log = a.shows.log; target = a.shows.target; out = a.shows.out; sent = a.shows.sent };
+  shows = record { log = a.shows.log; target = a.shows.target; out = a.shows.out; sent = a.shows.sent; readable = a.shows.readable };
 }
 
 pub tick_stopped : (cfg : ServeConfig) (base seen : Seen) (r : Running) (period t : ℕ) → nat_le (r.last + period) t ≡ true → Stopped cfg base seen r (make Tick) → Stopped cfg base seen r (tick period t)
@@ -201,7 +201,7 @@ send_lost stands cfg base seen r d h st s = record {
   grows = ext_trans r (with_entry Lost r) (holding true (with_entry Lost r)) (ext_entry Lost r) (ext_holding true (with_entry Lost r));
   is = λ refused f. sym (free_is d r h refused ∙ if_true (is_refused refused r) (holding true (with_entry Lost r)) (send_taken d (first_on r.node d) (with_entry (Step (Take d)) r)) (entry_fits refused Lost r f));
   stands_for = st;
-  shows = record { log = s.log; target = s.target; out = s.out; sent = s.sent };
+  shows = record { log = s.log; target = s.target; out = s.out; sent = s.sent; readable = s.readable };
 }
 
 took_is : (d : Dev) (r : Running) → r.held ≡ false → (refused : List ℕ) → Fits refused (with_entry (Step (Take d)) r).events → send_taken d (first_on r.node d) (with_entry (Step (Take d)) r) ≡ take_send d refused r
@@ -262,7 +262,7 @@ reached_release stands cfg base seen r h s = record {
   grows = ext_holding false r;
   is = λ refused f. refl;
   stands_for = h;
-  shows = record { log = s.log; target = s.target; out = s.out; sent = s.sent };
+  shows = record { log = s.log; target = s.target; out = s.out; sent = s.sent; readable = s.readable };
 }
 
 pub leaves_err : {T E : Type 0} (Q : E → Type 0) (stands : Running → Type 0) (cfg : ServeConfig) (base seen : Seen) (r : Running) (act : Action) (result : Result T E) → IsErrAnd result Q → Stopped cfg base seen r act → Leaves stands cfg base seen r act result

@@ -1,5 +1,6 @@
 -- A step that was made and written, or not.
-use Rattle.std.proofs.Common.{◌≡◌, ℕ, suc, ◌+◌, ◌<◌, ◌==◌, Bool, true, false, if◌then◌else◌, nat_le, List, [], ◌∷◌, ◌++◌, length, drop, slice_get, Option, Some, None, Result, Ok, Err, refl, sym, ◌∙◌, ap, subst, arith, length-append, append-nil}
+use Rattle.std.proofs.Common.{◌≡◌, ◌≢◌, ℕ, suc, ◌+◌, ◌<◌, ◌==◌, ◌⊎◌, inl, inr, get_or, Bool, true, false, if◌then◌else◌, nat_le, List, [], ◌∷◌, ◌++◌, length, drop, slice_get, Option, Some, None, Result, Ok, Err, refl, sym, ◌∙◌, ap, subst, arith, length-append, append-nil}
+use Rattle.std.proofs.lemmas.Bool.Decides.{nat_tests}
 use Rattle.plan_base.specs.declared.ids.Dev.{Dev}
 use Rattle.plan_base.specs.declared.ids.Host.{Host}
 use Rattle.plan_base.specs.declared.tree.Chunk.{Chunk}
@@ -7,7 +8,7 @@ use Rattle.packet_frame.specs.declared.frame.PlainFrame.{PlainFrame}
 use Rattle.packet_frame.specs.Bytes.{frame_bytes}
 use Rattle.network_plan.specs.Hosts.{dev_of}
 use Rattle.network_plan.specs.declared.event.Event.{Event}
-use Rattle.network_plan.specs.declared.event.Event.TheVariants.{Inject, Take}
+use Rattle.network_plan.specs.declared.event.Event.TheVariants.{Inject, Frame, Take}
 use Rattle.network_plan.specs.declared.event.LogEvent.{LogEvent}
 use Rattle.network_plan.specs.declared.event.LogEvent.TheVariants as entry
 use Rattle.network_plan.specs.declared.serve.ServeConfig.{ServeConfig}
@@ -26,7 +27,8 @@ use Rattle.node_core.specs.Queued.{queued_at}
 use Rattle.serve_model.specs.Runs.{Running, acts_of, node_by, entries_at, with_entry, holding, marked, with_sent, then_do, make, inject_one, inject_to, hear, first_on, frames_in, queued_on, come_back, take_back, loop_back, send_taken, take_send, repeat_send, flush_device, flush_to, turn, time_at, turns, peers_of}
 use Rattle.serve_model.specs.Texts.{lines_text}
 use Rattle.serve_model.specs.Follow.{entry_of}
-use Rattle.node_serve.specs.Shown.{Seen, run_log, Shows, Fronts, Reached, Stopped, Leaves}
+use Rattle.node_serve.specs.Shown.{Seen, run_log, Shows, Fronts, Reached, Stopped, Leaves, UsedUpTo}
+use Rattle.node_io.proofs.Taking.{rest_next}
 use Rattle.node_serve.proofs.Showing.{shows_entry, fronts_log, fronts_lines, shows_sent}
 use Rattle.node_serve.proofs.Following.{reached_make, stopped_make, back_lost, back_took, send_lost, send_took, send_failed}
 use Rattle.node_serve.specs.declared.server.Server.{Server}
@@ -34,7 +36,7 @@ use Rattle.node_serve.specs.declared.steps.Stepped.{Stepped}
 use Rattle.node_serve.specs.declared.steps.Stepped.TheVariants.{Lost, Took}
 use Rattle.node_serve.specs.declared.steps.StepTexts.{StepTexts}
 use Rattle.node_serve.specs.Steps.{was_lost, frame_of, Written, WrittenFront, in_log, in_trace, sending, SendsTaken}
-use Rattle.node_serve.specs.Standing.{StandsFor, Makes}
+use Rattle.node_serve.specs.Standing.{StandsFor, Makes, seen_of}
 
 pub made_reached : {S : Type 0} (stands : S → Standing) (cfg : ServeConfig) (base seen : Seen) (r : Running) (e : Event) (made : Stepped) (server : Server S) → Makes stands cfg base seen r e made server → Reached (StandsFor stands server) cfg base seen r (make e)
 made_reached stands cfg base seen r e made server m = reached_make (StandsFor stands server) cfg base seen r e (was_lost made) m.stands_for m.shows
@@ -66,7 +68,7 @@ module _ {S : Type 0} (stands : S → Standing) (cfg : ServeConfig) (base old ne
           held = ah ∙ st.held;
           steps = as_ ∙ number ∙ ap (λ k. k + 1) st.steps ∙ sym (length-append r.events (entry ∷ []));
         };
-        shows = shows_entry cfg base old new entry r sh (subst (WritesMore old.files new.files old.target) (l ∙ w.line) log) target
+        shows = shows_entry cfg base old new entry r sh w.readable (subst (WritesMore old.files new.files old.target) (l ∙ w.line) log) target
             (out ∙ ap (λ x. old.taken ++ x) (m ∙ w.lines ∙ lines_are cfg.node.here n server.steps r entry number st.steps)) sent;
         frame = w.frame;
       }
@@ -104,6 +106,7 @@ shows_taken cfg base old new d None r h f t k s = record {
   target = t ∙ h.target;
   out = k ∙ h.out;
   sent = s ∙ append-nil old.sent ∙ h.sent;
+  readable = h.readable;
 }
 shows_taken cfg base old new d (Some x) r h f t k s = shows_sent cfg base old new d x (frame_bytes x) r h refl f t k s
 
@@ -120,6 +123,7 @@ send_result stands cfg base old new r d x server (Err y) h m s f t k =
       target = t ∙ m.shows.target;
       out = k ∙ m.shows.out;
       sent = s ∙ m.shows.sent;
+      readable = m.shows.readable;
     })
 
 -- ---- tests of the code, and of the definition
@@ -205,4 +209,47 @@ unfolding turns
 turns_next cfg script last answers i r refused = ap (λ n. turns cfg script last answers n refused r) (add_one i)
 
 pub shows_held : (cfg : ServeConfig) (base seen : Seen) (r : Running) → Shows cfg base seen r → Shows cfg base seen (holding false r)
-shows_held cfg base seen r s = record { log = s.log; target = s.target; out = s.out; sent = s.sent }
+shows_held cfg base seen r s = record { log = s.log; target = s.target; out = s.out; sent = s.sent; readable = s.readable }
+
+-- what a step gave, by its case
+pub made_as : {S : Type 0} (stands : S → Standing) (cfg : ServeConfig) (base seen : Seen) (r : Running) (e : Event) (made now : Stepped) (server : Server S) → made ≡ now → Makes stands cfg base seen r e made server → Makes stands cfg base seen r e now server
+made_as stands cfg base seen r e made now server same m = subst (λ x. Makes stands cfg base seen r e x server) same m
+
+-- the frames sent are as before
+pub sent_as : (cfg : ServeConfig) (base : Seen) (files : FileMap) (target taken : List ℕ) (before now : List Heard) (r : Running) → now ≡ before → Shows cfg base (seen_of files target taken before) r → Shows cfg base (seen_of files target taken now) r
+sent_as cfg base files target taken before now r same h = subst (λ s. Shows cfg base (seen_of files target taken s) r) (sym same) h
+
+-- no frame was queued for the node itself
+pub back_stay : (x : Option PlainFrame) (r : Running) → x ≡ None → (refused : List ℕ) → come_back x refused r ≡ r
+back_stay x r e refused = ap (λ o. come_back o refused r) e
+
+pub back_makes : (x : Option PlainFrame) (p : PlainFrame) (r : Running) → x ≡ Some p → (refused : List ℕ) → make (Frame (dev_of 0) (frame_bytes p)) refused r ≡ come_back x refused r
+back_makes x p r e refused = ap (λ o. come_back o refused r) (sym e)
+
+-- ---- turns
+
+pub time_next : (last : ℕ) (answers : List ℕ) (i : ℕ) (now : List ℕ) (l : ℕ) → now ≡ drop i answers → l ≡ time_at last answers i → get_or now 0 l ≡ time_at last answers (i + 1)
+unfolding time_at
+time_next last answers i now l a b = ap (λ x. get_or x 0 l) a ∙ ap (λ x. get_or (drop i answers) 0 x) b ∙ ap (time_at last answers) (add_one i)
+
+pub turn_as : (cfg : ServeConfig) (i t u : ℕ) (s v : List Arrival) (r : Running) → t ≡ u → s ≡ v → (refused : List ℕ) → turn cfg i t (next_heard (peers_of cfg) s) refused r ≡ turn cfg i u (next_heard (peers_of cfg) v) refused r
+turn_as cfg i t u s v r a b refused = ap (λ x. turn cfg i x (next_heard (peers_of cfg) s) refused r) a ∙ ap (λ x. turn cfg i u (next_heard (peers_of cfg) x) refused r) b
+
+-- no more entries were used than there are turns
+pub used_more : {A : Type 0} (i n : ℕ) (old mid new : List A) → i < n → mid ≡ drop i old → (new ≡ mid) ⊎ (new ≡ drop 1 mid) → UsedUpTo n old new
+used_more i n old mid new h e (inl same) = record { count = i; few = omega (arith, h); is = same ∙ e }
+used_more i n old mid new h e (inr next) = record { count = i + 1; few = omega (arith, h); is = next ∙ ap (drop 1) e ∙ sym (rest_next old i) }
+
+pub used_next : {A : Type 0} (i : ℕ) (old mid new : List A) → mid ≡ drop i old → new ≡ drop 1 mid → new ≡ drop (i + 1) old
+used_next i old mid new e next = next ∙ ap (drop 1) e ∙ sym (rest_next old i)
+
+pub time_none : (last : ℕ) (answers : List ℕ) → last ≡ time_at last answers 0
+unfolding time_at
+time_none last answers = refl
+
+-- a test of the code, as the definition has it
+pub is_same : (a b : ℕ) → a ≡ b → (a == b) ≡ true
+is_same a b h = grind (arith, nat_tests)
+
+pub not_same : (a b : ℕ) → a ≢ b → (a == b) ≡ false
+not_same a b h = grind (arith, nat_tests)

@@ -1,6 +1,7 @@
 -- What stands outside when one more step was written.
 use Rattle.std.proofs.Common.{◌≡◌, ◌≢◌, ℕ, suc, ◌+◌, ◌≤◌, List, [], ◌∷◌, ◌++◌, length, take, map, Option, Some, None, IsSome, unwrap_or, refl, sym, ◌∙◌, ap, subst, arith, codes, append_assoc, append-nil}
-use Rattle.std.specs.List.{flat_map}
+use Rattle.std.specs.List.{All, flat_map}
+use Rattle.std.proofs.lemmas.List.Elements.{All-nil, All-cons, All-append}
 use Rattle.std.proofs.lemmas.Bool.{false≢true}
 use Rattle.network_plan.specs.declared.event.LogEvent.{LogEvent}
 use Rattle.network_plan.specs.declared.serve.ServeConfig.{ServeConfig}
@@ -12,7 +13,7 @@ use Rattle.node_io.specs.FileMaps.{FileMap, file_at, contents, ChangesOnly, Writ
 use Rattle.node_io.specs.Pieces.{AppendsFront}
 use Rattle.serve_model.specs.Runs.{Entry, Running, acts_of, entries_at, with_entry, with_sent}
 use Rattle.serve_model.specs.Texts.{trace_line, lines_text, begun_trace}
-use Rattle.node_serve.specs.Shown.{Seen, run_log, run_trace, Shows, Fronts}
+use Rattle.node_serve.specs.Shown.{Seen, run_log, run_trace, IsReadable, Shows, Fronts}
 
 -- ---- lists
 
@@ -20,12 +21,12 @@ flat_more : {A B : Type 0} (f : A → List B) (xs ys : List A) → flat_map f (x
 flat_more f [] ys = refl
 flat_more f (x ∷ xs) ys = ap (λ l. f x ++ l) (flat_more f xs ys) ∙ sym (append_assoc (f x) (flat_map f xs) (flat_map f ys))
 
-take_whole : {A : Type 0} (xs : List A) → take (length xs) xs ≡ xs
+pub take_whole : {A : Type 0} (xs : List A) → take (length xs) xs ≡ xs
 take_whole [] = refl
 take_whole (x ∷ xs) = ap (λ l. x ∷ l) (take_whole xs)
 
 -- a front that ends in the second part
-take_into : {A : Type 0} (xs ys : List A) (n : ℕ) → take (length xs + n) (xs ++ ys) ≡ xs ++ take n ys
+pub take_into : {A : Type 0} (xs ys : List A) (n : ℕ) → take (length xs + n) (xs ++ ys) ≡ xs ++ take n ys
 take_into [] ys n = let same : 0 + n ≡ n = omega arith in ap (λ k. take k ys) same
 take_into (x ∷ xs) ys n = let same : length (x ∷ xs) + n ≡ suc (length xs + n) = omega arith in ap (λ k. take k ((x ∷ xs) ++ ys)) same ∙ ap (λ l. x ∷ l) (take_into xs ys n)
 
@@ -69,14 +70,19 @@ sent_same : (e : LogEvent) (r : Running) → (with_entry e r).sent ≡ r.sent
 unfolding with_entry
 sent_same e r = refl
 
-pub shows_entry : (cfg : ServeConfig) (base old new : Seen) (e : LogEvent) (r : Running) → Shows cfg base old r
+readable_more : (e : LogEvent) (r : Running) → All IsReadable r.events → IsReadable e → All IsReadable (with_entry e r).events
+unfolding with_entry
+readable_more e r h k = All-append IsReadable r.events (e ∷ []) h (All-cons IsReadable e [] k (All-nil IsReadable))
+
+pub shows_entry : (cfg : ServeConfig) (base old new : Seen) (e : LogEvent) (r : Running) → Shows cfg base old r → IsReadable e
     → WritesMore old.files new.files old.target (entry_text e) → new.target ≡ old.target → new.taken ≡ old.taken ++ next_lines cfg e r → new.sent ≡ old.sent
     → Shows cfg base new (with_entry e r)
-shows_entry cfg base old new e r h log target out sent = record {
+shows_entry cfg base old new e r h k log target out sent = record {
   log = subst (ChangesOnly base.files new.files cfg.log) (sym (log_more cfg e r)) (changes_more base.files old.files new.files cfg.log old.target (run_log cfg r) (entry_text e) h.log h.target log);
   target = target ∙ h.target;
   out = out ∙ ap (λ l. l ++ next_lines cfg e r) h.out ∙ append_assoc base.taken (run_trace cfg r) (next_lines cfg e r) ∙ ap (λ l. base.taken ++ l) (sym (trace_more cfg e r));
   sent = sent ∙ h.sent ∙ ap (λ l. base.sent ++ l) (sym (sent_same e r));
+  readable = readable_more e r h.readable k;
 }
 
 -- all of it is a front
@@ -128,4 +134,5 @@ shows_sent cfg base old new d x bytes r h spelled files target out sent = record
   target = target ∙ h.target;
   out = out ∙ h.out;
   sent = sent ∙ ap (λ l. l ++ (d, bytes) ∷ []) h.sent ∙ append_assoc base.sent r.sent ((d, bytes) ∷ []) ∙ ap (λ b. base.sent ++ (r.sent ++ (d, b) ∷ [])) spelled;
+  readable = h.readable;
 }

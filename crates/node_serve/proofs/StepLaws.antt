@@ -22,24 +22,8 @@ use Rattle.serve_model.specs.Follow.{entry_of}
 use Rattle.node_serve.specs.declared.steps.Stepped.{Stepped}
 use Rattle.node_serve.specs.declared.steps.Stepped.TheVariants.{Lost, Took}
 use Rattle.node_serve.specs.declared.steps.StepTexts.{StepTexts}
+use Rattle.node_serve.specs.Shown.{IsReadable}
 use Rattle.node_serve.specs.Steps.{was_lost, frame_of, Written}
-
--- ---- lines
-
-pub lines_none : (here : Host) (n : ℕ) → lines_text here (entries_at n []) ≡ []
-unfolding lines_text
-lines_none here n = refl
-
-pub lines_more : (here : Host) (n : ℕ) (acts : List Act) (a : Act) → lines_text here (entries_at n (acts ++ a ∷ [])) ≡ lines_text here (entries_at n acts) ++ act_line n here a
-unfolding lines_text
-lines_more here n [] a = append-nil (act_line n here a)
-lines_more here n (b ∷ acts) a = ap (λ l. act_line n here b ++ l) (lines_more here n acts a) ∙ sym (append_assoc (act_line n here b) (lines_text here (entries_at n acts)) (act_line n here a))
-
-pub lines_step : (here : Host) (n : ℕ) (acts : List Act) (i : ℕ) (d : Act) → i < length acts → lines_text here (entries_at n (take (i + 1) acts)) ≡ lines_text here (entries_at n (take i acts)) ++ act_line n here (get_or acts i d)
-lines_step here n acts i d h = ap (λ l. lines_text here (entries_at n l)) (take_at_read acts i d h).1 ∙ lines_more here n (take i acts) (get_or acts i d)
-
-pub lines_one : (here : Host) (n : ℕ) (a : Act) → lines_text here (entries_at n (a ∷ [])) ≡ [] ++ act_line n here a
-lines_one here n a = lines_more here n [] a ∙ ap (λ l. l ++ act_line n here a) (lines_none here n)
 
 -- ---- steps
 
@@ -50,15 +34,17 @@ written_lost stands here n s e texts new h line lines made = record {
   lines = lines ∙ ap (λ m. lines_text here (entries_at n (acts_of s (entry_of (was_lost m) e)))) (sym made);
   node = subst (λ m. NodeStands stands new (node_by s (entry_of (was_lost m) e))) (sym made) h;
   frame = λ f. absurd (false≢true (sym f ∙ ap was_lost made));
+  readable = subst (λ m. IsReadable (entry_of (was_lost m) e)) (sym made) (record { keeps = tt; spells = tt });
 }
 
 pub written_took : {S : Type 0} (stands : S → Standing) (here : Host) (n : ℕ) (s : NodeState) (x e : Event) (acts : Acts) (texts : StepTexts) (new : Node S) → x ≡ e → IsStep stands (node_step s x) acts new
-    → texts.line ≡ entry_text (entry.Step x) → texts.lines ≡ lines_text here (entries_at n acts.list) → texts.made ≡ Took acts.frame → Written stands here n s e texts new
-written_took stands here n s x e acts texts new same h line lines made = record {
+    → texts.line ≡ entry_text (entry.Step x) → texts.lines ≡ lines_text here (entries_at n acts.list) → texts.made ≡ Took acts.frame → IsReadable (entry.Step x) → Written stands here n s e texts new
+written_took stands here n s x e acts texts new same h line lines made readable = record {
   line = line ∙ ap (λ y. entry_text (entry.Step y)) same ∙ ap (λ m. entry_text (entry_of (was_lost m) e)) (sym made);
   lines = lines ∙ ap (λ l. lines_text here (entries_at n l)) (h.list ∙ ap (λ y. (node_step s y).acts) same) ∙ ap (λ m. lines_text here (entries_at n (acts_of s (entry_of (was_lost m) e)))) (sym made);
   node = subst (λ m. NodeStands stands new (node_by s (entry_of (was_lost m) e))) (sym made) (subst (λ y. NodeStands stands new (node_step s y).node) same h.node);
   frame = λ f. ap frame_of made ∙ h.frame ∙ ap (λ y. (node_step s y).frame) same;
+  readable = subst (λ m. IsReadable (entry_of (was_lost m) e)) (sym made) (subst (λ y. IsReadable (entry.Step y)) same readable);
 }
 
 -- three facts of a result

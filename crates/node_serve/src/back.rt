@@ -6,6 +6,9 @@ ghost use Rattle.node_io.specs.Links.{Heard, has_peer, next_heard};
 ghost use Rattle.serve_model.specs.Runs as spec;
 ghost use Rattle.node_serve.specs.Shown.{Seen, Shows, Leaves, Stopped};
 ghost use Rattle.node_serve.specs.Standing.{StandsFor, Makes, seen_of};
+ghost use Rattle.network_plan.specs.Hosts.{dev_of};
+ghost use Rattle.network_plan.specs.declared.event.Event.TheVariants as event;
+ghost use Rattle.packet_frame.specs.Bytes.{frame_bytes};
 
 use crate::fault::ServeFault;
 use crate::server::Server;
@@ -16,6 +19,16 @@ use plan_base::Dev;
 use service_api::Services;
 use spelled_frame::SpelledFrame;
 use std::alloc::Global;
+
+/// The event of a frame that the node sent to itself.
+fn arrived(frame: SpelledFrame) -> Event
+    ensures event { result ≡ event.Frame (dev_of 0) (frame_bytes frame) }
+    ensures keeps { KeepsNodeEvent result }
+{
+    let bytes = frame.into_bytes();
+    let _count = bytes.len();
+    Event::Frame(Dev(0), bytes)
+}
 
 impl<S: Services> Server<S> {
     /// A frame to the node itself arrives.
@@ -39,7 +52,7 @@ impl<S: Services> Server<S> {
         let Some(frame) = frame else {
             return Ok(());
         };
-        let event = Some(Event::Frame(Dev(0), frame.into_bytes()));
+        let event = Some(arrived(frame));
         self.step(alloc, cfg, files, out, &event)
     }
 

@@ -24,7 +24,7 @@ fn send_frame<L: Link>(link: &mut L, dev: Dev, frame: &Option<SpelledFrame>) -> 
     requires { HasPeer (L.bound link.old) dev }
     ensures sent { IsTrue L.tells → SendsTaken (L.sent link.old) (L.sent link.new) dev frame.now result }
     ensures link { IsErrOf result ServeFault.LinkFault → Rose (L.faults link.old) (L.faults link.new) }
-    ensures only { IfErr result (λ e. e ≡ ServeFault.LinkFault) }
+    ensures no_write { IsErrOf result ServeFault.WriteFault → ⊥ }
     ensures later { L.faults link.old ≤ L.faults link.new }
     ensures bound { L.bound link.new ≡ L.bound link.old }
     ensures binds { IsTrue L.tells → L.binds link.new ≡ L.binds link.old }

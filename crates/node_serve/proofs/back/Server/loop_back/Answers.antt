@@ -1,9 +1,11 @@
-use Rattle.node_serve.proofs.Following.{leaves_as}
-use Rattle.node_serve.proofs.MakeLaws.{count_is}
+use Rattle.node_serve.proofs.Following.{reached_same, leaves_as}
+use Rattle.node_serve.proofs.MakeLaws.{no_back, some_back, count_is}
 use Rattle.serve_model.specs.Runs.{take_back, loop_back}
 use Rattle.network_plan.specs.Hosts.{dev_of}
-use Rattle.node_serve.proofs.MakeLaws.{some_back}
 use Rattle.node_serve.proofs.back.Server.loop_back.Goals as goal
+
+pub returns-then-queued-clause-run : goal.returns-then-queued-clause-run
+returns-then-queued-clause-run g c = λ tf tk sent base r st sh. reached_same _ _ _ _ r loop_back (no_back r c.queued.result (count_is g.S.Services.stands c.args.self.now r (dev_of 0) c.queued.result st c.queued.ensures) c.if-queued.true) st sh
 
 pub returns-clause-run : goal.returns-clause-run
 returns-clause-run g c = λ tf tk sent base r st sh. leaves_as _ _ _ _ r take_back loop_back c.take_back.result (some_back r c.queued.result (count_is g.S.Services.stands c.args.self.now r (dev_of 0) c.queued.result st c.queued.ensures) c.if-queued.false) (c.take_back.ensures.run tf tk sent base r st sh)

@@ -1,8 +1,7 @@
 use Rattle.std.proofs.Common.{refl, false}
 use Rattle.node_serve.proofs.Following.{leaves_then, reached_release}
-use Rattle.node_serve.proofs.MakeLaws.{stands_holding}
+use Rattle.node_serve.proofs.MakeLaws.{stands_holding, shows_held}
 use Rattle.serve_model.specs.Runs.{holding}
-use Rattle.node_serve.proofs.MakeLaws.{shows_held}
 use Rattle.node_serve.proofs.flush.Server.flush.Goals as goal
 
 pub returns-clause-run : goal.returns-clause-run

@@ -1,4 +1,3 @@
-
 use Rattle.serve_model.specs.Runs.{arrival}
 use Rattle.node_serve.proofs.heard.Server.arrive.Goals as goal
 

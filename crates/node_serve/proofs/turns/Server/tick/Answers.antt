@@ -1,8 +1,7 @@
 use Rattle.std.proofs.Common.{refl, ◌∙◌}
 use Rattle.node_serve.proofs.Following.{reached_same, tick_over, tick_stopped, tick_early, leaves_err}
-use Rattle.node_serve.proofs.MakeLaws.{stands_marked}
+use Rattle.node_serve.proofs.MakeLaws.{stands_marked, over_is}
 use Rattle.serve_model.specs.Runs.{tick}
-use Rattle.std.proofs.Common.{◌∙◌}
 use Rattle.network_plan.specs.declared.event.Event.TheVariants.{Tick}
 use Rattle.node_serve.proofs.turns.Server.tick.Goals as goal
 
