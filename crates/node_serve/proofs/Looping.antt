@@ -15,7 +15,7 @@ use Rattle.node_serve.specs.Shown.{Seen, Reached, Stopped}
 use Rattle.node_serve.proofs.Following.{reached_then, reached_as, stopped_then, stopped_as}
 
 -- each step goes on from the one before
-abbrev GoesUp : (ℕ → Action) → Type 0
+abbrev pub GoesUp : (ℕ → Action) → Type 0
 GoesUp A = (n : ℕ) (refused : List ℕ) (r : Running) → Ext (A n refused r) (A (suc n) refused r)
 
 goes_on : (A : ℕ → Action) → GoesUp A → (n more : ℕ) (refused : List ℕ) (r : Running) → Ext (A n refused r) (A (n + more) refused r)

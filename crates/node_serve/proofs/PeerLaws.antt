@@ -29,18 +29,21 @@ pub peers_are : (cfg : ServeConfig) (d : Dev) → has_peer (peers_of cfg) d ≡ 
 unfolding peers_of
 peers_are cfg d = ap (λ b. (0 == d.0) || b) (ports_any cfg.devs d)
 
-either_small : (a n : ℕ) (b : Bool) → ((a == n) || b) ≡ true → a ≤ 8 → (b ≡ true → n ≤ 8) → n ≤ 8
-either_small a n true h k rest = rest refl
-either_small a n false h k rest = grind (arith, nat_tests)
+either : (a b : Bool) (n : ℕ) → (a || b) ≡ true → (a ≡ true → n ≤ 8) → (b ≡ true → n ≤ 8) → n ≤ 8
+either true b n h k l = k refl
+either false b n h k l = l h
+
+same_small : (a n : ℕ) → a ≤ 8 → (a == n) ≡ true → n ≤ 8
+same_small a n h e = grind (arith, nat_tests)
 
 small_device : (here : Host) (hosts : List Host) (ns : List (Host × Dev)) (d : Dev) → All (IsNeighbour here hosts) ns → is_one (map (λ n. n.1) ns) d ≡ true → d.0 ≤ 8
 small_device here hosts [] d a h = absurd (false≢true h)
 small_device here hosts (n ∷ ns) d a h =
     let first = All-head (IsNeighbour here hosts) n ns a in
-    either_small n.1.0 d.0 (is_one (map (λ m. m.1) ns) d) h first.device.1 (λ k. small_device here hosts ns d (All-tail (IsNeighbour here hosts) n ns a) k)
+    either (n.1.0 == d.0) (is_one (map (λ m. m.1) ns) d) d.0 h (same_small n.1.0 d.0 first.device.1) (small_device here hosts ns d (All-tail (IsNeighbour here hosts) n ns a))
 
 -- the device of a peer is at most 8
 pub peer_small : (cfg : ServeConfig) (d : Dev) → KeepsServe cfg → has_peer (peers_of cfg) d ≡ true → d.0 ≤ 8
 peer_small cfg d k h =
-    either_small 0 d.0 (is_one (map (λ p. p.0) cfg.devs) d) (sym (peers_are cfg d) ∙ h) (omega arith)
+    either (0 == d.0) (is_one (map (λ p. p.0) cfg.devs) d) d.0 (sym (peers_are cfg d) ∙ h) (same_small 0 d.0 (omega arith))
     (λ one. small_device cfg.node.here cfg.node.hosts cfg.node.neighbours d k.node.neighbours (ap (λ ds. is_one ds d) (sym k.devices) ∙ one))
