@@ -12,11 +12,11 @@ ghost use Rattle.node_serve.specs.Shown.{IsReadable};
 ghost use Rattle.node_serve.specs.Steps.{Written};
 ghost use Rattle.node_serve.specs.declared.steps.Stepped.TheVariants as stepped;
 
+use log_replay::{lost_lines, step_lines};
 use network_plan::Event;
 use node_core::Node;
 use node_files::{put_log_line, put_lost_line};
 use node_model::Acts;
-use node_steps::{lost_lines, step_lines};
 use plan_base::{Bytes, Host, NoMemory};
 use service_api::Services;
 use spelled_frame::SpelledFrame;
@@ -90,7 +90,7 @@ fn took_texts(
 {
     let Acts { list, frame } = acts;
     let line = event_text(alloc, event)?;
-    let lines = step_lines(alloc, number, here, list)?;
+    let lines = step_lines(alloc, number, here, list.as_slice())?;
     Ok(StepTexts {
         line,
         lines,
