@@ -1,5 +1,5 @@
 -- The peers of a node that keeps its rules.
-use Rattle.std.proofs.Common.{◌≡◌, ℕ, ◌+◌, ◌<◌, ◌≤◌, ◌==◌, Bool, true, false, ◌||◌, List, [], ◌∷◌, map, length, refl, sym, ◌∙◌, ap, subst, arith}
+use Rattle.std.proofs.Common.{◌≡◌, ◌≢◌, ℕ, ◌≤◌, ◌==◌, Bool, true, false, ◌||◌, List, [], ◌∷◌, map, refl, sym, ◌∙◌, ap, arith}
 use Rattle.std.specs.List.{All, list_any}
 use Rattle.std.proofs.lemmas.Bool.{false≢true}
 use Rattle.std.proofs.lemmas.Bool.Decides.{nat_tests}
@@ -28,6 +28,19 @@ any_device (p ∷ ports) d = ap (λ b. (p.0.0 == d.0) || b) (any_device ports d)
 pub peers_are : (cfg : ServeConfig) (d : Dev) → has_peer (peers_of cfg) d ≡ ((0 == d.0) || is_one (map (λ p. p.0) cfg.devs) d)
 unfolding peers_of
 peers_are cfg d = ap (λ b. (0 == d.0) || b) (ports_any cfg.devs d)
+
+same_zero : (n : ℕ) → n ≡ 0 → true ≡ (0 == n)
+same_zero n e = grind (arith, nat_tests)
+
+other_zero : (n : ℕ) → n ≢ 0 → false ≡ (0 == n)
+other_zero n h = grind (arith, nat_tests)
+
+-- as the code finds it
+pub owner_found : (cfg : ServeConfig) (d : Dev) → d.0 ≡ 0 → true ≡ has_peer (peers_of cfg) d
+owner_found cfg d e = ap (λ b. b || is_one (map (λ p. p.0) cfg.devs) d) (same_zero d.0 e) ∙ sym (peers_are cfg d)
+
+pub neighbour_found : (cfg : ServeConfig) (d : Dev) → d.0 ≢ 0 → list_any (λ p. p.0.0 == d.0) cfg.devs ≡ has_peer (peers_of cfg) d
+neighbour_found cfg d h = any_device cfg.devs d ∙ ap (λ b. b || is_one (map (λ p. p.0) cfg.devs) d) (other_zero d.0 h) ∙ sym (peers_are cfg d)
 
 either : (a b : Bool) (n : ℕ) → (a || b) ≡ true → (a ≡ true → n ≤ 8) → (b ≡ true → n ≤ 8) → n ≤ 8
 either true b n h k l = k refl

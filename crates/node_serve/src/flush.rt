@@ -6,6 +6,8 @@ ghost use Rattle.node_io.specs.Links.{Heard, has_peer, next_heard};
 ghost use Rattle.serve_model.specs.Runs as spec;
 ghost use Rattle.node_serve.specs.Shown.{Seen, Shows, Leaves, Stopped};
 ghost use Rattle.node_serve.specs.Standing.{StandsFor, Makes, seen_of};
+ghost use Rattle.std.specs.Prelude.{◌==◌};
+ghost use Rattle.std.specs.List.{list_any};
 ghost use Rattle.node_io.specs.Links.{HasPeer};
 ghost use Rattle.node_serve.specs.Steps.{SendsTaken};
 
@@ -39,11 +41,21 @@ fn send_frame<L: Link>(link: &mut L, dev: Dev, frame: &Option<SpelledFrame>) -> 
     }
 }
 
-/// Whether a peer is on this device.
+/// Whether a neighbour is on this device.
+fn is_on(ports: &[(Dev, u16)], dev: Dev) -> bool
+    ensures { result ≡ list_any (λ p. p.0.0 == dev.0) ports.now }
+{
+    ports.iter().any(|port| port.0.0 == dev.0)
+}
+
+/// Whether a peer is on this device: the owner on device 0, or a neighbour.
 fn has_peer(cfg: &ServeConfig, dev: Dev) -> bool
     ensures { result ≡ has_peer (spec.peers_of cfg.now) dev }
 {
-    dev.0 == 0 || cfg.devs.as_slice().iter().any(|port| port.0.0 == dev.0)
+    if dev.0 == 0 {
+        return true;
+    }
+    is_on(cfg.devs.as_slice(), dev)
 }
 
 impl<S: Services> Server<S> {

@@ -1,11 +1,12 @@
-ghost use Rattle.std.specs.Prelude.{◌≡◌, ◌++◌, ◌≤◌, ◌⊎◌, ℕ, List, IfOk, IsErrOf, IsTrue, OnOk, codes, length};
+ghost use Rattle.std.specs.Prelude.{◌≡◌, ◌∷◌, ◌++◌, ◌≤◌, ◌⊎◌, map, ℕ, List, IfOk, IsErrOf, IsTrue, OnOk, codes, length};
 ghost use Rattle.network_plan.specs.NodeRules.{KeepsServe};
 ghost use Rattle.node_files.specs.LogTexts.{head_text};
 ghost use Rattle.node_io.specs.Causes.{Rose};
 ghost use Rattle.node_io.specs.FileMaps.{ChangesOnly, SavesFront, Names};
 ghost use Rattle.node_io.specs.Links.{Binds};
 ghost use Rattle.node_io.specs.Pieces.{AppendsFront};
-ghost use Rattle.serve_model.specs.Runs.{peers_of};
+ghost use Rattle.network_plan.specs.Hosts.{dev_of};
+ghost use Rattle.serve_model.specs.Runs.{peer, peers_of};
 ghost use Rattle.node_serve.specs.Served.{Opens, outside_of, own_bind};
 
 use crate::fault::ServeFault;
@@ -15,16 +16,16 @@ use node_io::{Files, Link, Peer, Peers, RECEIVED_MAX, Sink, put_all, put_file};
 use plan_base::{Bytes, Dev, NoMemory};
 use std::alloc::Global;
 
-/// The peers of a node: its owner on device 0, and its neighbours.
-fn peers_of(alloc: Global, cfg: &ServeConfig) -> Result<Peers, NoMemory>
-    ensures { IfOk result (λ peers. peers ≡ peers_of cfg.now) }
+/// The peers of a node: its owner on device 0, at this port, and its neighbours.
+fn peers_at(alloc: Global, control: u16, ports: &[(Dev, u16)]) -> Result<Peers, NoMemory>
+    ensures { IfOk result (λ peers. peers ≡ peer (dev_of 0) control ∷ map (λ p. peer p.0 p.1) ports.now) }
 {
     let mut peers = Peers::new(alloc);
     peers.add(Peer {
         dev: Dev(0),
-        port: cfg.control,
+        port: control,
     })?;
-    for port in cfg.devs.as_slice() {
+    for port in ports {
         peers.add(Peer {
             dev: port.0,
             port: port.1,
@@ -41,6 +42,7 @@ pub(crate) fn room(alloc: Global) -> Result<Vec<u8>, NoMemory>
 }
 
 /// Binds the link at the node's own port, with its peers.
+#[tactic(auto, unfolding(serve_model::specs::Runs::peers_of))]
 fn bind<L: Link>(alloc: Global, cfg: &ServeConfig, link: &mut L) -> Result<(), ServeFault>
     ensures bound { OnOk result (L.bound link.new ≡ peers_of cfg.now) }
     ensures binds { IsTrue L.tells → Binds (L.binds link.old) (L.binds link.new) (own_bind cfg.now) result }
@@ -49,7 +51,7 @@ fn bind<L: Link>(alloc: Global, cfg: &ServeConfig, link: &mut L) -> Result<(), S
     ensures no_write { IsErrOf result ServeFault.WriteFault → ⊥ }
     ensures later { L.faults link.old ≤ L.faults link.new }
 {
-    let peers = peers_of(alloc, cfg)?;
+    let peers = peers_at(alloc, cfg.control, cfg.devs.as_slice())?;
     match link.bind(cfg.port, &peers) {
         Ok(()) => Ok(()),
         Err(_) => Err(ServeFault::LinkFault),

@@ -1,7 +1,7 @@
 use Rattle.std.proofs.Common.{Some}
 use Rattle.node_serve.proofs.Following.{reached_same, stopped_same, leaves_as}
 use Rattle.serve_model.proofs.Going.{hear_grows}
-use Rattle.node_serve.proofs.MakeLaws.{hear_stay, hear_as}
+use Rattle.node_serve.proofs.MakeLaws.{hear_stay, hear_as, sent_as}
 use Rattle.serve_model.specs.Runs.{hear, peers_of}
 use Rattle.node_io.specs.Links.{next_heard}
 use Rattle.node_serve.proofs.heard.Server.hear.Goals as goal

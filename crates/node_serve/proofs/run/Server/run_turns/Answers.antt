@@ -1,6 +1,6 @@
 use Rattle.std.proofs.Common.{refl, subst, arith, get_or, drop, inr, ◌≡◌, ◌∙◌, ◌+◌}
 use Rattle.node_serve.proofs.Following.{reached_same, reached_as, stopped_as, match_err, leaves_err}
-use Rattle.node_serve.proofs.MakeLaws.{turns_none, turns_next, turn_as}
+use Rattle.node_serve.proofs.MakeLaws.{turns_none, turns_next}
 use Rattle.node_serve.proofs.Looping.{loop_next, loop_stops, loop_ends, turns_up}
 use Rattle.serve_model.specs.Runs.{turn, turns, peers_of, time_at}
 use Rattle.node_io.specs.Links.{next_heard}
