@@ -178,8 +178,11 @@ module _ (cfg : ServeConfig) (node : NodeState) (n : ℕ) (old mid new : Outside
         steps = length a.done.events;
         places = ap lost_places (sym (ap (take (length a.done.events)) x.log ∙ take_front a.done.events x.events));
         log = begun in_log.0 (subst (ChangesOnly old.files new.files cfg.log) (in_log.1 ∙ ap (take in_log.0) (sym log.1)) (subst (λ y. ChangesOnly old.files y cfg.log (take a.shows.count (run_log cfg a.done))) (sym files) a.shows.log));
-        out = record { count = in_trace.0; is = taken ∙ a.shows.out.is
-            ∙ ap (λ l. old.taken ++ l) (in_trace.1 ∙ ap (take in_trace.0) (sym (append_assoc (run_trace cfg a.done) trace.0 (codes "end\n")) ∙ ap (λ l. l ++ codes "end\n") (sym trace.1))) };
+        out = record {
+          count = in_trace.0;
+          is = taken ∙ a.shows.out.is
+              ∙ ap (λ l. old.taken ++ l) (in_trace.1 ∙ ap (take in_trace.0) (sym (append_assoc (run_trace cfg a.done) trace.0 (codes "end\n")) ∙ ap (λ l. l ++ codes "end\n") (sym trace.1)));
+        };
         sent = record { count = length a.done.sent; is = sent ∙ a.shows.sent ∙ ap (λ l. old.sent ++ l) (sym (ap (take (length a.done.sent)) x.frames ∙ take_front a.done.sent x.sent)) };
         binds = inr (binds ∙ b.binds);
         script = used b.script script;
@@ -203,8 +206,11 @@ module _ (cfg : ServeConfig) (node : NodeState) (n : ℕ) (old mid new : Outside
         places = ap lost_places (sym (take_whole a.done.events) ∙ ap (λ r. take (length a.done.events) r.events) same);
         log = begun (length (run_log cfg whole)) (subst (ChangesOnly old.files new.files cfg.log) (sym (take_whole (run_log cfg whole)))
             (subst (λ r. ChangesOnly old.files new.files cfg.log (run_log cfg r)) same (subst (λ x. ChangesOnly old.files x cfg.log (run_log cfg a.done)) (sym files) a.shows.log)));
-        out = record { count = length trace + taken.count; is = taken.is ∙ ap (λ l. l ++ take taken.count (codes "end\n")) a.shows.out ∙ append_assoc old.taken trace (take taken.count (codes "end\n"))
-            ∙ ap (λ l. old.taken ++ l) (sym (take_into trace (codes "end\n") taken.count) ∙ ap (λ r. take (length trace + taken.count) (run_trace cfg r ++ codes "end\n")) same) };
+        out = record {
+          count = length trace + taken.count;
+          is = taken.is ∙ ap (λ l. l ++ take taken.count (codes "end\n")) a.shows.out ∙ append_assoc old.taken trace (take taken.count (codes "end\n"))
+              ∙ ap (λ l. old.taken ++ l) (sym (take_into trace (codes "end\n") taken.count) ∙ ap (λ r. take (length trace + taken.count) (run_trace cfg r ++ codes "end\n")) same);
+        };
         sent = record { count = length a.done.sent; is = sent ∙ a.shows.sent ∙ ap (λ l. old.sent ++ l) (sym (take_whole a.done.sent) ∙ ap (λ r. take (length a.done.sent) r.sent) same) };
         binds = inr (binds ∙ b.binds);
         script = record { count = n; few = omega arith; is = script ∙ ap (drop n) b.script };

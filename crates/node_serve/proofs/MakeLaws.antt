@@ -50,11 +50,11 @@ module _ {S : Type 0} (stands : S → Standing) (cfg : ServeConfig) (base old ne
   pub step_stopped : (line lines : List ℕ) → line ≡ texts.line → lines ≡ texts.lines → WrittenFront old.files new.files old.target line old.taken new.taken lines → new.sent ≡ old.sent → Stopped cfg base new r (make e)
   step_stopped line lines l m (in_log front same) sent =
       stopped_make cfg base new r e (was_lost texts.made)
-        (fronts_log cfg base old new (entry_of (was_lost texts.made) e) r sh (subst (WritesFront old.files new.files old.target) (l ∙ w.line) front) same sent)
+      (fronts_log cfg base old new (entry_of (was_lost texts.made) e) r sh (subst (WritesFront old.files new.files old.target) (l ∙ w.line) front) same sent)
   step_stopped line lines l m (in_trace log front) sent =
       stopped_make cfg base new r e (was_lost texts.made)
-        (fronts_lines cfg base old new (entry_of (was_lost texts.made) e) r sh (subst (WritesMore old.files new.files old.target) (l ∙ w.line) log)
-          (subst (AppendsFront old.taken new.taken) (m ∙ w.lines ∙ lines_are cfg.node.here n server.steps r (entry_of (was_lost texts.made) e) number st.steps) front) sent)
+      (fronts_lines cfg base old new (entry_of (was_lost texts.made) e) r sh (subst (WritesMore old.files new.files old.target) (l ∙ w.line) log)
+      (subst (AppendsFront old.taken new.taken) (m ∙ w.lines ∙ lines_are cfg.node.here n server.steps r (entry_of (was_lost texts.made) e) number st.steps) front) sent)
 
   pub step_made : (after : Server S) (line lines : List ℕ) → line ≡ texts.line → lines ≡ texts.lines → WritesMore old.files new.files old.target line → new.taken ≡ old.taken ++ lines → new.target ≡ old.target → new.sent ≡ old.sent
       → after.node ≡ node → after.last ≡ server.last → after.held ≡ server.held → after.steps ≡ n → Makes stands cfg base new r e texts.made after

@@ -22,7 +22,11 @@ use spelled_frame::SpelledFrame;
 use std::alloc::Global;
 
 /// Sends a frame that was taken, where there is one. Condition: the device is among the peers.
-fn send_frame<L: Link>(link: &mut L, dev: Dev, frame: &Option<SpelledFrame>) -> Result<(), ServeFault>
+fn send_frame<L: Link>(
+    link: &mut L,
+    dev: Dev,
+    frame: &Option<SpelledFrame>,
+) -> Result<(), ServeFault>
     requires { HasPeer (L.bound link.old) dev }
     ensures sent { IsTrue L.tells → SendsTaken (L.sent link.old) (L.sent link.new) dev frame.now result }
     ensures link { IsErrOf result ServeFault.LinkFault → Rose (L.faults link.old) (L.faults link.new) }

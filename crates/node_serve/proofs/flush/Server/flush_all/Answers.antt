@@ -8,17 +8,17 @@ use Rattle.node_serve.proofs.flush.Server.flush_all.Goals as goal
 
 pub loop-number-init : goal.loop-number-init
 loop-number-init g c = record {
-      within = omega arith;
-      run = λ tf tk tl base r st sh. reached_same _ _ _ _ r (flush_to (peers_of c.args.cfg.now) 0) (flush_none (peers_of c.args.cfg.now) r) st sh;
-      later = (omega arith, omega arith);
-      later_link = omega arith;
-      bound = refl;
-      binds = λ _. refl;
-      script = λ _. refl;
-      writing = c.requires.writing;
-      kept = λ _. (refl, refl);
-      same = (refl, refl);
-    }
+  within = omega arith;
+  run = λ tf tk tl base r st sh. reached_same _ _ _ _ r (flush_to (peers_of c.args.cfg.now) 0) (flush_none (peers_of c.args.cfg.now) r) st sh;
+  later = (omega arith, omega arith);
+  later_link = omega arith;
+  bound = refl;
+  binds = λ _. refl;
+  script = λ _. refl;
+  writing = c.requires.writing;
+  kept = λ _. (refl, refl);
+  same = (refl, refl);
+}
 
 pub loop-number-preserved : goal.loop-number-preserved
 loop-number-preserved g c =

@@ -7,17 +7,17 @@ use Rattle.node_serve.proofs.flush.Server.repeat_send.Goals as goal
 
 pub loop-init : goal.loop-init
 loop-init g c = record {
-      within = omega arith;
-      run = λ tf tk tl base r st sh. reached_same _ _ _ _ r (repeat_send c.args.dev 0) (repeat_none c.args.dev r) st sh;
-      later = (omega arith, omega arith);
-      later_link = omega arith;
-      bound = refl;
-      binds = λ _. refl;
-      script = λ _. refl;
-      writing = c.requires.writing;
-      kept = λ _. (refl, refl);
-      same = (refl, refl);
-    }
+  within = omega arith;
+  run = λ tf tk tl base r st sh. reached_same _ _ _ _ r (repeat_send c.args.dev 0) (repeat_none c.args.dev r) st sh;
+  later = (omega arith, omega arith);
+  later_link = omega arith;
+  bound = refl;
+  binds = λ _. refl;
+  script = λ _. refl;
+  writing = c.requires.writing;
+  kept = λ _. (refl, refl);
+  same = (refl, refl);
+}
 
 pub loop-preserved : goal.loop-preserved
 loop-preserved g c =

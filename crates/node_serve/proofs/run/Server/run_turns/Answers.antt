@@ -9,20 +9,20 @@ use Rattle.node_serve.proofs.run.Server.run_turns.Goals as goal
 
 pub loop-done-init : goal.loop-done-init
 loop-done-init g c = record {
-      within = omega arith;
-      run = λ tf tk tl tc base r st sh. reached_same _ _ _ _ r (turns c.args.cfg.now (g.L.Link.script c.args.link.now) (g.C.Clock.last c.args.clock.now) (g.C.Clock.answers c.args.clock.now) 0) (turns_none c.args.cfg.now (g.L.Link.script c.args.link.now) (g.C.Clock.last c.args.clock.now) (g.C.Clock.answers c.args.clock.now) r) st sh;
-      later = (omega arith, omega arith);
-      later_link = omega arith;
-      bound = refl;
-      binds = λ _. refl;
-      writing = c.requires.writing;
-      kept = λ _. (refl, refl);
-      same = (refl, refl);
-      room = c.requires.room;
-      script = λ _. refl;
-      answers = λ _. refl;
-      last = λ _. time_none (g.C.Clock.last c.args.clock.now) (g.C.Clock.answers c.args.clock.now);
-    }
+  within = omega arith;
+  run = λ tf tk tl tc base r st sh. reached_same _ _ _ _ r (turns c.args.cfg.now (g.L.Link.script c.args.link.now) (g.C.Clock.last c.args.clock.now) (g.C.Clock.answers c.args.clock.now) 0) (turns_none c.args.cfg.now (g.L.Link.script c.args.link.now) (g.C.Clock.last c.args.clock.now) (g.C.Clock.answers c.args.clock.now) r) st sh;
+  later = (omega arith, omega arith);
+  later_link = omega arith;
+  bound = refl;
+  binds = λ _. refl;
+  writing = c.requires.writing;
+  kept = λ _. (refl, refl);
+  same = (refl, refl);
+  room = c.requires.room;
+  script = λ _. refl;
+  answers = λ _. refl;
+  last = λ _. time_none (g.C.Clock.last c.args.clock.now) (g.C.Clock.answers c.args.clock.now);
+}
 
 pub loop-done-preserved : goal.loop-done-preserved
 loop-done-preserved g c =

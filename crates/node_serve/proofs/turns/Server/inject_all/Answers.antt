@@ -11,12 +11,12 @@ use Rattle.node_serve.proofs.turns.Server.inject_all.Goals as goal
 
 pub loop-inject-init : goal.loop-inject-init
 loop-inject-init g c = record {
-      run = λ tf tk sent base r st sh. reached_same _ _ _ _ r (inject_to c.args.turn c.args.cfg.now.at 0) (inject_none c.args.turn c.args.cfg.now.at r) st sh;
-      later = (omega arith, omega arith);
-      writing = c.requires.writing;
-      kept = λ _. (refl, refl);
-      same = (refl, refl);
-    }
+  run = λ tf tk sent base r st sh. reached_same _ _ _ _ r (inject_to c.args.turn c.args.cfg.now.at 0) (inject_none c.args.turn c.args.cfg.now.at r) st sh;
+  later = (omega arith, omega arith);
+  writing = c.requires.writing;
+  kept = λ _. (refl, refl);
+  same = (refl, refl);
+}
 
 pub inject_one-requires-clause-keeps : goal.inject_one-requires-clause-keeps
 inject_one-requires-clause-keeps g c = subst KeepsInject (sym (c.inject-item.is ∙ ap (λ xs. get_or xs c.loop-inject.inject-index c.inject-item.result) c.as_slice-inject.ensures)) (All-get_or KeepsInject c.args.cfg.now.at c.loop-inject.inject-index c.inject-item.result (subst (λ xs. c.loop-inject.inject-index < length xs) c.as_slice-inject.ensures c.loop-inject-test.true) c.requires.keeps.injects)
