@@ -6,3 +6,4 @@ pub mod PeerLaws
 pub mod FrameSizes
 pub mod StepLaws
 pub mod MakeLaws
+pub mod Again

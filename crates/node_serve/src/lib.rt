@@ -5,6 +5,7 @@ mod back;
 mod fault;
 mod flush;
 mod heard;
+mod laws;
 mod opening;
 mod run;
 mod server;
@@ -13,4 +14,5 @@ mod steps;
 mod turns;
 
 pub use fault::ServeFault;
+pub use laws::reads_again;
 pub use serving::serve;
