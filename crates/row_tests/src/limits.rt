@@ -98,8 +98,9 @@ fn adverts_output(alloc: Global) -> Result<String, Fail> {
 fn the_wire_has_4_096_frames(rt: HostRuntime) -> Result<(), Fail> {
     let alloc = rt.alloc();
     let schedule = adverts(alloc)?;
-    let (code, out, _) = on_bytes(alloc, "replay", schedule.as_bytes())?;
+    let (code, out, notes) = on_bytes(alloc, "replay", schedule.as_bytes())?;
     assert_eq!(rt; code, 0);
+    assert_eq!(rt; notes.taken().len(), 0);
     assert_eq!(rt; out.taken().as_slice(), adverts_output(alloc)?.as_bytes());
     Ok(())
 }
