@@ -8,7 +8,7 @@ pub returns-clause-replayed : goal.returns-clause-replayed
 returns-clause-replayed g c =
     λ files_tell out_tells s replays done.
     let found = done_found _ _ _ c.settle-cause.ensures.gives done in
-    replay_written _ _ s replays _ _ (c.run-found.ensures.accepted files_tell found) (c.run-found.ensures.whole files_tell out_tells found)
+    replay_written c.args.words.now (g.F.Files.files c.args.files.now) s replays _ _ (c.run-found.ensures.accepted files_tell found) (c.run-found.ensures.whole files_tell out_tells found)
 
 pub returns-clause-ledger : goal.returns-clause-ledger
 returns-clause-ledger g c = λ files_tell s replays. replay_ledger _ _ s replays
@@ -17,13 +17,13 @@ pub returns-clause-checked : goal.returns-clause-checked
 returns-clause-checked g c =
     λ files_tell out_tells p checks done.
     let found = done_found _ _ _ c.settle-cause.ensures.gives done in
-    check_written _ _ p checks _ _ (c.run-found.ensures.accepted files_tell found) (c.run-found.ensures.whole files_tell out_tells found)
+    check_written c.args.words.now (g.F.Files.files c.args.files.now) p checks _ _ (c.run-found.ensures.accepted files_tell found) (c.run-found.ensures.whole files_tell out_tells found)
 
 pub returns-clause-shown : goal.returns-clause-shown
 returns-clause-shown g c =
     λ files_tell out_tells x shows done.
     let found = done_found _ _ _ c.settle-cause.ensures.gives done in
-    show_written _ _ x shows _ _ (c.run-found.ensures.whole files_tell out_tells found)
+    show_written c.args.words.now (g.F.Files.files c.args.files.now) x shows _ _ (c.run-found.ensures.whole files_tell out_tells found)
 
 pub returns-clause-shown_whole : goal.returns-clause-shown_whole
 returns-clause-shown_whole g c = λ files_tell x shows. show_is_whole _ _ x shows
@@ -35,13 +35,13 @@ returns-clause-shown_only g c =
     show_found _ _ file asks (c.run-found.ensures.accepted files_tell found)
 
 pub returns-clause-grown_whole : goal.returns-clause-grown_whole
-returns-clause-grown_whole g c = λ seed n asked. grow_is_whole _ _ seed n asked
+returns-clause-grown_whole g c = λ seed n asked. grow_is_whole c.args.words.now (g.F.Files.files c.args.files.now) seed n asked
 
 pub returns-clause-grown : goal.returns-clause-grown
 returns-clause-grown g c =
     λ files_tell out_tells seed n code asked reads done.
     let found = done_found _ _ _ c.settle-cause.ensures.gives done in
-    grow_written _ _ seed n code asked reads _ _ (c.run-found.ensures.whole files_tell out_tells found)
+    grow_written c.args.words.now (g.F.Files.files c.args.files.now) seed n code asked reads _ _ (c.run-found.ensures.whole files_tell out_tells found)
 
 pub returns-clause-injected : goal.returns-clause-injected
 returns-clause-injected g c =
@@ -53,4 +53,4 @@ pub returns-clause-injected_line : goal.returns-clause-injected_line
 returns-clause-injected_line g c =
     λ files_tell out_tells file a asked said done.
     let found = done_found _ _ _ c.settle-cause.ensures.gives done in
-    ask_written _ _ file a asked said _ _ (c.run-found.ensures.whole files_tell out_tells found)
+    ask_written c.args.words.now (g.F.Files.files c.args.files.now) file a asked said _ _ (c.run-found.ensures.whole files_tell out_tells found)
