@@ -1,0 +1,2 @@
+pub mod ValuesRead
+pub mod ValuesAre
