@@ -4,3 +4,6 @@ pub mod NodeLaws
 pub mod AskLaws
 pub mod FleetLaws
 pub mod ConfigLaws
+pub mod ChunkLaws
+pub mod LogLaws
+pub mod LogTextLaws

@@ -3,4 +3,7 @@ pub mod Nodes
 pub mod Asks
 pub mod Fleets
 pub mod Configs
+pub mod ChunkWords
+pub mod Logs
+pub mod LogTexts
 pub mod Answers

@@ -2,12 +2,14 @@ ghost use Rattle.std.specs.Prelude.{◌⊎◌, ℕ, List};
 ghost use Rattle.node_files.specs.Asks.{ask_of};
 ghost use Rattle.node_files.specs.Configs.{config_of};
 ghost use Rattle.node_files.specs.Fleets.{fleet_of};
+ghost use Rattle.node_files.specs.Logs.{log_of};
 ghost use Rattle.node_files.specs.Answers.{Accepted, Refused};
 
 /// Each file says a value or has a first line outside its format, which is one of its lines or the one behind its last.
-#[tactic(auto, using(crate::proofs::AskLaws::ask_answered, crate::proofs::FleetLaws::fleet_answered, crate::proofs::ConfigLaws::config_answered))]
+#[tactic(auto, using(crate::proofs::AskLaws::ask_answered, crate::proofs::FleetLaws::fleet_answered, crate::proofs::ConfigLaws::config_answered, crate::proofs::LogLaws::log_answered))]
 pub fn one_answer()
     ensures asks { (bytes : List ℕ) → Accepted ask_of bytes ⊎ Refused ask_of bytes }
     ensures fleets { (bytes : List ℕ) → Accepted fleet_of bytes ⊎ Refused fleet_of bytes }
     ensures configurations { (bytes : List ℕ) → Accepted config_of bytes ⊎ Refused config_of bytes }
+    ensures logs { (bytes : List ℕ) → Accepted log_of bytes ⊎ Refused log_of bytes }
 {}
