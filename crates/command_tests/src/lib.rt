@@ -7,3 +7,5 @@ mod desk;
 mod fleets;
 #[cfg(test)]
 mod requests;
+#[cfg(test)]
+mod serving;

@@ -1,6 +1,7 @@
 use Rattle.planet_cli.proofs.Headline.{done_found, replay_written, replay_ledger, check_written}
 use Rattle.planet_cli.proofs.Showing.{show_written, show_is_whole, show_found}
 use Rattle.planet_cli.proofs.Growing.{grow_is_whole, grow_written}
+use Rattle.planet_cli.proofs.Logs.{log_written}
 use Rattle.planet_cli.proofs.Injecting.{ask_written}
 use Rattle.planet_cli.proofs.top.planet.Goals as goal
 
@@ -54,3 +55,15 @@ returns-clause-injected_line g c =
     λ files_tell out_tells file a asked said done.
     let found = done_found _ _ _ c.settle-cause.ensures.gives done in
     ask_written c.args.words.now (g.F.Files.files c.args.files.now) file a asked said _ _ (c.run-found.ensures.whole files_tell out_tells found)
+
+pub returns-clause-served : goal.returns-clause-served
+returns-clause-served g c =
+    λ files_tell out_tells link_tells clock_tells file turns cfg asked said done.
+    let found = done_found _ _ _ c.settle-cause.ensures.gives done in
+    c.run-found.ensures.served files_tell out_tells link_tells clock_tells file turns cfg asked said found
+
+pub returns-clause-logged : goal.returns-clause-logged
+returns-clause-logged g c =
+    λ files_tell out_tells l logs done.
+    let found = done_found _ _ _ c.settle-cause.ensures.gives done in
+    log_written c.args.words.now (g.F.Files.files c.args.files.now) l logs _ _ (c.run-found.ensures.accepted files_tell found) (c.run-found.ensures.whole files_tell out_tells found)
