@@ -1,53 +1,50 @@
-//! The stack of a visit.
-use plan_base::{Program, Value, Values};
-use plan_items::Items;
+//! The stacks of a visit.
+use plan_base::Value;
 
-/// An open expression: what of it is being evaluated, and the values that wait.
-#[derive(Drop)]
-pub enum Frame {
-    /// The part of that number, from 0, behind parts that gave these values.
-    Part(usize, Values),
-    /// The part of that number; its value is the value of the whole.
-    Last(usize),
-    /// The body of a `let`, under the value that its name is bound to.
-    Bound(Value),
-    /// The body of a called function, which is the next activation.
-    Body,
-    /// A fold's step, which is the next activation, with the items that are left, the next one last.
-    Items(Values),
-    /// The chunk of an `eval`, which is the next activation.
-    Chunk,
-}
-
-/// The open expressions of one body, the innermost last.
-pub type Frames = Items<Frame>;
-
-/// The evaluation of one function's body.
-#[derive(Drop)]
-pub struct Activation {
-    /// The number of the function's program among those that are open.
+/// Where an activation stands: its program, where its values begin on the stack, and the node.
+#[derive(Clone, Copy)]
+pub struct Spot {
     pub code: usize,
-    /// The place of the function in it.
-    pub fun: usize,
-    /// The function's arguments.
-    pub args: Values,
-    /// The open expressions of the body.
-    pub frames: Frames,
+    pub base: usize,
+    pub at: usize,
 }
 
-/// The activations of a visit, the innermost last.
-pub type Activations = Items<Activation>;
+/// An open expression, by its node; the values that wait lie on the stack.
+#[derive(Clone, Copy)]
+pub enum Frame {
+    /// One of its parts is evaluated.
+    Part(usize),
+    /// Its last part is evaluated, whose value is its own.
+    Last(usize),
+    /// The body of a `let`, whose value lies on the stack.
+    Bound(usize),
+    /// The expression of a `try`, and how many values lay on the stack.
+    Try(usize, usize),
+    /// A called function's body is evaluated; this is where the call stands.
+    Body(Spot),
+    /// A fold's step is evaluated.
+    Items(Spot),
+    /// The chunk of an `eval` is evaluated.
+    Chunk(Spot),
+}
 
-/// The programs that are open: that of the packet, and those of the chunks that are being evaluated.
-pub type Codes = Items<Program>;
-
-/// What a visit does next.
-#[derive(Drop)]
-pub enum Mode {
-    /// Evaluates the innermost open expression.
+/// What the machine does next.
+#[derive(Clone, Copy)]
+pub enum Turn {
+    /// Evaluates the expression at the spot.
     Run,
-    /// Gives a value to the innermost open expression.
-    Give(Value),
-    /// Raises an exception at the innermost open expression.
-    Raise(plan_base::Exn),
+    /// The expression at the spot gave the value on top.
+    Gave,
+    /// Evaluates the chunk on top for the `eval` at the spot.
+    Visit,
+    /// The visit has ended with the value on top.
+    Ended,
+}
+
+/// The moving parts of a visit.
+#[derive(Drop)]
+pub struct Machine {
+    pub stack: Vec<Value>,
+    pub frames: Vec<Frame>,
+    pub spot: Spot,
 }

@@ -1,23 +1,13 @@
 //! Visits: the evaluation of a packet's chunk on an explicit stack.
 #![tactic(auto)]
 
-mod apply;
-mod begin;
-mod call;
-mod fold;
+mod complete;
+mod flatten;
 mod frame;
-mod gather;
-mod given;
-mod kind;
 mod machine;
-mod next;
-mod operand;
-mod parts;
-mod place;
-mod pure;
-mod raise;
-mod send;
+mod node;
+mod pass;
+mod values;
 mod visiting;
-mod walk;
 
 pub use visiting::visit;

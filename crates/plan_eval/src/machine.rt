@@ -1,149 +1,118 @@
-//! The turns of a visit.
-ghost use Rattle.std.specs.Prelude.{◌≡◌, ◌<◌, ◌∷◌, ◌++◌, [], IfOk, IsSome};
-ghost use Rattle.service_api.specs.Services.{Standing};
-ghost use Rattle.plan_meaning.specs.State.{joined};
-ghost use Rattle.plan_meaning.specs.Safe.{IsSafe};
-ghost use Rattle.visit_state.specs.Meets.{Meets};
-ghost use Rattle.plan_eval.specs.declared.frame.Mode.TheVariants as mode;
-ghost use Rattle.plan_eval.specs.Stack.{AreLinked, stands_for};
-ghost use Rattle.plan_eval.specs.Turns.{Turned, load};
-
-use crate::apply::apply;
-use crate::begin::begin_top;
-use crate::frame::{Activation, Activations, Codes, Mode};
-use crate::given::give_top;
-use crate::raise::raise_top;
-use plan_base::{Exn, Value};
+//! The machine of a visit: a stack of values and a stack of frames over flat code.
+use crate::complete::evaluate;
+use crate::frame::{Frame, Machine, Turn};
+use crate::node::{Codes, Flat, Form, Node};
+use crate::pass::{Home, begin, gave};
+use crate::values::put_on;
+use plan_base::{Exn, Name, Value};
 use plan_meaning::Stop;
 use service_api::Services;
 use std::alloc::Global;
-use visit_state::State;
+use visit_state::{State, catches};
 
-/// Gives a value to the innermost activation, which is off the stack.
-fn give<S: Services>(
-    alloc: Global,
-    codes: &mut Codes,
-    outer: &mut Activations,
-    top: Activation,
-    v: Value,
-    state: &mut State,
-    svc: &mut S,
-) -> Result<Mode, Stop>
-    requires open { IsSome (S.stands svc.old).begun }
-    requires linked { AreLinked codes.old (outer.old ++ top ∷ []) }
-    requires safe { IsSafe (stands_for codes.old (outer.old ++ top ∷ []) (mode.Give v) (joined state.old (S.stands svc.old))).asks }
-    ensures turned { Turned (stands_for codes.old (outer.old ++ top ∷ []) (mode.Give v) (joined state.old (S.stands svc.old))) result codes.new outer.new (joined state.new (S.stands svc.new)) }
-    ensures shrinks { IfOk result (λ how. load how outer.new state.new.work < load (mode.Give v) (outer.old ++ top ∷ []) state.old.work) }
-    ensures offer { (S.stands svc.new).offer ≡ (S.stands svc.old).offer }
-    ensures begun { (S.stands svc.new).begun ≡ (S.stands svc.old).begun }
-{
-    let mut below = top;
-    let Some(frame) = below.frames.pop() else {
-        return Ok(Mode::Give(v));
-    };
-    let decided = give_top(alloc, codes.as_slice(), &below, frame, v, state, svc);
-    apply(alloc, codes, outer, below, decided, state)
-}
-
-/// Raises an exception in the innermost activation, which is off the stack.
-fn raise(
-    alloc: Global,
-    codes: &mut Codes,
-    outer: &mut Activations,
-    top: Activation,
-    x: Exn,
-    state: &mut State,
-) -> Result<Mode, Stop>
-    requires linked { AreLinked codes.old (outer.old ++ top ∷ []) }
-    ensures turned { (n : Standing) → Turned (stands_for codes.old (outer.old ++ top ∷ []) (mode.Raise x) (joined state.old n)) result codes.new outer.new (joined state.new n) }
-    ensures shrinks { IfOk result (λ how. load how outer.new state.new.work < load (mode.Raise x) (outer.old ++ top ∷ []) state.old.work) }
-{
-    let mut below = top;
-    let Some(frame) = below.frames.pop() else {
-        return Ok(Mode::Raise(x));
-    };
-    let decided = raise_top(codes.as_slice(), &below, &frame, x);
-    apply(alloc, codes, outer, below, decided, state)
-}
-
-/// Evaluates the innermost expression of the innermost activation, which is off the stack.
-fn begin<S: Services>(
-    alloc: Global,
-    codes: &mut Codes,
-    outer: &mut Activations,
-    top: Activation,
-    state: &mut State,
-    svc: &mut S,
-) -> Result<Mode, Stop>
-    requires open { IsSome (S.stands svc.old).begun }
-    requires linked { AreLinked codes.old (outer.old ++ top ∷ []) }
-    requires safe { IsSafe (stands_for codes.old (outer.old ++ top ∷ []) mode.Run (joined state.old (S.stands svc.old))).asks }
-    ensures turned { Turned (stands_for codes.old (outer.old ++ top ∷ []) mode.Run (joined state.old (S.stands svc.old))) result codes.new outer.new (joined state.new (S.stands svc.new)) }
-    ensures shrinks { IfOk result (λ how. load how outer.new state.new.work < load mode.Run (outer.old ++ top ∷ []) state.old.work) }
-    ensures offer { (S.stands svc.new).offer ≡ (S.stands svc.old).offer }
-    ensures begun { (S.stands svc.new).begun ≡ (S.stands svc.old).begun }
-{
-    match state.spend(1) {
-        Ok(()) => {
-            let decided = begin_top(alloc, codes.as_slice(), &top, state, svc);
-            apply(alloc, codes, outer, top, decided, state)
+/// The number of the clause that takes an exception, from 0.
+fn clause_for(clauses: &[Option<Name>], x: &Exn) -> Option<usize> {
+    for i in 0..clauses.len() {
+        if catches(&clauses[i], x) {
+            return Some(i);
         }
-        Err(stop) => Err(stop),
+    }
+    None
+}
+
+/// The node of a clause's body: behind the `try`'s expression and the bodies before it.
+fn clause_at(nodes: &[Node], first: usize, number: usize) -> Option<usize> {
+    let mut at = first;
+    for _ in 0..number + 1 {
+        at = nodes.get(at)?.end;
+    }
+    Some(at)
+}
+
+fn handler_at(flats: &[Flat], code: usize, node: usize, x: &Exn) -> Option<usize> {
+    let nodes = flats.get(code)?.nodes.as_slice();
+    match &nodes.get(node)?.form {
+        Form::Try(clauses) => clause_at(nodes, node + 1, clause_for(clauses.as_slice(), x)?),
+        _ => None,
     }
 }
 
-/// One turn of a visit, with its innermost activation off the stack.
-fn turn<S: Services>(
-    alloc: Global,
-    codes: &mut Codes,
-    outer: &mut Activations,
-    top: Activation,
-    how: Mode,
+/// Unwinds the frames to the innermost clause that takes the exception.
+fn caught(flats: &[Flat], m: &mut Machine, x: Exn) -> Result<Turn, Stop> {
+    while let Some(frame) = m.frames.pop() {
+        match frame {
+            Frame::Try(node, height) => {
+                if let Some(at) = handler_at(flats, m.spot.code, node, &x) {
+                    m.stack.truncate(height);
+                    put_on(&mut m.frames, Frame::Last(node))?;
+                    m.spot.at = at;
+                    return Ok(Turn::Run);
+                }
+            }
+            Frame::Body(spot) | Frame::Items(spot) | Frame::Chunk(spot) => m.spot = spot,
+            Frame::Part(_) | Frame::Last(_) | Frame::Bound(_) => {}
+        }
+    }
+    Err(Stop::Raised(x))
+}
+
+/// Runs the machine while it stands in one program.
+fn run_in<S: Services>(
+    home: Home<'_>,
+    number: usize,
+    first: Turn,
+    m: &mut Machine,
     state: &mut State,
     svc: &mut S,
-) -> Result<Mode, Stop>
-    requires open { IsSome (S.stands svc.old).begun }
-    requires linked { AreLinked codes.old (outer.old ++ top ∷ []) }
-    requires safe { IsSafe (stands_for codes.old (outer.old ++ top ∷ []) how (joined state.old (S.stands svc.old))).asks }
-    ensures turned { Turned (stands_for codes.old (outer.old ++ top ∷ []) how (joined state.old (S.stands svc.old))) result codes.new outer.new (joined state.new (S.stands svc.new)) }
-    ensures shrinks { IfOk result (λ next. load next outer.new state.new.work < load how (outer.old ++ top ∷ []) state.old.work) }
-    ensures offer { (S.stands svc.new).offer ≡ (S.stands svc.old).offer }
-    ensures begun { (S.stands svc.new).begun ≡ (S.stands svc.old).begun }
-{
-    match how {
-        Mode::Run => begin(alloc, codes, outer, top, state, svc),
-        Mode::Give(v) => give(alloc, codes, outer, top, v, state, svc),
-        Mode::Raise(x) => raise(alloc, codes, outer, top, x, state),
+) -> Result<Turn, Stop> {
+    let mut turn = first;
+    while m.spot.code == number {
+        turn = match turn {
+            Turn::Run => begin(home, m, state, svc)?,
+            Turn::Gave => gave(home, m, state, svc)?,
+            Turn::Visit | Turn::Ended => return Ok(turn),
+        };
     }
+    Ok(turn)
 }
 
-/// Runs a stack to its end.
+fn run_on<S: Services>(
+    alloc: Global,
+    codes: &Codes<'_>,
+    first: Turn,
+    m: &mut Machine,
+    state: &mut State,
+    svc: &mut S,
+) -> Result<Turn, Stop> {
+    let number = m.spot.code;
+    let Some(flat) = codes.flats.get(number) else {
+        return Err(Stop::Wrong);
+    };
+    let Some(code) = codes.program(number) else {
+        return Err(Stop::Wrong);
+    };
+    run_in(Home { alloc, code, flat }, number, first, m, state, svc)
+}
+
+/// Runs the machine to its end.
 pub fn run<S: Services>(
     alloc: Global,
-    codes: Codes,
-    activations: Activations,
+    codes: &mut Codes<'_>,
+    m: &mut Machine,
     state: &mut State,
     svc: &mut S,
-) -> Result<Value, Stop>
-    requires open { IsSome (S.stands svc.old).begun }
-    requires linked { AreLinked codes activations }
-    requires safe { IsSafe (stands_for codes activations mode.Run (joined state.old (S.stands svc.old))).asks }
-    ensures meets { Meets (stands_for codes activations mode.Run (joined state.old (S.stands svc.old))) result (joined state.new (S.stands svc.new)) }
-    ensures offer { (S.stands svc.new).offer ≡ (S.stands svc.old).offer }
-    ensures begun { (S.stands svc.new).begun ≡ (S.stands svc.old).begun }
-{
-    let mut programs = codes;
-    let mut stack = activations;
-    let mut how = Mode::Run;
-    while let Some(top) = stack.pop() {
-        match turn(alloc, &mut programs, &mut stack, top, how, state, svc) {
-            Ok(next) => how = next,
+) -> Result<Value, Stop> {
+    let mut turn = Turn::Run;
+    loop {
+        let next = match turn {
+            Turn::Run | Turn::Gave => run_on(alloc, codes, turn, m, state, svc),
+            Turn::Visit => evaluate(alloc, codes, m, state),
+            Turn::Ended => return m.stack.pop().ok_or(Stop::Wrong),
+        };
+        turn = match next {
+            Ok(how) => how,
+            Err(Stop::Raised(x)) => caught(codes.flats.as_slice(), m, x)?,
             Err(stop) => return Err(stop),
-        }
-    }
-    match how {
-        Mode::Give(v) => Ok(v),
-        Mode::Raise(x) => Err(Stop::Raised(x)),
-        Mode::Run => Err(Stop::Wrong),
+        };
     }
 }

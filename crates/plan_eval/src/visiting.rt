@@ -12,11 +12,12 @@ ghost use Rattle.meaning_laws.specs.Laws.{VisitEnds, VisitsAlike, NoneSuffices};
 ghost use Rattle.visit_state.specs.Meets.{Meets};
 ghost use Rattle.plan_eval.specs.Turns.{entry};
 
-use crate::frame::{Activation, Activations, Codes};
+use crate::flatten::flat_of;
+use crate::frame::{Machine, Spot};
 use crate::machine::run;
-use crate::place::enters;
+use crate::node::{Body, Codes};
 use chunk_types::CheckedPacket;
-use plan_base::{Chunk, Family, NoMemory, Value, copy_values, place_of};
+use plan_base::{Chunk, Family, NoMemory, Program, Value, copy_values, place_of};
 use plan_items::Items;
 use plan_meaning::{Outcome, Stop, Visit};
 use service_api::{Ctx, Services};
@@ -37,27 +38,34 @@ fn spent(alloc: Global, bound: u32) -> Visit
     }
 }
 
-/// The program with which a visit starts.
-fn first_codes(alloc: Global, chunk: &Chunk) -> Result<Codes, NoMemory>
-    ensures { IfOk result (λ codes. codes ≡ chunk.now.code ∷ []) }
-{
-    let mut codes = Items::new(alloc);
-    codes.add(chunk.code.copy(alloc)?)?;
-    Ok(codes)
+/// The programs with which a visit starts.
+fn first_codes<'a>(alloc: Global, code: &'a Program) -> Result<Codes<'a>, NoMemory> {
+    let mut flats = Items::new(alloc);
+    flats.add(flat_of(alloc, code)?)?;
+    Ok(Codes {
+        first: code,
+        more: Items::new(alloc),
+        flats,
+    })
 }
 
-/// The activation with which a visit starts: the function at that place.
-fn first_activation(alloc: Global, chunk: &Chunk, fun: usize) -> Result<Activations, NoMemory>
-    ensures { IfOk result (λ activations. activations ≡ entry 0 fun chunk.now.args ∷ []) }
-{
-    let mut activations = Items::new(alloc);
-    activations.add(Activation {
+/// The machine with which a visit starts, at the function of that body.
+fn first_machine(alloc: Global, args: &[Value], body: Body) -> Result<Machine, NoMemory> {
+    let spot = Spot {
         code: 0,
-        fun,
-        args: copy_values(alloc, chunk.args.as_slice())?,
-        frames: Items::new(alloc),
-    })?;
-    Ok(activations)
+        base: 0,
+        at: body.at,
+    };
+    Ok(Machine {
+        stack: copy_values(alloc, args)?.into_vec(),
+        frames: Vec::new(alloc),
+        spot,
+    })
+}
+
+/// The body of the function of that number in the first program.
+fn first_body(codes: &Codes<'_>, fun: usize) -> Option<Body> {
+    Some(*codes.flats.get(0)?.bodies.get(fun)?)
 }
 
 /// Runs a chunk from its entry to its end.
@@ -76,12 +84,15 @@ fn visited<S: Services>(
     let Some(fun) = place_of(&chunk.entry, chunk.code.funs.as_slice()) else {
         return Err(Stop::Wrong);
     };
-    if !enters(&chunk.code, fun, &chunk.args) {
+    let mut codes = first_codes(alloc, &chunk.code)?;
+    let Some(body) = first_body(&codes, fun) else {
+        return Err(Stop::Wrong);
+    };
+    if body.params != chunk.args.len() {
         return Err(Stop::Wrong);
     }
-    let codes = first_codes(alloc, chunk)?;
-    let activations = first_activation(alloc, chunk, fun)?;
-    run(alloc, codes, activations, state, svc)
+    let mut machine = first_machine(alloc, chunk.args.as_slice(), body)?;
+    run(alloc, &mut codes, &mut machine, state, svc)
 }
 
 /// What the visit of a chunk ends with.

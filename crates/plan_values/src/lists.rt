@@ -96,6 +96,20 @@ fn with_first(alloc: Global, x: &Value, items: &[Value]) -> Result<Values, NoMem
     Ok(all)
 }
 
+/// `x :: xs` of owned values, whatever it weighs.
+pub fn cons(x: Value, xs: Value) -> Result<Value, PrimFault> {
+    match xs {
+        Value::List(t, items) => Ok(Value::List(t, put_before(x, items)?)),
+        _ => Err(PrimFault::Unfit),
+    }
+}
+
+fn put_before(x: Value, items: Values) -> Result<Values, AllocError> {
+    let mut all = items.into_vec();
+    all.insert(0, x)?;
+    Ok(Items::from_vec(all))
+}
+
 /// `hd(xs)`: a copy of the first item.
 #[tactic(auto, using(crate::proofs::ListLaws::lists))]
 pub fn first_item(alloc: Global, items: &[Value]) -> Result<Value, PrimFault>

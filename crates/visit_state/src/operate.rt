@@ -27,6 +27,11 @@ pub fn binary(alloc: Global, op: Op, a: &Value, b: &Value) -> Result<Value, Stop
     given(plan_values::binary(alloc, op, a, b))
 }
 
+/// What `x :: xs` gives, whatever it weighs.
+pub fn cons(x: Value, xs: Value) -> Result<Value, Stop> {
+    given(plan_values::cons(x, xs))
+}
+
 /// What a primitive gives of its arguments.
 pub fn primitive(alloc: Global, p: Primitive, args: &Values) -> Result<Value, Stop>
     ensures { MeetsGiven (rules.primitive p args.now) result }

@@ -9,6 +9,7 @@ ghost use Rattle.plan_meaning.specs.Meaning as spec;
 ghost use Rattle.visit_state.specs.Meets.{Meets, StopsBy};
 
 use crate::raised::{no_bound, no_route, no_service, not_neighbour, too_large};
+use crate::weighing::plain_weight;
 use chunk_types::{CheckedChunk, CheckedPacket};
 use plan_base::{Chunk, Dev, Family, Host, Name, NoMemory, Value, nesting, weight};
 use plan_items::Items;
@@ -130,6 +131,22 @@ impl State {
         Ok(())
     }
 
+    /// Refuses a value of that weight and nesting where it is over the limits, and spends the weight of another.
+    pub fn weigh_as(&mut self, alloc: Global, weight: u64, nesting: u32) -> Result<(), Stop> {
+        if weight > 16384 || nesting > 4 {
+            return Err(too_large(alloc));
+        }
+        self.spend(weight)
+    }
+
+    /// Refuses a value over the limits, and spends the weight of another.
+    pub fn weigh(&mut self, alloc: Global, v: &Value) -> Result<(), Stop> {
+        match plain_weight(v) {
+            Some(size) => self.weigh_as(alloc, size, 0),
+            None => self.weigh_as(alloc, weight(v), nesting(v)),
+        }
+    }
+
     /// Refuses a value over the limits, and spends the weight of another.
     #[tactic(auto, unfolding(plan_meaning::specs::Run::weighed, plan_meaning::specs::Run::is_too_large))]
     pub fn weighed(&mut self, alloc: Global, v: Value) -> Result<Value, Stop>
@@ -181,6 +198,54 @@ impl State {
         send(&mut purse, &mut self.outbox, way.dev, packet)?;
         self.ctx.purse = purse.left();
         Ok(())
+    }
+
+    /// Sends a typed chunk on a way that is there.
+    fn sent_of(
+        &mut self,
+        way: Way,
+        chunk: Chunk,
+        host: Host,
+        route: Name,
+    ) -> Result<(), Stop> {
+        let chunk = CheckedChunk::of(chunk);
+        let mut purse = Purse::of(self.ctx.purse);
+        let packet = CheckedPacket::of(self.family, host, way.bound, route, chunk);
+        send(&mut purse, &mut self.outbox, way.dev, packet)?;
+        self.ctx.purse = purse.left();
+        Ok(())
+    }
+
+    /// Sends a chunk to a host by a routing function.
+    pub fn send_remote_of(
+        &mut self,
+        alloc: Global,
+        chunk: Chunk,
+        host: Host,
+        n: i64,
+        route: &Name,
+    ) -> Result<(), Stop> {
+        let purse = Purse::of(self.ctx.purse);
+        match remote_way(&purse, &self.ctx, host, n, route) {
+            Ok(way) => self.sent_of(way, chunk, host, route.copy(alloc)?),
+            Err(fault) => Err(unsent(alloc, fault)),
+        }
+    }
+
+    /// Sends a chunk to a neighbour.
+    pub fn send_neighbour_of(
+        &mut self,
+        alloc: Global,
+        chunk: Chunk,
+        host: Host,
+        n: i64,
+        dev: Dev,
+    ) -> Result<(), Stop> {
+        let purse = Purse::of(self.ctx.purse);
+        match neighbour_way(&purse, &self.ctx, host, n, dev) {
+            Ok(way) => self.sent_of(way, chunk, host, default_route(alloc)?),
+            Err(fault) => Err(unsent(alloc, fault)),
+        }
     }
 
     /// Sends a chunk to a host by a routing function. Condition: where it is sent, it is typed and well formed.
