@@ -8,10 +8,10 @@ use Rattle.plan_base.specs.declared.tree.Exn.{Exn}
 use Rattle.plan_meaning.specs.declared.stop.Stop.TheVariants.{Raised}
 use Rattle.plan_meaning.specs.State.{VisitState}
 use Rattle.plan_meaning.specs.Run.{Step, gave, stopped, quiet}
-use Rattle.plan_eval.specs.declared.frame.Frame.{Frame}
-use Rattle.plan_eval.specs.declared.frame.Activation.{Activation}
-use Rattle.plan_eval.specs.declared.frame.Mode.TheVariants as mode
-use Rattle.plan_eval.specs.declared.next.Next.TheVariants as next
+use Rattle.plan_eval.specs.Frames.{Frame}
+use Rattle.plan_eval.specs.Frames.{Activation}
+use Rattle.plan_eval.specs.Modes as mode
+use Rattle.plan_eval.specs.Decided as next
 use Rattle.plan_eval.specs.Stack.{Spot, deeper, resume, code_spot, start_of, spot_from, spot_in, ended_in, ended, all_ended, AreLinked, innermost_run, innermost, stands_for}
 use Rattle.plan_eval.specs.Nexts.{run_at, next_step}
 use Rattle.plan_eval.proofs.Stacks.{all_ended_push, ended_push, spot_in_push}

@@ -14,7 +14,7 @@ use Rattle.plan_meaning.specs.Run.{gave, stopped, «next», given, serve, weighe
 use Rattle.plan_meaning.specs.Meaning.{called, applied}
 use Rattle.plan_meaning.specs.Safe.{IsSafe}
 use Rattle.visit_state.specs.Meets.{MeetsGiven}
-use Rattle.plan_eval.specs.declared.next.Next.TheVariants as next
+use Rattle.plan_eval.specs.Decided as next
 use Rattle.plan_eval.specs.Stack.{Spot}
 use Rattle.plan_eval.specs.Leads.{Leads}
 use Rattle.plan_eval.specs.Nexts.{call_of, next_step}

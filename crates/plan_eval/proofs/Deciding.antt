@@ -20,8 +20,8 @@ use Rattle.plan_meaning.specs.declared.stop.Stop.TheVariants.{Raised, Wrong}
 use Rattle.plan_meaning.specs.State.{VisitState}
 use Rattle.plan_meaning.specs.Run.{Run, gave, stopped, quiet, ◌>>=◌, ◌>>◌, pure, or_wrong, given, weighed}
 use Rattle.plan_meaning.specs.Meaning.{Env, meaning, as_bool, as_int, as_host, as_dev, as_chunk, as_items, values_behind, called, left_along, right_along, pay_eval, visited, send_remote, send_neighbour, opened_at, applied, entered, tuple, call, packed, choice, binding, sequence, conjunction, disjunction, negation, operation, selection, attempt, fold_left, fold_right, evaluation, remote, neighbour, values}
-use Rattle.plan_eval.specs.declared.frame.Frame.TheVariants as frame
-use Rattle.plan_eval.specs.declared.next.Next.TheVariants as next
+use Rattle.plan_eval.specs.Frames as frame
+use Rattle.plan_eval.specs.Decided as next
 use Rattle.plan_eval.specs.Stack.{deeper, behind, along}
 use Rattle.plan_eval.specs.Leads.{Leads}
 use Rattle.plan_eval.specs.Forms.{HasParts}

@@ -16,7 +16,7 @@ use Rattle.plan_meaning.specs.State.{VisitState}
 use Rattle.plan_meaning.specs.Run.{Run, gave, stopped, quiet, raise, weighed, ◌>>=◌}
 use Rattle.plan_meaning.specs.Meaning.{Env, meaning, bound, entered, visited, handled, catches}
 use Rattle.visit_state.specs.Handlers.{handler}
-use Rattle.plan_eval.specs.declared.frame.Frame.TheVariants as frame
+use Rattle.plan_eval.specs.Frames as frame
 use Rattle.plan_eval.specs.Stack.{Spot, behind, along, resumed, resume, first_from}
 use Rattle.plan_eval.specs.Leads.{Leads}
 use Rattle.plan_eval.specs.Nexts.{fold_on}

@@ -11,10 +11,10 @@ use Rattle.plan_meaning.specs.declared.stop.Stop.TheVariants.{Raised, WorkSpent,
 use Rattle.plan_meaning.specs.State.{VisitState}
 use Rattle.plan_meaning.specs.Run.{Run, Step, gave, stopped, quiet, and_then, «next», rescued, otherwise, weighed}
 use Rattle.plan_meaning.specs.Meaning.{Env, meaning, handled}
-use Rattle.plan_eval.specs.declared.frame.Frame.{Frame}
-use Rattle.plan_eval.specs.declared.frame.Frame.TheVariants as frame
-use Rattle.plan_eval.specs.declared.frame.Activation.{Activation}
-use Rattle.plan_eval.specs.declared.frame.Mode.TheVariants as mode
+use Rattle.plan_eval.specs.Frames.{Frame}
+use Rattle.plan_eval.specs.Frames as frame
+use Rattle.plan_eval.specs.Frames.{Activation}
+use Rattle.plan_eval.specs.Modes as mode
 use Rattle.plan_eval.specs.Stack.{Spot, spot_of, deeper, part_or_self, part_number, expr_from, env_from, spot_from, resumed, resume, through, start_of, spot_in, ended_in, ended, all_ended, stands_for}
 use Rattle.plan_eval.specs.Turns.{entry, under}
 use Rattle.plan_eval.proofs.Stacks.{ended_push}

@@ -8,11 +8,11 @@ use Rattle.plan_base.specs.TypingNames.{place_of}
 use Rattle.plan_meaning.specs.State.{VisitState}
 use Rattle.plan_meaning.specs.Run.{Step}
 use Rattle.plan_meaning.specs.Meaning.{Env, meaning, bound, entered}
-use Rattle.plan_eval.specs.declared.frame.Frame.{Frame}
-use Rattle.plan_eval.specs.declared.frame.Frame.TheVariants as frame
-use Rattle.plan_eval.specs.declared.frame.Activation.{Activation}
-use Rattle.plan_eval.specs.declared.frame.Mode.TheVariants as mode
-use Rattle.plan_eval.specs.declared.next.Next.TheVariants as next
+use Rattle.plan_eval.specs.Frames.{Frame}
+use Rattle.plan_eval.specs.Frames as frame
+use Rattle.plan_eval.specs.Frames.{Activation}
+use Rattle.plan_eval.specs.Modes as mode
+use Rattle.plan_eval.specs.Decided as next
 use Rattle.plan_eval.specs.Stack.{Spot, deeper, resume, start_of, spot_in, ended_in, ended, all_ended, AreLinked, innermost, stands_for}
 use Rattle.plan_eval.specs.Leads.{Leads}
 use Rattle.plan_eval.specs.Nexts.{next_step}

@@ -14,7 +14,7 @@ use Rattle.plan_meaning.specs.State.{VisitState}
 use Rattle.plan_meaning.specs.Run.{Step, stopped, weighed}
 use Rattle.plan_meaning.specs.Meaning.{Env, as_items, applied}
 use Rattle.visit_state.specs.Meets.{MeetsGiven}
-use Rattle.plan_eval.specs.declared.next.Next.{Next}
+use Rattle.plan_eval.specs.Decided.{Next}
 use Rattle.plan_eval.specs.Stack.{Spot}
 use Rattle.plan_eval.specs.Leads.{Leads}
 use Rattle.plan_eval.specs.Nexts.{Decides, part_gave, call_of, fold_on}

@@ -12,9 +12,9 @@ use Rattle.plan_meaning.specs.Meaning.{Env}
 use Rattle.plan_meaning.specs.State.{VisitState, Own, joined}
 use Rattle.plan_meaning.specs.Run.{gave, quiet, weighed}
 use Rattle.plan_meaning.specs.Safe.{IsSafe}
-use Rattle.plan_eval.specs.declared.frame.Frame.TheVariants as frame
-use Rattle.plan_eval.specs.declared.frame.Activation.{Activation}
-use Rattle.plan_eval.specs.declared.next.Next.{Next}
+use Rattle.plan_eval.specs.Frames as frame
+use Rattle.plan_eval.specs.Frames.{Activation}
+use Rattle.plan_eval.specs.Decided.{Next}
 use Rattle.plan_eval.specs.Stack.{Spot, resume, spot_in}
 use Rattle.plan_eval.specs.Leads.{Leads}
 use Rattle.plan_eval.specs.Nexts.{Decides, part_gave, fold_on, call_of, RemoteIsSafe, NeighbourIsSafe}

@@ -4,9 +4,9 @@ use Rattle.std.specs.Prelude.{IfOk}
 use Rattle.std.proofs.lemmas.List.Sums.{sum_by_push}
 use Rattle.plan_base.specs.declared.tree.Exn.{Exn}
 use Rattle.plan_base.specs.declared.tree.Value.{Value}
-use Rattle.plan_eval.specs.declared.frame.Frame.{Frame}
-use Rattle.plan_eval.specs.declared.frame.Activation.{Activation}
-use Rattle.plan_eval.specs.declared.frame.Mode.TheVariants as mode
+use Rattle.plan_eval.specs.Frames.{Frame}
+use Rattle.plan_eval.specs.Frames.{Activation}
+use Rattle.plan_eval.specs.Modes as mode
 use Rattle.plan_eval.specs.Turns.{entry, under, frames_in, load}
 
 one_more : (outer : List Activation) (a : Activation) → frames_in (outer ++ a ∷ []) ≡ frames_in outer + length a.frames

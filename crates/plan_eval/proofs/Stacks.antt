@@ -8,9 +8,9 @@ use Rattle.plan_base.specs.declared.tree.Value as value
 use Rattle.plan_base.specs.Trees.{ExprLayer}
 use Rattle.plan_meaning.specs.Run.{Step, pure, weighed, ◌>>=◌}
 use Rattle.plan_meaning.specs.Meaning.{Env, meaning, handled}
-use Rattle.plan_eval.specs.declared.frame.Frame.{Frame}
-use Rattle.plan_eval.specs.declared.frame.Frame.TheVariants as frame
-use Rattle.plan_eval.specs.declared.frame.Activation.{Activation}
+use Rattle.plan_eval.specs.Frames.{Frame}
+use Rattle.plan_eval.specs.Frames as frame
+use Rattle.plan_eval.specs.Frames.{Activation}
 use Rattle.plan_eval.specs.Stack.{Spot, spot_of, deeper, part_or_self, part_number, env_at, expr_from, env_from, spot_from, along, resumed, resume, through, start_of, spot_in, ended_in, ended, all_ended}
 use Rattle.plan_eval.specs.Leads.{Leads}
 use Rattle.plan_eval.proofs.Leading.{carried, handled_along}

@@ -13,12 +13,12 @@ use Rattle.plan_meaning.specs.State.{VisitState}
 use Rattle.plan_meaning.specs.Run.{Step, gave, stopped, quiet, spend}
 use Rattle.plan_meaning.specs.Meaning.{Env, meaning}
 use Rattle.plan_meaning.specs.Safe.{IsSafe}
-use Rattle.plan_eval.specs.declared.frame.Frame.{Frame}
-use Rattle.plan_eval.specs.declared.frame.Frame.TheVariants as frame
-use Rattle.plan_eval.specs.declared.frame.Activation.{Activation}
-use Rattle.plan_eval.specs.declared.frame.Mode.{Mode}
-use Rattle.plan_eval.specs.declared.frame.Mode.TheVariants as mode
-use Rattle.plan_eval.specs.declared.next.Next.{Next}
+use Rattle.plan_eval.specs.Frames.{Frame}
+use Rattle.plan_eval.specs.Frames as frame
+use Rattle.plan_eval.specs.Frames.{Activation}
+use Rattle.plan_eval.specs.Modes.{Mode}
+use Rattle.plan_eval.specs.Modes as mode
+use Rattle.plan_eval.specs.Decided.{Next}
 use Rattle.plan_eval.specs.Leads.{Leads}
 use Rattle.plan_eval.specs.Nexts.{Decides, IsDone, begins}
 use Rattle.plan_eval.specs.Stack.{Spot, deeper, resumed, resume, through, start_of, spot_in, ended_in, ended, all_ended, AreLinked, stands_for}

@@ -10,11 +10,11 @@ use Rattle.plan_meaning.specs.declared.stop.Stop.TheVariants.{Raised, Wrong, NoM
 use Rattle.plan_meaning.specs.State.{VisitState}
 use Rattle.plan_meaning.specs.Run.{Step, gave, stopped, quiet, weighed}
 use Rattle.plan_meaning.specs.Meaning.{meaning, entered, visited}
-use Rattle.plan_eval.specs.declared.frame.Frame.{Frame}
-use Rattle.plan_eval.specs.declared.frame.Frame.TheVariants as frame
-use Rattle.plan_eval.specs.declared.frame.Activation.{Activation}
-use Rattle.plan_eval.specs.declared.frame.Mode.TheVariants as mode
-use Rattle.plan_eval.specs.declared.next.Next.TheVariants as next
+use Rattle.plan_eval.specs.Frames.{Frame}
+use Rattle.plan_eval.specs.Frames as frame
+use Rattle.plan_eval.specs.Frames.{Activation}
+use Rattle.plan_eval.specs.Modes as mode
+use Rattle.plan_eval.specs.Decided as next
 use Rattle.plan_eval.specs.Stack.{Spot, deeper, resume, spot_in, ended, all_ended, AreLinked, stands_for}
 use Rattle.plan_eval.specs.Leads.{Leads}
 use Rattle.plan_eval.specs.Nexts.{Enters, next_step}

@@ -2,7 +2,7 @@
 use Rattle.std.proofs.Common.{◌≡◌, List, [], ◌∷◌, Option, None, refl}
 use Rattle.plan_base.specs.declared.name.Name.{Name}
 use Rattle.plan_base.specs.declared.tree.Value.{Value}
-use Rattle.plan_eval.specs.declared.frame.Frame.{Frame}
+use Rattle.plan_eval.specs.Frames.{Frame}
 use Rattle.plan_eval.specs.Stack.{expr_from, value_from}
 
 pub nowhere : (fs : List Frame) → expr_from None fs ≡ None

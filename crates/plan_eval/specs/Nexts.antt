@@ -15,9 +15,9 @@ use Rattle.plan_meaning.specs.State.{VisitState, Own, joined}
 use Rattle.plan_meaning.specs.Run.{Run, Step, wrong, weighed, ◌>>=◌}
 use Rattle.plan_meaning.specs.Meaning.{Env, bound, entered, visited, meaning, opened_at, called, as_chunk, as_host, as_int, as_dev, send_remote, send_neighbour}
 use Rattle.plan_meaning.specs.Safe.{IsSafe}
-use Rattle.plan_eval.specs.declared.frame.Frame.TheVariants as frame
-use Rattle.plan_eval.specs.declared.next.Next.{Next}
-use Rattle.plan_eval.specs.declared.next.Next.TheVariants as next
+use Rattle.plan_eval.specs.Frames as frame
+use Rattle.plan_eval.specs.Decided.{Next}
+use Rattle.plan_eval.specs.Decided as next
 use Rattle.plan_eval.specs.Stack.{Spot, deeper, resume, behind, along}
 use Rattle.plan_eval.specs.Leads.{Carries}
 

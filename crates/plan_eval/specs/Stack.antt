@@ -15,11 +15,11 @@ use Rattle.plan_meaning.specs.declared.stop.Stop.TheVariants.{Raised}
 use Rattle.plan_meaning.specs.State.{VisitState}
 use Rattle.plan_meaning.specs.Run.{Run, Step, gave, stopped, ◌>>=◌, ◌>>◌, and_then, rescued, quiet, pure, wrong, or_wrong, given, weighed}
 use Rattle.plan_meaning.specs.Meaning.{Env, catches, binds, bound, as_bool, as_int, as_host, as_dev, as_chunk, as_items, values_behind, called, left_along, right_along, pay_eval, visited, send_remote, send_neighbour, handled, meaning}
-use Rattle.plan_eval.specs.declared.frame.Frame.{Frame}
-use Rattle.plan_eval.specs.declared.frame.Frame.TheVariants as frame
-use Rattle.plan_eval.specs.declared.frame.Activation.{Activation}
-use Rattle.plan_eval.specs.declared.frame.Mode.{Mode}
-use Rattle.plan_eval.specs.declared.frame.Mode.TheVariants as mode
+use Rattle.plan_eval.specs.Frames.{Frame}
+use Rattle.plan_eval.specs.Frames as frame
+use Rattle.plan_eval.specs.Frames.{Activation}
+use Rattle.plan_eval.specs.Modes.{Mode}
+use Rattle.plan_eval.specs.Modes as mode
 
 -- ---- the parts of an expression
 

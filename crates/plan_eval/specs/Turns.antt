@@ -12,10 +12,10 @@ use Rattle.plan_meaning.specs.declared.stop.Stop.TheVariants.{NoMemory}
 use Rattle.plan_meaning.specs.State.{VisitState}
 use Rattle.plan_meaning.specs.Run.{Step, stopped}
 use Rattle.plan_meaning.specs.Meaning.{Env}
-use Rattle.plan_eval.specs.declared.frame.Frame.{Frame}
-use Rattle.plan_eval.specs.declared.frame.Activation.{Activation}
-use Rattle.plan_eval.specs.declared.frame.Mode.{Mode}
-use Rattle.plan_eval.specs.declared.frame.Mode.TheVariants as mode
+use Rattle.plan_eval.specs.Frames.{Frame}
+use Rattle.plan_eval.specs.Frames.{Activation}
+use Rattle.plan_eval.specs.Modes.{Mode}
+use Rattle.plan_eval.specs.Modes as mode
 use Rattle.plan_eval.specs.Leads.{Leads}
 use Rattle.plan_eval.specs.Stack.{Spot, deeper, expr_from, env_from, spot_in, AreLinked, stands_for}
 

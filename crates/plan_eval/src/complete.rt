@@ -1,10 +1,12 @@
 //! What an expression does when all its parts have given values, which lie on top of the stack.
-use crate::flatten::flat_of;
+use crate::codes::Codes;
 use crate::frame::{Frame, Machine, Spot, Turn};
-use crate::node::{Codes, Flat, Form, Node};
 use crate::pass::{Home, enter};
 use crate::values::{put_on, settle, take_one, taken};
-use plan_base::{Chunk, Name, NoMemory, Op, Primitive, Program, Value, Values, nesting, place_of, weight};
+use flat_code::{Flat, Form, Node, flat_of};
+use plan_base::{
+    Chunk, Name, NoMemory, Op, Primitive, Program, Value, Values, nesting, place_of, weight,
+};
 use plan_items::{Boxed, Items};
 use plan_meaning::Stop;
 use service_api::Services;
@@ -161,7 +163,11 @@ fn enter_own(
         return Err(Stop::Wrong);
     }
     let (args, deepest) = measure(&m.stack.as_slice()[m.stack.len() - count..]);
-    state.weigh_as(alloc, flat.size + name_size + args + 2, deepest.saturating_add(1))?;
+    state.weigh_as(
+        alloc,
+        flat.size + name_size + args + 2,
+        deepest.saturating_add(1),
+    )?;
     state.pay_eval(alloc)?;
     let Some(Frame::Part(node)) = m.frames.pop() else {
         return Err(Stop::Wrong);
@@ -241,22 +247,18 @@ fn send_remote(
     let Value::Chunk(chunk) = take_one(stack)? else {
         return Err(Stop::Wrong);
     };
-    state.send_remote_of(alloc, chunk.into_inner(), host, n, r)?;
+    state.send_remote(alloc, chunk.into_inner(), host, n, r)?;
     settle(alloc, stack, Value::Unit, state)
 }
 
-fn send_neighbour(
-    alloc: Global,
-    stack: &mut Vec<Value>,
-    state: &mut State,
-) -> Result<Turn, Stop> {
+fn send_neighbour(alloc: Global, stack: &mut Vec<Value>, state: &mut State) -> Result<Turn, Stop> {
     let dev = as_dev(&take_one(stack)?).ok_or(Stop::Wrong)?;
     let n = as_int(&take_one(stack)?).ok_or(Stop::Wrong)?;
     let host = as_host(&take_one(stack)?).ok_or(Stop::Wrong)?;
     let Value::Chunk(chunk) = take_one(stack)? else {
         return Err(Stop::Wrong);
     };
-    state.send_neighbour_of(alloc, chunk.into_inner(), host, n, dev)?;
+    state.send_neighbour(alloc, chunk.into_inner(), host, n, dev)?;
     settle(alloc, stack, Value::Unit, state)
 }
 

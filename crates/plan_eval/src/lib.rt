@@ -1,11 +1,10 @@
 //! Visits: the evaluation of a packet's chunk on an explicit stack.
 #![tactic(auto)]
 
+mod codes;
 mod complete;
-mod flatten;
 mod frame;
 mod machine;
-mod node;
 mod pass;
 mod values;
 mod visiting;

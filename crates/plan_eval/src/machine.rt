@@ -1,9 +1,10 @@
 //! The machine of a visit: a stack of values and a stack of frames over flat code.
+use crate::codes::Codes;
 use crate::complete::evaluate;
 use crate::frame::{Frame, Machine, Turn};
-use crate::node::{Codes, Flat, Form, Node};
 use crate::pass::{Home, begin, gave};
 use crate::values::put_on;
+use flat_code::{Flat, Form, Node};
 use plan_base::{Exn, Name, Value};
 use plan_meaning::Stop;
 use service_api::Services;

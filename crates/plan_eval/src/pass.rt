@@ -1,8 +1,8 @@
 //! How an expression begins, and what an open one does when one of its parts has given a value.
 use crate::complete::complete;
 use crate::frame::{Frame, Machine, Spot, Turn};
-use crate::node::{Flat, Form, Node};
 use crate::values::{copied, push_copy, push_int, put_on, settle, settle_top, take_one};
+use flat_code::{Flat, Form, Node};
 use plan_base::{Exn, Program, Value};
 use plan_items::Items;
 use plan_meaning::Stop;

@@ -32,10 +32,7 @@ pub fn copied(alloc: Global, v: &Value) -> Result<Value, NoMemory> {
         Value::Char(c) => Ok(Value::Char(*c)),
         Value::Host(h) => Ok(Value::Host(*h)),
         Value::Dev(d) => Ok(Value::Dev(*d)),
-        Value::List(t, items) => Ok(Value::List(
-            t.copy(alloc)?,
-            copies(alloc, items.as_slice())?,
-        )),
+        Value::List(t, items) => Ok(Value::List(t.copy(alloc)?, copies(alloc, items.as_slice())?)),
         Value::Tuple(parts) => Ok(Value::Tuple(copies(alloc, parts.as_slice())?)),
         Value::Str(_) | Value::Blob(_) | Value::Chunk(_) => v.copy(alloc),
     }

@@ -12,11 +12,11 @@ ghost use Rattle.meaning_laws.specs.Laws.{VisitEnds, VisitsAlike, NoneSuffices};
 ghost use Rattle.visit_state.specs.Meets.{Meets};
 ghost use Rattle.plan_eval.specs.Turns.{entry};
 
-use crate::flatten::flat_of;
+use crate::codes::Codes;
 use crate::frame::{Machine, Spot};
 use crate::machine::run;
-use crate::node::{Body, Codes};
 use chunk_types::CheckedPacket;
+use flat_code::{Body, flat_of};
 use plan_base::{Chunk, Family, NoMemory, Program, Value, copy_values, place_of};
 use plan_items::Items;
 use plan_meaning::{Outcome, Stop, Visit};

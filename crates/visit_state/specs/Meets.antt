@@ -2,7 +2,7 @@
 use Rattle.std.specs.Prelude.{◌≡◌, ◌≢◌, Result, Ok, Err}
 use Rattle.plan_base.specs.declared.tree.Exn.{Exn}
 use Rattle.plan_base.specs.declared.tree.Value.{Value}
-use Rattle.value_rules.specs.Rules.{Given, gives, raises, unfit}
+use Rattle.value_rules.specs.Rules.{Given, gives, raises, unfit, limited}
 use Rattle.remote_calls.specs.declared.fault.SendFault.{SendFault}
 use Rattle.remote_calls.specs.declared.fault.SendFault.TheVariants as fault
 use Rattle.value_rules.specs.Rules.{no_service}
@@ -17,6 +17,11 @@ abbrev pub Meets : {A : Type 0} → Step A → Result A Stop → VisitState → 
 Meets want (Ok a) new = want.after ≡ gave a new
 Meets want (Err e) new = e ≢ NoMemory → want.after ≡ stopped e new
 
+-- the same, where the value is known and only the state is answered
+abbrev pub Settles : {A : Type 0} → Step A → A → Result (Unit {0}) Stop → VisitState → Type 0
+Settles want a (Ok _) new = want.after ≡ gave a new
+Settles want a (Err e) new = e ≢ NoMemory → want.after ≡ stopped e new
+
 -- the same of an operator or a primitive
 abbrev pub MeetsGiven : Given → Result Value Stop → Type 0
 MeetsGiven want (Ok v) = want ≡ gives v
@@ -24,6 +29,14 @@ MeetsGiven want (Err (Raised x)) = want ≡ raises x
 MeetsGiven want (Err Wrong) = want ≡ unfit
 MeetsGiven want (Err NoMemory) = Unit {0}
 MeetsGiven want (Err _) = ⊥
+
+-- the same of a value that is not weighed yet
+abbrev pub MeetsUnweighed : Given → Result Value Stop → Type 0
+MeetsUnweighed want (Ok v) = want ≡ limited v
+MeetsUnweighed want (Err (Raised x)) = want ≡ raises x
+MeetsUnweighed want (Err Wrong) = want ≡ unfit
+MeetsUnweighed want (Err NoMemory) = Unit {0}
+MeetsUnweighed want (Err _) = ⊥
 
 -- the exception, or want of memory
 abbrev pub RaisesOnly : Exn → Stop → Type 0

@@ -1,6 +1,6 @@
 use Rattle.std.proofs.Common.{List, ap}
 use Rattle.plan_meaning.specs.State.{joined}
-use Rattle.plan_eval.specs.declared.frame.Frame.{Frame}
+use Rattle.plan_eval.specs.Frames.{Frame}
 use Rattle.plan_eval.proofs.Taking.{turn_bare, turn_given, stands_below, safe_below}
 use Rattle.plan_eval.proofs.machine.give.Goals as goal
 

@@ -1,5 +1,5 @@
 //! Flat code: the expressions of a program in preorder, each with what it does and where its parts end.
-use plan_base::{Name, Op, Primitive, Program, Value};
+use plan_base::{Name, Op, Primitive, Value};
 use plan_items::Items;
 
 /// What an expression does once its parts have given values, with each name already looked up.
@@ -66,6 +66,9 @@ pub struct Node {
     pub parts: usize,
 }
 
+/// A list of nodes.
+pub type Nodes = Items<Node>;
+
 /// A function of flat code.
 #[derive(Clone, Copy)]
 pub struct Body {
@@ -79,28 +82,9 @@ pub struct Body {
 #[derive(Drop)]
 pub struct Flat {
     /// The expressions of all bodies.
-    pub nodes: Vec<Node>,
+    pub nodes: Nodes,
     /// The functions, by number.
     pub bodies: Items<Body>,
     /// What a chunk of the program weighs without its entry and arguments.
     pub size: u64,
-}
-
-/// The programs that are open: that of the packet, lent, and those of chunks that are evaluated.
-#[derive(Drop)]
-pub struct Codes<'a> {
-    pub first: &'a Program,
-    pub more: Items<Program>,
-    pub flats: Items<Flat>,
-}
-
-impl<'a> Codes<'a> {
-    /// The program of that number.
-    pub fn program(&self, number: usize) -> Option<&Program> {
-        if number == 0 {
-            Some(self.first)
-        } else {
-            self.more.get(number - 1)
-        }
-    }
 }
