@@ -1,5 +1,5 @@
 -- What the machine's stacks show: activations with their open expressions, whose values lie one behind the other.
-use Rattle.std.specs.Prelude.{◌≡◌, ◌≢◌, ℕ, ◌+◌, ◌-◌, Bool, false, List, [], ◌∷◌, ◌++◌, length, slice_get, reverse, Option, Some, None, Result, Ok, Err}
+use Rattle.std.specs.Prelude.{◌≡◌, ◌≢◌, ℕ, zero, suc, ◌+◌, Bool, false, List, [], ◌∷◌, ◌++◌, length, slice_get, reverse, Option, Some, None, option_and_then, Result, Ok, Err}
 use Rattle.plan_base.specs.declared.name.Name.{Name}
 use Rattle.plan_base.specs.declared.tree.Expr.{Expr, Expr-F, out-Expr}
 use Rattle.plan_base.specs.declared.tree.Clause.{Clause}
@@ -17,7 +17,7 @@ use Rattle.flat_code.specs.declared.node.Node.{Node}
 use Rattle.flat_code.specs.declared.node.Flat.{Flat}
 use Rattle.flat_code.specs.Flat.{Layout, Laid, IsFlat, IsFlatOf, laid_parts, enters_part, entered_layout}
 use Rattle.plan_eval.specs.declared.frame.Frame.{Frame as Open}
-use Rattle.plan_eval.specs.declared.frame.Frame.TheVariants as open
+use Rattle.plan_eval.specs.declared.frame.Frame.TheVariants as waits
 use Rattle.plan_eval.specs.declared.frame.Spot.{Spot}
 use Rattle.plan_eval.specs.declared.frame.Turn.{Turn}
 use Rattle.plan_eval.specs.declared.frame.Turn.TheVariants as turn
@@ -44,12 +44,8 @@ pub record Here : Type 0 where
 
 -- the node at which the part of that number begins, where the first begins at `at`
 abbrev pub part_at : List Node → ℕ → ℕ → Option ℕ
-part_at nodes at 0 = Some at
-part_at nodes at n = part_behind nodes (slice_get nodes at) n
-  where
-    abbrev part_behind : List Node → Option Node → ℕ → Option ℕ
-    part_behind nodes (Some node) n = part_at nodes node.end (n - 1)
-    part_behind nodes None n = None
+part_at nodes at zero = Some at
+part_at nodes at (suc n) = option_and_then (λ (node : Node). part_at nodes node.end n) (slice_get nodes at)
 
 module _ (nodes : List Node) (base : ℕ) where
   -- one part of an expression
@@ -64,14 +60,14 @@ module _ (nodes : List Node) (base : ℕ) where
     here : {e : Here} → Inside e [] [] [] e
     -- `held` wait behind one another
     part : {e p to : Here} {fs : List Frame} {os : List Open} {vs : List Value} (n : ℕ) (held : List Value) → IsPart e n p
-        → length p.layout ≡ length e.layout + length held → Inside p fs os vs to → Inside e (frame.Part n held ∷ fs) (open.Part e.at ∷ os) (held ++ vs) to
+        → length p.layout ≡ length e.layout + length held → Inside p fs os vs to → Inside e (frame.Part n held ∷ fs) (waits.Part e.at ∷ os) (held ++ vs) to
     -- the expression of a `try` is its part 0, and nothing waits
     attempt : {e p to : Here} {fs : List Frame} {os : List Open} {vs : List Value} (a : Expr) (ks : List Clause) → out-Expr e.expr ≡ Expr-F.Try a ks → IsPart e 0 p
-        → Inside p fs os vs to → Inside e (frame.Part 0 [] ∷ fs) (open.Try e.at (base + length e.layout) ∷ os) vs to
+        → Inside p fs os vs to → Inside e (frame.Part 0 [] ∷ fs) (waits.Try e.at (base + length e.layout) ∷ os) vs to
     last : {e p to : Here} {fs : List Frame} {os : List Open} {vs : List Value} (n : ℕ) → IsPart e n p → p.layout ≡ e.layout
-        → Inside p fs os vs to → Inside e (frame.Last n ∷ fs) (open.Last e.at ∷ os) vs to
+        → Inside p fs os vs to → Inside e (frame.Last n ∷ fs) (waits.Last e.at ∷ os) vs to
     bound : {e p to : Here} {fs : List Frame} {os : List Open} {vs : List Value} (x : Name) (t : Ty) (a b : Expr) (v : Value) → out-Expr e.expr ≡ Expr-F.Let x t a b → IsPart e 1 p
-        → Inside p fs os vs to → Inside e (frame.Bound v ∷ fs) (open.Bound e.at ∷ os) (v ∷ vs) to
+        → Inside p fs os vs to → Inside e (frame.Bound v ∷ fs) (waits.Bound e.at ∷ os) (v ∷ vs) to
 
 -- where the body of an activation stands
 pub record Enters (codes : List Program) (flats : List Flat) (a : Activation) (e : Here) : Type 0 where
@@ -91,9 +87,9 @@ pub record Enters (codes : List Program) (flats : List Flat) (a : Activation) (e
 
 -- how an activation waits for the next: its last frame, the machine's frame, and the values below the next one's arguments
 pub data Waits : Frame → Spot → Open → List Value → Type 0 where
-  body : {s : Spot} → Waits frame.Body s (open.Body s) []
-  items : {s : Spot} (t : Ty) (left : List Value) → Waits (frame.Items left) s (open.Items s) (value.List t left ∷ [])
-  chunk : {s : Spot} → Waits frame.Chunk s (open.Chunk s) []
+  body : {s : Spot} → Waits frame.Body s (waits.Body s) []
+  items : {s : Spot} (t : Ty) (left : List Value) → Waits (frame.Items left) s (waits.Items s) (value.List t left ∷ [])
+  chunk : {s : Spot} → Waits frame.Chunk s (waits.Chunk s) []
 
 -- Activations, innermost last, by the frames and the values of the machine and by where it stands.
 pub data Shows (codes : List Program) (flats : List Flat) : List Activation → List Open → List Value → Spot → Type 0 where
@@ -101,24 +97,26 @@ pub data Shows (codes : List Program) (flats : List Flat) : List Activation → 
   first : (a : Activation) (flat : Flat) {body to : Here} {os : List Open} {vs : List Value} → Enters codes flats a body → slice_get flats a.code ≡ Some flat
       → Inside flat.nodes 0 body a.frames os vs to → Shows codes flats (a ∷ []) os (a.args ++ vs) (record { code = a.code; base = 0; at = to.at })
   -- one more activation, for which the last one waits under one more frame
-  next : {as : List Activation} {os ps : List Open} {us vs ws : List Value} {s : Spot} {o : Open} {below : Activation} {f : Frame} (a : Activation) (flat : Flat) {body to : Here}
-      → Shows codes flats (as ++ below ∷ []) os us s → Waits f s o ws → Enters codes flats a body → slice_get flats a.code ≡ Some flat
+  next : {acts : List Activation} {os ps : List Open} {us vs ws : List Value} {s : Spot} {o : Open} {below : Activation} {f : Frame} (a : Activation) (flat : Flat) {body to : Here}
+      → Shows codes flats (acts ++ below ∷ []) os us s → Waits f s o ws → Enters codes flats a body → slice_get flats a.code ≡ Some flat
       → Inside flat.nodes (length (us ++ ws)) body a.frames ps vs to
-      → Shows codes flats (as ++ record below { frames = below.frames ++ f ∷ [] } ∷ a ∷ []) (os ++ o ∷ ps) ((us ++ ws) ++ (a.args ++ vs))
-        (record { code = a.code; base = length (us ++ ws); at = to.at })
+      → Shows codes flats (acts ++ record below { frames = below.frames ++ f ∷ [] } ∷ a ∷ []) (os ++ o ∷ ps) ((us ++ ws) ++ (a.args ++ vs))
+      (record { code = a.code; base = length (us ++ ws); at = to.at })
+
+-- what is done next with the values of the open expressions below: the value that an expression gave lies on top of them
+abbrev pub IsOn : Turn → List Value → List Value → Mode → Type 0
+IsOn turn.Run below all next = (all ≡ below) × (next ≡ mode.Run)
+IsOn turn.Gave below all next = (v : Value) × (all ≡ below ++ v ∷ []) × (next ≡ mode.Give v)
+IsOn turn.Visit below all next = Unit {0}
+IsOn turn.Ended below all next = Unit {0}
 
 -- What the machine does next, by its turn: where an expression gave a value, that lies on top.
-pub record Stands (codes : List Program) (flats : List Flat) (m : Machine) (how : Turn) (as : List Activation) (next : Mode) : Type 0 where
+pub record Stands (codes : List Program) (flats : List Flat) (m : Machine) (how : Turn) (acts : List Activation) (next : Mode) : Type 0 where
   pub below : List Value
-  pub shows : Shows codes flats as m.frames.items below m.spot
+  pub shows : Shows codes flats acts m.frames.items below m.spot
   pub on : IsOn how below m.stack.items next
-  where
-    abbrev IsOn : Turn → List Value → List Value → Mode → Type 0
-    IsOn turn.Run below all next = (all ≡ below) × (next ≡ mode.Run)
-    IsOn turn.Gave below all next = (v : Value) × (all ≡ below ++ v ∷ []) × (next ≡ mode.Give v)
-    IsOn _ below all next = Unit {0}
 
 -- A turn of the machine leads on: whatever its stacks showed, they show what goes on alike, or the visit ends so.
 abbrev pub Turns : List Program → List Flat → Step Value → Result Turn Stop → Machine → VisitState → Type 0
-Turns codes flats want (Ok how) m s = (as : List Activation) × (next : Mode) × Stands codes flats m how as next × Leads want (stands_for codes as next s)
+Turns codes flats want (Ok how) m s = (acts : List Activation) × (next : Mode) × Stands codes flats m how acts next × Leads want (stands_for codes acts next s)
 Turns codes flats want (Err e) m s = e ≢ NoMemory → want.after ≡ stopped e s

@@ -2,7 +2,7 @@
 use crate::codes::Codes;
 use crate::frame::{Frame, Machine, Spot, Turn};
 use crate::pass::{Home, enter};
-use crate::values::{put_on, settle, take_one, taken};
+use crate::values::{put_on, settle, settle_flat, take_one, taken};
 use flat_code::{Flat, Form, Node, flat_of};
 use plan_base::{
     Chunk, Name, NoMemory, Op, Primitive, Program, Value, Values, nesting, place_of, weight,
@@ -18,44 +18,60 @@ fn tuple(alloc: Global, m: &mut Machine, count: usize, state: &mut State) -> Res
     settle(alloc, &mut m.stack, Value::Tuple(parts), state)
 }
 
-/// The operator on two numbers, where it gives one of them or a truth value and can't fail otherwise.
-fn on_ints(op: Op, a: i64, b: i64) -> Option<Value> {
+/// What an operator gives of two numbers, where that is a number or a truth value at once.
+#[derive(Clone, Copy)]
+enum Scalar {
+    Int(i64),
+    Bool(bool),
+    Other,
+}
+
+fn int_or_other(n: Option<i64>) -> Scalar {
+    match n {
+        Some(n) => Scalar::Int(n),
+        None => Scalar::Other,
+    }
+}
+
+/// The operator on two numbers, unless it overflows or divides.
+fn on_ints(op: Op, a: i64, b: i64) -> Scalar {
     match op {
-        Op::Add => Some(Value::Int(a.checked_add(b)?)),
-        Op::Sub => Some(Value::Int(a.checked_sub(b)?)),
-        Op::Mul => Some(Value::Int(a.checked_mul(b)?)),
-        Op::Eq => Some(Value::Bool(a == b)),
-        Op::Ne => Some(Value::Bool(a != b)),
-        Op::Lt => Some(Value::Bool(a < b)),
-        Op::Le => Some(Value::Bool(a <= b)),
-        Op::Gt => Some(Value::Bool(a > b)),
-        Op::Ge => Some(Value::Bool(a >= b)),
-        Op::Div | Op::Mod | Op::Cat | Op::Cons => None,
+        Op::Add => int_or_other(a.checked_add(b)),
+        Op::Sub => int_or_other(a.checked_sub(b)),
+        Op::Mul => int_or_other(a.checked_mul(b)),
+        Op::Eq => Scalar::Bool(a == b),
+        Op::Ne => Scalar::Bool(a != b),
+        Op::Lt => Scalar::Bool(a < b),
+        Op::Le => Scalar::Bool(a <= b),
+        Op::Gt => Scalar::Bool(a > b),
+        Op::Ge => Scalar::Bool(a >= b),
+        Op::Div | Op::Mod | Op::Cat | Op::Cons => Scalar::Other,
     }
 }
 
 /// The same of the two values on top, where they are numbers.
-fn on_top_ints(op: Op, stack: &[Value]) -> Option<Value> {
+fn on_top_ints(op: Op, stack: &[Value]) -> Scalar {
     match stack {
         [.., Value::Int(a), Value::Int(b)] => on_ints(op, *a, *b),
-        _ => None,
+        _ => Scalar::Other,
     }
 }
 
 /// Puts a value in the place of the two on top.
 fn replace_two(stack: &mut Vec<Value>, v: Value) {
-    let _b = stack.pop();
+    let left = stack.len().saturating_sub(1);
+    stack.truncate(left);
     if let Some(top) = stack.last_mut() {
         *top = v;
     }
 }
 
-fn operate(alloc: Global, op: Op, stack: &mut Vec<Value>, state: &mut State) -> Result<Turn, Stop> {
-    if let Some(v) = on_top_ints(op, stack.as_slice()) {
-        state.weigh(alloc, &v)?;
-        replace_two(stack, v);
-        return Ok(Turn::Gave);
-    }
+fn operate_any(
+    alloc: Global,
+    op: Op,
+    stack: &mut Vec<Value>,
+    state: &mut State,
+) -> Result<Turn, Stop> {
     let b = take_one(stack)?;
     let a = take_one(stack)?;
     let v = match op {
@@ -63,6 +79,20 @@ fn operate(alloc: Global, op: Op, stack: &mut Vec<Value>, state: &mut State) -> 
         _ => binary(alloc, op, &a, &b)?,
     };
     settle(alloc, stack, v, state)
+}
+
+fn operate(alloc: Global, op: Op, stack: &mut Vec<Value>, state: &mut State) -> Result<Turn, Stop> {
+    match on_top_ints(op, stack.as_slice()) {
+        Scalar::Int(n) => {
+            replace_two(stack, Value::Int(n));
+            settle_flat(9, state)
+        }
+        Scalar::Bool(b) => {
+            replace_two(stack, Value::Bool(b));
+            settle_flat(2, state)
+        }
+        Scalar::Other => operate_any(alloc, op, stack, state),
+    }
 }
 
 fn negate(alloc: Global, stack: &mut Vec<Value>, state: &mut State) -> Result<Turn, Stop> {
@@ -123,14 +153,14 @@ fn pack(
     alloc: Global,
     code: &Program,
     m: &mut Machine,
-    entry: Name,
+    entry: &Name,
     count: usize,
     state: &mut State,
 ) -> Result<Turn, Stop> {
     let args = taken(alloc, &mut m.stack, count)?;
     let chunk = Chunk {
         code: code.copy(alloc)?,
-        entry,
+        entry: entry.copy(alloc)?,
         args,
     };
     let v = Value::Chunk(Boxed::new(alloc, chunk)?);
@@ -283,7 +313,7 @@ pub fn complete<S: Services>(
         Form::Primitive(p) => compute(alloc, m, *p, node.parts, state),
         Form::Service(number) => ask(alloc, home.code, m, *number, node.parts, state, svc),
         Form::Tuple => tuple(alloc, m, node.parts, state),
-        Form::Packs(entry) => pack(alloc, home.code, m, entry.copy(alloc)?, node.parts, state),
+        Form::Packs(entry) => pack(alloc, home.code, m, entry, node.parts, state),
         Form::Enters(entry, fun) => {
             let size = entry.as_slice().len() as u64 + 1;
             enter_own(alloc, home.flat, m, size, *fun, node.parts, state)

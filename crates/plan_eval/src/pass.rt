@@ -1,14 +1,16 @@
 //! How an expression begins, and what an open one does when one of its parts has given a value.
 use crate::complete::complete;
 use crate::frame::{Frame, Machine, Spot, Turn};
-use crate::values::{copied, push_copy, push_int, put_on, settle, settle_top, take_one};
+use crate::values::{
+    Leaf, copied, push_copy, push_int, push_weighed, put_on, settle_flat, settle_top, take_one,
+};
 use flat_code::{Flat, Form, Node};
-use plan_base::{Exn, Program, Value};
+use plan_base::{Exn, Name, Program, Value};
 use plan_items::Items;
 use plan_meaning::Stop;
 use service_api::Services;
 use std::alloc::Global;
-use visit_state::{State, as_bool};
+use visit_state::{State, too_large};
 
 /// The program in which the machine stands.
 #[derive(Clone, Copy)]
@@ -19,50 +21,77 @@ pub struct Home<'a> {
 }
 
 /// Puts the value at a place on top and weighs it.
-fn push_place(
-    alloc: Global,
-    stack: &mut Vec<Value>,
-    place: usize,
-    state: &mut State,
-) -> Result<(), Stop> {
-    let copy = match stack.get(place) {
+fn push_place(alloc: Global, stack: &mut Vec<Value>, place: usize, state: &mut State) -> Leaf {
+    match stack.get(place) {
         Some(Value::Int(n)) => {
             let n = *n;
-            return push_int(stack, n, state);
+            push_int(stack, n, state)
         }
-        Some(v) => copied(alloc, v)?,
-        None => return Err(Stop::Wrong),
-    };
-    state.weigh(alloc, &copy)?;
-    put_on(stack, copy)?;
-    Ok(())
+        Some(_) => push_other(alloc, stack, place, state),
+        None => Leaf::Wrong,
+    }
 }
 
-/// A leaf spends 1 and puts its value on top; of any other expression it says no.
+/// The same of a value that is no number.
+fn push_other(alloc: Global, stack: &mut Vec<Value>, place: usize, state: &mut State) -> Leaf {
+    let Some(v) = stack.get(place) else {
+        return Leaf::Wrong;
+    };
+    match copied(alloc, v) {
+        Ok(copy) => push_weighed(stack, copy, state),
+        Err(_) => Leaf::NoMemory,
+    }
+}
+
+/// A leaf spends 1 and puts its value on top.
 fn push_leaf(
     alloc: Global,
     form: &Form,
     base: usize,
     stack: &mut Vec<Value>,
     state: &mut State,
-) -> Result<bool, Stop> {
+) -> Leaf {
     match form {
         Form::Place(i) => {
-            state.spend(1)?;
-            push_place(alloc, stack, base + *i, state)?;
-            Ok(true)
+            if !state.pays(1) {
+                return Leaf::Spent;
+            }
+            push_place(alloc, stack, base + *i, state)
         }
         Form::Gives(Value::Int(n)) => {
-            state.spend(1)?;
-            push_int(stack, *n, state)?;
-            Ok(true)
+            if !state.pays(1) {
+                return Leaf::Spent;
+            }
+            push_int(stack, *n, state)
         }
         Form::Gives(v) => {
-            state.spend(1)?;
-            push_copy(alloc, stack, v, state)?;
-            Ok(true)
+            if !state.pays(1) {
+                return Leaf::Spent;
+            }
+            push_copy(alloc, stack, v, state)
         }
-        _ => Ok(false),
+        _ => Leaf::Open,
+    }
+}
+
+/// How a visit stops at a leaf.
+fn leaf_stop(alloc: Global, leaf: Leaf) -> Result<Turn, Stop> {
+    match leaf {
+        Leaf::Pushed | Leaf::Open | Leaf::Wrong => Err(Stop::Wrong),
+        Leaf::Spent => Err(Stop::WorkSpent),
+        Leaf::Large => Err(too_large(alloc)),
+        Leaf::NoMemory => Err(Stop::NoMemory),
+    }
+}
+
+/// Opens an expression at its part at `at`.
+fn open(m: &mut Machine, frame: Frame, at: usize) -> Result<Turn, Stop> {
+    match put_on(&mut m.frames, frame) {
+        Ok(()) => {
+            m.spot.at = at;
+            Ok(Turn::Run)
+        }
+        Err(_) => Err(Stop::NoMemory),
     }
 }
 
@@ -70,26 +99,59 @@ fn push_leaf(
 fn advance<S: Services>(
     home: Home<'_>,
     node: usize,
-    open: &Node,
+    open_node: &Node,
     first: usize,
     m: &mut Machine,
     state: &mut State,
     svc: &mut S,
 ) -> Result<Turn, Stop> {
     let mut at = first;
-    while at < open.end {
+    while at < open_node.end {
         let Some(part) = home.flat.nodes.get(at) else {
             return Err(Stop::Wrong);
         };
-        if !push_leaf(home.alloc, &part.form, m.spot.base, &mut m.stack, state)? {
-            put_on(&mut m.frames, Frame::Part(node))?;
-            m.spot.at = at;
-            return Ok(Turn::Run);
+        match push_leaf(home.alloc, &part.form, m.spot.base, &mut m.stack, state) {
+            Leaf::Pushed => at = part.end,
+            Leaf::Open => return open(m, Frame::Part(node), at),
+            other => return leaf_stop(home.alloc, other),
         }
-        at = part.end;
     }
     m.spot.at = node;
-    complete(home, node, open, m, state, svc)
+    complete(home, node, open_node, m, state, svc)
+}
+
+fn raise_named(alloc: Global, x: &Name) -> Result<Turn, Stop> {
+    Err(Stop::Raised(Exn(x.copy(alloc)?)))
+}
+
+/// The expression that the machine stands at, which is no leaf, begins.
+fn begin_open<S: Services>(
+    home: Home<'_>,
+    node: &Node,
+    m: &mut Machine,
+    state: &mut State,
+    svc: &mut S,
+) -> Result<Turn, Stop> {
+    let at = m.spot.at;
+    if !state.pays(1) {
+        return Err(Stop::WorkSpent);
+    }
+    match &node.form {
+        Form::Wrong => Err(Stop::Wrong),
+        Form::Raises(x) => raise_named(home.alloc, x),
+        Form::Try(_) => {
+            let height = m.stack.len();
+            open(m, Frame::Try(at, height), at + 1)
+        }
+        Form::If
+        | Form::Let
+        | Form::Then
+        | Form::And
+        | Form::Or
+        | Form::Foldl(_)
+        | Form::Foldr(_) => open(m, Frame::Part(at), at + 1),
+        _ => advance(home, at, node, at + 1, m, state, svc),
+    }
 }
 
 /// The expression that the machine stands at spends 1 and begins.
@@ -99,34 +161,13 @@ pub fn begin<S: Services>(
     state: &mut State,
     svc: &mut S,
 ) -> Result<Turn, Stop> {
-    let at = m.spot.at;
-    let Some(node) = home.flat.nodes.get(at) else {
+    let Some(node) = home.flat.nodes.get(m.spot.at) else {
         return Err(Stop::Wrong);
     };
-    if push_leaf(home.alloc, &node.form, m.spot.base, &mut m.stack, state)? {
-        return Ok(Turn::Gave);
-    }
-    state.spend(1)?;
-    match &node.form {
-        Form::Wrong => Err(Stop::Wrong),
-        Form::Raises(x) => Err(Stop::Raised(Exn(x.copy(home.alloc)?))),
-        Form::Try(_) => {
-            put_on(&mut m.frames, Frame::Try(at, m.stack.len()))?;
-            m.spot.at = at + 1;
-            Ok(Turn::Run)
-        }
-        Form::If
-        | Form::Let
-        | Form::Then
-        | Form::And
-        | Form::Or
-        | Form::Foldl(_)
-        | Form::Foldr(_) => {
-            put_on(&mut m.frames, Frame::Part(at))?;
-            m.spot.at = at + 1;
-            Ok(Turn::Run)
-        }
-        _ => advance(home, at, node, at + 1, m, state, svc),
+    match push_leaf(home.alloc, &node.form, m.spot.base, &mut m.stack, state) {
+        Leaf::Pushed => Ok(Turn::Gave),
+        Leaf::Open => begin_open(home, node, m, state, svc),
+        other => leaf_stop(home.alloc, other),
     }
 }
 
@@ -146,6 +187,13 @@ fn leave(m: &mut Machine, spot: Spot) {
         m.stack.truncate(base + 1);
     }
     m.spot = spot;
+}
+
+/// The value on top becomes `()`.
+fn top_unit(stack: &mut Vec<Value>) {
+    if let Some(top) = stack.last_mut() {
+        *top = Value::Unit;
+    }
 }
 
 /// The value on top is what the expression at the spot gave.
@@ -179,29 +227,37 @@ pub fn gave<S: Services>(
         }
         Frame::Chunk(spot) => {
             leave(m, spot);
-            if let Some(top) = m.stack.last_mut() {
-                *top = Value::Unit;
-            }
-            settle_top(home.alloc, &m.stack, state)
+            top_unit(&mut m.stack);
+            settle_flat(1, state)
         }
     }
 }
 
 /// Evaluates the node as the last part of an open expression.
 fn open_last(m: &mut Machine, node: usize, at: usize) -> Result<Turn, Stop> {
-    put_on(&mut m.frames, Frame::Last(node))?;
-    m.spot.at = at;
-    Ok(Turn::Run)
+    open(m, Frame::Last(node), at)
 }
 
-/// Takes a truth value off the stack.
-fn take_bool(stack: &mut Vec<Value>) -> Result<bool, Stop> {
-    let v = take_one(stack)?;
-    as_bool(&v).ok_or(Stop::Wrong)
+/// The truth value on top.
+fn top_bool(stack: &[Value]) -> Option<bool> {
+    match stack.last() {
+        Some(Value::Bool(b)) => Some(*b),
+        _ => None,
+    }
+}
+
+/// Drops the value on top.
+fn drop_top(stack: &mut Vec<Value>) {
+    let left = stack.len().saturating_sub(1);
+    stack.truncate(left);
 }
 
 fn choose(home: Home<'_>, m: &mut Machine, node: usize, next: usize) -> Result<Turn, Stop> {
-    if take_bool(&mut m.stack)? {
+    let Some(test) = top_bool(m.stack.as_slice()) else {
+        return Err(Stop::Wrong);
+    };
+    drop_top(&mut m.stack);
+    if test {
         return open_last(m, node, next);
     }
     match home.flat.nodes.get(next) {
@@ -212,19 +268,26 @@ fn choose(home: Home<'_>, m: &mut Machine, node: usize, next: usize) -> Result<T
 
 /// `and`, where `stops` is false, and `or`, where it is true: the second part, or the value at which it stops.
 fn until(
-    home: Home<'_>,
     m: &mut Machine,
     node: usize,
     next: usize,
     stops: bool,
     state: &mut State,
 ) -> Result<Turn, Stop> {
-    if take_bool(&mut m.stack)? == stops {
+    let Some(test) = top_bool(m.stack.as_slice()) else {
+        return Err(Stop::Wrong);
+    };
+    if test == stops {
         m.spot.at = node;
-        settle(home.alloc, &mut m.stack, Value::Bool(stops), state)
-    } else {
-        open_last(m, node, next)
+        return settle_flat(2, state);
     }
+    drop_top(&mut m.stack);
+    open_last(m, node, next)
+}
+
+fn follow(m: &mut Machine, node: usize, next: usize) -> Result<Turn, Stop> {
+    drop_top(&mut m.stack);
+    open_last(m, node, next)
 }
 
 /// The list of a fold is on top and its first value below it: they change places, and the list's next item comes last.
@@ -276,10 +339,15 @@ pub fn enter(
     if body.params != count || m.stack.len() < count {
         return Err(Stop::Wrong);
     }
-    put_on(&mut m.frames, frame)?;
-    m.spot.base = m.stack.len() - count;
-    m.spot.at = body.at;
-    Ok(Turn::Run)
+    let base = m.stack.len() - count;
+    match put_on(&mut m.frames, frame) {
+        Ok(()) => {
+            m.spot.base = base;
+            m.spot.at = body.at;
+            Ok(Turn::Run)
+        }
+        Err(_) => Err(Stop::NoMemory),
+    }
 }
 
 /// A fold stands at the spot with its value so far on top and the list of what is left below: its next step, or its end.
@@ -315,28 +383,21 @@ fn ended_part<S: Services>(
     state: &mut State,
     svc: &mut S,
 ) -> Result<Turn, Stop> {
-    let Some(open) = home.flat.nodes.get(node) else {
+    let Some(whole) = home.flat.nodes.get(node) else {
         return Err(Stop::Wrong);
     };
     let Some(part) = home.flat.nodes.get(m.spot.at) else {
         return Err(Stop::Wrong);
     };
     let next = part.end;
-    match &open.form {
+    match &whole.form {
         Form::If => choose(home, m, node, next),
-        Form::Let => {
-            put_on(&mut m.frames, Frame::Bound(node))?;
-            m.spot.at = next;
-            Ok(Turn::Run)
-        }
-        Form::Then => {
-            let _dropped = take_one(&mut m.stack)?;
-            open_last(m, node, next)
-        }
-        Form::And => until(home, m, node, next, false, state),
-        Form::Or => until(home, m, node, next, true, state),
-        Form::Foldl(_) if next >= open.end => begin_fold(home, m, node, true, state),
-        Form::Foldr(_) if next >= open.end => begin_fold(home, m, node, false, state),
-        _ => advance(home, node, open, next, m, state, svc),
+        Form::Let => open(m, Frame::Bound(node), next),
+        Form::Then => follow(m, node, next),
+        Form::And => until(m, node, next, false, state),
+        Form::Or => until(m, node, next, true, state),
+        Form::Foldl(_) if next >= whole.end => begin_fold(home, m, node, true, state),
+        Form::Foldr(_) if next >= whole.end => begin_fold(home, m, node, false, state),
+        _ => advance(home, node, whole, next, m, state, svc),
     }
 }

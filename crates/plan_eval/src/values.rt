@@ -1,6 +1,6 @@
 //! Values on the stack.
 use crate::frame::Turn;
-use plan_base::{NoMemory, Value, Values};
+use plan_base::{NoMemory, Ty, Value, Values};
 use plan_items::Items;
 use plan_meaning::Stop;
 use std::alloc::{AllocError, Global};
@@ -22,6 +22,16 @@ fn copies(alloc: Global, values: &[Value]) -> Result<Values, NoMemory> {
     Ok(Items::from_vec(all))
 }
 
+#[cycle(copied)]
+fn copied_list(alloc: Global, t: &Ty, items: &Values) -> Result<Value, NoMemory> {
+    Ok(Value::List(t.copy(alloc)?, copies(alloc, items.as_slice())?))
+}
+
+#[cycle(copied)]
+fn copied_tuple(alloc: Global, parts: &Values) -> Result<Value, NoMemory> {
+    Ok(Value::Tuple(copies(alloc, parts.as_slice())?))
+}
+
 /// The same value.
 #[cycle(copied)]
 pub fn copied(alloc: Global, v: &Value) -> Result<Value, NoMemory> {
@@ -32,40 +42,82 @@ pub fn copied(alloc: Global, v: &Value) -> Result<Value, NoMemory> {
         Value::Char(c) => Ok(Value::Char(*c)),
         Value::Host(h) => Ok(Value::Host(*h)),
         Value::Dev(d) => Ok(Value::Dev(*d)),
-        Value::List(t, items) => Ok(Value::List(t.copy(alloc)?, copies(alloc, items.as_slice())?)),
-        Value::Tuple(parts) => Ok(Value::Tuple(copies(alloc, parts.as_slice())?)),
+        Value::List(t, items) => copied_list(alloc, t, items),
+        Value::Tuple(parts) => copied_tuple(alloc, parts),
         Value::Str(_) | Value::Blob(_) | Value::Chunk(_) => v.copy(alloc),
     }
 }
 
-/// Puts a value on top that an expression gave, and weighs it: a number at once.
-pub fn push_copy(
-    alloc: Global,
-    stack: &mut Vec<Value>,
-    v: &Value,
-    state: &mut State,
-) -> Result<(), Stop> {
-    let copy = copied(alloc, v)?;
-    state.weigh(alloc, &copy)?;
-    put_on(stack, copy)?;
-    Ok(())
+/// What came of a leaf.
+#[derive(Clone, Copy)]
+pub enum Leaf {
+    /// Its value is on top, weighed.
+    Pushed,
+    /// It is no leaf.
+    Open,
+    /// Its work isn't there.
+    Spent,
+    /// Its value passes the limits.
+    Large,
+    /// Its name has no value.
+    Wrong,
+    /// Memory was refused.
+    NoMemory,
+}
+
+/// Puts a copy on top and weighs it.
+pub fn push_copy(alloc: Global, stack: &mut Vec<Value>, v: &Value, state: &mut State) -> Leaf {
+    match copied(alloc, v) {
+        Ok(copy) => push_weighed(stack, copy, state),
+        Err(_) => Leaf::NoMemory,
+    }
+}
+
+/// Weighs a value and puts it on top.
+pub fn push_weighed(stack: &mut Vec<Value>, v: Value, state: &mut State) -> Leaf {
+    match state.weighs(&v) {
+        Some(true) => match put_on(stack, v) {
+            Ok(()) => Leaf::Pushed,
+            Err(_) => Leaf::NoMemory,
+        },
+        Some(false) => Leaf::Spent,
+        None => Leaf::Large,
+    }
 }
 
 /// Puts a number on top and weighs it.
-pub fn push_int(stack: &mut Vec<Value>, n: i64, state: &mut State) -> Result<(), Stop> {
-    state.spend(9)?;
-    put_on(stack, Value::Int(n))?;
-    Ok(())
+pub fn push_int(stack: &mut Vec<Value>, n: i64, state: &mut State) -> Leaf {
+    if !state.pays(9) {
+        return Leaf::Spent;
+    }
+    match put_on(stack, Value::Int(n)) {
+        Ok(()) => Leaf::Pushed,
+        Err(_) => Leaf::NoMemory,
+    }
 }
 
 /// Weighs the value on top, which an expression gave.
 pub fn settle_top(alloc: Global, stack: &Vec<Value>, state: &mut State) -> Result<Turn, Stop> {
     match stack.last() {
-        Some(v) => {
-            state.weigh(alloc, v)?;
-            Ok(Turn::Gave)
-        }
+        Some(Value::Int(_)) => settle_flat(9, state),
+        Some(v) => settle_any(alloc, v, state),
         None => Err(Stop::Wrong),
+    }
+}
+
+/// Weighs a value of that weight in which no chunk stands, on top.
+pub fn settle_flat(size: u64, state: &mut State) -> Result<Turn, Stop> {
+    if state.pays(size) {
+        Ok(Turn::Gave)
+    } else {
+        Err(Stop::WorkSpent)
+    }
+}
+
+fn settle_any(alloc: Global, v: &Value, state: &mut State) -> Result<Turn, Stop> {
+    match state.weigh(alloc, v) {
+        Ok(()) => Ok(Turn::Gave),
+        Err(stop) => Err(stop),
     }
 }
 
@@ -76,9 +128,8 @@ pub fn settle(
     v: Value,
     state: &mut State,
 ) -> Result<Turn, Stop> {
-    state.weigh(alloc, &v)?;
     put_on(stack, v)?;
-    Ok(Turn::Gave)
+    settle_top(alloc, stack, state)
 }
 
 /// Takes the values from a height on off the stack, in their order.

@@ -1,4 +1,6 @@
-ghost use Rattle.std.specs.Prelude.{◌≡◌, ◌+◌, ◌≤◌, length, min, [], OnOk};
+ghost use Rattle.std.specs.Prelude.{◌≡◌, ◌+◌, ◌≤◌, length, min, [], OnOk, IsTrue, IsFalse};
+ghost use Rattle.plan_meaning.specs.declared.stop.Stop.TheVariants.{WorkSpent};
+ghost use Rattle.plan_meaning.specs.Run.{gave, stopped};
 ghost use Rattle.plan_base.specs.Sizes.{weight, nesting};
 ghost use Rattle.plan_base.specs.declared.tree.Value.{Value};
 ghost use Rattle.service_api.specs.Services.{Standing, IsGoodChunk};
@@ -132,6 +134,21 @@ impl State {
         Ok(())
     }
 
+    /// Spends work where there is as much, or says no.
+    #[tactic(auto, unfolding(plan_meaning::specs::Run::spend))]
+    pub fn pays(&mut self, n: u64) -> bool
+        ensures paid { IsTrue result → (s : Standing) → (run.spend n (joined self.old s)).after ≡ gave tt (joined self.new s) }
+        ensures unpaid { IsFalse result → (s : Standing) → (run.spend n (joined self.old s)).after ≡ stopped WorkSpent (joined self.new s) }
+        ensures spends { IsTrue result → self.new.work + n ≡ self.old.work }
+        ensures falls { self.new.work ≤ self.old.work }
+    {
+        if self.work < n {
+            return false;
+        }
+        self.work -= n;
+        true
+    }
+
     /// Refuses a value of that weight and nesting where it is over the limits, and spends the weight of another.
     #[tactic(auto, unfolding(plan_meaning::specs::Run::weighed, plan_meaning::specs::Run::is_too_large))]
     pub fn weigh_as(&mut self, alloc: Global, size: u64, deep: u32) -> Result<(), Stop>
@@ -154,6 +171,18 @@ impl State {
             Some(size) => self.weigh_as(alloc, size, 0),
             None => self.weigh_as(alloc, weight(v), nesting(v)),
         }
+    }
+
+    /// Whether the weight of a value could be spent, or `None` where it passes the limits.
+    pub fn weighs(&mut self, v: &Value) -> Option<bool> {
+        let (size, deep) = match plain_weight(v) {
+            Some(size) => (size, 0),
+            None => (weight(v), nesting(v)),
+        };
+        if is_too_large(size, deep) {
+            return None;
+        }
+        Some(self.pays(size))
     }
 
     /// Pays for an eval.
