@@ -1,5 +1,6 @@
 -- Flat code: the expressions of a body in preorder, each with what it does, the node at which it ends, and its parts' number.
 use Rattle.std.specs.Prelude.{◌≡◌, ℕ, ◌+◌, Bool, true, false, if◌then◌else◌, List, [], ◌∷◌, ◌++◌, length, map, take, drop, min, slice_get, Option, Some, None}
+use Rattle.std.specs.List.{position}
 use Rattle.std.specs.Option.{option_or}
 use Rattle.std.specs.Str.{bytes_eq}
 use Rattle.plan_base.specs.declared.name.Name.{Name}
@@ -82,9 +83,9 @@ abbrev pub place_form : Option ℕ → Form
 place_form (Some n) = form.Place n
 place_form None = form.Wrong
 
-abbrev pub service_from : ℕ → Name → List Svc → Option ℕ
-service_from n f [] = None
-service_from n f (d ∷ ds) = if bytes_eq d.name f then Some n else service_from (n + 1) f ds
+-- the place of the first declared service of that name
+abbrev pub service_place : Name → List Svc → Option ℕ
+service_place f svcs = position (λ d. bytes_eq d.name f) svcs
 
 abbrev pub fun_form : Option ℕ → Form
 fun_form (Some n) = form.Function n
@@ -134,7 +135,7 @@ module _ (code : Program) (seen : ℕ) where
   form_of l entered (Expr-F.Nil t) = nil_form t
   form_of l entered (Expr-F.Var x) = place_form (place_from 0 x l)
   form_of l entered (Expr-F.Tuple es) = tuple_form es
-  form_of l entered (Expr-F.Call f es) = call_form (prim_of f) (service_from 0 f code.svcs) (fun_among f)
+  form_of l entered (Expr-F.Call f es) = call_form (prim_of f) (service_place f code.svcs) (fun_among f)
   form_of l entered (Expr-F.If t a b) = form.If
   form_of l entered (Expr-F.Let x t a b) = form.Let
   form_of l entered (Expr-F.Then a b) = form.Then

@@ -47,7 +47,7 @@ fn place_in(x: &Name, layout: &[Option<Name>]) -> Option<usize>
 }
 
 fn service_place(f: &Name, svcs: &[Svc]) -> Option<usize>
-    ensures { result ≡ spec.service_from 0 f.now svcs.now }
+    ensures { result ≡ spec.service_place f.now svcs.now }
 {
     svcs.iter().position(|d| d.name.as_slice() == f.as_slice())
 }
@@ -66,7 +66,7 @@ fn fun_among(home: Home<'_>, f: &Name) -> Option<usize>
 
 /// What a call does.
 fn call_form(home: Home<'_>, f: &Name) -> Form
-    ensures { result ≡ spec.call_form (names.prim_of f.now) (spec.service_from 0 f.now home.entry.code.now.svcs) (spec.fun_among home.entry.code.now home.entry.seen f.now) }
+    ensures { result ≡ spec.call_form (names.prim_of f.now) (spec.service_place f.now home.entry.code.now.svcs) (spec.fun_among home.entry.code.now home.entry.seen f.now) }
 {
     if let Some(p) = prim_of(f) {
         return Form::Primitive(p);

@@ -13,6 +13,7 @@ use Rattle.plan_meaning.specs.declared.stop.Stop.TheVariants.{NoMemory}
 use Rattle.plan_meaning.specs.State.{VisitState}
 use Rattle.plan_meaning.specs.Run.{Step, stopped}
 use Rattle.plan_meaning.specs.Meaning.{Env, binds}
+use Rattle.plan_meaning.specs.Safe.{IsSafe}
 use Rattle.flat_code.specs.declared.node.Node.{Node}
 use Rattle.flat_code.specs.declared.node.Flat.{Flat}
 use Rattle.flat_code.specs.Flat.{Layout, Laid, IsFlat, IsFlatOf, laid_parts, enters_part, entered_layout}
@@ -120,3 +121,22 @@ pub record Stands (codes : List Program) (flats : List Flat) (m : Machine) (how 
 abbrev pub Turns : List Program → List Flat → Step Value → Result Turn Stop → Machine → VisitState → Type 0
 Turns codes flats want (Ok how) m s = (acts : List Activation) × (next : Mode) × Stands codes flats m how acts next × Leads want (stands_for codes acts next s)
 Turns codes flats want (Err e) m s = e ≢ NoMemory → want.after ≡ stopped e s
+
+-- ---- contracts
+
+-- a program and its flat code are those in which the machine stands
+pub record IsHome (codes : List Program) (flats : List Flat) (code : Program) (flat : Flat) (m : Machine) : Type 0 where
+  pub program : slice_get codes m.spot.code ≡ Some code
+  pub flattened : slice_get flats m.spot.code ≡ Some flat
+
+-- A turn that stands in a program: whatever activations its stacks showed before, it leads on from them.
+abbrev pub Carries : Program → Flat → Machine → Turn → (VisitState) → Result Turn Stop → Machine → VisitState → Type 0
+Carries code flat m how s result n s' =
+    (codes : List Program) (flats : List Flat) (acts : List Activation) (next : Mode) → IsHome codes flats code flat m → Stands codes flats m how acts next
+    → Turns codes flats (stands_for codes acts next s) result n s'
+
+-- what goes on asks services nothing bad, for some activations that its stacks show
+abbrev pub MayGoOn : Program → Flat → Machine → Turn → VisitState → Type 0
+MayGoOn code flat m how s =
+    (codes : List Program) × (flats : List Flat) × (acts : List Activation) × (next : Mode) × IsHome codes flats code flat m × Stands codes flats m how acts next
+    × IsSafe (stands_for codes acts next s).asks

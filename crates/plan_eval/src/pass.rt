@@ -1,4 +1,9 @@
 //! How an expression begins, and what an open one does when one of its parts has given a value.
+ghost use Rattle.std.specs.Prelude.{◌≡◌, ◌≤◌, IsSome};
+ghost use Rattle.plan_meaning.specs.State.{joined};
+ghost use Rattle.plan_eval.specs.declared.frame.Turn.TheVariants as turn;
+ghost use Rattle.plan_eval.specs.Shows.{Carries, MayGoOn};
+
 use crate::complete::complete;
 use crate::frame::{Frame, Machine, Spot, Turn};
 use crate::values::{
@@ -160,7 +165,14 @@ pub fn begin<S: Services>(
     m: &mut Machine,
     state: &mut State,
     svc: &mut S,
-) -> Result<Turn, Stop> {
+) -> Result<Turn, Stop>
+    requires open { IsSome (S.stands svc.old).begun }
+    requires safe { MayGoOn home.entry.code.now home.entry.flat.now m.old turn.Run (joined state.old (S.stands svc.old)) }
+    ensures turned { Carries home.entry.code.now home.entry.flat.now m.old turn.Run (joined state.old (S.stands svc.old)) result m.new (joined state.new (S.stands svc.new)) }
+    ensures falls { state.new.work ≤ state.old.work }
+    ensures offer { (S.stands svc.new).offer ≡ (S.stands svc.old).offer }
+    ensures begun { (S.stands svc.new).begun ≡ (S.stands svc.old).begun }
+{
     let Some(node) = home.flat.nodes.get(m.spot.at) else {
         return Err(Stop::Wrong);
     };
@@ -202,7 +214,14 @@ pub fn gave<S: Services>(
     m: &mut Machine,
     state: &mut State,
     svc: &mut S,
-) -> Result<Turn, Stop> {
+) -> Result<Turn, Stop>
+    requires open { IsSome (S.stands svc.old).begun }
+    requires safe { MayGoOn home.entry.code.now home.entry.flat.now m.old turn.Gave (joined state.old (S.stands svc.old)) }
+    ensures turned { Carries home.entry.code.now home.entry.flat.now m.old turn.Gave (joined state.old (S.stands svc.old)) result m.new (joined state.new (S.stands svc.new)) }
+    ensures falls { state.new.work ≤ state.old.work }
+    ensures offer { (S.stands svc.new).offer ≡ (S.stands svc.old).offer }
+    ensures begun { (S.stands svc.new).begun ≡ (S.stands svc.old).begun }
+{
     let Some(frame) = m.frames.pop() else {
         return Ok(Turn::Ended);
     };
