@@ -11,7 +11,7 @@ use plan_items::{Boxed, Items};
 use plan_meaning::Stop;
 use service_api::Services;
 use std::alloc::Global;
-use visit_state::{State, as_bool, as_dev, as_host, as_int, binary, cons, primitive, served};
+use visit_state::{State, Weighing, as_bool, as_dev, as_host, as_int, binary, cons, primitive, served, too_large};
 
 fn tuple(alloc: Global, m: &mut Machine, count: usize, state: &mut State) -> Result<Turn, Stop> {
     let parts = taken(alloc, &mut m.stack, count)?;
@@ -193,11 +193,11 @@ fn enter_own(
         return Err(Stop::Wrong);
     }
     let (args, deepest) = measure(&m.stack.as_slice()[m.stack.len() - count..]);
-    state.weigh_as(
-        alloc,
-        flat.size + name_size + args + 2,
-        deepest.saturating_add(1),
-    )?;
+    match state.weighs_as(flat.size + name_size + args + 2, deepest.saturating_add(1)) {
+        Weighing::Paid => {}
+        Weighing::Spent => return Err(Stop::WorkSpent),
+        Weighing::TooLarge => return Err(too_large(alloc)),
+    }
     state.pay_eval(alloc)?;
     let Some(Frame::Part(node)) = m.frames.pop() else {
         return Err(Stop::Wrong);

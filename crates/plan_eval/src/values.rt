@@ -4,7 +4,7 @@ use plan_base::{NoMemory, Ty, Value, Values};
 use plan_items::Items;
 use plan_meaning::Stop;
 use std::alloc::{AllocError, Global};
-use visit_state::State;
+use visit_state::{State, Weighing, too_large};
 
 /// Puts an item on a stack. Where memory is refused, it is dropped and the stack stays.
 pub fn put_on<T: Drop>(stack: &mut Vec<T>, item: T) -> Result<(), AllocError> {
@@ -76,12 +76,12 @@ pub fn push_copy(alloc: Global, stack: &mut Vec<Value>, v: &Value, state: &mut S
 /// Weighs a value and puts it on top.
 pub fn push_weighed(stack: &mut Vec<Value>, v: Value, state: &mut State) -> Leaf {
     match state.weighs(&v) {
-        Some(true) => match put_on(stack, v) {
+        Weighing::Paid => match put_on(stack, v) {
             Ok(()) => Leaf::Pushed,
             Err(_) => Leaf::NoMemory,
         },
-        Some(false) => Leaf::Spent,
-        None => Leaf::Large,
+        Weighing::Spent => Leaf::Spent,
+        Weighing::TooLarge => Leaf::Large,
     }
 }
 
@@ -115,9 +115,10 @@ pub fn settle_flat(size: u64, state: &mut State) -> Result<Turn, Stop> {
 }
 
 fn settle_any(alloc: Global, v: &Value, state: &mut State) -> Result<Turn, Stop> {
-    match state.weigh(alloc, v) {
-        Ok(()) => Ok(Turn::Gave),
-        Err(stop) => Err(stop),
+    match state.weighs(v) {
+        Weighing::Paid => Ok(Turn::Gave),
+        Weighing::Spent => Err(Stop::WorkSpent),
+        Weighing::TooLarge => Err(too_large(alloc)),
     }
 }
 

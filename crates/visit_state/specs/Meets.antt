@@ -5,10 +5,12 @@ use Rattle.plan_base.specs.declared.tree.Value.{Value}
 use Rattle.value_rules.specs.Rules.{Given, gives, raises, unfit, limited}
 use Rattle.remote_calls.specs.declared.fault.SendFault.{SendFault}
 use Rattle.remote_calls.specs.declared.fault.SendFault.TheVariants as fault
-use Rattle.value_rules.specs.Rules.{no_service}
+use Rattle.value_rules.specs.Rules.{no_service, too_large}
 use Rattle.plan_meaning.specs.declared.stop.Stop.{Stop}
-use Rattle.plan_meaning.specs.declared.stop.Stop.TheVariants.{Raised, Wrong, NoMemory}
+use Rattle.plan_meaning.specs.declared.stop.Stop.TheVariants.{Raised, WorkSpent, Wrong, NoMemory}
 use Rattle.plan_meaning.specs.State.{VisitState}
+use Rattle.visit_state.specs.declared.weighing.Weighing.{Weighing}
+use Rattle.visit_state.specs.declared.weighing.Weighing.TheVariants.{Paid, Spent, TooLarge}
 use Rattle.plan_meaning.specs.Meaning.{no_bound, no_route, not_neighbour}
 use Rattle.plan_meaning.specs.Run.{gave, stopped, Step}
 
@@ -17,10 +19,11 @@ abbrev pub Meets : {A : Type 0} → Step A → Result A Stop → VisitState → 
 Meets want (Ok a) new = want.after ≡ gave a new
 Meets want (Err e) new = e ≢ NoMemory → want.after ≡ stopped e new
 
--- the same, where the value is known and only the state is answered
-abbrev pub Settles : {A : Type 0} → Step A → A → Result (Unit {0}) Stop → VisitState → Type 0
-Settles want a (Ok _) new = want.after ≡ gave a new
-Settles want a (Err e) new = e ≢ NoMemory → want.after ≡ stopped e new
+-- whether the weight of a value was spent
+abbrev pub Weighs : Step Value → Value → Weighing → VisitState → Type 0
+Weighs want v Paid new = want.after ≡ gave v new
+Weighs want v Spent new = want.after ≡ stopped WorkSpent new
+Weighs want v TooLarge new = want.after ≡ stopped (Raised too_large) new
 
 -- the same of an operator or a primitive
 abbrev pub MeetsGiven : Given → Result Value Stop → Type 0

@@ -17,3 +17,4 @@ pub use raised::{no_bound, no_route, no_service, not_neighbour, too_large};
 pub use serving::served;
 pub use shapes::{as_bool, as_chunk, as_dev, as_host, as_int, as_items};
 pub use state::{ALLOWANCE, State};
+pub use weighing::Weighing;

@@ -9,10 +9,10 @@ ghost use Rattle.plan_meaning.specs.State.{Own, joined};
 ghost use Rattle.plan_meaning.specs.Run as run;
 ghost use Rattle.plan_meaning.specs.Visit.{allowance, ended};
 ghost use Rattle.plan_meaning.specs.Meaning as spec;
-ghost use Rattle.visit_state.specs.Meets.{Meets, Settles, StopsBy};
+ghost use Rattle.visit_state.specs.Meets.{Meets, StopsBy, Weighs};
 
-use crate::raised::{no_bound, no_route, no_service, not_neighbour, too_large};
-use crate::weighing::plain_weight;
+use crate::raised::{no_bound, no_route, no_service, not_neighbour};
+use crate::weighing::{Weighing, plain_weight};
 use chunk_types::{CheckedChunk, CheckedPacket};
 use plan_base::{Chunk, Dev, Family, Host, Name, NoMemory, Value, nesting, weight};
 use plan_items::Items;
@@ -120,20 +120,6 @@ impl State {
         &self.ctx
     }
 
-    /// Spends work.
-    #[tactic(auto, unfolding(plan_meaning::specs::Run::spend))]
-    pub fn spend(&mut self, n: u64) -> Result<(), Stop>
-        ensures meets { (s : Standing) → Meets (run.spend n (joined self.old s)) result (joined self.new s) }
-        ensures spends { OnOk result (self.new.work + n ≡ self.old.work) }
-        ensures falls { self.new.work ≤ self.old.work }
-    {
-        if self.work < n {
-            return Err(Stop::WorkSpent);
-        }
-        self.work -= n;
-        Ok(())
-    }
-
     /// Spends work where there is as much, or says no.
     #[tactic(auto, unfolding(plan_meaning::specs::Run::spend))]
     pub fn pays(&mut self, n: u64) -> bool
@@ -149,40 +135,32 @@ impl State {
         true
     }
 
-    /// Refuses a value of that weight and nesting where it is over the limits, and spends the weight of another.
-    #[tactic(auto, unfolding(plan_meaning::specs::Run::weighed, plan_meaning::specs::Run::is_too_large))]
-    pub fn weigh_as(&mut self, alloc: Global, size: u64, deep: u32) -> Result<(), Stop>
-        ensures settles { (v : Value) (s : Standing) → size ≡ min (weight v) 18446744073709551615 → deep ≡ min (nesting v) 4294967295
-            → Settles (run.weighed v (joined self.old s)) v result (joined self.new s) }
+    /// Spends the weight of a value with that nesting, unless it passes the limits.
+    #[tactic(auto, unfolding(plan_meaning::specs::Run::weighed))]
+    pub fn weighs_as(&mut self, size: u64, deep: u32) -> Weighing
+        ensures weighs { (v : Value) (s : Standing) → size ≡ min (weight v) 18446744073709551615 → deep ≡ min (nesting v) 4294967295
+            → Weighs (run.weighed v (joined self.old s)) v result (joined self.new s) }
         ensures falls { self.new.work ≤ self.old.work }
     {
         if is_too_large(size, deep) {
-            return Err(too_large(alloc));
+            return Weighing::TooLarge;
         }
-        self.spend(size)
+        if self.pays(size) {
+            Weighing::Paid
+        } else {
+            Weighing::Spent
+        }
     }
 
-    /// Refuses a value over the limits, and spends the weight of another.
-    pub fn weigh(&mut self, alloc: Global, v: &Value) -> Result<(), Stop>
-        ensures settles { (s : Standing) → Settles (run.weighed v.now (joined self.old s)) v.now result (joined self.new s) }
+    /// Spends the weight of a value, unless it passes the limits.
+    pub fn weighs(&mut self, v: &Value) -> Weighing
+        ensures weighs { (s : Standing) → Weighs (run.weighed v.now (joined self.old s)) v.now result (joined self.new s) }
         ensures falls { self.new.work ≤ self.old.work }
     {
         match plain_weight(v) {
-            Some(size) => self.weigh_as(alloc, size, 0),
-            None => self.weigh_as(alloc, weight(v), nesting(v)),
+            Some(size) => self.weighs_as(size, 0),
+            None => self.weighs_as(weight(v), nesting(v)),
         }
-    }
-
-    /// Whether the weight of a value could be spent, or `None` where it passes the limits.
-    pub fn weighs(&mut self, v: &Value) -> Option<bool> {
-        let (size, deep) = match plain_weight(v) {
-            Some(size) => (size, 0),
-            None => (weight(v), nesting(v)),
-        };
-        if is_too_large(size, deep) {
-            return None;
-        }
-        Some(self.pays(size))
     }
 
     /// Pays for an eval.

@@ -5,6 +5,17 @@ ghost use Rattle.plan_base.specs.Sizes.{largest_by, weight, nesting};
 
 use plan_base::{Value, type_size};
 
+/// What came of weighing a value.
+#[derive(Debug, Clone, Copy)]
+pub enum Weighing {
+    /// Its weight was spent.
+    Paid,
+    /// There isn't as much work left.
+    Spent,
+    /// It passes the limits.
+    TooLarge,
+}
+
 /// What values weigh in sum, or `None` where a chunk stands in one.
 #[cycle(plain_weight)]
 fn plain_weights(values: &[Value]) -> Option<u64>
