@@ -193,7 +193,11 @@ fn enter_own(
         return Err(Stop::Wrong);
     }
     let (args, deepest) = measure(&m.stack.as_slice()[m.stack.len() - count..]);
-    match state.weighs_as(flat.size + name_size + args + 2, deepest.saturating_add(1)) {
+    match state.weighs_as(flat
+            .size
+            .saturating_add(name_size)
+            .saturating_add(args)
+            .saturating_add(2), deepest.saturating_add(1)) {
         Weighing::Paid => {}
         Weighing::Spent => return Err(Stop::WorkSpent),
         Weighing::TooLarge => return Err(too_large(alloc)),
