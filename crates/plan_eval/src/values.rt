@@ -17,7 +17,8 @@ pub fn put_on<T: Drop>(stack: &mut Vec<T>, item: T) -> Result<(), AllocError> {
 fn copies(alloc: Global, values: &[Value]) -> Result<Values, NoMemory> {
     let mut all = Vec::with_capacity(alloc, values.len())?;
     for v in values {
-        all.push_reserved(copied(alloc, v)?);
+        let copy = copied(alloc, v)?;
+        all.push_reserved(copy);
     }
     Ok(Items::from_vec(all))
 }
