@@ -1,7 +1,7 @@
 //! What an expression does when all its parts have given values, which lie on top of the stack.
 use crate::codes::Codes;
 use crate::frame::{Frame, Machine, Spot, Turn};
-use crate::pass::{Home, enter};
+use crate::pass::{Home, begin_fold, enter};
 use crate::values::{put_on, settle, settle_flat, take_one, taken};
 use flat_code::{Flat, Form, Node, flat_of};
 use plan_base::{
@@ -316,6 +316,8 @@ pub fn complete<S: Services>(
         }
         Form::Primitive(p) => compute(alloc, m, *p, node.parts, state),
         Form::Service(number) => ask(alloc, home.code, m, *number, node.parts, state, svc),
+        Form::Foldl(_) => begin_fold(home, m, at, true, state),
+        Form::Foldr(_) => begin_fold(home, m, at, false, state),
         Form::Tuple => tuple(alloc, m, node.parts, state),
         Form::Packs(entry) => pack(alloc, home.code, m, entry, node.parts, state),
         Form::Enters(entry, fun) => {

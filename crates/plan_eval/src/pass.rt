@@ -142,7 +142,6 @@ fn begin_open<S: Services>(
         return Err(Stop::WorkSpent);
     }
     match &node.form {
-        Form::Wrong => Err(Stop::Wrong),
         Form::Raises(x) => raise_named(home.alloc, x),
         Form::Try(_) => {
             let height = m.stack.len();
@@ -152,9 +151,7 @@ fn begin_open<S: Services>(
         | Form::Let
         | Form::Then
         | Form::And
-        | Form::Or
-        | Form::Foldl(_)
-        | Form::Foldr(_) => open(m, Frame::Part(at), at + 1),
+        | Form::Or => open(m, Frame::Part(at), at + 1),
         _ => advance(home, at, node, at + 1, m, state, svc),
     }
 }
@@ -310,7 +307,7 @@ fn follow(m: &mut Machine, node: usize, next: usize) -> Result<Turn, Stop> {
 }
 
 /// The list of a fold is on top and its first value below it: they change places, and the list's next item comes last.
-fn begin_fold(
+pub fn begin_fold(
     home: Home<'_>,
     m: &mut Machine,
     node: usize,
@@ -415,8 +412,6 @@ fn ended_part<S: Services>(
         Form::Then => follow(m, node, next),
         Form::And => until(m, node, next, false, state),
         Form::Or => until(m, node, next, true, state),
-        Form::Foldl(_) if next >= whole.end => begin_fold(home, m, node, true, state),
-        Form::Foldr(_) if next >= whole.end => begin_fold(home, m, node, false, state),
         _ => advance(home, node, whole, next, m, state, svc),
     }
 }
