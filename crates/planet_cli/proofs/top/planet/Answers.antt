@@ -1,14 +1,14 @@
-use Rattle.std.proofs.Common.{◌++◌, ap, ◌∙◌}
-use Rattle.planet_cli.proofs.Headline.{done_found, replay_output, replay_ledger, check_output}
-use Rattle.planet_cli.proofs.Showing.{show_output, show_is_whole, show_found}
-use Rattle.planet_cli.proofs.Growing.{grow_is_whole, grow_text}
+use Rattle.planet_cli.proofs.Headline.{done_found, replay_written, replay_ledger, check_written}
+use Rattle.planet_cli.proofs.Showing.{show_written, show_is_whole, show_found}
+use Rattle.planet_cli.proofs.Growing.{grow_is_whole, grow_written}
+use Rattle.planet_cli.proofs.Injecting.{ask_written}
 use Rattle.planet_cli.proofs.top.planet.Goals as goal
 
 pub returns-clause-replayed : goal.returns-clause-replayed
 returns-clause-replayed g c =
     λ files_tell out_tells s replays done.
     let found = done_found _ _ _ c.settle-cause.ensures.gives done in
-    c.run-found.ensures.whole files_tell out_tells found ∙ ap (λ text. g.K.Sink.taken c.args.out.now ++ text) (replay_output _ _ s replays (c.run-found.ensures.accepted files_tell found))
+    replay_written c.args.words.now (g.F.Files.files c.args.files.now) s replays _ _ (c.run-found.ensures.accepted files_tell found) (c.run-found.ensures.whole files_tell out_tells found)
 
 pub returns-clause-ledger : goal.returns-clause-ledger
 returns-clause-ledger g c = λ files_tell s replays. replay_ledger _ _ s replays
@@ -17,13 +17,13 @@ pub returns-clause-checked : goal.returns-clause-checked
 returns-clause-checked g c =
     λ files_tell out_tells p checks done.
     let found = done_found _ _ _ c.settle-cause.ensures.gives done in
-    c.run-found.ensures.whole files_tell out_tells found ∙ ap (λ text. g.K.Sink.taken c.args.out.now ++ text) (check_output _ _ p checks (c.run-found.ensures.accepted files_tell found))
+    check_written c.args.words.now (g.F.Files.files c.args.files.now) p checks _ _ (c.run-found.ensures.accepted files_tell found) (c.run-found.ensures.whole files_tell out_tells found)
 
 pub returns-clause-shown : goal.returns-clause-shown
 returns-clause-shown g c =
     λ files_tell out_tells x shows done.
     let found = done_found _ _ _ c.settle-cause.ensures.gives done in
-    c.run-found.ensures.whole files_tell out_tells found ∙ ap (λ text. g.K.Sink.taken c.args.out.now ++ text) (show_output _ _ x shows)
+    show_written c.args.words.now (g.F.Files.files c.args.files.now) x shows _ _ (c.run-found.ensures.whole files_tell out_tells found)
 
 pub returns-clause-shown_whole : goal.returns-clause-shown_whole
 returns-clause-shown_whole g c = λ files_tell x shows. show_is_whole _ _ x shows
@@ -41,4 +41,16 @@ pub returns-clause-grown : goal.returns-clause-grown
 returns-clause-grown g c =
     λ files_tell out_tells seed n code asked reads done.
     let found = done_found _ _ _ c.settle-cause.ensures.gives done in
-    c.run-found.ensures.whole files_tell out_tells found ∙ ap (λ text. g.K.Sink.taken c.args.out.now ++ text) (grow_text c.args.words.now (g.F.Files.files c.args.files.now) seed n code asked reads)
+    grow_written c.args.words.now (g.F.Files.files c.args.files.now) seed n code asked reads _ _ (c.run-found.ensures.whole files_tell out_tells found)
+
+pub returns-clause-injected : goal.returns-clause-injected
+returns-clause-injected g c =
+    λ files_tell link_tells file a asked said done.
+    let found = done_found _ _ _ c.settle-cause.ensures.gives done in
+    c.run-found.ensures.injected files_tell link_tells file a asked said found
+
+pub returns-clause-injected_line : goal.returns-clause-injected_line
+returns-clause-injected_line g c =
+    λ files_tell out_tells file a asked said done.
+    let found = done_found _ _ _ c.settle-cause.ensures.gives done in
+    ask_written c.args.words.now (g.F.Files.files c.args.files.now) file a asked said _ _ (c.run-found.ensures.whole files_tell out_tells found)
