@@ -1,12 +1,13 @@
 use node_io::{
-    Arrival, Arrivals, Calls, FileList, MemClock, MemFiles, MemLink, MemSink, MemSpawner, Moments, Statuses,
+    Arrivals, Calls, FileList, MemClock, MemFiles, MemLink, MemSink, MemSpawner, Moments, Statuses,
 };
-use plan_base::{Bytes, Dev, Text, Texts};
+use plan_base::{Bytes, Text, Texts};
 use planet_cli::{Status, planet};
 use std::alloc::{AllocError, Global};
 use std::test::Fail;
 
 /// The outside of a call, in memory.
+#[derive(Drop)]
 pub struct Desk {
     pub files: MemFiles,
     pub out: MemSink,
@@ -18,14 +19,14 @@ pub struct Desk {
 
 /// The calls that are to fail, of each object.
 #[derive(Clone, Copy)]
-pub struct Failing {
-    pub files: &'static [u64],
-    pub link: &'static [u64],
-    pub spawn: &'static [u64],
+pub struct Failing<'a> {
+    pub files: &'a [u64],
+    pub link: &'a [u64],
+    pub spawn: &'a [u64],
 }
 
 /// No call fails.
-pub const SOUND: Failing = Failing {
+pub const SOUND: Failing<'static> = Failing {
     files: &[],
     link: &[],
     spawn: &[],
@@ -49,10 +50,13 @@ pub fn desk(
     name: &str,
     bytes: &[u8],
     statuses: &[u8],
-    failing: Failing,
+    failing: Failing<'_>,
 ) -> Result<Desk, Fail> {
     let mut files = FileList::new(alloc);
-    files.add((text(alloc, name)?, Bytes::of(Vec::from_slice(alloc, bytes)?)))?;
+    files.add((
+        text(alloc, name)?,
+        Bytes::of(Vec::from_slice(alloc, bytes)?),
+    ))?;
     Ok(Desk {
         files: MemFiles::new(alloc, files, Calls::from_slice(alloc, failing.files)?)?,
         out: MemSink::new(alloc, Calls::new(alloc))?,
@@ -69,22 +73,6 @@ pub fn desk(
             Calls::from_slice(alloc, failing.spawn)?,
         )?,
     })
-}
-
-impl Desk {
-    /// Gives the link a script of arrivals, and the calls of it that are to fail.
-    pub fn hears(&mut self, alloc: Global, script: Arrivals, fails: &[u64]) -> Result<(), Fail> {
-        self.link = MemLink::new(alloc, script, Calls::from_slice(alloc, fails)?)?;
-        Ok(())
-    }
-}
-
-/// An arrival of bytes in hex on a device, quiet where there are none.
-pub fn heard(alloc: Global, dev: u32, hex: &str) -> Result<Arrival, Fail> {
-    match hex::decode(alloc, hex.as_bytes()) {
-        Ok(bytes) if !bytes.is_empty() => Ok(Arrival::On(Dev(dev), Bytes::of(bytes))),
-        _ => Ok(Arrival::Quiet),
-    }
 }
 
 /// The top call over this outside.

@@ -4,11 +4,11 @@ use planet_cli::Cause;
 use std::alloc::Global;
 use std::test::Fail;
 
-const TWO: &[u8] = b"planet fleet 1\nnode 1 a.cfg 300\nnode 2 b.cfg 300\n";
+pub const TWO: &[u8] = b"planet fleet 1\nnode 1 a.cfg 300\nnode 2 b.cfg 300\n";
 
 const NODE_AND_REQUEST: &[u8] = b"planet fleet 1\nnode 1 a.cfg 300\nask 1 b.ask\n";
 
-fn fleet(alloc: Global, bytes: &[u8], statuses: &[u8], failing: Failing) -> Result<Desk, Fail> {
+fn fleet(alloc: Global, bytes: &[u8], statuses: &[u8], failing: Failing<'_>) -> Result<Desk, Fail> {
     desk(alloc, "fleet.txt", bytes, statuses, failing)
 }
 
@@ -21,15 +21,17 @@ type Ended = (
     &'static [u8],
 );
 
+pub const REPORT: &[u8] = b"node @1 status 0\nnode @2 status 2\n";
+
 const ENDED: [Ended; 5] = [
+    (TWO, &[0, 2], 8, REPORT, b"planet: node @2 failed with 2\n"),
     (
         TWO,
-        &[0, 2],
-        8,
-        b"node @1 status 0\nnode @2 status 2\n",
-        b"planet: node @2 failed with 2\n",
+        &[0, 0],
+        0,
+        b"node @1 status 0\nnode @2 status 0\n",
+        b"",
     ),
-    (TWO, &[0, 0], 0, b"node @1 status 0\nnode @2 status 0\n", b""),
     (
         TWO,
         &[3, 2],
@@ -106,48 +108,33 @@ fn files_that_are_no_fleet_start_nothing(rt: HostRuntime) -> Result<(), Fail> {
     Ok(())
 }
 
-/// A failing call of the files or of the children, with the status, the output and the note that it gives.
-type Faulty = (
-    &'static [u64],
-    &'static [u64],
-    u8,
-    &'static [u8],
-    &'static [u8],
-);
+/// A failing call of the children, and the lines that stand.
+type Faulty = (u64, &'static [u8]);
 
-const FAULTY: [Faulty; 7] = [
-    (&[1], &[], 3, b"", b"planet: read fault\n"),
-    (&[2], &[], 3, b"", b"planet: read fault\n"),
-    (&[3], &[], 3, b"", b"planet: read fault\n"),
-    (&[], &[1], 6, b"", b"planet: spawn fault\n"),
-    (&[], &[2], 6, b"", b"planet: spawn fault\n"),
-    (&[], &[3], 6, b"", b"planet: spawn fault\n"),
-    (
-        &[],
-        &[4],
-        6,
-        b"node @1 status 0\n",
-        b"planet: spawn fault\n",
-    ),
-];
+// Two starts, then two waits.
+const FAULTY: [Faulty; 4] = [(1, b""), (2, b""), (3, b""), (4, b"node @1 status 0\n")];
 
 #[test]
-fn a_failing_call_gives_its_status_and_leaves_its_front(rt: HostRuntime) -> Result<(), Fail> {
+fn a_failing_child_is_a_fault_and_the_next_fleet_is_sound(rt: HostRuntime) -> Result<(), Fail> {
     let alloc = rt.alloc();
-    for (files, spawn, code, output, note) in FAULTY {
+    for (at, output) in FAULTY {
         let failing = Failing {
-            files,
+            files: &[],
             link: &[],
-            spawn,
+            spawn: &[at],
         };
         let mut desk = fleet(alloc, TWO, &[0, 2], failing)?;
         let status = call(alloc, &mut desk, &["fleet", "fleet.txt"])?;
-        assert_eq!(rt; status.code, code);
+        assert_eq!(rt; status.code, 6, "failing at {at}");
         assert_eq!(rt; desk.out.taken().as_slice(), output);
-        assert_eq!(rt; desk.notes.taken().as_slice(), note);
+        assert_eq!(rt;
+            desk.notes.taken().as_slice(),
+            b"planet: spawn fault\n".as_slice()
+        );
         let mut sound = fleet(alloc, TWO, &[0, 2], SOUND)?;
         let again = call(alloc, &mut sound, &["fleet", "fleet.txt"])?;
         assert_eq!(rt; again.code, 8);
+        assert_eq!(rt; sound.out.taken().as_slice(), REPORT);
     }
     Ok(())
 }

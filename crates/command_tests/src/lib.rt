@@ -6,4 +6,6 @@ mod desk;
 #[cfg(test)]
 mod fleets;
 #[cfg(test)]
+mod reads;
+#[cfg(test)]
 mod requests;

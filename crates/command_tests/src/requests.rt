@@ -4,7 +4,7 @@ use std::alloc::Global;
 use std::process::Abort;
 use std::test::Fail;
 
-const REQUEST: &[u8] = b"planet inject 1\n\
+pub const REQUEST: &[u8] = b"planet inject 1\n\
 to 7001\n\
 from 7100\n\
 bound 10\n\
@@ -15,7 +15,7 @@ end program\n";
 
 const FRAME: &str = "504c414e01030000000a0000010166000020016600";
 
-const LINE: &[u8] = b"asked 7001 bytes 21\n";
+pub const LINE: &[u8] = b"asked 7001 bytes 21\n";
 
 // A request with another entry, one without a program, and one from no port.
 const UNKNOWN_ENTRY: &[u8] = b"planet inject 1\n\
@@ -31,7 +31,7 @@ const NO_PROGRAM: &[u8] = b"planet inject 1\nto 7001\nfrom 7100\nbound 10\nentry
 
 const NO_PORT: &[u8] = b"planet inject 1\nto 7001\nfrom 0\n";
 
-fn ask(alloc: Global, bytes: &[u8], failing: Failing) -> Result<Desk, Fail> {
+fn ask(alloc: Global, bytes: &[u8], failing: Failing<'_>) -> Result<Desk, Fail> {
     desk(alloc, "ask.txt", bytes, &[], failing)
 }
 
@@ -83,32 +83,23 @@ fn files_that_are_no_request_send_nothing(rt: HostRuntime) -> Result<(), Fail> {
     Ok(())
 }
 
-/// A failing call of the files or of the link, with the status and the note that it gives.
-type Faulty = (&'static [u64], &'static [u64], u8, &'static [u8]);
-
-const FAULTY: [Faulty; 5] = [
-    (&[1], &[], 3, b"planet: read fault\n"),
-    (&[2], &[], 3, b"planet: read fault\n"),
-    (&[3], &[], 3, b"planet: read fault\n"),
-    (&[], &[1], 5, b"planet: link fault\n"),
-    (&[], &[2], 5, b"planet: link fault\n"),
-];
-
 #[test]
-fn a_failing_call_leaves_nothing_and_the_next_request_is_sent(
-    rt: HostRuntime,
-) -> Result<(), Fail> {
+fn a_failing_link_leaves_nothing_and_the_next_request_is_sent(rt: HostRuntime) -> Result<(), Fail> {
     let alloc = rt.alloc();
-    for (files, link, code, note) in FAULTY {
+    // the binding, and the sending
+    for at in 1..3 {
         let failing = Failing {
-            files,
-            link,
+            files: &[],
+            link: &[at],
             spawn: &[],
         };
         let mut desk = ask(alloc, REQUEST, failing)?;
         let status = call(alloc, &mut desk, &["inject", "ask.txt"])?;
-        assert_eq!(rt; status.code, code);
-        assert_eq!(rt; desk.notes.taken().as_slice(), note);
+        assert_eq!(rt; status.code, 5, "failing at {at}");
+        assert_eq!(rt;
+            desk.notes.taken().as_slice(),
+            b"planet: link fault\n".as_slice()
+        );
         assert_eq!(rt; desk.out.taken().len(), 0);
         assert_eq!(rt; desk.link.sent().len(), 0);
         let again = call(alloc, &mut desk, &["inject", "ask.txt"])?;

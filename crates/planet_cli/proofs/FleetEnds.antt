@@ -1,5 +1,5 @@
 -- How a fleet ends, by cases of the cause, and fronts of its starts.
-use Rattle.std.proofs.Common.{◌≡◌, ◌⊎◌, List, ◌++◌, length, inl, inr, refl, sym, ◌∙◌, ap, subst}
+use Rattle.std.proofs.Common.{◌≡◌, ◌⊎◌, List, ◌++◌, length, inl, inr, sym, ◌∙◌, ap, subst}
 use Rattle.std.proofs.Math.Seq.{take-length}
 use Rattle.std.proofs.lemmas.List.{append-nil}
 use Rattle.network_plan.specs.declared.fleet.Fleet.{Fleet}
@@ -8,7 +8,7 @@ use Rattle.fleet_run.specs.declared.reports.FleetEnd.{FleetEnd}
 use Rattle.fleet_run.specs.Fleets.{StartsFront}
 use Rattle.planet_cli.specs.declared.status.Cause.{Cause}
 use Rattle.planet_cli.specs.declared.status.Cause.TheVariants.{Done, Usage, Refused, ReadFault, WriteFault, LinkFault, SpawnFault, NoMemory, NodesFailed}
-use Rattle.planet_cli.specs.Refusals.{IsReadCause}
+use Rattle.planet_cli.specs.Refusals.{IsReadCause, Gives}
 use Rattle.planet_cli.specs.Said.{Said, says, IsSaid}
 use Rattle.planet_cli.specs.Fleets.{IfEnded}
 
@@ -47,3 +47,12 @@ may_start old new all h = elim h [
   | inl same ↦ record { count = 0; is = same ∙ sym (append-nil old) }
   | inr more ↦ all_started old new all more
 ]
+
+-- what holds of how a fleet ended holds of what the call gives
+pub ended_given : (found given : Cause) (X : Type 0) (P : FleetEnd → Type 0) → Gives found given X → IfEnded found P → IfEnded given P
+ended_given found given X P gives h =
+    let Q : Cause → Type 0 = λ c. IfEnded c P in
+    elim gives [
+      | inl same ↦ subst Q (sym same) h
+      | inr other ↦ elim other [ inl memory ↦ subst Q (sym memory) tt | inr unwritten ↦ subst Q (sym unwritten.0) tt ]
+    ]

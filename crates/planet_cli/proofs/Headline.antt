@@ -1,6 +1,6 @@
 -- A replay that is done wrote the run of its schedule, and that run is in balance. A check that is done wrote the sizes of its
 -- program.
-use Rattle.std.proofs.Common.{◌≡◌, ℕ, Bool, true, false, cond, nat_lt, inl, inr, List, ◌++◌, length, take, Option, Some, None, Ok, refl, sym, ap, ◌∙◌, subst}
+use Rattle.std.proofs.Common.{◌≡◌, ℕ, Bool, true, false, cond, nat_lt, inl, inr, List, ◌++◌, length, take, Option, Some, None, Ok, sym, ap, ◌∙◌, subst}
 use Rattle.std.proofs.lemmas.List.Elements.{All-take}
 use Rattle.node_io.specs.FileMaps.{FileMap}
 use Rattle.plan_base.specs.declared.tree.Program.{Program}
@@ -24,7 +24,7 @@ use Rattle.planet_cli.specs.declared.status.Refusal.{Refusal}
 use Rattle.planet_cli.specs.declared.status.Refusal.TheVariants.{TooLong}
 use Rattle.planet_cli.specs.Refusals.{Gives}
 use Rattle.planet_cli.specs.Outcomes.{Outcome, refused, ruled, judged, outcome_at, answered, outcome_of, Writes, IsAccepted}
-use Rattle.planet_cli.specs.Schedules.{schedule_limit, schedule_refusal, schedule_output, output_in}
+use Rattle.planet_cli.specs.Schedules.{schedule_limit, schedule_refusal, schedule_output, replayed_by, output_in}
 use Rattle.planet_cli.specs.Checks.{program_limit, program_refusal, program_output, sizes_text, sizes_of, IsCheckOf}
 use Rattle.planet_cli.specs.Replays.{IsReplayOf, KeepsLedger}
 use Rattle.planet_cli.proofs.RuleLemmas.{events_fit}
@@ -39,7 +39,7 @@ done_found found given X gives done = elim gives [
     no_fault : (c : Cause) → c ≡ WriteFault → c ≡ Done → ⊥
     no_fault c e d = cc
 
-written_text : (t : Bool) (rule : Option Refusal) (text old new : List ℕ) → IsAccepted (cond t (refused TooLong) (ruled rule text)) → Writes (cond t (refused TooLong) (ruled rule text)) old new
+pub written_text : (t : Bool) (rule : Option Refusal) (text old new : List ℕ) → IsAccepted (cond t (refused TooLong) (ruled rule text)) → Writes (cond t (refused TooLong) (ruled rule text)) old new
     → new ≡ old ++ text
 written_text true rule text old new h w = absurd h
 written_text false None text old new h w = w
@@ -51,7 +51,7 @@ asked_outcome words files s r =
 
 output_said : (bytes : List ℕ) (s : Schedule) → schedule_of bytes ≡ Ok s → schedule_output bytes ≡ run_text s.frames s.events (opening s.topology)
 unfolding schedule_output
-output_said bytes s e = ap output_in e
+output_said bytes s e = ap (λ read. output_in (replayed_by read bytes)) e
 
 -- a replay that is done wrote the run of its schedule
 pub replay_written : (words : List (List ℕ)) (files : FileMap) (s : Schedule) → IsReplayOf words files s → (old new : List ℕ) → IsAccepted (outcome_of words files)

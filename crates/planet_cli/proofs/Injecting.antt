@@ -5,7 +5,7 @@ use Rattle.node_io.specs.FileMaps.{FileMap}
 use Rattle.node_files.specs.Asks.{ask_of}
 use Rattle.fleet_run.specs.Asks.{ask_line}
 use Rattle.planet_cli.specs.Requests.{inject, request_of}
-use Rattle.planet_cli.specs.Said.{Said, says, said_in}
+use Rattle.planet_cli.specs.Said.{says, said_in}
 use Rattle.planet_cli.specs.Outcomes.{Outcome, answered, outcome_of, ask_outcome, Writes}
 
 pub ask_written : (words : List (List ℕ)) (files : FileMap) (file : List ℕ) (a : AskFile) → request_of words ≡ Some (inject file) → said_in ask_of files file ≡ says a

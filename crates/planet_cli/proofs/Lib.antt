@@ -9,3 +9,5 @@ pub mod Writing
 pub mod Untouched
 pub mod Injecting
 pub mod FleetEnds
+pub mod Causes
+pub mod Logs

@@ -1,10 +1,14 @@
 -- Where nothing was bound, sent, started or written, nothing was that isn't allowed.
-use Rattle.std.proofs.Common.{◌≡◌, ℕ, List, inl, refl, sym}
+use Rattle.std.proofs.Common.{◌≡◌, ℕ, List, inl, refl, sym, ap}
 use Rattle.std.proofs.lemmas.List.{append-nil}
 use Rattle.network_plan.specs.declared.fleet.AskFile.{AskFile}
 use Rattle.network_plan.specs.declared.fleet.Fleet.{Fleet}
 use Rattle.node_io.specs.Links.{Bind, Heard}
 use Rattle.node_io.specs.Children.{Words}
+use Rattle.service_api.specs.Services.{Standing}
+use Rattle.service_meaning.specs.Offered.{Present}
+use Rattle.service_meaning.specs.Beginning.{opening_standing}
+use Rattle.node_core.specs.Turns.{IsResting}
 use Rattle.planet_cli.specs.Said.{Said, nothing, outside, says, IsSaid}
 use Rattle.planet_cli.specs.Asks.{BindsAtMost, SendsAtMost}
 use Rattle.planet_cli.specs.Fleets.{StartsAtMost, LinesAtMost}
@@ -35,6 +39,10 @@ pub ask_said : (s : Said AskFile) → IsWhole (ask_outcome s) → IsSaid s
 ask_said nothing h = absurd h
 ask_said (outside r) h = absurd h
 ask_said (says a) h = tt
+
+-- new services have no visit open
+pub new_rests : (s : Standing) (p : Present) → s ≡ opening_standing p → IsResting s
+new_rests s p is = record { closed = ap (λ t. t.begun) is; waits = ap (λ t. t.ready) is }
 
 -- the output of a fleet is defined apart
 pub fleet_runs : (s : Said Fleet) → IsWhole (fleet_outcome s) → ⊥

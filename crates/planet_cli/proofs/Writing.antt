@@ -1,5 +1,5 @@
 -- What was written of an output, by cases.
-use Rattle.std.proofs.Common.{◌≡◌, ℕ, List, [], ◌++◌, length, take, refl, sym, ◌∙◌, ap}
+use Rattle.std.proofs.Common.{◌≡◌, ℕ, List, [], ◌++◌, length, refl, sym, ◌∙◌, ap}
 use Rattle.std.proofs.Math.Seq.{take-nil, take-length}
 use Rattle.std.proofs.lemmas.List.{append-nil}
 use Rattle.node_io.specs.Pieces.{AppendsFront}

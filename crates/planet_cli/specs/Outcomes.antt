@@ -41,9 +41,9 @@ outcome_at limit rule text (Some bytes) = judged limit rule text bytes
 
 -- what a file of lines makes of a call, where it says a value that makes this of it
 abbrev pub outcome_by : {A : Type 0} → (A → Outcome) → Said A → Outcome
-outcome_by then nothing = missing
-outcome_by then (outside r) = refused r
-outcome_by then (says v) = then v
+outcome_by made nothing = missing
+outcome_by made (outside r) = refused r
+outcome_by made (says v) = made v
 
 abbrev pub ask_outcome : Said AskFile → Outcome
 ask_outcome said = outcome_by (λ a. whole (ask_line a)) said

@@ -20,12 +20,7 @@ use std::alloc::Global;
 
 // Runs a fleet that was read.
 #[tactic(auto, using(crate::proofs::FleetEnds::all_started, crate::proofs::FleetEnds::may_start))]
-fn run_read<P: Spawner, K: Sink>(
-    alloc: Global,
-    fleet: &Fleet,
-    spawn: &mut P,
-    out: &mut K,
-) -> Cause
+fn run_read<P: Spawner, K: Sink>(alloc: Global, fleet: &Fleet, spawn: &mut P, out: &mut K) -> Cause
     ensures kind { IsFleetCause result }
     ensures unread { (result ≡ Cause.ReadFault) → ⊥ }
     ensures unrefused { IfRefused result (λ _. ⊥) }

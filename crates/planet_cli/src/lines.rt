@@ -66,11 +66,6 @@ fn value_in<V: LineValue>(alloc: Global, bytes: &[u8]) -> Result<V, Stop>
     ensures says { IfOk result (λ v. said_by (V.said bytes.now) ≡ says v) }
     ensures refused { IfStoppedRefused result (λ r. said_by (V.said bytes.now) ≡ outside r) }
     ensures own { IfStoppedRefused result IsOwn }
-    ensures refused_always { (r : Refusal)
-        → said_by (V.said bytes.now) ≡ outside r
-        → IsErrOf result (Stop.Refused r) ⊎ IsErrOf result Stop.NoMemory }
-    ensures only { IsSaid (said_by (V.said bytes.now)) → IsOk result ⊎ IsErrOf result Stop.NoMemory }
-    ensures unwritten { IsErrOf result Stop.WriteFault → ⊥ }
     ensures rules { IfOk result V.keeps }
 {
     match V::read(alloc, bytes) {

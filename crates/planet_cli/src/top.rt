@@ -9,13 +9,15 @@ ghost use Rattle.planet_cli.specs.Notes.{Noted};
 ghost use Rattle.planet_cli.specs.Files.{AsksFor};
 ghost use Rattle.planet_cli.specs.Checks.{IsCheckOf, sizes_text};
 ghost use Rattle.planet_cli.specs.Shows.{IsShowOf};
-ghost use Rattle.planet_cli.specs.Replays.{IsReplayOf, KeepsLedger};
+ghost use Rattle.planet_cli.specs.Replays.{IsReplayOf, IsLogOf, KeepsLedger};
+ghost use Rattle.planet_cli.specs.Schedules.{log_trace};
 ghost use Rattle.planet_cli.specs.Asks.{BindsAtMost, SendsAtMost};
 ghost use Rattle.planet_cli.specs.Fleets.{IfEnded, IsEnded, StartsAtMost, LinesAtMost};
 ghost use Rattle.plan_base.specs.declared.tree.Program.{Program};
 ghost use Rattle.packet_frame.specs.declared.frame.PlainFrame.{PlainFrame};
 ghost use Rattle.frame_text.specs.Frames.{frame_text};
 ghost use Rattle.network_plan.specs.declared.schedule.Schedule.{Schedule};
+ghost use Rattle.network_plan.specs.declared.node.Log.{Log};
 ghost use Rattle.network_plan.specs.declared.fleet.AskFile.{AskFile as Request};
 ghost use Rattle.network_plan.specs.declared.fleet.Fleet.{Fleet as Children};
 ghost use Rattle.node_files.specs.Asks.{ask_of};
@@ -113,6 +115,13 @@ pub fn planet<F: Files, K: Sink, N: Sink, L: Link, C: Clock, P: Spawner>(
         → result.cause ≡ Cause.Done
         → K.taken out.new ≡ K.taken out.old ++ run_text s.frames s.events (opening s.topology) }
     ensures ledger { IsTrue F.tells → (s : Schedule) → IsReplayOf words.now (F.files files.old) s → KeepsLedger s }
+    // And where the file is the log of a node, the trace of its steps.
+    ensures logged { IsTrue F.tells
+        → IsTrue K.tells
+        → (l : Log)
+        → IsLogOf words.now (F.files files.old) l
+        → result.cause ≡ Cause.Done
+        → K.taken out.new ≡ K.taken out.old ++ log_trace l }
     // The same of `check`: where it is done it wrote the sizes of its typed program.
     ensures checked { IsTrue F.tells
         → IsTrue K.tells

@@ -1,7 +1,10 @@
 use Rattle.planet_cli.proofs.Headline.{done_found, replay_written, replay_ledger, check_written}
 use Rattle.planet_cli.proofs.Showing.{show_written, show_is_whole, show_found}
 use Rattle.planet_cli.proofs.Growing.{grow_is_whole, grow_written}
+use Rattle.planet_cli.proofs.Logs.{log_written}
 use Rattle.planet_cli.proofs.Injecting.{ask_written}
+use Rattle.planet_cli.proofs.FleetEnds.{ended_given}
+use Rattle.planet_cli.proofs.Causes.{unless_linked, unless_fleet, given_no_link, given_no_spawn, given_unfailed}
 use Rattle.planet_cli.proofs.top.planet.Goals as goal
 
 pub returns-clause-replayed : goal.returns-clause-replayed
@@ -54,3 +57,25 @@ returns-clause-injected_line g c =
     λ files_tell out_tells file a asked said done.
     let found = done_found _ _ _ c.settle-cause.ensures.gives done in
     ask_written c.args.words.now (g.F.Files.files c.args.files.now) file a asked said _ _ (c.run-found.ensures.whole files_tell out_tells found)
+
+pub returns-clause-no_link_fault : goal.returns-clause-no_link_fault
+returns-clause-no_link_fault g c = unless_linked _ _ _ (given_no_link _ _ _ c.settle-cause.ensures.gives) c.run-found.ensures.no_link_fault
+
+pub returns-clause-no_spawn_fault : goal.returns-clause-no_spawn_fault
+returns-clause-no_spawn_fault g c = unless_fleet _ _ _ (given_no_spawn _ _ _ c.settle-cause.ensures.gives) c.run-found.ensures.no_spawn_fault
+
+pub returns-clause-no_nodes_failed : goal.returns-clause-no_nodes_failed
+returns-clause-no_nodes_failed g c = unless_fleet _ _ _ (given_unfailed _ _ _ c.settle-cause.ensures.gives) c.run-found.ensures.no_nodes_failed
+
+pub returns-clause-fleet : goal.returns-clause-fleet
+returns-clause-fleet g c = λ files_tell file f asked said. ended_given _ _ _ _ c.settle-cause.ensures.gives (c.run-found.ensures.fleet files_tell file f asked said)
+
+pub returns-clause-fleet_starts : goal.returns-clause-fleet_starts
+returns-clause-fleet_starts g c =
+    λ files_tell spawner_tells file f asked said. ended_given _ _ _ _ c.settle-cause.ensures.gives (c.run-found.ensures.fleet_starts files_tell spawner_tells file f asked said)
+
+pub returns-clause-logged : goal.returns-clause-logged
+returns-clause-logged g c =
+    λ files_tell out_tells l logs done.
+    let found = done_found _ _ _ c.settle-cause.ensures.gives done in
+    log_written c.args.words.now (g.F.Files.files c.args.files.now) l logs _ _ (c.run-found.ensures.accepted files_tell found) (c.run-found.ensures.whole files_tell out_tells found)
