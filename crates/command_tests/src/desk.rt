@@ -45,7 +45,7 @@ fn words_of(alloc: Global, all: &[&str]) -> Result<Texts, AllocError> {
 }
 
 /// The outside with the one file, and children that give these statuses.
-pub fn desk(
+pub fn desk_with(
     alloc: Global,
     name: &str,
     bytes: &[u8],

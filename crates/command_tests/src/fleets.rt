@@ -1,4 +1,4 @@
-use crate::desk::{Desk, Failing, SOUND, call, desk};
+use crate::desk::{Desk, Failing, SOUND, call, desk_with};
 use plan_base::Host;
 use planet_cli::Cause;
 use std::alloc::Global;
@@ -9,7 +9,7 @@ pub const TWO: &[u8] = b"planet fleet 1\nnode 1 a.cfg 300\nnode 2 b.cfg 300\n";
 const NODE_AND_REQUEST: &[u8] = b"planet fleet 1\nnode 1 a.cfg 300\nask 1 b.ask\n";
 
 fn fleet(alloc: Global, bytes: &[u8], statuses: &[u8], failing: Failing<'_>) -> Result<Desk, Fail> {
-    desk(alloc, "fleet.txt", bytes, statuses, failing)
+    desk_with(alloc, "fleet.txt", bytes, statuses, failing)
 }
 
 /// A fleet, the statuses of its children, the code, the output and the note.

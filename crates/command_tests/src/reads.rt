@@ -1,4 +1,4 @@
-use crate::desk::{Failing, call, desk};
+use crate::desk::{Failing, call, desk_with};
 use crate::fleets::{REPORT, TWO};
 use crate::requests::{LINE, REQUEST};
 use std::alloc::Global;
@@ -29,7 +29,7 @@ fn fails_at_each_read(
             link: &[],
             spawn: &[],
         };
-        let mut desk = desk(alloc, "file.txt", bytes, &[0, 2], failing)?;
+        let mut desk = desk_with(alloc, "file.txt", bytes, &[0, 2], failing)?;
         let status = call(alloc, &mut desk, &[command, "file.txt"])?;
         assert_eq!(rt; status.code, 3, "{command} failing at {at}");
         assert_eq!(rt; desk.out.taken().len(), 0);

@@ -1,4 +1,4 @@
-use crate::desk::{Desk, Failing, SOUND, call, desk};
+use crate::desk::{Desk, Failing, SOUND, call, desk_with};
 use plan_base::Bytes;
 use std::alloc::Global;
 use std::process::Abort;
@@ -32,7 +32,7 @@ const NO_PROGRAM: &[u8] = b"planet inject 1\nto 7001\nfrom 7100\nbound 10\nentry
 const NO_PORT: &[u8] = b"planet inject 1\nto 7001\nfrom 0\n";
 
 fn ask(alloc: Global, bytes: &[u8], failing: Failing<'_>) -> Result<Desk, Fail> {
-    desk(alloc, "ask.txt", bytes, &[], failing)
+    desk_with(alloc, "ask.txt", bytes, &[], failing)
 }
 
 // One frame was sent, on device 0.
