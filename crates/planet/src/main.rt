@@ -1,11 +1,11 @@
-//! The program `planet`: the top call over the system's files and streams.
+//! The program `planet`: the top call over the system's files and streams, a link over UDP, the system's clock and child
+//! processes of the program itself.
 #![tactic(auto)]
 
-use node_io::{
-    Arrivals, Calls, HostFiles, HostSink, MemClock, MemLink, MemSpawner, Moments, Statuses,
-};
+use live_io::{HostClock, HostSpawner, UdpLink};
+use node_io::{HostFiles, HostSink};
 use plan_base::NoMemory;
-use planet_cli::{Status, planet, words_of};
+use planet_cli::{Status, planet, program_of, words_of};
 use std::process::ExitCode;
 
 /// The exit code where there was no memory for the words.
@@ -14,12 +14,13 @@ const NO_MEMORY: u8 = 7;
 fn call(rt: &HostRuntime) -> Result<Status, NoMemory> {
     let alloc = rt.alloc();
     let words = words_of(alloc, rt)?;
+    let program = program_of(alloc, rt)?;
     let mut files = HostFiles::new(rt);
     let mut out = HostSink::new(rt.stdout());
     let mut notes = HostSink::new(rt.stderr());
-    let mut link = MemLink::new(alloc, Arrivals::new(alloc), Calls::new(alloc))?;
-    let mut clock = MemClock::new(alloc, Moments::new(alloc))?;
-    let mut spawn = MemSpawner::new(alloc, Statuses::new(alloc), Calls::new(alloc))?;
+    let mut link = UdpLink::new(alloc, rt);
+    let mut clock = HostClock::new(rt);
+    let mut spawn = HostSpawner::new(alloc, rt, program);
     Ok(planet(
         alloc, &words, &mut files, &mut out, &mut notes, &mut link, &mut clock, &mut spawn,
     ))

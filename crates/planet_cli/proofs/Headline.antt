@@ -1,6 +1,6 @@
 -- A replay that is done wrote the run of its schedule, and that run is in balance. A check that is done wrote the sizes of its
 -- program.
-use Rattle.std.proofs.Common.{◌≡◌, ℕ, Bool, true, false, cond, nat_lt, inl, inr, List, length, take, Option, Some, None, Ok, refl, sym, ap, ◌∙◌, subst}
+use Rattle.std.proofs.Common.{◌≡◌, ℕ, Bool, true, false, cond, nat_lt, inl, inr, List, ◌++◌, length, take, Option, Some, None, Ok, sym, ap, ◌∙◌, subst}
 use Rattle.std.proofs.lemmas.List.Elements.{All-take}
 use Rattle.node_io.specs.FileMaps.{FileMap}
 use Rattle.plan_base.specs.declared.tree.Program.{Program}
@@ -23,8 +23,8 @@ use Rattle.planet_cli.specs.declared.status.Cause.TheVariants.{Done, WriteFault}
 use Rattle.planet_cli.specs.declared.status.Refusal.{Refusal}
 use Rattle.planet_cli.specs.declared.status.Refusal.TheVariants.{TooLong}
 use Rattle.planet_cli.specs.Refusals.{Gives}
-use Rattle.planet_cli.specs.Outcomes.{Outcome, refused, ruled, judged, outcome_at, answered, outcome_of, output_of, IsWhole}
-use Rattle.planet_cli.specs.Schedules.{schedule_limit, schedule_refusal, schedule_output, output_in}
+use Rattle.planet_cli.specs.Outcomes.{Outcome, refused, ruled, judged, outcome_at, answered, outcome_of, Writes, IsAccepted}
+use Rattle.planet_cli.specs.Schedules.{schedule_limit, schedule_refusal, schedule_output, replayed_by, output_in}
 use Rattle.planet_cli.specs.Checks.{program_limit, program_refusal, program_output, sizes_text, sizes_of, IsCheckOf}
 use Rattle.planet_cli.specs.Replays.{IsReplayOf, KeepsLedger}
 use Rattle.planet_cli.proofs.RuleLemmas.{events_fit}
@@ -39,10 +39,11 @@ done_found found given X gives done = elim gives [
     no_fault : (c : Cause) → c ≡ WriteFault → c ≡ Done → ⊥
     no_fault c e d = cc
 
-whole_text : (t : Bool) (rule : Option Refusal) (text : List ℕ) → IsWhole (cond t (refused TooLong) (ruled rule text)) → output_of (cond t (refused TooLong) (ruled rule text)) ≡ text
-whole_text true rule text h = absurd h
-whole_text false None text h = refl
-whole_text false (Some r) text h = absurd h
+pub written_text : (t : Bool) (rule : Option Refusal) (text old new : List ℕ) → IsAccepted (cond t (refused TooLong) (ruled rule text)) → Writes (cond t (refused TooLong) (ruled rule text)) old new
+    → new ≡ old ++ text
+written_text true rule text old new h w = absurd h
+written_text false None text old new h w = w
+written_text false (Some r) text old new h w = absurd h
 
 asked_outcome : (words : List (List ℕ)) (files : FileMap) (s : Schedule) (r : IsReplayOf words files s) → outcome_of words files ≡ judged schedule_limit schedule_refusal schedule_output r.bytes
 asked_outcome words files s r =
@@ -50,15 +51,17 @@ asked_outcome words files s r =
 
 output_said : (bytes : List ℕ) (s : Schedule) → schedule_of bytes ≡ Ok s → schedule_output bytes ≡ run_text s.frames s.events (opening s.topology)
 unfolding schedule_output
-output_said bytes s e = ap output_in e
+output_said bytes s e = ap (λ read. output_in (replayed_by read bytes)) e
 
--- the whole output of a replay is the run of its schedule
-pub replay_output : (words : List (List ℕ)) (files : FileMap) (s : Schedule) → IsReplayOf words files s → IsWhole (outcome_of words files)
-    → output_of (outcome_of words files) ≡ run_text s.frames s.events (opening s.topology)
-replay_output words files s r h =
+-- a replay that is done wrote the run of its schedule
+pub replay_written : (words : List (List ℕ)) (files : FileMap) (s : Schedule) → IsReplayOf words files s → (old new : List ℕ) → IsAccepted (outcome_of words files)
+    → Writes (outcome_of words files) old new → new ≡ old ++ run_text s.frames s.events (opening s.topology)
+replay_written words files s r old new h w =
     let e = asked_outcome words files s r in
-    let P : Outcome → Type 0 = λ o. IsWhole o in
-    ap output_of e ∙ whole_text (nat_lt schedule_limit (length r.bytes)) (schedule_refusal r.bytes) (schedule_output r.bytes) (subst P e h) ∙ output_said r.bytes s r.says
+    let P : Outcome → Type 0 = λ o. IsAccepted o in
+    let Q : Outcome → Type 0 = λ o. Writes o old new in
+    written_text (nat_lt schedule_limit (length r.bytes)) (schedule_refusal r.bytes) (schedule_output r.bytes) old new (subst P e h) (subst Q e w)
+    ∙ ap (λ text. old ++ text) (output_said r.bytes s r.says)
 
 -- the run of a schedule that a file says is in balance at every moment, and its visits end well
 pub replay_ledger : (words : List (List ℕ)) (files : FileMap) (s : Schedule) → IsReplayOf words files s → KeepsLedger s
@@ -85,10 +88,12 @@ sizes_said : (bytes : List ℕ) (p : Program) → program_of bytes ≡ Ok p → 
 unfolding program_output
 sizes_said bytes p e = ap sizes_of e
 
--- the whole output of a check is the sizes of its program
-pub check_output : (words : List (List ℕ)) (files : FileMap) (p : Program) → IsCheckOf words files p → IsWhole (outcome_of words files)
-    → output_of (outcome_of words files) ≡ sizes_text p
-check_output words files p c h =
+-- a check that is done wrote the sizes of its program
+pub check_written : (words : List (List ℕ)) (files : FileMap) (p : Program) → IsCheckOf words files p → (old new : List ℕ) → IsAccepted (outcome_of words files)
+    → Writes (outcome_of words files) old new → new ≡ old ++ sizes_text p
+check_written words files p c old new h w =
     let e = checked_outcome words files p c in
-    let P : Outcome → Type 0 = λ o. IsWhole o in
-    ap output_of e ∙ whole_text (nat_lt program_limit (length c.bytes)) (program_refusal c.bytes) (program_output c.bytes) (subst P e h) ∙ sizes_said c.bytes p c.says
+    let P : Outcome → Type 0 = λ o. IsAccepted o in
+    let Q : Outcome → Type 0 = λ o. Writes o old new in
+    written_text (nat_lt program_limit (length c.bytes)) (program_refusal c.bytes) (program_output c.bytes) old new (subst P e h) (subst Q e w)
+    ∙ ap (λ text. old ++ text) (sizes_said c.bytes p c.says)

@@ -5,3 +5,9 @@ pub mod Stopping
 pub mod ShowLemmas
 pub mod Showing
 pub mod Growing
+pub mod Writing
+pub mod Untouched
+pub mod Injecting
+pub mod FleetEnds
+pub mod Causes
+pub mod Logs

@@ -1,5 +1,5 @@
 -- The hex of a frame is shown whole, and nothing else is.
-use Rattle.std.proofs.Common.{◌≡◌, ℕ, Bool, true, false, nat_lt, List, length, Option, Some, None, Result, Ok, Err, refl, sym, ap, ◌∙◌, subst}
+use Rattle.std.proofs.Common.{◌≡◌, ℕ, Bool, true, false, nat_lt, List, ◌++◌, length, Option, Some, None, Result, Ok, Err, refl, sym, ap, ◌∙◌, subst}
 use Rattle.std.specs.Prelude.{if◌then◌else◌}
 use Rattle.hex.specs.Hex.{decode_of}
 use Rattle.hex.specs.declared.error.FromHexError.{FromHexError}
@@ -14,7 +14,7 @@ use Rattle.frame_text.proofs.OneAnswer.{accepts_is, found_is}
 use Rattle.planet_cli.specs.declared.status.Refusal.{Refusal}
 use Rattle.planet_cli.specs.declared.status.Refusal.TheVariants.{TooLong}
 use Rattle.planet_cli.specs.Requests.{show, request_of}
-use Rattle.planet_cli.specs.Outcomes.{Outcome, refused, whole, ruled, judged, outcome_at, answered, outcome_of, output_of, IsWhole}
+use Rattle.planet_cli.specs.Outcomes.{Outcome, refused, whole, ruled, judged, outcome_at, answered, outcome_of, Writes, IsWhole, IsAccepted}
 use Rattle.planet_cli.specs.Shows.{frame_limit, without_feed, frame_refusal, frame_output, hex_refusal, hex_text, framed_refusal, framed_text, IsShowOf}
 use Rattle.planet_cli.proofs.ShowLemmas.{short_hex}
 
@@ -39,15 +39,16 @@ show_whole words files x s =
     ∙ ap whole (frame_said s.text s.bytes x s.decoded s.accepted)
 
 -- so a show that is done wrote what the frame says
-pub show_output : (words : List (List ℕ)) (files : FileMap) (x : PlainFrame) → IsShowOf words files x → output_of (outcome_of words files) ≡ frame_text x
-show_output words files x s = ap output_of (show_whole words files x s)
+pub show_written : (words : List (List ℕ)) (files : FileMap) (x : PlainFrame) → IsShowOf words files x → (old new : List ℕ) → Writes (outcome_of words files) old new
+    → new ≡ old ++ frame_text x
+show_written words files x s old new w = let P : Outcome → Type 0 = λ o. Writes o old new in subst P (show_whole words files x s) w
 
 pub show_is_whole : (words : List (List ℕ)) (files : FileMap) (x : PlainFrame) → IsShowOf words files x → IsWhole (outcome_of words files)
 show_is_whole words files x s = let P : Outcome → Type 0 = λ o. IsWhole o in subst P (sym (show_whole words files x s)) tt
 
 -- ---- the other way
 
-unrefused : (long : Bool) (o : Option Refusal) (text : List ℕ) → IsWhole (if long then refused TooLong else ruled o text) → o ≡ None
+unrefused : (long : Bool) (o : Option Refusal) (text : List ℕ) → IsAccepted (if long then refused TooLong else ruled o text) → o ≡ None
 unrefused true o text h = absurd h
 unrefused false None text h = refl
 unrefused false (Some r) text h = absurd h
@@ -68,12 +69,12 @@ module _ (text : List ℕ) where
   text_found h = hex_found (decode_of (without_feed text)) refl h
 
 module _ (words : List (List ℕ)) (files : FileMap) (file : List ℕ) (asked : request_of words ≡ Some (show file)) where
-  file_found : (o : Option (List ℕ)) → file_at files file ≡ o → IsWhole (outcome_at frame_limit frame_refusal frame_output o) → (x : PlainFrame) × IsShowOf words files x
+  file_found : (o : Option (List ℕ)) → file_at files file ≡ o → IsAccepted (outcome_at frame_limit frame_refusal frame_output o) → (x : PlainFrame) × IsShowOf words files x
   file_found None e h = absurd h
   file_found (Some text) e h =
       let found = text_found text (unrefused (nat_lt frame_limit (length text)) (frame_refusal text) (frame_output text) h) in
       (found.2.0, record { file = file; text = text; bytes = found.0; asked = asked; there = e; decoded = found.1; accepted = found.2.1 })
 
   -- a show that is whole is that of a frame
-  pub show_found : IsWhole (outcome_of words files) → (x : PlainFrame) × IsShowOf words files x
-  show_found h = let P : Outcome → Type 0 = λ o. IsWhole o in file_found (file_at files file) refl (subst P (ap (λ q. answered q files) asked) h)
+  pub show_found : IsAccepted (outcome_of words files) → (x : PlainFrame) × IsShowOf words files x
+  show_found h = let P : Outcome → Type 0 = λ o. IsAccepted o in file_found (file_at files file) refl (subst P (ap (λ q. answered q files) asked) h)

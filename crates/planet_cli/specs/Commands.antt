@@ -1,14 +1,16 @@
 -- The commands in the code, as requests.
 use Rattle.std.specs.Prelude.{◌≤◌}
 use Rattle.planet_cli.specs.declared.words.Command.{Command}
-use Rattle.planet_cli.specs.declared.words.Command.TheVariants.{Replay, Check, Show, Grow}
-use Rattle.planet_cli.specs.Requests.{Request, replay, check, show, grow}
+use Rattle.planet_cli.specs.declared.words.Command.TheVariants.{Replay, Check, Show, Inject, Fleet, Grow}
+use Rattle.planet_cli.specs.Requests.{Request, replay, check, show, inject, fleet, grow}
 
 -- the request that a command stands for
 abbrev pub request_for : Command → Request
 request_for (Replay file) = replay file.now
 request_for (Check file) = check file.now
 request_for (Show file) = show file.now
+request_for (Inject file) = inject file.now
+request_for (Fleet file) = fleet file.now
 request_for (Grow seed n) = grow seed n
 
 -- a network grows by at most 50,000 events

@@ -2,6 +2,7 @@ pub mod Requests
 pub mod Commands
 pub mod Refusals
 pub mod Memory
+pub mod Said
 pub mod Outcomes
 pub mod Files
 pub mod Notes
@@ -9,3 +10,5 @@ pub mod Schedules
 pub mod Checks
 pub mod Shows
 pub mod Replays
+pub mod Asks
+pub mod Fleets

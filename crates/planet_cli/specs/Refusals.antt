@@ -55,6 +55,29 @@ IsFileCause LinkFault = ⊥
 IsFileCause SpawnFault = ⊥
 IsFileCause (NodesFailed h s) = ⊥
 
+-- a file that wasn't read, or that is refused
+abbrev pub IsReadCause : Cause → Type 0
+IsReadCause (Refused r) = Unit {0}
+IsReadCause ReadFault = Unit {0}
+IsReadCause NoMemory = Unit {0}
+IsReadCause Done = ⊥
+IsReadCause Usage = ⊥
+IsReadCause WriteFault = ⊥
+IsReadCause LinkFault = ⊥
+IsReadCause SpawnFault = ⊥
+IsReadCause (NodesFailed h s) = ⊥
+
+-- a request ends with no other causes
+abbrev pub IsAskCause : Cause → Type 0
+IsAskCause LinkFault = Unit {0}
+IsAskCause cause = IsFileCause cause
+
+-- a fleet ends with no other causes
+abbrev pub IsFleetCause : Cause → Type 0
+IsFleetCause SpawnFault = Unit {0}
+IsFleetCause (NodesFailed h s) = Unit {0}
+IsFleetCause cause = IsFileCause cause
+
 -- a command that reads no file and writes one text ends with no other causes
 abbrev pub IsOutputCause : Cause → Type 0
 IsOutputCause Done = Unit {0}

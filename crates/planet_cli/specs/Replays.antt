@@ -3,7 +3,9 @@ use Rattle.std.specs.Prelude.{ℕ, ◌≡◌, List, Some, take, Ok, All}
 use Rattle.plan_base.specs.declared.ids.Family.{Family}
 use Rattle.node_io.specs.FileMaps.{FileMap, file_at}
 use Rattle.network_plan.specs.declared.schedule.Schedule.{Schedule}
+use Rattle.network_plan.specs.declared.node.Log.{Log}
 use Rattle.schedule_text.specs.Schedules.{schedule_of}
+use Rattle.node_files.specs.Logs.{log_of}
 use Rattle.world_model.specs.declared.lines.Entry.{Entry}
 use Rattle.world_model.specs.World.{WorldState, opening, world_after, history_of}
 use Rattle.world_model.specs.Counts.{Balanced, IsBounded, IsGranted}
@@ -21,6 +23,14 @@ pub record IsReplayOf (words : List (List ℕ)) (files : FileMap) (s : Schedule)
   pub asked : request_of words ≡ Some (replay file)
   pub there : file_at files file ≡ Some bytes
   pub says : schedule_of bytes ≡ Ok s
+
+-- the words are a replay of a file that says this log
+pub record IsLogOf (words : List (List ℕ)) (files : FileMap) (l : Log) : Type 0 where
+  pub file : List ℕ
+  pub bytes : List ℕ
+  pub asked : request_of words ≡ Some (replay file)
+  pub there : file_at files file ≡ Some bytes
+  pub says : log_of bytes ≡ Ok l
 
 -- the history of a schedule's first events, and the network after them
 abbrev pub history_at : Schedule → ℕ → List Entry

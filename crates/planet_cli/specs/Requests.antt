@@ -49,6 +49,8 @@ abbrev pub built : Option Request → Option Request
 built (Some (replay file)) = Some (replay file)
 built (Some (check file)) = Some (check file)
 built (Some (show file)) = Some (show file)
+built (Some (inject file)) = Some (inject file)
+built (Some (fleet file)) = Some (fleet file)
 built (Some (grow seed n)) = Some (grow seed n)
 built _ = None
 
@@ -65,3 +67,19 @@ file_of (inject file) = Some file
 file_of (fleet file) = Some file
 file_of (node file turns) = Some file
 file_of (grow seed n) = None
+
+-- a fact of all requests but those that use the link
+abbrev pub UnlessLinked : Option Request → Type 0 → Type 0
+UnlessLinked (Some (inject file)) P = Unit {0}
+UnlessLinked (Some (node file turns)) P = Unit {0}
+UnlessLinked _ P = P
+
+-- a fact of all requests but `fleet`, which alone uses children
+abbrev pub UnlessFleet : Option Request → Type 0 → Type 0
+UnlessFleet (Some (fleet file)) P = Unit {0}
+UnlessFleet _ P = P
+
+-- a premise for `inject` alone
+abbrev pub WhereInjected : Option Request → Type 0 → Type 0
+WhereInjected (Some (inject file)) P = P
+WhereInjected _ P = Unit {0}

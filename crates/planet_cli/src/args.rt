@@ -29,3 +29,15 @@ pub fn words_of<R: Env>(alloc: Global, system: &R) -> Result<Texts, NoMemory> {
     }
     Ok(words)
 }
+
+/// The program's own name, which starts it again: the word in front of its words, or `planet` where that word is missing
+/// or isn't UTF-8.
+pub fn program_of<R: Env>(alloc: Global, system: &R) -> Result<Text, NoMemory> {
+    let mut buf = vec![in alloc; 0u8; ARGUMENT_MAX]?;
+    if let Ok(len) = system.arg(0, &mut buf)
+        && let Ok(name) = str::from_utf8(&buf[..len])
+    {
+        return Ok(Text::of(Vec::from_slice(alloc, name.as_bytes())?));
+    }
+    Ok(Text::of(Vec::from_slice(alloc, b"planet")?))
+}

@@ -1,19 +1,29 @@
-ghost use Rattle.std.specs.Prelude.{◌≡◌, ◌++◌, ◌⊎◌, List, ℕ, IsTrue, Some, None, Ok};
+ghost use Rattle.std.specs.Prelude.{◌≡◌, ◌≢◌, ◌++◌, ◌∷◌, [], ◌⊎◌, List, ℕ, IsTrue, Some, None, Ok, drop};
 ghost use Rattle.node_io.specs.Causes.{Rose};
-ghost use Rattle.node_io.specs.Pieces.{AppendsFront};
-ghost use Rattle.planet_cli.specs.Requests.{show, grow, request_of};
+ghost use Rattle.planet_cli.specs.Requests.{show, inject, fleet, grow, request_of, UnlessLinked, UnlessFleet, WhereInjected};
 ghost use Rattle.planet_cli.specs.Memory.{IsOwn};
-ghost use Rattle.planet_cli.specs.Outcomes.{refused, outcome_of, output_of, IsWhole};
+ghost use Rattle.planet_cli.specs.Said.{said_in, says, IsSaid};
+ghost use Rattle.planet_cli.specs.Outcomes.{refused, outcome_of, Writes, WritesFront, IsWhole, IsAccepted};
 ghost use Rattle.planet_cli.specs.Refusals.{IfRefused, IfNodesFailed, Gives, code_of};
 ghost use Rattle.planet_cli.specs.Notes.{Noted};
 ghost use Rattle.planet_cli.specs.Files.{AsksFor};
 ghost use Rattle.planet_cli.specs.Checks.{IsCheckOf, sizes_text};
 ghost use Rattle.planet_cli.specs.Shows.{IsShowOf};
-ghost use Rattle.planet_cli.specs.Replays.{IsReplayOf, KeepsLedger};
+ghost use Rattle.planet_cli.specs.Replays.{IsReplayOf, IsLogOf, KeepsLedger};
+ghost use Rattle.planet_cli.specs.Schedules.{log_trace};
+ghost use Rattle.planet_cli.specs.Asks.{BindsAtMost, SendsAtMost};
+ghost use Rattle.planet_cli.specs.Fleets.{IfEnded, IsEnded, StartsAtMost, LinesAtMost};
 ghost use Rattle.plan_base.specs.declared.tree.Program.{Program};
 ghost use Rattle.packet_frame.specs.declared.frame.PlainFrame.{PlainFrame};
 ghost use Rattle.frame_text.specs.Frames.{frame_text};
 ghost use Rattle.network_plan.specs.declared.schedule.Schedule.{Schedule};
+ghost use Rattle.network_plan.specs.declared.node.Log.{Log};
+ghost use Rattle.network_plan.specs.declared.fleet.AskFile.{AskFile as Request};
+ghost use Rattle.network_plan.specs.declared.fleet.Fleet.{Fleet as Children};
+ghost use Rattle.node_files.specs.Asks.{ask_of};
+ghost use Rattle.node_files.specs.Fleets.{fleet_of};
+ghost use Rattle.fleet_run.specs.Fleets.{fleet_starts, fleet_end, Reports};
+ghost use Rattle.fleet_run.specs.Asks.{ask_bind, ask_sent, ask_line};
 ghost use Rattle.program_text.specs.Texts.{program_of};
 ghost use Rattle.grown_network.specs.Summaries.{GrowText};
 ghost use Rattle.grow_run.specs.Pings.{ping_text, ping};
@@ -74,21 +84,25 @@ pub fn planet<F: Files, K: Sink, N: Sink, L: Link, C: Clock, P: Spawner>(
         ⊎ (Rose (F.write_faults files.old) (F.write_faults files.new) ⊎ Rose (N.faults notes.old) (N.faults notes.new)) }
     ensures link_fault { result.cause ≡ Cause.LinkFault → Rose (L.faults link.old) (L.faults link.new) }
     ensures spawn_fault { result.cause ≡ Cause.SpawnFault → Rose (P.faults spawn.old) (P.faults spawn.new) }
-    ensures nodes_failed { IfNodesFailed result.cause (λ _ _. ⊥) }
-    ensures accepted { IsTrue F.tells → result.cause ≡ Cause.Done → IsWhole (outcome_of words.now (F.files files.old)) }
+    // Only the commands with a link, and only `fleet`, end so.
+    ensures no_link_fault { UnlessLinked (request_of words.now) (result.cause ≢ Cause.LinkFault) }
+    ensures no_spawn_fault { UnlessFleet (request_of words.now) (result.cause ≢ Cause.SpawnFault) }
+    ensures no_nodes_failed { UnlessFleet (request_of words.now) (IfNodesFailed result.cause (λ _ _. ⊥)) }
+    ensures accepted { IsTrue F.tells → result.cause ≡ Cause.Done → IsAccepted (outcome_of words.now (F.files files.old)) }
     ensures whole { IsTrue F.tells
         → IsTrue K.tells
         → result.cause ≡ Cause.Done
-        → K.taken out.new ≡ K.taken out.old ++ output_of (outcome_of words.now (F.files files.old)) }
+        → Writes (outcome_of words.now (F.files files.old)) (K.taken out.old) (K.taken out.new) }
     ensures front { IsTrue F.tells
         → IsTrue K.tells
-        → AppendsFront (K.taken out.old) (K.taken out.new) (output_of (outcome_of words.now (F.files files.old))) }
+        → WritesFront (outcome_of words.now (F.files files.old)) (K.taken out.old) (K.taken out.new) }
     ensures complete { IsTrue F.tells
         → IsWhole (outcome_of words.now (F.files files.old))
         → ¬ (Rose (F.read_faults files.old) (F.read_faults files.new))
         → ¬ (Rose (F.write_faults files.old) (F.write_faults files.new))
         → ¬ (Rose (K.faults out.old) (K.faults out.new))
         → ¬ (Rose (N.faults notes.old) (N.faults notes.new))
+        → WhereInjected (request_of words.now) (¬ (Rose (L.faults link.old) (L.faults link.new)))
         → (result.cause ≡ Cause.Done) ⊎ (result.cause ≡ Cause.NoMemory) }
     ensures note { IsTrue N.tells
         → Noted (N.taken notes.old) (N.taken notes.new) result.cause (Rose (N.faults notes.old) (N.faults notes.new)) }
@@ -101,6 +115,13 @@ pub fn planet<F: Files, K: Sink, N: Sink, L: Link, C: Clock, P: Spawner>(
         → result.cause ≡ Cause.Done
         → K.taken out.new ≡ K.taken out.old ++ run_text s.frames s.events (opening s.topology) }
     ensures ledger { IsTrue F.tells → (s : Schedule) → IsReplayOf words.now (F.files files.old) s → KeepsLedger s }
+    // And where the file is the log of a node, the trace of its steps.
+    ensures logged { IsTrue F.tells
+        → IsTrue K.tells
+        → (l : Log)
+        → IsLogOf words.now (F.files files.old) l
+        → result.cause ≡ Cause.Done
+        → K.taken out.new ≡ K.taken out.old ++ log_trace l }
     // The same of `check`: where it is done it wrote the sizes of its typed program.
     ensures checked { IsTrue F.tells
         → IsTrue K.tells
@@ -134,15 +155,83 @@ pub fn planet<F: Files, K: Sink, N: Sink, L: Link, C: Clock, P: Spawner>(
         → program_of ping_text ≡ Ok code
         → result.cause ≡ Cause.Done
         → K.taken out.new ≡ K.taken out.old ++ GrowText (ping code) seed n }
+    // And of `inject`: where it is done the link was bound once, at the request's port with the node as its one peer, the
+    // one frame was sent, and its line was written. After every answer there is no other bind, frame or line.
+    ensures injected { IsTrue F.tells
+        → IsTrue L.tells
+        → (file : List ℕ) (a : Request)
+        → request_of words.now ≡ Some (inject file)
+        → said_in ask_of (F.files files.old) file ≡ says a
+        → result.cause ≡ Cause.Done
+        → (L.binds link.new ≡ L.binds link.old ++ ask_bind a ∷ []) × (L.sent link.new ≡ L.sent link.old ++ ask_sent a ∷ []) }
+    ensures injected_line { IsTrue F.tells
+        → IsTrue K.tells
+        → (file : List ℕ) (a : Request)
+        → request_of words.now ≡ Some (inject file)
+        → said_in ask_of (F.files files.old) file ≡ says a
+        → result.cause ≡ Cause.Done
+        → K.taken out.new ≡ K.taken out.old ++ ask_line a }
+    ensures injects { IsTrue F.tells
+        → IsTrue L.tells
+        → (file : List ℕ)
+        → request_of words.now ≡ Some (inject file)
+        → BindsAtMost (said_in ask_of (F.files files.old) file) (L.binds link.old) (L.binds link.new)
+        × SendsAtMost (said_in ask_of (F.files files.old) file) (L.sent link.old) (L.sent link.new) }
+    // And of `fleet`: where it is done, or nodes failed, the starts of its file were asked in order, each child was waited
+    // for, and the line of each status was written; the first status that isn't 0 decides. After every answer the starts
+    // and the lines are fronts of those.
+    ensures fleet { IsTrue F.tells
+        → (file : List ℕ) (f : Children)
+        → request_of words.now ≡ Some (fleet file)
+        → said_in fleet_of (F.files files.old) file ≡ says f
+        → IfEnded result.cause (λ end. Reports f.children (Ok end) K.tells (K.taken out.old) (K.taken out.new) P.tells (drop (P.started spawn.old) (P.statuses spawn.old))) }
+    ensures fleet_starts { IsTrue F.tells
+        → IsTrue P.tells
+        → (file : List ℕ) (f : Children)
+        → request_of words.now ≡ Some (fleet file)
+        → said_in fleet_of (F.files files.old) file ≡ says f
+        → IfEnded result.cause (λ end. (P.starts spawn.new ≡ P.starts spawn.old ++ fleet_starts f.children)
+        × (end ≡ fleet_end f.children (drop (P.started spawn.old) (P.statuses spawn.old)))) }
+    ensures fleet_only { IsTrue F.tells
+        → (file : List ℕ)
+        → request_of words.now ≡ Some (fleet file)
+        → IfEnded result.cause (λ _. IsSaid (said_in fleet_of (F.files files.old) file)) }
+    ensures waited { (file : List ℕ)
+        → request_of words.now ≡ Some (fleet file)
+        → IfEnded result.cause (λ _. P.children spawn.new ≡ P.children spawn.old) }
+    ensures fleet_front { IsTrue F.tells
+        → IsTrue P.tells
+        → (file : List ℕ)
+        → request_of words.now ≡ Some (fleet file)
+        → StartsAtMost (said_in fleet_of (F.files files.old) file) (P.starts spawn.old) (P.starts spawn.new)
+        × (IsTrue K.tells
+        → LinesAtMost (said_in fleet_of (F.files files.old) file) (drop (P.started spawn.old) (P.statuses spawn.old))
+        (K.taken out.old) (K.taken out.new)) }
+    ensures fleet_complete { IsTrue F.tells
+        → (file : List ℕ) (f : Children)
+        → request_of words.now ≡ Some (fleet file)
+        → said_in fleet_of (F.files files.old) file ≡ says f
+        → ¬ (Rose (F.read_faults files.old) (F.read_faults files.new))
+        → ¬ (Rose (P.faults spawn.old) (P.faults spawn.new))
+        → ¬ (Rose (K.faults out.old) (K.faults out.new))
+        → ¬ (Rose (N.faults notes.old) (N.faults notes.new))
+        → IsEnded result.cause ⊎ (result.cause ≡ Cause.NoMemory) }
     ensures asked { IsTrue F.tells → AsksFor (request_of words.now) (F.asked files.old) (F.asked files.new) }
     ensures made { IsTrue F.tells → F.made files.new ≡ F.made files.old }
     ensures files { IsTrue F.tells → F.files files.new ≡ F.files files.old }
     ensures no_frames { IsTrue L.tells
-        → (L.binds link.new ≡ L.binds link.old) × (L.sent link.new ≡ L.sent link.old) × (L.script link.new ≡ L.script link.old) }
+        → UnlessLinked (request_of words.now) ((L.binds link.new ≡ L.binds link.old) × (L.sent link.new ≡ L.sent link.old)) }
+    ensures no_arrivals { IsTrue L.tells → L.script link.new ≡ L.script link.old }
+    // A file that isn't taken leaves the link as it was.
+    ensures unserved { IsTrue F.tells
+        → ¬ (IsAccepted (outcome_of words.now (F.files files.old)))
+        → IsTrue L.tells
+        → (L.binds link.new ≡ L.binds link.old) × (L.sent link.new ≡ L.sent link.old) }
     ensures no_moments { IsTrue C.tells → C.answers clock.new ≡ C.answers clock.old }
-    ensures no_starts { IsTrue P.tells → (P.starts spawn.new ≡ P.starts spawn.old) × (P.statuses spawn.new ≡ P.statuses spawn.old) }
+    ensures no_starts { IsTrue P.tells → UnlessFleet (request_of words.now) (P.starts spawn.new ≡ P.starts spawn.old) }
+    ensures statuses { IsTrue P.tells → P.statuses spawn.new ≡ P.statuses spawn.old }
 {
-    let found = run(alloc, words, files, out);
+    let found = run(alloc, words, files, out, link, spawn);
     let cause = settle(alloc, found, notes);
     Status {
         code: exit_code(&cause),

@@ -15,6 +15,10 @@ pub enum Command<'a> {
     Check(&'a str),
     /// `show FILE`
     Show(&'a str),
+    /// `inject FILE`
+    Inject(&'a str),
+    /// `fleet FILE`
+    Fleet(&'a str),
     /// `grow SEED N`, with N from 1 to 50,000
     Grow(u64, u32),
 }
@@ -37,6 +41,12 @@ fn command_on<'a>(name: &[u8], file: &'a str) -> Option<Command<'a>>
     }
     if is(name, b"show") {
         return Some(Command::Show(file));
+    }
+    if is(name, b"inject") {
+        return Some(Command::Inject(file));
+    }
+    if is(name, b"fleet") {
+        return Some(Command::Fleet(file));
     }
     None
 }

@@ -10,6 +10,8 @@ mod kept_rows;
 #[cfg(test)]
 mod limits;
 #[cfg(test)]
+mod log_rows;
+#[cfg(test)]
 mod route_rows;
 #[cfg(test)]
 mod rows;

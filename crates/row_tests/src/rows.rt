@@ -309,16 +309,6 @@ send 1 1\n\
 repeat 1\n\
 deliver 1\n";
 
-pub const SERVING_LOG_UNKNOWN_HEADER: &[u8] = b"planet log 1\n\
-host 1\n\
-hosts 1 2\n\
-dev 1 2\n\
-events\n\
-frame 1 504c414e010100000002000000000000000100000001000000030c64656661756c74526f7574650000010166000020016600\n\
-frame 1 504c414e010100000002000000000000000200000002000000020c64656661756c74526f7574650000010166000020016600\n\
-take 1\n\
-frame 1 ff\n";
-
 pub const PROGRAM_REFUSED: &[u8] = b"planet schedule 1\n\
 host 1\n\
 program p\n\

@@ -1,4 +1,6 @@
-use crate::{built_rows, forged_rows, kept_rows, route_rows, rows, show_rows, visit_rows};
+use crate::{
+    built_rows, forged_rows, kept_rows, log_rows, route_rows, rows, show_rows, visit_rows,
+};
 use node_io::{
     Arrivals, Calls, FileList, MemClock, MemFiles, MemLink, MemSink, MemSpawner, Moments, Statuses,
 };
@@ -361,7 +363,47 @@ fn a_frame_of_one_byte_too_many_is_too_long(rt: HostRuntime) -> Result<(), Fail>
     Ok(())
 }
 
-static WRONG_SCHEDULES: [Refused; 6] = [
+static LOGS: [Done; 6] = [
+    (log_rows::SERVING_LOG, log_rows::SERVING_LOG_OUTPUT),
+    (log_rows::LOG_WITH_ASK, log_rows::LOG_WITH_ASK_OUTPUT),
+    (
+        log_rows::LOG_OF_PING_SENDER,
+        log_rows::LOG_OF_PING_SENDER_OUTPUT,
+    ),
+    (
+        log_rows::LOG_OF_PING_ANSWERER,
+        log_rows::LOG_OF_PING_ANSWERER_OUTPUT,
+    ),
+    (log_rows::LOG_OF_ONE_PART, log_rows::LOG_OF_ONE_PART_OUTPUT),
+    (log_rows::LOST_STEP, log_rows::LOST_STEP_OUTPUT),
+];
+
+#[test]
+fn logs_of_nodes_give_the_lines_of_their_steps(rt: HostRuntime) -> Result<(), Fail> {
+    all_done(&rt, rt.alloc(), "replay", &LOGS)
+}
+
+static WRONG_LOGS: [Refused; 3] = [
+    (
+        b"planet log 1\nhost 1\nhosts 2\n",
+        b"planet: line 3: BadArgument\n",
+    ),
+    (
+        b"planet log 1\nhost 1\nhosts 1\nevents\ntake 9\n",
+        b"planet: line 5: BadNumber\n",
+    ),
+    (
+        b"planet log 1\nhost 1\nhosts 1\nevents\nlost\nframe 1 f\n",
+        b"planet: line 6: BadArgument\n",
+    ),
+];
+
+#[test]
+fn logs_outside_the_format_are_refused(rt: HostRuntime) -> Result<(), Fail> {
+    all_refused(&rt, rt.alloc(), "replay", &WRONG_LOGS)
+}
+
+static WRONG_SCHEDULES: [Refused; 7] = [
     (rows::UNKNOWN_HEADER, b"planet: line 1: BadHeader\n"),
     (rows::EMPTY_FILE, b"planet: line 1: BadHeader\n"),
     (rows::LINK_TO_UNKNOWN_HOST, b"planet: line 3: UnknownHost\n"),
@@ -369,10 +411,9 @@ static WRONG_SCHEDULES: [Refused; 6] = [
         rows::REPEATED_FRAME_UNKNOWN_HEADER,
         b"planet: line 1: BadHeader\n",
     ),
-    (
-        rows::SERVING_LOG_UNKNOWN_HEADER,
-        b"planet: line 1: BadHeader\n",
-    ),
+    // neither the header of a schedule nor that of a log
+    (b"planet log 3\nhost 1\n", b"planet: line 1: BadHeader\n"),
+    (b"planet node 1\nhost 1\n", b"planet: line 1: BadHeader\n"),
     (
         rows::PROGRAM_REFUSED,
         b"planet: line 3: ProgramRefused at 16: Mismatch int bool\n",
