@@ -20,7 +20,7 @@ use Rattle.plan_base.specs.TypingNames.{service_of, binds, binding, param_types,
 use Rattle.plan_base.specs.TypingOrder.{items_of, parts_of, part_in, want_at, given_of, pair_of, fun_of, earlier, not_earlier}
 use Rattle.plan_base.specs.TypingFills.{Becomes}
 
--- Conditions in order: a test, with what is told where it fails; two types that must be the same, the wanted one first; and
+-- Conditions in order: a test, with what is told where it fails; two types that must be the same, with what is told; and
 -- a part under its bindings, of which a type may be wanted, where what is judged next depends on the type that it has.
 pub data Judgement : Type 0 where
   kept : Judgement
