@@ -112,8 +112,8 @@ fn copy_of(alloc: Global, node: &NodeConfig) -> Result<NodeConfig, NoMemory>
     })
 }
 
-/// A node at its beginning.
-fn open<S: Services + Drop>(
+/// A node at its beginning, by its plan. Conditions: the plan keeps its rules, and no `begin` of the services is open.
+pub fn begin_node<S: Services + Drop>(
     alloc: Global,
     config: &NodeConfig,
     services: S,
@@ -142,7 +142,7 @@ pub fn run_log<S: Services + Drop, K: Sink>(
     ensures write { IsErrOf result ReplayFault.WriteFault → Rose (K.faults out.old) (K.faults out.new) }
     ensures later { K.faults out.old ≤ K.faults out.new }
 {
-    let mut node = open(alloc, &log.node, services)?;
+    let mut node = begin_node(alloc, &log.node, services)?;
     put_all(out, b"planet trace 1\n")?;
     write_entries(alloc, &mut node, log.node.here, log.events.as_slice(), out)?;
     put_all(out, b"end\n")?;

@@ -1,0 +1,10 @@
+pub mod Showing
+pub mod Following
+pub mod Looping
+pub mod Ending
+pub mod PeerLaws
+pub mod FrameSizes
+pub mod LogNames
+pub mod StepLaws
+pub mod MakeLaws
+pub mod Again

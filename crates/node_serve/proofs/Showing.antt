@@ -1,0 +1,138 @@
+-- What stands outside when one more step was written.
+use Rattle.std.proofs.Common.{◌≡◌, ℕ, suc, ◌+◌, List, [], ◌∷◌, ◌++◌, length, take, Option, Some, None, IsSome, unwrap_or, refl, sym, ◌∙◌, ap, subst, arith, codes, append_assoc, append-nil}
+use Rattle.std.specs.List.{All, flat_map}
+use Rattle.std.proofs.lemmas.List.Elements.{All-nil, All-cons, All-append}
+use Rattle.std.proofs.lemmas.Bool.{false≢true}
+use Rattle.network_plan.specs.declared.event.LogEvent.{LogEvent}
+use Rattle.network_plan.specs.declared.serve.ServeConfig.{ServeConfig}
+use Rattle.plan_base.specs.declared.ids.Dev.{Dev}
+use Rattle.packet_frame.specs.declared.frame.PlainFrame.{PlainFrame}
+use Rattle.packet_frame.specs.Bytes.{frame_bytes}
+use Rattle.node_files.specs.LogTexts.{head_text, entry_text}
+use Rattle.node_io.specs.FileMaps.{FileMap, file_at, contents, ChangesOnly, WritesMore, WritesFront}
+use Rattle.node_io.specs.Pieces.{AppendsFront}
+use Rattle.serve_model.specs.Runs.{Running, acts_of, entries_at, with_entry, with_sent}
+use Rattle.serve_model.specs.Texts.{trace_line, lines_text, begun_trace}
+use Rattle.node_serve.specs.Shown.{Seen, run_log, run_trace, IsReadable, Shows, Fronts}
+
+-- ---- lists
+
+flat_more : {A B : Type 0} (f : A → List B) (xs ys : List A) → flat_map f (xs ++ ys) ≡ flat_map f xs ++ flat_map f ys
+flat_more f [] ys = refl
+flat_more f (x ∷ xs) ys = ap (λ l. f x ++ l) (flat_more f xs ys) ∙ sym (append_assoc (f x) (flat_map f xs) (flat_map f ys))
+
+pub take_whole : {A : Type 0} (xs : List A) → take (length xs) xs ≡ xs
+take_whole [] = refl
+take_whole (x ∷ xs) = ap (λ l. x ∷ l) (take_whole xs)
+
+-- a front that ends in the second part
+pub take_into : {A : Type 0} (xs ys : List A) (n : ℕ) → take (length xs + n) (xs ++ ys) ≡ xs ++ take n ys
+take_into [] ys n = let same : 0 + n ≡ n = omega arith in ap (λ k. take k ys) same
+take_into (x ∷ xs) ys n = let same : length (x ∷ xs) + n ≡ suc (length xs + n) = omega arith in ap (λ k. take k ((x ∷ xs) ++ ys)) same ∙ ap (λ l. x ∷ l) (take_into xs ys n)
+
+-- ---- files
+
+is_there : (o : Option (List ℕ)) (x : List ℕ) → IsSome o → unwrap_or o [] ≡ x → o ≡ Some x
+is_there None x h e = absurd (false≢true h)
+is_there (Some y) x h e = ap Some e
+
+-- a file that was made, and written on
+pub changes_more : (base old new : FileMap) (name target x y : List ℕ) → ChangesOnly base old name x → target ≡ name → WritesMore old new target y → ChangesOnly base new name (x ++ y)
+changes_more base old new name target x y h t w =
+    let v : WritesMore old new name y = subst (λ n. WritesMore old new n y) t w in
+    let was : IsSome (file_at old name) = subst IsSome (sym h.here) refl in
+    let before : contents old name ≡ x = ap (λ o. unwrap_or o []) h.here in
+    record {
+      here = is_there (file_at new name) (x ++ y) (v.there was) (v.here ∙ ap (λ l. l ++ y) before);
+      others = λ other d. v.others other d ∙ h.others other d;
+    }
+
+-- ---- texts
+
+pub text_more : {A : Type 0} (head : List ℕ) (f : A → List ℕ) (xs ys : List A) → head ++ flat_map f (xs ++ ys) ≡ (head ++ flat_map f xs) ++ flat_map f ys
+text_more head f xs ys = ap (λ l. head ++ l) (flat_more f xs ys) ∙ sym (append_assoc head (flat_map f xs) (flat_map f ys))
+
+pub log_more : (cfg : ServeConfig) (e : LogEvent) (r : Running) → run_log cfg (with_entry e r) ≡ run_log cfg r ++ entry_text e
+unfolding with_entry
+log_more cfg e r = text_more (head_text cfg.node cfg.missing) entry_text r.events (e ∷ []) ∙ ap (λ l. (head_text cfg.node cfg.missing ++ flat_map entry_text r.events) ++ l) (append-nil (entry_text e))
+
+-- the lines of the next step
+abbrev pub next_lines : ServeConfig → LogEvent → Running → List ℕ
+next_lines cfg e r = lines_text cfg.node.here (entries_at (length r.events + 1) (acts_of r.node e))
+
+pub trace_more : (cfg : ServeConfig) (e : LogEvent) (r : Running) → run_trace cfg (with_entry e r) ≡ run_trace cfg r ++ next_lines cfg e r
+unfolding begun_trace lines_text with_entry
+trace_more cfg e r = text_more (codes "planet trace 1\n") (trace_line cfg.node.here) r.entries (entries_at (length r.events + 1) (acts_of r.node e))
+
+-- ---- a step that was written, whole or in part
+
+sent_same : (e : LogEvent) (r : Running) → (with_entry e r).sent ≡ r.sent
+unfolding with_entry
+sent_same e r = refl
+
+readable_more : (e : LogEvent) (r : Running) → All IsReadable r.events → IsReadable e → All IsReadable (with_entry e r).events
+unfolding with_entry
+readable_more e r h k = All-append IsReadable r.events (e ∷ []) h (All-cons IsReadable e [] k (All-nil IsReadable))
+
+pub shows_entry : (cfg : ServeConfig) (base old new : Seen) (e : LogEvent) (r : Running) → Shows cfg base old r → IsReadable e
+    → WritesMore old.files new.files old.target (entry_text e) → new.target ≡ old.target → new.taken ≡ old.taken ++ next_lines cfg e r → new.sent ≡ old.sent
+    → Shows cfg base new (with_entry e r)
+shows_entry cfg base old new e r h k log target out sent = record {
+  log = subst (ChangesOnly base.files new.files cfg.log) (sym (log_more cfg e r)) (changes_more base.files old.files new.files cfg.log old.target (run_log cfg r) (entry_text e) h.log h.target log);
+  target = target ∙ h.target;
+  out = out ∙ ap (λ l. l ++ next_lines cfg e r) h.out ∙ append_assoc base.taken (run_trace cfg r) (next_lines cfg e r) ∙ ap (λ l. base.taken ++ l) (sym (trace_more cfg e r));
+  sent = sent ∙ h.sent ∙ ap (λ l. base.sent ++ l) (sym (sent_same e r));
+  readable = readable_more e r h.readable k;
+}
+
+-- all of it is a front
+pub fronts_whole : (cfg : ServeConfig) (base seen : Seen) (r : Running) → Shows cfg base seen r → Fronts cfg base seen r
+fronts_whole cfg base seen r h = record {
+  count = length (run_log cfg r);
+  log = subst (ChangesOnly base.files seen.files cfg.log) (sym (take_whole (run_log cfg r))) h.log;
+  out = record { count = length (run_trace cfg r); is = h.out ∙ ap (λ l. base.taken ++ l) (sym (take_whole (run_trace cfg r))) };
+  sent = h.sent;
+}
+
+-- the log line was written in part
+pub fronts_log : (cfg : ServeConfig) (base old new : Seen) (e : LogEvent) (r : Running) → Shows cfg base old r
+    → WritesFront old.files new.files old.target (entry_text e) → new.taken ≡ old.taken → new.sent ≡ old.sent
+    → Fronts cfg base new (with_entry e r)
+fronts_log cfg base old new e r h log out sent =
+    let before = run_log cfg r in
+    let front = sym (take_into before (entry_text e) log.count) ∙ ap (take (length before + log.count)) (sym (log_more cfg e r)) in
+    let traced = sym (take_into (run_trace cfg r) (next_lines cfg e r) 0) ∙ ap (take (length (run_trace cfg r) + 0)) (sym (trace_more cfg e r)) in
+    record {
+      count = length before + log.count;
+      log = subst (ChangesOnly base.files new.files cfg.log) front (changes_more base.files old.files new.files cfg.log old.target before (take log.count (entry_text e)) h.log h.target log.is);
+      out = record { count = length (run_trace cfg r) + 0; is = out ∙ h.out ∙ ap (λ l. base.taken ++ l) (sym (append-nil (run_trace cfg r)) ∙ traced) };
+      sent = sent ∙ h.sent ∙ ap (λ l. base.sent ++ l) (sym (sent_same e r));
+    }
+
+-- the log line was written, and its lines in part
+pub fronts_lines : (cfg : ServeConfig) (base old new : Seen) (e : LogEvent) (r : Running) → Shows cfg base old r
+    → WritesMore old.files new.files old.target (entry_text e) → AppendsFront old.taken new.taken (next_lines cfg e r) → new.sent ≡ old.sent
+    → Fronts cfg base new (with_entry e r)
+fronts_lines cfg base old new e r h log out sent =
+    let before = run_trace cfg r in
+    let whole = run_log cfg (with_entry e r) in
+    let logged = subst (ChangesOnly base.files new.files cfg.log) (sym (log_more cfg e r)) (changes_more base.files old.files new.files cfg.log old.target (run_log cfg r) (entry_text e) h.log h.target log) in
+    let front = sym (take_into before (next_lines cfg e r) out.count) ∙ ap (take (length before + out.count)) (sym (trace_more cfg e r)) in
+    record {
+      count = length whole;
+      log = subst (ChangesOnly base.files new.files cfg.log) (sym (take_whole whole)) logged;
+      out = record { count = length before + out.count; is = out.is ∙ ap (λ l. l ++ take out.count (next_lines cfg e r)) h.out ∙ append_assoc base.taken before (take out.count (next_lines cfg e r)) ∙ ap (λ l. base.taken ++ l) front };
+      sent = sent ∙ h.sent ∙ ap (λ l. base.sent ++ l) (sym (sent_same e r));
+    }
+
+-- a frame that was sent
+pub shows_sent : (cfg : ServeConfig) (base old new : Seen) (d : Dev) (x : PlainFrame) (bytes : List ℕ) (r : Running) → Shows cfg base old r
+    → bytes ≡ frame_bytes x → new.files ≡ old.files → new.target ≡ old.target → new.taken ≡ old.taken → new.sent ≡ old.sent ++ (d, bytes) ∷ []
+    → Shows cfg base new (with_sent d x r)
+shows_sent cfg base old new d x bytes r h spelled files target out sent = record {
+  log = subst (λ f. ChangesOnly base.files f cfg.log (run_log cfg r)) (sym files) h.log;
+  target = target ∙ h.target;
+  out = out ∙ h.out;
+  sent = sent ∙ ap (λ l. l ++ (d, bytes) ∷ []) h.sent ∙ append_assoc base.sent r.sent ((d, bytes) ∷ []) ∙ ap (λ b. base.sent ++ (r.sent ++ (d, b) ∷ [])) spelled;
+  readable = h.readable;
+}

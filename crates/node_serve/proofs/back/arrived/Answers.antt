@@ -1,0 +1,12 @@
+use Rattle.std.proofs.Common.{ap, arith, subst}
+use Rattle.wire_bytes.specs.Fields.{IsBytes}
+use Rattle.network_plan.specs.Hosts.{dev_of}
+use Rattle.network_plan.specs.declared.event.Event.TheVariants.{Frame}
+use Rattle.node_serve.proofs.FrameSizes.{frame_arrives}
+use Rattle.node_serve.proofs.back.arrived.Goals as goal
+
+pub returns-clause-event : goal.returns-clause-event
+returns-clause-event c = ap (Frame (dev_of 0)) c.into_bytes-bytes.ensures.spells.is
+
+pub returns-clause-keeps : goal.returns-clause-keeps
+returns-clause-keeps c = (omega arith, frame_arrives _ _ c.into_bytes-bytes.ensures (subst IsBytes c.as_slice.ensures c.are_bytes.ensures))

@@ -1,0 +1,20 @@
+-- A log that is read again.
+use Rattle.std.specs.Prelude.{◌≡◌, ℕ, List, ◌++◌, Some, Ok}
+use Rattle.network_plan.specs.declared.node.Log.{Log}
+use Rattle.network_plan.specs.declared.serve.ServeConfig.{ServeConfig}
+use Rattle.node_files.specs.Logs.{log_of}
+use Rattle.node_io.specs.FileMaps.{file_at}
+use Rattle.node_model.specs.State.{NodeState}
+use Rattle.serve_model.specs.Runs.{played}
+use Rattle.serve_model.specs.Texts.{whole_trace}
+use Rattle.node_serve.specs.Served.{Outside}
+
+-- the log reads as that of a node that began so, and the trace of its entries is what was written
+pub record ReadsAgain (cfg : ServeConfig) (node : NodeState) (old new : Outside) : Type 0 where
+  pub bytes : List ℕ
+  pub log : Log
+  pub there : file_at new.files cfg.log ≡ Some bytes
+  pub reads : log_of bytes ≡ Ok log
+  pub begins : log.node ≡ cfg.node
+  pub missing : log.missing ≡ cfg.missing
+  pub trace : new.taken ≡ old.taken ++ whole_trace cfg.node.here (played 0 node log.events)

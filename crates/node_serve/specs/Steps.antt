@@ -1,0 +1,58 @@
+-- What a step of a serving node gives.
+use Rattle.std.specs.Prelude.{◌≡◌, ℕ, Bool, true, false, List, [], ◌∷◌, ◌++◌, Option, Some, None, Result, MatchResult}
+use Rattle.plan_base.specs.declared.ids.Host.{Host}
+use Rattle.plan_base.specs.declared.ids.Dev.{Dev}
+use Rattle.packet_frame.specs.Bytes.{frame_bytes}
+use Rattle.node_io.specs.FileMaps.{FileMap, WritesMore, WritesFront}
+use Rattle.node_io.specs.Pieces.{AppendsFront}
+use Rattle.node_io.specs.Links.{Heard}
+use Rattle.packet_frame.specs.declared.frame.PlainFrame.{PlainFrame}
+use Rattle.network_plan.specs.declared.event.Event.{Event}
+use Rattle.service_api.specs.Services.{Standing}
+use Rattle.node_files.specs.LogTexts.{entry_text}
+use Rattle.node_model.specs.State.{NodeState}
+use Rattle.node_model.specs.Node.{node_step}
+use Rattle.node_core.specs.declared.node.Node.{Node}
+use Rattle.node_core.specs.Stands.{NodeStands}
+use Rattle.serve_model.specs.Runs.{acts_of, node_by, entries_at}
+use Rattle.serve_model.specs.Follow.{entry_of}
+use Rattle.serve_model.specs.Texts.{lines_text}
+use Rattle.node_serve.specs.Shown.{IsReadable}
+use Rattle.node_serve.specs.declared.steps.Stepped.{Stepped}
+use Rattle.node_serve.specs.declared.steps.Stepped.TheVariants.{Lost, Took}
+use Rattle.node_serve.specs.declared.steps.StepTexts.{StepTexts}
+
+-- whether a step was refused
+abbrev pub was_lost : Stepped → Bool
+was_lost Lost = true
+was_lost (Took frame) = false
+
+-- the frame that a step took
+abbrev pub frame_of : Stepped → Option PlainFrame
+frame_of Lost = None
+frame_of (Took frame) = frame
+
+-- a step with this number: its log line, its lines, the node afterwards, and the frame that it took
+pub record Written {S : Type 0} (stands : S → Standing) (here : Host) (number : ℕ) (s : NodeState) (e : Event) (texts : StepTexts) (new : Node S) : Type 0 where
+  pub line : texts.line ≡ entry_text (entry_of (was_lost texts.made) e)
+  pub lines : texts.lines ≡ lines_text here (entries_at number (acts_of s (entry_of (was_lost texts.made) e)))
+  pub node : NodeStands stands new (node_by s (entry_of (was_lost texts.made) e))
+  pub frame : was_lost texts.made ≡ false → frame_of texts.made ≡ (node_step s e).frame
+  pub readable : IsReadable (entry_of (was_lost texts.made) e)
+
+-- a line of the log and its lines of the trace were written, or fronts of them, the log first
+pub data WrittenFront (old new : FileMap) (target line taken grown lines : List ℕ) : Type 0 where
+  in_log : WritesFront old new target line → grown ≡ taken → WrittenFront old new target line taken grown lines
+  in_trace : WritesMore old new target line → AppendsFront taken grown lines → WrittenFront old new target line taken grown lines
+
+abbrev pub IsWritten : {T E : Type 0} → FileMap → FileMap → List ℕ → List ℕ → List ℕ → List ℕ → List ℕ → Result T E → Type 0
+IsWritten old new target line taken grown lines result =
+    MatchResult result (λ _. WritesMore old new target line × (grown ≡ taken ++ lines)) (λ _. WrittenFront old new target line taken grown lines)
+
+-- a frame that was taken is sent, where there is one
+abbrev pub sending : Dev → Option PlainFrame → List Heard
+sending d None = []
+sending d (Some x) = (d, frame_bytes x) ∷ []
+
+abbrev pub SendsTaken : {T E : Type 0} → List Heard → List Heard → Dev → Option PlainFrame → Result T E → Type 0
+SendsTaken old new d frame result = MatchResult result (λ _. new ≡ old ++ sending d frame) (λ _. new ≡ old)

@@ -1,0 +1,18 @@
+//! A node that serves: its turns over a link, a clock, files and an output, with a log of each step.
+#![tactic(auto)]
+
+mod back;
+mod fault;
+mod flush;
+mod heard;
+mod laws;
+mod opening;
+mod run;
+mod server;
+mod serving;
+mod steps;
+mod turns;
+
+pub use fault::ServeFault;
+pub use laws::reads_again;
+pub use serving::serve;

@@ -1,0 +1,119 @@
+ghost use Rattle.std.specs.Prelude.{◌≡◌, ◌∷◌, [], IfOk, IfSome, OnOk};
+ghost use Rattle.network_plan.specs.declared.event.Event.{Event as EventOf};
+ghost use Rattle.network_plan.specs.NodeRules.{KeepsNodeEvent};
+ghost use Rattle.node_model.specs.State.{NodeState};
+ghost use Rattle.node_model.specs.declared.acts.Act.TheVariants as act;
+ghost use Rattle.node_core.specs.Stands.{NodeStands};
+ghost use Rattle.network_plan.specs.declared.event.LogEvent.TheVariants as entry;
+ghost use Rattle.node_files.specs.LogTexts.{entry_text};
+ghost use Rattle.serve_model.specs.Runs.{entries_at};
+ghost use Rattle.serve_model.specs.Texts.{lines_text};
+ghost use Rattle.node_serve.specs.Shown.{IsReadable};
+ghost use Rattle.node_serve.specs.Steps.{Written};
+ghost use Rattle.node_serve.specs.declared.steps.Stepped.TheVariants as stepped;
+
+use log_replay::{lost_lines, step_lines};
+use network_plan::Event;
+use node_core::Node;
+use node_files::{put_log_line, put_lost_line};
+use node_model::Acts;
+use plan_base::{Bytes, Host, NoMemory};
+use service_api::Services;
+use spelled_frame::SpelledFrame;
+use std::alloc::Global;
+
+/// What became of a step.
+#[derive(Debug, Drop)]
+pub(crate) enum Stepped {
+    /// It found no memory, and nothing changed.
+    Lost,
+    /// It was made, and took this frame.
+    Took(Option<SpelledFrame>),
+}
+
+/// A step with its texts: its line of the log, and its lines of the trace.
+#[derive(Debug, Drop)]
+pub(crate) struct StepTexts {
+    pub(crate) line: Bytes,
+    pub(crate) lines: Bytes,
+    pub(crate) made: Stepped,
+}
+
+/// The line of the log of an event.
+fn event_text(alloc: Global, event: &Event) -> Result<Bytes, NoMemory>
+    requires { KeepsNodeEvent event.now }
+    ensures text { IfOk result (λ text. text ≡ entry_text (entry.Step event.now)) }
+    ensures readable { OnOk result (IsReadable (entry.Step event.now)) }
+{
+    let mut text = Bytes::new(alloc);
+    put_log_line(alloc, event, &mut text)?;
+    Ok(text)
+}
+
+/// The line of the log of a step that found no memory.
+fn lost_line(alloc: Global) -> Result<Bytes, NoMemory>
+    ensures { IfOk result (λ text. text ≡ entry_text entry.Lost) }
+{
+    let mut text = Bytes::new(alloc);
+    put_lost_line(&mut text)?;
+    Ok(text)
+}
+
+/// The texts of a step that found no memory.
+fn lost_texts(alloc: Global, number: u64, here: Host) -> Result<StepTexts, NoMemory>
+    ensures line { IfOk result (λ texts. texts.line ≡ entry_text entry.Lost) }
+    ensures lines { IfOk result (λ texts. texts.lines ≡ lines_text here (entries_at number (act.NoMemory ∷ []))) }
+    ensures made { IfOk result (λ texts. texts.made ≡ stepped.Lost) }
+{
+    let line = lost_line(alloc)?;
+    let lines = lost_lines(alloc, number, here)?;
+    Ok(StepTexts {
+        line,
+        lines,
+        made: Stepped::Lost,
+    })
+}
+
+/// The texts of a step that was made.
+fn took_texts(
+    alloc: Global,
+    number: u64,
+    here: Host,
+    event: &Event,
+    acts: Acts,
+) -> Result<StepTexts, NoMemory>
+    requires { KeepsNodeEvent event.now }
+    ensures line { IfOk result (λ texts. texts.line ≡ entry_text (entry.Step event.now)) }
+    ensures lines { IfOk result (λ texts. texts.lines ≡ lines_text here (entries_at number acts.list)) }
+    ensures made { IfOk result (λ texts. texts.made ≡ stepped.Took acts.frame) }
+    ensures readable { OnOk result (IsReadable (entry.Step event.now)) }
+{
+    let Acts { list, frame } = acts;
+    let line = event_text(alloc, event)?;
+    let lines = step_lines(alloc, number, here, list.as_slice())?;
+    Ok(StepTexts {
+        line,
+        lines,
+        made: Stepped::Took(frame),
+    })
+}
+
+/// Makes a step with this number, where the event found memory, and gives its texts.
+pub(crate) fn try_step<S: Services>(
+    alloc: Global,
+    node: &mut Node<S>,
+    number: u64,
+    here: Host,
+    event: &Option<Event>,
+) -> Result<StepTexts, NoMemory>
+    requires { IfSome event.now KeepsNodeEvent }
+    ensures { (s : NodeState) (e : EventOf) → NodeStands S.stands node.old s → IfSome event.now (λ x. x ≡ e) → IfOk result (λ texts. Written S.stands here number s e texts node.new) }
+{
+    let Some(event) = event else {
+        return lost_texts(alloc, number, here);
+    };
+    match node.step(alloc, event) {
+        Ok(acts) => took_texts(alloc, number, here, event, acts),
+        Err(NoMemory) => lost_texts(alloc, number, here),
+    }
+}

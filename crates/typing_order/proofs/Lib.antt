@@ -1,0 +1,5 @@
+pub mod Stands
+pub mod Forms
+pub mod Exprs
+pub mod Names
+pub mod Programs

@@ -1,0 +1,37 @@
+//! The law that the refusal of a program, and of an expression, is for the first condition that isn't kept, of one list of
+//! conditions for a program and one for each form of expression.
+//!
+//! Each law stands on a function without code, so that contracts of other crates can name it.
+#![tactic(auto)]
+
+ghost use Rattle.std.specs.Prelude.{◌≡◌, ◌≤◌, ◌↔◌, ℕ, Option, Err};
+ghost use Rattle.plan_base.specs.declared.tree.Expr.{Expr};
+ghost use Rattle.plan_base.specs.declared.tree.Program.{Program};
+ghost use Rattle.plan_base.specs.declared.tree.Ty.{Ty};
+ghost use Rattle.plan_base.specs.declared.type_fault.TypeFault.{TypeFault};
+ghost use Rattle.plan_base.specs.Sizes.{expr_depth};
+ghost use Rattle.plan_base.specs.WellFormed.{IsWellFormedProgram};
+ghost use Rattle.plan_base.specs.Typing.{Ctx, Typed};
+ghost use Rattle.plan_base.specs.TypingOrder.{checked, annotated};
+ghost use Rattle.plan_base.specs.TypingFills.{Becomes, Fills};
+ghost use Rattle.typing_order.specs.Judgements.{Refused, IsTypedOrRefused as IsExprTypedOrRefused};
+ghost use Rattle.typing_order.specs.Conditions.{FirstRefusal, IsTypedOrRefused};
+
+/// The checking of an expression, to any depth that it keeps, refuses exactly for the first of its conditions that isn't
+/// kept. An expression is typed or has a first refusal, and not both, and it has at most one.
+pub fn expressions_fail_first()
+    ensures first { (code : Program) (seen depth : ℕ) (c : Ctx) (want : Option Ty) (n : ℕ) (e : Expr) (f : TypeFault) → expr_depth e ≤ depth → (checked code depth seen c want e n ≡ Err f) ↔ Refused code seen f c want n e }
+    ensures some { (code : Program) (seen : ℕ) (c : Ctx) (want : Option Ty) (n : ℕ) (e : Expr) → IsExprTypedOrRefused code seen c want n e }
+    ensures apart { (code : Program) (seen : ℕ) (c : Ctx) (want : Option Ty) (n : ℕ) (e d : Expr) (t : Ty) (f : TypeFault) → Becomes code seen c want e d t → Refused code seen f c want n e → ⊥ }
+    ensures one { (code : Program) (seen : ℕ) (c : Ctx) (want : Option Ty) (n : ℕ) (e : Expr) (f g : TypeFault) → Refused code seen f c want n e → Refused code seen g c want n e → f ≡ g }
+{}
+
+/// A well-formed program is refused exactly for the first of its conditions that isn't kept: the names of its services,
+/// exceptions and functions, its bodies, and its size. It is typed or has a first refusal, and not both, and it has at most
+/// one.
+pub fn programs_fail_first()
+    ensures first { (p : Program) (f : TypeFault) → IsWellFormedProgram p → (annotated p ≡ Err f) ↔ FirstRefusal p f }
+    ensures some { (p : Program) → IsWellFormedProgram p → IsTypedOrRefused p }
+    ensures apart { (p q : Program) (f : TypeFault) → IsWellFormedProgram p → Fills p q → Typed q → FirstRefusal p f → ⊥ }
+    ensures one { (p : Program) (f g : TypeFault) → IsWellFormedProgram p → FirstRefusal p f → FirstRefusal p g → f ≡ g }
+{}

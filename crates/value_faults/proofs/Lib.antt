@@ -1,0 +1,4 @@
+pub mod Works
+pub mod TypesWork
+pub mod ValuesWork
+pub mod Whole
