@@ -1,7 +1,7 @@
 use node_io::{
-    Arrivals, Calls, FileList, MemClock, MemFiles, MemLink, MemSink, MemSpawner, Moments, Statuses,
+    Arrival, Arrivals, Calls, FileList, MemClock, MemFiles, MemLink, MemSink, MemSpawner, Moments, Statuses,
 };
-use plan_base::{Bytes, Text, Texts};
+use plan_base::{Bytes, Dev, Text, Texts};
 use planet_cli::{Status, planet};
 use std::alloc::{AllocError, Global};
 use std::test::Fail;
@@ -73,6 +73,22 @@ pub fn desk_with(
             Calls::from_slice(alloc, failing.spawn)?,
         )?,
     })
+}
+
+impl Desk {
+    /// Gives the link a script of arrivals, and the calls of it that are to fail.
+    pub fn hears(&mut self, alloc: Global, script: Arrivals, fails: &[u64]) -> Result<(), Fail> {
+        self.link = MemLink::new(alloc, script, Calls::from_slice(alloc, fails)?)?;
+        Ok(())
+    }
+}
+
+/// An arrival of bytes in hex on a device, quiet where there are none.
+pub fn heard(alloc: Global, dev: u32, hex: &str) -> Result<Arrival, Fail> {
+    match hex::decode(alloc, hex.as_bytes()) {
+        Ok(bytes) if !bytes.is_empty() => Ok(Arrival::On(Dev(dev), Bytes::of(bytes))),
+        _ => Ok(Arrival::Quiet),
+    }
 }
 
 /// The top call over this outside.

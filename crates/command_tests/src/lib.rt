@@ -9,3 +9,5 @@ mod fleets;
 mod reads;
 #[cfg(test)]
 mod requests;
+#[cfg(test)]
+mod serving;
