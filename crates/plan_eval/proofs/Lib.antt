@@ -15,6 +15,7 @@ mod Calling
 mod Gathering
 mod Sending
 mod Weighing
+mod Numbering
 mod Giving
 mod Visits
 mod Starting

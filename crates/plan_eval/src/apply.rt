@@ -124,7 +124,8 @@ fn place_program(codes: &mut Codes<'_>, at: usize, code: Program) -> Result<usiz
     if has_program(codes, at, &code) {
         return Ok(at);
     }
-    codes.add(code)
+    let number = codes.add(code)?;
+    Ok(number)
 }
 
 /// Begins the evaluation of a chunk.

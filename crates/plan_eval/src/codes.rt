@@ -35,6 +35,7 @@ impl<'a> Codes<'a> {
     }
 
     /// The program of that number, from 0.
+    #[tactic(auto, using(crate::proofs::Numbering::later_one))]
     pub fn get(&self, number: usize) -> Option<&Program>
         ensures { option_copied result ≡ slice_get self.now number }
     {

@@ -136,7 +136,7 @@ impl State {
     }
 
     /// Spends the weight of a value with that nesting, unless it passes the limits.
-    #[tactic(auto, unfolding(plan_meaning::specs::Run::weighed))]
+    #[tactic(auto, unfolding(plan_meaning::specs::Run::weighed, plan_meaning::specs::Run::is_too_large))]
     pub fn weighs_as(&mut self, size: u64, deep: u32) -> Weighing
         ensures weighs { (v : Value) (s : Standing) → size ≡ min (weight v) 18446744073709551615 → deep ≡ min (nesting v) 4294967295
             → Weighs (run.weighed v (joined self.old s)) v result (joined self.new s) }
