@@ -14,7 +14,6 @@ mod Catching
 mod Calling
 mod Gathering
 mod Sending
-mod Weighing
 mod Numbering
 mod Giving
 mod Visits

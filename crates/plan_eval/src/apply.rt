@@ -21,7 +21,7 @@ use plan_base::{Chunk, NoMemory, Program, Value, Values, place_of};
 use plan_items::Items;
 use plan_meaning::Stop;
 use std::alloc::Global;
-use visit_state::{State, Weighing, too_large};
+use visit_state::State;
 
 /// An activation under one more frame, back on the stack, and a function of that program on top of it.
 fn enter(
@@ -95,13 +95,12 @@ fn weigh(
         → Turned (all_ended codes outer.old (ended codes top want)) result codes outer.new (joined state.new n) }
     ensures bounded { IfOk result (λ how. load how outer.new state.new.work ≤ load mode.Run (outer.old ++ top ∷ []) state.old.work + 3) }
 {
-    match state.weighs(&v) {
-        Weighing::Paid => {
+    match state.weighed(alloc, v) {
+        Ok(value) => {
             outer.add(top)?;
-            Ok(Mode::Give(v))
+            Ok(Mode::Give(value))
         }
-        Weighing::Spent => Err(Stop::WorkSpent),
-        Weighing::TooLarge => halt(outer, top, too_large(alloc)),
+        Err(stop) => halt(outer, top, stop),
     }
 }
 

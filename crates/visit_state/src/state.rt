@@ -11,7 +11,7 @@ ghost use Rattle.plan_meaning.specs.Visit.{allowance, ended};
 ghost use Rattle.plan_meaning.specs.Meaning as spec;
 ghost use Rattle.visit_state.specs.Meets.{Meets, StopsBy, Weighs};
 
-use crate::raised::{no_bound, no_route, no_service, not_neighbour};
+use crate::raised::{no_bound, no_route, no_service, not_neighbour, too_large};
 use crate::weighing::{Weighing, plain_weight};
 use chunk_types::{CheckedChunk, CheckedPacket};
 use plan_base::{Chunk, Dev, Family, Host, Name, NoMemory, Value, nesting, weight};
@@ -160,6 +160,18 @@ impl State {
         match plain_weight(v) {
             Some(size) => self.weighs_as(size, 0),
             None => self.weighs_as(weight(v), nesting(v)),
+        }
+    }
+
+    /// Refuses a value over the limits, and spends the weight of another.
+    pub fn weighed(&mut self, alloc: Global, v: Value) -> Result<Value, Stop>
+        ensures meets { (s : Standing) → Meets (run.weighed v (joined self.old s)) result (joined self.new s) }
+        ensures falls { self.new.work ≤ self.old.work }
+    {
+        match self.weighs(&v) {
+            Weighing::Paid => Ok(v),
+            Weighing::Spent => Err(Stop::WorkSpent),
+            Weighing::TooLarge => Err(too_large(alloc)),
         }
     }
 
