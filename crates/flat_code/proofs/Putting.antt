@@ -5,10 +5,12 @@ use Rattle.std.proofs.Math.Seq.{take-append_seam}
 use Rattle.plan_base.specs.declared.name.Name.{Name}
 use Rattle.plan_base.specs.declared.tree.Clause.{Clause}
 use Rattle.plan_base.specs.declared.tree.Expr.{Expr, out-Expr}
+use Rattle.plan_base.specs.declared.tree.Fun.{Fun}
 use Rattle.plan_base.specs.declared.tree.Program.{Program}
 use Rattle.flat_code.specs.declared.node.Node.{Node}
-use Rattle.flat_code.specs.Flat.{Layout, Laid, Grows, Puts, IsFlat, AreFlat, none, more, form_of, args_of, enters_part, laid, laid_parts, laid_bodies, held_from}
-use Rattle.flat_code.proofs.Flats.{grows_none, grows_on, grows_one, still_flat, all_still_flat, closed, closed_grows}
+use Rattle.flat_code.specs.declared.node.Body.{Body}
+use Rattle.flat_code.specs.Flat.{Layout, Laid, Grows, Puts, IsFlat, AreFlat, none, more, form_of, args_of, enters_part, laid, laid_parts, laid_bodies, held_from, IsBody, AreBodies}
+use Rattle.flat_code.proofs.Flats.{grows_none, grows_on, grows_one, still_flat, closed, closed_grows}
 
 -- what holds of an answer holds weakened
 pub on_ok : {A E : Type 0} {P Q : Type 0} → (P → Q) → (r : Result A E) → OnOk r P → OnOk r Q
@@ -28,10 +30,10 @@ none_left (x ∷ xs) (suc i) h = none_left xs i (omega (arith, h))
 module _ {code : Program} {seen : ℕ} where
   -- the one part of a list of one
   pub only : {nodes : List Node} {b : Bool} {p : Laid} {at end : ℕ} → AreFlat code seen nodes b (p ∷ []) at end → IsFlat code seen nodes p.layout b p.expr at end
-  only (more one none) = one
+  only (more one (none is)) = rw is at one
 
   pub puts_none : (b : Bool) (l : Layout) (ns : List Node) → Puts code seen b [] l l ns ns
-  puts_none b l ns = record { layout = refl; grown = grows_none ns; flat = none }
+  puts_none b l ns = record { layout = refl; grown = grows_none ns; flat = none refl }
 
   -- a part, and others under the same layout
   pub puts_on : {b : Bool} {p : Laid} {l l1 l2 : Layout} {xs ys zs : List Node} (ps : Layout → List Laid) → Puts code seen b (p ∷ []) l l1 xs ys
@@ -70,13 +72,13 @@ module _ {code : Program} {seen : ℕ} where
       done = record {
         layout = f.layout;
         grown = closed_grows xs p n zs g;
-        flat = more (closed xs p n zs g form parts ends (subst (λ (k : List Node). AreFlat code seen zs (enters_part (out-Expr e)) (laid_parts l (out-Expr e)) (length k) (length zs)) grown f.flat)) none;
+        flat = more (closed xs p n zs g form parts ends (subst (λ (k : List Node). AreFlat code seen zs (enters_part (out-Expr e)) (laid_parts l (out-Expr e)) (length k) (length zs)) grown f.flat)) (none refl);
       }
 
   -- the place of the node lies within
   pub node_within : (b : Bool) (ps : List Laid) (l l1 : Layout) (xs ys zs : List Node) (p : Node) (at : ℕ) → at ≡ length xs → ys ≡ xs ++ p ∷ [] → Puts code seen b ps l l1 ys zs → at < length zs
   node_within b ps l l1 xs ys zs p at place grown f =
-      omega (arith, place, ap (λ (k : List Node). length k) grown, length-append xs (p ∷ []), ap (λ (k : List Node). length k) f.grown.behind, length-append ys f.grown.more)
+      omega (arith, place, ap (λ (k : List Node). length k) grown, length-append xs (p ∷ []), ap (λ (k : List Node). length k) f.grown.behind, length-append ys f.grown.added)
 
 -- What a loop over waiting parts has done: with whatever comes to stand for those that are left, all stand.
 module _ (code : Program) (seen : ℕ) where
@@ -105,9 +107,9 @@ module _ (code : Program) (seen : ℕ) where
   pub held_end : (l l1 l2 : Layout) (xs ys : List Node) (es left : List Expr) (room : ℕ) → room ≡ length l → left ≡ [] → SoFar l l1 xs ys es left → l2 ≡ take room l1
       → Puts code seen false (held_from l es) l l2 xs ys
   held_end l l1 l2 xs ys es left room same is f back = record {
-    layout = back ∙ ap (λ n. take n l1) same ∙ ap (λ (k : Layout). take (length l) k) f.layout.behind ∙ take-append_seam l f.layout.more;
+    layout = back ∙ ap (λ n. take n l1) same ∙ ap (λ (k : Layout). take (length l) k) f.layout.behind ∙ take-append_seam l f.layout.added;
     grown = f.grown;
-    flat = f.flat ys (length ys) (grows_none ys) (subst (λ (k : List Expr). AreFlat code seen ys false (held_from l1 k) (length ys) (length ys)) (sym is) none);
+    flat = f.flat ys (length ys) (grows_none ys) (subst (λ (k : List Expr). AreFlat code seen ys false (held_from l1 k) (length ys) (length ys)) (sym is) (none refl));
   }
 
   -- the same of the bodies of clauses
@@ -134,5 +136,26 @@ module _ (code : Program) (seen : ℕ) where
   bodies_end l l1 xs ys ks left is f = record {
     layout = f.layout;
     grown = f.grown;
-    flat = f.flat ys (length ys) (grows_none ys) (subst (λ (js : List Clause). AreFlat code seen ys false (laid_bodies l js) (length ys) (length ys)) (sym is) none);
+    flat = f.flat ys (length ys) (grows_none ys) (subst (λ (js : List Clause). AreFlat code seen ys false (laid_bodies l js) (length ys) (length ys)) (sym is) (none refl));
   }
+
+-- ---- the bodies of a program
+
+pub still_body : {code : Program} {old new : List Node} (n : ℕ) (f : Fun) (b : Body) → Grows old new → IsBody code old n f b → IsBody code new n f b
+still_body n f b g h = record { end = h.end; flat = still_flat g h.flat; params = h.params }
+
+module _ (code : Program) where
+  -- with whatever bodies come to stand for the functions that are left, all stand
+  abbrev pub BodiesDone : List Node → ℕ → List Fun → List Body → Type 0
+  BodiesDone nodes seen left done = (bodies : List Body) (all : List Node) → Grows nodes all → AreBodies code all seen left bodies → AreBodies code all 0 code.funs (done ++ bodies)
+
+  pub bodies_next : (xs ys : List Node) (seen : ℕ) (left rest : List Fun) (done more_done : List Body) (f : Fun) (b : Body) → left ≡ f ∷ rest → more_done ≡ done ++ b ∷ [] → Grows xs ys
+      → IsBody code ys seen f b → BodiesDone xs seen left done → BodiesDone ys (seen + 1) rest more_done
+  bodies_next xs ys seen left rest done more_done f b is one g body so_far bodies all h are =
+      rw (one, append_assoc done (b ∷ []) bodies)
+      (so_far (b ∷ bodies) all (grows_on g h) (subst (λ (fs : List Fun). AreBodies code all seen fs (b ∷ bodies)) (sym is) (still_body seen f b h body, are)))
+
+  pub bodies_all : (nodes : List Node) (seen : ℕ) (left : List Fun) (done : List Body) → left ≡ [] → BodiesDone nodes seen left done → AreBodies code nodes 0 code.funs done
+  bodies_all nodes seen left done is so_far =
+      subst (λ (bs : List Body). AreBodies code nodes 0 code.funs bs) (append-nil done)
+      (so_far [] nodes (grows_none nodes) (subst (λ (fs : List Fun). AreBodies code nodes seen fs []) (sym is) tt))

@@ -40,8 +40,8 @@ place_from n x (y ∷ l) = option_or (place_from (n + 1) x l) (place_if n x y)
 
 -- the later list is the earlier one with more behind it
 pub record Grows {A : Type 0} (old new : List A) : Type 0 where
-  pub more : List A
-  pub behind : new ≡ old ++ more
+  pub added : List A
+  pub behind : new ≡ old ++ added
 
 -- ---- the parts of an expression, each with the layout that it is evaluated under
 
@@ -179,7 +179,7 @@ module _ (code : Program) (seen : ℕ) (nodes : List Node) where
           → AreFlat (enters_part (out-Expr e)) (laid_parts l (out-Expr e)) (at + 1) end → IsFlat l entered e at end
 
     pub data AreFlat : Bool → List Laid → ℕ → ℕ → Type 0 where
-      none : {entered : Bool} {at : ℕ} → AreFlat entered [] at at
+      none : {entered : Bool} {at end : ℕ} → at ≡ end → AreFlat entered [] at end
       more : {entered : Bool} {p : Laid} {ps : List Laid} {at next end : ℕ} → IsFlat p.layout entered p.expr at next
           → AreFlat entered ps next end → AreFlat entered (p ∷ ps) at end
 
