@@ -6,6 +6,7 @@ ghost use Rattle.plan_meaning.specs.declared.stop.Stop.TheVariants as stops;
 ghost use Rattle.plan_meaning.specs.State.{VisitState, joined};
 ghost use Rattle.plan_meaning.specs.Run.{Step, stopped, weighed};
 ghost use Rattle.plan_meaning.specs.Meaning.{entered, meaning};
+ghost use Rattle.visit_state.specs.Meets.{Meets};
 ghost use Rattle.plan_eval.specs.declared.frame.Mode.TheVariants as mode;
 ghost use Rattle.plan_eval.specs.declared.next.Next.TheVariants as next;
 ghost use Rattle.plan_eval.specs.Leads.{Leads};
@@ -79,6 +80,24 @@ fn enter_here(
     let code = top.code;
     enter(alloc, outer, top, frame, code, fun, args)?;
     Ok(Mode::Run)
+}
+
+/// Gives the value that an expression ended with, or halts.
+pub fn settled(
+    outer: &mut Activations,
+    top: Activation,
+    answer: Result<Value, Stop>,
+) -> Result<Mode, Stop>
+    ensures turned { (codes : List Code) (code : Code) (at : Spot) (want : Step Value) (s : VisitState) → Stands codes outer.old top code at
+        → Meets want answer s → Turned (all_ended codes outer.old (ended codes top want)) result codes outer.new s }
+{
+    match answer {
+        Ok(value) => {
+            outer.add(top)?;
+            Ok(Mode::Give(value))
+        }
+        Err(stop) => halt(outer, top, stop),
+    }
 }
 
 /// Weighs the value that an open expression ends with.

@@ -15,6 +15,7 @@ mod next;
 mod operand;
 mod parts;
 mod place;
+mod plain;
 mod pure;
 mod raise;
 mod send;

@@ -8,11 +8,12 @@ ghost use Rattle.plan_eval.specs.declared.frame.Mode.TheVariants as mode;
 ghost use Rattle.plan_eval.specs.Stack.{AreLinked, stands_for};
 ghost use Rattle.plan_eval.specs.Turns.{Turned, load};
 
-use crate::apply::apply;
+use crate::apply::{apply, settled};
 use crate::begin::begin_top;
 use crate::codes::Codes;
 use crate::frame::{Activation, Activations, Mode};
 use crate::given::give_top;
+use crate::plain::plain_top;
 use crate::raise::raise_top;
 use plan_base::{Exn, Value};
 use plan_meaning::Stop;
@@ -84,6 +85,9 @@ fn begin<S: Services>(
     ensures offer { (S.stands svc.new).offer ≡ (S.stands svc.old).offer }
     ensures begun { (S.stands svc.new).begun ≡ (S.stands svc.old).begun }
 {
+    if let Some(answer) = plain_top(alloc, codes, &top, state) {
+        return settled(outer, top, answer);
+    }
     if !state.pays(1) {
         return Err(Stop::WorkSpent);
     }
