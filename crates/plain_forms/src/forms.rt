@@ -1,10 +1,11 @@
 //! What plain expressions give, a function for each form that has parts.
-ghost use Rattle.std.specs.Prelude.{◌≡◌, ◌≤◌, ℕ, IsTrue, IfOk};
+ghost use Rattle.std.specs.Prelude.{◌≡◌, ◌≢◌, ◌<◌, ◌≤◌, ℕ, IsTrue, Err};
 ghost use Rattle.std.specs.List.{list_all};
 ghost use Rattle.plan_base.specs.declared.tree.Expr.{out-Expr};
 ghost use Rattle.plan_base.specs.declared.tree.Program.{Program};
 ghost use Rattle.plan_base.specs.TypingNames.{is_prim};
 ghost use Rattle.service_api.specs.Services.{Standing};
+ghost use Rattle.plan_meaning.specs.declared.stop.Stop.TheVariants.{WorkSpent};
 ghost use Rattle.plan_meaning.specs.State.{VisitState, joined};
 ghost use Rattle.plan_meaning.specs.Run as run;
 ghost use Rattle.plan_meaning.specs.Meaning as spec;
@@ -31,6 +32,7 @@ pub fn evaluated<N: Names>(
     requires plain { IsTrue (is_plain e.now) }
     ensures meets { (code : Program) (seen : ℕ) (s : Standing) → Meets (meaning code seen (N.env names.now) e.now (joined state.old s)) result (joined state.new s) }
     ensures falls { state.new.work ≤ state.old.work }
+    ensures spends { result ≢ Err WorkSpent → state.new.work < state.old.work }
 {
     if !state.pays(1) {
         return Err(Stop::WorkSpent);

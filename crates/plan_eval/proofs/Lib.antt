@@ -15,6 +15,7 @@ mod Calling
 mod Gathering
 mod Sending
 mod Numbering
+mod Plainly
 mod Giving
 mod Visits
 mod Starting

@@ -67,6 +67,11 @@ module _ (codes : List Program) (outer : List Activation) (code : Program) (a : 
       → Leads whole_of (stands_for codes (outer ++ a ∷ []) (mode.Give w) t) × AreLinked codes (outer ++ a ∷ [])
   turn_value v w s t h weighs = gives_on w t (h.same ∙ weighs)
 
+  -- it gave a value that is weighed
+  pub turn_gave : (w : Value) (s : VisitState) → want.after ≡ gave w s
+      → Leads whole_of (stands_for codes (outer ++ a ∷ []) (mode.Give w) s) × AreLinked codes (outer ++ a ∷ [])
+  turn_gave w s h = gives_on w s h
+
   -- it raises, or ends the visit
   pub turn_raised : (x : Exn) (s : VisitState) → (Raised x ≢ NoMemory → want.after ≡ stopped (Raised x) s)
       → Leads whole_of (stands_for codes (outer ++ a ∷ []) (mode.Raise x) s) × AreLinked codes (outer ++ a ∷ [])

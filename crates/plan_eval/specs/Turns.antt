@@ -1,5 +1,5 @@
 -- Where an activation stands, and what a turn of a visit does.
-use Rattle.std.specs.Prelude.{◌+◌, ◌*◌, length, sum_by, if◌then◌else◌, ◌≡◌, ◌≢◌, ℕ, List, [], ◌∷◌, ◌++◌, slice_get, Option, Some, None, IsSome, Result, Ok, Err}
+use Rattle.std.specs.Prelude.{◌+◌, ◌*◌, length, sum_by, if◌then◌else◌, ◌≡◌, ◌≢◌, ℕ, List, [], ◌∷◌, ◌++◌, slice_get, Option, Some, IsSome, Result, Ok, Err}
 use Rattle.std.specs.Str.{bytes_eq}
 use Rattle.plan_base.specs.declared.name.Name.{Name}
 use Rattle.plan_base.specs.declared.tree.Expr.{Expr}
@@ -11,7 +11,7 @@ use Rattle.plan_meaning.specs.declared.stop.Stop.{Stop}
 use Rattle.plan_meaning.specs.declared.stop.Stop.TheVariants.{NoMemory}
 use Rattle.plan_meaning.specs.State.{VisitState}
 use Rattle.plan_meaning.specs.Run.{Step, stopped}
-use Rattle.plan_meaning.specs.Meaning.{Env, bound}
+use Rattle.plan_meaning.specs.Meaning.{Env, binds}
 use Rattle.plan_eval.specs.declared.frame.Frame.{Frame}
 use Rattle.plan_eval.specs.declared.frame.Activation.{Activation}
 use Rattle.plan_eval.specs.declared.frame.Mode.{Mode}
@@ -29,13 +29,14 @@ pub record IsAt (codes : List Program) (a : Activation) (code : Program) (f : Fu
 abbrev pub spot_at : Fun → List Frame → Env → Expr → Spot
 spot_at f frames base e = record { expr = e; env = env_from (Some f.body) base frames }
 
--- the bindings that the innermost open expression of an activation sees
-abbrev pub or_nothing : Option Env → Env
-or_nothing (Some env) = env
-or_nothing None = []
+-- parameters with arguments, as far as there are both
+abbrev pub paired : List Param → List Value → Env
+paired (p ∷ ps) (v ∷ vs) = binds p.name v ∷ paired ps vs
+paired _ _ = []
 
+-- the bindings that the innermost open expression of an activation sees
 abbrev pub env_of : Fun → Activation → Env
-env_of f a = env_from (Some f.body) (or_nothing (bound f.params a.args)) a.frames
+env_of f a = env_from (Some f.body) (paired f.params a.args) a.frames
 
 -- an activation of a function that has taken no step
 abbrev pub entry : ℕ → ℕ → List Value → Activation

@@ -1,5 +1,5 @@
 //! What was decided, done on the stack.
-ghost use Rattle.std.specs.Prelude.{◌≡◌, ◌≢◌, ◌+◌, ◌≤◌, ◌∷◌, ◌++◌, [], ℕ, List, IfOk, OnOk, IsTrue, Some, slice_get};
+ghost use Rattle.std.specs.Prelude.{◌≡◌, ◌≢◌, ◌+◌, ◌<◌, ◌≤◌, ◌∷◌, ◌++◌, [], ℕ, List, Err, IfOk, OnOk, IsTrue, Some, slice_get};
 ghost use Rattle.plan_base.specs.declared.tree.Program.{Program as Code};
 ghost use Rattle.service_api.specs.Services.{Standing};
 ghost use Rattle.plan_meaning.specs.declared.stop.Stop.TheVariants as stops;
@@ -83,6 +83,7 @@ fn enter_here(
 }
 
 /// Gives the value that an expression ended with, or halts.
+#[tactic(auto, using(crate::proofs::Plainly::load_value, crate::proofs::Plainly::load_thrown))]
 pub fn settled(
     outer: &mut Activations,
     top: Activation,
@@ -90,13 +91,18 @@ pub fn settled(
 ) -> Result<Mode, Stop>
     ensures turned { (codes : List Code) (code : Code) (at : Spot) (want : Step Value) (s : VisitState) → Stands codes outer.old top code at
         → Meets want answer s → Turned (all_ended codes outer.old (ended codes top want)) result codes outer.new s }
+    ensures shrinks { (work less : ℕ) → (answer ≢ Err stops.WorkSpent → less < work) → IfOk result (λ how. load how outer.new less < load mode.Run (outer.old ++ top ∷ []) work) }
 {
     match answer {
         Ok(value) => {
             outer.add(top)?;
             Ok(Mode::Give(value))
         }
-        Err(stop) => halt(outer, top, stop),
+        Err(Stop::Raised(x)) => {
+            outer.add(top)?;
+            Ok(Mode::Raise(x))
+        }
+        Err(stop) => Err(stop),
     }
 }
 

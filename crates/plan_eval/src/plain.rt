@@ -1,7 +1,8 @@
 //! Plain expressions, which are evaluated at once and not on the stack.
-ghost use Rattle.std.specs.Prelude.{◌≡◌, ◌≤◌, IfSome, Some, slice_get};
+ghost use Rattle.std.specs.Prelude.{◌≡◌, ◌≢◌, ◌<◌, IfSome, Some, None, Err, slice_get};
 ghost use Rattle.plan_base.specs.declared.tree.Program.{Program};
 ghost use Rattle.service_api.specs.Services.{Standing};
+ghost use Rattle.plan_meaning.specs.declared.stop.Stop.TheVariants.{WorkSpent};
 ghost use Rattle.plan_meaning.specs.State.{joined};
 ghost use Rattle.plan_meaning.specs.Meaning.{meaning};
 ghost use Rattle.visit_state.specs.Meets.{Meets};
@@ -28,6 +29,7 @@ impl<'a> Names for Here<'a> {
 
     ghost env = { λ h. env_of h.place.function.now h.top.now };
 
+    #[tactic(auto, using(crate::proofs::Plainly::sees))]
     fn value(&self, name: &Name) -> Option<&Value> {
         let params = self.place.function.params.as_slice();
         let outside = argument_of(name, params, self.top.args.as_slice());
@@ -41,6 +43,7 @@ impl<'a> Names for Here<'a> {
 }
 
 /// The value of the innermost expression of an activation, where that is plain.
+#[tactic(auto, using(crate::proofs::Plainly::plain_here))]
 pub fn plain_top(
     alloc: Global,
     codes: &Codes<'_>,
@@ -49,7 +52,8 @@ pub fn plain_top(
 ) -> Option<Result<Value, Stop>>
     ensures meets { IfSome result (λ r. (code : Program) (at : Spot) (s : Standing) → slice_get codes.now top.now.code ≡ Some code → spot_in codes.now top.now ≡ Some at
         → Meets (meaning code top.now.fun at.env at.expr (joined state.old s)) r (joined state.new s)) }
-    ensures falls { state.new.work ≤ state.old.work }
+    ensures spends { IfSome result (λ r. r ≢ Err WorkSpent → state.new.work < state.old.work) }
+    ensures same { result ≡ None → state.new ≡ state.old }
 {
     let Some(place) = place_in(codes, top) else {
         return None;
