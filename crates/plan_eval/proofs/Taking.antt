@@ -13,6 +13,7 @@ use Rattle.plan_meaning.specs.State.{VisitState}
 use Rattle.plan_meaning.specs.Run.{Step, gave, stopped, quiet, spend}
 use Rattle.plan_meaning.specs.Meaning.{Env, meaning}
 use Rattle.plan_meaning.specs.Safe.{IsSafe}
+use Rattle.visit_state.specs.Meets.{Meets}
 use Rattle.plan_eval.specs.declared.frame.Frame.{Frame}
 use Rattle.plan_eval.specs.declared.frame.Frame.TheVariants as frame
 use Rattle.plan_eval.specs.declared.frame.Activation.{Activation}
@@ -151,6 +152,19 @@ module _ (codes : List Program) (outer : List Activation) (a : Activation) (s : 
       let at = spot_there (spot_in codes a) stands in
       rw (runs_on codes outer code.0 a at.0 s code.1 at.1)
       (all_stop codes e t final outer _ (ended_stops codes e t final a _ (begun_spent code.0 a.fun at.0.env at.0.expr e s t spent)))
+
+-- an expression that is evaluated at once
+pub turn_plain : (codes : List Program) (outer : List Activation) (a : Activation) (s : VisitState) (answer : Result Value Stop) (t : VisitState) (r : Result Mode Stop) (outer' : List Activation)
+    → AreLinked codes (outer ++ a ∷ [])
+    → ((code : Program) (at : Spot) → slice_get codes a.code ≡ Some code → spot_in codes a ≡ Some at → Meets (meaning code a.fun at.env at.expr s) answer t)
+    → ((code : Program) (at : Spot) (want : Step Value) → Stands codes outer a code at → Meets want answer t → Turned (all_ended codes outer (ended codes a want)) r codes outer' t)
+    → Turned (stands_for codes (outer ++ a ∷ []) mode.Run s) r codes outer' t
+turn_plain codes outer a s answer t r outer' linked meets applied =
+    let stands = linked_top codes outer a linked in
+    let code = program_of codes a stands in
+    let at = spot_there (spot_in codes a) stands in
+    rw (runs_on codes outer code.0 a at.0 s code.1 at.1)
+    (applied code.0 at.0 (meaning code.0 a.fun at.0.env at.0.expr s) (record { program = code.1; spot = at.1; linked = linked_outer codes outer a linked }) (meets code.0 at.0 code.1 at.1))
 
 -- an activation that has ended
 module _ (codes : List Program) (outer : List Activation) (a : Activation) (s : VisitState) (linked : AreLinked codes (outer ++ a ∷ [])) (bare : a.frames ≡ []) where

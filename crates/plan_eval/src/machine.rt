@@ -68,7 +68,31 @@ fn raise(
     apply(alloc, codes, outer, below, decided, state)
 }
 
-/// Evaluates the innermost expression of the innermost activation, which is off the stack.
+/// Opens the innermost expression of the innermost activation, which is off the stack.
+fn begin_open<S: Services>(
+    alloc: Global,
+    codes: &mut Codes<'_>,
+    outer: &mut Activations,
+    top: Activation,
+    state: &mut State,
+    svc: &mut S,
+) -> Result<Mode, Stop>
+    requires open { IsSome (S.stands svc.old).begun }
+    requires linked { AreLinked codes.old (outer.old ++ top ∷ []) }
+    requires safe { IsSafe (stands_for codes.old (outer.old ++ top ∷ []) mode.Run (joined state.old (S.stands svc.old))).asks }
+    ensures turned { Turned (stands_for codes.old (outer.old ++ top ∷ []) mode.Run (joined state.old (S.stands svc.old))) result codes.new outer.new (joined state.new (S.stands svc.new)) }
+    ensures shrinks { IfOk result (λ how. load how outer.new state.new.work < load mode.Run (outer.old ++ top ∷ []) state.old.work) }
+    ensures offer { (S.stands svc.new).offer ≡ (S.stands svc.old).offer }
+    ensures begun { (S.stands svc.new).begun ≡ (S.stands svc.old).begun }
+{
+    if !state.pays(1) {
+        return Err(Stop::WorkSpent);
+    }
+    let decided = begin_top(alloc, codes, &top, state, svc);
+    apply(alloc, codes, outer, top, decided, state)
+}
+
+/// Evaluates the innermost expression of the innermost activation, which is off the stack: at once where it is plain.
 fn begin<S: Services>(
     alloc: Global,
     codes: &mut Codes<'_>,
@@ -85,14 +109,10 @@ fn begin<S: Services>(
     ensures offer { (S.stands svc.new).offer ≡ (S.stands svc.old).offer }
     ensures begun { (S.stands svc.new).begun ≡ (S.stands svc.old).begun }
 {
-    if let Some(answer) = plain_top(alloc, codes, &top, state) {
-        return settled(outer, top, answer);
+    match plain_top(alloc, codes, &top, state) {
+        Some(answer) => settled(outer, top, answer),
+        None => begin_open(alloc, codes, outer, top, state, svc),
     }
-    if !state.pays(1) {
-        return Err(Stop::WorkSpent);
-    }
-    let decided = begin_top(alloc, codes, &top, state, svc);
-    apply(alloc, codes, outer, top, decided, state)
 }
 
 /// One turn of a visit, with its innermost activation off the stack.
