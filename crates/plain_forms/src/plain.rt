@@ -6,9 +6,9 @@ ghost use Rattle.plain_forms.specs.Plain.{is_plain};
 use plan_base::{Expr, prim_of};
 
 /// The most forms that a plain expression has: its evaluation nests no deeper.
-const MOST_FORMS: usize = 256;
+const MOST_FORMS: usize = 128;
 
-/// Whether an expression is plain and has at most 256 forms.
+/// Whether an expression is plain and has at most 128 forms.
 pub fn is_plain(e: &Expr) -> bool
     ensures { IsTrue result → IsTrue (is_plain e.now) }
 {
