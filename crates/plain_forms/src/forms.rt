@@ -75,7 +75,14 @@ fn opened<N: Names>(
         Expr::Not(a) => negation(alloc, names, a.get(), state),
         Expr::Binary(op, a, b) => operation(alloc, names, *op, a.get(), b.get(), state),
         Expr::Part(i, a) => selection(alloc, names, *i, a.get(), state),
-        _ => unreachable!(),
+        Expr::Let(_, _, _, _) => unreachable!(),
+        Expr::Try(_, _) => unreachable!(),
+        Expr::Foldl(_, _, _) => unreachable!(),
+        Expr::Foldr(_, _, _) => unreachable!(),
+        Expr::ChunkOf(_, _) => unreachable!(),
+        Expr::Eval(_) => unreachable!(),
+        Expr::OnRemote(_, _, _, _) => unreachable!(),
+        Expr::OnNeighbor(_, _, _, _) => unreachable!(),
     }
 }
 
