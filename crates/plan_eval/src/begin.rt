@@ -10,6 +10,7 @@ ghost use Rattle.plan_eval.specs.Stack.{Spot, spot_in};
 ghost use Rattle.plan_eval.specs.Turns.{spot_at};
 ghost use Rattle.plan_eval.specs.Nexts.{Decides, IsDone, Starts, begins, call_of};
 
+use crate::along::along;
 use crate::call::called;
 use crate::codes::Codes;
 use crate::frame::{Activation, Frame};
@@ -114,5 +115,6 @@ pub fn begin_top<S: Services>(
         return Err(Stop::Wrong);
     };
     let decided = begin(alloc, place, top, state, svc);
-    can_do(place, decided)
+    let further = along(alloc, place, top, decided, state, svc);
+    can_do(place, further)
 }

@@ -9,6 +9,7 @@ ghost use Rattle.plan_eval.specs.Stack.{Spot, resume, spot_in};
 ghost use Rattle.plan_eval.specs.Nexts.{Decides, IsDone, part_gave};
 
 use crate::fold::{item_gave, left_part, right_part};
+use crate::along::along;
 use crate::codes::Codes;
 use crate::frame::{Activation, Frame};
 use crate::gather::{call_part, chunk_part, tuple_part};
@@ -25,7 +26,7 @@ use visit_state::State;
 
 /// What an expression does when its part of number `n` has given a value, behind those that gave `held`.
 #[tactic(auto, using(plan_base::specs::Trees::trees, crate::proofs::Deciding::bound, crate::proofs::Deciding::followed, crate::proofs::Giving::leaf_given))]
-fn after_part<S: Services>(
+pub fn after_part<S: Services>(
     alloc: Global,
     code: &Program,
     seen: usize,
@@ -98,7 +99,8 @@ pub fn give_top<S: Services>(
             let decided = after_part(
                 alloc, place.code, top.fun, place.expr, n, held, v, state, svc,
             );
-            can_do(place, decided)
+            let further = along(alloc, place, top, decided, state, svc);
+            can_do(place, further)
         }
         Frame::Last(_) | Frame::Body => Ok(Next::Give(v)),
         Frame::Bound(_) => Ok(Next::Give(v)),

@@ -1,6 +1,7 @@
 //! Visits: the evaluation of a packet's chunk on an explicit stack.
 #![tactic(auto)]
 
+mod along;
 mod apply;
 mod begin;
 mod call;

@@ -13,7 +13,7 @@ use crate::frame::Activation;
 use crate::place::{Place, argument_of, place_in};
 use crate::walk::value_from;
 use plain_forms::{Names, evaluated, is_plain};
-use plan_base::{Name, Value};
+use plan_base::{Expr, Name, Value};
 use plan_meaning::Stop;
 use std::alloc::Global;
 use visit_state::State;
@@ -58,9 +58,20 @@ pub fn plain_top(
     let Some(place) = place_in(codes, top) else {
         return None;
     };
-    if !is_plain(place.expr) {
+    plain_part(alloc, place, top, place.expr, state)
+}
+
+/// The value of a part of the innermost expression of an activation, or of the whole, where that is plain.
+pub fn plain_part(
+    alloc: Global,
+    place: Place<'_>,
+    top: &Activation,
+    e: &Expr,
+    state: &mut State,
+) -> Option<Result<Value, Stop>> {
+    if !is_plain(e) {
         return None;
     }
     let here = Here { place, top };
-    Some(evaluated(alloc, &here, place.expr, state))
+    Some(evaluated(alloc, &here, e, state))
 }
