@@ -22,7 +22,7 @@ use visit_state::{State, as_bool, binary, part, primitive};
 
 /// The value of a plain expression, with what it spends.
 #[cycle(evaluated)]
-#[tactic(auto, unfolding(plan_meaning::specs::Meaning::node, plan_meaning::specs::Meaning::opened, plan_meaning::specs::Run::whole))]
+#[tactic(auto, using(crate::proofs::Meeting::meets_unpaid, crate::proofs::Meeting::meets_weighed, crate::proofs::Meeting::meets_halted))]
 pub fn evaluated<N: Names>(
     alloc: Global,
     names: &N,
@@ -108,7 +108,7 @@ fn named<N: Names>(alloc: Global, names: &N, x: &Name) -> Result<Value, Stop>
 
 /// Values in order.
 #[cycle(evaluated)]
-#[tactic(auto, unfolding(plan_meaning::specs::Meaning::values))]
+#[tactic(auto, unfolding(plan_meaning::specs::Meaning::values), using(crate::proofs::Meeting::meets_then, crate::proofs::Meeting::meets_stop))]
 fn values<N: Names>(
     alloc: Global,
     names: &N,
@@ -127,7 +127,7 @@ fn values<N: Names>(
 }
 
 #[cycle(evaluated)]
-#[tactic(auto, unfolding(plan_meaning::specs::Meaning::tuple))]
+#[tactic(auto, unfolding(plan_meaning::specs::Meaning::tuple), using(crate::proofs::Meeting::meets_then, crate::proofs::Meeting::meets_stop))]
 fn tuple<N: Names>(
     alloc: Global,
     names: &N,
@@ -144,7 +144,7 @@ fn tuple<N: Names>(
 
 /// A call of a primitive.
 #[cycle(evaluated)]
-#[tactic(auto, unfolding(plan_meaning::specs::Meaning::call, plan_meaning::specs::Meaning::called))]
+#[tactic(auto, unfolding(plan_meaning::specs::Meaning::call, plan_meaning::specs::Meaning::called), using(crate::proofs::Meeting::meets_then, crate::proofs::Meeting::meets_stop, crate::proofs::Meeting::meets_given))]
 fn call<N: Names>(
     alloc: Global,
     names: &N,
@@ -165,7 +165,7 @@ fn call<N: Names>(
 }
 
 #[cycle(evaluated)]
-#[tactic(auto, unfolding(plan_meaning::specs::Meaning::choice))]
+#[tactic(auto, unfolding(plan_meaning::specs::Meaning::choice), using(crate::proofs::Meeting::meets_then, crate::proofs::Meeting::meets_stop))]
 fn choice<N: Names>(
     alloc: Global,
     names: &N,
@@ -189,7 +189,7 @@ fn choice<N: Names>(
 }
 
 #[cycle(evaluated)]
-#[tactic(auto, unfolding(plan_meaning::specs::Meaning::sequence))]
+#[tactic(auto, unfolding(plan_meaning::specs::Meaning::sequence), using(crate::proofs::Meeting::meets_then, crate::proofs::Meeting::meets_stop))]
 fn sequence<N: Names>(
     alloc: Global,
     names: &N,
@@ -207,7 +207,7 @@ fn sequence<N: Names>(
 }
 
 #[cycle(evaluated)]
-#[tactic(auto, unfolding(plan_meaning::specs::Meaning::conjunction))]
+#[tactic(auto, unfolding(plan_meaning::specs::Meaning::conjunction), using(crate::proofs::Meeting::meets_then, crate::proofs::Meeting::meets_stop))]
 fn conjunction<N: Names>(
     alloc: Global,
     names: &N,
@@ -229,7 +229,7 @@ fn conjunction<N: Names>(
 }
 
 #[cycle(evaluated)]
-#[tactic(auto, unfolding(plan_meaning::specs::Meaning::disjunction))]
+#[tactic(auto, unfolding(plan_meaning::specs::Meaning::disjunction), using(crate::proofs::Meeting::meets_then, crate::proofs::Meeting::meets_stop))]
 fn disjunction<N: Names>(
     alloc: Global,
     names: &N,
@@ -251,7 +251,7 @@ fn disjunction<N: Names>(
 }
 
 #[cycle(evaluated)]
-#[tactic(auto, unfolding(plan_meaning::specs::Meaning::negation))]
+#[tactic(auto, unfolding(plan_meaning::specs::Meaning::negation), using(crate::proofs::Meeting::meets_then, crate::proofs::Meeting::meets_stop))]
 fn negation<N: Names>(
     alloc: Global,
     names: &N,
@@ -270,7 +270,7 @@ fn negation<N: Names>(
 }
 
 #[cycle(evaluated)]
-#[tactic(auto, unfolding(plan_meaning::specs::Meaning::operation))]
+#[tactic(auto, unfolding(plan_meaning::specs::Meaning::operation), using(crate::proofs::Meeting::meets_then, crate::proofs::Meeting::meets_stop, crate::proofs::Meeting::meets_given))]
 fn operation<N: Names>(
     alloc: Global,
     names: &N,
@@ -290,7 +290,7 @@ fn operation<N: Names>(
 }
 
 #[cycle(evaluated)]
-#[tactic(auto, unfolding(plan_meaning::specs::Meaning::selection))]
+#[tactic(auto, unfolding(plan_meaning::specs::Meaning::selection), using(crate::proofs::Meeting::meets_then, crate::proofs::Meeting::meets_stop, crate::proofs::Meeting::meets_given))]
 fn selection<N: Names>(
     alloc: Global,
     names: &N,
