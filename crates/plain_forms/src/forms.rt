@@ -109,7 +109,7 @@ fn named<N: Names>(alloc: Global, names: &N, x: &Name) -> Result<Value, Stop>
 /// Values in order.
 #[cycle(evaluated)]
 #[tactic(auto, unfolding(plan_meaning::specs::Meaning::values), using(crate::proofs::Meeting::meets_then, crate::proofs::Meeting::meets_stop))]
-fn values<N: Names>(
+pub fn values<N: Names>(
     alloc: Global,
     names: &N,
     es: &[Expr],

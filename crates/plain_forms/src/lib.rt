@@ -7,6 +7,6 @@ mod forms;
 mod names;
 mod plain;
 
-pub use forms::evaluated;
+pub use forms::{evaluated, values};
 pub use names::Names;
-pub use plain::is_plain;
+pub use plain::{are_plain, is_plain};

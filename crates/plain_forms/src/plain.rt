@@ -15,6 +15,13 @@ pub fn is_plain(e: &Expr) -> bool
     room_behind(e, MOST_FORMS).is_some()
 }
 
+/// Whether expressions are plain and have at most 128 forms together.
+pub fn are_plain(es: &[Expr]) -> bool
+    ensures { IsTrue result → IsTrue (list_all is_plain es.now) }
+{
+    room_behind_all(es, MOST_FORMS).is_some()
+}
+
 /// The room that is left behind a plain expression, where it has at most `room` forms.
 #[cycle(room_behind)]
 #[tactic(auto, using(crate::proofs::PlainLaws::plain))]

@@ -216,6 +216,7 @@ fn go_on(
         Next::Open(frame) => open(outer, top, frame),
         Next::Call(fun, args) => enter_here(alloc, outer, top, Frame::Body, fun, args),
         Next::Step(fun, args, left) => enter_here(alloc, outer, top, Frame::Items(left), fun, args),
+        Next::Own(fun, args) => enter_here(alloc, outer, top, Frame::Chunk, fun, args),
         Next::Visit(chunk) => visit_chunk(alloc, codes, outer, top, chunk),
     }
 }

@@ -13,6 +13,8 @@ pub enum Next {
     Call(usize, Values),
     /// It takes a step of a fold by the function at that place; these items are left, the next one last.
     Step(usize, Values, Values),
+    /// It evaluates a chunk of its own program, which was weighed and paid and isn't made: the function at a place is entered.
+    Own(usize, Values),
     /// It evaluates a chunk, which was paid.
     Visit(Chunk),
 }

@@ -104,6 +104,12 @@ pub fn can_do(place: Place<'_>, decided: Result<Next, Stop>) -> Result<Next, Sto
             }
             Ok(Next::Step(fun, args, left))
         }
+        Ok(Next::Own(fun, args)) => {
+            if !enters(place.code, fun, &args) {
+                return Err(Stop::Wrong);
+            }
+            Ok(Next::Own(fun, args))
+        }
         Ok(Next::Give(value)) => Ok(Next::Give(value)),
         Ok(Next::Visit(chunk)) => Ok(Next::Visit(chunk)),
         Err(stop) => Err(stop),

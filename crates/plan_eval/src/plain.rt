@@ -12,8 +12,8 @@ use crate::codes::Codes;
 use crate::frame::Activation;
 use crate::place::{Place, argument_of, place_in};
 use crate::walk::value_from;
-use plain_forms::{Names, evaluated, is_plain};
-use plan_base::{Expr, Name, Value};
+use plain_forms::{Names, evaluated, is_plain, values};
+use plan_base::{Expr, Name, Value, Values};
 use plan_meaning::Stop;
 use std::alloc::Global;
 use visit_state::State;
@@ -59,6 +59,18 @@ pub fn plain_top(
         return None;
     };
     plain_part(alloc, place, top, place.expr, state)
+}
+
+/// The values of expressions below the innermost one of an activation, where all are plain.
+pub fn plain_values(
+    alloc: Global,
+    place: Place<'_>,
+    top: &Activation,
+    es: &[Expr],
+    state: &mut State,
+) -> Result<Values, Stop> {
+    let here = Here { place, top };
+    values(alloc, &here, es, state)
 }
 
 /// The value of a part of the innermost expression of an activation, or of the whole, where that is plain.
