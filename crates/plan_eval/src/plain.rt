@@ -19,6 +19,7 @@ use std::alloc::Global;
 use visit_state::State;
 
 /// Where an activation stands, as what its innermost expression sees.
+#[derive(Clone, Copy)]
 struct Here<'a> {
     place: Place<'a>,
     top: &'a Activation,
