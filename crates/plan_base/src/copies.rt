@@ -127,7 +127,7 @@ fn copy_expr(alloc: Global, e: &Expr) -> Result<Expr, NoMemory>
 #[cycle(copy_expr)]
 #[tactic(auto, using(crate::specs::Trees::trees))]
 fn copy_call(alloc: Global, f: &Name, args: &Exprs) -> Result<Expr, NoMemory>
-    ensures { IfOk result (λ f. f ≡ Expr.Call f.now args.now) }
+    ensures { IfOk result (λ copied. copied ≡ Expr.Call f.now args.now) }
 {
     Ok(Expr::Call(f.copy(alloc)?, copy_exprs(alloc, args.as_slice())?))
 }
@@ -140,7 +140,7 @@ fn copy_if(
     a: &Boxed<Expr>,
     b: &Boxed<Expr>,
 ) -> Result<Expr, NoMemory>
-    ensures { IfOk result (λ f. f ≡ Expr.If c.now a.now b.now) }
+    ensures { IfOk result (λ copied. copied ≡ Expr.If c.now a.now b.now) }
 {
     Ok(Expr::If(
         copy_boxed(alloc, c)?,
@@ -158,7 +158,7 @@ fn copy_let(
     a: &Boxed<Expr>,
     b: &Boxed<Expr>,
 ) -> Result<Expr, NoMemory>
-    ensures { IfOk result (λ f. f ≡ Expr.Let x.now t.now a.now b.now) }
+    ensures { IfOk result (λ copied. copied ≡ Expr.Let x.now t.now a.now b.now) }
 {
     Ok(Expr::Let(
         x.copy(alloc)?,
@@ -171,7 +171,7 @@ fn copy_let(
 #[cycle(copy_expr)]
 #[tactic(auto, using(crate::specs::Trees::trees))]
 fn copy_then(alloc: Global, a: &Boxed<Expr>, b: &Boxed<Expr>) -> Result<Expr, NoMemory>
-    ensures { IfOk result (λ f. f ≡ Expr.Then a.now b.now) }
+    ensures { IfOk result (λ copied. copied ≡ Expr.Then a.now b.now) }
 {
     Ok(Expr::Then(copy_boxed(alloc, a)?, copy_boxed(alloc, b)?))
 }
@@ -179,7 +179,7 @@ fn copy_then(alloc: Global, a: &Boxed<Expr>, b: &Boxed<Expr>) -> Result<Expr, No
 #[cycle(copy_expr)]
 #[tactic(auto, using(crate::specs::Trees::trees))]
 fn copy_and(alloc: Global, a: &Boxed<Expr>, b: &Boxed<Expr>) -> Result<Expr, NoMemory>
-    ensures { IfOk result (λ f. f ≡ Expr.And a.now b.now) }
+    ensures { IfOk result (λ copied. copied ≡ Expr.And a.now b.now) }
 {
     Ok(Expr::And(copy_boxed(alloc, a)?, copy_boxed(alloc, b)?))
 }
@@ -187,7 +187,7 @@ fn copy_and(alloc: Global, a: &Boxed<Expr>, b: &Boxed<Expr>) -> Result<Expr, NoM
 #[cycle(copy_expr)]
 #[tactic(auto, using(crate::specs::Trees::trees))]
 fn copy_or(alloc: Global, a: &Boxed<Expr>, b: &Boxed<Expr>) -> Result<Expr, NoMemory>
-    ensures { IfOk result (λ f. f ≡ Expr.Or a.now b.now) }
+    ensures { IfOk result (λ copied. copied ≡ Expr.Or a.now b.now) }
 {
     Ok(Expr::Or(copy_boxed(alloc, a)?, copy_boxed(alloc, b)?))
 }
@@ -195,14 +195,14 @@ fn copy_or(alloc: Global, a: &Boxed<Expr>, b: &Boxed<Expr>) -> Result<Expr, NoMe
 #[cycle(copy_expr)]
 #[tactic(auto, using(crate::specs::Trees::trees))]
 fn copy_binary(alloc: Global, op: Op, a: &Boxed<Expr>, b: &Boxed<Expr>) -> Result<Expr, NoMemory>
-    ensures { IfOk result (λ f. f ≡ Expr.Binary op a.now b.now) }
+    ensures { IfOk result (λ copied. copied ≡ Expr.Binary op a.now b.now) }
 {
     Ok(Expr::Binary(op, copy_boxed(alloc, a)?, copy_boxed(alloc, b)?))
 }
 
 #[tactic(auto, using(crate::specs::Trees::trees))]
 fn copy_raise(alloc: Global, x: &Name, t: &Option<Ty>) -> Result<Expr, NoMemory>
-    ensures { IfOk result (λ f. f ≡ Expr.Raise x.now t.now) }
+    ensures { IfOk result (λ copied. copied ≡ Expr.Raise x.now t.now) }
 {
     Ok(Expr::Raise(x.copy(alloc)?, copy_option_type(alloc, t)?))
 }
@@ -210,7 +210,7 @@ fn copy_raise(alloc: Global, x: &Name, t: &Option<Ty>) -> Result<Expr, NoMemory>
 #[cycle(copy_expr)]
 #[tactic(auto, using(crate::specs::Trees::trees))]
 fn copy_try(alloc: Global, a: &Boxed<Expr>, clauses: &Clauses) -> Result<Expr, NoMemory>
-    ensures { IfOk result (λ f. f ≡ Expr.Try a.now clauses.now) }
+    ensures { IfOk result (λ copied. copied ≡ Expr.Try a.now clauses.now) }
 {
     Ok(Expr::Try(
         copy_boxed(alloc, a)?,
@@ -221,7 +221,7 @@ fn copy_try(alloc: Global, a: &Boxed<Expr>, clauses: &Clauses) -> Result<Expr, N
 #[cycle(copy_expr)]
 #[tactic(auto, using(crate::specs::Trees::trees))]
 fn copy_foldl(alloc: Global, f: &Name, a: &Boxed<Expr>, l: &Boxed<Expr>) -> Result<Expr, NoMemory>
-    ensures { IfOk result (λ f. f ≡ Expr.Foldl f.now a.now l.now) }
+    ensures { IfOk result (λ copied. copied ≡ Expr.Foldl f.now a.now l.now) }
 {
     Ok(Expr::Foldl(f.copy(alloc)?, copy_boxed(alloc, a)?, copy_boxed(alloc, l)?))
 }
@@ -229,7 +229,7 @@ fn copy_foldl(alloc: Global, f: &Name, a: &Boxed<Expr>, l: &Boxed<Expr>) -> Resu
 #[cycle(copy_expr)]
 #[tactic(auto, using(crate::specs::Trees::trees))]
 fn copy_foldr(alloc: Global, f: &Name, a: &Boxed<Expr>, l: &Boxed<Expr>) -> Result<Expr, NoMemory>
-    ensures { IfOk result (λ f. f ≡ Expr.Foldr f.now a.now l.now) }
+    ensures { IfOk result (λ copied. copied ≡ Expr.Foldr f.now a.now l.now) }
 {
     Ok(Expr::Foldr(f.copy(alloc)?, copy_boxed(alloc, a)?, copy_boxed(alloc, l)?))
 }
@@ -237,7 +237,7 @@ fn copy_foldr(alloc: Global, f: &Name, a: &Boxed<Expr>, l: &Boxed<Expr>) -> Resu
 #[cycle(copy_expr)]
 #[tactic(auto, using(crate::specs::Trees::trees))]
 fn copy_chunk_of(alloc: Global, f: &Name, args: &Exprs) -> Result<Expr, NoMemory>
-    ensures { IfOk result (λ f. f ≡ Expr.ChunkOf f.now args.now) }
+    ensures { IfOk result (λ copied. copied ≡ Expr.ChunkOf f.now args.now) }
 {
     Ok(Expr::ChunkOf(f.copy(alloc)?, copy_exprs(alloc, args.as_slice())?))
 }
@@ -251,7 +251,7 @@ fn copy_on_remote(
     n: &Boxed<Expr>,
     r: &Name,
 ) -> Result<Expr, NoMemory>
-    ensures { IfOk result (λ f. f ≡ Expr.OnRemote c.now h.now n.now r.now) }
+    ensures { IfOk result (λ copied. copied ≡ Expr.OnRemote c.now h.now n.now r.now) }
 {
     Ok(Expr::OnRemote(
         copy_boxed(alloc, c)?,
@@ -270,7 +270,7 @@ fn copy_on_neighbor(
     n: &Boxed<Expr>,
     d: &Boxed<Expr>,
 ) -> Result<Expr, NoMemory>
-    ensures { IfOk result (λ f. f ≡ Expr.OnNeighbor c.now h.now n.now d.now) }
+    ensures { IfOk result (λ copied. copied ≡ Expr.OnNeighbor c.now h.now n.now d.now) }
 {
     Ok(Expr::OnNeighbor(
         copy_boxed(alloc, c)?,
