@@ -54,8 +54,8 @@ fn told(alloc: Global, fault: FrameFault) -> Result<Bytes, NoMemory> {
     Ok(out)
 }
 
-// Why the bytes are no frame, as it is told; nothing where they are one.
-fn refusal(alloc: Global, bytes: &[u8]) -> Result<Bytes, NoMemory> {
+/// Why the bytes are no frame, as it is told; nothing where they are one.
+pub fn refusal(alloc: Global, bytes: &[u8]) -> Result<Bytes, NoMemory> {
     match get_frame(alloc, bytes) {
         Err(fault) => told(alloc, fault),
         Ok(_) => Ok(Bytes::new(alloc)),

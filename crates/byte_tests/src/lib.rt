@@ -4,6 +4,8 @@
 #[cfg(test)]
 mod frames;
 #[cfg(test)]
+mod limits;
+#[cfg(test)]
 mod spelled;
 #[cfg(test)]
 mod told;

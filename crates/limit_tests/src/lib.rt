@@ -1,9 +1,12 @@
-//! Limits of programs, frames and chunks, each at it and one past it.
+//! What texts are refused for, limits of programs and chunks, each at it and one past it, and programs that nest as deep
+//! as they may.
 #![tactic(auto)]
 
 #[cfg(test)]
 mod files;
 #[cfg(test)]
-mod frames;
+mod nestings;
+#[cfg(test)]
+mod refusals;
 #[cfg(test)]
 mod texts;

@@ -16,17 +16,18 @@ fn told(alloc: Global, fault: TextFault) -> Result<Bytes, Fail> {
 }
 
 // What a program is refused for, or nothing.
-fn answer(alloc: Global, text: &str) -> Result<Bytes, Fail> {
+fn answer(alloc: Global, text: &[u8]) -> Result<Bytes, Fail> {
     if text.len() > 65_536 {
         return Err(Fail::from("a text that is too long"));
     }
-    match read_program(alloc, text.as_bytes()) {
+    match read_program(alloc, text) {
         Ok(_) => Ok(Bytes::new(alloc)),
         Err(fault) => told(alloc, fault),
     }
 }
 
-fn is_answered(rt: &impl Abort, alloc: Global, text: &str, wanted: &str) -> Result<(), Fail> {
+/// Checks what a program is refused for, with the byte; nothing where it is a typed program.
+pub fn is_answered(rt: &impl Abort, alloc: Global, text: &[u8], wanted: &str) -> Result<(), Fail> {
     assert_eq!(rt; answer(alloc, text)?.as_slice(), wanted.as_bytes());
     Ok(())
 }
@@ -63,10 +64,10 @@ fn all_hold(rt: &impl Abort, alloc: Global, table: &[Items]) -> Result<(), Fail>
     for items in table {
         let most = items.5;
         let (full, _) = text_of(alloc, items, most)?;
-        is_answered(rt, alloc, full.as_str(), "")?;
+        is_answered(rt, alloc, full.as_bytes(), "")?;
         let (over, last) = text_of(alloc, items, most.saturating_add(1))?;
         let refusal = format!(in alloc; "{} at {last}", items.6)?;
-        is_answered(rt, alloc, over.as_str(), refusal.as_str())?;
+        is_answered(rt, alloc, over.as_bytes(), refusal.as_str())?;
     }
     Ok(())
 }
@@ -229,9 +230,9 @@ static DEPTHS_AND_SIZES: [Times; 4] = [
 fn so_deep_and_so_large(rt: HostRuntime) -> Result<(), Fail> {
     for times in &DEPTHS_AND_SIZES {
         let full = repeated(rt.alloc(), times, times.2)?;
-        is_answered(&rt, rt.alloc(), full.as_str(), "")?;
+        is_answered(&rt, rt.alloc(), full.as_bytes(), "")?;
         let over = repeated(rt.alloc(), times, times.2.saturating_add(1))?;
-        is_answered(&rt, rt.alloc(), over.as_str(), times.4)?;
+        is_answered(&rt, rt.alloc(), over.as_bytes(), times.4)?;
     }
     Ok(())
 }
@@ -255,10 +256,10 @@ not not not not not not not not not true\n",
 fn at_most_4_096_expressions(rt: HostRuntime) -> Result<(), Fail> {
     let (front, _) = text_of(rt.alloc(), &FUNCTIONS, FUNCTIONS.5)?;
     let full = format!(in rt.alloc(); "{front}fun e() : bool = true")?;
-    is_answered(&rt, rt.alloc(), full.as_str(), "")?;
+    is_answered(&rt, rt.alloc(), full.as_bytes(), "")?;
     let over = format!(in rt.alloc(); "{front}fun e() : bool = not true")?;
     let refusal = format!(in rt.alloc(); "TooMany nodes at {}", front.len())?;
-    is_answered(&rt, rt.alloc(), over.as_str(), refusal.as_str())
+    is_answered(&rt, rt.alloc(), over.as_bytes(), refusal.as_str())
 }
 
 // Seven lists stand inside each other, and no eighth.

@@ -1,6 +1,8 @@
-//! Tables, overlays and the services of a node's packages, by worked rows.
+//! Tables, overlays, the services of a node's packages and the forms of the language, by worked rows.
 #![tactic(auto)]
 
+#[cfg(test)]
+mod forms;
 #[cfg(test)]
 mod services;
 #[cfg(test)]

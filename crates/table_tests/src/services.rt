@@ -130,7 +130,7 @@ fn visited(
 }
 
 /// A program that is visited at tick 0 on a node of its own, and what it shows.
-type Call = (&'static [u8], &'static [u8]);
+pub type Call = (&'static [u8], &'static [u8]);
 
 static CALLS: [Call; 27] = [
     (
@@ -240,7 +240,8 @@ static CALLS: [Call; 27] = [
     ),
 ];
 
-fn all_answer(rt: &impl Abort, alloc: Global, calls: &[Call]) -> Result<(), Fail> {
+/// Checks what each program shows on a node of its own.
+pub fn all_answer(rt: &impl Abort, alloc: Global, calls: &[Call]) -> Result<(), Fail> {
     for (text, expected) in calls {
         let mut registry = Registry::new(alloc, [].as_slice());
         let found = visited(rt, alloc, &mut registry, true, 0, text)?;

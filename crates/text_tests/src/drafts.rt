@@ -1,5 +1,5 @@
 use plan_base::{Limit, Ty, Value};
-use plan_lexer::{Key, Symbol, lex};
+use plan_lexer::{Key, LexFault, Symbol, lex};
 use plan_parser::{ParseFault, ValueFault, Wanted, parse, parse_args, parse_value};
 use std::alloc::Global;
 use std::test::Fail;
@@ -19,6 +19,14 @@ fn value_refused(alloc: Global, text: &[u8]) -> Option<ValueFault> {
         return None;
     }
     parse_value(alloc, text).err()
+}
+
+/// What a text is refused for as arguments.
+fn arguments_refused(alloc: Global, text: &[u8]) -> Option<ValueFault> {
+    if text.len() > 65536 {
+        return None;
+    }
+    parse_args(alloc, text).err()
 }
 
 /// A text that begins so and goes on with a part, so many times.
@@ -158,4 +166,72 @@ fn values_and_arguments_are_read(rt: HostRuntime) -> Result<(), Fail> {
         );
     }
     Ok(())
+}
+
+/// What stands before, a part that stands so many times, what stands behind, and the refusal.
+type Long = (&'static [u8], &'static [u8], u32, &'static [u8], ParseFault);
+
+// Each limit of a value's text, one past it.
+static LONG_VALUES: [Long; 3] = [
+    (
+        b"[1",
+        b",1",
+        63,
+        b"]",
+        ParseFault::TooMany(Limit::Items, 127),
+    ),
+    (b"(1", b",1", 8, b")", ParseFault::TooMany(Limit::Parts, 17)),
+    (b"[:int", b" list", 7, b"]", ParseFault::TooDeep(0)),
+];
+
+#[test]
+fn values_have_limits(rt: HostRuntime) -> Result<(), Fail> {
+    for (front, part, times, back, fault) in &LONG_VALUES {
+        let mut text = long(rt.alloc(), front, part, *times)?;
+        text.extend_from_slice(back)?;
+        assert_eq!(rt;
+            value_refused(rt.alloc(), text.as_slice()),
+            Some(ValueFault::Parse(*fault))
+        );
+    }
+    Ok(())
+}
+
+static ARGUMENTS: [(&[u8], ValueFault); 8] = [
+    (
+        b"",
+        ValueFault::Parse(ParseFault::Expected(Wanted::Symbol(Symbol::ParenOpen), 0)),
+    ),
+    (
+        b"(",
+        ValueFault::Parse(ParseFault::Expected(Wanted::Symbol(Symbol::ParenClose), 1)),
+    ),
+    (
+        b"(1 2)",
+        ValueFault::Parse(ParseFault::Expected(Wanted::Symbol(Symbol::ParenClose), 3)),
+    ),
+    (
+        b"(1, )",
+        ValueFault::Parse(ParseFault::Expected(Wanted::AValue, 4)),
+    ),
+    (
+        b"([1, true])",
+        ValueFault::Parse(ParseFault::Expected(Wanted::AValue, 5)),
+    ),
+    (
+        b"(1,2,3,4,5,6,7,8,9)",
+        ValueFault::Parse(ParseFault::TooMany(Limit::Arguments, 17)),
+    ),
+    (
+        b"([[[[[[[[1]]]]]]]])",
+        ValueFault::Parse(ParseFault::TooDeep(8)),
+    ),
+    (b"(\"a)", ValueFault::Lex(LexFault::OpenString(1))),
+];
+
+#[test]
+fn arguments_are_refused_at_their_place(rt: HostRuntime) {
+    for (text, fault) in &ARGUMENTS {
+        assert_eq!(rt; arguments_refused(rt.alloc(), text), Some(*fault));
+    }
 }

@@ -138,6 +138,66 @@ fn each_kind_is_read_up_to_its_limits(rt: HostRuntime) -> Result<(), Fail> {
     all_read(&rt, rt.alloc(), &SYMBOLS_AND_COMMENTS)
 }
 
+/// What stands before, so many times in front, so many times behind, and behind all; the beginning of its tokens, what
+/// stands there so many times, and the end.
+type Long = (
+    &'static str,
+    &'static str,
+    &'static str,
+    &'static str,
+    &'static str,
+    &'static str,
+    &'static str,
+);
+
+// A text of two parts, each 300 times, between two others.
+fn filled(alloc: Global, front: &str, part: &str, other: &str, back: &str) -> Result<String, Fail> {
+    let mut text = String::from_str(alloc, front)?;
+    for _ in 0..300u32 {
+        text.push_str(part)?;
+    }
+    for _ in 0..300u32 {
+        text.push_str(other)?;
+    }
+    text.push_str(back)?;
+    Ok(text)
+}
+
+static LONG: [Long; 11] = [
+    ("", "0", "", "7", "int 7 0-301;", "", ""),
+    ("~", "0", "", "7", "int -7 0-302;", "", ""),
+    ("@", "0", "", "7", "host 7 0-302;", "", ""),
+    ("%", "0", "", "7", "dev 7 0-302;", "", ""),
+    ("#", "0", "", "7", "part 7 0-302;", "", ""),
+    ("\"", "\u{e9}", "", "\"", "string ", "\u{e9}", " 0-602;"),
+    ("\"", "\\x41", "", "\"", "string ", "A", " 0-1202;"),
+    ("#\"00", "01", "", "\"", "blob [0", ", 1", "] 0-605;"),
+    (
+        "a",
+        " \n",
+        "\t\r",
+        "b",
+        "word a 0-1;word b 1201-1202;",
+        "",
+        "",
+    ),
+    ("(*", "\"", "'", "*)a", "word a 604-605;", "", ""),
+    ("", "(*", "*)", "a", "word a 1200-1201;", "", ""),
+];
+
+#[test]
+fn each_kind_is_read_at_a_length_of_hundreds(rt: HostRuntime) -> Result<(), Fail> {
+    for (front, part, other, back, begin, same, end) in &LONG {
+        let text = filled(rt.alloc(), front, part, other, back)?;
+        let tokens = filled(rt.alloc(), begin, same, "", end)?;
+        assert_eq!(rt;
+            shown(rt.alloc(), text.as_bytes())?.as_str(),
+            tokens.as_str()
+        );
+    }
+    Ok(())
+}
+
 /// A text and its refusal.
 type Refused = (&'static [u8], LexFault);
 

@@ -11,13 +11,21 @@ use service_registry::Registry;
 use std::alloc::Global;
 use std::test::Fail;
 
-/// The number that a visit gave, the evals that it paid, and what it left of its bound.
-fn shown(visit: &Visit) -> (Option<i64>, u32, u32) {
+/// The number that a visit gave, the evals that it paid, what it left of its bound, its packets and its notes.
+pub type Shown = (Option<i64>, u32, u32, usize, usize);
+
+fn shown(visit: &Visit) -> Shown {
     let number = match &visit.outcome {
         Outcome::Value(Value::Int(n)) => Some(*n),
         _ => None,
     };
-    (number, visit.evals, visit.left)
+    (
+        number,
+        visit.evals,
+        visit.left,
+        visit.outbox.len(),
+        visit.notes.len(),
+    )
 }
 
 /// A packet at host 1 whose chunk is the function `f` of a program.
@@ -53,7 +61,7 @@ fn around(alloc: Global, packet: &CheckedPacket) -> Ctx
 }
 
 /// What the visit of a program's function `f` shows.
-fn visited(alloc: Global, text: &[u8], bound: u32) -> Result<(Option<i64>, u32, u32), Fail>
+pub fn visited(alloc: Global, text: &[u8], bound: u32) -> Result<Shown, Fail>
     requires text { length text.now ≤ 65536 }
     requires small { bound ≤ 65535 }
 {
@@ -90,7 +98,10 @@ fn visits_give_the_worked_values(rt: HostRuntime) -> Result<(), Fail> {
             0,
         ),
     ] {
-        assert_eq!(rt; visited(rt.alloc(), text, bound)?, (number, evals, left));
+        assert_eq!(rt;
+            visited(rt.alloc(), text, bound)?,
+            (number, evals, left, 0, 0)
+        );
     }
     Ok(())
 }

@@ -1,25 +1,10 @@
-// Fields of frames at their limits: the reading goes on behind them, to the end of the bytes.
+// Fields of frames at their limits, where the reading goes on behind them to the end of the bytes; and frames whose
+// chunk is misspelled or not typed.
 
-use frame_text::put_reason;
-use packet_frame::{FrameFault, get_frame};
-use plan_base::{Bytes, NoMemory};
+use crate::frames::refusal;
 use std::alloc::Global;
 use std::process::Abort;
 use std::test::Fail;
-
-fn told(alloc: Global, fault: FrameFault) -> Result<Bytes, NoMemory> {
-    let mut out = Bytes::new(alloc);
-    put_reason(alloc, &fault, &mut out)?;
-    Ok(out)
-}
-
-// Why the bytes are no frame, as it is told; nothing where they are one.
-fn refusal(alloc: Global, bytes: &[u8]) -> Result<Bytes, NoMemory> {
-    match get_frame(alloc, bytes) {
-        Err(fault) => told(alloc, fault),
-        Ok(_) => Ok(Bytes::new(alloc)),
-    }
-}
 
 /// Bytes, and why they are no frame.
 type Refused = (&'static [u8], &'static str);
@@ -81,4 +66,50 @@ static COUNTS: [Refused; 9] = [
 #[test]
 fn counts_of_programs_in_frames(rt: HostRuntime) -> Result<(), Fail> {
     all_refused(&rt, rt.alloc(), &COUNTS)
+}
+
+// An expression of an unknown tag, an entry without a name, a string that is no UTF-8.
+static MISSPELLED: [Refused; 3] = [
+    (
+        b"PLAN\x01\x03\x00\x00\x00\x0a\x00\x00\x01\x01\x66\x00\x00\x3c\x01\x66\x00",
+        "BadTag 17",
+    ),
+    (
+        b"PLAN\x01\x03\x00\x00\x00\x0a\x00\x00\x01\x01\x66\x00\x00\x20\x00",
+        "BadName 18",
+    ),
+    (
+        b"PLAN\x01\x03\x00\x00\x00\x0a\x00\x00\x01\x01\x66\x00\x04\x24\x00\x01\xff\x01\x66\x00",
+        "BadUtf8 20",
+    ),
+];
+
+#[test]
+fn misspelled_chunks_in_frames(rt: HostRuntime) -> Result<(), Fail> {
+    all_refused(&rt, rt.alloc(), &MISSPELLED)
+}
+
+// A body of another type, an entry that isn't there, an argument too many, a second argument of another type.
+static ILL_TYPED: [Refused; 4] = [
+    (
+        b"PLAN\x01\x03\x00\x00\x00\x0a\x00\x00\x01\x01\x66\x00\x02\x20\x01\x66\x00",
+        "IllTyped Code",
+    ),
+    (
+        b"PLAN\x01\x03\x00\x00\x00\x0a\x00\x00\x01\x01\x66\x00\x00\x20\x01\x67\x00",
+        "IllTyped Entry",
+    ),
+    (
+        b"PLAN\x01\x03\x00\x00\x00\x0a\x00\x00\x01\x01\x66\x00\x00\x20\x01\x66\x01\x10",
+        "IllTyped Count",
+    ),
+    (
+        b"PLAN\x01\x03\x00\x00\x00\x0a\x00\x00\x01\x01\x66\x02\x01\x78\x00\x01\x79\x02\x00\x20\x01\x66\x02\x10\x10",
+        "IllTyped Argument 1",
+    ),
+];
+
+#[test]
+fn ill_typed_chunks_in_frames(rt: HostRuntime) -> Result<(), Fail> {
+    all_refused(&rt, rt.alloc(), &ILL_TYPED)
 }
