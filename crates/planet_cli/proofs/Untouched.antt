@@ -42,10 +42,10 @@ ask_said nothing h = absurd h
 ask_said (outside r) h = absurd h
 ask_said (says a) h = tt
 
-pub none_made : (s : Said ServeConfig) (old : List (List ℕ)) → LogsAtMost s old old
-none_made nothing old = refl
-none_made (outside r) old = refl
-none_made (says cfg) old = inl refl
+pub none_made : (s : Said ServeConfig) (old new : List (List ℕ)) → new ≡ old → LogsAtMost s old new
+none_made nothing old new is = is
+none_made (outside r) old new is = is
+none_made (says cfg) old new is = inl is
 
 -- new services have no visit open
 pub new_rests : (s : Standing) (p : Present) → s ≡ opening_standing p → IsResting s
