@@ -1,5 +1,5 @@
 -- A node that didn't begin has done a front of its run.
-use Rattle.std.proofs.Common.{◌≡◌, ℕ, List, [], inl, inr, refl, sym, subst}
+use Rattle.std.proofs.Common.{◌≡◌, ℕ, List, [], inl, inr, refl, sym, subst, arith}
 use Rattle.std.proofs.lemmas.List.{append-nil}
 use Rattle.network_plan.specs.declared.serve.ServeConfig.{ServeConfig}
 use Rattle.node_io.specs.declared.link.Arrival.{Arrival}
