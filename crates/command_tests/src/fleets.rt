@@ -1,0 +1,196 @@
+// Fleets, with each call of the children and the output failing in turn.
+
+use crate::calls::{End, NOTHING, ends, fails, front};
+use crate::objects::{Failing, NONE, Task};
+use crate::rows::{FAILED, FLEET, REPORT};
+use std::alloc::Global;
+use std::process::Abort;
+use std::test::Fail;
+
+/// A fleet whose file holds these bytes, with the statuses of its children.
+pub const fn starts(bytes: &'static [u8], statuses: &'static [u8]) -> Task {
+    Task {
+        words: &["fleet", "fleet.txt"],
+        file: "fleet.txt",
+        bytes,
+        arrivals: &[],
+        statuses,
+    }
+}
+
+/// The row's fleet ends so.
+pub const REPORTED: End<'static> = End {
+    code: 8,
+    out: REPORT,
+    note: FAILED,
+    ..NOTHING
+};
+
+const NODE_AND_REQUEST: &[u8] = b"planet fleet 1\nnode 1 a.cfg 300\nask 1 b.ask\n";
+
+#[test]
+fn a_fleet_reports_each_child(rt: HostRuntime) -> Result<(), Fail> {
+    ends(&rt, rt.alloc(), &starts(FLEET, &[0, 2]), REPORTED)
+}
+
+#[test]
+fn a_fleet_without_a_failed_child_is_done(rt: HostRuntime) -> Result<(), Fail> {
+    let end = End {
+        out: b"node @1 status 0\nnode @2 status 0\n",
+        ..NOTHING
+    };
+    ends(&rt, rt.alloc(), &starts(FLEET, &[0, 0]), end)
+}
+
+#[test]
+fn the_first_failed_child_decides(rt: HostRuntime) -> Result<(), Fail> {
+    let end = End {
+        code: 8,
+        out: b"node @1 status 3\nnode @2 status 2\n",
+        note: b"planet: node @1 failed with 3\n",
+        ..NOTHING
+    };
+    ends(&rt, rt.alloc(), &starts(FLEET, &[3, 2]), end)
+}
+
+#[test]
+fn a_fleet_may_send_a_request(rt: HostRuntime) -> Result<(), Fail> {
+    let end = End {
+        code: 8,
+        out: b"node @1 status 0\nask @1 status 5\n",
+        note: b"planet: node @1 failed with 5\n",
+        ..NOTHING
+    };
+    ends(&rt, rt.alloc(), &starts(NODE_AND_REQUEST, &[0, 5]), end)
+}
+
+/// A file that is no fleet, and the note of its refusal.
+type Refused = (&'static [u8], &'static [u8]);
+
+static REFUSED: [Refused; 4] = [
+    (b"planet fleet 2\n", b"planet: line 1: BadHeader\n"),
+    (b"planet fleet 1\n", b"planet: line 2: BadWord\n"),
+    (
+        b"planet fleet 1\nnode 1 a.cfg 0\n",
+        b"planet: line 2: BadNumber\n",
+    ),
+    (
+        b"planet fleet 1\nask 1 a.ask 3\n",
+        b"planet: line 2: BadWord\n",
+    ),
+];
+
+fn refuses(rt: &impl Abort, alloc: Global, row: &Refused) -> Result<(), Fail> {
+    let end = End {
+        code: 2,
+        note: row.1,
+        ..NOTHING
+    };
+    ends(rt, alloc, &starts(row.0, &[]), end)
+}
+
+#[test]
+fn files_that_are_no_fleet_start_nothing(rt: HostRuntime) -> Result<(), Fail> {
+    for row in &REFUSED {
+        refuses(&rt, rt.alloc(), row)?;
+    }
+    Ok(())
+}
+
+// A call of the children fails, with these lines written before; the statuses are those of both fleets in order.
+fn children_fail(
+    rt: &impl Abort,
+    alloc: Global,
+    children: &[u64],
+    statuses: &'static [u8],
+    lines: usize,
+) -> Result<(), Fail> {
+    let end = End {
+        code: 6,
+        out: front(REPORT, lines),
+        note: b"planet: spawn fault\n",
+        ..NOTHING
+    };
+    let failing = Failing { children, ..NONE };
+    fails(rt, alloc, &starts(FLEET, statuses), failing, end, REPORTED)
+}
+
+#[test]
+fn a_failing_first_start_leaves_nothing(rt: HostRuntime) -> Result<(), Fail> {
+    children_fail(&rt, rt.alloc(), &[1], &[0, 2], 0)
+}
+
+#[test]
+fn a_failing_second_start_leaves_nothing(rt: HostRuntime) -> Result<(), Fail> {
+    children_fail(&rt, rt.alloc(), &[2], &[0, 0, 2], 0)
+}
+
+#[test]
+fn a_failing_first_waiting_leaves_nothing(rt: HostRuntime) -> Result<(), Fail> {
+    children_fail(&rt, rt.alloc(), &[3], &[0, 0, 0, 2], 0)
+}
+
+#[test]
+fn a_failing_second_waiting_leaves_a_line(rt: HostRuntime) -> Result<(), Fail> {
+    children_fail(&rt, rt.alloc(), &[4], &[0, 0, 0, 2], 17)
+}
+
+// The first fleet makes three calls of the children, the last of which waits for the child that was started, so the
+// seventh call waits for the second child of the second fleet.
+#[test]
+fn a_failing_second_start_waits_for_the_first_child(rt: HostRuntime) -> Result<(), Fail> {
+    let end = End {
+        code: 6,
+        note: b"planet: spawn fault\n",
+        ..NOTHING
+    };
+    let again = End {
+        out: front(REPORT, 17),
+        ..end
+    };
+    let failing = Failing {
+        children: &[2, 7],
+        ..NONE
+    };
+    fails(
+        &rt,
+        rt.alloc(),
+        &starts(FLEET, &[0, 0, 2]),
+        failing,
+        end,
+        again,
+    )
+}
+
+#[test]
+fn a_fleet_of_two_calls_four_times(rt: HostRuntime) -> Result<(), Fail> {
+    let failing = Failing {
+        children: &[9],
+        ..NONE
+    };
+    let task = starts(FLEET, &[0, 2, 0, 2]);
+    fails(&rt, rt.alloc(), &task, failing, REPORTED, REPORTED)
+}
+
+// A push of the output fails, with these lines written before.
+fn output_fails(rt: &impl Abort, alloc: Global, at: u64, lines: usize) -> Result<(), Fail> {
+    let end = End {
+        code: 4,
+        out: front(REPORT, lines),
+        note: b"planet: write fault\n",
+        ..NOTHING
+    };
+    let out = &[at];
+    let task = starts(FLEET, &[0, 2, 0, 2]);
+    fails(rt, alloc, &task, Failing { out, ..NONE }, end, REPORTED)
+}
+
+#[test]
+fn a_failing_first_line_leaves_nothing(rt: HostRuntime) -> Result<(), Fail> {
+    output_fails(&rt, rt.alloc(), 1, 0)
+}
+
+#[test]
+fn a_failing_second_line_leaves_a_line(rt: HostRuntime) -> Result<(), Fail> {
+    output_fails(&rt, rt.alloc(), 2, 17)
+}

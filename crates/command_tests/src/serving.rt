@@ -1,0 +1,205 @@
+// A node that serves four turns, with each call of its objects failing in turn, and its log made again.
+
+use crate::calls::{End, NOTHING, ends, fails, front};
+use crate::objects::{Failing, NONE, Task};
+use crate::reads::{UNREAD, reads_fail};
+use crate::rows::{FOR_HOST_1, LOG, NODE, SENT_ON, THROUGH_HOST_1, TRACE};
+use std::alloc::Global;
+use std::process::Abort;
+use std::test::Fail;
+
+const fn serves(bytes: &'static [u8]) -> Task {
+    Task {
+        words: &["node", "node.cfg", "4"],
+        file: "node.cfg",
+        bytes,
+        arrivals: &[FOR_HOST_1, THROUGH_HOST_1, "", "ff"],
+        statuses: &[],
+    }
+}
+
+const SERVED: End<'static> = End {
+    out: TRACE,
+    sent: (1, SENT_ON),
+    log: LOG,
+    ..NOTHING
+};
+
+#[test]
+fn a_node_serves_four_turns(rt: HostRuntime) -> Result<(), Fail> {
+    ends(&rt, rt.alloc(), &serves(NODE), SERVED)
+}
+
+#[test]
+fn its_log_replays_to_its_lines(rt: HostRuntime) -> Result<(), Fail> {
+    let task = Task {
+        words: &["replay", "node.log"],
+        file: "node.log",
+        bytes: LOG,
+        arrivals: &[],
+        statuses: &[],
+    };
+    let end = End {
+        out: TRACE,
+        log: LOG,
+        ..NOTHING
+    };
+    ends(&rt, rt.alloc(), &task, end)
+}
+
+/// A call that fails, the places up to which the log and the trace are then written, and whether the frame was sent
+/// before.
+type Stop = (u64, usize, usize, bool);
+
+fn stopped(code: u8, note: &'static [u8], stop: &Stop) -> End<'static> {
+    End {
+        code,
+        note,
+        log: front(LOG, stop.1),
+        out: front(TRACE, stop.2),
+        sent: (1, if stop.3 { SENT_ON } else { "" }),
+    }
+}
+
+fn link_fails(rt: &impl Abort, alloc: Global, stop: &Stop) -> Result<(), Fail> {
+    let link = &[stop.0];
+    let end = stopped(5, b"planet: link fault\n", stop);
+    fails(
+        rt,
+        alloc,
+        &serves(NODE),
+        Failing { link, ..NONE },
+        end,
+        SERVED,
+    )
+}
+
+// The binding, two receivings, the sending, and two receivings.
+static LINK_FAULTS: [Stop; 6] = [
+    (1, 0, 0, false),
+    (2, 45, 15, false),
+    (3, 154, 63, false),
+    (4, 270, 121, false),
+    (5, 270, 121, true),
+    (6, 270, 121, true),
+];
+
+#[test]
+fn each_call_of_the_link_fails(rt: HostRuntime) -> Result<(), Fail> {
+    for stop in &LINK_FAULTS {
+        link_fails(&rt, rt.alloc(), stop)?;
+    }
+    Ok(())
+}
+
+#[test]
+fn the_reading_of_its_file_fails(rt: HostRuntime) -> Result<(), Fail> {
+    reads_fail(&rt, rt.alloc(), &serves(NODE), SERVED)
+}
+
+fn log_fails(rt: &impl Abort, alloc: Global, stop: &Stop) -> Result<(), Fail> {
+    let files = &[stop.0];
+    let end = stopped(4, b"planet: write fault\n", stop);
+    fails(
+        rt,
+        alloc,
+        &serves(NODE),
+        Failing { files, ..NONE },
+        end,
+        SERVED,
+    )
+}
+
+// The making of the log, its lines up to `events`, and the line of each step, behind the three calls of the reading.
+static LOG_FAULTS: [Stop; 6] = [
+    (4, 0, 0, false),
+    (5, 0, 0, false),
+    (6, 45, 15, false),
+    (7, 154, 63, false),
+    (8, 263, 104, false),
+    (9, 270, 121, true),
+];
+
+#[test]
+fn each_call_of_the_log_fails(rt: HostRuntime) -> Result<(), Fail> {
+    for stop in &LOG_FAULTS {
+        log_fails(&rt, rt.alloc(), stop)?;
+    }
+    Ok(())
+}
+
+fn output_fails(rt: &impl Abort, alloc: Global, stop: &Stop) -> Result<(), Fail> {
+    let out = &[stop.0];
+    let end = stopped(4, b"planet: write fault\n", stop);
+    fails(
+        rt,
+        alloc,
+        &serves(NODE),
+        Failing { out, ..NONE },
+        end,
+        SERVED,
+    )
+}
+
+// The first line, the lines of each step, and the last line.
+static OUTPUT_FAULTS: [Stop; 6] = [
+    (1, 45, 0, false),
+    (2, 154, 15, false),
+    (3, 263, 63, false),
+    (4, 270, 104, false),
+    (5, 281, 121, true),
+    (6, 281, 167, true),
+];
+
+#[test]
+fn each_push_of_the_output_fails(rt: HostRuntime) -> Result<(), Fail> {
+    for stop in &OUTPUT_FAULTS {
+        output_fails(&rt, rt.alloc(), stop)?;
+    }
+    Ok(())
+}
+
+// The tenth call of the files is the first one of the next run.
+#[test]
+fn behind_the_last_call_nothing_fails(rt: HostRuntime) -> Result<(), Fail> {
+    let failing = Failing {
+        files: &[10],
+        link: &[7],
+        out: &[7],
+        ..NONE
+    };
+    let again = End { log: LOG, ..UNREAD };
+    fails(&rt, rt.alloc(), &serves(NODE), failing, SERVED, again)
+}
+
+/// A file that is no configuration, and the note of its refusal.
+type Refused = (&'static [u8], &'static [u8]);
+
+static REFUSED: [Refused; 3] = [
+    (b"planet node 2\n", b"planet: line 1: BadHeader\n"),
+    (
+        b"planet node 1\nhost 1\nhosts 2\n",
+        b"planet: line 3: BadArgument\n",
+    ),
+    (
+        b"planet node 1\nhost 1\nhosts 1\nport 0\n",
+        b"planet: line 4: BadNumber\n",
+    ),
+];
+
+fn refuses(rt: &impl Abort, alloc: Global, row: &Refused) -> Result<(), Fail> {
+    let end = End {
+        code: 2,
+        note: row.1,
+        ..NOTHING
+    };
+    ends(rt, alloc, &serves(row.0), end)
+}
+
+#[test]
+fn files_that_are_no_configuration_make_and_send_nothing(rt: HostRuntime) -> Result<(), Fail> {
+    for row in &REFUSED {
+        refuses(&rt, rt.alloc(), row)?;
+    }
+    Ok(())
+}
