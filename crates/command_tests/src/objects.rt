@@ -10,14 +10,14 @@ use planet_cli::planet;
 use std::alloc::Global;
 use std::test::Fail;
 
-/// A call: its words, its one file with what that holds, what arrives on device 1, in hex and with nothing for a turn
-/// without a frame, and the statuses of its children.
+/// A call: its words, its one file with what that holds, the frames that arrive, each with its device and in hex, with
+/// nothing for a turn without a frame, and the statuses of its children.
 #[derive(Clone, Copy)]
 pub struct Task {
     pub words: &'static [&'static str],
     pub file: &'static str,
     pub bytes: &'static [u8],
-    pub arrivals: &'static [&'static str],
+    pub arrivals: &'static [(u32, &'static str)],
     pub statuses: &'static [u8],
 }
 
@@ -67,17 +67,17 @@ fn calls(alloc: Global, numbers: &[u64]) -> Result<Calls, Fail> {
     Ok(Calls::from_slice(alloc, numbers)?)
 }
 
-fn arrival(alloc: Global, frame: &str) -> Result<Arrival, Fail> {
+fn arrival(alloc: Global, dev: u32, frame: &str) -> Result<Arrival, Fail> {
     if frame.is_empty() {
         return Ok(Arrival::Quiet);
     }
-    Ok(Arrival::On(Dev(1), bytes(alloc, frame)?))
+    Ok(Arrival::On(Dev(dev), bytes(alloc, frame)?))
 }
 
-fn arrivals(alloc: Global, frames: &[&str]) -> Result<Arrivals, Fail> {
+fn arrivals(alloc: Global, frames: &[(u32, &str)]) -> Result<Arrivals, Fail> {
     let mut script = Arrivals::new(alloc);
     for frame in frames {
-        script.add(arrival(alloc, frame)?)?;
+        script.add(arrival(alloc, frame.0, frame.1)?)?;
     }
     Ok(script)
 }
@@ -107,7 +107,7 @@ fn children(alloc: Global, statuses: &[u8], fails: &[u64]) -> Result<MemSpawner,
     Ok(MemSpawner::new(alloc, statuses, calls(alloc, fails)?)?)
 }
 
-fn link(alloc: Global, frames: &[&str], fails: &[u64]) -> Result<MemLink, Fail> {
+fn link(alloc: Global, frames: &[(u32, &str)], fails: &[u64]) -> Result<MemLink, Fail> {
     let script = arrivals(alloc, frames)?;
     Ok(MemLink::new(alloc, script, calls(alloc, fails)?)?)
 }

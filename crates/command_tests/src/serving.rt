@@ -3,7 +3,10 @@
 use crate::calls::{End, NOTHING, ends, fails, front};
 use crate::objects::{Failing, NONE, Task};
 use crate::reads::{UNREAD, reads_fail};
-use crate::rows::{FOR_HOST_1, LOG, NODE, SENT_ON, THROUGH_HOST_1, TRACE};
+use crate::rows::{
+    ALONE, ASK, ASK_LOG, ASK_TRACE, FOR_HOST_1, LOG, NODE, PART, PART_LOG, PART_TRACE, PING,
+    SENDER, SENDER_LOG, SENDER_TRACE, SENT_ON, THROUGH_HOST_1, TRACE,
+};
 use std::alloc::Global;
 use std::process::Abort;
 use std::test::Fail;
@@ -13,7 +16,17 @@ const fn serves(bytes: &'static [u8]) -> Task {
         words: &["node", "node.cfg", "4"],
         file: "node.cfg",
         bytes,
-        arrivals: &[FOR_HOST_1, THROUGH_HOST_1, "", "ff"],
+        arrivals: &[(1, FOR_HOST_1), (1, THROUGH_HOST_1), (1, ""), (1, "ff")],
+        statuses: &[],
+    }
+}
+
+const fn serves_once(bytes: &'static [u8], arrivals: &'static [(u32, &'static str)]) -> Task {
+    Task {
+        words: &["node", "node.cfg", "1"],
+        file: "node.cfg",
+        bytes,
+        arrivals,
         statuses: &[],
     }
 }
@@ -45,6 +58,37 @@ fn its_log_replays_to_its_lines(rt: HostRuntime) -> Result<(), Fail> {
         ..NOTHING
     };
     ends(&rt, rt.alloc(), &task, end)
+}
+
+#[test]
+fn a_node_pings_its_neighbour(rt: HostRuntime) -> Result<(), Fail> {
+    let end = End {
+        out: SENDER_TRACE,
+        sent: (1, PING),
+        log: SENDER_LOG,
+        ..NOTHING
+    };
+    ends(&rt, rt.alloc(), &serves_once(SENDER, &[]), end)
+}
+
+#[test]
+fn a_node_takes_an_ask_of_its_owner(rt: HostRuntime) -> Result<(), Fail> {
+    let end = End {
+        out: ASK_TRACE,
+        log: ASK_LOG,
+        ..NOTHING
+    };
+    ends(&rt, rt.alloc(), &serves_once(NODE, &[(0, ASK)]), end)
+}
+
+#[test]
+fn a_node_delivers_a_part_to_a_port(rt: HostRuntime) -> Result<(), Fail> {
+    let end = End {
+        out: PART_TRACE,
+        log: PART_LOG,
+        ..NOTHING
+    };
+    ends(&rt, rt.alloc(), &serves_once(ALONE, &[(0, PART)]), end)
 }
 
 /// A call that fails, the places up to which the log and the trace are then written, and whether the frame was sent
