@@ -8,7 +8,7 @@ use std::process::Abort;
 use std::test::Fail;
 
 /// A fleet whose file holds these bytes, with the statuses of its children.
-pub const fn starts(bytes: &'static [u8], statuses: &'static [u8]) -> Task {
+pub fn starts(bytes: &'static [u8], statuses: &'static [u8]) -> Task {
     Task {
         words: &["fleet", "fleet.txt"],
         file: "fleet.txt",

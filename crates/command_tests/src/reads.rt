@@ -35,7 +35,7 @@ pub fn reads_fail(rt: &impl Abort, alloc: Global, task: &Task, whole: End<'_>) -
     Ok(())
 }
 
-const fn reads(words: &'static [&'static str], bytes: &'static [u8]) -> Task {
+fn reads(words: &'static [&'static str], bytes: &'static [u8]) -> Task {
     Task {
         words,
         file: "file.txt",

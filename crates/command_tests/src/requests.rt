@@ -8,7 +8,7 @@ use std::process::Abort;
 use std::test::Fail;
 
 /// A request whose file holds these bytes.
-pub const fn asks(bytes: &'static [u8]) -> Task {
+pub fn asks(bytes: &'static [u8]) -> Task {
     Task {
         words: &["inject", "ask.txt"],
         file: "ask.txt",

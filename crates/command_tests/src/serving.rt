@@ -11,7 +11,7 @@ use std::alloc::Global;
 use std::process::Abort;
 use std::test::Fail;
 
-const fn serves(bytes: &'static [u8]) -> Task {
+fn serves(bytes: &'static [u8]) -> Task {
     Task {
         words: &["node", "node.cfg", "4"],
         file: "node.cfg",
@@ -21,7 +21,7 @@ const fn serves(bytes: &'static [u8]) -> Task {
     }
 }
 
-const fn serves_once(bytes: &'static [u8], arrivals: &'static [(u32, &'static str)]) -> Task {
+fn serves_once(bytes: &'static [u8], arrivals: &'static [(u32, &'static str)]) -> Task {
     Task {
         words: &["node", "node.cfg", "1"],
         file: "node.cfg",
@@ -105,17 +105,15 @@ fn stopped(code: u8, note: &'static [u8], stop: &Stop) -> End<'static> {
     }
 }
 
+// The node ends so where these calls fail, and afterwards it serves whole.
+fn stops(rt: &impl Abort, alloc: Global, failing: Failing<'_>, end: End<'_>) -> Result<(), Fail> {
+    fails(rt, alloc, &serves(NODE), failing, end, SERVED)
+}
+
 fn link_fails(rt: &impl Abort, alloc: Global, stop: &Stop) -> Result<(), Fail> {
     let link = &[stop.0];
     let end = stopped(5, b"planet: link fault\n", stop);
-    fails(
-        rt,
-        alloc,
-        &serves(NODE),
-        Failing { link, ..NONE },
-        end,
-        SERVED,
-    )
+    stops(rt, alloc, Failing { link, ..NONE }, end)
 }
 
 // The binding, two receivings, the sending, and two receivings.
@@ -144,14 +142,7 @@ fn the_reading_of_its_file_fails(rt: HostRuntime) -> Result<(), Fail> {
 fn log_fails(rt: &impl Abort, alloc: Global, stop: &Stop) -> Result<(), Fail> {
     let files = &[stop.0];
     let end = stopped(4, b"planet: write fault\n", stop);
-    fails(
-        rt,
-        alloc,
-        &serves(NODE),
-        Failing { files, ..NONE },
-        end,
-        SERVED,
-    )
+    stops(rt, alloc, Failing { files, ..NONE }, end)
 }
 
 // The making of the log, its lines up to `events`, and the line of each step, behind the three calls of the reading.
@@ -175,14 +166,7 @@ fn each_call_of_the_log_fails(rt: HostRuntime) -> Result<(), Fail> {
 fn output_fails(rt: &impl Abort, alloc: Global, stop: &Stop) -> Result<(), Fail> {
     let out = &[stop.0];
     let end = stopped(4, b"planet: write fault\n", stop);
-    fails(
-        rt,
-        alloc,
-        &serves(NODE),
-        Failing { out, ..NONE },
-        end,
-        SERVED,
-    )
+    stops(rt, alloc, Failing { out, ..NONE }, end)
 }
 
 // The first line, the lines of each step, and the last line.
