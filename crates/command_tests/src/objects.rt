@@ -5,10 +5,9 @@ use node_io::{
     Arrival, Arrivals, Calls, FileList, MemClock, MemFiles, MemLink, MemSink, MemSpawner, Moments,
     Statuses,
 };
-use plan_base::{Bytes, Dev, Text, Texts};
+use plan_base::{Bytes, Dev, NoMemory, Text, Texts};
 use planet_cli::planet;
 use std::alloc::Global;
-use std::test::Fail;
 
 /// A call: its words, its one file with what that holds, the frames that arrive, each with its device and in hex, with
 /// nothing for a turn without a frame, and the statuses of its children.
@@ -54,27 +53,30 @@ pub struct Streams {
     pub notes: MemSink,
 }
 
-fn text(alloc: Global, of: &str) -> Result<Text, Fail> {
+fn text(alloc: Global, of: &str) -> Result<Text, NoMemory> {
     Ok(Text::of(Vec::from_slice(alloc, of.as_bytes())?))
 }
 
-/// The bytes that are written so.
-pub fn bytes(alloc: Global, hex: &str) -> Result<Bytes, Fail> {
-    Ok(Bytes::of(decode(alloc, hex)?))
+/// The bytes that are written so. What isn't hex ends a test as want of memory does.
+pub fn bytes(alloc: Global, hex: &str) -> Result<Bytes, NoMemory> {
+    match decode(alloc, hex) {
+        Ok(bytes) => Ok(Bytes::of(bytes)),
+        Err(_) => Err(NoMemory),
+    }
 }
 
-fn calls(alloc: Global, numbers: &[u64]) -> Result<Calls, Fail> {
+fn calls(alloc: Global, numbers: &[u64]) -> Result<Calls, NoMemory> {
     Ok(Calls::from_slice(alloc, numbers)?)
 }
 
-fn arrival(alloc: Global, dev: u32, frame: &str) -> Result<Arrival, Fail> {
+fn arrival(alloc: Global, dev: u32, frame: &str) -> Result<Arrival, NoMemory> {
     if frame.is_empty() {
         return Ok(Arrival::Quiet);
     }
     Ok(Arrival::On(Dev(dev), bytes(alloc, frame)?))
 }
 
-fn arrivals(alloc: Global, frames: &[(u32, &str)]) -> Result<Arrivals, Fail> {
+fn arrivals(alloc: Global, frames: &[(u32, &str)]) -> Result<Arrivals, NoMemory> {
     let mut script = Arrivals::new(alloc);
     for frame in frames {
         script.add(arrival(alloc, frame.0, frame.1)?)?;
@@ -82,7 +84,7 @@ fn arrivals(alloc: Global, frames: &[(u32, &str)]) -> Result<Arrivals, Fail> {
     Ok(script)
 }
 
-fn words_of(alloc: Global, all: &[&str]) -> Result<Texts, Fail> {
+fn words_of(alloc: Global, all: &[&str]) -> Result<Texts, NoMemory> {
     let mut words = Texts::new(alloc);
     for word in all {
         words.add(text(alloc, word)?)?;
@@ -90,34 +92,39 @@ fn words_of(alloc: Global, all: &[&str]) -> Result<Texts, Fail> {
     Ok(words)
 }
 
-fn entry(alloc: Global, name: &str, bytes: &[u8]) -> Result<(Text, Bytes), Fail> {
+fn entry(alloc: Global, name: &str, bytes: &[u8]) -> Result<(Text, Bytes), NoMemory> {
     let name = text(alloc, name)?;
     Ok((name, Bytes::of(Vec::from_slice(alloc, bytes)?)))
 }
 
 /// One file, and the calls of it that fail.
-pub fn one_file(alloc: Global, name: &str, bytes: &[u8], fails: &[u64]) -> Result<MemFiles, Fail> {
+pub fn one_file(
+    alloc: Global,
+    name: &str,
+    bytes: &[u8],
+    fails: &[u64],
+) -> Result<MemFiles, NoMemory> {
     let mut files = FileList::new(alloc);
     files.add(entry(alloc, name, bytes)?)?;
-    Ok(MemFiles::new(alloc, files, calls(alloc, fails)?)?)
+    MemFiles::new(alloc, files, calls(alloc, fails)?)
 }
 
-fn children(alloc: Global, statuses: &[u8], fails: &[u64]) -> Result<MemSpawner, Fail> {
+fn children(alloc: Global, statuses: &[u8], fails: &[u64]) -> Result<MemSpawner, NoMemory> {
     let statuses = Statuses::from_slice(alloc, statuses)?;
-    Ok(MemSpawner::new(alloc, statuses, calls(alloc, fails)?)?)
+    MemSpawner::new(alloc, statuses, calls(alloc, fails)?)
 }
 
-fn link(alloc: Global, frames: &[(u32, &str)], fails: &[u64]) -> Result<MemLink, Fail> {
+fn link(alloc: Global, frames: &[(u32, &str)], fails: &[u64]) -> Result<MemLink, NoMemory> {
     let script = arrivals(alloc, frames)?;
-    Ok(MemLink::new(alloc, script, calls(alloc, fails)?)?)
+    MemLink::new(alloc, script, calls(alloc, fails)?)
 }
 
-fn sink(alloc: Global, fails: &[u64]) -> Result<MemSink, Fail> {
-    Ok(MemSink::new(alloc, calls(alloc, fails)?)?)
+fn sink(alloc: Global, fails: &[u64]) -> Result<MemSink, NoMemory> {
+    MemSink::new(alloc, calls(alloc, fails)?)
 }
 
 /// The file and the children of a task, and a clock that always says 0.
-pub fn machine(alloc: Global, task: &Task, fails: Failing<'_>) -> Result<Machine, Fail> {
+pub fn machine(alloc: Global, task: &Task, fails: Failing<'_>) -> Result<Machine, NoMemory> {
     let clock = MemClock::new(alloc, Moments::new(alloc))?;
     let files = one_file(alloc, task.file, task.bytes, fails.files)?;
     let children = children(alloc, task.statuses, fails.children)?;
@@ -129,7 +136,7 @@ pub fn machine(alloc: Global, task: &Task, fails: Failing<'_>) -> Result<Machine
 }
 
 /// A link with the arrivals of a task, and an output and notes without a byte.
-pub fn streams(alloc: Global, task: &Task, fails: Failing<'_>) -> Result<Streams, Fail> {
+pub fn streams(alloc: Global, task: &Task, fails: Failing<'_>) -> Result<Streams, NoMemory> {
     let out = sink(alloc, fails.out)?;
     let notes = sink(alloc, &[])?;
     let link = link(alloc, task.arrivals, fails.link)?;
@@ -156,7 +163,7 @@ pub fn code(
     words: &[&str],
     machine: &mut Machine,
     streams: &mut Streams,
-) -> Result<u8, Fail> {
+) -> Result<u8, NoMemory> {
     let words = words_of(alloc, words)?;
     Ok(planet_code(alloc, &words, machine, streams))
 }
