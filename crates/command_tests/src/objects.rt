@@ -126,8 +126,8 @@ fn sink(alloc: Global, fails: &[u64]) -> Result<MemSink, NoMemory> {
 /// The file and the children of a task, and a clock that always says 0.
 pub fn machine(alloc: Global, task: &Task, fails: Failing<'_>) -> Result<Machine, NoMemory> {
     let clock = MemClock::new(alloc, Moments::new(alloc))?;
-    let files = one_file(alloc, task.file, task.bytes, fails.files)?;
     let children = children(alloc, task.statuses, fails.children)?;
+    let files = one_file(alloc, task.file, task.bytes, fails.files)?;
     Ok(Machine {
         files,
         clock,
