@@ -1,6 +1,6 @@
 // How calls end.
 
-use crate::objects::{Failing, Machine, NONE, Streams, Task, bytes, code, machine, streams};
+use crate::objects::{Failing, Machine, NONE, Streams, Task, bytes, code, machine_of, streams_of};
 use plan_base::{Bytes, Dev};
 use std::alloc::Global;
 use std::process::Abort;
@@ -107,7 +107,7 @@ fn ends_on(
     fails: Failing<'_>,
     end: End<'_>,
 ) -> Result<(), Fail> {
-    let mut streams = streams(alloc, task, fails)?;
+    let mut streams = streams_of(alloc, task, fails)?;
     ends_over(rt, alloc, task, machine, &mut streams, end)
 }
 
@@ -127,7 +127,7 @@ fn ends_twice(
 
 /// A task ends so where no call fails.
 pub fn ends(rt: &impl Abort, alloc: Global, task: &Task, end: End<'_>) -> Result<(), Fail> {
-    let mut machine = machine(alloc, task, NONE)?;
+    let mut machine = machine_of(alloc, task, NONE)?;
     ends_on(rt, alloc, task, &mut machine, NONE, end)
 }
 
@@ -140,6 +140,6 @@ pub fn fails(
     end: End<'_>,
     whole: End<'_>,
 ) -> Result<(), Fail> {
-    let mut machine = machine(alloc, task, fails)?;
+    let mut machine = machine_of(alloc, task, fails)?;
     ends_twice(rt, alloc, task, &mut machine, fails, end, whole)
 }

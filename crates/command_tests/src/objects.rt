@@ -124,7 +124,7 @@ fn sink(alloc: Global, fails: &[u64]) -> Result<MemSink, NoMemory> {
 }
 
 /// The file and the children of a task, and a clock that always says 0.
-pub fn machine(alloc: Global, task: &Task, fails: Failing<'_>) -> Result<Machine, NoMemory> {
+pub fn machine_of(alloc: Global, task: &Task, fails: Failing<'_>) -> Result<Machine, NoMemory> {
     let clock = MemClock::new(alloc, Moments::new(alloc))?;
     let children = children(alloc, task.statuses, fails.children)?;
     let files = one_file(alloc, task.file, task.bytes, fails.files)?;
@@ -136,7 +136,7 @@ pub fn machine(alloc: Global, task: &Task, fails: Failing<'_>) -> Result<Machine
 }
 
 /// A link with the arrivals of a task, and an output and notes without a byte.
-pub fn streams(alloc: Global, task: &Task, fails: Failing<'_>) -> Result<Streams, NoMemory> {
+pub fn streams_of(alloc: Global, task: &Task, fails: Failing<'_>) -> Result<Streams, NoMemory> {
     let out = sink(alloc, fails.out)?;
     let notes = sink(alloc, &[])?;
     let link = link(alloc, task.arrivals, fails.link)?;
