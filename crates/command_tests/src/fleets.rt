@@ -28,40 +28,51 @@ pub const REPORTED: End<'static> = End {
 
 const NODE_AND_REQUEST: &[u8] = b"planet fleet 1\nnode 1 a.cfg 300\nask 1 b.ask\n";
 
-#[test]
-fn a_fleet_reports_each_child(rt: HostRuntime) -> Result<(), Fail> {
-    ends(&rt, rt.alloc(), &starts(FLEET, &[0, 2]), REPORTED)
+/// A fleet, the statuses of its children, and how it ends.
+type Ended = (&'static [u8], &'static [u8], End<'static>);
+
+static ENDED: [Ended; 4] = [
+    (FLEET, &[0, 2], REPORTED),
+    (
+        FLEET,
+        &[0, 0],
+        End {
+            out: b"node @1 status 0\nnode @2 status 0\n",
+            ..NOTHING
+        },
+    ),
+    (
+        FLEET,
+        &[3, 2],
+        End {
+            code: 8,
+            out: b"node @1 status 3\nnode @2 status 2\n",
+            note: b"planet: node @1 failed with 3\n",
+            ..NOTHING
+        },
+    ),
+    (
+        NODE_AND_REQUEST,
+        &[0, 5],
+        End {
+            code: 8,
+            out: b"node @1 status 0\nask @1 status 5\n",
+            note: b"planet: node @1 failed with 5\n",
+            ..NOTHING
+        },
+    ),
+];
+
+fn reports(rt: &impl Abort, alloc: Global, row: &Ended) -> Result<(), Fail> {
+    ends(rt, alloc, &starts(row.0, row.1), row.2)
 }
 
 #[test]
-fn a_fleet_without_a_failed_child_is_done(rt: HostRuntime) -> Result<(), Fail> {
-    let end = End {
-        out: b"node @1 status 0\nnode @2 status 0\n",
-        ..NOTHING
-    };
-    ends(&rt, rt.alloc(), &starts(FLEET, &[0, 0]), end)
-}
-
-#[test]
-fn the_first_failed_child_decides(rt: HostRuntime) -> Result<(), Fail> {
-    let end = End {
-        code: 8,
-        out: b"node @1 status 3\nnode @2 status 2\n",
-        note: b"planet: node @1 failed with 3\n",
-        ..NOTHING
-    };
-    ends(&rt, rt.alloc(), &starts(FLEET, &[3, 2]), end)
-}
-
-#[test]
-fn a_fleet_may_send_a_request(rt: HostRuntime) -> Result<(), Fail> {
-    let end = End {
-        code: 8,
-        out: b"node @1 status 0\nask @1 status 5\n",
-        note: b"planet: node @1 failed with 5\n",
-        ..NOTHING
-    };
-    ends(&rt, rt.alloc(), &starts(NODE_AND_REQUEST, &[0, 5]), end)
+fn fleets_report_each_child_and_the_first_failed_one_decides(rt: HostRuntime) -> Result<(), Fail> {
+    for row in &ENDED {
+        reports(&rt, rt.alloc(), row)?;
+    }
+    Ok(())
 }
 
 /// A file that is no fleet, and the note of its refusal.
@@ -97,42 +108,35 @@ fn files_that_are_no_fleet_start_nothing(rt: HostRuntime) -> Result<(), Fail> {
     Ok(())
 }
 
-// A call of the children fails, with these lines written before; the statuses are those of both fleets in order.
-fn children_fail(
-    rt: &impl Abort,
-    alloc: Global,
-    children: &[u64],
-    statuses: &'static [u8],
-    lines: usize,
-) -> Result<(), Fail> {
+/// A call that fails, the statuses of this fleet's children and of the next one's, and how many bytes are written before.
+type Failed = (u64, &'static [u8], usize);
+
+fn children_fail(rt: &impl Abort, alloc: Global, row: &Failed) -> Result<(), Fail> {
     let end = End {
         code: 6,
-        out: front(REPORT, lines),
+        out: front(REPORT, row.2),
         note: b"planet: spawn fault\n",
         ..NOTHING
     };
+    let children = &[row.0];
     let failing = Failing { children, ..NONE };
-    fails(rt, alloc, &starts(FLEET, statuses), failing, end, REPORTED)
+    fails(rt, alloc, &starts(FLEET, row.1), failing, end, REPORTED)
 }
 
-#[test]
-fn a_failing_first_start_leaves_nothing(rt: HostRuntime) -> Result<(), Fail> {
-    children_fail(&rt, rt.alloc(), &[1], &[0, 2], 0)
-}
+// Two starts, and two waitings.
+static CHILD_FAULTS: [Failed; 4] = [
+    (1, &[0, 2], 0),
+    (2, &[0, 0, 2], 0),
+    (3, &[0, 0, 0, 2], 0),
+    (4, &[0, 0, 0, 2], 17),
+];
 
 #[test]
-fn a_failing_second_start_leaves_nothing(rt: HostRuntime) -> Result<(), Fail> {
-    children_fail(&rt, rt.alloc(), &[2], &[0, 0, 2], 0)
-}
-
-#[test]
-fn a_failing_first_waiting_leaves_nothing(rt: HostRuntime) -> Result<(), Fail> {
-    children_fail(&rt, rt.alloc(), &[3], &[0, 0, 0, 2], 0)
-}
-
-#[test]
-fn a_failing_second_waiting_leaves_a_line(rt: HostRuntime) -> Result<(), Fail> {
-    children_fail(&rt, rt.alloc(), &[4], &[0, 0, 0, 2], 17)
+fn each_call_of_the_children_fails(rt: HostRuntime) -> Result<(), Fail> {
+    for row in &CHILD_FAULTS {
+        children_fail(&rt, rt.alloc(), row)?;
+    }
+    Ok(())
 }
 
 // The first fleet makes three calls of the children, the last of which waits for the child that was started, so the
@@ -172,25 +176,24 @@ fn a_fleet_of_two_calls_four_times(rt: HostRuntime) -> Result<(), Fail> {
     fails(&rt, rt.alloc(), &task, failing, REPORTED, REPORTED)
 }
 
-// A push of the output fails, with these lines written before.
-fn output_fails(rt: &impl Abort, alloc: Global, at: u64, lines: usize) -> Result<(), Fail> {
+fn output_fails(rt: &impl Abort, alloc: Global, row: &Failed) -> Result<(), Fail> {
     let end = End {
         code: 4,
-        out: front(REPORT, lines),
+        out: front(REPORT, row.2),
         note: b"planet: write fault\n",
         ..NOTHING
     };
-    let out = &[at];
-    let task = starts(FLEET, &[0, 2, 0, 2]);
-    fails(rt, alloc, &task, Failing { out, ..NONE }, end, REPORTED)
+    let out = &[row.0];
+    let failing = Failing { out, ..NONE };
+    fails(rt, alloc, &starts(FLEET, row.1), failing, end, REPORTED)
 }
 
-#[test]
-fn a_failing_first_line_leaves_nothing(rt: HostRuntime) -> Result<(), Fail> {
-    output_fails(&rt, rt.alloc(), 1, 0)
-}
+static OUTPUT_FAULTS: [Failed; 2] = [(1, &[0, 2, 0, 2], 0), (2, &[0, 2, 0, 2], 17)];
 
 #[test]
-fn a_failing_second_line_leaves_a_line(rt: HostRuntime) -> Result<(), Fail> {
-    output_fails(&rt, rt.alloc(), 2, 17)
+fn each_push_of_the_output_fails(rt: HostRuntime) -> Result<(), Fail> {
+    for row in &OUTPUT_FAULTS {
+        output_fails(&rt, rt.alloc(), row)?;
+    }
+    Ok(())
 }

@@ -45,42 +45,31 @@ fn reads(words: &'static [&'static str], bytes: &'static [u8]) -> Task {
     }
 }
 
-#[test]
-fn a_program_that_is_not_read(rt: HostRuntime) -> Result<(), Fail> {
-    let task = reads(&["check", "file.txt"], PROGRAM);
-    let whole = End {
-        out: SIZES,
-        ..NOTHING
-    };
-    reads_fail(&rt, rt.alloc(), &task, whole)
+fn writes(out: &'static [u8]) -> End<'static> {
+    End { out, ..NOTHING }
 }
 
 #[test]
-fn a_frame_that_is_not_read(rt: HostRuntime) -> Result<(), Fail> {
-    let task = reads(&["show", "file.txt"], FRAME);
-    let whole = End {
-        out: SHOWN,
-        ..NOTHING
-    };
-    reads_fail(&rt, rt.alloc(), &task, whole)
-}
-
-#[test]
-fn a_log_that_is_not_read(rt: HostRuntime) -> Result<(), Fail> {
-    let task = reads(&["replay", "file.txt"], LOG);
-    let whole = End {
-        out: TRACE,
-        ..NOTHING
-    };
-    reads_fail(&rt, rt.alloc(), &task, whole)
-}
-
-#[test]
-fn a_request_that_is_not_read(rt: HostRuntime) -> Result<(), Fail> {
-    reads_fail(&rt, rt.alloc(), &asks(REQUEST), SENT)
-}
-
-#[test]
-fn a_fleet_that_is_not_read(rt: HostRuntime) -> Result<(), Fail> {
-    reads_fail(&rt, rt.alloc(), &starts(FLEET, &[0, 2]), REPORTED)
+fn each_call_of_the_reading_fails(rt: HostRuntime) -> Result<(), Fail> {
+    let alloc = rt.alloc();
+    reads_fail(
+        &rt,
+        alloc,
+        &reads(&["check", "file.txt"], PROGRAM),
+        writes(SIZES),
+    )?;
+    reads_fail(
+        &rt,
+        alloc,
+        &reads(&["show", "file.txt"], FRAME),
+        writes(SHOWN),
+    )?;
+    reads_fail(
+        &rt,
+        alloc,
+        &reads(&["replay", "file.txt"], LOG),
+        writes(TRACE),
+    )?;
+    reads_fail(&rt, alloc, &asks(REQUEST), SENT)?;
+    reads_fail(&rt, alloc, &starts(FLEET, &[0, 2]), REPORTED)
 }

@@ -44,53 +44,40 @@ fn a_request_is_sent_once(rt: HostRuntime) -> Result<(), Fail> {
     ends(&rt, rt.alloc(), &asks(REQUEST), SENT)
 }
 
-fn link_fails(rt: &impl Abort, alloc: Global, at: u64, end: End<'_>) -> Result<(), Fail> {
-    let link = &[at];
-    fails(
-        rt,
-        alloc,
-        &asks(REQUEST),
-        Failing { link, ..NONE },
-        end,
-        SENT,
-    )
+/// A call that fails, and how the request then ends.
+type Failed = (u64, End<'static>);
+
+fn link_fails(rt: &impl Abort, alloc: Global, row: &Failed) -> Result<(), Fail> {
+    let link = &[row.0];
+    let failing = Failing { link, ..NONE };
+    fails(rt, alloc, &asks(REQUEST), failing, row.1, SENT)
 }
+
+// The binding and the sending.
+static LINK_FAULTS: [Failed; 3] = [(1, NO_LINK), (2, NO_LINK), (3, SENT)];
 
 #[test]
-fn a_failing_binding_leaves_nothing(rt: HostRuntime) -> Result<(), Fail> {
-    link_fails(&rt, rt.alloc(), 1, NO_LINK)
+fn each_call_of_the_link_fails(rt: HostRuntime) -> Result<(), Fail> {
+    for row in &LINK_FAULTS {
+        link_fails(&rt, rt.alloc(), row)?;
+    }
+    Ok(())
 }
+
+fn output_fails(rt: &impl Abort, alloc: Global, row: &Failed) -> Result<(), Fail> {
+    let out = &[row.0];
+    let failing = Failing { out, ..NONE };
+    fails(rt, alloc, &asks(REQUEST), failing, row.1, SENT)
+}
+
+static OUTPUT_FAULTS: [Failed; 2] = [(1, NO_LINE), (2, SENT)];
 
 #[test]
-fn a_failing_sending_leaves_nothing(rt: HostRuntime) -> Result<(), Fail> {
-    link_fails(&rt, rt.alloc(), 2, NO_LINK)
-}
-
-#[test]
-fn a_request_calls_the_link_twice(rt: HostRuntime) -> Result<(), Fail> {
-    link_fails(&rt, rt.alloc(), 3, SENT)
-}
-
-fn output_fails(rt: &impl Abort, alloc: Global, at: u64, end: End<'_>) -> Result<(), Fail> {
-    let out = &[at];
-    fails(
-        rt,
-        alloc,
-        &asks(REQUEST),
-        Failing { out, ..NONE },
-        end,
-        SENT,
-    )
-}
-
-#[test]
-fn a_failing_output_leaves_the_frame(rt: HostRuntime) -> Result<(), Fail> {
-    output_fails(&rt, rt.alloc(), 1, NO_LINE)
-}
-
-#[test]
-fn a_request_writes_once(rt: HostRuntime) -> Result<(), Fail> {
-    output_fails(&rt, rt.alloc(), 2, SENT)
+fn each_push_of_the_output_fails(rt: HostRuntime) -> Result<(), Fail> {
+    for row in &OUTPUT_FAULTS {
+        output_fails(&rt, rt.alloc(), row)?;
+    }
+    Ok(())
 }
 
 /// A file that is no request, and the note of its refusal.

@@ -38,9 +38,52 @@ const SERVED: End<'static> = End {
     ..NOTHING
 };
 
+/// A configuration, what arrives in one turn, and how the node then ends.
+type Logged = (&'static [u8], &'static [(u32, &'static str)], End<'static>);
+
+// A ping to the neighbour, an ask of the owner, and a part that is delivered to a port.
+static LOGGED: [Logged; 3] = [
+    (
+        SENDER,
+        &[],
+        End {
+            out: SENDER_TRACE,
+            sent: (1, PING),
+            log: SENDER_LOG,
+            ..NOTHING
+        },
+    ),
+    (
+        NODE,
+        &[(0, ASK)],
+        End {
+            out: ASK_TRACE,
+            log: ASK_LOG,
+            ..NOTHING
+        },
+    ),
+    (
+        ALONE,
+        &[(0, PART)],
+        End {
+            out: PART_TRACE,
+            log: PART_LOG,
+            ..NOTHING
+        },
+    ),
+];
+
+fn logs(rt: &impl Abort, alloc: Global, row: &Logged) -> Result<(), Fail> {
+    ends(rt, alloc, &serves_once(row.0, row.1), row.2)
+}
+
 #[test]
-fn a_node_serves_four_turns(rt: HostRuntime) -> Result<(), Fail> {
-    ends(&rt, rt.alloc(), &serves(NODE), SERVED)
+fn nodes_write_the_logs_of_their_turns(rt: HostRuntime) -> Result<(), Fail> {
+    ends(&rt, rt.alloc(), &serves(NODE), SERVED)?;
+    for row in &LOGGED {
+        logs(&rt, rt.alloc(), row)?;
+    }
+    Ok(())
 }
 
 #[test]
@@ -58,37 +101,6 @@ fn its_log_replays_to_its_lines(rt: HostRuntime) -> Result<(), Fail> {
         ..NOTHING
     };
     ends(&rt, rt.alloc(), &task, end)
-}
-
-#[test]
-fn a_node_pings_its_neighbour(rt: HostRuntime) -> Result<(), Fail> {
-    let end = End {
-        out: SENDER_TRACE,
-        sent: (1, PING),
-        log: SENDER_LOG,
-        ..NOTHING
-    };
-    ends(&rt, rt.alloc(), &serves_once(SENDER, &[]), end)
-}
-
-#[test]
-fn a_node_takes_an_ask_of_its_owner(rt: HostRuntime) -> Result<(), Fail> {
-    let end = End {
-        out: ASK_TRACE,
-        log: ASK_LOG,
-        ..NOTHING
-    };
-    ends(&rt, rt.alloc(), &serves_once(NODE, &[(0, ASK)]), end)
-}
-
-#[test]
-fn a_node_delivers_a_part_to_a_port(rt: HostRuntime) -> Result<(), Fail> {
-    let end = End {
-        out: PART_TRACE,
-        log: PART_LOG,
-        ..NOTHING
-    };
-    ends(&rt, rt.alloc(), &serves_once(ALONE, &[(0, PART)]), end)
 }
 
 /// A call that fails, the places up to which the log and the trace are then written, and whether the frame was sent
