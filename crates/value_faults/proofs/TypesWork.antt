@@ -12,10 +12,11 @@ use Rattle.plan_grammar.specs.declared.fault.Wanted.TheVariants as wanted
 use Rattle.plan_grammar.specs.Ahead.{Front, Reader, ◌>>=◌, place, behind, next_kind, is_key, is_symbol}
 use Rattle.plan_grammar.specs.Begins.{kind_type, begins_type}
 use Rattle.plan_grammar.specs.Types.{opens, more, named, is_list_word, after_lists, list_words, behind_lists, lists_of, judged, tuple_type, single_type, group_type, base_type, whole_type, type_to}
+use Rattle.grammar_laws.specs.Agenda.{StepOf}
 use Rattle.grammar_laws.proofs.TokenFacts.{room_open}
 use Rattle.grammar_laws.proofs.TypesAre.{left_behind}
 use Rattle.grammar_laws.proofs.TypesRead.{depth_of_lists}
-use Rattle.value_faults.specs.Agenda.{Item, a_type, lists, first_type, behind_first, next_type, behind_next, sym, Step, enter, hand, type_step, step}
+use Rattle.value_faults.specs.Agenda.{Item, a_type, lists, first_type, behind_first, next_type, behind_next, sym, enter, hand, type_step, step}
 use Rattle.value_faults.proofs.Works.{Works, Follows, goes_on, stops, begin, after, given, both, symbol_works}
 
 -- one more `list` is the outermost
@@ -41,7 +42,7 @@ module _ (o start end : ℕ) (base : Ty) (more : List Item) where
   abbrev Ends : ℕ × List Token → Result (Ty × Front) ParseFault
   Ends p = judged start p.0 base >>= left_behind (record { tokens = p.1; end = end })
 
-  abbrev Judge : ℕ → List Token → Step
+  abbrev Judge : ℕ → List Token → StepOf Item
   Judge n ts = if nat_lt 8 (type_depth (lists_of n base)) then Err (TooDeep start) else Ok (hand (lists_of n base) more, record { tokens = ts; end = end })
 
   ended : (n : ℕ) (ts : List Token) → Follows o (Judge n ts) Handed (Ends (n, ts))

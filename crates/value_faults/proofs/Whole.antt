@@ -9,6 +9,7 @@ use Rattle.plan_grammar.specs.declared.fault.ParseFault.{ParseFault}
 use Rattle.plan_grammar.specs.declared.fault.ParseFault.TheVariants.{Expected}
 use Rattle.plan_grammar.specs.declared.fault.Wanted.TheVariants as wanted
 use Rattle.plan_grammar.specs.Ahead.{Front, ◌>>=◌, place, behind, need_symbol}
+use Rattle.grammar_laws.proofs.Ends.{nowhere, to_end, None_left, as_refused, refused_as}
 use Rattle.plan_parser.specs.declared.value_fault.ValueFault.{ValueFault}
 use Rattle.plan_parser.specs.declared.value_fault.ValueFault.TheVariants as faults
 use Rattle.plan_parser.specs.Values.{value_to, ended, arguments_behind, value_of, args_of}
@@ -16,32 +17,14 @@ use Rattle.plan_parser.specs.ReadTexts.{Fails, no_tokens, no_value}
 use Rattle.value_grammar.specs.Grammar.{IsValue, AreArgs}
 use Rattle.value_grammar.proofs.ValuesRead.{value_written, args_written}
 use Rattle.value_grammar.proofs.ValuesAre.{value_read, args_read}
-use Rattle.value_faults.specs.Agenda.{Item, sym, a_value, args, the_end, hand, step}
+use Rattle.value_faults.specs.Agenda.{sym, a_value, args, the_end, hand, step}
 use Rattle.value_faults.specs.Refusals.{FirstValueRefusal, FirstArgsRefusal, IsValueOrRefused, AreArgsOrRefused, FirstTextRefusal, of_tokens, of_reading}
 use Rattle.value_faults.proofs.Works.{Works, Follows, goes_on, stops, begin, after, symbol_works, refuses_first}
 use Rattle.value_faults.proofs.ValuesWork.{values_work, arguments_work}
 
--- a reading of the whole text, behind which nothing is left
-abbrev nowhere : Front
-nowhere = record { tokens = []; end = 0 }
-
-abbrev to_end : {A : Type 0} → Result A ParseFault → Result (A × Front) ParseFault
-to_end (Ok x) = Ok (x, nowhere)
-to_end (Err e) = Err e
-
-abbrev None_left : {A : Type 0} → A → List Item
-None_left x = []
-
 turned : {A B : Type 0} (r : Result A ParseFault) (h : A → Result B ParseFault) → (r >>= λ x. to_end (h x)) ≡ to_end (r >>= h)
 turned (Ok x) h = refl
 turned (Err e) h = refl
-
-as_refused : {A : Type 0} (r : Result A ParseFault) (e : ParseFault) → r ≡ Err e → to_end r ≡ Err e
-as_refused r e h = rw h refl
-
-refused_as : {A : Type 0} (r : Result A ParseFault) (e : ParseFault) → to_end r ≡ Err e → r ≡ Err e
-refused_as (Ok x) e h = cc
-refused_as (Err d) e h = cc
 
 -- whether something is left
 abbrev ended_by : Front → Bool → Result (Unit {0}) ParseFault
