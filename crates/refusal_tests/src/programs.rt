@@ -167,19 +167,39 @@ fn printed(alloc: Global, text: &[u8]) -> Result<Bytes, Fail> {
     Ok(out)
 }
 
-// A type in so many brackets.
-fn bracketed(alloc: Global, brackets: u8) -> Result<String, Fail> {
-    let mut text = String::from_str(alloc, "fun f(x : ")?;
-    for _ in 0..brackets {
-        text.push_str("(")?;
+// A text between two others, with a front and a back so many times around it.
+fn nested(
+    alloc: Global,
+    before: &str,
+    nest: &Nest,
+    times: u8,
+    inside: &str,
+) -> Result<String, Fail> {
+    let (front, back) = *nest;
+    let mut text = String::from_str(alloc, before)?;
+    for _ in 0..times {
+        text.push_str(front)?;
     }
-    text.push_str("int")?;
-    for _ in 0..brackets {
-        text.push_str(")")?;
+    text.push_str(inside)?;
+    for _ in 0..times {
+        text.push_str(back)?;
     }
-    text.push_str(") : int = x")?;
     Ok(text)
 }
+
+/// What stands before and behind each level.
+type Nest = (&'static str, &'static str);
+
+const BRACKETS: Nest = ("(", ")");
+
+// Packets that are sent inside the host, the number and the device of others.
+static SENDS: [Nest; 5] = [
+    ("OnRemote(|g|(), (", "; @1), 1, defaultRoute)"),
+    ("OnRemote(|g|(), @1, (", "; 1), defaultRoute)"),
+    ("OnNeighbor(|g|(), (", "; @1), 1, %0)"),
+    ("OnNeighbor(|g|(), @1, (", "; 1), %0)"),
+    ("OnNeighbor(|g|(), @1, 1, (", "; %0))"),
+];
 
 const FRONT: &str = "fun f() : int = ";
 
@@ -205,13 +225,31 @@ fn forms_with_more_parts_are_printed(rt: HostRuntime) -> Result<(), Fail> {
 // end.
 #[test]
 fn a_type_in_159_brackets_is_read(rt: HostRuntime) -> Result<(), Fail> {
-    let text = bracketed(rt.alloc(), 159)?;
-    let out = printed(rt.alloc(), text.as_bytes())?;
+    let text = nested(rt.alloc(), "fun f(x : ", &BRACKETS, 159, "int")?;
+    let whole = format!(in rt.alloc(); "{text}) : int = x")?;
+    let out = printed(rt.alloc(), whole.as_bytes())?;
     assert_eq!(rt; out.as_slice(), b"fun f(x : int) : int = x\n".as_slice());
-    let text = bracketed(rt.alloc(), 160)?;
+    let text = nested(rt.alloc(), "fun f(x : ", &BRACKETS, 160, "int")?;
     assert_eq!(rt;
         refused(rt.alloc(), text.as_bytes()),
         Some(ParseFault::TooDeep(169))
     );
+    Ok(())
+}
+
+// Were a part measured twice at each level, this would never end.
+#[test]
+fn sends_inside_each_other_are_printed(rt: HostRuntime) -> Result<(), Fail> {
+    for nest in &SENDS {
+        let text = nested(
+            rt.alloc(),
+            "fun g() : unit = ()\nfun f() : unit = ",
+            nest,
+            31,
+            "()",
+        )?;
+        let out = printed(rt.alloc(), text.as_bytes())?;
+        assert!(rt; out.len() > text.len());
+    }
     Ok(())
 }
