@@ -96,7 +96,7 @@ fn range_values(values: &[Value])
 fn range_chunk(c: &Chunk)
     ensures { IsTrue (chunk_ranged c.now) }
 {
-    range_program(&c.code);
+    range_program(c.code.get());
     range_name(&c.entry);
     range_values(c.args.as_slice());
 }

@@ -17,6 +17,7 @@ use crate::place::{can_do, place_in};
 use crate::pure::{both, choose, either, turn};
 use crate::send::{evaluated, neighbour_part, remote_part};
 use plan_base::{Expr, Program, Value, Values};
+use plan_items::Shared;
 use plan_meaning::Stop;
 use service_api::Services;
 use std::alloc::Global;
@@ -26,7 +27,7 @@ use visit_state::State;
 #[tactic(auto, using(plan_base::specs::Trees::trees, crate::proofs::Deciding::bound, crate::proofs::Deciding::followed, crate::proofs::Giving::leaf_given))]
 fn after_part<S: Services>(
     alloc: Global,
-    code: &Program,
+    code: &Shared<Program>,
     seen: usize,
     e: &Expr,
     n: usize,
@@ -46,7 +47,7 @@ fn after_part<S: Services>(
 {
     match e {
         Expr::Tuple(es) => tuple_part(es, n, held, v),
-        Expr::Call(f, es) => call_part(alloc, code, seen, f, es, n, held, v, state, svc),
+        Expr::Call(f, es) => call_part(alloc, code.get(), seen, f, es, n, held, v, state, svc),
         Expr::ChunkOf(f, es) => chunk_part(alloc, code, f, es, n, held, v),
         Expr::If(_, _, _) => choose(&v),
         Expr::Let(_, _, _, _) => Ok(Next::Open(Frame::Bound(v))),
@@ -56,8 +57,8 @@ fn after_part<S: Services>(
         Expr::Not(_) => turn(&v),
         Expr::Binary(op, _, _) => operand(alloc, *op, &held, v),
         Expr::Part(i, _) => selected(alloc, *i, &v),
-        Expr::Foldl(f, _, _) => left_part(alloc, code, seen, f, held, v),
-        Expr::Foldr(f, _, _) => right_part(alloc, code, seen, f, held, v),
+        Expr::Foldl(f, _, _) => left_part(alloc, code.get(), seen, f, held, v),
+        Expr::Foldr(f, _, _) => right_part(alloc, code.get(), seen, f, held, v),
         Expr::Eval(_) => evaluated(alloc, v, state),
         Expr::OnRemote(_, _, _, r) => remote_part(alloc, r, held, v, state),
         Expr::OnNeighbor(_, _, _, _) => neighbour_part(alloc, held, v, state),
@@ -71,7 +72,7 @@ fn after_part<S: Services>(
 #[tactic(auto, using(crate::proofs::Naming::at_place, crate::proofs::Giving::by_part, crate::proofs::Delivering::last_given, crate::proofs::Delivering::bound_given, crate::proofs::Delivering::body_given, crate::proofs::Delivering::chunk_given, crate::proofs::Giving::by_item))]
 pub fn give_top<S: Services>(
     alloc: Global,
-    codes: &[Program],
+    codes: &[Shared<Program>],
     top: &Activation,
     frame: Frame,
     v: Value,
@@ -102,7 +103,7 @@ pub fn give_top<S: Services>(
         Frame::Last(_) | Frame::Body => Ok(Next::Give(v)),
         Frame::Bound(_) => Ok(Next::Give(v)),
         Frame::Items(left) => {
-            let decided = item_gave(alloc, place.code, top.fun, place.expr, v, left);
+            let decided = item_gave(alloc, place.code.get(), top.fun, place.expr, v, left);
             can_do(place, decided)
         }
         Frame::Chunk => Ok(Next::Give(Value::Unit)),

@@ -12,25 +12,26 @@ use crate::frame::Activation;
 use crate::next::Next;
 use crate::walk::{expr_from, part_or_self, same_name};
 use plan_base::{Expr, Fun, Name, Param, Program, Value, Values};
+use plan_items::Shared;
 use plan_meaning::Stop;
 
 /// The innermost open expression of an activation, its function and its program.
 #[derive(Clone, Copy)]
 pub struct Place<'a> {
-    pub code: &'a Program,
+    pub code: &'a Shared<Program>,
     pub function: &'a Fun,
     pub expr: &'a Expr,
 }
 
 /// Where an activation stands, or `None` where it stands nowhere.
 #[tactic(auto, unfolding(crate::specs::Stack::spot_in, crate::specs::Stack::start_of), using(crate::proofs::Naming::no_code, crate::proofs::Naming::no_function, crate::proofs::Naming::no_expression))]
-pub fn place_in<'a>(codes: &'a [Program], top: &Activation) -> Option<Place<'a>>
+pub fn place_in<'a>(codes: &'a [Shared<Program>], top: &Activation) -> Option<Place<'a>>
     ensures { MatchOption result (spot_in codes.now top.now ≡ None) (λ p. IsAt codes.now top.now p.code.now p.function.now p.expr.now) }
 {
     let Some(code) = codes.get(top.code) else {
         return None;
     };
-    let Some(function) = code.funs.get(top.fun) else {
+    let Some(function) = code.get().funs.get(top.fun) else {
         return None;
     };
     let Some(expr) = expr_from(&function.body, top.frames.as_slice()) else {
@@ -92,13 +93,13 @@ pub fn can_do(place: Place<'_>, decided: Result<Next, Stop>) -> Result<Next, Sto
             Ok(Next::Open(frame))
         }
         Ok(Next::Call(fun, args)) => {
-            if !enters(place.code, fun, &args) {
+            if !enters(place.code.get(), fun, &args) {
                 return Err(Stop::Wrong);
             }
             Ok(Next::Call(fun, args))
         }
         Ok(Next::Step(fun, args, left)) => {
-            if !enters(place.code, fun, &args) {
+            if !enters(place.code.get(), fun, &args) {
                 return Err(Stop::Wrong);
             }
             Ok(Next::Step(fun, args, left))
