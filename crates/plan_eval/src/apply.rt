@@ -145,7 +145,7 @@ fn visit_chunk(
     let Some(fun) = place_of(&entry, code.get().funs.as_slice()) else {
         return Err(Stop::Wrong);
     };
-    if !enters(code.get(), fun, &args) {
+    if !enters(&code, fun, &args) {
         return Err(Stop::Wrong);
     }
     let number = place_program(codes, top.code, code)?;

@@ -76,7 +76,7 @@ fn begin<S: Services>(
         Kind::Raises(name) => Err(Stop::Raised(Exn(name.copy(alloc)?))),
         Kind::Calls(name) => called(
             alloc,
-            place.code.get(),
+            place.code,
             top.fun,
             name,
             Items::new(alloc),

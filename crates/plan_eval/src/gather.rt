@@ -70,7 +70,7 @@ pub fn chunk_part(
 #[tactic(auto, using(crate::proofs::Deciding::next_of_call, crate::proofs::Gathering::call_decides))]
 pub fn call_part<S: Services>(
     alloc: Global,
-    code: &Program,
+    code: &Shared<Program>,
     seen: usize,
     f: &Name,
     es: &Exprs,

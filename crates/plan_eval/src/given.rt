@@ -47,7 +47,7 @@ fn after_part<S: Services>(
 {
     match e {
         Expr::Tuple(es) => tuple_part(es, n, held, v),
-        Expr::Call(f, es) => call_part(alloc, code.get(), seen, f, es, n, held, v, state, svc),
+        Expr::Call(f, es) => call_part(alloc, code, seen, f, es, n, held, v, state, svc),
         Expr::ChunkOf(f, es) => chunk_part(alloc, code, f, es, n, held, v),
         Expr::If(_, _, _) => choose(&v),
         Expr::Let(_, _, _, _) => Ok(Next::Open(Frame::Bound(v))),
@@ -57,8 +57,8 @@ fn after_part<S: Services>(
         Expr::Not(_) => turn(&v),
         Expr::Binary(op, _, _) => operand(alloc, *op, &held, v),
         Expr::Part(i, _) => selected(alloc, *i, &v),
-        Expr::Foldl(f, _, _) => left_part(alloc, code.get(), seen, f, held, v),
-        Expr::Foldr(f, _, _) => right_part(alloc, code.get(), seen, f, held, v),
+        Expr::Foldl(f, _, _) => left_part(alloc, code, seen, f, held, v),
+        Expr::Foldr(f, _, _) => right_part(alloc, code, seen, f, held, v),
         Expr::Eval(_) => evaluated(alloc, v, state),
         Expr::OnRemote(_, _, _, r) => remote_part(alloc, r, held, v, state),
         Expr::OnNeighbor(_, _, _, _) => neighbour_part(alloc, held, v, state),
@@ -103,7 +103,7 @@ pub fn give_top<S: Services>(
         Frame::Last(_) | Frame::Body => Ok(Next::Give(v)),
         Frame::Bound(_) => Ok(Next::Give(v)),
         Frame::Items(left) => {
-            let decided = item_gave(alloc, place.code.get(), top.fun, place.expr, v, left);
+            let decided = item_gave(alloc, place.code, top.fun, place.expr, v, left);
             can_do(place, decided)
         }
         Frame::Chunk => Ok(Next::Give(Value::Unit)),

@@ -67,11 +67,11 @@ pub fn argument_of<'a>(name: &Name, params: &[Param], args: &'a [Value]) -> Opti
 
 /// Whether a function of that place takes so many arguments.
 #[tactic(auto, using(crate::proofs::Naming::enters_by, crate::proofs::Naming::enters_none, crate::proofs::Naming::enters_other))]
-pub fn enters(code: &Program, fun: usize, args: &Values) -> bool
+pub fn enters(code: &Shared<Program>, fun: usize, args: &Values) -> bool
     ensures yes { IsTrue result → Enters code.now fun args.now }
     ensures no { IsFalse result → (s : VisitState) → (entered meaning code.now fun args.now s).after ≡ stopped Wrong s }
 {
-    match code.funs.get(fun) {
+    match code.get().funs.get(fun) {
         Some(function) => function.params.len() == args.len(),
         None => false,
     }
@@ -93,13 +93,13 @@ pub fn can_do(place: Place<'_>, decided: Result<Next, Stop>) -> Result<Next, Sto
             Ok(Next::Open(frame))
         }
         Ok(Next::Call(fun, args)) => {
-            if !enters(place.code.get(), fun, &args) {
+            if !enters(place.code, fun, &args) {
                 return Err(Stop::Wrong);
             }
             Ok(Next::Call(fun, args))
         }
         Ok(Next::Step(fun, args, left)) => {
-            if !enters(place.code.get(), fun, &args) {
+            if !enters(place.code, fun, &args) {
                 return Err(Stop::Wrong);
             }
             Ok(Next::Step(fun, args, left))

@@ -76,7 +76,7 @@ fn visited<S: Services>(
     let Some(fun) = place_of(&chunk.entry, chunk.code.get().funs.as_slice()) else {
         return Err(Stop::Wrong);
     };
-    if !enters(chunk.code.get(), fun, &chunk.args) {
+    if !enters(&chunk.code, fun, &chunk.args) {
         return Err(Stop::Wrong);
     }
     let codes = first_codes(alloc, chunk)?;

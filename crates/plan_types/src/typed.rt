@@ -71,8 +71,8 @@ pub fn annotate(alloc: Global, draft: Draft) -> Result<Checked, TypeFault>
     ensures fault { IfErr result (λ f. f ≢ TypeFault.NoMemory → answer draft.program ≡ Err f) }
 {
     let program = annotated(alloc, &draft.program)?;
-    let program = Shared::new(alloc, program)?;
-    Ok(Checked { program })
+    let shared = Shared::new(alloc, program)?;
+    Ok(Checked { program: shared })
 }
 
 /// Checks a well-formed program in which no type of `[]` or `raise` is missing. Else the first refusal in
@@ -86,8 +86,8 @@ pub fn check(alloc: Global, program: Program) -> Result<Checked, TypeFault>
     ensures fault { IfErr result (λ f. f ≢ TypeFault.NoMemory → answer program ≡ Err f) }
 {
     let _filled = annotated(alloc, &program)?;
-    let program = Shared::new(alloc, program)?;
-    Ok(Checked { program })
+    let shared = Shared::new(alloc, program)?;
+    Ok(Checked { program: shared })
 }
 
 /// The first refusal of a program in the order of checking, where there is one.
