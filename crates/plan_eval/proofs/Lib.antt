@@ -14,6 +14,7 @@ mod Catching
 mod Calling
 mod Gathering
 mod Sending
+mod Numbering
 mod Giving
 mod Visits
 mod Starting

@@ -13,7 +13,8 @@ ghost use Rattle.plan_eval.specs.Stack.{Spot, resume, ended, all_ended};
 ghost use Rattle.plan_eval.specs.Nexts.{CanDo, Decides, Enters, IsDone, next_step};
 ghost use Rattle.plan_eval.specs.Turns.{IsPlaced, Stands, Turned, WaitsFor, entry, load, under};
 
-use crate::frame::{Activation, Activations, Codes, Frame, Mode};
+use crate::codes::Codes;
+use crate::frame::{Activation, Activations, Frame, Mode};
 use crate::next::Next;
 use crate::place::enters;
 use plan_base::{Chunk, NoMemory, Program, Value, Values, place_of};
@@ -104,7 +105,7 @@ fn weigh(
 }
 
 /// Whether the program at a place is this one.
-fn has_program(codes: &[Program], at: usize, code: &Program) -> bool
+fn has_program(codes: &Codes<'_>, at: usize, code: &Program) -> bool
     ensures { IsTrue result → slice_get codes.now at ≡ Some code.now }
 {
     match codes.get(at) {
@@ -116,14 +117,13 @@ fn has_program(codes: &[Program], at: usize, code: &Program) -> bool
 /// The place of a program among those of the visit: `at`, where it is the program there, or else a new one behind them. So a
 /// chunk that evaluates chunks of its own program doesn't keep a copy for each.
 #[tactic(auto, using(crate::proofs::Entering::last_one, crate::proofs::Entering::placed_there))]
-fn place_program(codes: &mut Codes, at: usize, code: Program) -> Result<usize, NoMemory>
+fn place_program(codes: &mut Codes<'_>, at: usize, code: Program) -> Result<usize, NoMemory>
     ensures { IfOk result (λ n. IsPlaced codes.old code n codes.new) }
 {
-    if has_program(codes.as_slice(), at, &code) {
+    if has_program(codes, at, &code) {
         return Ok(at);
     }
-    let number = codes.len();
-    codes.add(code)?;
+    let number = codes.add(code)?;
     Ok(number)
 }
 
@@ -131,7 +131,7 @@ fn place_program(codes: &mut Codes, at: usize, code: Program) -> Result<usize, N
 #[tactic(auto, using(crate::proofs::Turning::no_visit, crate::proofs::Loads::load_enter))]
 fn visit_chunk(
     alloc: Global,
-    codes: &mut Codes,
+    codes: &mut Codes<'_>,
     outer: &mut Activations,
     top: Activation,
     chunk: Chunk,
@@ -175,7 +175,7 @@ fn halt(outer: &mut Activations, top: Activation, stop: Stop) -> Result<Mode, St
 /// Does what an open expression does next.
 fn go_on(
     alloc: Global,
-    codes: &mut Codes,
+    codes: &mut Codes<'_>,
     outer: &mut Activations,
     top: Activation,
     next: Next,
@@ -198,7 +198,7 @@ fn go_on(
 /// Does what was decided for the innermost activation, which is off the stack.
 pub fn apply(
     alloc: Global,
-    codes: &mut Codes,
+    codes: &mut Codes<'_>,
     outer: &mut Activations,
     top: Activation,
     decided: Result<Next, Stop>,

@@ -11,6 +11,7 @@ ghost use Rattle.plan_eval.specs.Turns.{spot_at};
 ghost use Rattle.plan_eval.specs.Nexts.{Decides, IsDone, Starts, begins, call_of};
 
 use crate::call::called;
+use crate::codes::Codes;
 use crate::frame::{Activation, Frame};
 use crate::kind::{Kind, kind_of};
 use crate::next::Next;
@@ -93,7 +94,7 @@ fn begin<S: Services>(
 #[tactic(auto, using(crate::proofs::Naming::at_place, crate::proofs::Beginning::safe_bare))]
 pub fn begin_top<S: Services>(
     alloc: Global,
-    codes: &[Program],
+    codes: &Codes<'_>,
     top: &Activation,
     state: &mut State,
     svc: &mut S,

@@ -1,5 +1,5 @@
 //! The stack of a visit.
-use plan_base::{Program, Value, Values};
+use plan_base::{Value, Values};
 use plan_items::Items;
 
 /// An open expression: what of it is being evaluated, and the values that wait.
@@ -37,9 +37,6 @@ pub struct Activation {
 
 /// The activations of a visit, the innermost last.
 pub type Activations = Items<Activation>;
-
-/// The programs that are open: that of the packet, and those of the chunks that are being evaluated.
-pub type Codes = Items<Program>;
 
 /// What a visit does next.
 #[derive(Drop)]

@@ -4,6 +4,7 @@
 mod apply;
 mod begin;
 mod call;
+mod codes;
 mod fold;
 mod frame;
 mod gather;

@@ -10,7 +10,8 @@ ghost use Rattle.plan_eval.specs.Turns.{Turned, load};
 
 use crate::apply::apply;
 use crate::begin::begin_top;
-use crate::frame::{Activation, Activations, Codes, Mode};
+use crate::codes::Codes;
+use crate::frame::{Activation, Activations, Mode};
 use crate::given::give_top;
 use crate::raise::raise_top;
 use plan_base::{Exn, Value};
@@ -22,7 +23,7 @@ use visit_state::State;
 /// Gives a value to the innermost activation, which is off the stack.
 fn give<S: Services>(
     alloc: Global,
-    codes: &mut Codes,
+    codes: &mut Codes<'_>,
     outer: &mut Activations,
     top: Activation,
     v: Value,
@@ -41,14 +42,14 @@ fn give<S: Services>(
     let Some(frame) = below.frames.pop() else {
         return Ok(Mode::Give(v));
     };
-    let decided = give_top(alloc, codes.as_slice(), &below, frame, v, state, svc);
+    let decided = give_top(alloc, codes, &below, frame, v, state, svc);
     apply(alloc, codes, outer, below, decided, state)
 }
 
 /// Raises an exception in the innermost activation, which is off the stack.
 fn raise(
     alloc: Global,
-    codes: &mut Codes,
+    codes: &mut Codes<'_>,
     outer: &mut Activations,
     top: Activation,
     x: Exn,
@@ -62,14 +63,14 @@ fn raise(
     let Some(frame) = below.frames.pop() else {
         return Ok(Mode::Raise(x));
     };
-    let decided = raise_top(codes.as_slice(), &below, &frame, x);
+    let decided = raise_top(codes, &below, &frame, x);
     apply(alloc, codes, outer, below, decided, state)
 }
 
 /// Evaluates the innermost expression of the innermost activation, which is off the stack.
 fn begin<S: Services>(
     alloc: Global,
-    codes: &mut Codes,
+    codes: &mut Codes<'_>,
     outer: &mut Activations,
     top: Activation,
     state: &mut State,
@@ -83,19 +84,17 @@ fn begin<S: Services>(
     ensures offer { (S.stands svc.new).offer ≡ (S.stands svc.old).offer }
     ensures begun { (S.stands svc.new).begun ≡ (S.stands svc.old).begun }
 {
-    match state.spend(1) {
-        Ok(()) => {
-            let decided = begin_top(alloc, codes.as_slice(), &top, state, svc);
-            apply(alloc, codes, outer, top, decided, state)
-        }
-        Err(stop) => Err(stop),
+    if !state.pays(1) {
+        return Err(Stop::WorkSpent);
     }
+    let decided = begin_top(alloc, codes, &top, state, svc);
+    apply(alloc, codes, outer, top, decided, state)
 }
 
 /// One turn of a visit, with its innermost activation off the stack.
 fn turn<S: Services>(
     alloc: Global,
-    codes: &mut Codes,
+    codes: &mut Codes<'_>,
     outer: &mut Activations,
     top: Activation,
     how: Mode,
@@ -120,7 +119,7 @@ fn turn<S: Services>(
 /// Runs a stack to its end.
 pub fn run<S: Services>(
     alloc: Global,
-    codes: Codes,
+    codes: Codes<'_>,
     activations: Activations,
     state: &mut State,
     svc: &mut S,

@@ -12,7 +12,8 @@ ghost use Rattle.meaning_laws.specs.Laws.{VisitEnds, VisitsAlike, NoneSuffices};
 ghost use Rattle.visit_state.specs.Meets.{Meets};
 ghost use Rattle.plan_eval.specs.Turns.{entry};
 
-use crate::frame::{Activation, Activations, Codes};
+use crate::codes::Codes;
+use crate::frame::{Activation, Activations};
 use crate::machine::run;
 use crate::place::enters;
 use chunk_types::CheckedPacket;
@@ -35,15 +36,6 @@ fn spent(alloc: Global, bound: u32) -> Visit
         notes: Items::new(alloc),
         work: ALLOWANCE,
     }
-}
-
-/// The program with which a visit starts.
-fn first_codes(alloc: Global, chunk: &Chunk) -> Result<Codes, NoMemory>
-    ensures { IfOk result (λ codes. codes ≡ chunk.now.code ∷ []) }
-{
-    let mut codes = Items::new(alloc);
-    codes.add(chunk.code.copy(alloc)?)?;
-    Ok(codes)
 }
 
 /// The activation with which a visit starts: the function at that place.
@@ -79,7 +71,7 @@ fn visited<S: Services>(
     if !enters(&chunk.code, fun, &chunk.args) {
         return Err(Stop::Wrong);
     }
-    let codes = first_codes(alloc, chunk)?;
+    let codes = Codes::of(alloc, &chunk.code);
     let activations = first_activation(alloc, chunk, fun)?;
     run(alloc, codes, activations, state, svc)
 }

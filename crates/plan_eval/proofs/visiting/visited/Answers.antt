@@ -18,16 +18,16 @@ returns-then-not-enters-clause-meets g c = λ other.
 
 pub run-requires-clause-linked : goal.run-requires-clause-linked
 run-requires-clause-linked g c =
-    rw (c.in_ok-codes.ensures, c.in_ok-activations.ensures) (starts_linked c.args.chunk.now c.in-Some.fun (c.if-not-enters.ensures.yes refl))
+    rw (c.of-codes.ensures, c.in_ok-activations.ensures) (starts_linked c.args.chunk.now c.in-Some.fun (c.if-not-enters.ensures.yes refl))
 
 pub run-requires-clause-safe : goal.run-requires-clause-safe
 run-requires-clause-safe g c =
     let place : place_of c.args.chunk.now.entry c.args.chunk.now.code.funs ≡ Some c.in-Some.fun = cc in
-    rw (c.in_ok-codes.ensures, c.in_ok-activations.ensures)
+    rw (c.of-codes.ensures, c.in_ok-activations.ensures)
     ((starts c.args.chunk.now c.in-Some.fun (joined c.args.state.now (g.S.Services.stands c.args.svc.now)) place (c.if-not-enters.ensures.yes refl)).safe c.requires.safe)
 
 pub returns-clause-meets : goal.returns-clause-meets
 returns-clause-meets g c =
     let place : place_of c.args.chunk.now.entry c.args.chunk.now.code.funs ≡ Some c.in-Some.fun = cc in
     meets_from _ _ c.run.result _ (starts c.args.chunk.now c.in-Some.fun (joined c.args.state.now (g.S.Services.stands c.args.svc.now)) place (c.if-not-enters.ensures.yes refl))
-    (rw (c.in_ok-codes.ensures, c.in_ok-activations.ensures) at c.run.ensures.meets)
+    (rw (c.of-codes.ensures, c.in_ok-activations.ensures) at c.run.ensures.meets)
