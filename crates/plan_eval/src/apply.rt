@@ -104,7 +104,7 @@ fn weigh(
 }
 
 /// Whether the program at a place is this one.
-fn has_program(codes: &[Shared<Program>], at: usize, code: &Shared<Program>) -> bool
+fn has_program(codes: &Codes, at: usize, code: &Shared<Program>) -> bool
     ensures { IsTrue result → slice_get codes.now at ≡ Some code.now }
 {
     match codes.get(at) {
@@ -119,7 +119,7 @@ fn has_program(codes: &[Shared<Program>], at: usize, code: &Shared<Program>) -> 
 fn place_program(codes: &mut Codes, at: usize, code: Shared<Program>) -> Result<usize, NoMemory>
     ensures { IfOk result (λ n. IsPlaced codes.old code n codes.new) }
 {
-    if has_program(codes.as_slice(), at, &code) {
+    if has_program(codes, at, &code) {
         return Ok(at);
     }
     let number = codes.len();

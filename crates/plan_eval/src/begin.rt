@@ -11,7 +11,7 @@ ghost use Rattle.plan_eval.specs.Turns.{spot_at};
 ghost use Rattle.plan_eval.specs.Nexts.{Decides, IsDone, Starts, begins, call_of};
 
 use crate::call::called;
-use crate::frame::{Activation, Frame};
+use crate::frame::{Activation, Codes, Frame};
 use crate::kind::{Kind, kind_of};
 use crate::next::Next;
 use crate::place::{Place, argument_of, can_do, place_in};
@@ -93,7 +93,7 @@ fn begin<S: Services>(
 #[tactic(auto, using(crate::proofs::Naming::at_place, crate::proofs::Beginning::safe_bare))]
 pub fn begin_top<S: Services>(
     alloc: Global,
-    codes: &[Shared<Program>],
+    codes: &Codes,
     top: &Activation,
     state: &mut State,
     svc: &mut S,

@@ -8,7 +8,7 @@ ghost use Rattle.plan_meaning.specs.Meaning as spec;
 ghost use Rattle.plan_eval.specs.Nexts.{Decides, Continues, FoldsOn, fold_on};
 
 use crate::next::Next;
-use crate::operand::behind_one;
+use crate::operand::{behind_one, first_of};
 use plan_base::{Expr, Name, NoMemory, Program, Value, Values};
 use plan_items::{Items, Shared};
 use plan_meaning::Stop;
@@ -76,17 +76,6 @@ fn right_step(
         Some(fun) => Ok(Next::Step(fun, pair(alloc, item, acc)?, rest)),
         None => Err(Stop::Wrong),
     }
-}
-
-/// The first of the values that wait.
-fn first_of(held: Values) -> Option<Value>
-    ensures { MatchOption result (held ≡ []) (λ v. (rest : List Value) × (held ≡ v ∷ rest)) }
-{
-    let mut all = held;
-    if all.is_empty() {
-        return None;
-    }
-    Some(all.remove(0))
 }
 
 /// The items of a list value.

@@ -8,7 +8,7 @@ ghost use Rattle.plan_meaning.specs.Run.{Step, stopped};
 ghost use Rattle.plan_meaning.specs.Meaning.{Env, entered, meaning};
 ghost use Rattle.plan_eval.specs.Nexts.{Decides, Enters, IsDone};
 
-use crate::frame::Activation;
+use crate::frame::{Activation, Codes};
 use crate::next::Next;
 use crate::walk::{expr_from, part_or_self, same_name};
 use plan_base::{Expr, Fun, Name, Param, Program, Value, Values};
@@ -25,7 +25,7 @@ pub struct Place<'a> {
 
 /// Where an activation stands, or `None` where it stands nowhere.
 #[tactic(auto, unfolding(crate::specs::Stack::spot_in, crate::specs::Stack::start_of), using(crate::proofs::Naming::no_code, crate::proofs::Naming::no_function, crate::proofs::Naming::no_expression))]
-pub fn place_in<'a>(codes: &'a [Shared<Program>], top: &Activation) -> Option<Place<'a>>
+pub fn place_in<'a>(codes: &'a Codes, top: &Activation) -> Option<Place<'a>>
     ensures { MatchOption result (spot_in codes.now top.now ≡ None) (λ p. IsAt codes.now top.now p.code.now p.function.now p.expr.now) }
 {
     let Some(code) = codes.get(top.code) else {
