@@ -62,7 +62,11 @@ fn expr_with_tag(
         ExprTag::Not => Ok(Expr::Not(boxed(alloc, s, room - 1)?)),
         ExprTag::Binary => operation_behind(alloc, s, room),
         ExprTag::Part => part_behind(alloc, s, room),
-        ExprTag::Raise => raising_behind(alloc, s, room),
+        ExprTag::Raise => {
+            let name = s.name(alloc)?;
+            let otype = Some(type_of(alloc, s, 8)?);
+            Ok(Expr::Raise(name, otype))
+        }
         ExprTag::Try => handling_behind(alloc, s, room),
         ExprTag::Foldl => fold_left_behind(alloc, s, room),
         ExprTag::Foldr => fold_right_behind(alloc, s, room),
@@ -184,18 +188,6 @@ fn part_behind(alloc: Global, s: &mut Source<'_>, room: u32) -> Result<Expr, Spe
     let number = s.count(Limit::Parts, 1, 8)?;
     let first = boxed(alloc, s, room - 1)?;
     Ok(Expr::Part(number, first))
-}
-
-/// What is behind the tag of a `raise`.
-#[cycle(exprs)]
-#[tactic(auto, unfolding(crate::specs::Reading::expr_behind, chunk_spelling::specs::Parts::counted_at, chunk_spelling::specs::Exprs::clauses_at))]
-fn raising_behind(alloc: Global, s: &mut Source<'_>, room: u32) -> Result<Expr, SpellFault>
-    requires { 0 < room }
-    ensures { Gives result s.new (expr_behind (expr_at (room - 1)) (clauses_at (clause_at (expr_at (room - 1)))) ExprTag.Raise s.old) }
-{
-    let name = s.name(alloc)?;
-    let otype = Some(type_of(alloc, s, 8)?);
-    Ok(Expr::Raise(name, otype))
 }
 
 /// What is behind the tag of a `try`.

@@ -38,9 +38,6 @@ decreases-operation_behind l = 5 * l.room - 2
 abbrev pub decreases-part_behind : goal.decreases-part_behind
 decreases-part_behind l = 5 * l.room - 2
 
-abbrev pub decreases-raising_behind : goal.decreases-raising_behind
-decreases-raising_behind l = 5 * l.room - 2
-
 abbrev pub decreases-handling_behind : goal.decreases-handling_behind
 decreases-handling_behind l = 5 * l.room - 2
 
