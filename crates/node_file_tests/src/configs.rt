@@ -311,7 +311,13 @@ fn heavy_sums(rt: HostRuntime) -> Result<(), Fail> {
     let front = joined(alloc, HEAD, b"program\nfun f() : string = \"")?;
     let text = repeated(alloc, front.as_slice(), b"a", 8_192 - 14, b"")?;
     let program = joined(alloc, text.as_slice(), b"\"\nend program\n")?;
-    let most = repeated(alloc, program.as_slice(), b"at 1 inject f 0 ()\n", 2_048, b"")?;
+    let most = repeated(
+        alloc,
+        program.as_slice(),
+        b"at 1 inject f 0 ()\n",
+        2_048,
+        b"",
+    )?;
     same(&rt, answer(alloc, Kind::Config, most.as_slice()), 0, "")?;
     let more = joined(alloc, most.as_slice(), b"at 1 inject f 0 ()\n")?;
     same(
