@@ -18,7 +18,7 @@ use crate::frame::{Activation, Activations, Frame, Mode};
 use crate::next::Next;
 use crate::place::enters;
 use plan_base::{Chunk, NoMemory, Program, Value, Values, place_of};
-use plan_items::Items;
+use plan_items::{Boxed, Items};
 use plan_meaning::Stop;
 use std::alloc::Global;
 use visit_state::State;
@@ -134,14 +134,14 @@ fn visit_chunk(
     codes: &mut Codes<'_>,
     outer: &mut Activations,
     top: Activation,
-    chunk: Chunk,
+    chunk: Boxed<Chunk>,
 ) -> Result<Mode, Stop>
     ensures turned { (code : Code) (at : Spot) (want : Step Value) (s : VisitState) → Stands codes.old outer.old top code at
         → Leads want (next_step code top.fun at (next.Visit chunk) s)
         → Turned (all_ended codes.old outer.old (ended codes.old top want)) result codes.new outer.new s }
     ensures bounded { (work : ℕ) → IfOk result (λ how. load how outer.new work ≤ load mode.Run (outer.old ++ top ∷ []) work + 3) }
 {
-    let Chunk { code, entry, args } = chunk;
+    let Chunk { code, entry, args } = chunk.into_inner();
     let Some(fun) = place_of(&entry, code.funs.as_slice()) else {
         return Err(Stop::Wrong);
     };

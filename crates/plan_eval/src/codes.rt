@@ -16,9 +16,13 @@ pub struct Codes<'a> {
 
 impl<'a> Model for Codes<'a> {
     ghost use Rattle.std.specs.Prelude.{List, ◌∷◌};
+    ghost use Rattle.std.specs.Coded.{coded_list};
     ghost use Rattle.plan_base.specs.declared.tree.Program.{Program};
+    ghost use Rattle.plan_base.specs.contracts.tree.Program as whole;
 
     ghost Value = { List Program };
+
+    ghost coded = { coded_list whole.the_row.coded };
 
     ghost view = { λ c. c.first.now ∷ c.more };
 }

@@ -1,6 +1,7 @@
 //! What an open expression does next.
 use crate::frame::Frame;
 use plan_base::{Chunk, Value, Values};
+use plan_items::Boxed;
 
 /// What an open expression does next.
 #[derive(Drop)]
@@ -14,5 +15,5 @@ pub enum Next {
     /// It takes a step of a fold by the function at that place; these items are left, the next one last.
     Step(usize, Values, Values),
     /// It evaluates a chunk, which was paid.
-    Visit(Chunk),
+    Visit(Boxed<Chunk>),
 }

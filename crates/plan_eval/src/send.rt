@@ -13,17 +13,18 @@ use crate::frame::Frame;
 use crate::next::Next;
 use crate::operand::behind_one;
 use plan_base::{Chunk, Name, NoMemory, Value, Values};
+use plan_items::Boxed;
 use plan_meaning::Stop;
 use std::alloc::Global;
 use visit_state::{State, as_chunk, as_dev, as_host, as_int};
 
 /// The chunk that a value is.
 #[tactic(auto, unfolding(plan_meaning::specs::Meaning::as_chunk), using(plan_base::specs::Trees::trees))]
-fn chunk_of(v: Value) -> Option<Chunk>
+fn chunk_of(v: Value) -> Option<Boxed<Chunk>>
     ensures { result ≡ spec.as_chunk v }
 {
     match v {
-        Value::Chunk(chunk) => Some(chunk.into_inner()),
+        Value::Chunk(chunk) => Some(chunk),
         _ => None,
     }
 }
@@ -84,7 +85,7 @@ fn send_remote(
     let Some(bound) = as_int(v) else {
         return Err(Stop::Wrong);
     };
-    state.send_remote(alloc, chunk, host, bound, r)?;
+    state.send_remote(alloc, chunk.into_inner(), host, bound, r)?;
     Ok(Next::Give(Value::Unit))
 }
 
@@ -154,7 +155,7 @@ fn send_neighbour(
     let Some(dev) = as_dev(v) else {
         return Err(Stop::Wrong);
     };
-    state.send_neighbour(alloc, chunk, host, bound, dev)?;
+    state.send_neighbour(alloc, chunk.into_inner(), host, bound, dev)?;
     Ok(Next::Give(Value::Unit))
 }
 
