@@ -12,3 +12,4 @@ pub mod ExprsAre
 pub mod Works
 pub mod TypesWork
 pub mod ExprsWork
+pub mod Ends

@@ -91,12 +91,15 @@ pub data Item : Type 0 where
   body : ℕ → Counted → Item
   judgement : ℕ → Front → Counted → Item
 
--- what was taken, and where the reading goes on
-abbrev pub Step : Type 0
-Step = Result (List Item × Front) ParseFault
+-- what was taken of an agenda of such items, and where the reading goes on
+abbrev pub StepOf : Type 0 → Type 0
+StepOf I = Result (List I × Front) ParseFault
 
-abbrev pub expected : Wanted → Front → Step
+abbrev pub expected : {I : Type 0} → Wanted → Front → StepOf I
 expected what f = Err (Expected what (place f))
+
+abbrev pub Step : Type 0
+Step = StepOf Item
 
 -- a construct opens here, if one more may
 abbrev pub enter : ℕ → Front → (ℕ → List Item) → Front → Step

@@ -11,3 +11,4 @@ pub mod Injecting
 pub mod FleetEnds
 pub mod Causes
 pub mod Logs
+pub mod Unserved

@@ -9,10 +9,12 @@ use Rattle.service_api.specs.Services.{Standing}
 use Rattle.service_meaning.specs.Offered.{Present}
 use Rattle.service_meaning.specs.Beginning.{opening_standing}
 use Rattle.node_core.specs.Turns.{IsResting}
+use Rattle.network_plan.specs.declared.serve.ServeConfig.{ServeConfig}
+use Rattle.planet_cli.specs.Serves.{LogsAtMost}
 use Rattle.planet_cli.specs.Said.{Said, nothing, outside, says, IsSaid}
 use Rattle.planet_cli.specs.Asks.{BindsAtMost, SendsAtMost}
 use Rattle.planet_cli.specs.Fleets.{StartsAtMost, LinesAtMost}
-use Rattle.planet_cli.specs.Outcomes.{IsWhole, ask_outcome, fleet_outcome}
+use Rattle.planet_cli.specs.Outcomes.{IsWhole, ask_outcome, fleet_outcome, node_outcome}
 
 pub none_bound : (s : Said AskFile) (old : List Bind) → BindsAtMost s old old
 none_bound nothing old = refl
@@ -40,12 +42,22 @@ ask_said nothing h = absurd h
 ask_said (outside r) h = absurd h
 ask_said (says a) h = tt
 
+pub none_made : (s : Said ServeConfig) (old new : List (List ℕ)) → new ≡ old → LogsAtMost s old new
+none_made nothing old new is = is
+none_made (outside r) old new is = is
+none_made (says cfg) old new is = inl is
+
 -- new services have no visit open
 pub new_rests : (s : Standing) (p : Present) → s ≡ opening_standing p → IsResting s
 new_rests s p is = record { closed = ap (λ t. t.begun) is; waits = ap (λ t. t.ready) is }
 
--- the output of a fleet is defined apart
+-- the output of a fleet, and of a node, is defined apart
 pub fleet_runs : (s : Said Fleet) → IsWhole (fleet_outcome s) → ⊥
 fleet_runs nothing h = h
 fleet_runs (outside r) h = h
 fleet_runs (says f) h = h
+
+pub node_runs : (s : Said ServeConfig) → IsWhole (node_outcome s) → ⊥
+node_runs nothing h = h
+node_runs (outside r) h = h
+node_runs (says cfg) h = h

@@ -1,8 +1,8 @@
 -- The commands in the code, as requests.
 use Rattle.std.specs.Prelude.{◌≤◌}
 use Rattle.planet_cli.specs.declared.words.Command.{Command}
-use Rattle.planet_cli.specs.declared.words.Command.TheVariants.{Replay, Check, Show, Inject, Fleet, Grow}
-use Rattle.planet_cli.specs.Requests.{Request, replay, check, show, inject, fleet, grow}
+use Rattle.planet_cli.specs.declared.words.Command.TheVariants.{Replay, Check, Show, Inject, Fleet, Node, Grow}
+use Rattle.planet_cli.specs.Requests.{Request, replay, check, show, inject, fleet, node, grow}
 
 -- the request that a command stands for
 abbrev pub request_for : Command → Request
@@ -11,6 +11,7 @@ request_for (Check file) = check file.now
 request_for (Show file) = show file.now
 request_for (Inject file) = inject file.now
 request_for (Fleet file) = fleet file.now
+request_for (Node file turns) = node file.now turns
 request_for (Grow seed n) = grow seed n
 
 -- a network grows by at most 50,000 events

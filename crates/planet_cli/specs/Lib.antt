@@ -12,3 +12,4 @@ pub mod Shows
 pub mod Replays
 pub mod Asks
 pub mod Fleets
+pub mod Serves

@@ -2,15 +2,17 @@
 use Rattle.std.specs.Prelude.{ℕ, ◌≡◌, ◌++◌, nat_lt, if◌then◌else◌, List, [], length, Option, Some, None}
 use Rattle.network_plan.specs.declared.fleet.AskFile.{AskFile}
 use Rattle.network_plan.specs.declared.fleet.Fleet.{Fleet}
+use Rattle.network_plan.specs.declared.serve.ServeConfig.{ServeConfig}
 use Rattle.node_io.specs.FileMaps.{FileMap, file_at}
 use Rattle.node_io.specs.Pieces.{AppendsFront}
 use Rattle.node_files.specs.Asks.{ask_of}
+use Rattle.node_files.specs.Configs.{config_of}
 use Rattle.node_files.specs.Fleets.{fleet_of}
 use Rattle.fleet_run.specs.Asks.{ask_line}
 use Rattle.grow_run.specs.Pings.{grow_output}
 use Rattle.planet_cli.specs.declared.status.Refusal.{Refusal}
 use Rattle.planet_cli.specs.declared.status.Refusal.TheVariants.{TooLong}
-use Rattle.planet_cli.specs.Requests.{Request, replay, check, show, inject, fleet, grow, request_of}
+use Rattle.planet_cli.specs.Requests.{Request, replay, check, show, inject, fleet, node, grow, request_of}
 use Rattle.planet_cli.specs.Said.{Said, nothing, outside, says, said_in}
 use Rattle.planet_cli.specs.Schedules.{schedule_limit, schedule_refusal, schedule_output}
 use Rattle.planet_cli.specs.Checks.{program_limit, program_refusal, program_output}
@@ -51,6 +53,9 @@ ask_outcome said = outcome_by (λ a. whole (ask_line a)) said
 abbrev pub fleet_outcome : Said Fleet → Outcome
 fleet_outcome said = outcome_by (λ f. runs) said
 
+abbrev pub node_outcome : Said ServeConfig → Outcome
+node_outcome said = outcome_by (λ c. runs) said
+
 -- what a request makes of the files
 abbrev pub answered : Option Request → FileMap → Outcome
 answered (Some (replay file)) files = outcome_at schedule_limit schedule_refusal schedule_output (file_at files file)
@@ -58,8 +63,9 @@ answered (Some (check file)) files = outcome_at program_limit program_refusal pr
 answered (Some (show file)) files = outcome_at frame_limit frame_refusal frame_output (file_at files file)
 answered (Some (inject file)) files = ask_outcome (said_in ask_of files file)
 answered (Some (fleet file)) files = fleet_outcome (said_in fleet_of files file)
+answered (Some (node file turns)) files = node_outcome (said_in config_of files file)
 answered (Some (grow seed n)) files = whole (grow_output seed n)
-answered _ files = unasked
+answered None files = unasked
 
 -- what words make of the files
 abbrev pub outcome_of : List (List ℕ) → FileMap → Outcome

@@ -38,25 +38,11 @@ abbrev pub with_two : List ℕ → List ℕ → List ℕ → Option Request
 with_two command a b = if bytes_eq command (codes "grow") then grow_for (number_in 0 (2 ^ 64 - 1) a) (number_in 1 50000 b)
     else (if bytes_eq command (codes "node") then (if is_file_name a then node_for a (number_in 1 1000000 b) else None) else None)
 
--- the command that words name, if they name one
-abbrev pub named_by : List (List ℕ) → Option Request
-named_by (command ∷ file ∷ []) = if is_file_name file then with_file command file else None
-named_by (command ∷ a ∷ b ∷ []) = with_two command a b
-named_by _ = None
-
--- a command that is built
-abbrev pub built : Option Request → Option Request
-built (Some (replay file)) = Some (replay file)
-built (Some (check file)) = Some (check file)
-built (Some (show file)) = Some (show file)
-built (Some (inject file)) = Some (inject file)
-built (Some (fleet file)) = Some (fleet file)
-built (Some (grow seed n)) = Some (grow seed n)
-built _ = None
-
--- what words ask for, of the commands that are built
+-- what words ask for, if they name a command
 abbrev pub request_of : List (List ℕ) → Option Request
-request_of words = built (named_by words)
+request_of (command ∷ file ∷ []) = if is_file_name file then with_file command file else None
+request_of (command ∷ a ∷ b ∷ []) = with_two command a b
+request_of _ = None
 
 -- the file that a request reads
 abbrev pub file_of : Request → Option (List ℕ)
@@ -78,6 +64,11 @@ UnlessLinked _ P = P
 abbrev pub UnlessFleet : Option Request → Type 0 → Type 0
 UnlessFleet (Some (fleet file)) P = Unit {0}
 UnlessFleet _ P = P
+
+-- a fact of all requests but `node`, which alone uses a clock and writes files
+abbrev pub UnlessNode : Option Request → Type 0 → Type 0
+UnlessNode (Some (node file turns)) P = Unit {0}
+UnlessNode _ P = P
 
 -- a premise for `inject` alone
 abbrev pub WhereInjected : Option Request → Type 0 → Type 0

@@ -11,6 +11,7 @@ mod grow;
 mod inject;
 mod lines;
 mod memory;
+mod node;
 mod note;
 mod replay;
 mod show;

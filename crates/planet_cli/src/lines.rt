@@ -11,8 +11,8 @@ use crate::command::Stop;
 use crate::memory::stop_at;
 use crate::status::{Cause, Refusal};
 use line_files::LineFault;
-use network_plan::{AskFile, Fleet};
-use node_files::{read_ask, read_fleet};
+use network_plan::{AskFile, Fleet, ServeConfig};
+use node_files::{read_ask, read_config, read_fleet};
 use node_io::{Files, ReadError, read_whole};
 use std::alloc::Global;
 
@@ -57,6 +57,19 @@ impl LineValue for Fleet {
 
     fn read(alloc: Global, bytes: &[u8]) -> Result<Fleet, LineFault> {
         read_fleet(alloc, bytes)
+    }
+}
+
+impl LineValue for ServeConfig {
+    ghost use Rattle.network_plan.specs.NodeRules.{KeepsServe};
+    ghost use Rattle.node_files.specs.Configs.{config_of};
+
+    ghost said = { config_of };
+
+    ghost keeps = { KeepsServe };
+
+    fn read(alloc: Global, bytes: &[u8]) -> Result<ServeConfig, LineFault> {
+        read_config(alloc, bytes)
     }
 }
 

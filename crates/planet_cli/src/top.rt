@@ -1,9 +1,10 @@
 ghost use Rattle.std.specs.Prelude.{◌≡◌, ◌≢◌, ◌++◌, ◌∷◌, [], ◌⊎◌, List, ℕ, IsTrue, Some, None, Ok, drop};
 ghost use Rattle.node_io.specs.Causes.{Rose};
-ghost use Rattle.planet_cli.specs.Requests.{show, inject, fleet, grow, request_of, UnlessLinked, UnlessFleet, WhereInjected};
+ghost use Rattle.planet_cli.specs.Requests.{show, inject, fleet, node, grow, request_of, UnlessLinked, UnlessFleet, UnlessNode, WhereInjected};
 ghost use Rattle.planet_cli.specs.Memory.{IsOwn};
 ghost use Rattle.planet_cli.specs.Said.{said_in, says, IsSaid};
 ghost use Rattle.planet_cli.specs.Outcomes.{refused, outcome_of, Writes, WritesFront, IsWhole, IsAccepted};
+ghost use Rattle.planet_cli.specs.Serves.{own_node, ServesAtMost, MakesAtMost};
 ghost use Rattle.planet_cli.specs.Refusals.{IfRefused, IfNodesFailed, Gives, code_of};
 ghost use Rattle.planet_cli.specs.Notes.{Noted};
 ghost use Rattle.planet_cli.specs.Files.{AsksFor};
@@ -20,6 +21,9 @@ ghost use Rattle.network_plan.specs.declared.schedule.Schedule.{Schedule};
 ghost use Rattle.network_plan.specs.declared.node.Log.{Log};
 ghost use Rattle.network_plan.specs.declared.fleet.AskFile.{AskFile as Request};
 ghost use Rattle.network_plan.specs.declared.fleet.Fleet.{Fleet as Children};
+ghost use Rattle.network_plan.specs.declared.serve.ServeConfig.{ServeConfig as Serving};
+ghost use Rattle.node_serve.specs.Served.{Served, outside_of};
+ghost use Rattle.node_files.specs.Configs.{config_of};
 ghost use Rattle.node_files.specs.Asks.{ask_of};
 ghost use Rattle.node_files.specs.Fleets.{fleet_of};
 ghost use Rattle.fleet_run.specs.Fleets.{fleet_starts, fleet_end, Reports};
@@ -216,22 +220,55 @@ pub fn planet<F: Files, K: Sink, N: Sink, L: Link, C: Clock, P: Spawner>(
         → ¬ (Rose (K.faults out.old) (K.faults out.new))
         → ¬ (Rose (N.faults notes.old) (N.faults notes.new))
         → IsEnded result.cause ⊎ (result.cause ≡ Cause.NoMemory) }
+    // And of `node`: where it is done, the run of its node stands for so many turns, with the steps refused that its log
+    // says. After every answer what stands are fronts of such a run, and nothing where the file says no configuration.
+    ensures served { IsTrue F.tells
+        → IsTrue K.tells
+        → IsTrue L.tells
+        → IsTrue C.tells
+        → (file : List ℕ) (turns : ℕ) (cfg : Serving)
+        → request_of words.now ≡ Some (node file turns)
+        → said_in config_of (F.files files.old) file ≡ says cfg
+        → result.cause ≡ Cause.Done
+        → Served cfg (own_node cfg) turns
+        (outside_of (L.script link.old) (L.sent link.old) (L.binds link.old) (C.last clock.old) (C.answers clock.old) (F.files files.old) (K.taken out.old))
+        (outside_of (L.script link.new) (L.sent link.new) (L.binds link.new) (C.last clock.new) (C.answers clock.new) (F.files files.new) (K.taken out.new)) }
+    ensures serves { IsTrue F.tells
+        → IsTrue K.tells
+        → IsTrue L.tells
+        → IsTrue C.tells
+        → (file : List ℕ) (turns : ℕ)
+        → request_of words.now ≡ Some (node file turns)
+        → ServesAtMost (said_in config_of (F.files files.old) file) turns
+        (outside_of (L.script link.old) (L.sent link.old) (L.binds link.old) (C.last clock.old) (C.answers clock.old) (F.files files.old) (K.taken out.old))
+        (outside_of (L.script link.new) (L.sent link.new) (L.binds link.new) (C.last clock.new) (C.answers clock.new) (F.files files.new) (K.taken out.new)) }
+    ensures node_complete { IsTrue F.tells
+        → (file : List ℕ) (turns : ℕ) (cfg : Serving)
+        → request_of words.now ≡ Some (node file turns)
+        → said_in config_of (F.files files.old) file ≡ says cfg
+        → ¬ (Rose (F.read_faults files.old) (F.read_faults files.new))
+        → ¬ (Rose (F.write_faults files.old) (F.write_faults files.new))
+        → ¬ (Rose (L.faults link.old) (L.faults link.new))
+        → ¬ (Rose (K.faults out.old) (K.faults out.new))
+        → ¬ (Rose (N.faults notes.old) (N.faults notes.new))
+        → (result.cause ≡ Cause.Done) ⊎ (result.cause ≡ Cause.NoMemory) }
     ensures asked { IsTrue F.tells → AsksFor (request_of words.now) (F.asked files.old) (F.asked files.new) }
-    ensures made { IsTrue F.tells → F.made files.new ≡ F.made files.old }
-    ensures files { IsTrue F.tells → F.files files.new ≡ F.files files.old }
+    ensures made { IsTrue F.tells → MakesAtMost (request_of words.now) (F.files files.old) (F.made files.old) (F.made files.new) }
+    ensures files { IsTrue F.tells → UnlessNode (request_of words.now) (F.files files.new ≡ F.files files.old) }
     ensures no_frames { IsTrue L.tells
         → UnlessLinked (request_of words.now) ((L.binds link.new ≡ L.binds link.old) × (L.sent link.new ≡ L.sent link.old)) }
-    ensures no_arrivals { IsTrue L.tells → L.script link.new ≡ L.script link.old }
-    // A file that isn't taken leaves the link as it was.
+    ensures no_arrivals { IsTrue L.tells → UnlessNode (request_of words.now) (L.script link.new ≡ L.script link.old) }
+    // A file that isn't taken leaves the link, the clock and the files as they were.
     ensures unserved { IsTrue F.tells
         → ¬ (IsAccepted (outcome_of words.now (F.files files.old)))
-        → IsTrue L.tells
-        → (L.binds link.new ≡ L.binds link.old) × (L.sent link.new ≡ L.sent link.old) }
-    ensures no_moments { IsTrue C.tells → C.answers clock.new ≡ C.answers clock.old }
+        → (IsTrue L.tells → (L.binds link.new ≡ L.binds link.old) × (L.sent link.new ≡ L.sent link.old) × (L.script link.new ≡ L.script link.old))
+        × (IsTrue C.tells → C.answers clock.new ≡ C.answers clock.old)
+        × (F.files files.new ≡ F.files files.old) }
+    ensures no_moments { IsTrue C.tells → UnlessNode (request_of words.now) (C.answers clock.new ≡ C.answers clock.old) }
     ensures no_starts { IsTrue P.tells → UnlessFleet (request_of words.now) (P.starts spawn.new ≡ P.starts spawn.old) }
     ensures statuses { IsTrue P.tells → P.statuses spawn.new ≡ P.statuses spawn.old }
 {
-    let found = run(alloc, words, files, out, link, spawn);
+    let found = run(alloc, words, files, out, link, clock, spawn);
     let cause = settle(alloc, found, notes);
     Status {
         code: exit_code(&cause),

@@ -1,12 +1,12 @@
 ghost use Rattle.std.specs.Prelude.{◌≡◌, IfSome, MatchOption};
 ghost use Rattle.std.specs.Str.{bytes_eq};
-ghost use Rattle.planet_cli.specs.Requests.{built, with_file, with_two, request_of};
+ghost use Rattle.planet_cli.specs.Requests.{with_file, with_two, request_of};
 ghost use Rattle.planet_cli.specs.Commands.{request_for, command_fits};
 
 use line_files::{as_file_name, decimal, number_of};
 use plan_base::Texts;
 
-/// What words ask for, of the commands that are built.
+/// What words ask for.
 #[derive(Clone, Copy)]
 pub enum Command<'a> {
     /// `replay FILE`
@@ -19,6 +19,8 @@ pub enum Command<'a> {
     Inject(&'a str),
     /// `fleet FILE`
     Fleet(&'a str),
+    /// `node FILE TURNS`, with TURNS from 1 to 1,000,000
+    Node(&'a str, u32),
     /// `grow SEED N`, with N from 1 to 50,000
     Grow(u64, u32),
 }
@@ -29,9 +31,9 @@ fn is(word: &[u8], name: &[u8]) -> bool
     word == name
 }
 
-// The command of that name on a file, or `None` where there is none that is built.
+// The command of that name on a file, or `None` where there is none.
 fn command_on<'a>(name: &[u8], file: &'a str) -> Option<Command<'a>>
-    ensures { MatchOption result (built (with_file name.now file.now) ≡ None) (λ c. built (with_file name.now file.now) ≡ Some (request_for c)) }
+    ensures { MatchOption result (with_file name.now file.now ≡ None) (λ c. with_file name.now file.now ≡ Some (request_for c)) }
 {
     if is(name, b"replay") {
         return Some(Command::Replay(file));
@@ -51,14 +53,16 @@ fn command_on<'a>(name: &[u8], file: &'a str) -> Option<Command<'a>>
     None
 }
 
-// The command of that name with two words, or `None` where there is none that is built.
-#[tactic(auto, using(crate::proofs::RequestLemmas::built_not_grow))]
-fn command_with<'a>(name: &[u8], first: &[u8], second: &[u8]) -> Option<Command<'a>>
-    ensures named { MatchOption result (built (with_two name.now first.now second.now) ≡ None) (λ c. built (with_two name.now first.now second.now) ≡ Some (request_for c)) }
+// The command of that name with two words, or `None` where there is none that takes them.
+fn command_with<'a>(name: &[u8], first: &'a [u8], second: &[u8]) -> Option<Command<'a>>
+    ensures named { MatchOption result (with_two name.now first.now second.now ≡ None) (λ c. with_two name.now first.now second.now ≡ Some (request_for c)) }
     ensures fits { IfSome result command_fits }
 {
     if is(name, b"grow") {
         return Some(Command::Grow(decimal(first)?, number_of(second, 1, 50_000)?));
+    }
+    if is(name, b"node") {
+        return Some(Command::Node(as_file_name(first)?, number_of(second, 1, 1_000_000)?));
     }
     None
 }

@@ -15,6 +15,7 @@ use Rattle.plan_grammar.specs.Ahead.{Front, ◌>>=◌, place, behind, is_key}
 use Rattle.plan_grammar.specs.Nodes.{all_at}
 use Rattle.plan_grammar.specs.Exprs.{expr_to}
 use Rattle.grammar_laws.specs.Agenda.{Item, Counted, a_name, whole, declarations as item_declarations, declaration, body, judgement, size_of, body_size, judge, another, a_service, a_function, step}
+use Rattle.grammar_laws.proofs.Ends.{nowhere, to_end, None_left, as_refused, refused_as}
 use Rattle.grammar_laws.proofs.ReadSteps.{Reads}
 use Rattle.grammar_laws.proofs.Works.{Works, Follows, goes_on, stops, begin, after, after_read, given, both, both_then, name_works, refuses_first}
 use Rattle.grammar_laws.proofs.ExprsWork.{exprs_work}
@@ -128,17 +129,6 @@ module _ (end : ℕ) (rest : List Item) (all : Gathered) (f : Front) where
       (both (is_key keys.Exception f) _ _ (On end rest) _ _ exception_follows
       (both (is_key keys.Fun f) _ _ (On end rest) _ _ function_follows (stops _ (On end rest)))))
 
--- a reading of the whole text, behind which nothing is left
-abbrev nowhere : Front
-nowhere = record { tokens = []; end = 0 }
-
-abbrev to_end : {A : Type 0} → Result A ParseFault → Result (A × Front) ParseFault
-to_end (Ok x) = Ok (x, nowhere)
-to_end (Err e) = Err e
-
-abbrev None_left : {A : Type 0} → A → List Item
-None_left x = []
-
 at_end : {A : Type 0} (x : A) (f : Front) → Works [] f None_left (Ok (x, nowhere))
 at_end x f = record { works = λ e. (λ h. absurd (no_fault step h), λ h. absurd (no_fault step h)) }
 
@@ -187,13 +177,6 @@ program_works : (tokens : List Token) (end : ℕ)
     → Works (item_declarations (counted end nothing) ∷ []) (record { tokens = tokens; end = end }) None_left (to_end (program_of tokens end))
 unfolding program_of
 program_works tokens end = declarations_work (record { tokens = tokens; end = end }) end (length tokens) nothing (record { tokens = tokens; end = end }) gram.no_declaration (omega arith)
-
-as_refused : {A : Type 0} (r : Result A ParseFault) (e : ParseFault) → r ≡ Err e → to_end r ≡ Err e
-as_refused r e h = rw h refl
-
-refused_as : {A : Type 0} (r : Result A ParseFault) (e : ParseFault) → to_end r ≡ Err e → r ≡ Err e
-refused_as (Ok x) e h = cc
-refused_as (Err d) e h = cc
 
 -- a program is refused exactly with the first refusal
 pub program_refused : (tokens : List Token) (end : ℕ) (e : ParseFault) → (program_of tokens end ≡ Err e) ↔ FirstProgramRefusal e tokens end

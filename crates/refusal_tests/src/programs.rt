@@ -1,7 +1,9 @@
-// What must stand next in a program, and doesn't.
+// What must stand next in a program, and doesn't; and forms with more parts than other tables have.
 
+use plan_base::Bytes;
 use plan_grammar::{ParseFault, Wanted};
 use plan_lexer::{Key, Symbol};
+use plan_printer::print_program;
 use program_text::{TextFault, read_program};
 use std::alloc::Global;
 use std::process::Abort;
@@ -10,13 +12,13 @@ use std::test::Fail;
 /// A text, what must stand in it, and where.
 type Row = (&'static str, Wanted, u32);
 
-// What must stand next where a text is no program.
-fn wanted(alloc: Global, text: &[u8]) -> Option<(Wanted, u32)> {
+// Why the tokens of a text are no program.
+fn refused(alloc: Global, text: &[u8]) -> Option<ParseFault> {
     if text.len() > 65_536 {
         return None;
     }
     match read_program(alloc, text) {
-        Err(TextFault::Parse(ParseFault::Expected(what, at))) => Some((what, at)),
+        Err(TextFault::Parse(fault)) => Some(fault),
         _ => None,
     }
 }
@@ -25,7 +27,10 @@ fn all_wanted(rt: &impl Abort, alloc: Global, front: &str, table: &[Row]) -> Res
     for (back, what, at) in table {
         let mut text = String::from_str(alloc, front)?;
         text.push_str(back)?;
-        assert_eq!(rt; wanted(alloc, text.as_bytes()), Some((*what, *at)));
+        assert_eq!(rt;
+            refused(alloc, text.as_bytes()),
+            Some(ParseFault::Expected(*what, *at))
+        );
     }
     Ok(())
 }
@@ -128,15 +133,73 @@ static LISTS: [Row; 25] = [
     ("(1,1,1,1,1,1,1,1,)", Wanted::AnExpr, 33),
 ];
 
-// A `let` of two values, a `raise` with its type.
-static TYPED: [&str; 2] = [
-    "let val x : int = 1 val y : int = 2 in x end",
-    "raise[:int] Empty",
+/// A body, and how it prints.
+type Printed = (&'static str, &'static str);
+
+// A `let` of two values, a `raise` without and with its type, a clause with a name, a char and a text that are escaped.
+static PRINTED: [Printed; 6] = [
+    (
+        "let val x : int = 1 val y : int = 2 in x end",
+        "let val x : int = 1 in let val y : int = 2 in x end end",
+    ),
+    ("raise Empty", "raise[:int] Empty"),
+    ("raise[:int] Empty", "raise[:int] Empty"),
+    (
+        "try 1 handle Empty => 2 | _ => 3 end",
+        "try 1 handle Empty => 2 | _ => 3 end",
+    ),
+    (
+        "if 'a' = '\\t' then 1 else 2",
+        "(if ('a' = '\\t') then 1 else 2)",
+    ),
+    (
+        "if \"\\t\\r\" = \"a\" then 1 else 2",
+        "(if (\"\\t\\r\" = \"a\") then 1 else 2)",
+    ),
 ];
 
-fn is_typed(alloc: Global, text: &[u8]) -> bool {
-    text.len() <= 65_536 && read_program(alloc, text).is_ok()
+// A text as it prints, once it is read.
+fn printed(alloc: Global, text: &[u8]) -> Result<Bytes, Fail> {
+    let mut out = Bytes::new(alloc);
+    if text.len() <= 65_536 {
+        print_program(alloc, read_program(alloc, text)?.program(), &mut out)?;
+    }
+    Ok(out)
 }
+
+// A text between two others, with a front and a back so many times around it.
+fn nested(
+    alloc: Global,
+    before: &str,
+    nest: &Nest,
+    times: u8,
+    inside: &str,
+) -> Result<String, Fail> {
+    let (front, back) = *nest;
+    let mut text = String::from_str(alloc, before)?;
+    for _ in 0..times {
+        text.push_str(front)?;
+    }
+    text.push_str(inside)?;
+    for _ in 0..times {
+        text.push_str(back)?;
+    }
+    Ok(text)
+}
+
+/// What stands before and behind each level.
+type Nest = (&'static str, &'static str);
+
+const BRACKETS: Nest = ("(", ")");
+
+// Packets that are sent inside the host, the number and the device of others.
+static SENDS: [Nest; 5] = [
+    ("OnRemote(|g|(), (", "; @1), 1, defaultRoute)"),
+    ("OnRemote(|g|(), @1, (", "; 1), defaultRoute)"),
+    ("OnNeighbor(|g|(), (", "; @1), 1, %0)"),
+    ("OnNeighbor(|g|(), @1, (", "; 1), %0)"),
+    ("OnNeighbor(|g|(), @1, 1, (", "; %0))"),
+];
 
 const FRONT: &str = "fun f() : int = ";
 
@@ -148,11 +211,45 @@ fn each_token_that_must_stand_is_wanted(rt: HostRuntime) -> Result<(), Fail> {
 }
 
 #[test]
-fn forms_with_more_parts_are_typed(rt: HostRuntime) -> Result<(), Fail> {
-    for body in &TYPED {
-        let mut text = String::from_str(rt.alloc(), FRONT)?;
-        text.push_str(body)?;
-        assert!(rt; is_typed(rt.alloc(), text.as_bytes()));
+fn forms_with_more_parts_are_printed(rt: HostRuntime) -> Result<(), Fail> {
+    for (body, wanted) in &PRINTED {
+        let text = format!(in rt.alloc(); "{FRONT}{body}")?;
+        let line = format!(in rt.alloc(); "{FRONT}{wanted}\n")?;
+        let out = printed(rt.alloc(), text.as_bytes())?;
+        assert_eq!(rt; out.as_slice(), line.as_bytes());
+    }
+    Ok(())
+}
+
+// A type stands in 159 brackets inside those of a head, and in no 160. Were one read twice at each bracket, this would never
+// end.
+#[test]
+fn a_type_in_159_brackets_is_read(rt: HostRuntime) -> Result<(), Fail> {
+    let text = nested(rt.alloc(), "fun f(x : ", &BRACKETS, 159, "int")?;
+    let whole = format!(in rt.alloc(); "{text}) : int = x")?;
+    let out = printed(rt.alloc(), whole.as_bytes())?;
+    assert_eq!(rt; out.as_slice(), b"fun f(x : int) : int = x\n".as_slice());
+    let text = nested(rt.alloc(), "fun f(x : ", &BRACKETS, 160, "int")?;
+    assert_eq!(rt;
+        refused(rt.alloc(), text.as_bytes()),
+        Some(ParseFault::TooDeep(169))
+    );
+    Ok(())
+}
+
+// Were a part measured twice at each level, this would never end.
+#[test]
+fn sends_inside_each_other_are_printed(rt: HostRuntime) -> Result<(), Fail> {
+    for nest in &SENDS {
+        let text = nested(
+            rt.alloc(),
+            "fun g() : unit = ()\nfun f() : unit = ",
+            nest,
+            31,
+            "()",
+        )?;
+        let out = printed(rt.alloc(), text.as_bytes())?;
+        assert!(rt; out.len() > text.len());
     }
     Ok(())
 }

@@ -1,11 +1,9 @@
 -- The reading of a type works off its agenda.
-use Rattle.std.proofs.Common.{◌≡◌, ◌∙◌, ◌==◌, ◌+◌, ℕ, zero, suc, Bool, true, false, List, [], ◌∷◌, ◌++◌, Option, Some, None, Result, Ok, Err, if◌then◌else◌, nat_lt, ap, subst, sym as back, refl, arith}
-use Rattle.small_laws.proofs.Bools.{not_zero}
+use Rattle.std.proofs.Common.{◌≡◌, ◌+◌, ℕ, zero, suc, Bool, true, false, List, [], ◌∷◌, ◌++◌, Option, Some, None, Result, Ok, Err, if◌then◌else◌, nat_lt, subst, sym as back, refl, arith}
 use Rattle.plan_base.specs.declared.limit.Limit.TheVariants as limits
 use Rattle.plan_base.specs.declared.tree.Ty.{Ty}
 use Rattle.plan_base.specs.declared.tree.Ty.TheVariants as ty
-use Rattle.plan_base.specs.Sizes.{type_depth, type_depth_level}
-use Rattle.plan_base.proofs.SizeLaws.{type_depth_out}
+use Rattle.plan_base.specs.Sizes.{type_depth}
 use Rattle.plan_lexer.specs.declared.token.Token.{Token}
 use Rattle.plan_lexer.specs.declared.token.Symbol.TheVariants as symbols
 use Rattle.plan_grammar.specs.declared.fault.ParseFault.{ParseFault}
@@ -14,22 +12,12 @@ use Rattle.plan_grammar.specs.declared.fault.Wanted.TheVariants as wanted
 use Rattle.plan_grammar.specs.Ahead.{Front, Reader, ◌>>=◌, place, behind, next_kind, is_key, is_symbol}
 use Rattle.plan_grammar.specs.Begins.{kind_type, begins_type}
 use Rattle.plan_grammar.specs.Types.{opens, more, named, is_list_word, after_lists, list_words, behind_lists, lists_of, judged, tuple_type, single_type, group_type, base_type, whole_type, type_to}
-use Rattle.value_faults.specs.Agenda.{Item, a_type, lists, first_type, behind_first, next_type, behind_next, sym, Step, enter, hand, type_step, step}
+use Rattle.grammar_laws.specs.Agenda.{StepOf}
+use Rattle.grammar_laws.proofs.TokenFacts.{room_open}
+use Rattle.grammar_laws.proofs.TypesAre.{left_behind}
+use Rattle.grammar_laws.proofs.TypesRead.{depth_of_lists}
+use Rattle.value_faults.specs.Agenda.{Item, a_type, lists, first_type, behind_first, next_type, behind_next, sym, enter, hand, type_step, step}
 use Rattle.value_faults.proofs.Works.{Works, Follows, goes_on, stops, begin, after, given, both, symbol_works}
-
-depth_of_list : (t : Ty) → type_depth (ty.List t) ≡ 1 + type_depth t
-depth_of_list t = type_depth_out (ty.List t) ∙ ap (type_depth_level type_depth) (ty.outs-List t)
-
-depth_of_lists : (n : ℕ) (t : Ty) → type_depth (lists_of n t) ≡ type_depth t + n
-depth_of_lists zero t = omega arith
-depth_of_lists (suc n) t = let e = depth_of_lists n (ty.List t) in let d = depth_of_list t in omega (arith, e, d)
-
-pub room_open : (r : ℕ) → (suc r == 0) ≡ false
-room_open r = not_zero (suc r) (omega arith)
-
--- a type with what is left behind it
-abbrev left_behind : Front → Ty → Result (Ty × Front) ParseFault
-left_behind g t = Ok (t, g)
 
 -- one more `list` is the outermost
 list_of_lists : (n : ℕ) (t : Ty) → ty.List (lists_of n t) ≡ lists_of n (ty.List t)
@@ -54,7 +42,7 @@ module _ (o start end : ℕ) (base : Ty) (more : List Item) where
   abbrev Ends : ℕ × List Token → Result (Ty × Front) ParseFault
   Ends p = judged start p.0 base >>= left_behind (record { tokens = p.1; end = end })
 
-  abbrev Judge : ℕ → List Token → Step
+  abbrev Judge : ℕ → List Token → StepOf Item
   Judge n ts = if nat_lt 8 (type_depth (lists_of n base)) then Err (TooDeep start) else Ok (hand (lists_of n base) more, record { tokens = ts; end = end })
 
   ended : (n : ℕ) (ts : List Token) → Follows o (Judge n ts) Handed (Ends (n, ts))

@@ -20,7 +20,8 @@ use Rattle.plan_parser.specs.declared.item.Item.{Item as Read}
 use Rattle.plan_parser.specs.Values.{typed, literal, literal_from, begins_value, tuple_of, list_of, judged, fits, tuple_from, tuple, grouped, parens, like, listing, typed_nil, brackets, value_at, value_to, argument_at, arguments_from, arguments_behind}
 use Rattle.value_faults.specs.Agenda.{Item, sym, a_type, a_value, made, behind_paren, first_part, behind_part, next_part, behind_parts, behind_bracket, element, behind_element, first_item, next_item, behind_item, behind_items, args, more_args, enter, hand, literal_type, literal_step, step}
 use Rattle.value_faults.proofs.Works.{Works, Follows, goes_on, stops, begin, after, given, both, symbol_works}
-use Rattle.value_faults.proofs.TypesWork.{room_open, enters, types_work}
+use Rattle.grammar_laws.proofs.TokenFacts.{room_open}
+use Rattle.value_faults.proofs.TypesWork.{enters, types_work}
 
 abbrev types_of : List Read → List Ty
 types_of is = map (λ i. i.ty) is

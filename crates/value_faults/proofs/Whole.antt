@@ -9,36 +9,22 @@ use Rattle.plan_grammar.specs.declared.fault.ParseFault.{ParseFault}
 use Rattle.plan_grammar.specs.declared.fault.ParseFault.TheVariants.{Expected}
 use Rattle.plan_grammar.specs.declared.fault.Wanted.TheVariants as wanted
 use Rattle.plan_grammar.specs.Ahead.{Front, ◌>>=◌, place, behind, need_symbol}
+use Rattle.grammar_laws.proofs.Ends.{nowhere, to_end, None_left, as_refused, refused_as}
 use Rattle.plan_parser.specs.declared.value_fault.ValueFault.{ValueFault}
 use Rattle.plan_parser.specs.declared.value_fault.ValueFault.TheVariants as faults
 use Rattle.plan_parser.specs.Values.{value_to, ended, arguments_behind, value_of, args_of}
 use Rattle.plan_parser.specs.ReadTexts.{Fails, no_tokens, no_value}
-use Rattle.value_faults.specs.Agenda.{Item, sym, a_value, args, the_end, hand, step}
+use Rattle.value_grammar.specs.Grammar.{IsValue, AreArgs}
+use Rattle.value_grammar.proofs.ValuesRead.{value_written, args_written}
+use Rattle.value_grammar.proofs.ValuesAre.{value_read, args_read}
+use Rattle.value_faults.specs.Agenda.{sym, a_value, args, the_end, hand, step}
 use Rattle.value_faults.specs.Refusals.{FirstValueRefusal, FirstArgsRefusal, IsValueOrRefused, AreArgsOrRefused, FirstTextRefusal, of_tokens, of_reading}
 use Rattle.value_faults.proofs.Works.{Works, Follows, goes_on, stops, begin, after, symbol_works, refuses_first}
 use Rattle.value_faults.proofs.ValuesWork.{values_work, arguments_work}
 
--- a reading of the whole text, behind which nothing is left
-abbrev nowhere : Front
-nowhere = record { tokens = []; end = 0 }
-
-abbrev to_end : {A : Type 0} → Result A ParseFault → Result (A × Front) ParseFault
-to_end (Ok x) = Ok (x, nowhere)
-to_end (Err e) = Err e
-
-abbrev None_left : {A : Type 0} → A → List Item
-None_left x = []
-
 turned : {A B : Type 0} (r : Result A ParseFault) (h : A → Result B ParseFault) → (r >>= λ x. to_end (h x)) ≡ to_end (r >>= h)
 turned (Ok x) h = refl
 turned (Err e) h = refl
-
-as_refused : {A : Type 0} (r : Result A ParseFault) (e : ParseFault) → r ≡ Err e → to_end r ≡ Err e
-as_refused r e h = rw h refl
-
-refused_as : {A : Type 0} (r : Result A ParseFault) (e : ParseFault) → to_end r ≡ Err e → r ≡ Err e
-refused_as (Ok x) e h = cc
-refused_as (Err d) e h = cc
 
 -- whether something is left
 abbrev ended_by : Front → Bool → Result (Unit {0}) ParseFault
@@ -102,21 +88,21 @@ module _ (tokens : List Token) (end : ℕ) where
   value_or_refused = go (value_of tokens end) refl
     where
       go : (r : Result Value ParseFault) → value_of tokens end ≡ r → IsValueOrRefused tokens end
-      go (Ok x) e = inl (x, e)
+      go (Ok x) e = inl (x, value_written tokens end x e)
       go (Err d) e = inr (d, (value_refused d).0 e)
 
   pub args_or_refused : AreArgsOrRefused tokens end
   args_or_refused = go (args_of tokens end) refl
     where
       go : (r : Result (List Value) ParseFault) → args_of tokens end ≡ r → AreArgsOrRefused tokens end
-      go (Ok xs) e = inl (xs, e)
+      go (Ok xs) e = inl (xs, args_written tokens end xs e)
       go (Err d) e = inr (d, (args_refused d).0 e)
 
-  pub values_apart : (x : Value) (e : ParseFault) → value_of tokens end ≡ Ok x → FirstValueRefusal e tokens end → ⊥
-  values_apart x e w h = no_both x e (back w ∙ (value_refused e).1 h)
+  pub values_apart : (x : Value) (e : ParseFault) → IsValue tokens end x → FirstValueRefusal e tokens end → ⊥
+  values_apart x e d h = no_both x e (back (value_read tokens end x d) ∙ (value_refused e).1 h)
 
-  pub args_apart : (xs : List Value) (e : ParseFault) → args_of tokens end ≡ Ok xs → FirstArgsRefusal e tokens end → ⊥
-  args_apart xs e w h = no_both xs e (back w ∙ (args_refused e).1 h)
+  pub args_apart : (xs : List Value) (e : ParseFault) → AreArgs tokens end xs → FirstArgsRefusal e tokens end → ⊥
+  args_apart xs e d h = no_both xs e (back (args_read tokens end xs d) ∙ (args_refused e).1 h)
 
 -- ---- texts
 

@@ -7,7 +7,8 @@ use Rattle.plan_grammar.specs.declared.fault.ParseFault.{ParseFault}
 use Rattle.plan_grammar.specs.declared.fault.ParseFault.TheVariants.{Expected}
 use Rattle.plan_grammar.specs.declared.fault.Wanted.TheVariants as wanted
 use Rattle.plan_grammar.specs.Ahead.{Front, ◌>>=◌, place, behind, is_symbol, need_symbol}
-use Rattle.value_faults.specs.Agenda.{Item, sym, Step, step}
+use Rattle.grammar_laws.specs.Agenda.{StepOf}
+use Rattle.value_faults.specs.Agenda.{Item, sym, step}
 
 module _ (o : ℕ) where
   -- the reading r works off the agenda now, up to next
@@ -15,7 +16,7 @@ module _ (o : ℕ) where
     pub works : Goes (step o) now f next r
 
   -- the reading r works off what a step left
-  unfoldable pub Follows : {A : Type 0} → Step → (A → List Item) → Result (A × Front) ParseFault → Type 0
+  unfoldable pub Follows : {A : Type 0} → StepOf Item → (A → List Item) → Result (A × Front) ParseFault → Type 0
   Follows (Ok x) next r = Works x.0 x.1 next r
   Follows (Err e) next r = r ≡ Err e
 
@@ -35,7 +36,7 @@ module _ (o : ℕ) where
   unfolding Follows
   begin {A} i more f next r k = record { works = go (step o i more f) refl k }
     where
-      go : (s : Step) → step o i more f ≡ s → Follows s next r → Goes (step o) (i ∷ more) f next r
+      go : (s : StepOf Item) → step o i more f ≡ s → Follows s next r → Goes (step o) (i ∷ more) f next r
       go (Ok x) e h = through (step o) (i ∷ more) f x.0 x.1 next r (single_step (step o) {A = Unit {0}} i more f (λ _. x.0) (Ok (tt, x.1)) e) h.works
       go (Err d) e h = rw h (single_step (step o) i more f next (Err d) e)
 
@@ -48,12 +49,12 @@ module _ (o : ℕ) where
   given next x g = record { works = λ e. (λ h. h, λ h. h) }
 
   -- a step and a reading that ask the same
-  pub both : {A : Type 0} (b : Bool) (s t : Step) (next : A → List Item) (won lost : Result (A × Front) ParseFault)
+  pub both : {A : Type 0} (b : Bool) (s t : StepOf Item) (next : A → List Item) (won lost : Result (A × Front) ParseFault)
       → Follows s next won → Follows t next lost → Follows (if b then s else t) next (if b then won else lost)
   both true s t next won lost y n = y
   both false s t next won lost y n = n
 
-  pub both_then : {A B : Type 0} (b : Bool) (s t : Step) (next : B → List Item) (won lost : Result (A × Front) ParseFault) (h : A × Front → Result (B × Front) ParseFault)
+  pub both_then : {A B : Type 0} (b : Bool) (s t : StepOf Item) (next : B → List Item) (won lost : Result (A × Front) ParseFault) (h : A × Front → Result (B × Front) ParseFault)
       → Follows s next (won >>= h) → Follows t next (lost >>= h) → Follows (if b then s else t) next ((if b then won else lost) >>= h)
   both_then true s t next won lost h y n = y
   both_then false s t next won lost h y n = n

@@ -1,6 +1,6 @@
 -- What must be read of a value and of arguments, in order, and what the first step that fails answers. A type and a value hand
 -- the type that they are to what waits for it, so a list judges its items, and `[:t]` its depth, by what was written.
-use Rattle.std.specs.Prelude.{◌+◌, ◌-◌, ◌++◌, ℕ, zero, suc, List, [], ◌∷◌, length, nat_lt, Option, Some, None, Result, Ok, Err, if◌then◌else◌}
+use Rattle.std.specs.Prelude.{◌+◌, ◌-◌, ◌++◌, ℕ, zero, suc, List, [], ◌∷◌, length, nat_lt, Option, Some, None, Ok, Err, if◌then◌else◌}
 use Rattle.plan_base.specs.declared.limit.Limit.TheVariants as limits
 use Rattle.plan_base.specs.declared.tree.Ty.{Ty}
 use Rattle.plan_base.specs.declared.tree.Ty.TheVariants as ty
@@ -12,13 +12,12 @@ use Rattle.plan_lexer.specs.declared.token.Key.{Key}
 use Rattle.plan_lexer.specs.declared.token.Key.TheVariants as keys
 use Rattle.plan_lexer.specs.declared.token.Symbol.{Symbol}
 use Rattle.plan_lexer.specs.declared.token.Symbol.TheVariants as symbols
-use Rattle.plan_grammar.specs.declared.fault.ParseFault.{ParseFault}
 use Rattle.plan_grammar.specs.declared.fault.ParseFault.TheVariants.{Expected, TooDeep}
-use Rattle.plan_grammar.specs.declared.fault.Wanted.{Wanted}
 use Rattle.plan_grammar.specs.declared.fault.Wanted.TheVariants as wanted
 use Rattle.plan_grammar.specs.Ahead.{Front, place, behind, next_kind, is_symbol, is_key}
 use Rattle.plan_grammar.specs.Begins.{kind_type, begins_type}
 use Rattle.plan_grammar.specs.Types.{past}
+use Rattle.grammar_laws.specs.Agenda.{StepOf, expected}
 use Rattle.plan_parser.specs.Values.{begins_value}
 
 -- What must be read. Of lists and tuples r more may stand inside each other, or q inside the one that is open; `left` more
@@ -56,15 +55,8 @@ pub data Item : Type 0 where
   more_args : ℕ → Item
   the_end : Item
 
--- what was taken, and where the reading goes on
-abbrev pub Step : Type 0
-Step = Result (List Item × Front) ParseFault
-
-abbrev pub expected : Wanted → Front → Step
-expected what f = Err (Expected what (place f))
-
 -- a list or a tuple whose bracket stands at that place opens, if one more may
-abbrev pub enter : ℕ → ℕ → (ℕ → List Item) → Front → Step
+abbrev pub enter : ℕ → ℕ → (ℕ → List Item) → Front → StepOf Item
 enter zero at items f = Err (TooDeep at)
 enter (suc q) at items f = Ok (items q, f)
 
@@ -96,16 +88,16 @@ literal_type (Some (kinds.Key k)) = key_literal k
 literal_type _ = None
 
 -- one token that is a type or a value
-abbrev pub type_step : List Item → Front → Option Ty → Step
+abbrev pub type_step : List Item → Front → Option Ty → StepOf Item
 type_step more f (Some t) = Ok (lists (place f) t ∷ more, behind f)
 type_step more f None = expected wanted.AType f
 
-abbrev pub literal_step : List Item → Front → Option Ty → Step
+abbrev pub literal_step : List Item → Front → Option Ty → StepOf Item
 literal_step more f (Some t) = Ok (hand t more, behind f)
 literal_step more f None = expected wanted.AValue f
 
 -- what is read from the first item, where so many brackets are open around the whole value
-unfoldable pub step : ℕ → Item → List Item → Front → Step
+unfoldable pub step : ℕ → Item → List Item → Front → StepOf Item
 step o (sym w) more f = if is_symbol w f then Ok (more, behind f) else expected (wanted.Symbol w) f
 step o (a_type r) more f =
     if is_symbol symbols.ParenOpen f then enter r (place f) (λ q. a_type q ∷ first_type q (place f) ∷ more) (behind f) else type_step more f (kind_type (next_kind f))

@@ -3,13 +3,14 @@
 //! Each law stands on a function without code, so that contracts of other crates can name it.
 #![tactic(auto)]
 
-ghost use Rattle.std.specs.Prelude.{◌≡◌, ◌↔◌, ℕ, List, Ok, Err};
+ghost use Rattle.std.specs.Prelude.{◌≡◌, ◌↔◌, ℕ, List, Err};
 ghost use Rattle.plan_base.specs.declared.tree.Value.{Value};
 ghost use Rattle.plan_lexer.specs.declared.token.Token.{Token};
 ghost use Rattle.plan_grammar.specs.declared.fault.ParseFault.{ParseFault};
 ghost use Rattle.plan_parser.specs.declared.value_fault.ValueFault.{ValueFault};
 ghost use Rattle.plan_parser.specs.Values.{value_of, args_of};
 ghost use Rattle.plan_parser.specs.ReadTexts.{Fails};
+ghost use Rattle.value_grammar.specs.Grammar.{IsValue, AreArgs};
 ghost use Rattle.value_faults.specs.Refusals.{FirstValueRefusal, FirstArgsRefusal, IsValueOrRefused, AreArgsOrRefused, FirstTextRefusal};
 
 /// Tokens are refused as a value, or as arguments, exactly with the first refusal of their agenda, and have at most one.
@@ -20,12 +21,12 @@ pub fn refusals_are_first()
     ensures one_args { (tokens : List Token) (end : ℕ) (d e : ParseFault) → FirstArgsRefusal d tokens end → FirstArgsRefusal e tokens end → d ≡ e }
 {}
 
-/// Tokens are read as a value or have a first refusal, and not both; and so for arguments.
+/// Tokens are a value by the written grammar or have a first refusal, and not both; and so for arguments.
 pub fn one_answer()
     ensures value { (tokens : List Token) (end : ℕ) → IsValueOrRefused tokens end }
     ensures arguments { (tokens : List Token) (end : ℕ) → AreArgsOrRefused tokens end }
-    ensures apart_values { (tokens : List Token) (end : ℕ) (v : Value) (e : ParseFault) → value_of tokens end ≡ Ok v → FirstValueRefusal e tokens end → ⊥ }
-    ensures apart_args { (tokens : List Token) (end : ℕ) (vs : List Value) (e : ParseFault) → args_of tokens end ≡ Ok vs → FirstArgsRefusal e tokens end → ⊥ }
+    ensures apart_values { (tokens : List Token) (end : ℕ) (v : Value) (e : ParseFault) → IsValue tokens end v → FirstValueRefusal e tokens end → ⊥ }
+    ensures apart_args { (tokens : List Token) (end : ℕ) (vs : List Value) (e : ParseFault) → AreArgs tokens end vs → FirstArgsRefusal e tokens end → ⊥ }
 {}
 
 /// A text is refused exactly for the first refusal of its tokens, and else for the first of what they are; it has at most

@@ -79,3 +79,9 @@ returns-clause-logged g c =
     λ files_tell out_tells l logs done.
     let found = done_found _ _ _ c.settle-cause.ensures.gives done in
     log_written c.args.words.now (g.F.Files.files c.args.files.now) l logs _ _ (c.run-found.ensures.accepted files_tell found) (c.run-found.ensures.whole files_tell out_tells found)
+
+pub returns-clause-served : goal.returns-clause-served
+returns-clause-served g c =
+    λ files_tell out_tells link_tells clock_tells file turns cfg asked said done.
+    let found = done_found _ _ _ c.settle-cause.ensures.gives done in
+    c.run-found.ensures.served files_tell out_tells link_tells clock_tells file turns cfg asked said found

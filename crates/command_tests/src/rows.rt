@@ -1,0 +1,147 @@
+// Files of the rows, and what comes of them.
+
+pub const REQUEST: &[u8] = b"planet inject 1\n\
+to 7001\n\
+from 7100\n\
+bound 10\n\
+entry f ()\n\
+program\n\
+fun f() : unit = ()\n\
+end program\n";
+
+pub const ASK: &str = "504c414e01030000000a0000010166000020016600";
+
+pub const ASKED: &[u8] = b"asked 7001 bytes 21\n";
+
+pub const FLEET: &[u8] = b"planet fleet 1\nnode 1 a.cfg 300\nnode 2 b.cfg 300\n";
+
+pub const REPORT: &[u8] = b"node @1 status 0\nnode @2 status 2\n";
+
+pub const FAILED: &[u8] = b"planet: node @2 failed with 2\n";
+
+pub const PROGRAM: &[u8] = b"fun f() : unit = OnNeighbor(|f|(), @2, 1, %1)\n";
+
+pub const SIZES: &[u8] = b"ok functions 1 nodes 5 code 31\n";
+
+pub const FRAME: &[u8] = b"504c414e01030000000a0000010166000020016600\n";
+
+pub const SHOWN: &[u8] = b"ask bound 10\n|f|()\nfun f() : unit = ()\n";
+
+// A node with one neighbour.
+pub const NODE: &[u8] = b"planet node 1\n\
+host 1\n\
+hosts 1 2\n\
+port 7001\n\
+control 7002\n\
+period 1000\n\
+log node.log\n\
+dev 1 2 7003\n";
+
+// A packet for host 1, one that goes through it, and that one as it is sent on.
+pub const FOR_HOST_1: &str =
+    "504c414e010100000002000000000000000100000001000000030c64656661756c74526f7574650000010166000020016600";
+
+pub const THROUGH_HOST_1: &str =
+    "504c414e010100000002000000000000000200000002000000020c64656661756c74526f7574650000010166000020016600";
+
+pub const SENT_ON: &str =
+    "504c414e010100000002000000000000000200000002000000010c64656661756c74526f7574650000010166000020016600";
+
+// What the node logs of a packet for it, a packet that passes through, nothing, and a byte.
+pub const LOG: &[u8] = b"planet log 1\n\
+host 1\n\
+hosts 1 2\n\
+dev 1 2\n\
+events\n\
+frame 1 504c414e010100000002000000000000000100000001000000030c64656661756c74526f7574650000010166000020016600\n\
+frame 1 504c414e010100000002000000000000000200000002000000020c64656661756c74526f7574650000010166000020016600\n\
+take 1\n\
+frame 1 ff\n";
+
+pub const TRACE: &[u8] = b"planet trace 1\n\
+1 arrive @1 %1\n\
+1 value @1 2.1 () evals 0 left 3\n\
+2 arrive @1 %1\n\
+2 queue @1 %1 2.2 bound 1\n\
+3 send @1 %1 2.2\n\
+4 arrive @1 %1\n\
+4 drop @1 BadFrame Truncated 0\n\
+end\n";
+
+// A node that pings its neighbour in its first turn, with the frame that it sends, its log and its trace.
+pub const SENDER: &[u8] = b"planet node 1\n\
+host 1\n\
+hosts 1 2\n\
+port 7001\n\
+control 7002\n\
+period 1000\n\
+log node.log\n\
+dev 1 2 7003\n\
+program\n\
+svc thisHostIs : (host) -> bool\n\
+svc getRB : () -> int\n\
+svc print : (string) -> unit\n\
+fun ack() : unit = print(\"Success\")\n\
+fun ping(src : host, dest : host) : unit =\n\
+if not thisHostIs(dest) then\n\
+OnRemote(|ping|(src, dest), dest, getRB(), defaultRoute)\n\
+else OnRemote(|ack|(), src, getRB(), defaultRoute)\n\
+end program\n\
+at 1 inject ping 10 (@1, @2)\n";
+
+pub const PING: &str =
+    "504c414e010100000001000000000000000100000002000000090c64656661756c74526f757465030a74686973486f737449730106010567657452420002057072696e7401040000020361636b00002b057072696e7401240007537563636573730470696e67020373726306046465737406002c312b0a74686973486f73744973012904646573743a380470696e670229037372632904646573742904646573742b056765745242000c64656661756c74526f7574653a380361636b0029037372632b056765745242000c64656661756c74526f7574650470696e670216000000011600000002";
+
+pub const SENDER_LOG: &[u8] = b"planet log 1\n\
+host 1\n\
+hosts 1 2\n\
+dev 1 2\n\
+events\n\
+inject 10 030a74686973486f737449730106010567657452420002057072696e7401040000020361636b00002b057072696e7401240007537563636573730470696e67020373726306046465737406002c312b0a74686973486f73744973012904646573743a380470696e670229037372632904646573742904646573742b056765745242000c64656661756c74526f7574653a380361636b0029037372632b056765745242000c64656661756c74526f7574650470696e670216000000011600000002\n\
+take 1\n";
+
+pub const SENDER_TRACE: &[u8] = b"planet trace 1\n\
+1 inject @1 1.1 bound 10\n\
+1 value @1 1.1 () evals 0 left 0\n\
+1 queue @1 %1 1.1 bound 9\n\
+2 send @1 %1 1.1\n\
+end\n";
+
+// What the first node logs of an ask of its owner, and its trace.
+pub const ASK_LOG: &[u8] = b"planet log 1\n\
+host 1\n\
+hosts 1 2\n\
+dev 1 2\n\
+events\n\
+control 504c414e01030000000a0000010166000020016600\n";
+
+pub const ASK_TRACE: &[u8] = b"planet trace 1\n\
+1 arrive @1 control\n\
+1 inject @1 1.1 bound 10\n\
+1 value @1 1.1 () evals 0 left 10\n\
+end\n";
+
+// A node without neighbours, a part of a message, which is delivered to a port, and the log and the trace of that.
+pub const ALONE: &[u8] = b"planet node 1\n\
+host 1\n\
+hosts 1\n\
+port 7001\n\
+control 7002\n\
+period 1000\n\
+log node.log\n";
+
+pub const PART: &str =
+    "504c414e010300000005030a74686973486f7374497301060105676574524200020764656c6976657202020a040202020500000104706172740604646573740604706f727402036b65790205696e6465780205636f756e7402046461746105002c2b0a74686973486f73744973012904646573742b0764656c69766572022904706f72742a0429036b65792905696e6465782905636f756e742904646174613a380470617274062904646573742904706f727429036b65792905696e6465782905636f756e742904646174612904646573742b056765745242000c64656661756c74526f757465047061727406160000000112000000000000000712000000000000000512000000000000000112000000000000000215000100";
+
+pub const PART_LOG: &[u8] = b"planet log 1\n\
+host 1\n\
+hosts 1\n\
+events\n\
+control 504c414e010300000005030a74686973486f7374497301060105676574524200020764656c6976657202020a040202020500000104706172740604646573740604706f727402036b65790205696e6465780205636f756e7402046461746105002c2b0a74686973486f73744973012904646573742b0764656c69766572022904706f72742a0429036b65792905696e6465782905636f756e742904646174613a380470617274062904646573742904706f727429036b65792905696e6465782905636f756e742904646174612904646573742b056765745242000c64656661756c74526f757465047061727406160000000112000000000000000712000000000000000512000000000000000112000000000000000215000100\n";
+
+pub const PART_TRACE: &[u8] = b"planet trace 1\n\
+1 arrive @1 control\n\
+1 inject @1 1.1 bound 5\n\
+1 port @1 7 (5, 1, 2, #\"00\")\n\
+1 value @1 1.1 () evals 0 left 5\n\
+end\n";
