@@ -1,12 +1,11 @@
 -- What is typed, well formed and in range is printed so that it is read again.
-use Rattle.std.proofs.Common.{◌≡◌, ℕ, zero, suc, ◌+◌, ◌-◌, ◌≤◌, Bool, true, List, [], ◌∷◌, length, take, Option, Some, None, Ok, refl, sym, ◌∙◌, ap, subst, arith, ℤ, pos, negsuc}
-use Rattle.std.specs.Prelude.{◌&&◌, nat_le, max, fold, is_some, FitsSigned, slice_get}
+use Rattle.std.proofs.Common.{◌≡◌, ℕ, zero, suc, ◌+◌, ◌-◌, ◌≤◌, Bool, true, List, [], ◌∷◌, length, take, Option, Some, None, Ok, refl, sym, ◌∙◌, ap, subst, arith}
+use Rattle.std.specs.Prelude.{◌&&◌, nat_le, max, fold, is_some, slice_get}
 use Rattle.std.specs.List.{list_all}
-use Rattle.std.specs.Int.{w64}
 use Rattle.std.proofs.lemmas.Bool.{leb-true, ltb-true}
 use Rattle.std.specs.Str.{IsUtf8}
 use Rattle.std.proofs.lemmas.Str.{IsUtf8-from_is_utf8}
-use Rattle.small_laws.proofs.Bools.{both_true}
+use Rattle.small_laws.proofs.Bools.{and_left as left, and_right as right}
 use Rattle.plan_base.specs.Words.{is_name, IsName}
 use Rattle.plan_base.specs.declared.tree.Op.{Op}
 use Rattle.plan_base.specs.declared.tree.Ty.{Ty, Ty-F, out-Ty}
@@ -18,7 +17,7 @@ use Rattle.plan_base.specs.declared.tree.Fun.{Fun}
 use Rattle.plan_base.specs.declared.tree.Program.{Program}
 use Rattle.plan_base.specs.Sizes.{type_depth, type_depth_level, expr_depth, program_nodes}
 use Rattle.plan_base.specs.WellFormed.{formed_type, formed_type_level, well_formed_type, well_formed_text, has_from_to, names_all_but_last, formed_expr, formed_expr_level, well_formed_expr, well_formed_svc, well_formed_fun, well_formed_program}
-use Rattle.plan_base.specs.Typing.{literal_type, HasTy, HaveTys, ClausesHaveTy, Typed}
+use Rattle.plan_base.specs.Typing.{literal_type, HasTy, HaveTys, ClausesHaveTy}
 use Rattle.plan_base.specs.Typing as y
 use Rattle.plan_base.specs.TypingFills.{Fills}
 use Rattle.plan_base.specs.TypingOrder.{annotated}
@@ -28,38 +27,19 @@ use Rattle.typing_laws.proofs.Programs.{annotated_complete, fills_itself, depths
 use Rattle.plan_types.specs.Kept.{IsChecked}
 use Rattle.plan_lexer.specs.declared.token.Key.TheVariants as key
 use Rattle.plan_printer.specs.Printed.{program_text}
-use Rattle.text_laws.specs.Proper.{AreBytes, base_key, IsProperType, AreProperTypes, IsReadableType, IsProperOption, IsProperCatch, IsProper, AreProper, AreProperClauses, AllProper, IsProperSvc, IsProperParam, IsProperFun, IsProperProgram}
+use Rattle.text_laws.specs.Proper.{AreBytes, base_key, IsProperType, AreProperTypes, IsReadableType, IsProperCatch, IsProper, AreProper, AreProperClauses, AllProper, IsProperSvc, IsProperParam, IsProperFun, IsProperProgram}
 use Rattle.text_laws.specs.Proper as p
 use Rattle.text_laws.proofs.ProgramTokens.{program_lexes}
 use Rattle.program_round_trip.proofs.Within.{within_limits}
 use Rattle.program_round_trip.proofs.Declarations.{program_reads}
 use Rattle.program_text.specs.Texts.{placed, typed_of, program_of, Says}
 use Rattle.program_text.proofs.Readings.{read_by}
-use Rattle.chunk_ranges.specs.Ranges.{is_int, catch_ranged, param_ranged, service_ranged}
+use Rattle.chunk_ranges.specs.Ranges.{catch_ranged, param_ranged, service_ranged}
+use Rattle.chunk_ranges.proofs.TestLaws.{between, int_fits, max_parts, fold_within, no_depth, clause_named, body_formed, named_rest}
 use Rattle.checked_texts.specs.Exact.{is_byte, exact, exact_level, clause_exact, function_exact, program_exact}
 use Rattle.checked_texts.proofs.ExactLaws.{exact_out}
 
--- ---- truth values, numbers and lists
-
-pub left : (b c : Bool) → (b && c) ≡ true → b ≡ true
-left b c h = (both_true b c h).0
-
-pub right : (b c : Bool) → (b && c) ≡ true → c ≡ true
-right b c h = (both_true b c h).1
-
-pub max_parts : (a b n : ℕ) → max a b ≤ n → (a ≤ n) × (b ≤ n)
-max_parts a b n h = (grind arith, grind arith)
-
-pub fold_within : {A : Type 0} (f : A → ℕ) (n : ℕ) (xs : List A) (m : ℕ) → fold (λ k x. max k (f x)) m xs ≤ n → m ≤ n
-fold_within f n [] m h = h
-fold_within f n (x ∷ xs) m h = (max_parts m (f x) n (fold_within f n xs (max m (f x)) h)).0
-
-pub between : (least most n : ℕ) → (nat_le least n && nat_le n most) ≡ true → (least ≤ n) × (n ≤ most)
-between least most n h = (leb-true least n (left _ _ h), leb-true n most (right _ _ h))
-
-pub int_fits : (z : ℤ) → is_int z ≡ true → FitsSigned w64 z
-int_fits (pos n) h = record { sfits = ltb-true n 9223372036854775808 h }
-int_fits (negsuc n) h = record { sfits = ltb-true n 9223372036854775808 h }
+-- ---- lists
 
 pub bytes_are : (b : List ℕ) → list_all is_byte b ≡ true → AreBytes b
 bytes_are [] h i = omega arith
@@ -96,11 +76,6 @@ module _ (room : ℕ) (h : (t : Ty) → formed_type t ≡ true → type_depth t 
   type_level t (Ty-F.List u) o f d = p.list u o (h u f (omega (arith, d)))
   type_level t (Ty-F.Tuple ts) o f d = p.tuple ts o (between 2 8 (length ts) (left _ _ f)) (each_type ts 0 (right _ _ f) (omega (arith, d)))
 
-no_depth : (x : Ty-F Ty) → type_depth_level type_depth x ≤ 0 → ⊥
-no_depth (Ty-F.List t) h = omega (arith, h)
-no_depth (Ty-F.Tuple ts) h = omega (arith, h)
-no_depth _ h = omega (arith, h)
-
 pub type_proper : (room : ℕ) (t : Ty) → formed_type t ≡ true → type_depth t ≤ room → IsProperType t
 type_proper zero t f d = absurd (no_depth (out-Ty t) (let e = type_depth_out t in omega (arith, d, e)))
 type_proper (suc room) t f d =
@@ -111,12 +86,6 @@ unfolding well_formed_type
 type_readable t h = let d = leb-true (type_depth t) 8 (right _ _ h) in (type_proper 8 t (left _ _ h) d, d)
 
 -- ---- expressions
-
-abbrev clause_named : Clause → Bool
-clause_named c = is_some c.name
-
-abbrev body_formed : Clause → Bool
-body_formed c = formed_expr c.body
 
 -- what the outermost level of an expression keeps
 record Level (x : Expr-F Expr Clause) : Type 0 where
@@ -150,14 +119,6 @@ named_first : (c d : Clause) (ds : List Clause) → names_all_but_last clause_na
 named_first c d ds h =
     let e : length (c ∷ d ∷ ds) - 1 ≡ suc (length ds) = omega arith in
     left (is_some c.name) (list_all clause_named (take (length ds) (d ∷ ds))) (ap (λ m. list_all clause_named (take m (c ∷ d ∷ ds))) (sym e) ∙ h)
-
-named_rest : (c : Clause) (cs : List Clause) → names_all_but_last clause_named (c ∷ cs) ≡ true → names_all_but_last clause_named cs ≡ true
-named_rest c [] h = refl
-named_rest c (d ∷ ds) h =
-    let e : length (c ∷ d ∷ ds) - 1 ≡ suc (length ds) = omega arith in
-    let n : length (d ∷ ds) - 1 ≡ length ds = omega arith in
-    ap (λ m. list_all clause_named (take m (d ∷ ds))) n
-    ∙ right (is_some c.name) (list_all clause_named (take (length ds) (d ∷ ds))) (ap (λ m. list_all clause_named (take m (c ∷ d ∷ ds))) (sym e) ∙ h)
 
 join_clause : (c : Clause) (cs : List Clause) → names_all_but_last clause_named (c ∷ cs) ≡ true → catch_ranged c.name ≡ true → IsProper c.body → AreProperClauses cs → AreProperClauses (c ∷ cs)
 join_clause c [] n r b h = p.last_clause (catch_proper c.name r) b

@@ -4,6 +4,7 @@ use Rattle.std.specs.Prelude.{◌&&◌, nat_le, max, fold, slice_get}
 use Rattle.std.specs.List.{list_all}
 use Rattle.std.proofs.lemmas.Bool.{leb-true, ltb-true}
 use Rattle.std.proofs.lemmas.List.{length-map}
+use Rattle.small_laws.proofs.Bools.{and_left as left, and_right as right}
 use Rattle.small_laws.proofs.Lists.{all-map}
 use Rattle.plan_base.specs.declared.tree.Ty.{Ty, out-Ty, Ty-F}
 use Rattle.plan_base.specs.declared.tree.Ty.TheVariants as ty
@@ -26,10 +27,11 @@ use Rattle.text_laws.proofs.ValueTokens.{value_part}
 use Rattle.program_round_trip.specs.Readable.{IsReadable, AreOfType, AreReadable}
 use Rattle.program_round_trip.specs.Readable as re
 use Rattle.program_round_trip.proofs.ValuesRead.{value_again}
+use Rattle.chunk_ranges.proofs.TestLaws.{between, int_fits, max_parts, fold_within}
 use Rattle.checked_texts.specs.Exact.{value_exact, value_exact_level}
 use Rattle.checked_texts.specs.ReadBack.{plain, plain_level, reach, reach_level, IsReadBack}
 use Rattle.checked_texts.proofs.ExactLaws.{value_exact_out}
-use Rattle.checked_texts.proofs.ProgramsAgain.{left, right, max_parts, fold_within, between, int_fits, bytes_are, type_proper, text_utf8}
+use Rattle.checked_texts.proofs.ProgramsAgain.{bytes_are, type_proper, text_utf8}
 
 -- ---- the outermost level
 

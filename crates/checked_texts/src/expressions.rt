@@ -1,41 +1,9 @@
 ghost use Rattle.std.specs.Prelude.{IsTrue};
 ghost use Rattle.std.specs.List.{list_all};
-ghost use Rattle.plan_base.specs.Words.{IsName};
-ghost use Rattle.chunk_ranges.specs.Ranges.{is_int, is_word, catch_ranged};
 ghost use Rattle.checked_texts.specs.Exact.{is_byte, exact, clause_exact};
 
-use plan_base::{Bytes, Clause, Dev, Expr, Host, Name};
-
-/// Reads a name.
-pub fn read_name(name: &Name)
-    ensures { IsName name.now }
-{
-    let _bytes = name.as_slice();
-}
-
-/// Reads an int.
-#[tactic(auto, using(chunk_ranges::proofs::RangeLaws::int_is))]
-pub fn read_int(int: &i64)
-    ensures { IsTrue (is_int int.now) }
-{
-    let _number = *int;
-}
-
-/// Reads the number of a host.
-#[tactic(auto, using(std::proofs::lemmas::Bool::Decides::nat_tests))]
-pub fn read_host(host: &Host)
-    ensures { IsTrue (is_word host.now.0) }
-{
-    let _number = host.0;
-}
-
-/// Reads the number of a device.
-#[tactic(auto, using(std::proofs::lemmas::Bool::Decides::nat_tests))]
-pub fn read_dev(dev: &Dev)
-    ensures { IsTrue (is_word dev.now.0) }
-{
-    let _number = dev.0;
-}
+use chunk_ranges::{range_catch, range_dev, range_host, range_int, range_name};
+use plan_base::{Bytes, Clause, Expr};
 
 /// Reads a byte.
 #[tactic(auto, using(std::proofs::lemmas::Bool::Decides::nat_tests))]
@@ -62,14 +30,14 @@ pub fn read_expr(e: &Expr)
 {
     match e {
         Expr::Unit | Expr::Bool(_) | Expr::Char(_) | Expr::Str(_) | Expr::Nil(_) => {}
-        Expr::Int(int) => read_int(int),
+        Expr::Int(int) => range_int(int),
         Expr::Blob(blob) => read_blob(blob),
-        Expr::Host(host) => read_host(host),
-        Expr::Dev(dev) => read_dev(dev),
-        Expr::Var(name) | Expr::Raise(name, _) => read_name(name),
+        Expr::Host(host) => range_host(host),
+        Expr::Dev(dev) => range_dev(dev),
+        Expr::Var(name) | Expr::Raise(name, _) => range_name(name),
         Expr::Tuple(parts) => read_exprs(parts.as_slice()),
         Expr::Call(name, args) | Expr::ChunkOf(name, args) => {
-            read_name(name);
+            range_name(name);
             read_exprs(args.as_slice());
         }
         Expr::If(first, second, third) => {
@@ -80,7 +48,7 @@ pub fn read_expr(e: &Expr)
         Expr::Let(name, _, first, second)
         | Expr::Foldl(name, first, second)
         | Expr::Foldr(name, first, second) => {
-            read_name(name);
+            range_name(name);
             read_expr(first.get());
             read_expr(second.get());
         }
@@ -97,7 +65,7 @@ pub fn read_expr(e: &Expr)
             read_clauses(clauses.as_slice());
         }
         Expr::OnRemote(first, second, third, name) => {
-            read_name(name);
+            range_name(name);
             read_expr(first.get());
             read_expr(second.get());
             read_expr(third.get());
@@ -121,21 +89,12 @@ fn read_exprs(exprs: &[Expr])
     }
 }
 
-/// Reads what a clause catches.
-fn read_catch(name: &Option<Name>)
-    ensures { IsTrue (catch_ranged name.now) }
-{
-    if let Some(name) = name {
-        read_name(name);
-    }
-}
-
 /// Reads those of a clause.
 #[cycle(expressions)]
 fn read_clause(c: &Clause)
     ensures { IsTrue (clause_exact c.now) }
 {
-    read_catch(&c.name);
+    range_catch(&c.name);
     read_expr(&c.body);
 }
 

@@ -1,49 +1,21 @@
 ghost use Rattle.std.specs.Prelude.{◌≡◌, IsTrue, Ok};
 ghost use Rattle.std.specs.List.{list_all};
-ghost use Rattle.plan_base.specs.Words.{is_name};
 ghost use Rattle.plan_printer.specs.Printed.{program_text};
 ghost use Rattle.text_laws.specs.Proper.{IsProperProgram};
 ghost use Rattle.program_text.specs.Texts.{Says, program_of};
-ghost use Rattle.chunk_ranges.specs.Ranges.{param_ranged, service_ranged};
 ghost use Rattle.checked_texts.specs.Exact.{function_exact, program_exact};
 
-use crate::expressions::{read_expr, read_name};
-use plan_base::{Fun, Name, Param, Program, Svc};
+use crate::expressions::read_expr;
+use chunk_ranges::{range_name, range_names, range_params, range_services};
+use plan_base::{Fun, Program};
 use plan_types::Checked;
-
-/// Reads the names of parameters.
-fn read_params(params: &[Param])
-    ensures { IsTrue (list_all param_ranged params.now) }
-{
-    for p in params {
-        read_name(&p.name);
-    }
-}
-
-/// Reads the names of services.
-fn read_services(services: &[Svc])
-    ensures { IsTrue (list_all service_ranged services.now) }
-{
-    for s in services {
-        read_name(&s.name);
-    }
-}
-
-/// Reads names one after another.
-fn read_names(names: &[Name])
-    ensures { IsTrue (list_all is_name names.now) }
-{
-    for n in names {
-        read_name(n);
-    }
-}
 
 /// Reads the names, numbers and bytes of a function.
 fn read_function(f: &Fun)
     ensures { IsTrue (function_exact f.now) }
 {
-    read_name(&f.name);
-    read_params(f.params.as_slice());
+    range_name(&f.name);
+    range_params(f.params.as_slice());
     read_expr(&f.body);
 }
 
@@ -61,8 +33,8 @@ fn read_functions(functions: &[Fun])
 fn read_program(p: &Program)
     ensures { IsTrue (program_exact p.now) }
 {
-    read_services(p.svcs.as_slice());
-    read_names(p.exns.as_slice());
+    range_services(p.svcs.as_slice());
+    range_names(p.exns.as_slice());
     read_functions(p.funs.as_slice());
 }
 

@@ -7,7 +7,8 @@ ghost use Rattle.plan_printer.specs.Printed.{value_text};
 ghost use Rattle.checked_texts.specs.Exact.{value_exact};
 ghost use Rattle.checked_texts.specs.ReadBack.{IsReadBack};
 
-use crate::expressions::{read_blob, read_dev, read_host, read_int};
+use crate::expressions::read_blob;
+use chunk_ranges::{range_dev, range_host, range_int};
 use chunk_types::CheckedChunk;
 use plan_base::Value;
 
@@ -20,9 +21,9 @@ fn read_value(v: &Value)
     match v {
         Value::Unit | Value::Bool(_) | Value::Char(_) | Value::Str(_) | Value::Chunk(_) => {}
         Value::Blob(blob) => read_blob(blob),
-        Value::Int(int) => read_int(int),
-        Value::Host(host) => read_host(host),
-        Value::Dev(dev) => read_dev(dev),
+        Value::Int(int) => range_int(int),
+        Value::Host(host) => range_host(host),
+        Value::Dev(dev) => range_dev(dev),
         Value::List(_, items) => read_values(items.as_slice()),
         Value::Tuple(parts) => read_values(parts.as_slice()),
     }

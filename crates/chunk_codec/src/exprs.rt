@@ -52,102 +52,222 @@ fn expr_with_tag(
         ExprTag::Dev => Ok(Expr::Dev(Dev(s.word()?))),
         ExprTag::Nil => Ok(Expr::Nil(Some(type_of(alloc, s, 7)?))),
         ExprTag::Var => Ok(Expr::Var(s.name(alloc)?)),
-        ExprTag::Tuple => {
-            let count = s.count(Limit::Parts, 2, 8)?;
-            let parts = exprs_of(alloc, s, room - 1, count)?;
-            Ok(Expr::Tuple(parts))
-        }
-        ExprTag::Call => {
-            let name = s.name(alloc)?;
-            let count = s.count(Limit::Arguments, 0, 8)?;
-            let args = exprs_of(alloc, s, room - 1, count)?;
-            Ok(Expr::Call(name, args))
-        }
-        ExprTag::If => {
-            let first = boxed(alloc, s, room - 1)?;
-            let second = boxed(alloc, s, room - 1)?;
-            let third = boxed(alloc, s, room - 1)?;
-            Ok(Expr::If(first, second, third))
-        }
-        ExprTag::Let => {
-            let name = s.name(alloc)?;
-            let ty = type_of(alloc, s, 8)?;
-            let first = boxed(alloc, s, room - 1)?;
-            let second = boxed(alloc, s, room - 1)?;
-            Ok(Expr::Let(name, ty, first, second))
-        }
-        ExprTag::Then => {
-            let first = boxed(alloc, s, room - 1)?;
-            let second = boxed(alloc, s, room - 1)?;
-            Ok(Expr::Then(first, second))
-        }
-        ExprTag::And => {
-            let first = boxed(alloc, s, room - 1)?;
-            let second = boxed(alloc, s, room - 1)?;
-            Ok(Expr::And(first, second))
-        }
-        ExprTag::Or => {
-            let first = boxed(alloc, s, room - 1)?;
-            let second = boxed(alloc, s, room - 1)?;
-            Ok(Expr::Or(first, second))
-        }
+        ExprTag::Tuple => tuple_behind(alloc, s, room),
+        ExprTag::Call => call_behind(alloc, s, room),
+        ExprTag::If => choice_behind(alloc, s, room),
+        ExprTag::Let => binding_behind(alloc, s, room),
+        ExprTag::Then => sequence_behind(alloc, s, room),
+        ExprTag::And => both_behind(alloc, s, room),
+        ExprTag::Or => either_behind(alloc, s, room),
         ExprTag::Not => Ok(Expr::Not(boxed(alloc, s, room - 1)?)),
-        ExprTag::Binary => {
-            let op = s.operator()?;
-            let first = boxed(alloc, s, room - 1)?;
-            let second = boxed(alloc, s, room - 1)?;
-            Ok(Expr::Binary(op, first, second))
-        }
-        ExprTag::Part => {
-            let number = s.count(Limit::Parts, 1, 8)?;
-            let first = boxed(alloc, s, room - 1)?;
-            Ok(Expr::Part(number, first))
-        }
+        ExprTag::Binary => operation_behind(alloc, s, room),
+        ExprTag::Part => part_behind(alloc, s, room),
         ExprTag::Raise => {
             let name = s.name(alloc)?;
             let otype = Some(type_of(alloc, s, 8)?);
             Ok(Expr::Raise(name, otype))
         }
-        ExprTag::Try => {
-            let first = boxed(alloc, s, room - 1)?;
-            let count = s.count(Limit::Clauses, 1, 8)?;
-            let clauses = clauses_of(alloc, s, room - 1, count)?;
-            Ok(Expr::Try(first, clauses))
-        }
-        ExprTag::Foldl => {
-            let name = s.name(alloc)?;
-            let first = boxed(alloc, s, room - 1)?;
-            let second = boxed(alloc, s, room - 1)?;
-            Ok(Expr::Foldl(name, first, second))
-        }
-        ExprTag::Foldr => {
-            let name = s.name(alloc)?;
-            let first = boxed(alloc, s, room - 1)?;
-            let second = boxed(alloc, s, room - 1)?;
-            Ok(Expr::Foldr(name, first, second))
-        }
-        ExprTag::ChunkOf => {
-            let name = s.name(alloc)?;
-            let count = s.count(Limit::Arguments, 0, 8)?;
-            let args = exprs_of(alloc, s, room - 1, count)?;
-            Ok(Expr::ChunkOf(name, args))
-        }
+        ExprTag::Try => handling_behind(alloc, s, room),
+        ExprTag::Foldl => fold_left_behind(alloc, s, room),
+        ExprTag::Foldr => fold_right_behind(alloc, s, room),
+        ExprTag::ChunkOf => packing_behind(alloc, s, room),
         ExprTag::Eval => Ok(Expr::Eval(boxed(alloc, s, room - 1)?)),
-        ExprTag::OnRemote => {
-            let first = boxed(alloc, s, room - 1)?;
-            let second = boxed(alloc, s, room - 1)?;
-            let third = boxed(alloc, s, room - 1)?;
-            let name = s.name(alloc)?;
-            Ok(Expr::OnRemote(first, second, third, name))
-        }
-        ExprTag::OnNeighbor => {
-            let first = boxed(alloc, s, room - 1)?;
-            let second = boxed(alloc, s, room - 1)?;
-            let third = boxed(alloc, s, room - 1)?;
-            let fourth = boxed(alloc, s, room - 1)?;
-            Ok(Expr::OnNeighbor(first, second, third, fourth))
-        }
+        ExprTag::OnRemote => remote_behind(alloc, s, room),
+        ExprTag::OnNeighbor => neighbour_behind(alloc, s, room),
     }
+}
+
+/// What is behind the tag of a tuple.
+#[cycle(exprs)]
+#[tactic(auto, unfolding(crate::specs::Reading::expr_behind, chunk_spelling::specs::Parts::counted_at, chunk_spelling::specs::Exprs::clauses_at))]
+fn tuple_behind(alloc: Global, s: &mut Source<'_>, room: u32) -> Result<Expr, SpellFault>
+    requires { 0 < room }
+    ensures { Gives result s.new (expr_behind (expr_at (room - 1)) (clauses_at (clause_at (expr_at (room - 1)))) ExprTag.Tuple s.old) }
+{
+    let count = s.count(Limit::Parts, 2, 8)?;
+    let parts = exprs_of(alloc, s, room - 1, count)?;
+    Ok(Expr::Tuple(parts))
+}
+
+/// What is behind the tag of a call.
+#[cycle(exprs)]
+#[tactic(auto, unfolding(crate::specs::Reading::expr_behind, chunk_spelling::specs::Parts::counted_at, chunk_spelling::specs::Exprs::clauses_at))]
+fn call_behind(alloc: Global, s: &mut Source<'_>, room: u32) -> Result<Expr, SpellFault>
+    requires { 0 < room }
+    ensures { Gives result s.new (expr_behind (expr_at (room - 1)) (clauses_at (clause_at (expr_at (room - 1)))) ExprTag.Call s.old) }
+{
+    let name = s.name(alloc)?;
+    let count = s.count(Limit::Arguments, 0, 8)?;
+    let args = exprs_of(alloc, s, room - 1, count)?;
+    Ok(Expr::Call(name, args))
+}
+
+/// What is behind the tag of an `if`.
+#[cycle(exprs)]
+#[tactic(auto, unfolding(crate::specs::Reading::expr_behind, chunk_spelling::specs::Parts::counted_at, chunk_spelling::specs::Exprs::clauses_at))]
+fn choice_behind(alloc: Global, s: &mut Source<'_>, room: u32) -> Result<Expr, SpellFault>
+    requires { 0 < room }
+    ensures { Gives result s.new (expr_behind (expr_at (room - 1)) (clauses_at (clause_at (expr_at (room - 1)))) ExprTag.If s.old) }
+{
+    let first = boxed(alloc, s, room - 1)?;
+    let second = boxed(alloc, s, room - 1)?;
+    let third = boxed(alloc, s, room - 1)?;
+    Ok(Expr::If(first, second, third))
+}
+
+/// What is behind the tag of a `let`.
+#[cycle(exprs)]
+#[tactic(auto, unfolding(crate::specs::Reading::expr_behind, chunk_spelling::specs::Parts::counted_at, chunk_spelling::specs::Exprs::clauses_at))]
+fn binding_behind(alloc: Global, s: &mut Source<'_>, room: u32) -> Result<Expr, SpellFault>
+    requires { 0 < room }
+    ensures { Gives result s.new (expr_behind (expr_at (room - 1)) (clauses_at (clause_at (expr_at (room - 1)))) ExprTag.Let s.old) }
+{
+    let name = s.name(alloc)?;
+    let ty = type_of(alloc, s, 8)?;
+    let first = boxed(alloc, s, room - 1)?;
+    let second = boxed(alloc, s, room - 1)?;
+    Ok(Expr::Let(name, ty, first, second))
+}
+
+/// What is behind the tag of `a; b`.
+#[cycle(exprs)]
+#[tactic(auto, unfolding(crate::specs::Reading::expr_behind, chunk_spelling::specs::Parts::counted_at, chunk_spelling::specs::Exprs::clauses_at))]
+fn sequence_behind(alloc: Global, s: &mut Source<'_>, room: u32) -> Result<Expr, SpellFault>
+    requires { 0 < room }
+    ensures { Gives result s.new (expr_behind (expr_at (room - 1)) (clauses_at (clause_at (expr_at (room - 1)))) ExprTag.Then s.old) }
+{
+    let first = boxed(alloc, s, room - 1)?;
+    let second = boxed(alloc, s, room - 1)?;
+    Ok(Expr::Then(first, second))
+}
+
+/// What is behind the tag of an `and`.
+#[cycle(exprs)]
+#[tactic(auto, unfolding(crate::specs::Reading::expr_behind, chunk_spelling::specs::Parts::counted_at, chunk_spelling::specs::Exprs::clauses_at))]
+fn both_behind(alloc: Global, s: &mut Source<'_>, room: u32) -> Result<Expr, SpellFault>
+    requires { 0 < room }
+    ensures { Gives result s.new (expr_behind (expr_at (room - 1)) (clauses_at (clause_at (expr_at (room - 1)))) ExprTag.And s.old) }
+{
+    let first = boxed(alloc, s, room - 1)?;
+    let second = boxed(alloc, s, room - 1)?;
+    Ok(Expr::And(first, second))
+}
+
+/// What is behind the tag of an `or`.
+#[cycle(exprs)]
+#[tactic(auto, unfolding(crate::specs::Reading::expr_behind, chunk_spelling::specs::Parts::counted_at, chunk_spelling::specs::Exprs::clauses_at))]
+fn either_behind(alloc: Global, s: &mut Source<'_>, room: u32) -> Result<Expr, SpellFault>
+    requires { 0 < room }
+    ensures { Gives result s.new (expr_behind (expr_at (room - 1)) (clauses_at (clause_at (expr_at (room - 1)))) ExprTag.Or s.old) }
+{
+    let first = boxed(alloc, s, room - 1)?;
+    let second = boxed(alloc, s, room - 1)?;
+    Ok(Expr::Or(first, second))
+}
+
+/// What is behind the tag of an operator.
+#[cycle(exprs)]
+#[tactic(auto, unfolding(crate::specs::Reading::expr_behind, chunk_spelling::specs::Parts::counted_at, chunk_spelling::specs::Exprs::clauses_at))]
+fn operation_behind(alloc: Global, s: &mut Source<'_>, room: u32) -> Result<Expr, SpellFault>
+    requires { 0 < room }
+    ensures { Gives result s.new (expr_behind (expr_at (room - 1)) (clauses_at (clause_at (expr_at (room - 1)))) ExprTag.Binary s.old) }
+{
+    let op = s.operator()?;
+    let first = boxed(alloc, s, room - 1)?;
+    let second = boxed(alloc, s, room - 1)?;
+    Ok(Expr::Binary(op, first, second))
+}
+
+/// What is behind the tag of a part of a tuple.
+#[cycle(exprs)]
+#[tactic(auto, unfolding(crate::specs::Reading::expr_behind, chunk_spelling::specs::Parts::counted_at, chunk_spelling::specs::Exprs::clauses_at))]
+fn part_behind(alloc: Global, s: &mut Source<'_>, room: u32) -> Result<Expr, SpellFault>
+    requires { 0 < room }
+    ensures { Gives result s.new (expr_behind (expr_at (room - 1)) (clauses_at (clause_at (expr_at (room - 1)))) ExprTag.Part s.old) }
+{
+    let number = s.count(Limit::Parts, 1, 8)?;
+    let first = boxed(alloc, s, room - 1)?;
+    Ok(Expr::Part(number, first))
+}
+
+/// What is behind the tag of a `try`.
+#[cycle(exprs)]
+#[tactic(auto, unfolding(crate::specs::Reading::expr_behind, chunk_spelling::specs::Parts::counted_at, chunk_spelling::specs::Exprs::clauses_at))]
+fn handling_behind(alloc: Global, s: &mut Source<'_>, room: u32) -> Result<Expr, SpellFault>
+    requires { 0 < room }
+    ensures { Gives result s.new (expr_behind (expr_at (room - 1)) (clauses_at (clause_at (expr_at (room - 1)))) ExprTag.Try s.old) }
+{
+    let first = boxed(alloc, s, room - 1)?;
+    let count = s.count(Limit::Clauses, 1, 8)?;
+    let clauses = clauses_of(alloc, s, room - 1, count)?;
+    Ok(Expr::Try(first, clauses))
+}
+
+/// What is behind the tag of a `foldl`.
+#[cycle(exprs)]
+#[tactic(auto, unfolding(crate::specs::Reading::expr_behind, chunk_spelling::specs::Parts::counted_at, chunk_spelling::specs::Exprs::clauses_at))]
+fn fold_left_behind(alloc: Global, s: &mut Source<'_>, room: u32) -> Result<Expr, SpellFault>
+    requires { 0 < room }
+    ensures { Gives result s.new (expr_behind (expr_at (room - 1)) (clauses_at (clause_at (expr_at (room - 1)))) ExprTag.Foldl s.old) }
+{
+    let name = s.name(alloc)?;
+    let first = boxed(alloc, s, room - 1)?;
+    let second = boxed(alloc, s, room - 1)?;
+    Ok(Expr::Foldl(name, first, second))
+}
+
+/// What is behind the tag of a `foldr`.
+#[cycle(exprs)]
+#[tactic(auto, unfolding(crate::specs::Reading::expr_behind, chunk_spelling::specs::Parts::counted_at, chunk_spelling::specs::Exprs::clauses_at))]
+fn fold_right_behind(alloc: Global, s: &mut Source<'_>, room: u32) -> Result<Expr, SpellFault>
+    requires { 0 < room }
+    ensures { Gives result s.new (expr_behind (expr_at (room - 1)) (clauses_at (clause_at (expr_at (room - 1)))) ExprTag.Foldr s.old) }
+{
+    let name = s.name(alloc)?;
+    let first = boxed(alloc, s, room - 1)?;
+    let second = boxed(alloc, s, room - 1)?;
+    Ok(Expr::Foldr(name, first, second))
+}
+
+/// What is behind the tag of a chunk of the program.
+#[cycle(exprs)]
+#[tactic(auto, unfolding(crate::specs::Reading::expr_behind, chunk_spelling::specs::Parts::counted_at, chunk_spelling::specs::Exprs::clauses_at))]
+fn packing_behind(alloc: Global, s: &mut Source<'_>, room: u32) -> Result<Expr, SpellFault>
+    requires { 0 < room }
+    ensures { Gives result s.new (expr_behind (expr_at (room - 1)) (clauses_at (clause_at (expr_at (room - 1)))) ExprTag.ChunkOf s.old) }
+{
+    let name = s.name(alloc)?;
+    let count = s.count(Limit::Arguments, 0, 8)?;
+    let args = exprs_of(alloc, s, room - 1, count)?;
+    Ok(Expr::ChunkOf(name, args))
+}
+
+/// What is behind the tag of an `OnRemote`.
+#[cycle(exprs)]
+#[tactic(auto, unfolding(crate::specs::Reading::expr_behind, chunk_spelling::specs::Parts::counted_at, chunk_spelling::specs::Exprs::clauses_at))]
+fn remote_behind(alloc: Global, s: &mut Source<'_>, room: u32) -> Result<Expr, SpellFault>
+    requires { 0 < room }
+    ensures { Gives result s.new (expr_behind (expr_at (room - 1)) (clauses_at (clause_at (expr_at (room - 1)))) ExprTag.OnRemote s.old) }
+{
+    let first = boxed(alloc, s, room - 1)?;
+    let second = boxed(alloc, s, room - 1)?;
+    let third = boxed(alloc, s, room - 1)?;
+    let name = s.name(alloc)?;
+    Ok(Expr::OnRemote(first, second, third, name))
+}
+
+/// What is behind the tag of an `OnNeighbor`.
+#[cycle(exprs)]
+#[tactic(auto, unfolding(crate::specs::Reading::expr_behind, chunk_spelling::specs::Parts::counted_at, chunk_spelling::specs::Exprs::clauses_at))]
+fn neighbour_behind(alloc: Global, s: &mut Source<'_>, room: u32) -> Result<Expr, SpellFault>
+    requires { 0 < room }
+    ensures { Gives result s.new (expr_behind (expr_at (room - 1)) (clauses_at (clause_at (expr_at (room - 1)))) ExprTag.OnNeighbor s.old) }
+{
+    let first = boxed(alloc, s, room - 1)?;
+    let second = boxed(alloc, s, room - 1)?;
+    let third = boxed(alloc, s, room - 1)?;
+    let fourth = boxed(alloc, s, room - 1)?;
+    Ok(Expr::OnNeighbor(first, second, third, fourth))
 }
 
 /// So many expressions.

@@ -9,7 +9,7 @@ use crate::tags::is_light;
 use crate::types::type_of;
 use chunk_spelling::{SpellFault, ValueTag};
 use plan_base::{Chunk, Dev, Host, Limit, Value, Values};
-use plan_items::{Boxed, Items};
+use plan_items::{Boxed, Items, Shared};
 use std::alloc::Global;
 
 /// A value inside which `nest` chunks may stand inside each other, and `room` lists and tuples.
@@ -92,7 +92,7 @@ fn values_of(
 fn fields_of(alloc: Global, s: &mut Source<'_>, nest: u32) -> Result<Chunk, SpellFault>
     ensures { Gives result s.new (chunk_fields (value_at nest 8) s.old) }
 {
-    let code = program_of(alloc, s)?;
+    let code = Shared::new(alloc, program_of(alloc, s)?)?;
     let entry = s.name(alloc)?;
     let count = s.count(Limit::Arguments, 0, 8)?;
     let args = values_of(alloc, s, nest, 8, u16::from(count))?;

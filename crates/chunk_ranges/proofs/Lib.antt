@@ -1,2 +1,3 @@
 pub mod RangeLaws
+pub mod TestLaws
 pub mod Spelled

@@ -7,7 +7,7 @@ use Rattle.std.specs.Str.{IsUtf8}
 use Rattle.std.proofs.lemmas.Bool.{leb-true, ltb-true, le-leb, lt-ltb}
 use Rattle.std.proofs.lemmas.Str.{IsUtf8-from_is_utf8}
 use Rattle.std.proofs.Math.Utf8.{scalar_fits}
-use Rattle.small_laws.proofs.Bools.{both_true}
+use Rattle.small_laws.proofs.Bools.{and_left as left, and_right as right}
 use Rattle.plan_base.specs.Words.{is_name, IsName}
 use Rattle.plan_base.specs.declared.tree.Ty.{Ty, Ty-F, out-Ty}
 use Rattle.plan_base.specs.declared.tree.Ty.TheVariants as ty
@@ -34,30 +34,14 @@ use Rattle.chunk_spelling.specs.Spelling.{a_whole_chunk}
 use Rattle.spelling_sizes.proofs.LengthLaws.{code_length, chunk_length}
 use Rattle.chunk_ranges.specs.Ranges.{is_int, expr_ranged, expr_ranged_level, catch_ranged, clause_ranged, param_ranged, service_ranged, function_ranged, program_ranged, value_ranged, value_ranged_level, chunk_ranged}
 use Rattle.chunk_ranges.proofs.RangeLaws.{expr_ranged_out, value_ranged_out}
+use Rattle.chunk_ranges.proofs.TestLaws.{between, int_fits, max_parts, fold_within, no_depth, clause_named, body_formed, named_rest}
 
--- ---- truth values, numbers and lists
-
-left : (b c : Bool) → (b && c) ≡ true → b ≡ true
-left b c h = (both_true b c h).0
-
-right : (b c : Bool) → (b && c) ≡ true → c ≡ true
-right b c h = (both_true b c h).1
-
-max_parts : (a b n : ℕ) → max a b ≤ n → (a ≤ n) × (b ≤ n)
-max_parts a b n h = (grind arith, grind arith)
-
-fold_within : {A : Type 0} (f : A → ℕ) (n : ℕ) (xs : List A) (m : ℕ) → fold (λ k x. max k (f x)) m xs ≤ n → m ≤ n
-fold_within f n [] m h = h
-fold_within f n (x ∷ xs) m h = (max_parts m (f x) n (fold_within f n xs (max m (f x)) h)).0
+-- ---- numbers and lists
 
 -- each of a list by a test
 each_by : {A : Type 0} {test : A → Bool} (Fits : A → Type 0) → ((x : A) → test x ≡ true → Fits x) → (xs : List A) → list_all test xs ≡ true → EachFits Fits xs
 each_by Fits h [] q = tt
 each_by Fits h (x ∷ xs) q = (h x (left _ _ q), each_by Fits h xs (right _ _ q))
-
-int_fits : (z : ℤ) → is_int z ≡ true → FitsSigned w64 z
-int_fits (pos n) h = record { sfits = ltb-true n 9223372036854775808 h }
-int_fits (negsuc n) h = record { sfits = ltb-true n 9223372036854775808 h }
 
 short_enough : (n : ℕ) → nat_le n 65535 ≡ true → n < 65536
 short_enough n h = let l = leb-true n 65535 h in omega (arith, l)
@@ -65,9 +49,6 @@ short_enough n h = let l = leb-true n 65535 h in omega (arith, l)
 text_fits : (s : List ℕ) → well_formed_text s ≡ true → IsUtf8 s × (length s < 65536)
 unfolding well_formed_text
 text_fits s h = (IsUtf8-from_is_utf8 s (left _ _ h), short_enough (length s) (right _ _ h))
-
-between : (least most n : ℕ) → (nat_le least n && nat_le n most) ≡ true → (least ≤ n) × (n ≤ most)
-between least most n h = (leb-true least n (left _ _ h), leb-true n most (right _ _ h))
 
 nothing : (n : ℕ) → 0 ≤ n
 nothing n = omega arith
@@ -89,11 +70,6 @@ module _ (room : ℕ) (h : (t : Ty) → formed_type t ≡ true → type_depth t 
       (omega arith, ((l.0, l.1, each_type ts 0 (right _ _ f) (omega (arith, d))), tt))
   type_level _ f d = (omega arith, tt)
 
-no_depth : (x : Ty-F Ty) → type_depth_level type_depth x ≤ 0 → ⊥
-no_depth (Ty-F.List t) h = omega (arith, h)
-no_depth (Ty-F.Tuple ts) h = omega (arith, h)
-no_depth _ h = omega (arith, h)
-
 pub type_fits : (room : ℕ) (t : Ty) → formed_type t ≡ true → type_depth t ≤ room → (type_core room).Fits t
 unfolding type_core
 type_fits zero t f d = absurd (no_depth (out-Ty t) (let e = type_depth_out t in omega (arith, d, e)))
@@ -112,12 +88,6 @@ inner_type u h d =
     type_fits 7 u (left _ _ h) (omega (arith, d, e))
 
 -- ---- expressions
-
-abbrev clause_named : Clause → Bool
-clause_named c = is_some c.name
-
-abbrev body_formed : Clause → Bool
-body_formed c = formed_expr c.body
 
 -- what an expression of at most that depth keeps
 pub record Good (room : ℕ) (e : Expr) : Type 0 where
@@ -237,13 +207,6 @@ named_first c (d ∷ ds) h =
     by_name : (n : Option (List ℕ)) → is_some n ≡ true → (is_some n || false) ≡ true
     by_name (Some x) q = refl
     by_name None q = cc
-
-named_rest : (c : Clause) (cs : List Clause) → names_all_but_last clause_named (c ∷ cs) ≡ true → names_all_but_last clause_named cs ≡ true
-named_rest c [] h = refl
-named_rest c (d ∷ ds) h =
-    let e : length (c ∷ d ∷ ds) - 1 ≡ suc (length ds) = omega arith in
-    let n : length (d ∷ ds) - 1 ≡ length ds = omega arith in
-    ap (λ m. list_all clause_named (take m (d ∷ ds))) n ∙ right _ _ (ap (λ m. list_all clause_named (take m (c ∷ d ∷ ds))) (sym e) ∙ h)
 
 called_fits : (room : ℕ) (f : List ℕ) (es : List Expr) → GoodLevel (suc room) (Expr-F.Call f es) → EachFits (expr_core room).Fits es → LevelFits room (Expr-F.Call f es)
 called_fits room f es l h = (above room, (left _ _ l.ranged, ((nothing (length es), leb-true (length es) 8 (left _ _ l.formed), h), tt)))

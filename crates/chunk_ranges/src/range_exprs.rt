@@ -5,14 +5,14 @@ ghost use Rattle.chunk_ranges.specs.Ranges.{is_int, is_word, expr_ranged, clause
 
 use plan_base::{Clause, Dev, Expr, Host, Name};
 
-/// Reads a name.
+/// Reads a name, and changes nothing. Takes no memory.
 pub fn range_name(name: &Name)
     ensures { IsName name.now }
 {
     let _bytes = name.as_slice();
 }
 
-/// Reads an int.
+/// Reads an int, and changes nothing. Takes no memory.
 #[tactic(auto, using(crate::proofs::RangeLaws::int_is))]
 pub fn range_int(int: &i64)
     ensures { IsTrue (is_int int.now) }
@@ -20,7 +20,7 @@ pub fn range_int(int: &i64)
     let _number = *int;
 }
 
-/// Reads the number of a host.
+/// Reads the number of a host, and changes nothing. Takes no memory.
 #[tactic(auto, using(std::proofs::lemmas::Bool::Decides::nat_tests))]
 pub fn range_host(host: &Host)
     ensures { IsTrue (is_word host.now.0) }
@@ -28,7 +28,7 @@ pub fn range_host(host: &Host)
     let _number = host.0;
 }
 
-/// Reads the number of a device.
+/// Reads the number of a device, and changes nothing. Takes no memory.
 #[tactic(auto, using(std::proofs::lemmas::Bool::Decides::nat_tests))]
 pub fn range_dev(dev: &Dev)
     ensures { IsTrue (is_word dev.now.0) }
@@ -103,8 +103,8 @@ fn range_exprs(exprs: &[Expr])
     }
 }
 
-/// Reads what a clause catches.
-fn range_catch(name: &Option<Name>)
+/// Reads what a clause catches, and changes nothing. Takes no memory.
+pub fn range_catch(name: &Option<Name>)
     ensures { IsTrue (catch_ranged name.now) }
 {
     if let Some(name) = name {

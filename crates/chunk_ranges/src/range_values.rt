@@ -9,8 +9,8 @@ ghost use Rattle.chunk_ranges.specs.Ranges.{param_ranged, service_ranged, functi
 use crate::range_exprs::{range_dev, range_expr, range_host, range_int, range_name};
 use plan_base::{Chunk, Fun, Name, Param, Program, Svc, Value};
 
-/// Reads the names of parameters.
-fn range_params(params: &[Param])
+/// Reads the names of parameters, and changes nothing. Takes no memory.
+pub fn range_params(params: &[Param])
     ensures { IsTrue (list_all param_ranged params.now) }
 {
     for p in params {
@@ -18,8 +18,8 @@ fn range_params(params: &[Param])
     }
 }
 
-/// Reads the names of services.
-fn range_services(services: &[Svc])
+/// Reads the names of services, and changes nothing. Takes no memory.
+pub fn range_services(services: &[Svc])
     ensures { IsTrue (list_all service_ranged services.now) }
 {
     for s in services {
@@ -27,8 +27,8 @@ fn range_services(services: &[Svc])
     }
 }
 
-/// Reads names one after another.
-fn range_names(names: &[Name])
+/// Reads names one after another, and changes nothing. Takes no memory.
+pub fn range_names(names: &[Name])
     ensures { IsTrue (list_all is_name names.now) }
 {
     for n in names {
@@ -96,7 +96,7 @@ fn range_values(values: &[Value])
 fn range_chunk(c: &Chunk)
     ensures { IsTrue (chunk_ranged c.now) }
 {
-    range_program(&c.code);
+    range_program(c.code.get());
     range_name(&c.entry);
     range_values(c.args.as_slice());
 }

@@ -17,9 +17,9 @@ use std::alloc::Global;
 pub fn illness(alloc: Global, chunk: &Chunk) -> Result<Option<Ill>, NoMemory>
     ensures { IfOk result (λ o. o ≡ spec.illness chunk.now) }
 {
-    match refused(alloc, &chunk.code)? {
+    match refused(alloc, chunk.code.get())? {
         Some(fault) => Ok(Some(Ill::Code(fault))),
-        None => ill_call(alloc, &chunk.code, &chunk.entry, chunk.args.as_slice()),
+        None => ill_call(alloc, chunk.code.get(), &chunk.entry, chunk.args.as_slice()),
     }
 }
 

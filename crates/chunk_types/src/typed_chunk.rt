@@ -113,7 +113,7 @@ pub fn chunk_of(
         return Err(ChunkFault::Ill(ill));
     }
     let chunk = Chunk {
-        code: program.program().copy(alloc)?,
+        code: program.shared()?,
         entry: entry.copy(alloc)?,
         args,
     };

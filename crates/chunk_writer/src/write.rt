@@ -198,7 +198,7 @@ pub fn put_chunk(c: &Chunk, out: &mut Out)
     ensures bytes { out.new.bytes ≡ out.old.bytes ++ chunk_bytes c.now }
     ensures room { out.new.room + length (chunk_bytes c.now) ≡ out.old.room }
 {
-    put_program(&c.code, out);
+    put_program(c.code.get(), out);
     put_name(&c.entry, out);
     out.put_u8(c.args.len() as u8);
     put_values(c.args.as_slice(), out);

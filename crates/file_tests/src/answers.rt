@@ -1,6 +1,6 @@
 // What a file is answered with, and files that are built.
 
-use line_files::{LineFault, LineReason};
+use line_cases::{joined, told};
 use schedule_text::read_schedule;
 use std::alloc::{AllocError, Global};
 use std::process::Abort;
@@ -9,30 +9,12 @@ use std::test::Fail;
 // What stands behind the front of a file, and the line and the reason of its refusal, or 0 and nothing.
 pub type Case = (&'static [u8], u32, &'static str);
 
-fn reason_name(reason: &LineReason) -> &'static str {
-    match reason {
-        LineReason::BadHeader => "BadHeader",
-        LineReason::BadWord => "BadWord",
-        LineReason::BadNumber => "BadNumber",
-        LineReason::UnknownHost => "UnknownHost",
-        LineReason::UnknownProgram => "UnknownProgram",
-        LineReason::TwiceNamed => "TwiceNamed",
-        LineReason::TooMany => "TooMany",
-        LineReason::ProgramRefused(_) => "ProgramRefused",
-        LineReason::BadArgument => "BadArgument",
-    }
-}
-
 // The line and the reason of a schedule's refusal, or 0 and nothing where it is one.
 fn answer(alloc: Global, bytes: &[u8]) -> (u32, &'static str) {
     if bytes.len() > 4_194_304 {
         return (0, "TooLong");
     }
-    match read_schedule(alloc, bytes) {
-        Ok(_) => (0, ""),
-        Err(LineFault::Line(n, reason)) => (n, reason_name(&reason)),
-        Err(LineFault::NoMemory) => (0, "NoMemory"),
-    }
+    told(read_schedule(alloc, bytes))
 }
 
 pub fn is_answered(rt: &impl Abort, alloc: Global, bytes: &[u8], line: u32, reason: &'static str) {
@@ -41,35 +23,12 @@ pub fn is_answered(rt: &impl Abort, alloc: Global, bytes: &[u8], line: u32, reas
     assert_eq!(rt; name, reason);
 }
 
-// Two parts of a file, one behind the other.
-fn joined(alloc: Global, front: &[u8], back: &[u8]) -> Result<Vec<u8>, AllocError> {
-    let mut all = Vec::from_slice(alloc, front)?;
-    all.extend_from_slice(back)?;
-    Ok(all)
-}
-
 pub fn all_hold(rt: &impl Abort, alloc: Global, front: &[u8], cases: &[Case]) -> Result<(), Fail> {
     for c in cases {
         let bytes = joined(alloc, front, c.0)?;
         is_answered(rt, alloc, bytes.as_slice(), c.1, c.2);
     }
     Ok(())
-}
-
-// `front`, then a text `count` times, then `back`.
-pub fn repeated(
-    alloc: Global,
-    front: &[u8],
-    text: &[u8],
-    count: u32,
-    back: &[u8],
-) -> Result<Vec<u8>, AllocError> {
-    let mut all = Vec::from_slice(alloc, front)?;
-    for _ in 0..count {
-        all.extend_from_slice(text)?;
-    }
-    all.extend_from_slice(back)?;
-    Ok(all)
 }
 
 // A schedule's network of lines with the numbers below `count`, each between two texts.

@@ -1,6 +1,7 @@
 // Each limit of a schedule, at it and one past it.
 
-use crate::answers::{is_answered, numbered, repeated};
+use crate::answers::{is_answered, numbered};
+use line_cases::repeated;
 use std::test::Fail;
 
 const DELIVERIES: &[u8] = b"planet schedule 1\nevents\n";

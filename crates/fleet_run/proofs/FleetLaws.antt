@@ -2,13 +2,14 @@
 use Rattle.std.proofs.Common.{◌≡◌, ◌≢◌, ℕ, Bool, false, OnOk, Result, Ok, Err, zero, suc, ◌+◌, ◌<◌, ◌≤◌, ◌==◌, if◌then◌else◌, List, [], ◌∷◌, ◌++◌, length, take, drop, get_or, Some, slice_get, refl, sym, ◌∙◌, ap, arith, append-nil, append_assoc}
 use Rattle.std.proofs.lemmas.List.{length_push, length-drop, take_more, drop_more, drop_all, get_or-drop}
 use Rattle.std.proofs.lemmas.Option.{slice_get_within, get_or_from_slice_get}
-use Rattle.std.proofs.Math.Seq.{take-append-add, take-length}
+use Rattle.std.proofs.Math.Seq.{take-append-add}
 use Rattle.std.proofs.Math.Dec.{eqb-suc-zero}
 use Rattle.std.proofs.lemmas.Bool.{eq-eqb}
 use Rattle.std.specs.Result.{is_err}
 use Rattle.plan_base.specs.declared.ids.Host.{Host}
 use Rattle.network_plan.specs.declared.fleet.Kid.{Kid}
 use Rattle.node_io.specs.Pieces.{AppendsFront}
+use Rattle.node_io.proofs.Fronts.{front_all, front_longer}
 use Rattle.fleet_run.specs.Fleets.{kid_line, kid_host, fleet_text, fleet_end, Writes}
 use Rattle.fleet_run.specs.declared.fault.FleetFault.{FleetFault}
 use Rattle.fleet_run.specs.declared.fault.FleetFault.TheVariants.{StartFault, WaitFault, WriteFault, NoMemory}
@@ -50,19 +51,11 @@ text_enough (kid ∷ kids) (s ∷ given) = ap (λ l. kid_line kid s ++ l) (text_
 
 -- ---- fronts
 
-front_more : (n : ℕ) (xs ys : List ℕ) → (m : ℕ) × (take n xs ≡ take m (xs ++ ys))
-front_more zero xs ys = (0, refl)
-front_more (suc n) [] ys = (0, refl)
-front_more (suc n) (x ∷ xs) ys = let more = front_more n xs ys in (suc more.0, ap (λ l. x ∷ l) more.1)
-
-pub front_all : (old new bytes : List ℕ) → new ≡ old ++ bytes → AppendsFront old new bytes
-front_all old new bytes h = record { count = length bytes; is = h ∙ ap (λ l. old ++ l) (sym (take-length bytes)) }
-
 -- a front of the lines of the first statuses is one of the lines of all
 pub front_of_given : (kids : List Kid) (given : List ℕ) (n : ℕ) (old new : List ℕ) → AppendsFront old new (fleet_text kids (take n given)) → AppendsFront old new (fleet_text kids given)
 front_of_given kids given n old new f =
     let split = text_split kids given n in
-    let more = front_more f.count (fleet_text kids (take n given)) split.0 in
+    let more = front_longer f.count (fleet_text kids (take n given)) split.0 in
     record { count = more.0; is = f.is ∙ ap (λ l. old ++ l) (more.1 ∙ ap (take more.0) (sym split.1)) }
 
 -- every answer leaves a front of the lines

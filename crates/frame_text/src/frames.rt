@@ -23,7 +23,7 @@ fn put_chunk(alloc: Global, c: &Chunk, out: &mut Bytes) -> Result<(), NoMemory>
     put(out, b"|(")?;
     put_values(alloc, c.args.as_slice(), out)?;
     put(out, b")\n")?;
-    print_program(alloc, &c.code, out)
+    print_program(alloc, c.code.get(), out)
 }
 
 /// What a packet's line says before its routing function.

@@ -44,7 +44,7 @@ pub comma_shut : (f : Front) → Sym symbols.ParenClose f → is_symbol symbols.
 unfolding is_symbol
 comma_shut f e = rw e refl
 
-comma_shut_list : (f : Front) → Sym symbols.BracketClose f → is_symbol symbols.Comma f ≡ false
+pub comma_shut_list : (f : Front) → Sym symbols.BracketClose f → is_symbol symbols.Comma f ≡ false
 unfolding is_symbol
 comma_shut_list f e = rw e refl
 

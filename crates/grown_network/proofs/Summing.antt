@@ -17,13 +17,14 @@ use Rattle.network_laws.proofs.CountLaws.{tally-nil, tally-cons, tally-append}
 use Rattle.run_ledger.specs.Stands.{Stands}
 use Rattle.run_ledger.proofs.ByFamily.{by_family, standing_rows}
 use Rattle.grown_network.specs.declared.summary.Summary.{Summary}
-use Rattle.grown_network.specs.Summaries.{capped, line_visits, line_drops, line_lost, with_line, summary_of, plus, row_sums, all_sums, summary_text, grown_text}
+use Rattle.world_model.specs.Visits.{line_ends}
+use Rattle.grown_network.specs.Summaries.{capped, line_drops, line_lost, with_line, summary_of, plus, row_sums, all_sums, summary_text, grown_text}
 
 -- ---- lines
 
 pub summary_none : ◌≡◌ {A = Summary} (record { lines = 0; visits = 0; drops = 0; lost = 0 }) (summary_of [])
 unfolding summary_of
-summary_none = λ i. record { lines = 0; visits = capped (sym (tally-nil line_visits) i); drops = capped (sym (tally-nil line_drops) i); lost = capped (sym (tally-nil line_lost) i) }
+summary_none = λ i. record { lines = 0; visits = capped (sym (tally-nil line_ends) i); drops = capped (sym (tally-nil line_drops) i); lost = capped (sym (tally-nil line_lost) i) }
 
 capped-more : (a b c : ℕ) → c ≡ a + b → capped (capped a + b) ≡ capped c
 capped-more a b c e = omega (arith, e)
@@ -37,7 +38,7 @@ summary_line h n l =
     let e = entry_at n l in
     λ i. record {
       lines = capped-more (length h) 1 (length (h ++ e ∷ [])) (length-append h (e ∷ [])) i;
-      visits = capped-more (tally line_visits h) (line_visits l) (tally line_visits (h ++ e ∷ [])) (tally-push line_visits h e) i;
+      visits = capped-more (tally line_ends h) (line_ends l) (tally line_ends (h ++ e ∷ [])) (tally-push line_ends h e) i;
       drops = capped-more (tally line_drops h) (line_drops l) (tally line_drops (h ++ e ∷ [])) (tally-push line_drops h e) i;
       lost = capped-more (tally line_lost h) (line_lost l) (tally line_lost (h ++ e ∷ [])) (tally-push line_lost h e) i;
     }

@@ -6,7 +6,7 @@ use Rattle.plan_base.specs.declared.tree.Chunk.{Chunk}
 use Rattle.bound_ledger.specs.declared.row.Row.{Row}
 use Rattle.bound_ledger.specs.Rows.{FamilyRow}
 use Rattle.node_model.specs.declared.acts.Act.{Act}
-use Rattle.node_model.specs.declared.acts.Act.TheVariants.{Ended, Dropped, AdvertDropped}
+use Rattle.node_model.specs.declared.acts.Act.TheVariants.{Dropped, AdvertDropped}
 use Rattle.world_model.specs.declared.lines.Line.{Line}
 use Rattle.world_model.specs.declared.lines.Line.TheVariants.{At, Lost}
 use Rattle.world_model.specs.declared.lines.Entry.{Entry}
@@ -14,6 +14,7 @@ use Rattle.world_model.specs.World.{WorldState, world_after, history_of, opening
 use Rattle.world_model.specs.Counts as count
 use Rattle.world_model.specs.Counts.{tally}
 use Rattle.world_model.specs.Texts.{families}
+use Rattle.world_model.specs.Visits.{line_ends}
 use Rattle.grown_network.specs.declared.summary.Summary.{Summary}
 use Rattle.grown_network.specs.Grow.{Grow, ring}
 
@@ -22,15 +23,6 @@ abbrev pub capped : ℕ → ℕ
 capped n = min n 18446744073709551615
 
 -- ---- lines
-
--- 1 for the end of a visit
-abbrev pub act_visits : Act → ℕ
-act_visits (Ended f o evals rest) = 1
-act_visits _ = 0
-
-abbrev pub line_visits : Line → ℕ
-line_visits (At h act) = act_visits act
-line_visits _ = 0
 
 -- 1 for a packet or an advert that was dropped
 abbrev pub act_drops : Act → ℕ
@@ -49,13 +41,13 @@ line_lost _ = 0
 
 -- counts with those of one more line
 abbrev pub with_line : Line → Summary → Summary
-with_line l s = record { lines = capped (s.lines + 1); visits = capped (s.visits + line_visits l); drops = capped (s.drops + line_drops l); lost = capped (s.lost + line_lost l) }
+with_line l s = record { lines = capped (s.lines + 1); visits = capped (s.visits + line_ends l); drops = capped (s.drops + line_drops l); lost = capped (s.lost + line_lost l) }
 
 -- the counts of a history
 unfoldable pub summary_of : List Entry → Summary
 summary_of h = record {
   lines = capped (length h);
-  visits = capped (tally line_visits h);
+  visits = capped (tally line_ends h);
   drops = capped (tally line_drops h);
   lost = capped (tally line_lost h);
 }

@@ -1,6 +1,7 @@
 ghost use Rattle.std.specs.Prelude.{◌≡◌, ◌++◌, ℕ, List, [], map};
 ghost use Rattle.world_model.specs.declared.lines.Entry.{Entry};
 ghost use Rattle.world_model.specs.World.{entry_at};
+ghost use Rattle.world_model.specs.Visits.{line_ends};
 ghost use Rattle.grown_network.specs.Summaries as spec;
 
 use node_model::Act;
@@ -20,7 +21,7 @@ pub struct Summary {
 }
 
 fn visits(line: &Line) -> u64
-    ensures { result ≡ spec.line_visits line.now }
+    ensures { result ≡ line_ends line.now }
 {
     match line {
         Line::At(_, Act::Ended(_, _, _, _)) => 1,

@@ -6,53 +6,52 @@ use crate::summary::Summary;
 use bound_ledger::Row;
 use node_core::put_number;
 use plan_base::{Bytes, NoMemory};
-use std::alloc::Global;
 
 /// A word and a number.
-fn put_count(alloc: Global, out: &mut Bytes, word: &[u8], n: u64) -> Result<(), NoMemory>
+fn put_count(out: &mut Bytes, word: &[u8], n: u64) -> Result<(), NoMemory>
     ensures { OnOk result (out.new ≡ out.old ++ (word.now ++ decimal n)) }
 {
     out.add_all(word)?;
-    put_number(alloc, out, n)?;
+    put_number(out, n)?;
     Ok(())
 }
 
-fn put_asked(alloc: Global, out: &mut Bytes, seed: u64, events: u64) -> Result<(), NoMemory>
+fn put_asked(out: &mut Bytes, seed: u64, events: u64) -> Result<(), NoMemory>
     ensures { OnOk result (out.new ≡ out.old ++ spec.asked_text seed events) }
 {
-    put_count(alloc, out, b"planet grow ", seed)?;
-    put_count(alloc, out, b" ", events)?;
+    put_count(out, b"planet grow ", seed)?;
+    put_count(out, b" ", events)?;
     out.add_all(b"\n")?;
     Ok(())
 }
 
-fn put_size(alloc: Global, out: &mut Bytes, events: u64) -> Result<(), NoMemory>
+fn put_size(out: &mut Bytes, events: u64) -> Result<(), NoMemory>
     ensures { OnOk result (out.new ≡ out.old ++ spec.size_text events) }
 {
-    put_count(alloc, out, b"hosts 8 links 8 events ", events)?;
+    put_count(out, b"hosts 8 links 8 events ", events)?;
     out.add_all(b"\n")?;
     Ok(())
 }
 
-fn put_happened(alloc: Global, out: &mut Bytes, summary: Summary) -> Result<(), NoMemory>
+fn put_happened(out: &mut Bytes, summary: Summary) -> Result<(), NoMemory>
     ensures { OnOk result (out.new ≡ out.old ++ spec.happened_text summary) }
 {
-    put_count(alloc, out, b"lines ", summary.lines)?;
-    put_count(alloc, out, b"\nvisits ", summary.visits)?;
-    put_count(alloc, out, b" drops ", summary.drops)?;
-    put_count(alloc, out, b" lost ", summary.lost)?;
+    put_count(out, b"lines ", summary.lines)?;
+    put_count(out, b"\nvisits ", summary.visits)?;
+    put_count(out, b" drops ", summary.drops)?;
+    put_count(out, b" lost ", summary.lost)?;
     out.add_all(b"\n")?;
     Ok(())
 }
 
-fn put_sums(alloc: Global, out: &mut Bytes, sums: Row) -> Result<(), NoMemory>
+fn put_sums(out: &mut Bytes, sums: Row) -> Result<(), NoMemory>
     ensures { OnOk result (out.new ≡ out.old ++ spec.sums_text sums) }
 {
-    put_count(alloc, out, b"granted ", sums.granted)?;
-    put_count(alloc, out, b" hops ", sums.hops)?;
-    put_count(alloc, out, b" evals ", sums.evals)?;
-    put_count(alloc, out, b" live ", sums.live)?;
-    put_count(alloc, out, b" left ", sums.left)?;
+    put_count(out, b"granted ", sums.granted)?;
+    put_count(out, b" hops ", sums.hops)?;
+    put_count(out, b" evals ", sums.evals)?;
+    put_count(out, b" live ", sums.live)?;
+    put_count(out, b" left ", sums.left)?;
     out.add_all(b"\n")?;
     Ok(())
 }
@@ -61,7 +60,6 @@ fn put_sums(alloc: Global, out: &mut Bytes, sums: Row) -> Result<(), NoMemory>
 /// all families.
 #[tactic(auto, unfolding(crate::specs::Summaries::summary_text))]
 pub fn put_summary(
-    alloc: Global,
     out: &mut Bytes,
     seed: u64,
     events: u64,
@@ -70,10 +68,10 @@ pub fn put_summary(
 ) -> Result<(), NoMemory>
     ensures { OnOk result (out.new ≡ out.old ++ spec.summary_text seed events summary sums) }
 {
-    put_asked(alloc, out, seed, events)?;
-    put_size(alloc, out, events)?;
-    put_happened(alloc, out, summary)?;
-    put_sums(alloc, out, sums)?;
+    put_asked(out, seed, events)?;
+    put_size(out, events)?;
+    put_happened(out, summary)?;
+    put_sums(out, sums)?;
     out.add_all(b"end\n")?;
     Ok(())
 }

@@ -1,8 +1,7 @@
 ghost use Rattle.std.specs.Prelude.{◌≡◌, ◌++◌, ◌∷◌, [], false, filter, IfSome, MatchOption};
 ghost use Rattle.node_io.specs.Children.{is_other, IsFresh};
 
-use crate::counts::raise;
-use node_io::{Child, Failed, Spawner};
+use node_io::{Child, Failed, Spawner, raise};
 use plan_base::{Text, Texts};
 use std::alloc::Global;
 use std::process::{Child as Process, Command, Processes, Stdio};

@@ -3,7 +3,6 @@
 //! None of them tells what it holds. Each counts its faults, and fails only where its count rose.
 #![tactic(auto)]
 
-mod counts;
 mod host_clock;
 mod host_spawner;
 mod udp_link;

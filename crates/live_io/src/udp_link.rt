@@ -1,8 +1,7 @@
 ghost use Rattle.std.specs.Prelude.{◌≡◌, [], ◌≤◌, false, length, IfSome, IsTrue};
 ghost use Rattle.node_io.specs.Links.{has_peer, HasPeer};
 
-use crate::counts::raise;
-use node_io::{Failed, Got, Link, Peer, Peers};
+use node_io::{Failed, Got, Link, Peer, Peers, raise};
 use plan_base::Dev;
 use std::alloc::Global;
 use std::io;

@@ -1,48 +1,19 @@
 -- The lines of entries that are made again.
-use Rattle.std.proofs.Common.{◌≡◌, ℕ, zero, suc, ◌+◌, ◌<◌, ◌≤◌, List, [], ◌∷◌, ◌++◌, length, take, drop, get_or, Result, Ok, Err, OnOk, refl, sym, ◌∙◌, ap, subst, arith, codes, append-nil, append_assoc}
+use Rattle.std.proofs.Common.{◌≡◌, ℕ, ◌+◌, ◌<◌, ◌≤◌, List, [], ◌∷◌, ◌++◌, length, take, drop, get_or, Result, Ok, Err, OnOk, refl, sym, ◌∙◌, ap, subst, arith, codes, append-nil, append_assoc}
 use Rattle.std.proofs.lemmas.Grind.{take_at_read}
+use Rattle.std.proofs.lemmas.List.{take_all, take-append-drop, length-take-le}
+use Rattle.std.proofs.Math.Seq.{take-append-add}
 use Rattle.plan_base.specs.declared.ids.Host.{Host}
 use Rattle.network_plan.specs.declared.event.LogEvent.{LogEvent}
 use Rattle.service_api.specs.Services.{Standing}
 use Rattle.node_io.specs.Pieces.{AppendsFront}
+use Rattle.node_io.proofs.Fronts.{front_longer}
 use Rattle.node_model.specs.State.{NodeState}
 use Rattle.node_core.specs.declared.node.Node.{Node}
 use Rattle.node_core.specs.Stands.{NodeStands}
 use Rattle.serve_model.specs.Runs.{Entry, acts_of, node_by, entries_at, played, node_after}
 use Rattle.serve_model.specs.Texts.{trace_line, lines_text, begun_trace, whole_trace}
 use Rattle.serve_model.proofs.Going.{played_more, after_more}
-
--- ---- lists
-
-take_into : {A : Type 0} (xs ys : List A) (n : ℕ) → take (length xs + n) (xs ++ ys) ≡ xs ++ take n ys
-take_into [] ys n = let same : 0 + n ≡ n = omega arith in ap (λ k. take k ys) same
-take_into (x ∷ xs) ys n = let same : length (x ∷ xs) + n ≡ suc (length xs + n) = omega arith in ap (λ k. take k ((x ∷ xs) ++ ys)) same ∙ ap (λ l. x ∷ l) (take_into xs ys n)
-
-take_whole : {A : Type 0} (xs : List A) → take (length xs) xs ≡ xs
-take_whole [] = refl
-take_whole (x ∷ xs) = ap (λ l. x ∷ l) (take_whole xs)
-
-take_past : {A : Type 0} (n : ℕ) (xs : List A) → length xs ≤ n → take n xs ≡ xs
-take_past zero [] h = refl
-take_past zero (x ∷ xs) h = absurd (omega (arith, h))
-take_past (suc n) [] h = refl
-take_past (suc n) (x ∷ xs) h = ap (λ l. x ∷ l) (take_past n xs (omega (arith, h)))
-
-length_take : {A : Type 0} (n : ℕ) (xs : List A) → n ≤ length xs → length (take n xs) ≡ n
-length_take zero xs h = refl
-length_take (suc n) [] h = absurd (omega (arith, h))
-length_take (suc n) (x ∷ xs) h = ap suc (length_take n xs (omega (arith, h)))
-
-take_drop : {A : Type 0} (n : ℕ) (xs : List A) → take n xs ++ drop n xs ≡ xs
-take_drop zero xs = refl
-take_drop (suc n) [] = refl
-take_drop (suc n) (x ∷ xs) = ap (λ l. x ∷ l) (take_drop n xs)
-
--- a front of a list is one of every list that goes on from it
-front_more : {A : Type 0} (n : ℕ) (xs ys : List A) → (m : ℕ) × (take n xs ≡ take m (xs ++ ys))
-front_more zero xs ys = (0, refl)
-front_more (suc n) [] ys = (0, refl)
-front_more (suc n) (x ∷ xs) ys = let more = front_more n xs ys in (suc more.0, ap (λ l. x ∷ l) more.1)
 
 -- ---- lines
 
@@ -71,7 +42,7 @@ pub next_played : (here : Host) (s : NodeState) (es : List LogEvent) (i n : ℕ)
 next_played here s es i n d h number =
     let e = get_or es i d in
     let node = node_after s (take i es) in
-    let count : length (take i es) + 1 ≡ n = ap (λ k. k + 1) (length_take i es (omega (arith, h))) ∙ sym number in
+    let count : length (take i es) + 1 ≡ n = ap (λ k. k + 1) (length-take-le i es (omega (arith, h))) ∙ sym number in
     ap (λ l. lines_text here (played 0 s l)) (take_at_read es i d h).1 ∙ more_played here s (take i es) (e ∷ [])
     ∙ ap (λ l. lines_text here (played 0 s (take i es)) ++ l) (one_played here (length (take i es)) node e ∙ ap (λ k. lines_text here (entries_at k (acts_of node e))) count)
 
@@ -107,30 +78,24 @@ module _ (here : Host) (s : NodeState) (es : List LogEvent) (i n : ℕ) (d e : L
       let lines = lines_text here (entries_at n (acts_of (node_after s (take i es)) (get_or es i d))) in
       let upto = take (i + 1) es in
       let rest = lines_text here (played (length upto) (node_after s upto) (drop (i + 1) es)) in
-      let whole : lines_text here (played 0 s es) ≡ (first ++ lines) ++ rest = ap (λ l. lines_text here (played 0 s l)) (sym (take_drop (i + 1) es)) ∙ more_played here s upto (drop (i + 1) es) ∙ ap (λ l. l ++ rest) (next_played here s es i n d h number) in
-      let more = front_more (length first + x.count) (first ++ lines) rest in
+      let whole : lines_text here (played 0 s es) ≡ (first ++ lines) ++ rest = ap (λ l. lines_text here (played 0 s l)) (sym (take-append-drop (i + 1) es)) ∙ more_played here s upto (drop (i + 1) es) ∙ ap (λ l. l ++ rest) (next_played here s es i n d h number) in
+      let more = front_longer (length first + x.count) (first ++ lines) rest in
       record {
         count = more.0;
         is = x.is ∙ ap (λ y. mid ++ take x.count (lines_text here (entries_at n (acts_of (node_after s (take i es)) y)))) same ∙ ap (λ l. l ++ take x.count lines) before ∙ append_assoc old first (take x.count lines)
-            ∙ ap (λ l. old ++ l) (sym (take_into first lines x.count) ∙ more.1 ∙ ap (take more.0) (sym whole));
+            ∙ ap (λ l. old ++ l) (sym (take-append-add first lines x.count) ∙ more.1 ∙ ap (take more.0) (sym whole));
       }
 
 pub all_written : (here : Host) (s : NodeState) (es : List LogEvent) (i : ℕ) (old new : List ℕ) → length es ≤ i → new ≡ old ++ lines_text here (played 0 s (take i es)) → new ≡ old ++ lines_text here (played 0 s es)
-all_written here s es i old new h x = x ∙ ap (λ l. old ++ lines_text here (played 0 s l)) (take_past i es h)
+all_written here s es i old new h x = x ∙ ap (λ l. old ++ lines_text here (played 0 s l)) (take_all i es h)
 
 -- ---- fronts
-
-pub front_none : (old bytes : List ℕ) → AppendsFront old old bytes
-front_none old bytes = record { count = 0; is = sym (append-nil old) }
-
-pub front_all : (old new bytes : List ℕ) → new ≡ old ++ bytes → AppendsFront old new bytes
-front_all old new bytes h = record { count = length bytes; is = h ∙ ap (λ l. old ++ l) (sym (take_whole bytes)) }
 
 -- a front of a later part
 front_behind : (old mid new first lines rest : List ℕ) → mid ≡ old ++ first → AppendsFront mid new lines → AppendsFront old new (first ++ (lines ++ rest))
 front_behind old mid new first lines rest h x =
-    let more = front_more x.count lines rest in
-    record { count = length first + more.0; is = x.is ∙ ap (λ l. l ++ take x.count lines) h ∙ append_assoc old first (take x.count lines) ∙ ap (λ l. old ++ (first ++ l)) more.1 ∙ ap (λ l. old ++ l) (sym (take_into first (lines ++ rest) more.0)) }
+    let more = front_longer x.count lines rest in
+    record { count = length first + more.0; is = x.is ∙ ap (λ l. l ++ take x.count lines) h ∙ append_assoc old first (take x.count lines) ∙ ap (λ l. old ++ (first ++ l)) more.1 ∙ ap (λ l. old ++ l) (sym (take-append-add first (lines ++ rest) more.0)) }
 
 module _ (here : Host) (es : List Entry) (old new : List ℕ) where
   whole_is : whole_trace here es ≡ codes "planet trace 1\n" ++ (lines_text here es ++ codes "end\n")

@@ -1,5 +1,5 @@
 -- The purse never rises; evals, packets and notes only become more.
-use Rattle.std.proofs.Common.{◌≡◌, ℕ, suc, ◌+◌, ◌-◌, ◌≤◌, Bool, true, false, if◌then◌else◌, ◌==◌, nat_lt, ℤ, List, [], ◌∷◌, ◌++◌, Option, Some, None, refl, sym, ◌∙◌, ap, arith, append_assoc}
+use Rattle.std.proofs.Common.{ℕ, suc, ◌+◌, ◌-◌, ◌≤◌, if◌then◌else◌, ◌==◌, nat_lt, ℤ, List, [], ◌∷◌, ◌++◌, Option, Some, None, refl, sym, ◌∙◌, ap, arith, append_assoc}
 use Rattle.std.proofs.lemmas.List.{append-nil}
 use Rattle.plan_base.specs.declared.name.Name.{Name}
 use Rattle.plan_base.specs.declared.ids.Host.{Host}
@@ -19,10 +19,10 @@ use Rattle.service_api.specs.Routes.{hop, default_route}
 use Rattle.service_api.specs.Services.{Served, served, called}
 use Rattle.plan_meaning.specs.declared.stop.Stop.TheVariants.{Raised, WorkSpent, Wrong, NoMemory}
 use Rattle.plan_meaning.specs.State.{VisitState}
-use Rattle.plan_meaning.specs.Run.{After, gave, stopped, Step, Run, «next», quiet, raise, otherwise, spend, serve, answered, noted}
+use Rattle.plan_meaning.specs.Run.{After, gave, stopped, Run, «next», quiet, otherwise, spend, serve, answered, noted}
 use Rattle.plan_meaning.specs.Meaning.{Env, pay_eval, no_bound, is_paid, bound_of, sent, sent_by, send_remote, is_next, not_neighbour, send_neighbour, run_to, meaning, visited}
 use Rattle.meaning_laws.specs.Laws.{left_by, Extends, HasGrown}
-use Rattle.meaning_laws.proofs.Walk.{Kept, run_kept, visited_kept}
+use Rattle.meaning_laws.proofs.Walk.{Kept, choose, run_kept, visited_kept}
 
 itself : {A : Type 0} (xs : List A) → Extends xs xs
 itself xs = record { more = []; behind = sym (append-nil xs) }
@@ -62,10 +62,6 @@ Growing A p q = (s : VisitState) → HasGrown s (left_by (p s).after)
 abbrev Has : {A : Type 0} → VisitState → After A → Type 0
 Has s a = HasGrown s (left_by a)
 
-choose : {A : Type 0} (s : VisitState) (b : Bool) (x y : Step A) → Has s x.after → Has s y.after → Has s (if b then x else y).after
-choose s true x y h k = h
-choose s false x y h k = k
-
 next_grown : {A B : Type 0} (r : VisitState) (a : After A) (f : A → Run B) → Has r a → ((x : A) → Growing B (f x) (f x)) → Has r («next» a f).after
 next_grown r (gave x s) f h k = grown_then r s _ h (k x s)
 next_grown r (stopped e s) f h k = h
@@ -101,21 +97,21 @@ paid_grown s = record { purse = less_number s.ctx.purse 1; evals = one_number s.
 
 spends : (n : ℕ) → Growing (Unit {0}) (spend n) (spend n)
 unfolding spend
-spends n s = choose s (nat_lt s.work n) (quiet (stopped WorkSpent s)) (quiet (gave tt (record s { work = s.work - n }))) (grown_itself s) (less_work s (s.work - n))
+spends n s = choose HasGrown s (nat_lt s.work n) (quiet (stopped WorkSpent s)) (quiet (gave tt (record s { work = s.work - n }))) (grown_itself s) (less_work s (s.work - n))
 
 pays : Growing (Unit {0}) pay_eval pay_eval
 unfolding pay_eval
-pays s = choose s (s.ctx.purse == 0) (quiet (stopped (Raised no_bound) s)) (quiet (gave tt (record s { ctx = record s.ctx { purse = s.ctx.purse - 1 }; evals = s.evals + 1 }))) (grown_itself s) (paid_grown s)
+pays s = choose HasGrown s (s.ctx.purse == 0) (quiet (stopped (Raised no_bound) s)) (quiet (gave tt (record s { ctx = record s.ctx { purse = s.ctx.purse - 1 }; evals = s.evals + 1 }))) (grown_itself s) (paid_grown s)
 
 remotes : (k : Chunk) (h : Host) (n : ℤ) (r : Name) → Growing (Unit {0}) (send_remote k h n r) (send_remote k h n r)
 unfolding send_remote
-remotes k h n r s = choose s (is_paid n s.ctx.purse) (sent_by (hop s.ctx.router r s.ctx.here h) k h (bound_of n) r s) (quiet (stopped (Raised no_bound) s)) (sent_by_grown s (hop s.ctx.router r s.ctx.here h) k h (bound_of n) r) (grown_itself s)
+remotes k h n r s = choose HasGrown s (is_paid n s.ctx.purse) (sent_by (hop s.ctx.router r s.ctx.here h) k h (bound_of n) r s) (quiet (stopped (Raised no_bound) s)) (sent_by_grown s (hop s.ctx.router r s.ctx.here h) k h (bound_of n) r) (grown_itself s)
 
 neighbours : (k : Chunk) (h : Host) (n : ℤ) (d : Dev) → Growing (Unit {0}) (send_neighbour k h n d) (send_neighbour k h n d)
 unfolding send_neighbour
 neighbours k h n d s =
-    choose s (is_paid n s.ctx.purse) (if is_next s d h then sent d k h (bound_of n) default_route s else quiet (stopped (Raised not_neighbour) s)) (quiet (stopped (Raised no_bound) s))
-    (choose s (is_next s d h) (sent d k h (bound_of n) default_route s) (quiet (stopped (Raised not_neighbour) s)) (sent_grown s d k h (bound_of n) default_route) (grown_itself s)) (grown_itself s)
+    choose HasGrown s (is_paid n s.ctx.purse) (if is_next s d h then sent d k h (bound_of n) default_route s else quiet (stopped (Raised not_neighbour) s)) (quiet (stopped (Raised no_bound) s))
+    (choose HasGrown s (is_next s d h) (sent d k h (bound_of n) default_route s) (quiet (stopped (Raised not_neighbour) s)) (sent_grown s d k h (bound_of n) default_route) (grown_itself s)) (grown_itself s)
 
 serves : (d : Svc) (args : List Value) → Growing Value (serve d args) (serve d args)
 unfolding serve

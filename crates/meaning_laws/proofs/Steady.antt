@@ -1,5 +1,5 @@
 -- Surroundings, family, offer and the rows at `begin` stay.
-use Rattle.std.proofs.Common.{ℕ, suc, ◌+◌, ◌-◌, Bool, true, false, if◌then◌else◌, ◌==◌, nat_lt, ℤ, List, refl, ◌∙◌, arith}
+use Rattle.std.proofs.Common.{ℕ, suc, ◌+◌, ◌-◌, if◌then◌else◌, ◌==◌, nat_lt, ℤ, List, refl, ◌∙◌, arith}
 use Rattle.plan_base.specs.declared.name.Name.{Name}
 use Rattle.plan_base.specs.declared.ids.Host.{Host}
 use Rattle.plan_base.specs.declared.ids.Dev.{Dev}
@@ -17,10 +17,10 @@ use Rattle.service_api.specs.Routes.{hop, default_route}
 use Rattle.service_api.specs.Services.{served}
 use Rattle.plan_meaning.specs.declared.stop.Stop.TheVariants.{Raised, WorkSpent, Wrong, NoMemory}
 use Rattle.plan_meaning.specs.State.{VisitState}
-use Rattle.plan_meaning.specs.Run.{After, gave, stopped, Step, Run, «next», quiet, otherwise, spend, serve, answered}
+use Rattle.plan_meaning.specs.Run.{After, gave, stopped, Run, «next», quiet, otherwise, spend, serve, answered}
 use Rattle.plan_meaning.specs.Meaning.{Env, pay_eval, no_bound, is_paid, bound_of, sent, sent_by, send_remote, is_next, not_neighbour, send_neighbour, run_to, meaning, visited}
 use Rattle.meaning_laws.specs.Laws.{left_by, IsSteady}
-use Rattle.meaning_laws.proofs.Walk.{Kept, run_kept, visited_kept}
+use Rattle.meaning_laws.proofs.Walk.{Kept, choose, run_kept, visited_kept}
 
 abbrev pub Steady : (A : Type 0) → Run A → Run A → Type 0
 Steady A p q = (s : VisitState) → IsSteady s (left_by (p s).after)
@@ -33,10 +33,6 @@ same_steady s = record { ctx = refl; family = refl; offer = refl; begun = refl }
 
 then_steady : (r s t : VisitState) → IsSteady r s → IsSteady s t → IsSteady r t
 then_steady r s t h k = record { ctx = k.ctx ∙ h.ctx; family = k.family ∙ h.family; offer = k.offer ∙ h.offer; begun = k.begun ∙ h.begun }
-
-choose : {A : Type 0} (s : VisitState) (b : Bool) (x y : Step A) → Has s x.after → Has s y.after → Has s (if b then x else y).after
-choose s true x y h k = h
-choose s false x y h k = k
 
 next_steady : {A B : Type 0} (r : VisitState) (a : After A) (f : A → Run B) → Has r a → ((x : A) → Steady B (f x) (f x)) → Has r («next» a f).after
 next_steady r (gave x s) f h k = then_steady r s _ h (k x s)
@@ -63,21 +59,21 @@ served_steady s t e (Raises x) = e
 
 spends : (n : ℕ) → Steady (Unit {0}) (spend n) (spend n)
 unfolding spend
-spends n s = choose s (nat_lt s.work n) (quiet (stopped WorkSpent s)) (quiet (gave tt (record s { work = s.work - n }))) (same_steady s) (record { ctx = refl; family = refl; offer = refl; begun = refl })
+spends n s = choose IsSteady s (nat_lt s.work n) (quiet (stopped WorkSpent s)) (quiet (gave tt (record s { work = s.work - n }))) (same_steady s) (record { ctx = refl; family = refl; offer = refl; begun = refl })
 
 pays : Steady (Unit {0}) pay_eval pay_eval
 unfolding pay_eval
-pays s = choose s (s.ctx.purse == 0) (quiet (stopped (Raised no_bound) s)) (quiet (gave tt (record s { ctx = record s.ctx { purse = s.ctx.purse - 1 }; evals = s.evals + 1 }))) (same_steady s) (record { ctx = refl; family = refl; offer = refl; begun = refl })
+pays s = choose IsSteady s (s.ctx.purse == 0) (quiet (stopped (Raised no_bound) s)) (quiet (gave tt (record s { ctx = record s.ctx { purse = s.ctx.purse - 1 }; evals = s.evals + 1 }))) (same_steady s) (record { ctx = refl; family = refl; offer = refl; begun = refl })
 
 remotes : (k : Chunk) (h : Host) (n : ℤ) (r : Name) → Steady (Unit {0}) (send_remote k h n r) (send_remote k h n r)
 unfolding send_remote
-remotes k h n r s = choose s (is_paid n s.ctx.purse) (sent_by (hop s.ctx.router r s.ctx.here h) k h (bound_of n) r s) (quiet (stopped (Raised no_bound) s)) (sent_by_steady s (hop s.ctx.router r s.ctx.here h) k h (bound_of n) r) (same_steady s)
+remotes k h n r s = choose IsSteady s (is_paid n s.ctx.purse) (sent_by (hop s.ctx.router r s.ctx.here h) k h (bound_of n) r s) (quiet (stopped (Raised no_bound) s)) (sent_by_steady s (hop s.ctx.router r s.ctx.here h) k h (bound_of n) r) (same_steady s)
 
 neighbours : (k : Chunk) (h : Host) (n : ℤ) (d : Dev) → Steady (Unit {0}) (send_neighbour k h n d) (send_neighbour k h n d)
 unfolding send_neighbour
 neighbours k h n d s =
-    choose s (is_paid n s.ctx.purse) (if is_next s d h then sent d k h (bound_of n) default_route s else quiet (stopped (Raised not_neighbour) s)) (quiet (stopped (Raised no_bound) s))
-    (choose s (is_next s d h) (sent d k h (bound_of n) default_route s) (quiet (stopped (Raised not_neighbour) s)) (sent_steady s d k h (bound_of n) default_route) (same_steady s)) (same_steady s)
+    choose IsSteady s (is_paid n s.ctx.purse) (if is_next s d h then sent d k h (bound_of n) default_route s else quiet (stopped (Raised not_neighbour) s)) (quiet (stopped (Raised no_bound) s))
+    (choose IsSteady s (is_next s d h) (sent d k h (bound_of n) default_route s) (quiet (stopped (Raised not_neighbour) s)) (sent_steady s d k h (bound_of n) default_route) (same_steady s)) (same_steady s)
 
 serves : (d : Svc) (args : List Value) → Steady Value (serve d args) (serve d args)
 unfolding serve

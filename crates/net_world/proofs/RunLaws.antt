@@ -4,7 +4,7 @@ use Rattle.std.specs.Prelude.{Bool, min, codes, map, All}
 use Rattle.std.proofs.lemmas.List.Concat.{flat_map-append}
 use Rattle.std.proofs.lemmas.List.{append-nil, take-append-le, take_min, take-append-drop, take_all}
 use Rattle.std.proofs.lemmas.List.Elements.{All-take, All-weaker}
-use Rattle.std.proofs.Math.Seq.{take-append-add, take-append_seam, take-length}
+use Rattle.std.proofs.Math.Seq.{take-append-add, take-append_seam}
 use Rattle.std.proofs.lemmas.Grind.{take_at_read}
 use Rattle.plan_base.specs.declared.ids.Family.{Family}
 use Rattle.service_api.specs.Services.{Standing}
@@ -121,14 +121,6 @@ text_all frames w es i old new h e = e ∙ ap (λ x. old ++ entries_text frames 
 
 pub counts_all : (rows : List FamilyRow) (w : WorldState) (es : List WorldEvent) (i : ℕ) → length es ≤ i → Stands (history_of (take i es) w) rows → Stands (history_of es w) rows
 counts_all rows w es i h s = subst (λ x. Stands (history_of x w) rows) (take_all i es h) s
-
--- the whole is a front of itself
-pub front_all : (old new all : List ℕ) → new ≡ old ++ all → AppendsFront old new all
-front_all old new all e = record { count = length all; is = e ∙ ap (λ x. old ++ x) (sym (take-length all)) }
-
--- nothing is a front
-pub front_none : (old all : List ℕ) → AppendsFront old old all
-front_none old all = record { count = 0; is = sym (append-nil old) }
 
 pub opening_made : (t : Topology) → (opening t).made ≡ 0
 unfolding opening

@@ -136,7 +136,7 @@ fn ledger_bytes(alloc: Global, ledger: &Ledger) -> Result<Bytes, NoMemory>
     ensures { (h : List EntryOf) (w : WorldState) → Stands h ledger.now → ((f : FamilyOf) → Balanced f h w) → IfOk result (λ text. text ≡ ledger_text h w) }
 {
     let mut text = Bytes::new(alloc);
-    put_ledger(alloc, &mut text, ledger)?;
+    put_ledger(&mut text, ledger)?;
     Ok(text)
 }
 

@@ -9,5 +9,5 @@ mod routes;
 mod sends;
 mod text;
 
-pub use node::Node;
+pub use node::{Node, are_bytes};
 pub use text::{put_act, put_act_text, put_bound, put_family, put_number};

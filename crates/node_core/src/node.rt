@@ -131,8 +131,8 @@ fn leads_to(links: &[(Host, Dev)], dev: Dev, host: Host) -> bool
     }
 }
 
-/// The values of bytes.
-fn are_bytes(bytes: &[u8])
+/// Shows that bytes are numbers below 256, and changes nothing. Takes no memory.
+pub fn are_bytes(bytes: &[u8])
     ensures { IsBytes bytes.now }
 {
     let _count = bytes.len();

@@ -5,6 +5,7 @@ ghost use Rattle.frame_text.specs.Reasons.{reason_text};
 ghost use Rattle.node_model.specs.Texts as spec;
 
 use frame_text::put_reason;
+use itoa::Buffer;
 use node_model::{Act, Reason, What};
 use packet_frame::FrameFault;
 use plan_base::{Bytes, Dev, Family, Host, NoMemory, Value};
@@ -14,62 +15,62 @@ use service_api::Note;
 use std::alloc::Global;
 
 /// Appends a number in decimal.
-pub fn put_number(alloc: Global, out: &mut Bytes, n: u64) -> Result<(), NoMemory>
+pub fn put_number(out: &mut Bytes, n: u64) -> Result<(), NoMemory>
     ensures { OnOk result (out.new ≡ out.old ++ decimal n) }
 {
-    let digits = format!(in alloc; "{n}")?;
-    out.add_all(digits.as_bytes())?;
+    let mut digits = Buffer::new();
+    out.add_all(digits.format(n).as_bytes())?;
     Ok(())
 }
 
 /// The head of a line.
-fn put_head(alloc: Global, out: &mut Bytes, word: &[u8], host: Host) -> Result<(), NoMemory>
+fn put_head(out: &mut Bytes, word: &[u8], host: Host) -> Result<(), NoMemory>
     ensures { OnOk result (out.new ≡ out.old ++ spec.head_text word.now host) }
 {
     out.add_all(word)?;
     out.add_all(b" @")?;
-    put_number(alloc, out, u64::from(host.0))?;
+    put_number(out, u64::from(host.0))?;
     Ok(())
 }
 
 /// Appends a family: its source and its serial number.
-pub fn put_family(alloc: Global, out: &mut Bytes, f: Family) -> Result<(), NoMemory>
+pub fn put_family(out: &mut Bytes, f: Family) -> Result<(), NoMemory>
     ensures { OnOk result (out.new ≡ out.old ++ spec.family_text f) }
 {
-    put_number(alloc, out, u64::from(f.source.0))?;
+    put_number(out, u64::from(f.source.0))?;
     out.add_all(b".")?;
-    put_number(alloc, out, f.serial)?;
+    put_number(out, f.serial)?;
     Ok(())
 }
 
 /// Appends a family with its bound.
-pub fn put_bound(alloc: Global, out: &mut Bytes, f: Family, bound: u32) -> Result<(), NoMemory>
+pub fn put_bound(out: &mut Bytes, f: Family, bound: u32) -> Result<(), NoMemory>
     ensures { OnOk result (out.new ≡ out.old ++ spec.bound_text f bound) }
 {
     out.add_all(b" ")?;
-    put_family(alloc, out, f)?;
+    put_family(out, f)?;
     out.add_all(b" bound ")?;
-    put_number(alloc, out, u64::from(bound))?;
+    put_number(out, u64::from(bound))?;
     Ok(())
 }
 
 /// A device.
-fn put_device(alloc: Global, out: &mut Bytes, dev: Dev) -> Result<(), NoMemory>
+fn put_device(out: &mut Bytes, dev: Dev) -> Result<(), NoMemory>
     ensures { OnOk result (out.new ≡ out.old ++ spec.device_text dev) }
 {
     out.add_all(b" %")?;
-    put_number(alloc, out, u64::from(dev.0))?;
+    put_number(out, u64::from(dev.0))?;
     Ok(())
 }
 
 /// What a visit left.
-fn put_rest(alloc: Global, out: &mut Bytes, evals: u32, left: u32) -> Result<(), NoMemory>
+fn put_rest(out: &mut Bytes, evals: u32, left: u32) -> Result<(), NoMemory>
     ensures { OnOk result (out.new ≡ out.old ++ spec.rest_text evals left) }
 {
     out.add_all(b" evals ")?;
-    put_number(alloc, out, u64::from(evals))?;
+    put_number(out, u64::from(evals))?;
     out.add_all(b" left ")?;
-    put_number(alloc, out, u64::from(left))?;
+    put_number(out, u64::from(left))?;
     Ok(())
 }
 
@@ -87,7 +88,7 @@ fn put_note(alloc: Global, out: &mut Bytes, host: Host, note: &Note) -> Result<(
 fn put_print(alloc: Global, out: &mut Bytes, host: Host, value: &Value) -> Result<(), NoMemory>
     ensures { OnOk result (out.new ≡ out.old ++ (spec.head_text (codes "print") host ++ (codes " " ++ value_text value.now))) }
 {
-    put_head(alloc, out, b"print", host)?;
+    put_head(out, b"print", host)?;
     out.add_all(b" ")?;
     print_value(alloc, value, out)?;
     Ok(())
@@ -102,9 +103,9 @@ fn put_port(
 ) -> Result<(), NoMemory>
     ensures { OnOk result (out.new ≡ out.old ++ (spec.head_text (codes "port") host ++ (codes " " ++ (decimal port ++ (codes " " ++ value_text value.now))))) }
 {
-    put_head(alloc, out, b"port", host)?;
+    put_head(out, b"port", host)?;
     out.add_all(b" ")?;
-    put_number(alloc, out, u64::from(port))?;
+    put_number(out, u64::from(port))?;
     out.add_all(b" ")?;
     print_value(alloc, value, out)?;
     Ok(())
@@ -124,8 +125,8 @@ fn put_end(
 {
     match outcome {
         Outcome::Value(value) => put_ended(alloc, out, host, f, value, evals, left)?,
-        Outcome::Raised(x) => put_raised(alloc, out, host, f, x.0.as_slice(), evals, left)?,
-        Outcome::WorkSpent => put_spent(alloc, out, host, f, left)?,
+        Outcome::Raised(x) => put_raised(out, host, f, x.0.as_slice(), evals, left)?,
+        Outcome::WorkSpent => put_spent(out, host, f, left)?,
     }
     Ok(())
 }
@@ -141,17 +142,16 @@ fn put_ended(
 ) -> Result<(), NoMemory>
     ensures { OnOk result (out.new ≡ out.old ++ (spec.head_text (codes "value") host ++ (codes " " ++ (spec.family_text f ++ (codes " " ++ (value_text value.now ++ spec.rest_text evals left)))))) }
 {
-    put_head(alloc, out, b"value", host)?;
+    put_head(out, b"value", host)?;
     out.add_all(b" ")?;
-    put_family(alloc, out, f)?;
+    put_family(out, f)?;
     out.add_all(b" ")?;
     print_value(alloc, value, out)?;
-    put_rest(alloc, out, evals, left)?;
+    put_rest(out, evals, left)?;
     Ok(())
 }
 
 fn put_raised(
-    alloc: Global,
     out: &mut Bytes,
     host: Host,
     f: Family,
@@ -161,29 +161,23 @@ fn put_raised(
 ) -> Result<(), NoMemory>
     ensures { OnOk result (out.new ≡ out.old ++ (spec.head_text (codes "raised") host ++ (codes " " ++ (spec.family_text f ++ (codes " " ++ (name.now ++ spec.rest_text evals left)))))) }
 {
-    put_head(alloc, out, b"raised", host)?;
+    put_head(out, b"raised", host)?;
     out.add_all(b" ")?;
-    put_family(alloc, out, f)?;
+    put_family(out, f)?;
     out.add_all(b" ")?;
     out.add_all(name)?;
-    put_rest(alloc, out, evals, left)?;
+    put_rest(out, evals, left)?;
     Ok(())
 }
 
-fn put_spent(
-    alloc: Global,
-    out: &mut Bytes,
-    host: Host,
-    f: Family,
-    left: u32,
-) -> Result<(), NoMemory>
+fn put_spent(out: &mut Bytes, host: Host, f: Family, left: u32) -> Result<(), NoMemory>
     ensures { OnOk result (out.new ≡ out.old ++ (spec.head_text (codes "spent") host ++ (codes " " ++ (spec.family_text f ++ (codes " left " ++ decimal left))))) }
 {
-    put_head(alloc, out, b"spent", host)?;
+    put_head(out, b"spent", host)?;
     out.add_all(b" ")?;
-    put_family(alloc, out, f)?;
+    put_family(out, f)?;
     out.add_all(b" left ")?;
-    put_number(alloc, out, u64::from(left))?;
+    put_number(out, u64::from(left))?;
     Ok(())
 }
 
@@ -199,46 +193,28 @@ fn reason_word(reason: Reason) -> &'static [u8]
     }
 }
 
-fn put_injected(
-    alloc: Global,
-    out: &mut Bytes,
-    host: Host,
-    f: Family,
-    bound: u32,
-) -> Result<(), NoMemory>
+fn put_injected(out: &mut Bytes, host: Host, f: Family, bound: u32) -> Result<(), NoMemory>
     ensures { OnOk result (out.new ≡ out.old ++ (spec.head_text (codes "inject") host ++ spec.bound_text f bound)) }
 {
-    put_head(alloc, out, b"inject", host)?;
-    put_bound(alloc, out, f, bound)?;
+    put_head(out, b"inject", host)?;
+    put_bound(out, f, bound)?;
     Ok(())
 }
 
 /// A word, the host and a device.
-fn put_on_device(
-    alloc: Global,
-    out: &mut Bytes,
-    word: &[u8],
-    host: Host,
-    dev: Dev,
-) -> Result<(), NoMemory>
+fn put_on_device(out: &mut Bytes, word: &[u8], host: Host, dev: Dev) -> Result<(), NoMemory>
     ensures { OnOk result (out.new ≡ out.old ++ (spec.head_text word.now host ++ spec.device_text dev)) }
 {
-    put_head(alloc, out, word, host)?;
-    put_device(alloc, out, dev)?;
+    put_head(out, word, host)?;
+    put_device(out, dev)?;
     Ok(())
 }
 
 /// A word, the host and an end.
-fn put_plain(
-    alloc: Global,
-    out: &mut Bytes,
-    word: &[u8],
-    host: Host,
-    end: &[u8],
-) -> Result<(), NoMemory>
+fn put_plain(out: &mut Bytes, word: &[u8], host: Host, end: &[u8]) -> Result<(), NoMemory>
     ensures { OnOk result (out.new ≡ out.old ++ (spec.head_text word.now host ++ end.now)) }
 {
-    put_head(alloc, out, word, host)?;
+    put_head(out, word, host)?;
     out.add_all(end)?;
     Ok(())
 }
@@ -247,50 +223,42 @@ fn put_plain(
 fn put_bad(alloc: Global, out: &mut Bytes, host: Host, refusal: &FrameFault) -> Result<(), NoMemory>
     ensures { OnOk result (out.new ≡ out.old ++ (spec.head_text (codes "drop") host ++ (codes " BadFrame " ++ reason_text refusal.now))) }
 {
-    put_head(alloc, out, b"drop", host)?;
+    put_head(out, b"drop", host)?;
     out.add_all(b" BadFrame ")?;
     put_reason(alloc, refusal, out)?;
     Ok(())
 }
 
-fn put_ticked(alloc: Global, out: &mut Bytes, host: Host, now: u64) -> Result<(), NoMemory>
+fn put_ticked(out: &mut Bytes, host: Host, now: u64) -> Result<(), NoMemory>
     ensures { OnOk result (out.new ≡ out.old ++ (spec.head_text (codes "tick") host ++ (codes " now " ++ decimal now))) }
 {
-    put_head(alloc, out, b"tick", host)?;
+    put_head(out, b"tick", host)?;
     out.add_all(b" now ")?;
-    put_number(alloc, out, now)?;
+    put_number(out, now)?;
     Ok(())
 }
 
 /// Appends what was sent: the family of a packet, or that it is an advert.
-fn put_what(alloc: Global, out: &mut Bytes, what: What) -> Result<(), NoMemory>
+fn put_what(out: &mut Bytes, what: What) -> Result<(), NoMemory>
     ensures { OnOk result (out.new ≡ out.old ++ spec.sent_text what) }
 {
     match what {
-        What::Packet(f, _) => put_family(alloc, out, f)?,
+        What::Packet(f, _) => put_family(out, f)?,
         What::Advert => out.add_all(b"advert")?,
     }
     Ok(())
 }
 
-fn put_queued(
-    alloc: Global,
-    out: &mut Bytes,
-    host: Host,
-    dev: Dev,
-    f: Family,
-    bound: u32,
-) -> Result<(), NoMemory>
+fn put_queued(out: &mut Bytes, host: Host, dev: Dev, f: Family, bound: u32) -> Result<(), NoMemory>
     ensures { OnOk result (out.new ≡ out.old ++ (spec.head_text (codes "queue") host ++ (spec.device_text dev ++ spec.bound_text f bound))) }
 {
-    put_head(alloc, out, b"queue", host)?;
-    put_device(alloc, out, dev)?;
-    put_bound(alloc, out, f, bound)?;
+    put_head(out, b"queue", host)?;
+    put_device(out, dev)?;
+    put_bound(out, f, bound)?;
     Ok(())
 }
 
 fn put_dropped(
-    alloc: Global,
     out: &mut Bytes,
     host: Host,
     reason: Reason,
@@ -299,26 +267,20 @@ fn put_dropped(
 ) -> Result<(), NoMemory>
     ensures { OnOk result (out.new ≡ out.old ++ (spec.head_text (codes "drop") host ++ (codes " " ++ (spec.reason_text reason ++ spec.bound_text f bound)))) }
 {
-    put_head(alloc, out, b"drop", host)?;
+    put_head(out, b"drop", host)?;
     out.add_all(b" ")?;
     out.add_all(reason_word(reason))?;
-    put_bound(alloc, out, f, bound)?;
+    put_bound(out, f, bound)?;
     Ok(())
 }
 
-fn put_taken(
-    alloc: Global,
-    out: &mut Bytes,
-    host: Host,
-    dev: Dev,
-    what: What,
-) -> Result<(), NoMemory>
+fn put_taken(out: &mut Bytes, host: Host, dev: Dev, what: What) -> Result<(), NoMemory>
     ensures { OnOk result (out.new ≡ out.old ++ (spec.head_text (codes "send") host ++ (spec.device_text dev ++ (codes " " ++ spec.sent_text what)))) }
 {
-    put_head(alloc, out, b"send", host)?;
-    put_device(alloc, out, dev)?;
+    put_head(out, b"send", host)?;
+    put_device(out, dev)?;
     out.add_all(b" ")?;
-    put_what(alloc, out, what)?;
+    put_what(out, what)?;
     Ok(())
 }
 
@@ -328,24 +290,24 @@ pub fn put_act_text(alloc: Global, out: &mut Bytes, host: Host, act: &Act) -> Re
     ensures { OnOk result (out.new ≡ out.old ++ spec.act_text host act.now) }
 {
     match act {
-        Act::Injected(f, bound) => put_injected(alloc, out, host, *f, *bound)?,
-        Act::Arrived(dev) => put_on_device(alloc, out, b"arrive", host, *dev)?,
+        Act::Injected(f, bound) => put_injected(out, host, *f, *bound)?,
+        Act::Arrived(dev) => put_on_device(out, b"arrive", host, *dev)?,
         Act::Noted(note) => put_note(alloc, out, host, note)?,
         Act::Ended(f, outcome, evals, left) => put_end(
             alloc, out, host, *f, outcome, *evals, *left,
         )?,
-        Act::Queued(dev, f, bound) => put_queued(alloc, out, host, *dev, *f, *bound)?,
-        Act::Dropped(reason, f, bound) => put_dropped(alloc, out, host, *reason, *f, *bound)?,
+        Act::Queued(dev, f, bound) => put_queued(out, host, *dev, *f, *bound)?,
+        Act::Dropped(reason, f, bound) => put_dropped(out, host, *reason, *f, *bound)?,
         Act::Bad(refusal) => put_bad(alloc, out, host, refusal)?,
-        Act::Taken(dev, what) => put_taken(alloc, out, host, *dev, *what)?,
-        Act::Ticked(now) => put_ticked(alloc, out, host, *now)?,
-        Act::AdvertQueued(dev) => put_on_device(alloc, out, b"advert", host, *dev)?,
-        Act::Heard(dev) => put_on_device(alloc, out, b"heard", host, *dev)?,
-        Act::Asked => put_plain(alloc, out, b"arrive", host, b" control")?,
-        Act::Misplaced => put_plain(alloc, out, b"drop", host, b" BadFrame Misplaced")?,
-        Act::AdvertDropped(_) => put_plain(alloc, out, b"drop", host, b" QueueFull advert")?,
-        Act::SerialsSpent => put_plain(alloc, out, b"drop", host, b" SerialsSpent")?,
-        Act::NoMemory => put_plain(alloc, out, b"drop", host, b" NoMemory")?,
+        Act::Taken(dev, what) => put_taken(out, host, *dev, *what)?,
+        Act::Ticked(now) => put_ticked(out, host, *now)?,
+        Act::AdvertQueued(dev) => put_on_device(out, b"advert", host, *dev)?,
+        Act::Heard(dev) => put_on_device(out, b"heard", host, *dev)?,
+        Act::Asked => put_plain(out, b"arrive", host, b" control")?,
+        Act::Misplaced => put_plain(out, b"drop", host, b" BadFrame Misplaced")?,
+        Act::AdvertDropped(_) => put_plain(out, b"drop", host, b" QueueFull advert")?,
+        Act::SerialsSpent => put_plain(out, b"drop", host, b" SerialsSpent")?,
+        Act::NoMemory => put_plain(out, b"drop", host, b" NoMemory")?,
     }
     Ok(())
 }
@@ -361,7 +323,7 @@ pub fn put_act(
 ) -> Result<(), NoMemory>
     ensures { OnOk result (out.new ≡ out.old ++ spec.act_line event here act.now) }
 {
-    put_number(alloc, out, event)?;
+    put_number(out, event)?;
     out.add_all(b" ")?;
     put_act_text(alloc, out, here, act)?;
     out.add_all(b"\n")?;

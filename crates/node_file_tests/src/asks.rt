@@ -1,4 +1,5 @@
-use crate::tables::{COMMENT, Case, Kind, all_hold, answer, joined, no_fault, repeated, same};
+use crate::tables::{COMMENT, Case, Kind, all_hold, answer, no_fault, same};
+use line_cases::{joined, repeated};
 use network_plan::AskFile;
 use node_files::read_ask;
 use std::process::Abort;
@@ -178,7 +179,7 @@ fn long_programs(rt: HostRuntime) -> Result<(), Fail> {
     let alloc = rt.alloc();
     let front = joined(alloc, PROGRAM, b"program\nfun f() : unit = ()")?;
     let end: &[u8] = b"\nend program\n";
-    let fits = repeated(alloc, front.as_slice(), b" ", 65_536 - 20)?;
+    let fits = repeated(alloc, front.as_slice(), b" ", 65_536 - 20, b"")?;
     let file = joined(alloc, fits.as_slice(), end)?;
     same(&rt, answer(alloc, Kind::Ask, file.as_slice()), 0, "")?;
     let long = joined(alloc, fits.as_slice(), b" ")?;
@@ -190,8 +191,8 @@ fn long_programs(rt: HostRuntime) -> Result<(), Fail> {
 #[test]
 fn the_longest_file(rt: HostRuntime) -> Result<(), Fail> {
     let alloc = rt.alloc();
-    let most = repeated(alloc, ASK, COMMENT, 65_534)?;
-    let file = repeated(alloc, most.as_slice(), b"#", 34)?;
+    let most = repeated(alloc, ASK, COMMENT, 65_534, b"")?;
+    let file = repeated(alloc, most.as_slice(), b"#", 34, b"")?;
     assert_eq!(&rt; file.len(), 4_194_304);
     same(&rt, answer(alloc, Kind::Ask, file.as_slice()), 0, "")
 }

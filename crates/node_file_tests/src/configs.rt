@@ -1,6 +1,5 @@
-use crate::tables::{
-    COMMENT, Case, Kind, all_hold, answer, joined, never, no_fault, repeated, same,
-};
+use crate::tables::{COMMENT, Case, Kind, all_hold, answer, never, no_fault, same};
+use line_cases::{joined, repeated};
 use network_plan::ServeConfig;
 use node_files::read_config;
 use std::alloc::Global;
@@ -269,7 +268,7 @@ fn long_programs(rt: HostRuntime) -> Result<(), Fail> {
     let alloc = rt.alloc();
     let front = joined(alloc, HEAD, b"program\nfun f() : unit = ()")?;
     let end: &[u8] = b"\nend program\n";
-    let fits = repeated(alloc, front.as_slice(), b" ", 65_536 - 20)?;
+    let fits = repeated(alloc, front.as_slice(), b" ", 65_536 - 20, b"")?;
     let file = joined(alloc, fits.as_slice(), end)?;
     same(&rt, answer(alloc, Kind::Config, file.as_slice()), 0, "")?;
     let long = joined(alloc, fits.as_slice(), b" ")?;
@@ -292,7 +291,7 @@ fn heavy_chunks(rt: HostRuntime) -> Result<(), Fail> {
         HEAD,
         b"program\nfun f(s : string) : unit = ()\nend program\nat 1 inject f 0 (\"",
     )?;
-    let fits = repeated(alloc, front.as_slice(), b"a", 16_384 - 18)?;
+    let fits = repeated(alloc, front.as_slice(), b"a", 16_384 - 18, b"")?;
     let file = joined(alloc, fits.as_slice(), b"\")\n")?;
     same(&rt, answer(alloc, Kind::Config, file.as_slice()), 0, "")?;
     let long = joined(alloc, fits.as_slice(), b"a\")\n")?;
@@ -310,9 +309,15 @@ fn heavy_sums(rt: HostRuntime) -> Result<(), Fail> {
     let alloc = rt.alloc();
     // The string's program takes 10 bytes beside it, the entry 2, the count 1, the chunk's own tag 1.
     let front = joined(alloc, HEAD, b"program\nfun f() : string = \"")?;
-    let text = repeated(alloc, front.as_slice(), b"a", 8_192 - 14)?;
+    let text = repeated(alloc, front.as_slice(), b"a", 8_192 - 14, b"")?;
     let program = joined(alloc, text.as_slice(), b"\"\nend program\n")?;
-    let most = repeated(alloc, program.as_slice(), b"at 1 inject f 0 ()\n", 2_048)?;
+    let most = repeated(
+        alloc,
+        program.as_slice(),
+        b"at 1 inject f 0 ()\n",
+        2_048,
+        b"",
+    )?;
     same(&rt, answer(alloc, Kind::Config, most.as_slice()), 0, "")?;
     let more = joined(alloc, most.as_slice(), b"at 1 inject f 0 ()\n")?;
     same(
@@ -327,6 +332,6 @@ fn heavy_sums(rt: HostRuntime) -> Result<(), Fail> {
 #[test]
 fn the_longest_file(rt: HostRuntime) -> Result<(), Fail> {
     let alloc = rt.alloc();
-    let file = repeated(alloc, PROGRAM, COMMENT, 65_533)?;
+    let file = repeated(alloc, PROGRAM, COMMENT, 65_533, b"")?;
     same(&rt, answer(alloc, Kind::Config, file.as_slice()), 0, "")
 }

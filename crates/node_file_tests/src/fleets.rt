@@ -1,4 +1,5 @@
-use crate::tables::{Case, Kind, all_hold, answer, joined, never, no_fault, repeated, same};
+use crate::tables::{Case, Kind, all_hold, answer, never, no_fault, same};
+use line_cases::{joined, repeated};
 use network_plan::{Fleet, Kid};
 use node_files::read_fleet;
 use std::process::Abort;
@@ -72,7 +73,7 @@ fn lines(rt: HostRuntime) -> Result<(), Fail> {
 fn long_names(rt: HostRuntime) -> Result<(), Fail> {
     let alloc = rt.alloc();
     let front = joined(alloc, HEADER, b"ask 1 ")?;
-    let fits = repeated(alloc, front.as_slice(), b"a", 255)?;
+    let fits = repeated(alloc, front.as_slice(), b"a", 255, b"")?;
     same(&rt, answer(alloc, Kind::Fleet, fits.as_slice()), 0, "")?;
     let long = joined(alloc, fits.as_slice(), b"a")?;
     same(
@@ -87,7 +88,7 @@ fn long_names(rt: HostRuntime) -> Result<(), Fail> {
 #[test]
 fn many_children(rt: HostRuntime) -> Result<(), Fail> {
     let alloc = rt.alloc();
-    let most = repeated(alloc, HEADER, b"ask 1 a\n", 64)?;
+    let most = repeated(alloc, HEADER, b"ask 1 a\n", 64, b"")?;
     same(&rt, answer(alloc, Kind::Fleet, most.as_slice()), 0, "")?;
     let more = joined(alloc, most.as_slice(), b"node x\n")?;
     same(

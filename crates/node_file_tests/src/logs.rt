@@ -1,6 +1,5 @@
-use crate::tables::{
-    COMMENT, Case, Kind, all_hold, answer, joined, never, no_fault, repeated, same,
-};
+use crate::tables::{COMMENT, Case, Kind, all_hold, answer, never, no_fault, same};
+use line_cases::{joined, repeated};
 use network_plan::{Event, Log, LogEvent};
 use node_files::{put_log_head, put_log_line, put_lost_line, read_log};
 use plan_base::Bytes;
@@ -215,7 +214,7 @@ fn entries(rt: HostRuntime) -> Result<(), Fail> {
 fn long_frames(rt: HostRuntime) -> Result<(), Fail> {
     let alloc = rt.alloc();
     let front = joined(alloc, EVENTS, b"frame 1 ")?;
-    let fits = repeated(alloc, front.as_slice(), b"00", 16_513)?;
+    let fits = repeated(alloc, front.as_slice(), b"00", 16_513, b"")?;
     same(&rt, answer(alloc, Kind::Log, fits.as_slice()), 0, "")?;
     let long = joined(alloc, fits.as_slice(), b"00")?;
     same(
@@ -225,7 +224,7 @@ fn long_frames(rt: HostRuntime) -> Result<(), Fail> {
         "BadArgument",
     )?;
     let front = joined(alloc, EVENTS, b"control ")?;
-    let fits = repeated(alloc, front.as_slice(), b"00", 16_513)?;
+    let fits = repeated(alloc, front.as_slice(), b"00", 16_513, b"")?;
     same(&rt, answer(alloc, Kind::Log, fits.as_slice()), 0, "")?;
     let long = joined(alloc, fits.as_slice(), b"00")?;
     same(
@@ -240,7 +239,7 @@ fn long_frames(rt: HostRuntime) -> Result<(), Fail> {
 #[test]
 fn many_entries(rt: HostRuntime) -> Result<(), Fail> {
     let alloc = rt.alloc();
-    let most = repeated(alloc, EVENTS, b"tick\n", 50_000)?;
+    let most = repeated(alloc, EVENTS, b"tick\n", 50_000, b"")?;
     same(&rt, answer(alloc, Kind::Log, most.as_slice()), 0, "")?;
     let more = joined(alloc, most.as_slice(), b"take x\n")?;
     same(
@@ -262,11 +261,11 @@ fn many_entries(rt: HostRuntime) -> Result<(), Fail> {
 #[test]
 fn the_longest_file(rt: HostRuntime) -> Result<(), Fail> {
     let alloc = rt.alloc();
-    let frame = repeated(alloc, b"frame 1 ", b"00", 16_512)?;
+    let frame = repeated(alloc, b"frame 1 ", b"00", 16_512, b"")?;
     let line = joined(alloc, frame.as_slice(), b"\n")?;
-    let frames = repeated(alloc, EVENTS, line.as_slice(), 126)?;
-    let most = repeated(alloc, frames.as_slice(), COMMENT, 501)?;
-    let file = repeated(alloc, most.as_slice(), b"#", 43)?;
+    let frames = repeated(alloc, EVENTS, line.as_slice(), 126, b"")?;
+    let most = repeated(alloc, frames.as_slice(), COMMENT, 501, b"")?;
+    let file = repeated(alloc, most.as_slice(), b"#", 43, b"")?;
     assert_eq!(&rt; file.len(), 4_194_304);
     same(&rt, answer(alloc, Kind::Log, file.as_slice()), 0, "")
 }

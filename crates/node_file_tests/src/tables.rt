@@ -1,25 +1,12 @@
-use line_files::{LineFault, LineReason};
+use line_cases::{joined, told};
+use line_files::LineFault;
 use node_files::{read_ask, read_config, read_fleet, read_log};
-use std::alloc::{AllocError, Global};
+use std::alloc::Global;
 use std::process::Abort;
 use std::test::Fail;
 
 /// What stands behind the front of a file, and the line and the reason of its refusal, or 0 and nothing.
 pub type Case = (&'static [u8], u32, &'static str);
-
-fn reason_name(reason: &LineReason) -> &'static str {
-    match reason {
-        LineReason::BadHeader => "BadHeader",
-        LineReason::BadWord => "BadWord",
-        LineReason::BadNumber => "BadNumber",
-        LineReason::UnknownHost => "UnknownHost",
-        LineReason::UnknownProgram => "UnknownProgram",
-        LineReason::TwiceNamed => "TwiceNamed",
-        LineReason::TooMany => "TooMany",
-        LineReason::ProgramRefused(_) => "ProgramRefused",
-        LineReason::BadArgument => "BadArgument",
-    }
-}
 
 /// A line of 64 bytes that says nothing.
 pub const COMMENT: &[u8] = b"# a comment of a long file, which says nothing and is counted..\n";
@@ -35,14 +22,6 @@ pub enum Kind {
     Fleet,
     /// The log of a node.
     Log,
-}
-
-fn told<T: Drop>(answer: Result<T, LineFault>) -> (u32, &'static str) {
-    match answer {
-        Ok(_) => (0, ""),
-        Err(LineFault::Line(n, reason)) => (n, reason_name(&reason)),
-        Err(LineFault::NoMemory) => (0, "NoMemory"),
-    }
 }
 
 /// Fails, for what must not come.
@@ -86,27 +65,6 @@ pub fn all_hold(
         same(rt, answer(alloc, kind, bytes.as_slice()), c.1, c.2)?;
     }
     Ok(())
-}
-
-/// Two parts of a file, one behind the other.
-pub fn joined(alloc: Global, front: &[u8], back: &[u8]) -> Result<Vec<u8>, AllocError> {
-    let mut all = Vec::from_slice(alloc, front)?;
-    all.extend_from_slice(back)?;
-    Ok(all)
-}
-
-/// So many times the same bytes behind a front.
-pub fn repeated(
-    alloc: Global,
-    front: &[u8],
-    part: &[u8],
-    times: u32,
-) -> Result<Vec<u8>, AllocError> {
-    let mut all = Vec::from_slice(alloc, front)?;
-    for _i in 0..times {
-        all.extend_from_slice(part)?;
-    }
-    Ok(all)
 }
 
 /// Checks that a line and a reason are these.

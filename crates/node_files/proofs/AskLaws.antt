@@ -1,21 +1,19 @@
 -- A request that a file says keeps its rules, and each file has one answer.
-use Rattle.std.proofs.Common.{◌≡◌, ◌⊎◌, ℕ, ◌+◌, ◌≤◌, List, Option, Some, None, Result, Ok, Err, refl, arith}
+use Rattle.std.proofs.Common.{◌⊎◌, ℕ, ◌+◌, ◌≤◌, List, Option, Some, None, Result, Err, arith}
 use Rattle.std.specs.Prelude.{IfOk}
 use Rattle.std.specs.Str.{bytes_eq}
 use lib.Chars.{codes}
-use Rattle.std.proofs.lemmas.Option.{same_Some}
 use Rattle.plan_base.specs.declared.tree.Program.{Program}
 use Rattle.plan_types.specs.Kept.{IsChecked}
 use Rattle.network_plan.specs.declared.fleet.AskFile.{AskFile}
 use Rattle.network_plan.specs.NodeRules.{IsPort, KeepsAsk}
-use Rattle.line_files.specs.declared.fault.LineReason.{LineReason}
 use Rattle.line_files.specs.declared.fault.LineReason.TheVariants.{BadWord}
 use Rattle.line_files.specs.declared.fault.LineFault.{LineFault}
 use Rattle.line_files.specs.Lines.{lines, words}
 use Rattle.line_files.specs.Reads.{word_at, end_at, rest_at, FileGives}
-use Rattle.line_files.specs.Programs.{opened, with_line, program_in, call_at}
+use Rattle.line_files.specs.Programs.{with_line, program_in, call_at}
 use Rattle.line_files.proofs.FileLaws.{is_keeping}
-use Rattle.line_files.proofs.Keeping.{IfRead, then_keeps, done_keeps, none_keeps, IfStep, step_done, step_none, at_line_keeps, either_keeps, read_keeps}
+use Rattle.line_files.proofs.Keeping.{IfRead, then_keeps, done_keeps, none_keeps, IfStep, step_done, at_line_keeps, either_keeps, read_keeps}
 use Rattle.line_files.proofs.KeptPrograms.{program_is, call_is}
 use Rattle.line_files.proofs.Placing.{OnFault, fault_done, fault_here, at_line_placed, either_placed, Places}
 use Rattle.node_files.specs.declared.ask.AskWord.{AskWord}
@@ -24,9 +22,9 @@ use Rattle.node_files.specs.declared.ask.AskStage.{AskStage}
 use Rattle.node_files.specs.declared.ask.AskStage.TheVariants as stages
 use Rattle.node_files.specs.declared.ask.AskReading.{AskReading}
 use Rattle.node_files.specs.Parts.{behind_word, last_number}
-use Rattle.node_files.specs.Asks.{to_line, from_line, bound_line, entry_line, program_line, wanted_line, close_program, inside_line, ask_step_at, early, request_of, ask_end, ask_format, nothing_asked, ask_of}
+use Rattle.node_files.specs.Asks.{to_line, from_line, bound_line, entry_line, program_line, wanted_line, close_program, ask_step_at, early, request_of, ask_end, ask_format, nothing_asked, ask_of}
 use Rattle.node_files.specs.Answers.{Accepted, Refused}
-use Rattle.node_files.proofs.PartLaws.{same, HasChecked, last_number_is, header_keeps, usual_keeps, header_placed, usual_placed, answered}
+use Rattle.node_files.proofs.PartLaws.{HasChecked, last_number_is, header_keeps, usual_keeps, header_placed, usual_placed, answered}
 
 -- ---- the rules
 
@@ -123,7 +121,7 @@ ask_keeps bytes =
     (λ number s k. end_keeps s.checked number s k.checked k)
     (lines bytes) 1 nothing_asked nothing_keeps
 
-pub ask_rules : (bytes : List ℕ) (r : Result AskFile LineFault) → FileGives same r (ask_of bytes) → IfOk r KeepsAsk
+pub ask_rules : (bytes : List ℕ) (r : Result AskFile LineFault) → FileGives (λ s. s) r (ask_of bytes) → IfOk r KeepsAsk
 ask_rules bytes r h = is_keeping KeepsAsk r (ask_of bytes) h (ask_keeps bytes)
 
 -- ---- where refusals stand

@@ -1,7 +1,6 @@
 -- Typed chunks as words of hex digits: what is read, and that what is spelled is read again.
 use Rattle.std.proofs.Common.{◌≡◌, ◌≢◌, ◌⊎◌, inl, inr, ℕ, ◌+◌, ◌<◌, ◌≤◌, Bool, true, false, cond, leb, List, [], ◌∷◌, ◌++◌, length, length-append, append-nil, Option, Some, None, Result, Ok, Err, refl, sym, ap, subst, ◌∙◌, arith}
-use Rattle.std.specs.Prelude.{IfSome, is_some}
-use Rattle.std.specs.Option.{ok_or}
+use Rattle.std.specs.Prelude.{is_some}
 use Rattle.std.proofs.lemmas.Bool.{leb-true, le-leb, lt-leb}
 use Rattle.plan_base.specs.declared.tree.Chunk.{Chunk}
 use Rattle.plan_base.specs.Sizes.{chunk_weight}
@@ -19,10 +18,7 @@ use Rattle.chunk_spelling.specs.Spelling.{Spells, SpelledAt, FirstFaultAt, a_who
 use Rattle.chunk_spelling.proofs.ValueLaws.{chunk_part_lawful}
 use Rattle.chunk_spelling.proofs.WholeLaws.{found_by, only_by, spelled_no_fault}
 use Rattle.packet_frame.proofs.Carried.{chunk_is_formed, chunk_is_full, chunk_is_small}
-use Rattle.line_files.specs.declared.fault.LineReason.TheVariants.{BadArgument}
-use Rattle.line_files.specs.HexWords.{hex_at}
-use Rattle.line_files.proofs.Keeping.{IfRead, then_keeps, done_keeps, ok_or_is, AreSized, hex_is}
-use Rattle.node_files.specs.ChunkWords.{taking_all, spelled_chunk, if_typed, typed_chunk, chunk_at}
+use Rattle.node_files.specs.ChunkWords.{taking_all, spelled_chunk, if_typed, typed_chunk}
 
 abbrev start : List ℕ → Front
 start bytes = record { at = 0; rest = bytes }

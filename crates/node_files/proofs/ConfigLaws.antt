@@ -1,5 +1,5 @@
 -- A configuration that a file says keeps its rules, and each file has one answer.
-use Rattle.std.proofs.Common.{◌≡◌, ◌≢◌, ◌⊎◌, ℕ, ◌+◌, ◌≤◌, Bool, true, false, cond, not, eqb, ◌||◌, List, [], ◌∷◌, ◌++◌, map, Option, Some, None, Result, Ok, Err, refl, sym, ap, subst, ◌∙◌, arith}
+use Rattle.std.proofs.Common.{◌≡◌, ◌≢◌, ◌⊎◌, ℕ, ◌+◌, ◌≤◌, true, false, not, eqb, ◌||◌, List, [], ◌∷◌, ◌++◌, map, Option, Some, Result, refl, sym, subst, arith}
 use Rattle.std.specs.Prelude.{IfOk}
 use Rattle.std.specs.List.{All, list_any}
 use Rattle.std.specs.Option.{ok_or}
@@ -18,7 +18,6 @@ use Rattle.network_plan.specs.declared.serve.ServeConfig.{ServeConfig}
 use Rattle.network_plan.specs.FileNames.{is_file_name}
 use Rattle.network_plan.specs.Rules.{PackagesDiffer}
 use Rattle.network_plan.specs.NodeRules.{IsNeighbour, DevicesAscend, IsPort, PortsDiffer, KeepsInject, weights, KeepsServe}
-use Rattle.line_files.specs.declared.fault.LineReason.{LineReason}
 use Rattle.line_files.specs.declared.fault.LineReason.TheVariants.{BadHeader, BadWord, UnknownProgram, TwiceNamed}
 use Rattle.line_files.specs.declared.fault.LineFault.{LineFault}
 use Rattle.line_files.specs.Lines.{lines}
@@ -28,7 +27,7 @@ use Rattle.line_files.specs.Packages.{package_at}
 use Rattle.line_files.specs.FileNames.{file_name_at}
 use Rattle.line_files.specs.Programs.{opened, with_line, program_in, injection_at, weighed}
 use Rattle.line_files.proofs.FileLaws.{is_keeping}
-use Rattle.line_files.proofs.Keeping.{IfRead, InRange, then_keeps, done_keeps, allowed_true, allowed_not, ok_or_is, number_is, file_name_is, package_is, either_false, AreHosts, IfStep, step_done, at_line_keeps, either_keeps, read_keeps}
+use Rattle.line_files.proofs.Keeping.{IfRead, InRange, then_keeps, done_keeps, allowed_not, ok_or_is, number_is, file_name_is, package_is, either_false, AreHosts, IfStep, step_done, at_line_keeps, either_keeps, read_keeps}
 use Rattle.line_files.proofs.KeptPrograms.{program_is, injection_is, weighed_is}
 use Rattle.line_files.proofs.Placing.{OnFault, fault_done, fault_here, at_line_placed, either_placed, Places}
 use Rattle.node_files.specs.declared.config.HeadWord.{HeadWord}
@@ -42,9 +41,9 @@ use Rattle.node_files.specs.declared.config.ConfigStage.TheVariants as stages
 use Rattle.node_files.specs.declared.config.ConfigReading.{ConfigReading}
 use Rattle.node_files.specs.Parts.{behind_word, last_number}
 use Rattle.node_files.specs.Nodes.{host_line, hosts_line, neighbour_at, placed, device_of, port_device}
-use Rattle.node_files.specs.Configs.{port_line, is_used, free_port, control_line, period_line, log_line, wanted_line, tail_word, may_come, with_device, device_line, missing_line, program_line, inject_line, tail_rest, tail_line, close_program, inside_line, config_step_at, config_said, config_end, config_format, nothing_read, config_of}
+use Rattle.node_files.specs.Configs.{port_line, is_used, free_port, control_line, period_line, log_line, wanted_line, tail_word, may_come, with_device, device_line, missing_line, program_line, inject_line, tail_rest, tail_line, close_program, config_step_at, config_said, config_end, config_format, nothing_read, config_of}
 use Rattle.node_files.specs.Answers.{Accepted, Refused}
-use Rattle.node_files.proofs.PartLaws.{same, HasChecked, last_number_is, header_keeps, usual_keeps, header_placed, usual_placed, answered}
+use Rattle.node_files.proofs.PartLaws.{HasChecked, last_number_is, header_keeps, usual_keeps, header_placed, usual_placed, answered}
 use Rattle.node_files.proofs.Placed.{all_placed, same_devices, ascend_placed, all_ports, ports_differ}
 use Rattle.node_files.proofs.NodeLaws.{hosts_line_is, neighbour_is, IsNew}
 
@@ -352,7 +351,7 @@ config_keeps bytes =
     (λ number s k. end_keeps s.stage number s refl k)
     (lines bytes) 1 nothing_read nothing_keeps
 
-pub config_rules : (bytes : List ℕ) (r : Result ServeConfig LineFault) → FileGives same r (config_of bytes) → IfOk r KeepsServe
+pub config_rules : (bytes : List ℕ) (r : Result ServeConfig LineFault) → FileGives (λ s. s) r (config_of bytes) → IfOk r KeepsServe
 config_rules bytes r h = is_keeping KeepsServe r (config_of bytes) h (config_keeps bytes)
 
 -- ---- where refusals stand

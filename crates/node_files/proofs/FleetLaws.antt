@@ -1,5 +1,5 @@
 -- A fleet that a file says keeps its rules, and each file has one answer.
-use Rattle.std.proofs.Common.{◌≡◌, ◌⊎◌, ℕ, ◌+◌, ◌<◌, ◌≤◌, Bool, true, false, ltb, List, [], ◌∷◌, ◌++◌, length, Option, Result, Ok, Err, refl, arith, length-append}
+use Rattle.std.proofs.Common.{◌≡◌, ◌⊎◌, ℕ, ◌≤◌, Bool, true, false, ltb, List, [], ◌∷◌, length, Result, refl, arith, length-append}
 use Rattle.std.specs.Prelude.{IfOk}
 use Rattle.std.specs.List.{All}
 use Rattle.std.specs.Option.{ok_or}
@@ -7,11 +7,9 @@ use Rattle.std.proofs.lemmas.Bool.{ltb-true}
 use Rattle.std.proofs.lemmas.List.Elements.{All-nil, All-push}
 use lib.Chars.{codes}
 use Rattle.network_plan.specs.declared.fleet.Fleet.{Fleet}
-use Rattle.network_plan.specs.declared.fleet.Kid.{Kid}
 use Rattle.network_plan.specs.declared.fleet.Kid.TheVariants as kids
 use Rattle.network_plan.specs.Hosts.{host_of}
 use Rattle.network_plan.specs.NodeRules.{KeepsKid, KeepsFleet}
-use Rattle.line_files.specs.declared.fault.LineReason.{LineReason}
 use Rattle.line_files.specs.declared.fault.LineReason.TheVariants.{BadHeader, BadWord, TooMany}
 use Rattle.line_files.specs.declared.fault.LineFault.{LineFault}
 use Rattle.line_files.specs.Lines.{lines}
@@ -27,7 +25,7 @@ use Rattle.node_files.specs.declared.fleet.FleetReading.{FleetReading}
 use Rattle.node_files.specs.Parts.{last_number}
 use Rattle.node_files.specs.Fleets.{kid_word, node_kid, ask_kid, kid_rest, kid_line, fleet_step_at, fleet_end, fleet_format, no_children, fleet_of}
 use Rattle.node_files.specs.Answers.{Accepted, Refused}
-use Rattle.node_files.proofs.PartLaws.{same, last_number_is, header_keeps, usual_keeps, header_placed, usual_placed, answered}
+use Rattle.node_files.proofs.PartLaws.{last_number_is, header_keeps, usual_keeps, header_placed, usual_placed, answered}
 
 -- ---- the rules
 
@@ -89,7 +87,7 @@ fleet_keeps bytes =
     (λ number s k. end_keeps s.begun (ltb 0 (length s.children)) number s refl k)
     (lines bytes) 1 no_children (record { few = omega arith; children = All-nil KeepsKid })
 
-pub fleet_rules : (bytes : List ℕ) (r : Result Fleet LineFault) → FileGives same r (fleet_of bytes) → IfOk r KeepsFleet
+pub fleet_rules : (bytes : List ℕ) (r : Result Fleet LineFault) → FileGives (λ s. s) r (fleet_of bytes) → IfOk r KeepsFleet
 fleet_rules bytes r h = is_keeping KeepsFleet r (fleet_of bytes) h (fleet_keeps bytes)
 
 -- ---- where refusals stand

@@ -1,5 +1,5 @@
 -- A log that a file says keeps its rules, and each file has one answer.
-use Rattle.std.proofs.Common.{◌≡◌, ◌⊎◌, ℕ, ◌+◌, ◌<◌, ◌≤◌, Bool, true, false, ltb, List, [], ◌∷◌, ◌++◌, length, length-append, get_or, Option, Some, None, Result, Ok, Err, refl, sym, subst, arith}
+use Rattle.std.proofs.Common.{◌≡◌, ◌⊎◌, ℕ, ◌+◌, ◌≤◌, Bool, true, false, ltb, List, [], ◌∷◌, ◌++◌, length, length-append, Result, refl, sym, subst, arith}
 use Rattle.std.specs.Prelude.{IfOk}
 use Rattle.std.specs.List.{All}
 use Rattle.std.specs.Option.{ok_or}
@@ -16,7 +16,6 @@ use Rattle.network_plan.specs.declared.node.Log.{Log}
 use Rattle.network_plan.specs.Hosts.{dev_of}
 use Rattle.network_plan.specs.Rules.{PackagesDiffer, MayArrive}
 use Rattle.network_plan.specs.NodeRules.{IsNeighbour, DevicesAscend, KeepsEntry, KeepsLog}
-use Rattle.line_files.specs.declared.fault.LineReason.{LineReason}
 use Rattle.line_files.specs.declared.fault.LineReason.TheVariants.{BadHeader, BadWord, TooMany, BadArgument}
 use Rattle.line_files.specs.declared.fault.LineFault.{LineFault}
 use Rattle.line_files.specs.Lines.{lines}
@@ -40,7 +39,7 @@ use Rattle.node_files.specs.Nodes.{host_line, hosts_line, neighbour_at, placed, 
 use Rattle.node_files.specs.ChunkWords.{typed_chunk, chunk_at}
 use Rattle.node_files.specs.Logs.{own_line, network_line, node_word, may_come, device_line, missing_line, events_line, node_rest, node_line, entry_word, inject_entry, frame_entry, control_entry, take_entry, entry_rest, entry_line, log_step_at, log_said, log_end, log_format, nothing_logged, log_of}
 use Rattle.node_files.specs.Answers.{Accepted, Refused}
-use Rattle.node_files.proofs.PartLaws.{same, last_number_is, header_keeps, usual_keeps, header_placed, usual_placed, answered}
+use Rattle.node_files.proofs.PartLaws.{last_number_is, header_keeps, usual_keeps, header_placed, usual_placed, answered}
 use Rattle.node_files.proofs.Placed.{all_placed, ascend_placed}
 use Rattle.node_files.proofs.NodeLaws.{hosts_line_is, neighbour_is}
 use Rattle.node_files.proofs.ChunkLaws.{typed_read}
@@ -266,7 +265,7 @@ log_keeps bytes =
     (λ number s k. end_keeps s.stage number s refl k)
     (lines bytes) 1 nothing_logged nothing_keeps
 
-pub log_rules : (bytes : List ℕ) (r : Result Log LineFault) → FileGives same r (log_of bytes) → IfOk r KeepsLog
+pub log_rules : (bytes : List ℕ) (r : Result Log LineFault) → FileGives (λ s. s) r (log_of bytes) → IfOk r KeepsLog
 log_rules bytes r h = is_keeping KeepsLog r (log_of bytes) h (log_keeps bytes)
 
 -- ---- where refusals stand

@@ -1,8 +1,7 @@
 -- The text of a log reads as that log.
-use Rattle.std.proofs.Common.{◌≡◌, ◌≢◌, ℕ, ◌+◌, ◌<◌, ◌≤◌, ◌^◌, Bool, true, false, cond, not, eqb, ltb, ◌||◌, List, [], ◌∷◌, ◌++◌, length, length-append, append_assoc, append-nil, map, Option, Some, None, Result, Ok, Err, refl, sym, ap, subst, ◌∙◌, arith}
-use Rattle.std.specs.List.{All, list_all, list_any, flat_map, insert, position_or_len}
+use Rattle.std.proofs.Common.{◌≡◌, ℕ, ◌+◌, ◌<◌, ◌≤◌, ◌^◌, Bool, true, false, cond, eqb, ltb, ◌||◌, List, [], ◌∷◌, ◌++◌, length, length-append, append_assoc, append-nil, map, Some, Result, Ok, refl, sym, ap, subst, ◌∙◌, arith}
+use Rattle.std.specs.List.{All, list_any, flat_map}
 use Rattle.std.specs.Fmt.{decimal}
-use Rattle.std.specs.Str.{bytes_eq}
 use lib.Chars.{codes}
 use Rattle.std.proofs.lemmas.Bool.{lt-ltb, le-ltb, le-leb, ne_eqb, eqb-true}
 use Rattle.std.proofs.lemmas.List.Concat.{flat_map-cons}
@@ -16,40 +15,38 @@ use Rattle.plan_base.specs.declared.tree.Chunk.{Chunk}
 use Rattle.chunk_types.specs.Chunks.{IsCheckedChunk}
 use Rattle.spelling_sizes.proofs.LengthLaws.{chunk_length}
 use Rattle.packet_frame.proofs.Sizes.{chunk_small}
-use Rattle.hex.specs.Hex.{encode_lower, decode_of, IsBytes}
+use Rattle.hex.specs.Hex.{encode_lower, IsBytes}
 use Rattle.hex.proofs.HexLemmas.{decode_of-encode_lower}
 use Rattle.chunk_spelling.specs.Values.{chunk_bytes}
 use Rattle.chunk_spelling.specs.Spelling.{a_whole_chunk}
-use Rattle.network_plan.specs.declared.event.Event.{Event}
 use Rattle.network_plan.specs.declared.event.Event.TheVariants as events
 use Rattle.network_plan.specs.declared.event.LogEvent.{LogEvent}
 use Rattle.network_plan.specs.declared.event.LogEvent.TheVariants as logged
 use Rattle.network_plan.specs.declared.node.NodeConfig.{NodeConfig}
 use Rattle.network_plan.specs.declared.node.Log.{Log}
-use Rattle.network_plan.specs.Hosts.{host_of, dev_of, is_listed}
+use Rattle.network_plan.specs.Hosts.{host_of, is_listed}
 use Rattle.network_plan.specs.Rules.{PackagesDiffer, MayArrive}
 use Rattle.network_plan.specs.NodeRules.{Ascend, DevicesAscend, IsNeighbour, KeepsNode, KeepsEntry, KeepsLog}
 use Rattle.line_files.specs.declared.fault.LineReason.{LineReason}
-use Rattle.line_files.specs.declared.fault.LineFault.{LineFault}
 use Rattle.line_files.specs.Lines.{lines, words, spaced, behind}
-use Rattle.line_files.specs.Files.{Format, is_skipped, read_on}
-use Rattle.line_files.specs.Numbers.{number_in, number_at}
+use Rattle.line_files.specs.Files.{is_skipped, read_on}
 use Rattle.line_files.specs.Packages.{package_of, same_package, package_at}
 use Rattle.line_files.specs.HostLists.{is_above, host_more, hosts_from, hosts_with}
-use Rattle.line_files.specs.HexWords.{hex_of, sized, hex_at}
+use Rattle.line_files.specs.HexWords.{sized, hex_at}
 use Rattle.line_files.proofs.Again.{line_first}
 use Rattle.schedule_laws.specs.Written.{package_word}
 use Rattle.schedule_laws.proofs.WordLaws.{Free, IsFree, words_are, line_is, number_free, hex_free}
 use Rattle.schedule_laws.proofs.ReadSteps.{number_ok}
+use Rattle.schedule_laws.proofs.NetworkRead.{all_middle, fresh_package}
 use Rattle.node_files.specs.declared.log.LogStage.{LogStage}
 use Rattle.node_files.specs.declared.log.LogStage.TheVariants as stages
 use Rattle.node_files.specs.declared.log.LogReading.{LogReading}
 use Rattle.node_files.specs.Parts.{behind_word, last_number, usual_line}
-use Rattle.node_files.specs.Nodes.{host_line, hosts_line, has_device, neighbour_at, place_of, placed, device_of}
-use Rattle.node_files.specs.ChunkWords.{typed_chunk, chunk_at}
+use Rattle.node_files.specs.Nodes.{host_line, hosts_line, has_device, neighbour_at, placed, device_of}
+use Rattle.node_files.specs.ChunkWords.{chunk_at}
 use Rattle.node_files.specs.Logs.{own_line, network_line, device_line, missing_line, events_line, node_rest, node_line, inject_entry, frame_entry, control_entry, take_entry, entry_rest, entry_line, log_step_at, log_said, log_format, nothing_logged, log_of}
 use Rattle.node_files.specs.LogTexts as text
-use Rattle.node_files.specs.LogTexts.{closing, line_text, event_words, entry_words, entry_text, host_words, hosts_words, spaced_host, device_words, missing_words, head_text, log_text, IsSpellable}
+use Rattle.node_files.specs.LogTexts.{closing, line_text, entry_words, entry_text, host_words, hosts_words, spaced_host, device_words, missing_words, head_text, log_text, IsSpellable}
 use Rattle.node_files.proofs.Placed.{placed_step}
 use Rattle.node_files.proofs.ChunkLaws.{typed_again, chunk_weighs}
 
@@ -143,10 +140,6 @@ host_leads h small =
     (λ n. usual_again n (codes "host") (decimal h.0 ∷ []) (state stages.Host (host_of 0) [] [] [] []) (state stages.Hosts h [] [] [] []) (λ ws. own_line ws (state stages.Host (host_of 0) [] [] [] [])) refl (host_clean h small) (rw (host_reads h small) refl))
 
 -- ---- the hosts of the network
-
-all_middle : {A : Type 0} (P : A → Type 0) (xs : List A) (y : A) (ys : List A) → All P (xs ++ (y ∷ ys)) → P y
-all_middle P [] y ys h = All-head P y ys h
-all_middle P (x ∷ xs) y ys h = all_middle P xs y ys (All-tail P x (xs ++ (y ∷ ys)) h)
 
 above_all : (seen : List Host) (h : Host) (hs : List Host) → Ascend (seen ++ (h ∷ hs)) → is_above seen h.0 ≡ true
 above_all [] h hs a = refl
@@ -284,24 +277,6 @@ package_clean packages.Net = ((refl, tt), (refl, tt))
 package_clean packages.Resident = ((refl, tt), (refl, tt))
 package_clean packages.Host = ((refl, tt), (refl, tt))
 
-others_differ : (p q : PackageName) → p ≢ q → same_package p q ≡ false
-others_differ packages.Net packages.Net h = absurd (h refl)
-others_differ packages.Net packages.Resident h = refl
-others_differ packages.Net packages.Host h = refl
-others_differ packages.Resident packages.Net h = refl
-others_differ packages.Resident packages.Resident h = absurd (h refl)
-others_differ packages.Resident packages.Host h = refl
-others_differ packages.Host packages.Net h = refl
-others_differ packages.Host packages.Resident h = refl
-others_differ packages.Host packages.Host h = absurd (h refl)
-
-new_by : (p q : PackageName) (b : Bool) → p ≢ q → b ≡ false → (same_package p q || b) ≡ false
-new_by p q b h e = rw (others_differ p q h, e) refl
-
-is_new : (seen : List PackageName) (p : PackageName) (ps : List PackageName) → PackagesDiffer (seen ++ (p ∷ ps)) → list_any (same_package p) seen ≡ false
-is_new [] p ps d = refl
-is_new (q ∷ qs) p ps d = new_by p q (list_any (same_package p) qs) (all_middle (λ r. r ≢ q) qs p ps d.0) (is_new qs p ps d.1)
-
 package_reads : (seen : List PackageName) (p : PackageName) → list_any (same_package p) seen ≡ false → package_at seen (package_word p ∷ []) ≡ Ok (seen ++ (p ∷ []), [])
 unfolding package_at
 package_reads seen p new = rw (package_again p, new) refl
@@ -348,7 +323,7 @@ tail_leads lacks here hosts ns all seen (p ∷ ps) e d =
     leads_as (flat_map text.missing_line (p ∷ ps) ++ end) (text.missing_line p ++ (flat_map text.missing_line ps ++ end)) (state (stages.Node lacks) here hosts ns seen []) (state stages.Events here hosts ns all [])
     (ap (λ (l : List ℕ). l ++ end) (flat_map-cons text.missing_line p ps) ∙ append_assoc (text.missing_line p) (flat_map text.missing_line ps) end)
     (leads_then (text.missing_line p) (flat_map text.missing_line ps ++ end) (state (stages.Node lacks) here hosts ns seen []) (state (stages.Node true) here hosts ns (seen ++ (p ∷ [])) []) (state stages.Events here hosts ns all [])
-    (missing_leads lacks here hosts ns seen p (is_new seen p ps differ))
+    (missing_leads lacks here hosts ns seen p (fresh_package seen p ps differ))
     (tail_leads true here hosts ns all (seen ++ (p ∷ [])) ps (more_to all seen p ps e) d))
 
 -- ---- bytes in hex

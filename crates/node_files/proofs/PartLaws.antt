@@ -12,13 +12,9 @@ use Rattle.line_files.specs.Files.{Format, is_skipped, file_of}
 use Rattle.line_files.specs.Reads.{end_at}
 use Rattle.line_files.specs.Numbers.{number_at}
 use Rattle.line_files.proofs.Keeping.{IfRead, InRange, then_keeps, done_keeps, number_is, IfStep, step_done, step_none, at_line_keeps, either_keeps}
-use Rattle.line_files.proofs.Placing.{Placed, OnFault, fault_done, fault_here, at_line_placed, either_placed, Places, read_placed}
+use Rattle.line_files.proofs.Placing.{OnFault, fault_done, fault_here, at_line_placed, either_placed, Places, read_placed}
 use Rattle.node_files.specs.Parts.{last_number, header_line, usual_line}
 use Rattle.node_files.specs.Answers.{Accepted, Refused}
-
--- a value as it is
-abbrev pub same : {T : Type 0} → T → T
-same s = s
 
 -- the program so far, if there is one, is checked
 abbrev pub HasChecked : Option Program → Type 0

@@ -1,8 +1,8 @@
 ghost use Rattle.std.specs.Prelude.{◌≡◌, ◌≤◌, ◌↔◌, IsTrue};
 ghost use Rattle.node_io.specs.Causes.{IsDue, Rose, one_more};
 
-/// Raises a count by one. At its last value it stands still.
-pub(crate) fn raise(count: &mut u64)
+/// Raises a count of calls or of faults by one. At its last value it stands still.
+pub fn raise(count: &mut u64)
     ensures next { count.new ≡ one_more count.old }
     ensures later { count.old ≤ count.new }
     ensures rose { Rose count.old count.new }

@@ -23,6 +23,7 @@ mod text;
 mod write;
 
 pub use clock::{Clock, MemClock, Moments};
+pub use counts::raise;
 pub use file_list::FileList;
 pub use host_files::HostFiles;
 pub use host_sink::HostSink;

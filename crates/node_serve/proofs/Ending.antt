@@ -1,11 +1,13 @@
 -- What a run has done when it ends.
-use Rattle.std.proofs.Common.{◌≡◌, ℕ, zero, suc, ◌+◌, inl, inr, Result, Ok, Err, OnOk, List, [], ◌∷◌, ◌++◌, length, take, drop, refl, sym, ◌∙◌, ap, subst, arith, codes, append_assoc, append-nil}
+use Rattle.std.proofs.Common.{◌≡◌, ℕ, ◌+◌, inl, inr, Result, Ok, Err, OnOk, List, [], ◌∷◌, ◌++◌, length, take, drop, refl, sym, ◌∙◌, ap, subst, arith, codes, append_assoc, append-nil}
 use Rattle.std.specs.List.{All, flat_map}
 use Rattle.std.proofs.lemmas.List.Elements.{All-nil}
+use Rattle.std.proofs.Math.Seq.{take-append-add, take-append_seam, take-length}
 use Rattle.network_plan.specs.declared.serve.ServeConfig.{ServeConfig}
 use Rattle.node_files.specs.LogTexts.{head_text, entry_text}
 use Rattle.node_io.specs.FileMaps.{ChangesOnly, SavesFront, untouched, begun}
 use Rattle.node_io.specs.Pieces.{AppendsFront}
+use Rattle.node_io.proofs.Fronts.{front_longer}
 use Rattle.node_model.specs.State.{NodeState}
 use Rattle.serve_model.specs.Runs.{Running, opened, played, turns, node_run}
 use Rattle.serve_model.specs.Texts.{trace_line, lines_text, begun_trace, whole_trace}
@@ -13,19 +15,7 @@ use Rattle.serve_model.specs.Follow.{Ext, lost_after, lost_places}
 use Rattle.node_serve.specs.Shown.{Seen, run_log, run_trace, IsReadable, Reached, Stopped, UsedUpTo}
 use Rattle.node_serve.specs.Served.{Outside, seen_in, run_in, own_bind, MayBind, Begins, EndsEarly, Opens, Served, Begun, Ends}
 use Rattle.serve_model.proofs.Places.{own_places}
-use Rattle.node_serve.proofs.Showing.{text_more, take_whole, take_into}
-
--- ---- fronts
-
--- a front of a list is one of every list that goes on from it
-front_more : {A : Type 0} (n : ℕ) (xs ys : List A) → (m : ℕ) × (take n xs ≡ take m (xs ++ ys))
-front_more zero xs ys = (0, refl)
-front_more (suc n) [] ys = (0, refl)
-front_more (suc n) (x ∷ xs) ys = let more = front_more n xs ys in (suc more.0, ap (λ l. x ∷ l) more.1)
-
-take_front : {A : Type 0} (xs ys : List A) → take (length xs) (xs ++ ys) ≡ xs
-take_front [] ys = refl
-take_front (x ∷ xs) ys = ap (λ l. x ∷ l) (take_front xs ys)
+use Rattle.node_serve.proofs.Showing.{text_more}
 
 -- ---- texts of a run that goes on
 
@@ -73,7 +63,7 @@ module _ (cfg : ServeConfig) (old new : Outside) where
   pub early_trace : ChangesOnly old.files new.files cfg.log (head_text cfg.node cfg.missing) → AppendsFront old.taken new.taken (codes "planet trace 1\n") → new.sent ≡ old.sent
       → new.binds ≡ old.binds ++ own_bind cfg ∷ [] → new.script ≡ old.script → new.answers ≡ old.answers → EndsEarly cfg old new
   early_trace log out sent binds script answers = record {
-    log = begun (length (head_text cfg.node cfg.missing)) (subst (ChangesOnly old.files new.files cfg.log) (sym (take_whole (head_text cfg.node cfg.missing))) log);
+    log = begun (length (head_text cfg.node cfg.missing)) (subst (ChangesOnly old.files new.files cfg.log) (sym (take-length (head_text cfg.node cfg.missing))) log);
     out = out;
     sent = sent;
     binds = inr binds;
@@ -96,7 +86,7 @@ module _ (cfg : ServeConfig) (old new : Outside) where
   saves_more : (whole rest : List ℕ) → whole ≡ head_text cfg.node cfg.missing ++ rest → SavesFront old.files new.files cfg.log (head_text cfg.node cfg.missing) → SavesFront old.files new.files cfg.log whole
   saves_more whole rest e (untouched same) = untouched same
   saves_more whole rest e (begun count h) =
-      let more = front_more count (head_text cfg.node cfg.missing) rest in
+      let more = front_longer count (head_text cfg.node cfg.missing) rest in
       begun more.0 (subst (ChangesOnly old.files new.files cfg.log) (more.1 ∙ ap (take more.0) (sym e)) h)
 
   -- what ended early has begun every run
@@ -105,7 +95,7 @@ module _ (cfg : ServeConfig) (old new : Outside) where
   ended_early node n h =
       let whole = run_in cfg node n old [] in
       let lines = lines_text cfg.node.here whole.entries in
-      let more = front_more h.out.count (codes "planet trace 1\n") (lines ++ codes "end\n") in
+      let more = front_longer h.out.count (codes "planet trace 1\n") (lines ++ codes "end\n") in
       record {
         refused = [];
         steps = 0;
@@ -170,19 +160,19 @@ module _ (cfg : ServeConfig) (node : NodeState) (n : ℕ) (old mid new : Outside
       let x : Ext a.done whole = subst (Ext a.done) (same_run refused) (a.within refused (own_places a.done.events)) in
       let log = log_goes_on cfg a.done whole x in
       let trace = trace_goes_on cfg a.done whole x in
-      let in_log = front_more a.shows.count (run_log cfg a.done) log.0 in
-      let in_trace = front_more a.shows.out.count (run_trace cfg a.done) (trace.0 ++ codes "end\n") in
+      let in_log = front_longer a.shows.count (run_log cfg a.done) log.0 in
+      let in_trace = front_longer a.shows.out.count (run_trace cfg a.done) (trace.0 ++ codes "end\n") in
       record {
         refused = refused;
         steps = length a.done.events;
-        places = ap lost_places (sym (ap (take (length a.done.events)) x.log ∙ take_front a.done.events x.events));
+        places = ap lost_places (sym (ap (take (length a.done.events)) x.log ∙ take-append_seam a.done.events x.events));
         log = begun in_log.0 (subst (ChangesOnly old.files new.files cfg.log) (in_log.1 ∙ ap (take in_log.0) (sym log.1)) (subst (λ y. ChangesOnly old.files y cfg.log (take a.shows.count (run_log cfg a.done))) (sym files) a.shows.log));
         out = record {
           count = in_trace.0;
           is = taken ∙ a.shows.out.is
               ∙ ap (λ l. old.taken ++ l) (in_trace.1 ∙ ap (take in_trace.0) (sym (append_assoc (run_trace cfg a.done) trace.0 (codes "end\n")) ∙ ap (λ l. l ++ codes "end\n") (sym trace.1)));
         };
-        sent = record { count = length a.done.sent; is = sent ∙ a.shows.sent ∙ ap (λ l. old.sent ++ l) (sym (ap (take (length a.done.sent)) x.frames ∙ take_front a.done.sent x.sent)) };
+        sent = record { count = length a.done.sent; is = sent ∙ a.shows.sent ∙ ap (λ l. old.sent ++ l) (sym (ap (take (length a.done.sent)) x.frames ∙ take-append_seam a.done.sent x.sent)) };
         binds = inr (binds ∙ b.binds);
         script = used b.script script;
         answers = used b.answers answers;
@@ -202,15 +192,15 @@ module _ (cfg : ServeConfig) (node : NodeState) (n : ℕ) (old mid new : Outside
       record {
         refused = refused;
         steps = length a.done.events;
-        places = ap lost_places (sym (take_whole a.done.events) ∙ ap (λ r. take (length a.done.events) r.events) same);
-        log = begun (length (run_log cfg whole)) (subst (ChangesOnly old.files new.files cfg.log) (sym (take_whole (run_log cfg whole)))
+        places = ap lost_places (sym (take-length a.done.events) ∙ ap (λ r. take (length a.done.events) r.events) same);
+        log = begun (length (run_log cfg whole)) (subst (ChangesOnly old.files new.files cfg.log) (sym (take-length (run_log cfg whole)))
             (subst (λ r. ChangesOnly old.files new.files cfg.log (run_log cfg r)) same (subst (λ x. ChangesOnly old.files x cfg.log (run_log cfg a.done)) (sym files) a.shows.log)));
         out = record {
           count = length trace + taken.count;
           is = taken.is ∙ ap (λ l. l ++ take taken.count (codes "end\n")) a.shows.out ∙ append_assoc old.taken trace (take taken.count (codes "end\n"))
-              ∙ ap (λ l. old.taken ++ l) (sym (take_into trace (codes "end\n") taken.count) ∙ ap (λ r. take (length trace + taken.count) (run_trace cfg r ++ codes "end\n")) same);
+              ∙ ap (λ l. old.taken ++ l) (sym (take-append-add trace (codes "end\n") taken.count) ∙ ap (λ r. take (length trace + taken.count) (run_trace cfg r ++ codes "end\n")) same);
         };
-        sent = record { count = length a.done.sent; is = sent ∙ a.shows.sent ∙ ap (λ l. old.sent ++ l) (sym (take_whole a.done.sent) ∙ ap (λ r. take (length a.done.sent) r.sent) same) };
+        sent = record { count = length a.done.sent; is = sent ∙ a.shows.sent ∙ ap (λ l. old.sent ++ l) (sym (take-length a.done.sent) ∙ ap (λ r. take (length a.done.sent) r.sent) same) };
         binds = inr (binds ∙ b.binds);
         script = record { count = n; few = omega arith; is = script ∙ ap (drop n) b.script };
         answers = record { count = n; few = omega arith; is = answers ∙ ap (drop n) b.answers };

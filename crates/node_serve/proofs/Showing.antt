@@ -1,8 +1,10 @@
 -- What stands outside when one more step was written.
-use Rattle.std.proofs.Common.{◌≡◌, ℕ, suc, ◌+◌, List, [], ◌∷◌, ◌++◌, length, take, Option, Some, None, IsSome, unwrap_or, refl, sym, ◌∙◌, ap, subst, arith, codes, append_assoc, append-nil}
+use Rattle.std.proofs.Common.{◌≡◌, ℕ, ◌+◌, List, [], ◌∷◌, ◌++◌, length, take, Option, Some, None, IsSome, unwrap_or, refl, sym, ◌∙◌, ap, subst, codes, append_assoc, append-nil}
 use Rattle.std.specs.List.{All, flat_map}
 use Rattle.std.proofs.lemmas.List.Elements.{All-nil, All-cons, All-append}
 use Rattle.std.proofs.lemmas.Bool.{false≢true}
+use Rattle.std.proofs.lemmas.Grind.{flat_map-append}
+use Rattle.std.proofs.Math.Seq.{take-append-add, take-length}
 use Rattle.network_plan.specs.declared.event.LogEvent.{LogEvent}
 use Rattle.network_plan.specs.declared.serve.ServeConfig.{ServeConfig}
 use Rattle.plan_base.specs.declared.ids.Dev.{Dev}
@@ -14,21 +16,6 @@ use Rattle.node_io.specs.Pieces.{AppendsFront}
 use Rattle.serve_model.specs.Runs.{Running, acts_of, entries_at, with_entry, with_sent}
 use Rattle.serve_model.specs.Texts.{trace_line, lines_text, begun_trace}
 use Rattle.node_serve.specs.Shown.{Seen, run_log, run_trace, IsReadable, Shows, Fronts}
-
--- ---- lists
-
-flat_more : {A B : Type 0} (f : A → List B) (xs ys : List A) → flat_map f (xs ++ ys) ≡ flat_map f xs ++ flat_map f ys
-flat_more f [] ys = refl
-flat_more f (x ∷ xs) ys = ap (λ l. f x ++ l) (flat_more f xs ys) ∙ sym (append_assoc (f x) (flat_map f xs) (flat_map f ys))
-
-pub take_whole : {A : Type 0} (xs : List A) → take (length xs) xs ≡ xs
-take_whole [] = refl
-take_whole (x ∷ xs) = ap (λ l. x ∷ l) (take_whole xs)
-
--- a front that ends in the second part
-pub take_into : {A : Type 0} (xs ys : List A) (n : ℕ) → take (length xs + n) (xs ++ ys) ≡ xs ++ take n ys
-take_into [] ys n = let same : 0 + n ≡ n = omega arith in ap (λ k. take k ys) same
-take_into (x ∷ xs) ys n = let same : length (x ∷ xs) + n ≡ suc (length xs + n) = omega arith in ap (λ k. take k ((x ∷ xs) ++ ys)) same ∙ ap (λ l. x ∷ l) (take_into xs ys n)
 
 -- ---- files
 
@@ -50,7 +37,7 @@ changes_more base old new name target x y h t w =
 -- ---- texts
 
 pub text_more : {A : Type 0} (head : List ℕ) (f : A → List ℕ) (xs ys : List A) → head ++ flat_map f (xs ++ ys) ≡ (head ++ flat_map f xs) ++ flat_map f ys
-text_more head f xs ys = ap (λ l. head ++ l) (flat_more f xs ys) ∙ sym (append_assoc head (flat_map f xs) (flat_map f ys))
+text_more head f xs ys = ap (λ l. head ++ l) (flat_map-append f xs ys) ∙ sym (append_assoc head (flat_map f xs) (flat_map f ys))
 
 pub log_more : (cfg : ServeConfig) (e : LogEvent) (r : Running) → run_log cfg (with_entry e r) ≡ run_log cfg r ++ entry_text e
 unfolding with_entry
@@ -89,8 +76,8 @@ shows_entry cfg base old new e r h k log target out sent = record {
 pub fronts_whole : (cfg : ServeConfig) (base seen : Seen) (r : Running) → Shows cfg base seen r → Fronts cfg base seen r
 fronts_whole cfg base seen r h = record {
   count = length (run_log cfg r);
-  log = subst (ChangesOnly base.files seen.files cfg.log) (sym (take_whole (run_log cfg r))) h.log;
-  out = record { count = length (run_trace cfg r); is = h.out ∙ ap (λ l. base.taken ++ l) (sym (take_whole (run_trace cfg r))) };
+  log = subst (ChangesOnly base.files seen.files cfg.log) (sym (take-length (run_log cfg r))) h.log;
+  out = record { count = length (run_trace cfg r); is = h.out ∙ ap (λ l. base.taken ++ l) (sym (take-length (run_trace cfg r))) };
   sent = h.sent;
 }
 
@@ -100,8 +87,8 @@ pub fronts_log : (cfg : ServeConfig) (base old new : Seen) (e : LogEvent) (r : R
     → Fronts cfg base new (with_entry e r)
 fronts_log cfg base old new e r h log out sent =
     let before = run_log cfg r in
-    let front = sym (take_into before (entry_text e) log.count) ∙ ap (take (length before + log.count)) (sym (log_more cfg e r)) in
-    let traced = sym (take_into (run_trace cfg r) (next_lines cfg e r) 0) ∙ ap (take (length (run_trace cfg r) + 0)) (sym (trace_more cfg e r)) in
+    let front = sym (take-append-add before (entry_text e) log.count) ∙ ap (take (length before + log.count)) (sym (log_more cfg e r)) in
+    let traced = sym (take-append-add (run_trace cfg r) (next_lines cfg e r) 0) ∙ ap (take (length (run_trace cfg r) + 0)) (sym (trace_more cfg e r)) in
     record {
       count = length before + log.count;
       log = subst (ChangesOnly base.files new.files cfg.log) front (changes_more base.files old.files new.files cfg.log old.target before (take log.count (entry_text e)) h.log h.target log.is);
@@ -117,10 +104,10 @@ fronts_lines cfg base old new e r h log out sent =
     let before = run_trace cfg r in
     let whole = run_log cfg (with_entry e r) in
     let logged = subst (ChangesOnly base.files new.files cfg.log) (sym (log_more cfg e r)) (changes_more base.files old.files new.files cfg.log old.target (run_log cfg r) (entry_text e) h.log h.target log) in
-    let front = sym (take_into before (next_lines cfg e r) out.count) ∙ ap (take (length before + out.count)) (sym (trace_more cfg e r)) in
+    let front = sym (take-append-add before (next_lines cfg e r) out.count) ∙ ap (take (length before + out.count)) (sym (trace_more cfg e r)) in
     record {
       count = length whole;
-      log = subst (ChangesOnly base.files new.files cfg.log) (sym (take_whole whole)) logged;
+      log = subst (ChangesOnly base.files new.files cfg.log) (sym (take-length whole)) logged;
       out = record { count = length before + out.count; is = out.is ∙ ap (λ l. l ++ take out.count (next_lines cfg e r)) h.out ∙ append_assoc base.taken before (take out.count (next_lines cfg e r)) ∙ ap (λ l. base.taken ++ l) front };
       sent = sent ∙ h.sent ∙ ap (λ l. base.sent ++ l) (sym (sent_same e r));
     }

@@ -8,24 +8,17 @@ ghost use Rattle.node_serve.specs.Standing.{StandsFor, seen_of};
 ghost use Rattle.network_plan.specs.Hosts.{dev_of};
 ghost use Rattle.network_plan.specs.declared.event.Event.TheVariants as event;
 ghost use Rattle.packet_frame.specs.Bytes.{frame_bytes};
-ghost use Rattle.wire_bytes.specs.Fields.{IsBytes};
 
 use crate::fault::ServeFault;
 use crate::server::Server;
 use crate::steps::Stepped;
 use network_plan::{Event, ServeConfig};
+use node_core::are_bytes;
 use node_io::{Files, Sink};
 use plan_base::Dev;
 use service_api::Services;
 use spelled_frame::SpelledFrame;
 use std::alloc::Global;
-
-/// The values of bytes.
-fn are_bytes(bytes: &[u8])
-    ensures { IsBytes bytes.now }
-{
-    let _count = bytes.len();
-}
 
 /// The event of a frame that the node sent to itself.
 fn arrived(frame: SpelledFrame) -> Event

@@ -370,14 +370,14 @@ fn copy_chunk(alloc: Global, c: &Chunk) -> Result<Chunk, NoMemory>
     ensures { IfOk result (λ d. d ≡ c.now) }
 {
     Ok(Chunk {
-        code: c.code.copy(alloc)?,
+        code: c.code.share()?,
         entry: c.entry.copy(alloc)?,
         args: copy_values(alloc, c.args.as_slice())?,
     })
 }
 
 impl Chunk {
-    /// The same chunk.
+    /// The same chunk, whose code is shared and not copied.
     pub fn copy(&self, alloc: Global) -> Result<Chunk, NoMemory>
         ensures { IfOk result (λ c. c ≡ self.now) }
     {

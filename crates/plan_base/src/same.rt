@@ -478,7 +478,9 @@ fn same_values(a: &[Value], b: &[Value]) -> bool
 fn same_chunk(a: &Chunk, b: &Chunk) -> bool
     ensures { IsTrue result ↔ (a.now ≡ b.now) }
 {
-    a.code.is(&b.code) && a.entry.is(&b.entry) && same_values(a.args.as_slice(), b.args.as_slice())
+    a.code.get().is(b.code.get())
+        && a.entry.is(&b.entry)
+        && same_values(a.args.as_slice(), b.args.as_slice())
 }
 
 impl Chunk {

@@ -236,7 +236,7 @@ pub fn weight(v: &Value) -> u64
 pub fn chunk_weight(c: &Chunk) -> u64
     ensures { result ≡ min (chunk_weight c.now) 18446744073709551615 }
 {
-    let code = code_size(&c.code).saturating_add(name_size(&c.entry));
+    let code = code_size(c.code.get()).saturating_add(name_size(&c.entry));
     code.saturating_add(values_weight(c.args.as_slice()))
         .saturating_add(1)
 }

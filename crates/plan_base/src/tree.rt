@@ -1,5 +1,5 @@
 use crate::{Bytes, Dev, Family, Host, Name, Names, Text};
-use plan_items::{Boxed, Items};
+use plan_items::{Boxed, Items, Shared};
 
 /// A list of types.
 pub type Tys = Items<Ty>;
@@ -242,8 +242,8 @@ pub enum Value {
 #[cycle(value)]
 #[derive(Debug, Drop)]
 pub struct Chunk {
-    /// The whole program.
-    pub code: Program,
+    /// The whole program, which copies of the chunk share.
+    pub code: Shared<Program>,
     /// The name of the entry function.
     pub entry: Name,
     /// The entry's arguments, at most 8.

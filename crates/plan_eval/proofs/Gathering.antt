@@ -1,19 +1,24 @@
 -- Parts that come to an end: operators, parts of tuples, calls and folds.
-use Rattle.std.proofs.Common.{◌≡◌, ◌≢◌, ℕ, ◌+◌, reverse, take, drop, List, [], ◌∷◌, ◌++◌, Some, None, Result, Ok, Err, refl, ◌∙◌}
+use Rattle.std.proofs.Common.{◌≡◌, ◌≢◌, ℕ, ◌+◌, ◌-◌, Bool, true, false, if◌then◌else◌, sym, subst, reverse, take, drop, List, [], ◌∷◌, ◌++◌, Some, None, Result, Ok, Err, refl, ◌∙◌}
+use Rattle.std.specs.Prelude.{nat_lt}
 use Rattle.std.proofs.lemmas.List.{reverse-append}
 use Rattle.plan_base.specs.declared.name.Name.{Name}
+use Rattle.plan_base.specs.declared.tree.Exn.{Exn}
 use Rattle.plan_base.specs.declared.tree.Op.{Op}
+use Rattle.plan_base.specs.declared.tree.Op.TheVariants as op
 use Rattle.plan_base.specs.declared.tree.Expr.{Expr, Expr-F, out-Expr}
 use Rattle.plan_base.specs.declared.tree.Program.{Program}
-use Rattle.plan_base.specs.declared.tree.Value.{Value}
+use Rattle.plan_base.specs.declared.tree.Value.{Value, out-Value}
+use Rattle.plan_base.specs.Sizes.{weight}
 use Rattle.plan_base.specs.TypingNames.{place_of}
-use Rattle.value_rules.specs.Rules.{gives, binary, part}
+use Rattle.value_rules.specs.Rules.{Given, gives, raises, too_large, limited, put_first, binary, part}
 use Rattle.plan_meaning.specs.declared.stop.Stop.{Stop}
-use Rattle.plan_meaning.specs.declared.stop.Stop.TheVariants.{Wrong, NoMemory}
+use Rattle.plan_meaning.specs.declared.stop.Stop.TheVariants.{Raised, WorkSpent, Wrong, NoMemory}
 use Rattle.plan_meaning.specs.State.{VisitState}
-use Rattle.plan_meaning.specs.Run.{Step, stopped, weighed}
+use Rattle.plan_meaning.specs.Run.{Step, Run, gave, stopped, quiet, pure, raise, given, spend, is_too_large, weighed, and_then, ◌>>=◌, ◌>>◌}
+use Rattle.plan_meaning.specs.Safe.{IsSafe}
 use Rattle.plan_meaning.specs.Meaning.{Env, as_items, applied}
-use Rattle.visit_state.specs.Meets.{MeetsGiven}
+use Rattle.visit_state.specs.Meets.{MeetsGiven, MeetsUnweighed}
 use Rattle.plan_eval.specs.declared.next.Next.{Next}
 use Rattle.plan_eval.specs.Stack.{Spot}
 use Rattle.plan_eval.specs.Leads.{Leads}
@@ -27,6 +32,45 @@ pub carries_from : (code : Program) (seen : ℕ) (at : Spot) (p q : Step Value) 
 carries_from code seen at p q (Ok n) s h k = onward _ _ _ h k
 carries_from code seen at p q (Err e) s h k = λ other. h.same ∙ k other
 
+-- ---- an item before a list
+
+cons_is : (x v : Value) → binary op.Cons x v ≡ put_first x (out-Value v)
+unfolding binary
+cons_is x v = refl
+
+unweighed_stops : (g : Given) (e : Stop) → MeetsUnweighed g (Err e) → MeetsGiven g (Err e)
+unweighed_stops g (Raised x) h = h
+unweighed_stops g WorkSpent h = h
+unweighed_stops g Wrong h = h
+unweighed_stops g NoMemory h = h
+
+-- a weighing asks nothing that isn't safe
+either_safe : (b : Bool) (x : Exn) (q : Run Value) (s : VisitState) → IsSafe (q s).asks → IsSafe ((if b then raise x else q) s).asks
+either_safe true x q s h = tt
+either_safe false x q s h = h
+
+spent_safe : (c : Bool) (r : Value) (s t : VisitState) → IsSafe (and_then (if c then quiet {A = Unit {0}} (stopped WorkSpent s) else quiet (gave tt t)) (λ _. pure r)).asks
+spent_safe true r s t = (tt, tt)
+spent_safe false r s t = (tt, tt)
+
+weighed_safe : (r : Value) (s : VisitState) → IsSafe (weighed r s).asks
+unfolding weighed spend
+weighed_safe r s = either_safe (is_too_large r) too_large (spend (weight r) >> pure r) s (spent_safe (nat_lt s.work (weight r)) r s (record s { work = s.work - weight r }))
+
+weighed_over : (r : Value) (s : VisitState) → nat_lt 16384 (weight r) ≡ true → (weighed r s).after ≡ stopped (Raised too_large) s
+unfolding weighed is_too_large
+weighed_over r s h = rw h refl
+
+-- a limit before the weighing changes nothing
+limit_at : (b : Bool) (r : Value) (s : VisitState) → (b ≡ true → (weighed r s).after ≡ stopped (Raised too_large) s)
+    → Leads ((given (if b then raises too_large else gives r) >>= weighed) s) (weighed r s)
+limit_at true r s over = record { same = sym (over refl); safe = λ k. weighed_safe r s }
+limit_at false r s over = given_on r s weighed
+
+pub limited_gives : (g : Given) (r : Value) (s : VisitState) → g ≡ limited r → Leads ((given g >>= weighed) s) (weighed r s)
+unfolding limited
+limited_gives g r s h = rw h (limit_at (nat_lt 16384 (weight r)) r s (weighed_over r s))
+
 module _ (code : Program) (seen : ℕ) (e : Expr) (env : Env) (s : VisitState) where
   pub operator_gives : (o : Op) (a b : Expr) (n : ℕ) (x : Value) (held : List Value) (v r : Value) → out-Expr e ≡ Expr-F.Binary o a b → binary o x v ≡ gives r
       → Leads (part_gave code seen (record { expr = e; env = env }) n (x ∷ held) v s) (weighed r s)
@@ -35,6 +79,16 @@ module _ (code : Program) (seen : ℕ) (e : Expr) (env : Env) (s : VisitState) w
   pub operator_stops : (o : Op) (a b : Expr) (n : ℕ) (x : Value) (held : List Value) (v : Value) (y : Stop) → out-Expr e ≡ Expr-F.Binary o a b → MeetsGiven (binary o x v) (Err y) → y ≢ NoMemory
       → (part_gave code seen (record { expr = e; env = env }) n (x ∷ held) v s).after ≡ stopped y s
   operator_stops o a b n x held v y form h other = rw form (given_stops (binary o x v) y s h other)
+
+  -- an item before a list, whose limit is that of the weighing that follows
+  pub list_gives : (a b : Expr) (n : ℕ) (x : Value) (held : List Value) (v r : Value) → out-Expr e ≡ Expr-F.Binary op.Cons a b → put_first x (out-Value v) ≡ limited r
+      → Leads (part_gave code seen (record { expr = e; env = env }) n (x ∷ held) v s) (weighed r s)
+  list_gives a b n x held v r form h = rw form (limited_gives (binary op.Cons x v) r s (cons_is x v ∙ h))
+
+  pub list_stops : (a b : Expr) (n : ℕ) (x : Value) (held : List Value) (v : Value) (y : Stop) → out-Expr e ≡ Expr-F.Binary op.Cons a b → MeetsUnweighed (put_first x (out-Value v)) (Err y) → y ≢ NoMemory
+      → (part_gave code seen (record { expr = e; env = env }) n (x ∷ held) v s).after ≡ stopped y s
+  list_stops a b n x held v y form h other =
+      rw form (given_stops (binary op.Cons x v) y s (subst (λ (g : Given). MeetsGiven g (Err y)) (sym (cons_is x v)) (unweighed_stops _ y h)) other)
 
   pub part_gives : (i : ℕ) (a : Expr) (n : ℕ) (held : List Value) (v r : Value) → out-Expr e ≡ Expr-F.Part i a → part i v ≡ gives r
       → Leads (part_gave code seen (record { expr = e; env = env }) n held v s) (weighed r s)

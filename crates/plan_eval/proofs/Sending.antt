@@ -1,5 +1,7 @@
 -- Evals and sends that end an expression: they are refused, or what they are given doesn't fit.
-use Rattle.std.proofs.Common.{◌≡◌, ℕ, ℤ, List, [], ◌∷◌, Some, None, refl, ap}
+use Rattle.std.proofs.Common.{◌≡◌, ℕ, ℤ, List, [], ◌∷◌, Some, None, slice_get, refl, ap}
+use Rattle.std.specs.Prelude.{remove}
+use Rattle.small_laws.proofs.Options.{none-some, some-same}
 use Rattle.plan_base.specs.declared.name.Name.{Name}
 use Rattle.plan_base.specs.declared.ids.Host.{Host}
 use Rattle.plan_base.specs.declared.ids.Dev.{Dev}
@@ -93,6 +95,11 @@ module _ (code : Program) (seen : ℕ) (e : Expr) (env : Env) (s : VisitState) w
     pub last_dev : (c w u v : Value) (held : List Value) (k : Chunk) (host : Host) (i : ℤ) → as_chunk c ≡ Some k → as_host w ≡ Some host → as_int u ≡ Some i → as_dev v ≡ None
         → (part_gave code seen (record { expr = e; env = env }) n (c ∷ w ∷ u ∷ held) v s).after ≡ stopped Wrong s
     last_dev c w u v held k host i is there much way = rw (form, is, there, much, way) refl
+
+-- the first of some values, and those behind it
+pub first_off : (held rest : List Value) (x : Value) → slice_get held 0 ≡ Some x → rest ≡ remove held 0 → held ≡ x ∷ rest
+first_off [] rest x is others = absurd (none-some is)
+first_off (y ∷ ys) rest x is others = let first : y ≡ x = some-same is in rw (first, others) refl
 
 pub ruleset early_remote = (no_remote_chunk, no_held_chunk, no_remote_host)
 

@@ -17,7 +17,7 @@ use crate::frame::{Activation, Activations, Codes, Frame, Mode};
 use crate::next::Next;
 use crate::place::enters;
 use plan_base::{Chunk, NoMemory, Program, Value, Values, place_of};
-use plan_items::Items;
+use plan_items::{Items, Shared};
 use plan_meaning::Stop;
 use std::alloc::Global;
 use visit_state::State;
@@ -104,11 +104,11 @@ fn weigh(
 }
 
 /// Whether the program at a place is this one.
-fn has_program(codes: &[Program], at: usize, code: &Program) -> bool
+fn has_program(codes: &Codes, at: usize, code: &Shared<Program>) -> bool
     ensures { IsTrue result → slice_get codes.now at ≡ Some code.now }
 {
     match codes.get(at) {
-        Some(other) => other.is(code),
+        Some(other) => other.get().is(code.get()),
         None => false,
     }
 }
@@ -116,10 +116,10 @@ fn has_program(codes: &[Program], at: usize, code: &Program) -> bool
 /// The place of a program among those of the visit: `at`, where it is the program there, or else a new one behind them. So a
 /// chunk that evaluates chunks of its own program doesn't keep a copy for each.
 #[tactic(auto, using(crate::proofs::Entering::last_one, crate::proofs::Entering::placed_there))]
-fn place_program(codes: &mut Codes, at: usize, code: Program) -> Result<usize, NoMemory>
+fn place_program(codes: &mut Codes, at: usize, code: Shared<Program>) -> Result<usize, NoMemory>
     ensures { IfOk result (λ n. IsPlaced codes.old code n codes.new) }
 {
-    if has_program(codes.as_slice(), at, &code) {
+    if has_program(codes, at, &code) {
         return Ok(at);
     }
     let number = codes.len();
@@ -142,7 +142,7 @@ fn visit_chunk(
     ensures bounded { (work : ℕ) → IfOk result (λ how. load how outer.new work ≤ load mode.Run (outer.old ++ top ∷ []) work + 3) }
 {
     let Chunk { code, entry, args } = chunk;
-    let Some(fun) = place_of(&entry, code.funs.as_slice()) else {
+    let Some(fun) = place_of(&entry, code.get().funs.as_slice()) else {
         return Err(Stop::Wrong);
     };
     if !enters(&code, fun, &args) {

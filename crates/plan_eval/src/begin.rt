@@ -11,13 +11,13 @@ ghost use Rattle.plan_eval.specs.Turns.{spot_at};
 ghost use Rattle.plan_eval.specs.Nexts.{Decides, IsDone, Starts, begins, call_of};
 
 use crate::call::called;
-use crate::frame::{Activation, Frame};
+use crate::frame::{Activation, Codes, Frame};
 use crate::kind::{Kind, kind_of};
 use crate::next::Next;
 use crate::place::{Place, argument_of, can_do, place_in};
 use crate::walk::value_from;
 use plan_base::{Chunk, Exn, Name, Program, Value};
-use plan_items::{Boxed, Items};
+use plan_items::{Boxed, Items, Shared};
 use plan_meaning::Stop;
 use service_api::Services;
 use std::alloc::Global;
@@ -40,11 +40,11 @@ fn named(alloc: Global, place: Place<'_>, top: &Activation, name: &Name) -> Resu
 
 /// A chunk without arguments.
 #[tactic(auto, using(crate::proofs::Beginning::packs_bare))]
-fn bare_chunk(alloc: Global, code: &Program, entry: &Name) -> Result<Next, Stop>
+fn bare_chunk(alloc: Global, code: &Shared<Program>, entry: &Name) -> Result<Next, Stop>
     ensures { (seen : ℕ) (s : VisitState) → Starts code.now seen (Expr-F.ChunkOf entry.now []) s result s }
 {
     let chunk = Chunk {
-        code: code.copy(alloc)?,
+        code: code.share()?,
         entry: entry.copy(alloc)?,
         args: Items::new(alloc),
     };
@@ -93,7 +93,7 @@ fn begin<S: Services>(
 #[tactic(auto, using(crate::proofs::Naming::at_place, crate::proofs::Beginning::safe_bare))]
 pub fn begin_top<S: Services>(
     alloc: Global,
-    codes: &[Program],
+    codes: &Codes,
     top: &Activation,
     state: &mut State,
     svc: &mut S,

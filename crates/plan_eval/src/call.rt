@@ -7,6 +7,7 @@ ghost use Rattle.plan_eval.specs.Nexts.{Decides, call_of};
 
 use crate::next::Next;
 use plan_base::{Name, Program, Values, prim_of, service_of};
+use plan_items::Shared;
 use plan_meaning::Stop;
 use service_api::Services;
 use std::alloc::Global;
@@ -16,7 +17,7 @@ use visit_state::{State, place_among, primitive, served};
 #[tactic(auto, using(crate::proofs::Calling::prim_gives, crate::proofs::Calling::prim_stops, crate::proofs::Calling::service_gives, crate::proofs::Calling::service_stops, crate::proofs::Calling::service_safe, crate::proofs::Calling::calls_function, crate::proofs::Calling::calls_none))]
 pub fn called<S: Services>(
     alloc: Global,
-    code: &Program,
+    code: &Shared<Program>,
     seen: usize,
     f: &Name,
     args: Values,
@@ -33,10 +34,10 @@ pub fn called<S: Services>(
     if let Some(p) = prim_of(f) {
         return Ok(Next::Give(primitive(alloc, p, &args)?));
     }
-    if let Some(service) = service_of(f, code.svcs.as_slice()) {
+    if let Some(service) = service_of(f, code.get().svcs.as_slice()) {
         return Ok(Next::Give(served(alloc, state, svc, service, &args)?));
     }
-    match place_among(f, seen, code.funs.as_slice()) {
+    match place_among(f, seen, code.get().funs.as_slice()) {
         Some(fun) => Ok(Next::Call(fun, args)),
         None => Err(Stop::Wrong),
     }

@@ -8,9 +8,9 @@ ghost use Rattle.plan_meaning.specs.Meaning as spec;
 ghost use Rattle.plan_eval.specs.Nexts.{Decides, Continues, FoldsOn, fold_on};
 
 use crate::next::Next;
-use crate::operand::behind_one;
+use crate::operand::{behind_one, first_of};
 use plan_base::{Expr, Name, NoMemory, Program, Value, Values};
-use plan_items::Items;
+use plan_items::{Items, Shared};
 use plan_meaning::Stop;
 use std::alloc::Global;
 use visit_state::place_among;
@@ -38,7 +38,7 @@ fn last_first(items: Values) -> Values
 #[tactic(auto, using(crate::proofs::Gathering::folded_left, crate::proofs::Deciding::fold_left_step, crate::proofs::Gathering::no_left_step))]
 fn left_step(
     alloc: Global,
-    code: &Program,
+    code: &Shared<Program>,
     seen: usize,
     f: &Name,
     acc: Value,
@@ -50,7 +50,7 @@ fn left_step(
     let Some(item) = rest.pop() else {
         return Ok(Next::Give(acc));
     };
-    match place_among(f, seen, code.funs.as_slice()) {
+    match place_among(f, seen, code.get().funs.as_slice()) {
         Some(fun) => Ok(Next::Step(fun, pair(alloc, acc, item)?, rest)),
         None => Err(Stop::Wrong),
     }
@@ -60,7 +60,7 @@ fn left_step(
 #[tactic(auto, using(crate::proofs::Gathering::folded_right, crate::proofs::Deciding::fold_right_step, crate::proofs::Gathering::no_right_step))]
 fn right_step(
     alloc: Global,
-    code: &Program,
+    code: &Shared<Program>,
     seen: usize,
     f: &Name,
     acc: Value,
@@ -72,21 +72,10 @@ fn right_step(
     let Some(item) = rest.pop() else {
         return Ok(Next::Give(acc));
     };
-    match place_among(f, seen, code.funs.as_slice()) {
+    match place_among(f, seen, code.get().funs.as_slice()) {
         Some(fun) => Ok(Next::Step(fun, pair(alloc, item, acc)?, rest)),
         None => Err(Stop::Wrong),
     }
-}
-
-/// The first of the values that wait.
-fn first_of(held: Values) -> Option<Value>
-    ensures { MatchOption result (held ≡ []) (λ v. (rest : List Value) × (held ≡ v ∷ rest)) }
-{
-    let mut all = held;
-    if all.is_empty() {
-        return None;
-    }
-    Some(all.remove(0))
 }
 
 /// The items of a list value.
@@ -104,7 +93,7 @@ fn items_of(v: Value) -> Option<Values>
 #[tactic(auto, using(crate::proofs::Deciding::list_of_foldl, crate::proofs::Gathering::left_decides, crate::proofs::Gathering::no_left_items))]
 pub fn left_part(
     alloc: Global,
-    code: &Program,
+    code: &Shared<Program>,
     seen: usize,
     f: &Name,
     held: Values,
@@ -125,7 +114,7 @@ pub fn left_part(
 #[tactic(auto, using(crate::proofs::Deciding::list_of_foldr, crate::proofs::Gathering::right_decides, crate::proofs::Gathering::no_right_items))]
 pub fn right_part(
     alloc: Global,
-    code: &Program,
+    code: &Shared<Program>,
     seen: usize,
     f: &Name,
     held: Values,
@@ -146,7 +135,7 @@ pub fn right_part(
 #[tactic(auto, using(plan_base::specs::Trees::trees))]
 pub fn item_gave(
     alloc: Global,
-    code: &Program,
+    code: &Shared<Program>,
     seen: usize,
     e: &Expr,
     acc: Value,

@@ -1,6 +1,6 @@
 //! The stack of a visit.
 use plan_base::{Program, Value, Values};
-use plan_items::Items;
+use plan_items::{Items, Shared};
 
 /// An open expression: what of it is being evaluated, and the values that wait.
 #[derive(Drop)]
@@ -39,7 +39,7 @@ pub struct Activation {
 pub type Activations = Items<Activation>;
 
 /// The programs that are open: that of the packet, and those of the chunks that are being evaluated.
-pub type Codes = Items<Program>;
+pub type Codes = Items<Shared<Program>>;
 
 /// What a visit does next.
 #[derive(Drop)]

@@ -10,7 +10,7 @@ use crate::call::called;
 use crate::frame::Frame;
 use crate::next::Next;
 use plan_base::{Chunk, Expr, Exprs, Name, Program, Value, Values};
-use plan_items::Boxed;
+use plan_items::{Boxed, Shared};
 use plan_meaning::Stop;
 use service_api::Services;
 use std::alloc::Global;
@@ -44,7 +44,7 @@ pub fn tuple_part(es: &Exprs, n: usize, held: Values, v: Value) -> Result<Next, 
 #[tactic(auto, using(crate::proofs::Deciding::next_of_chunk, crate::proofs::Deciding::last_of_chunk))]
 pub fn chunk_part(
     alloc: Global,
-    code: &Program,
+    code: &Shared<Program>,
     f: &Name,
     es: &Exprs,
     n: usize,
@@ -59,7 +59,7 @@ pub fn chunk_part(
         return Ok(Next::Open(Frame::Part(next, args)));
     }
     let chunk = Chunk {
-        code: code.copy(alloc)?,
+        code: code.share()?,
         entry: f.copy(alloc)?,
         args,
     };
@@ -70,7 +70,7 @@ pub fn chunk_part(
 #[tactic(auto, using(crate::proofs::Deciding::next_of_call, crate::proofs::Gathering::call_decides))]
 pub fn call_part<S: Services>(
     alloc: Global,
-    code: &Program,
+    code: &Shared<Program>,
     seen: usize,
     f: &Name,
     es: &Exprs,

@@ -9,7 +9,7 @@ ghost use Rattle.plan_eval.specs.Stack.{Spot, resume, spot_in};
 ghost use Rattle.plan_eval.specs.Nexts.{Decides, IsDone, part_gave};
 
 use crate::fold::{item_gave, left_part, right_part};
-use crate::frame::{Activation, Frame};
+use crate::frame::{Activation, Codes, Frame};
 use crate::gather::{call_part, chunk_part, tuple_part};
 use crate::next::Next;
 use crate::operand::{operand, selected};
@@ -17,6 +17,7 @@ use crate::place::{can_do, place_in};
 use crate::pure::{both, choose, either, turn};
 use crate::send::{evaluated, neighbour_part, remote_part};
 use plan_base::{Expr, Program, Value, Values};
+use plan_items::Shared;
 use plan_meaning::Stop;
 use service_api::Services;
 use std::alloc::Global;
@@ -26,7 +27,7 @@ use visit_state::State;
 #[tactic(auto, using(plan_base::specs::Trees::trees, crate::proofs::Deciding::bound, crate::proofs::Deciding::followed, crate::proofs::Giving::leaf_given))]
 fn after_part<S: Services>(
     alloc: Global,
-    code: &Program,
+    code: &Shared<Program>,
     seen: usize,
     e: &Expr,
     n: usize,
@@ -54,7 +55,7 @@ fn after_part<S: Services>(
         Expr::And(_, _) => both(&v),
         Expr::Or(_, _) => either(&v),
         Expr::Not(_) => turn(&v),
-        Expr::Binary(op, _, _) => operand(alloc, *op, &held, v),
+        Expr::Binary(op, _, _) => operand(alloc, *op, held, v),
         Expr::Part(i, _) => selected(alloc, *i, &v),
         Expr::Foldl(f, _, _) => left_part(alloc, code, seen, f, held, v),
         Expr::Foldr(f, _, _) => right_part(alloc, code, seen, f, held, v),
@@ -71,7 +72,7 @@ fn after_part<S: Services>(
 #[tactic(auto, using(crate::proofs::Naming::at_place, crate::proofs::Giving::by_part, crate::proofs::Delivering::last_given, crate::proofs::Delivering::bound_given, crate::proofs::Delivering::body_given, crate::proofs::Delivering::chunk_given, crate::proofs::Giving::by_item))]
 pub fn give_top<S: Services>(
     alloc: Global,
-    codes: &[Program],
+    codes: &Codes,
     top: &Activation,
     frame: Frame,
     v: Value,

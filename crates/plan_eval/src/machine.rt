@@ -41,7 +41,7 @@ fn give<S: Services>(
     let Some(frame) = below.frames.pop() else {
         return Ok(Mode::Give(v));
     };
-    let decided = give_top(alloc, codes.as_slice(), &below, frame, v, state, svc);
+    let decided = give_top(alloc, codes, &below, frame, v, state, svc);
     apply(alloc, codes, outer, below, decided, state)
 }
 
@@ -62,7 +62,7 @@ fn raise(
     let Some(frame) = below.frames.pop() else {
         return Ok(Mode::Raise(x));
     };
-    let decided = raise_top(codes.as_slice(), &below, &frame, x);
+    let decided = raise_top(codes, &below, &frame, x);
     apply(alloc, codes, outer, below, decided, state)
 }
 
@@ -83,13 +83,11 @@ fn begin<S: Services>(
     ensures offer { (S.stands svc.new).offer ≡ (S.stands svc.old).offer }
     ensures begun { (S.stands svc.new).begun ≡ (S.stands svc.old).begun }
 {
-    match state.spend(1) {
-        Ok(()) => {
-            let decided = begin_top(alloc, codes.as_slice(), &top, state, svc);
-            apply(alloc, codes, outer, top, decided, state)
-        }
-        Err(stop) => Err(stop),
+    if !state.pays(1) {
+        return Err(Stop::WorkSpent);
     }
+    let decided = begin_top(alloc, codes, &top, state, svc);
+    apply(alloc, codes, outer, top, decided, state)
 }
 
 /// One turn of a visit, with its innermost activation off the stack.

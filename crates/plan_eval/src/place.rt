@@ -8,29 +8,30 @@ ghost use Rattle.plan_meaning.specs.Run.{Step, stopped};
 ghost use Rattle.plan_meaning.specs.Meaning.{Env, entered, meaning};
 ghost use Rattle.plan_eval.specs.Nexts.{Decides, Enters, IsDone};
 
-use crate::frame::Activation;
+use crate::frame::{Activation, Codes};
 use crate::next::Next;
 use crate::walk::{expr_from, part_or_self, same_name};
 use plan_base::{Expr, Fun, Name, Param, Program, Value, Values};
+use plan_items::Shared;
 use plan_meaning::Stop;
 
 /// The innermost open expression of an activation, its function and its program.
 #[derive(Clone, Copy)]
 pub struct Place<'a> {
-    pub code: &'a Program,
+    pub code: &'a Shared<Program>,
     pub function: &'a Fun,
     pub expr: &'a Expr,
 }
 
 /// Where an activation stands, or `None` where it stands nowhere.
 #[tactic(auto, unfolding(crate::specs::Stack::spot_in, crate::specs::Stack::start_of), using(crate::proofs::Naming::no_code, crate::proofs::Naming::no_function, crate::proofs::Naming::no_expression))]
-pub fn place_in<'a>(codes: &'a [Program], top: &Activation) -> Option<Place<'a>>
+pub fn place_in<'a>(codes: &'a Codes, top: &Activation) -> Option<Place<'a>>
     ensures { MatchOption result (spot_in codes.now top.now ≡ None) (λ p. IsAt codes.now top.now p.code.now p.function.now p.expr.now) }
 {
     let Some(code) = codes.get(top.code) else {
         return None;
     };
-    let Some(function) = code.funs.get(top.fun) else {
+    let Some(function) = code.get().funs.get(top.fun) else {
         return None;
     };
     let Some(expr) = expr_from(&function.body, top.frames.as_slice()) else {
@@ -66,11 +67,11 @@ pub fn argument_of<'a>(name: &Name, params: &[Param], args: &'a [Value]) -> Opti
 
 /// Whether a function of that place takes so many arguments.
 #[tactic(auto, using(crate::proofs::Naming::enters_by, crate::proofs::Naming::enters_none, crate::proofs::Naming::enters_other))]
-pub fn enters(code: &Program, fun: usize, args: &Values) -> bool
+pub fn enters(code: &Shared<Program>, fun: usize, args: &Values) -> bool
     ensures yes { IsTrue result → Enters code.now fun args.now }
     ensures no { IsFalse result → (s : VisitState) → (entered meaning code.now fun args.now s).after ≡ stopped Wrong s }
 {
-    match code.funs.get(fun) {
+    match code.get().funs.get(fun) {
         Some(function) => function.params.len() == args.len(),
         None => false,
     }

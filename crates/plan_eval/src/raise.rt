@@ -11,10 +11,10 @@ ghost use Rattle.plan_eval.specs.declared.frame.Frame.TheVariants as frame;
 ghost use Rattle.plan_eval.specs.Stack.{Spot, resume, spot_in, first_from};
 ghost use Rattle.plan_eval.specs.Nexts.{Decides, IsDone};
 
-use crate::frame::{Activation, Frame};
+use crate::frame::{Activation, Codes, Frame};
 use crate::next::Next;
 use crate::place::{can_do, place_in};
-use plan_base::{Clause, Clauses, Exn, Expr, Program};
+use plan_base::{Clause, Clauses, Exn, Expr};
 use plan_meaning::Stop;
 use visit_state::catches;
 
@@ -60,7 +60,7 @@ fn part_raised(e: &Expr, x: Exn) -> Result<Next, Stop>
 
 /// What an activation does when an exception reaches its innermost frame, which is off it.
 #[tactic(auto, using(crate::proofs::Naming::at_place, crate::proofs::Catching::passes_frame))]
-pub fn raise_top(codes: &[Program], top: &Activation, frame: &Frame, x: Exn) -> Result<Next, Stop>
+pub fn raise_top(codes: &Codes, top: &Activation, frame: &Frame, x: Exn) -> Result<Next, Stop>
     ensures { (code : Program) (at : Spot) (s : VisitState) → slice_get codes.now top.now.code ≡ Some code → spot_in codes.now top.now ≡ Some at
         → Decides code top.now.fun at (resume code top.now.fun at frame.now (quiet (stopped (Raised x) s))) result s × IsDone code at result }
 {

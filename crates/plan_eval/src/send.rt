@@ -1,5 +1,5 @@
 //! Evals and sends.
-ghost use Rattle.std.specs.Prelude.{◌≡◌, ◌≤◌, ◌∷◌, ◌++◌, [], ℕ, List, IfOk};
+ghost use Rattle.std.specs.Prelude.{◌≡◌, ◌≤◌, ◌<◌, ◌∷◌, ◌++◌, [], ℕ, List, length, IfOk};
 ghost use Rattle.plan_base.specs.declared.tree.Expr.{Expr, Expr-F};
 ghost use Rattle.plan_base.specs.declared.tree.Program.{Program};
 ghost use Rattle.plan_base.specs.declared.tree.Value.{Value};
@@ -51,22 +51,31 @@ fn behind_more(n: usize, held: Values, v: Value) -> Result<Frame, NoMemory>
     Ok(Frame::Part(n, all))
 }
 
+/// Takes the first of the values that wait. Condition: there is one.
+#[tactic(auto, using(crate::proofs::Sending::first_off))]
+fn take_first(held: &mut Values) -> Value
+    requires { 0 < length held.old }
+    ensures { held.old ≡ result ∷ held.new }
+{
+    held.remove(0)
+}
+
 /// A send by a routing name, once its parts are there.
 #[tactic(auto, using(crate::proofs::Deciding::sends_remote, crate::proofs::Sending::unsent_remote, crate::proofs::Sending::last_remote))]
 fn send_remote(
     alloc: Global,
     r: &Name,
-    c: &Value,
+    c: Value,
     w: &Value,
     v: &Value,
     state: &mut State,
 ) -> Result<Next, Stop>
-    requires safe { RemoteIsSafe r.now c.now w.now v.now state.old }
+    requires safe { RemoteIsSafe r.now c w.now v.now state.old }
     ensures decides { (code : Program) (seen : ℕ) (a h b : Expr) (n : ℕ) (held : List Value) (s : Standing)
-        → Continues code seen (Expr-F.OnRemote a h b r.now) n (c.now ∷ w.now ∷ held) v.now (joined state.old s) result (joined state.new s) }
+        → Continues code seen (Expr-F.OnRemote a h b r.now) n (c ∷ w.now ∷ held) v.now (joined state.old s) result (joined state.new s) }
     ensures falls { state.new.work ≤ state.old.work }
 {
-    let Some(chunk) = as_chunk(c) else {
+    let Some(chunk) = chunk_of(c) else {
         return Err(Stop::Wrong);
     };
     let Some(host) = as_host(w) else {
@@ -109,7 +118,12 @@ pub fn remote_part(
             }
             Ok(Next::Open(behind_more(2, held, v)?))
         }
-        [c, w, ..] => send_remote(alloc, r, c, w, &v, state),
+        [_, _, ..] => {
+            let mut waiting = held;
+            let c = take_first(&mut waiting);
+            let w = take_first(&mut waiting);
+            send_remote(alloc, r, c, &w, &v, state)
+        }
     }
 }
 
@@ -117,18 +131,18 @@ pub fn remote_part(
 #[tactic(auto, using(crate::proofs::Deciding::sends_neighbour, crate::proofs::Sending::unsent_neighbour, crate::proofs::Sending::last_neighbour))]
 fn send_neighbour(
     alloc: Global,
-    c: &Value,
+    c: Value,
     w: &Value,
     u: &Value,
     v: &Value,
     state: &mut State,
 ) -> Result<Next, Stop>
-    requires safe { NeighbourIsSafe c.now w.now u.now v.now state.old }
+    requires safe { NeighbourIsSafe c w.now u.now v.now state.old }
     ensures decides { (code : Program) (seen : ℕ) (a h b d : Expr) (n : ℕ) (held : List Value) (s : Standing)
-        → Continues code seen (Expr-F.OnNeighbor a h b d) n (c.now ∷ w.now ∷ u.now ∷ held) v.now (joined state.old s) result (joined state.new s) }
+        → Continues code seen (Expr-F.OnNeighbor a h b d) n (c ∷ w.now ∷ u.now ∷ held) v.now (joined state.old s) result (joined state.new s) }
     ensures falls { state.new.work ≤ state.old.work }
 {
-    let Some(chunk) = as_chunk(c) else {
+    let Some(chunk) = chunk_of(c) else {
         return Err(Stop::Wrong);
     };
     let Some(host) = as_host(w) else {
@@ -185,6 +199,12 @@ pub fn neighbour_part(
             }
             Ok(Next::Open(behind_more(3, held, v)?))
         }
-        [c, w, u, ..] => send_neighbour(alloc, c, w, u, &v, state),
+        [_, _, _, ..] => {
+            let mut waiting = held;
+            let c = take_first(&mut waiting);
+            let w = take_first(&mut waiting);
+            let u = take_first(&mut waiting);
+            send_neighbour(alloc, c, &w, &u, &v, state)
+        }
     }
 }

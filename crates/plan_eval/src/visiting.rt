@@ -42,7 +42,7 @@ fn first_codes(alloc: Global, chunk: &Chunk) -> Result<Codes, NoMemory>
     ensures { IfOk result (λ codes. codes ≡ chunk.now.code ∷ []) }
 {
     let mut codes = Items::new(alloc);
-    codes.add(chunk.code.copy(alloc)?)?;
+    codes.add(chunk.code.share()?)?;
     Ok(codes)
 }
 
@@ -73,7 +73,7 @@ fn visited<S: Services>(
     ensures offer { (S.stands svc.new).offer ≡ (S.stands svc.old).offer }
     ensures begun { (S.stands svc.new).begun ≡ (S.stands svc.old).begun }
 {
-    let Some(fun) = place_of(&chunk.entry, chunk.code.funs.as_slice()) else {
+    let Some(fun) = place_of(&chunk.entry, chunk.code.get().funs.as_slice()) else {
         return Err(Stop::Wrong);
     };
     if !enters(&chunk.code, fun, &chunk.args) {

@@ -7,7 +7,7 @@ ghost use Rattle.plan_grammar.specs.Inside.{ReadsExprs};
 
 use crate::ahead::Ahead;
 use crate::begins::begins_expr;
-use crate::builder::{bracketed, together};
+use crate::builder::{bracketed, kept, together};
 use crate::fault::{ParseFault, Wanted};
 use crate::level::Level;
 use crate::node::{Node, leaf, over};
@@ -151,8 +151,9 @@ impl<F: Fn(Global, u32, Level, &mut Ahead<'_>) -> Result<Node, ParseFault>> Expr
     fn single(&self, ahead: &mut Ahead<'_>, first: Node) -> Result<Node, ParseFault>
         ensures { Gives (spec.single (expr_to self.now.room) self.now.room first ahead.old) result ahead.new }
     {
+        let first = kept(self.alloc, first)?;
         ahead.need_symbol(Symbol::ParenClose)?;
-        Ok(first)
+        Ok(first.into_inner())
     }
 
     /// An expression in brackets, or a tuple.

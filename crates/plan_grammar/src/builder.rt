@@ -6,7 +6,7 @@ ghost use Rattle.plan_base.specs.declared.tree.Expr.TheVariants as x;
 
 use crate::fault::ParseFault;
 use crate::joint::{Joint, joined_tree};
-use crate::node::{Below, Bound, Caught, Node, both, boxed, over};
+use crate::node::{Below, Bound, Caught, Node, both, boxed, boxed_two, over};
 use plan_base::{Clause, Clauses, Expr, Exprs, Op};
 use plan_items::{Boxed, Items};
 use std::alloc::Global;
@@ -16,10 +16,21 @@ pub fn joined(alloc: Global, joint: Joint, a: Node, b: Node) -> Result<Node, Par
     ensures { Answers (Ok (spec.joined joint a b)) result }
 {
     let at = a.at;
-    let (a, below_a) = boxed(alloc, a)?;
-    let (b, below_b) = boxed(alloc, b)?;
-    let below = both(below_a, below_b)?;
+    let (a, b, below) = boxed_two(alloc, a, b)?;
     Ok(over(alloc, joined_tree(joint, a, b), at, below))
+}
+
+/// The same on the heap, while more is read.
+pub fn joined_kept(
+    alloc: Global,
+    joint: Joint,
+    a: Boxed<Node>,
+    b: Node,
+) -> Result<Boxed<Node>, ParseFault>
+    ensures { Answers (Ok (spec.joined joint a b)) result }
+{
+    let node = joined(alloc, joint, a.into_inner(), b)?;
+    kept(alloc, node)
 }
 
 /// An expression before another, at the place of the first.
@@ -27,9 +38,7 @@ pub fn followed(alloc: Global, a: Node, b: Node) -> Result<Node, ParseFault>
     ensures { Answers (Ok (spec.over_two (x.Then a.tree b.tree) a.at a b)) result }
 {
     let at = a.at;
-    let (a, below_a) = boxed(alloc, a)?;
-    let (b, below_b) = boxed(alloc, b)?;
-    let below = both(below_a, below_b)?;
+    let (a, b, below) = boxed_two(alloc, a, b)?;
     Ok(over(alloc, Expr::Then(a, b), at, below))
 }
 
@@ -63,9 +72,7 @@ fn around(alloc: Global, bound: Bound, body: Node) -> Result<Node, ParseFault>
         ty,
         value,
     } = bound;
-    let (value, below_value) = boxed(alloc, value)?;
-    let (body, below_body) = boxed(alloc, body)?;
-    let below = both(below_value, below_body)?;
+    let (value, body, below) = boxed_two(alloc, value, body)?;
     Ok(over(alloc, Expr::Let(name, ty, value, body), at, below))
 }
 

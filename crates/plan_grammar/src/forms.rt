@@ -7,10 +7,12 @@ ghost use Rattle.plan_grammar.specs.Inside.{ReadsExprs};
 ghost use Rattle.plan_grammar.specs.Types.{past};
 
 use crate::ahead::Ahead;
-use crate::builder::{kept, let_of, try_of};
+use crate::builder::{let_of, try_of};
 use crate::fault::{ParseFault, Wanted};
 use crate::level::Level;
-use crate::node::{Bound, Caught, FoldParts, Node, SendParts, both, boxed, leaf, over};
+use crate::node::{
+    Bound, Caught, FoldParts, Node, SendParts, boxed, boxed_before, boxed_two, leaf, over,
+};
 use crate::reader::{ExprReader, name_at, need_open};
 use crate::types::{opens, type_to};
 use plan_base::{Expr, Limit, Name};
@@ -147,9 +149,9 @@ impl<F: Fn(Global, u32, Level, &mut Ahead<'_>) -> Result<Node, ParseFault>> Expr
         bounds.add(self.binding(ahead, at)?)?;
         let bounds = self.bindings_from(ahead, bounds)?;
         ahead.need_key(Key::In)?;
-        let body = self.inner(ahead, Level::Whole)?;
+        let body = self.inner_kept(ahead, Level::Whole)?;
         ahead.need_key(Key::End)?;
-        let_of(self.alloc, bounds, body)
+        let_of(self.alloc, bounds, body.into_inner())
     }
 
     /// One clause.
@@ -191,7 +193,7 @@ impl<F: Fn(Global, u32, Level, &mut Ahead<'_>) -> Result<Node, ParseFault>> Expr
         opens(self.room, ahead)?;
         let at = ahead.place();
         ahead.skip();
-        let body = kept(self.alloc, self.inner(ahead, Level::Whole)?)?;
+        let body = self.inner_kept(ahead, Level::Whole)?;
         ahead.need_key(Key::Handle)?;
         let clauses = self.clauses(ahead)?;
         ahead.need_key(Key::End)?;
@@ -219,9 +221,7 @@ impl<F: Fn(Global, u32, Level, &mut Ahead<'_>) -> Result<Node, ParseFault>> Expr
     {
         let at = ahead.place();
         let FoldParts { name, start, list } = self.fold_parts(ahead)?;
-        let (start, below_start) = boxed(self.alloc, start)?;
-        let (list, below_list) = boxed(self.alloc, list)?;
-        let below = both(below_start, below_list)?;
+        let (start, list, below) = boxed_two(self.alloc, start.into_inner(), list.into_inner())?;
         Ok(over(self.alloc, Expr::Foldl(name, start, list), at, below))
     }
 
@@ -232,9 +232,7 @@ impl<F: Fn(Global, u32, Level, &mut Ahead<'_>) -> Result<Node, ParseFault>> Expr
     {
         let at = ahead.place();
         let FoldParts { name, start, list } = self.fold_parts(ahead)?;
-        let (start, below_start) = boxed(self.alloc, start)?;
-        let (list, below_list) = boxed(self.alloc, list)?;
-        let below = both(below_start, below_list)?;
+        let (start, list, below) = boxed_two(self.alloc, start.into_inner(), list.into_inner())?;
         Ok(over(self.alloc, Expr::Foldr(name, start, list), at, below))
     }
 
@@ -247,7 +245,7 @@ impl<F: Fn(Global, u32, Level, &mut Ahead<'_>) -> Result<Node, ParseFault>> Expr
         ahead.skip();
         need_open(self.room, ahead)?;
         let chunk = self.before_close(ahead)?;
-        let (chunk, below) = boxed(self.alloc, chunk)?;
+        let (chunk, below) = boxed(self.alloc, chunk.into_inner())?;
         Ok(over(self.alloc, Expr::Eval(chunk), at, below))
     }
 
@@ -258,14 +256,10 @@ impl<F: Fn(Global, u32, Level, &mut Ahead<'_>) -> Result<Node, ParseFault>> Expr
     {
         ahead.skip();
         need_open(self.room, ahead)?;
-        let chunk = kept(self.alloc, self.before_comma(ahead)?)?;
-        let host = kept(self.alloc, self.before_comma(ahead)?)?;
+        let chunk = self.before_comma(ahead)?;
+        let host = self.before_comma(ahead)?;
         let bound = self.before_comma(ahead)?;
-        Ok(SendParts {
-            chunk: chunk.into_inner(),
-            host: host.into_inner(),
-            bound,
-        })
+        Ok(SendParts { chunk, host, bound })
     }
 
     #[tactic(auto, unfolding(crate::specs::Exprs::remote_form))]
@@ -277,10 +271,8 @@ impl<F: Fn(Global, u32, Level, &mut Ahead<'_>) -> Result<Node, ParseFault>> Expr
         let SendParts { chunk, host, bound } = self.send_parts(ahead)?;
         let route = name_at(self.alloc, ahead)?;
         ahead.need_symbol(Symbol::ParenClose)?;
-        let (chunk, below_chunk) = boxed(self.alloc, chunk)?;
-        let (host, below_host) = boxed(self.alloc, host)?;
-        let (bound, below_bound) = boxed(self.alloc, bound)?;
-        let below = both(below_chunk, both(below_host, below_bound)?)?;
+        let (host, bound, below) = boxed_two(self.alloc, host.into_inner(), bound.into_inner())?;
+        let (chunk, below) = boxed_before(self.alloc, chunk.into_inner(), below)?;
         Ok(over(
             self.alloc,
             Expr::OnRemote(chunk, host, bound, route),
@@ -297,14 +289,9 @@ impl<F: Fn(Global, u32, Level, &mut Ahead<'_>) -> Result<Node, ParseFault>> Expr
         let at = ahead.place();
         let SendParts { chunk, host, bound } = self.send_parts(ahead)?;
         let dev = self.before_close(ahead)?;
-        let (chunk, below_chunk) = boxed(self.alloc, chunk)?;
-        let (host, below_host) = boxed(self.alloc, host)?;
-        let (bound, below_bound) = boxed(self.alloc, bound)?;
-        let (dev, below_dev) = boxed(self.alloc, dev)?;
-        let below = both(
-            below_chunk,
-            both(below_host, both(below_bound, below_dev)?)?,
-        )?;
+        let (bound, dev, below) = boxed_two(self.alloc, bound.into_inner(), dev.into_inner())?;
+        let (host, below) = boxed_before(self.alloc, host.into_inner(), below)?;
+        let (chunk, below) = boxed_before(self.alloc, chunk.into_inner(), below)?;
         Ok(over(
             self.alloc,
             Expr::OnNeighbor(chunk, host, bound, dev),

@@ -9,12 +9,12 @@ ghost use Rattle.plan_grammar.specs.Starts.{start_at};
 
 use crate::ahead::Ahead;
 use crate::atoms::literal_at;
-use crate::builder::{followed, joined};
+use crate::builder::{followed, joined, joined_kept, kept};
 use crate::fault::ParseFault;
 use crate::forms::raise_form;
 use crate::joint::{Chain, Joint, next_joint};
 use crate::level::Level;
-use crate::node::{Node, both, boxed, over};
+use crate::node::{Node, boxed, boxed_before, boxed_two, over};
 use crate::reader::{ExprReader, opens_expr, opens_operand};
 use crate::start::{Start, next_start};
 use crate::types::opens;
@@ -75,16 +75,16 @@ impl<F: Fn(Global, u32, Level, &mut Ahead<'_>) -> Result<Node, ParseFault>> Expr
         requires { ReadsExprs self.now.room (F.pre self.now.read) (F.post self.now.read) }
         ensures { Gives (spec.chain_from (spec.operand (expr_to self.now.room) self.now.room) Chain.Product (length ahead.old.tokens) left ahead.old) result ahead.new }
     {
-        let mut left = left;
+        let mut left = kept(self.alloc, left)?;
         for _ in 0..ahead.left() {
             let Some(joint) = next_joint(Chain::Product, ahead) else {
-                return Ok(left);
+                return Ok(left.into_inner());
             };
             ahead.skip();
             let right = self.operand(ahead)?;
-            left = joined(self.alloc, joint, left, right)?;
+            left = joined_kept(self.alloc, joint, left, right)?;
         }
-        Ok(left)
+        Ok(left.into_inner())
     }
 
     #[tactic(auto, unfolding(crate::specs::Exprs::product, crate::specs::Exprs::chained))]
@@ -102,16 +102,16 @@ impl<F: Fn(Global, u32, Level, &mut Ahead<'_>) -> Result<Node, ParseFault>> Expr
         requires { ReadsExprs self.now.room (F.pre self.now.read) (F.post self.now.read) }
         ensures { Gives (spec.chain_from (spec.product (expr_to self.now.room) self.now.room) Chain.Sum (length ahead.old.tokens) left ahead.old) result ahead.new }
     {
-        let mut left = left;
+        let mut left = kept(self.alloc, left)?;
         for _ in 0..ahead.left() {
             let Some(joint) = next_joint(Chain::Sum, ahead) else {
-                return Ok(left);
+                return Ok(left.into_inner());
             };
             ahead.skip();
             let right = self.product(ahead)?;
-            left = joined(self.alloc, joint, left, right)?;
+            left = joined_kept(self.alloc, joint, left, right)?;
         }
-        Ok(left)
+        Ok(left.into_inner())
     }
 
     #[tactic(auto, unfolding(crate::specs::Exprs::addition, crate::specs::Exprs::chained))]
@@ -129,9 +129,15 @@ impl<F: Fn(Global, u32, Level, &mut Ahead<'_>) -> Result<Node, ParseFault>> Expr
         requires { ReadsExprs self.now.room (F.pre self.now.read) (F.post self.now.read) }
         ensures { Gives (spec.before_list (expr_to self.now.room) self.now.room item ahead.old) result ahead.new }
     {
+        let item = kept(self.alloc, item)?;
         opens_operand(self.room, ahead)?;
         let rest = self.inner(ahead, Level::Listed)?;
-        joined(self.alloc, Joint::Operator(Op::Cons), item, rest)
+        joined(
+            self.alloc,
+            Joint::Operator(Op::Cons),
+            item.into_inner(),
+            rest,
+        )
     }
 
     #[tactic(auto, unfolding(crate::specs::Exprs::listed))]
@@ -156,8 +162,9 @@ impl<F: Fn(Global, u32, Level, &mut Ahead<'_>) -> Result<Node, ParseFault>> Expr
             return Ok(left);
         };
         ahead.skip();
+        let left = kept(self.alloc, left)?;
         let right = self.listed(ahead)?;
-        joined(self.alloc, joint, left, right)
+        joined(self.alloc, joint, left.into_inner(), right)
     }
 
     #[tactic(auto, unfolding(crate::specs::Exprs::comparison))]
@@ -199,16 +206,16 @@ impl<F: Fn(Global, u32, Level, &mut Ahead<'_>) -> Result<Node, ParseFault>> Expr
         requires { ReadsExprs self.now.room (F.pre self.now.read) (F.post self.now.read) }
         ensures { Gives (spec.chain_from (spec.negated (expr_to self.now.room) self.now.room) Chain.And (length ahead.old.tokens) left ahead.old) result ahead.new }
     {
-        let mut left = left;
+        let mut left = kept(self.alloc, left)?;
         for _ in 0..ahead.left() {
             let Some(joint) = next_joint(Chain::And, ahead) else {
-                return Ok(left);
+                return Ok(left.into_inner());
             };
             ahead.skip();
             let right = self.negated(ahead)?;
-            left = joined(self.alloc, joint, left, right)?;
+            left = joined_kept(self.alloc, joint, left, right)?;
         }
-        Ok(left)
+        Ok(left.into_inner())
     }
 
     #[tactic(auto, unfolding(crate::specs::Exprs::conjunction, crate::specs::Exprs::chained))]
@@ -226,16 +233,16 @@ impl<F: Fn(Global, u32, Level, &mut Ahead<'_>) -> Result<Node, ParseFault>> Expr
         requires { ReadsExprs self.now.room (F.pre self.now.read) (F.post self.now.read) }
         ensures { Gives (spec.chain_from (spec.conjunction (expr_to self.now.room) self.now.room) Chain.Or (length ahead.old.tokens) left ahead.old) result ahead.new }
     {
-        let mut left = left;
+        let mut left = kept(self.alloc, left)?;
         for _ in 0..ahead.left() {
             let Some(joint) = next_joint(Chain::Or, ahead) else {
-                return Ok(left);
+                return Ok(left.into_inner());
             };
             ahead.skip();
             let right = self.conjunction(ahead)?;
-            left = joined(self.alloc, joint, left, right)?;
+            left = joined_kept(self.alloc, joint, left, right)?;
         }
-        Ok(left)
+        Ok(left.into_inner())
     }
 
     #[tactic(auto, unfolding(crate::specs::Exprs::disjunction, crate::specs::Exprs::chained))]
@@ -255,15 +262,13 @@ impl<F: Fn(Global, u32, Level, &mut Ahead<'_>) -> Result<Node, ParseFault>> Expr
         opens(self.room, ahead)?;
         let at = ahead.place();
         ahead.skip();
-        let test = self.inner(ahead, Level::Whole)?;
+        let test = self.inner_kept(ahead, Level::Whole)?;
         ahead.need_key(Key::Then)?;
-        let first = self.inner(ahead, Level::Low)?;
+        let first = self.inner_kept(ahead, Level::Low)?;
         ahead.need_key(Key::Else)?;
         let second = self.inner(ahead, Level::Low)?;
-        let (test, below_test) = boxed(self.alloc, test)?;
-        let (first, below_first) = boxed(self.alloc, first)?;
-        let (second, below_second) = boxed(self.alloc, second)?;
-        let below = both(below_test, both(below_first, below_second)?)?;
+        let (first, second, below) = boxed_two(self.alloc, first.into_inner(), second)?;
+        let (test, below) = boxed_before(self.alloc, test.into_inner(), below)?;
         Ok(over(self.alloc, Expr::If(test, first, second), at, below))
     }
 
@@ -284,9 +289,10 @@ impl<F: Fn(Global, u32, Level, &mut Ahead<'_>) -> Result<Node, ParseFault>> Expr
         requires { ReadsExprs self.now.room (F.pre self.now.read) (F.post self.now.read) }
         ensures { Gives (spec.before_next (expr_to self.now.room) self.now.room first ahead.old) result ahead.new }
     {
+        let first = kept(self.alloc, first)?;
         opens_expr(self.room, ahead)?;
         let second = self.inner(ahead, Level::Whole)?;
-        followed(self.alloc, first, second)
+        followed(self.alloc, first.into_inner(), second)
     }
 
     #[tactic(auto, unfolding(crate::specs::Exprs::whole))]

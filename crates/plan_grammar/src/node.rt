@@ -52,16 +52,16 @@ pub struct Caught {
 #[derive(Drop)]
 pub struct FoldParts {
     pub name: Name,
-    pub start: Node,
-    pub list: Node,
+    pub start: Boxed<Node>,
+    pub list: Boxed<Node>,
 }
 
 /// What a chunk is sent with.
 #[derive(Drop)]
 pub struct SendParts {
-    pub chunk: Node,
-    pub host: Node,
-    pub bound: Node,
+    pub chunk: Boxed<Node>,
+    pub host: Boxed<Node>,
+    pub bound: Boxed<Node>,
 }
 
 /// An expression without parts.
@@ -107,10 +107,38 @@ pub fn boxed(alloc: Global, node: Node) -> Result<(Boxed<Expr>, Below), ParseFau
         below,
         depth,
     } = node;
+    let tree = Boxed::new(alloc, tree)?;
     let mut places = Items::new(alloc);
     places.add(at)?;
     places.append(below)?;
-    Ok((Boxed::new(alloc, tree)?, Below { places, depth }))
+    Ok((tree, Below { places, depth }))
+}
+
+/// Two expressions on the heap, and what they add together.
+pub fn boxed_two(
+    alloc: Global,
+    a: Node,
+    b: Node,
+) -> Result<(Boxed<Expr>, Boxed<Expr>, Below), ParseFault>
+    ensures { Answers (Ok (a.tree, b.tree, spec.both (spec.below_of a) (spec.below_of b))) result }
+{
+    let a = boxed(alloc, a);
+    let b = boxed(alloc, b);
+    let (a, below_a) = a?;
+    let (b, below_b) = b?;
+    Ok((a, b, both(below_a, below_b)?))
+}
+
+/// An expression on the heap, and what it and those behind it add.
+pub fn boxed_before(
+    alloc: Global,
+    node: Node,
+    behind: Below,
+) -> Result<(Boxed<Expr>, Below), ParseFault>
+    ensures { Answers (Ok (node.tree, spec.both (spec.below_of node) behind)) result }
+{
+    let (tree, below) = boxed(alloc, node)?;
+    Ok((tree, both(below, behind)?))
 }
 
 /// What two parts add.

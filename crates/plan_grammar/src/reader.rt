@@ -9,12 +9,13 @@ ghost use Rattle.plan_grammar.specs.Begins as begins;
 
 use crate::ahead::Ahead;
 use crate::begins::{begins_expr, begins_operand};
+use crate::builder::kept;
 use crate::fault::{ParseFault, Wanted};
 use crate::level::Level;
 use crate::node::Node;
 use crate::types::opens;
 use plan_base::{Limit, Name};
-use plan_items::Items;
+use plan_items::{Boxed, Items};
 use plan_lexer::{Symbol, TokenKind};
 use std::alloc::Global;
 
@@ -94,6 +95,15 @@ impl<F: Fn(Global, u32, Level, &mut Ahead<'_>) -> Result<Node, ParseFault>> Expr
         (self.read)(self.alloc, self.room, level, ahead)
     }
 
+    /// The same on the heap, while more is read.
+    pub fn inner_kept(&self, ahead: &mut Ahead<'_>, level: Level) -> Result<Boxed<Node>, ParseFault>
+        requires { ReadsExprs self.now.room (F.pre self.now.read) (F.post self.now.read) }
+        ensures { Gives (expr_to self.now.room level ahead.old) result ahead.new }
+    {
+        let node = self.inner(ahead, level)?;
+        kept(self.alloc, node)
+    }
+
     /// Further expressions behind commas, until there are `most` of them.
     #[tactic(auto, using(crate::proofs::Mores::more_ends, crate::proofs::Mores::more_past, crate::proofs::Mores::more_stops, crate::proofs::Mores::more_steps))]
     pub fn more(
@@ -140,22 +150,22 @@ impl<F: Fn(Global, u32, Level, &mut Ahead<'_>) -> Result<Node, ParseFault>> Expr
 
     /// An expression and the comma behind it.
     #[tactic(auto, unfolding(crate::specs::Exprs::before_comma))]
-    pub fn before_comma(&self, ahead: &mut Ahead<'_>) -> Result<Node, ParseFault>
+    pub fn before_comma(&self, ahead: &mut Ahead<'_>) -> Result<Boxed<Node>, ParseFault>
         requires { ReadsExprs self.now.room (F.pre self.now.read) (F.post self.now.read) }
         ensures { Gives (spec.before_comma (expr_to self.now.room) self.now.room ahead.old) result ahead.new }
     {
-        let node = self.inner(ahead, Level::Whole)?;
+        let node = self.inner_kept(ahead, Level::Whole)?;
         ahead.need_symbol(Symbol::Comma)?;
         Ok(node)
     }
 
     /// An expression and the bracket behind it.
     #[tactic(auto, unfolding(crate::specs::Exprs::before_close))]
-    pub fn before_close(&self, ahead: &mut Ahead<'_>) -> Result<Node, ParseFault>
+    pub fn before_close(&self, ahead: &mut Ahead<'_>) -> Result<Boxed<Node>, ParseFault>
         requires { ReadsExprs self.now.room (F.pre self.now.read) (F.post self.now.read) }
         ensures { Gives (spec.before_close (expr_to self.now.room) self.now.room ahead.old) result ahead.new }
     {
-        let node = self.inner(ahead, Level::Whole)?;
+        let node = self.inner_kept(ahead, Level::Whole)?;
         ahead.need_symbol(Symbol::ParenClose)?;
         Ok(node)
     }

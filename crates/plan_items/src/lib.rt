@@ -1,4 +1,5 @@
-//! Containers that contracts see as what they hold: [`Items`] as a list and [`Boxed`] as a value.
+//! Containers that contracts see as what they hold: [`Items`] as a list, [`Boxed`] and [`Shared`]
+//! as a value.
 //!
 //! A tree built of them has no pointer and no capacity in its value, so a contract can say that a
 //! copy equals its original, or that a result equals a tree that a definition names.
@@ -6,6 +7,8 @@
 
 mod boxed;
 mod items;
+mod shared;
 
 pub use boxed::Boxed;
 pub use items::Items;
+pub use shared::Shared;

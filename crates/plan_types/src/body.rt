@@ -1,6 +1,6 @@
 //! An expression by its form, to a depth.
 
-ghost use Rattle.std.specs.Prelude.{◌≡◌, ℕ, option_and_then};
+ghost use Rattle.std.specs.Prelude.{◌≡◌, ℕ, Some, IfOk, option_and_then};
 ghost use Rattle.std.specs.Option.{option_copied};
 ghost use Rattle.plan_base.specs.declared.tree.Expr.{out-Expr};
 ghost use Rattle.plan_base.specs.TypingOrder as spec;
@@ -10,8 +10,16 @@ use crate::checker::Checker;
 use crate::names::{binding, is_exception};
 use crate::settle::{items_of, list_of, settled, shallow};
 use crate::state::{Scope, State};
-use plan_base::{Expr, Name, Param, Place, Ty, TypeFault};
+use plan_base::{Expr, Name, NoMemory, Param, Place, Ty, TypeFault};
 use std::alloc::Global;
+
+/// An expression and a type as they stand.
+fn copies(alloc: Global, e: &Expr, ty: &Ty) -> Result<(Expr, Ty), NoMemory>
+    ensures { IfOk result (λ r. r ≡ (e.now, ty.now)) }
+{
+    let ty = ty.copy(alloc)?;
+    Ok((e.copy(alloc)?, ty))
+}
 
 /// A literal, which has a type of its own.
 fn literal(
@@ -41,7 +49,10 @@ fn variable(
     ensures { Meets (spec.variable ctx.now at (option_copied want.entry) e.now name.now node) result node }
 {
     match binding(name, ctx) {
-        Some(ty) => settled(alloc, at, node, want, e.copy(alloc)?, ty.copy(alloc)?),
+        Some(ty) => {
+            let (e, ty) = copies(alloc, e, ty)?;
+            settled(alloc, at, node, want, e, ty)
+        }
         None => Err(TypeFault::UnknownName(Place::Node(at))),
     }
 }
@@ -54,6 +65,23 @@ fn item_type(alloc: Global, at: u32, want: Option<&Ty>) -> Result<Ty, TypeFault>
         Some(item) => Ok(item.copy(alloc)?),
         None => Err(TypeFault::NeedsType(Place::Node(at))),
     }
+}
+
+/// An empty list as it stands, with the type of its items, and its type.
+fn written(alloc: Global, e: &Expr, item: &Ty) -> Result<(Expr, Ty), NoMemory>
+    ensures { IfOk result (λ r. r ≡ (e.now, Ty.List item.now)) }
+{
+    let ty = list_of(alloc, item.copy(alloc)?)?;
+    Ok((e.copy(alloc)?, ty))
+}
+
+/// An empty list of such items, and its type.
+fn filled(alloc: Global, item: Ty) -> Result<(Expr, Ty), NoMemory>
+    ensures { IfOk result (λ r. r ≡ (Expr.Nil (Some item), Ty.List item)) }
+{
+    let given = item.copy(alloc)?;
+    let ty = list_of(alloc, item)?;
+    Ok((Expr::Nil(Some(given)), ty))
 }
 
 /// An empty list.
@@ -69,13 +97,22 @@ fn empty(
     ensures { Meets (spec.empty at (option_copied want.entry) e.now item.now node) result node }
 {
     if let Some(item) = item {
-        let ty = list_of(alloc, item.copy(alloc)?)?;
-        return shallow(alloc, at, node, want, e.copy(alloc)?, ty);
+        let (whole, ty) = written(alloc, e, item)?;
+        return shallow(alloc, at, node, want, whole, ty);
     }
     let item = item_type(alloc, at, want)?;
-    let whole = Expr::Nil(Some(item.copy(alloc)?));
-    let ty = list_of(alloc, item)?;
+    let (whole, ty) = filled(alloc, item)?;
     shallow(alloc, at, node, want, whole, ty)
+}
+
+/// An exception raised where that type is wanted, and its type.
+fn raised(alloc: Global, name: &Name, ty: &Ty) -> Result<(Expr, Ty), NoMemory>
+    ensures { IfOk result (λ r. r ≡ (Expr.Raise name.now (Some ty.now), ty.now)) }
+{
+    let name = name.copy(alloc)?;
+    let given = ty.copy(alloc)?;
+    let ty = ty.copy(alloc)?;
+    Ok((Expr::Raise(name, Some(given)), ty))
 }
 
 /// An exception raised.
@@ -96,13 +133,14 @@ fn raising(
         return Err(TypeFault::UnknownName(Place::Node(at)));
     }
     if let Some(ty) = ty {
-        return shallow(alloc, at, node, want, e.copy(alloc)?, ty.copy(alloc)?);
+        let (e, ty) = copies(alloc, e, ty)?;
+        return shallow(alloc, at, node, want, e, ty);
     }
     let Some(ty) = want else {
         return Err(TypeFault::NeedsType(Place::Node(at)));
     };
-    let whole = Expr::Raise(name.copy(alloc)?, Some(ty.copy(alloc)?));
-    shallow(alloc, at, node, want, whole, ty.copy(alloc)?)
+    let (whole, ty) = raised(alloc, name, ty)?;
+    shallow(alloc, at, node, want, whole, ty)
 }
 
 impl<

@@ -14,7 +14,7 @@ use plan_base::{
     Expr, Exprs, Name, NoMemory, Param, Place, Primitive, Program, Ty, TypeFault, Tys, place_of,
     prim_of, service_of,
 };
-use plan_items::Items;
+use plan_items::{Boxed, Items};
 use std::alloc::Global;
 
 /// The types of parameters.
@@ -144,15 +144,9 @@ impl<
         ensures keeps { state.new.ctx ≡ state.old.ctx }
     {
         let given = self.arguments(scope, state, at, wants, es)?;
+        let ty = ty.copy(self.alloc)?;
         let whole = Expr::Call(f.copy(self.alloc)?, given);
-        settled(
-            self.alloc,
-            at,
-            state.node,
-            want,
-            whole,
-            ty.copy(self.alloc)?,
-        )
+        settled(self.alloc, at, state.node, want, whole, ty)
     }
 
     /// A primitive that takes one list of any type.
@@ -277,6 +271,22 @@ impl<
         }
     }
 
+    /// A list of such items in a box.
+    fn wanting_list(
+        &self,
+        scope: &Scope<'_>,
+        state: &mut State,
+        item: &Ty,
+        e: &Expr,
+    ) -> Result<Boxed<Expr>, TypeFault>
+        requires { Nests self.now.depth (F.pre self.now.run) (F.post self.now.run) }
+        ensures meets { Meets (spec.wanting scope.now.code.now scope.now.seen (below scope.now self.now.depth) state.old.ctx (Ty.List item.now) e.now state.old.node) result state.new.node }
+        ensures keeps { state.new.ctx ≡ state.old.ctx }
+    {
+        let list = list_of(self.alloc, item.copy(self.alloc)?)?;
+        self.wanting_boxed(scope, state, &list, e)
+    }
+
     /// `foldl`.
     #[tactic(auto, unfolding(plan_base::specs::TypingOrder::fold_left))]
     pub fn fold_left(
@@ -293,15 +303,16 @@ impl<
         ensures meets { Meets (spec.fold_left scope.now.code.now scope.now.seen (below scope.now self.now.depth) state.old.ctx at (option_copied want.entry) f.now a.now l.now state.old.node) result state.new.node }
         ensures keeps { state.new.ctx ≡ state.old.ctx }
     {
-        let (first, second, result) = self.folding(scope, state.node, at, f)?;
-        let start = self.wanting_boxed(scope, state, &first, a)?;
-        let list = list_of(self.alloc, second)?;
-        let items = self.wanting_boxed(scope, state, &list, l)?;
-        if !result.is(&first) {
+        let types = Boxed::new(self.alloc, self.folding(scope, state.node, at, f)?)?;
+        let (first, second, result) = types.get();
+        let start = self.wanting_boxed(scope, state, first, a)?;
+        let items = self.wanting_list(scope, state, second, l)?;
+        if !result.is(first) {
             return Err(TypeFault::WrongShape(Place::Node(at)));
         }
+        let ty = first.copy(self.alloc)?;
         let whole = Expr::Foldl(f.copy(self.alloc)?, start, items);
-        settled(self.alloc, at, state.node, want, whole, first)
+        settled(self.alloc, at, state.node, want, whole, ty)
     }
 
     /// `foldr`.
@@ -320,15 +331,16 @@ impl<
         ensures meets { Meets (spec.fold_right scope.now.code.now scope.now.seen (below scope.now self.now.depth) state.old.ctx at (option_copied want.entry) f.now a.now l.now state.old.node) result state.new.node }
         ensures keeps { state.new.ctx ≡ state.old.ctx }
     {
-        let (first, second, result) = self.folding(scope, state.node, at, f)?;
-        let start = self.wanting_boxed(scope, state, &second, a)?;
-        let list = list_of(self.alloc, first)?;
-        let items = self.wanting_boxed(scope, state, &list, l)?;
-        if !result.is(&second) {
+        let types = Boxed::new(self.alloc, self.folding(scope, state.node, at, f)?)?;
+        let (first, second, result) = types.get();
+        let start = self.wanting_boxed(scope, state, second, a)?;
+        let items = self.wanting_list(scope, state, first, l)?;
+        if !result.is(second) {
             return Err(TypeFault::WrongShape(Place::Node(at)));
         }
+        let ty = second.copy(self.alloc)?;
         let whole = Expr::Foldr(f.copy(self.alloc)?, start, items);
-        settled(self.alloc, at, state.node, want, whole, second)
+        settled(self.alloc, at, state.node, want, whole, ty)
     }
 
     /// A chunk literal, whose entry is any function of the program.

@@ -133,11 +133,9 @@ impl<
     {
         let mut done = Items::new(self.alloc);
         while let [clause, rest @ ..] = all {
+            let name = copy_name(self.alloc, &clause.name)?;
             let body = self.wanting(scope, state, ty, &clause.body)?;
-            done.add(Clause {
-                name: copy_name(self.alloc, &clause.name)?,
-                body,
-            })?;
+            done.add(Clause { name, body })?;
             all = rest;
         }
         Ok(done)

@@ -1,6 +1,6 @@
 //! What comes last at an expression: the depth of its type, and whether it is the wanted one.
 
-ghost use Rattle.std.specs.Prelude.{◌≡◌, Some, None, option_and_then, length};
+ghost use Rattle.std.specs.Prelude.{◌≡◌, ◌≢◌, Some, None, Err, option_and_then, length};
 ghost use Rattle.std.specs.Option.{option_copied};
 ghost use Rattle.plan_base.specs.TypingOrder as spec;
 ghost use Rattle.plan_base.specs.TypingNames as names;
@@ -9,6 +9,23 @@ ghost use Rattle.plan_types.specs.Checks.{Meets};
 use plan_base::{Expr, NoMemory, Place, Primitive, Ty, TypeFault, Tys};
 use plan_items::Boxed;
 use std::alloc::Global;
+
+/// The refusal of an expression, which is let go.
+fn refused(_e: Expr, fault: TypeFault) -> Result<(Expr, Ty), TypeFault>
+    ensures { result ≡ Err fault }
+{
+    Err(fault)
+}
+
+/// The fault where another type is wanted, or memory that was refused for it.
+fn mismatch(alloc: Global, at: u32, wanted: &Ty, ty: Ty) -> TypeFault
+    ensures { result ≢ TypeFault.NoMemory → result ≡ TypeFault.Mismatch (Place.Node at) wanted.now ty }
+{
+    match wanted.copy(alloc) {
+        Ok(wanted) => TypeFault::Mismatch(Place::Node(at), wanted, ty),
+        Err(NoMemory) => TypeFault::NoMemory,
+    }
+}
 
 /// The answer for an expression of that type, unless another type is wanted.
 #[tactic(auto, unfolding(plan_base::specs::TypingOrder::settled))]
@@ -28,7 +45,7 @@ pub fn settled(
             if wanted.is(&ty) {
                 Ok((e, ty))
             } else {
-                Err(TypeFault::Mismatch(Place::Node(at), wanted.copy(alloc)?, ty))
+                refused(e, mismatch(alloc, at, wanted, ty))
             }
         }
     }
@@ -49,7 +66,7 @@ pub fn shallow(
     if ty.depth() <= 8 {
         settled(alloc, at, node, want, e, ty)
     } else {
-        Err(TypeFault::TypeTooDeep(Place::Node(at)))
+        refused(e, TypeFault::TypeTooDeep(Place::Node(at)))
     }
 }
 

@@ -10,13 +10,14 @@ ghost use Rattle.plan_types.specs.Kept.{IsChecked};
 
 use crate::program::annotated;
 use plan_base::{Draft, NoMemory, Program, TypeFault};
+use plan_items::Shared;
 use std::alloc::Global;
 use std::marker::Model;
 
 /// A program that is typed, which contracts see as that program.
 #[derive(Debug, Drop)]
 pub struct Checked {
-    program: Program,
+    program: Shared<Program>,
 }
 
 impl Model for Checked {
@@ -39,14 +40,22 @@ impl Checked {
         ensures value { result.now ≡ self.now }
         ensures kept { IsChecked self.now }
     {
-        &self.program
+        self.program.get()
     }
 
-    /// The same program.
-    pub fn copy(&self, alloc: Global) -> Result<Checked, NoMemory>
+    /// The program, for one more owner. Takes no memory, and fails only where the count of owners is full.
+    pub fn shared(&self) -> Result<Shared<Program>, NoMemory>
+        ensures value { IfOk result (λ p. p ≡ self.now) }
+        ensures kept { IsChecked self.now }
+    {
+        Ok(self.program.share()?)
+    }
+
+    /// The same program, which is shared and not copied.
+    pub fn copy(&self) -> Result<Checked, NoMemory>
         ensures { IfOk result (λ k. k ≡ self.now) }
     {
-        let program = self.program.copy(alloc)?;
+        let program = self.program.share()?;
         Ok(Checked { program })
     }
 }
@@ -62,7 +71,8 @@ pub fn annotate(alloc: Global, draft: Draft) -> Result<Checked, TypeFault>
     ensures fault { IfErr result (λ f. f ≢ TypeFault.NoMemory → answer draft.program ≡ Err f) }
 {
     let program = annotated(alloc, &draft.program)?;
-    Ok(Checked { program })
+    let shared = Shared::new(alloc, program)?;
+    Ok(Checked { program: shared })
 }
 
 /// Checks a well-formed program in which no type of `[]` or `raise` is missing. Else the first refusal in
@@ -76,7 +86,8 @@ pub fn check(alloc: Global, program: Program) -> Result<Checked, TypeFault>
     ensures fault { IfErr result (λ f. f ≢ TypeFault.NoMemory → answer program ≡ Err f) }
 {
     let _filled = annotated(alloc, &program)?;
-    Ok(Checked { program })
+    let shared = Shared::new(alloc, program)?;
+    Ok(Checked { program: shared })
 }
 
 /// The first refusal of a program in the order of checking, where there is one.

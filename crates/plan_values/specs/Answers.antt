@@ -4,7 +4,7 @@ use Rattle.plan_base.specs.declared.tree.Exn.{Exn}
 use Rattle.plan_base.specs.declared.tree.Ty.{Ty}
 use Rattle.plan_base.specs.declared.tree.Value.{Value}
 use Rattle.plan_base.specs.Typing.{HasType}
-use Rattle.value_rules.specs.Rules.{Given, gives, raises, unfit}
+use Rattle.value_rules.specs.Rules.{Given, gives, raises, unfit, limited}
 use Rattle.plan_values.specs.declared.fault.PrimFault.{PrimFault}
 use Rattle.plan_values.specs.declared.fault.PrimFault.TheVariants as fault
 
@@ -14,6 +14,13 @@ Answers want (Ok v) = want ≡ gives v
 Answers want (Err (fault.Raises x)) = want ≡ raises x
 Answers want (Err fault.Unfit) = want ≡ unfit
 Answers want (Err fault.NoMemory) = Unit {0}
+
+-- the same of a value that is not weighed yet
+abbrev pub AnswersUnweighed : Given → Result Value PrimFault → Type 0
+AnswersUnweighed want (Ok v) = want ≡ limited v
+AnswersUnweighed want (Err (fault.Raises x)) = want ≡ raises x
+AnswersUnweighed want (Err fault.Unfit) = want ≡ unfit
+AnswersUnweighed want (Err fault.NoMemory) = Unit {0}
 
 -- the exception, or want of memory
 abbrev pub RaisesOnly : Exn → PrimFault → Type 0

@@ -14,6 +14,7 @@ mod primitives;
 mod raise;
 
 pub use fault::PrimFault;
+pub use lists::cons;
 pub use operators::binary;
 pub use parts::part;
 pub use primitives::primitive;

@@ -2,7 +2,7 @@ ghost use Rattle.std.specs.Prelude.{◌≡◌, ◌∷◌, ◌++◌, IfOk, MatchO
 ghost use Rattle.plan_base.specs.declared.tree.Value.{out-Value};
 ghost use Rattle.plan_base.specs.declared.tree.Value.TheVariants as value;
 ghost use Rattle.value_rules.specs.Rules as rules;
-ghost use Rattle.plan_values.specs.Answers.{Answers};
+ghost use Rattle.plan_values.specs.Answers.{Answers, AnswersUnweighed};
 
 use crate::PrimFault;
 use crate::raise::{bad_index, empty, too_large};
@@ -94,6 +94,26 @@ fn with_first(alloc: Global, x: &Value, items: &[Value]) -> Result<Values, NoMem
     all.add(x.copy(alloc)?)?;
     all.append(copy_values(alloc, items)?)?;
     Ok(all)
+}
+
+/// Items with one more before them.
+fn put_before(x: Value, items: Values) -> Result<Values, AllocError>
+    ensures { IfOk result (λ all. all ≡ x ∷ items) }
+{
+    let mut all = items.into_vec();
+    all.insert(0, x)?;
+    Ok(Items::from_vec(all))
+}
+
+/// `x :: xs` of owned values, which isn't weighed yet.
+#[tactic(auto, using(plan_base::specs::Trees::trees))]
+pub fn cons(x: Value, xs: Value) -> Result<Value, PrimFault>
+    ensures { AnswersUnweighed (rules.put_first x (out-Value xs)) result }
+{
+    match xs {
+        Value::List(t, items) => Ok(Value::List(t, put_before(x, items)?)),
+        _ => Err(PrimFault::Unfit),
+    }
 }
 
 /// `hd(xs)`: a copy of the first item.

@@ -1,6 +1,7 @@
 -- Whether the rows after a put keep the limits, by their counts.
 use Rattle.std.proofs.Common.{◌≡◌, ℕ, ◌+◌, ◌≤◌, Bool, true, false, List, Option, Some, None, min, refl, sym, ap, ◌∙◌, subst, arith}
 use Rattle.std.specs.Prelude.{◌&&◌, nat_le, if◌then◌else◌}
+use Rattle.std.proofs.lemmas.Bool.{leb-true}
 use Rattle.std.proofs.lemmas.Bool.Decides.{nat_tests}
 use Rattle.small_laws.proofs.Bools.{and_right}
 use Rattle.small_laws.proofs.Options.{none-some, some-same}
@@ -18,9 +19,6 @@ none_case : (b : Bool) (c : Counts) → (if b then Some c else None) ≡ None �
 none_case true c e = absurd (none-some (sym e))
 none_case false c e = refl
 
-pub at_most : (n m : ℕ) → nat_le n m ≡ true → n ≤ m
-at_most n m h = grind (arith, nat_tests)
-
 -- a size that was cut off at 2^64 - 1 passes the limit just the same
 cut_bytes : (n s : ℕ) → nat_le (n + min s 18446744073709551615) 1048576 ≡ nat_le (n + s) 1048576
 cut_bytes n s = grind (arith, nat_tests)
@@ -32,7 +30,7 @@ module _ (r : Row) (xs : List Row) (size : ℕ) (cut : size ≡ min (row_size r)
   whole_size : within (put_counts size) ≡ true → size ≡ row_size r
   unfolding put_counts
   whole_size w =
-      let b = at_most ((counts_less (found_row (row_key r) xs) (counts_of xs)).bytes + size) 1048576
+      let b = leb-true ((counts_less (found_row (row_key r) xs) (counts_of xs)).bytes + size) 1048576
       (and_right (nat_le ((counts_less (found_row (row_key r) xs) (counts_of xs)).rows + 1) 1024) (nat_le ((counts_less (found_row (row_key r) xs) (counts_of xs)).bytes + size) 1048576) w) in
       omega arith
 

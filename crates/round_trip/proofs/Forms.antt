@@ -46,11 +46,8 @@ pub record Measured (e : Expr) (deep many : ℕ) : Type 0 where
 pub made_of : (e : Expr) (l : Expr-F Expr Clause) → out-Expr e ≡ l → e ≡ roll-Expr l
 made_of e l o = sym (roll-out-Expr e) ∙ ap roll-Expr o
 
-pub depth_of : (e : Expr) (l : Expr-F Expr Clause) → out-Expr e ≡ l → expr_depth e ≡ expr_depth_level expr_depth clause_depth l
-depth_of e l o = expr_depth_out e ∙ ap (expr_depth_level expr_depth clause_depth) o
-
 pub measured : (e : Expr) (l : Expr-F Expr Clause) → out-Expr e ≡ l → Measured e (expr_depth_level expr_depth clause_depth l) (expr_nodes_level expr_nodes clause_nodes l)
-measured e l o = record { depth = depth_of e l o; nodes = expr_nodes_out e ∙ ap (expr_nodes_level expr_nodes clause_nodes) o }
+measured e l o = record { depth = expr_depth_out e ∙ ap (expr_depth_level expr_depth clause_depth) o; nodes = expr_nodes_out e ∙ ap (expr_nodes_level expr_nodes clause_nodes) o }
 
 pub kinds_are : (e : Expr) (l : Expr-F Expr Clause) → out-Expr e ≡ l → expr_kinds e ≡ expr_kinds_level expr_kinds clause_kinds l
 kinds_are e l o = expr_kinds_out e ∙ ap (expr_kinds_level expr_kinds clause_kinds) o

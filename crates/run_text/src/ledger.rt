@@ -12,50 +12,49 @@ ghost use Rattle.run_text.specs.Printed.{printed, all_printed};
 use bound_ledger::{Ledger, Row};
 use node_core::{put_family, put_number};
 use plan_base::{Bytes, Family, NoMemory};
-use std::alloc::Global;
 
 /// A word and a count of a row.
-fn put_count(alloc: Global, out: &mut Bytes, word: &[u8], n: u64) -> Result<(), NoMemory>
+fn put_count(out: &mut Bytes, word: &[u8], n: u64) -> Result<(), NoMemory>
     ensures { OnOk result (out.new ≡ out.old ++ (word.now ++ decimal n)) }
 {
     out.add_all(word)?;
-    put_number(alloc, out, n)?;
+    put_number(out, n)?;
     Ok(())
 }
 
 /// A row of a ledger.
-fn put_row(alloc: Global, out: &mut Bytes, f: Family, row: Row) -> Result<(), NoMemory>
+fn put_row(out: &mut Bytes, f: Family, row: Row) -> Result<(), NoMemory>
     ensures { OnOk result (out.new ≡ out.old ++ printed (f, row)) }
 {
-    put_family(alloc, out, f)?;
-    put_count(alloc, out, b" granted ", row.granted)?;
-    put_count(alloc, out, b" hops ", row.hops)?;
-    put_count(alloc, out, b" evals ", row.evals)?;
-    put_count(alloc, out, b" live ", row.live)?;
-    put_count(alloc, out, b" left ", row.left)?;
+    put_family(out, f)?;
+    put_count(out, b" granted ", row.granted)?;
+    put_count(out, b" hops ", row.hops)?;
+    put_count(out, b" evals ", row.evals)?;
+    put_count(out, b" live ", row.live)?;
+    put_count(out, b" left ", row.left)?;
     out.add_all(b"\n")?;
     Ok(())
 }
 
 /// The rows of a ledger.
-fn put_rows(alloc: Global, out: &mut Bytes, ledger: &Ledger) -> Result<(), NoMemory>
+fn put_rows(out: &mut Bytes, ledger: &Ledger) -> Result<(), NoMemory>
     ensures text { OnOk result (out.new ≡ out.old ++ all_printed ledger.now) }
     ensures once { OneEach ledger.now }
 {
     for i in 0..ledger.len() {
         let (f, row) = ledger.at(i);
-        put_row(alloc, out, f, row)?;
+        put_row(out, f, row)?;
     }
     Ok(())
 }
 
 /// Appends the text of a ledger. It is that of each history that the ledger stands for, with each network
 /// with which the history is in balance.
-pub fn put_ledger(alloc: Global, out: &mut Bytes, ledger: &Ledger) -> Result<(), NoMemory>
+pub fn put_ledger(out: &mut Bytes, ledger: &Ledger) -> Result<(), NoMemory>
     ensures { OnOk result ((h : List EntryOf) (w : WorldState) → Stands h ledger.now → ((f : FamilyOf) → Balanced f h w) → out.new ≡ out.old ++ ledger_text h w) }
 {
     out.add_all(b"ledger\n")?;
-    put_rows(alloc, out, ledger)?;
+    put_rows(out, ledger)?;
     out.add_all(b"end\n")?;
     Ok(())
 }

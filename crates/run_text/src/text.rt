@@ -12,11 +12,11 @@ use std::alloc::Global;
 use world_model::Line;
 
 /// A word and a number.
-fn put_numbered(alloc: Global, out: &mut Bytes, word: &[u8], number: u32) -> Result<(), NoMemory>
+fn put_numbered(out: &mut Bytes, word: &[u8], number: u32) -> Result<(), NoMemory>
     ensures { OnOk result (out.new ≡ out.old ++ (word.now ++ decimal number)) }
 {
     out.add_all(word)?;
-    put_number(alloc, out, u64::from(number))?;
+    put_number(out, u64::from(number))?;
     Ok(())
 }
 
@@ -40,32 +40,26 @@ fn put_wired(
 ) -> Result<(), NoMemory>
     ensures { OnOk result (out.new ≡ out.old ++ (codes "wire " ++ (decimal number ++ spec.shown_text frames frame.now))) }
 {
-    put_numbered(alloc, out, b"wire ", number)?;
+    put_numbered(out, b"wire ", number)?;
     put_shown(alloc, out, frames, frame)?;
     Ok(())
 }
 
-fn put_forged(
-    alloc: Global,
-    out: &mut Bytes,
-    host: Host,
-    f: Family,
-    bound: u32,
-) -> Result<(), NoMemory>
+fn put_forged(out: &mut Bytes, host: Host, f: Family, bound: u32) -> Result<(), NoMemory>
     ensures { OnOk result (out.new ≡ out.old ++ (head_text (codes "forged") host ++ bound_text f bound)) }
 {
     out.add_all(b"forged")?;
-    put_numbered(alloc, out, b" @", host.0)?;
-    put_bound(alloc, out, f, bound)?;
+    put_numbered(out, b" @", host.0)?;
+    put_bound(out, f, bound)?;
     Ok(())
 }
 
-fn put_lost(alloc: Global, out: &mut Bytes, what: What) -> Result<(), NoMemory>
+fn put_lost(out: &mut Bytes, what: What) -> Result<(), NoMemory>
     ensures { OnOk result (out.new ≡ out.old ++ (codes "lost" ++ spec.lost_text what)) }
 {
     out.add_all(b"lost")?;
     match what {
-        What::Packet(f, bound) => put_bound(alloc, out, f, bound)?,
+        What::Packet(f, bound) => put_bound(out, f, bound)?,
         What::Advert => out.add_all(b" advert")?,
     }
     Ok(())
@@ -78,10 +72,10 @@ fn put_line_text(alloc: Global, out: &mut Bytes, frames: bool, line: &Line) -> R
 {
     match line {
         Line::At(host, act) => put_act_text(alloc, out, *host, act)?,
-        Line::Forged(host, f, bound) => put_forged(alloc, out, *host, *f, *bound)?,
+        Line::Forged(host, f, bound) => put_forged(out, *host, *f, *bound)?,
         Line::Wire(number, frame) => put_wired(alloc, out, frames, *number, frame)?,
-        Line::Off(number) => put_numbered(alloc, out, b"off ", *number)?,
-        Line::Lost(what) => put_lost(alloc, out, *what)?,
+        Line::Off(number) => put_numbered(out, b"off ", *number)?,
+        Line::Lost(what) => put_lost(out, *what)?,
         Line::Nothing => out.add_all(b"nothing")?,
     }
     Ok(())
@@ -99,7 +93,7 @@ pub fn put_line(
 ) -> Result<(), NoMemory>
     ensures { OnOk result (out.new ≡ out.old ++ spec.entry_text frames (entry_at event line.now)) }
 {
-    put_number(alloc, out, u64::from(event))?;
+    put_number(out, u64::from(event))?;
     out.add_all(b" ")?;
     put_line_text(alloc, out, frames, line)?;
     out.add_all(b"\n")?;

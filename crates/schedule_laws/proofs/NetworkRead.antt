@@ -42,7 +42,8 @@ network_step_ok w ws s t stage number free some said =
 
 -- ---- packages
 
-all_middle : {X : Type 0} (P : X → Type 0) (xs : List X) (y : X) (ys : List X) → All P (xs ++ y ∷ ys) → P y
+-- a fact about a whole list holds of an item in its middle
+pub all_middle : {X : Type 0} (P : X → Type 0) (xs : List X) (y : X) (ys : List X) → All P (xs ++ y ∷ ys) → P y
 all_middle P [] y ys h = All-head P y ys h
 all_middle P (x ∷ xs) y ys h = all_middle P xs y ys (All-tail P x (xs ++ y ∷ ys) h)
 
@@ -57,7 +58,8 @@ differs packages.Host packages.Net h = refl
 differs packages.Host packages.Resident h = refl
 differs packages.Host packages.Host h = absurd (h refl)
 
-fresh_package : (seen : List PackageName) (p : PackageName) (ps : List PackageName) → PackagesDiffer (seen ++ p ∷ ps) → list_any (same_package p) seen ≡ false
+-- a package that differs from all before it wasn't seen
+pub fresh_package : (seen : List PackageName) (p : PackageName) (ps : List PackageName) → PackagesDiffer (seen ++ p ∷ ps) → list_any (same_package p) seen ≡ false
 fresh_package [] p ps d = refl
 fresh_package (q ∷ qs) p ps d = rw (differs p q (all_middle (λ x. x ≢ q) qs p ps d.0), fresh_package qs p ps d.1) refl
 

@@ -7,7 +7,7 @@ use Rattle.std.proofs.lemmas.Bool.Decides.{nat_tests, Decides-int_eq}
 use Rattle.std.proofs.lemmas.Int.{ints}
 use Rattle.std.proofs.lemmas.List.Elements.{All-nil, All-cons, All-head, All-tail, All-filter}
 use Rattle.small_laws.proofs.Bools.{and_left, and_right, and_both}
-use Rattle.small_laws.proofs.Lists.{sum_from}
+use Rattle.std.proofs.lemmas.List.Sums.{sum_by-cons}
 use Rattle.small_laws.proofs.Options.{none-some, some-same}
 use Rattle.plan_base.specs.declared.tree.Ty.{Ty}
 use Rattle.plan_base.specs.declared.tree.Value.{Value}
@@ -38,12 +38,9 @@ put_good r rows g h f = record { values = put_all_good r rows.rows g h.values; r
 
 -- ---- a removal
 
-size_more : (x : Row) (xs : List Row) → rows_size (x ∷ xs) ≡ row_size x + rows_size xs
-size_more x xs = sum_from row_size (0 + row_size x) xs ∙ omega arith
-
 less_if : (b : Bool) (x : Row) (ys xs : List Row) → (length ys ≤ length xs) × (rows_size ys ≤ rows_size xs) → (length (if b then (x ∷ ys) else ys) ≤ length (x ∷ xs)) × (rows_size (if b then (x ∷ ys) else ys) ≤ rows_size (x ∷ xs))
-less_if true x ys xs h = let s = size_more x xs in let t = size_more x ys in (let a = h.0 in omega arith, let b = h.1 in omega arith)
-less_if false x ys xs h = let s = size_more x xs in (let a = h.0 in omega arith, let b = h.1 in omega arith)
+less_if true x ys xs h = let s = sum_by-cons row_size x xs in let t = sum_by-cons row_size x ys in (let a = h.0 in omega arith, let b = h.1 in omega arith)
+less_if false x ys xs h = let s = sum_by-cons row_size x xs in (let a = h.0 in omega arith, let b = h.1 in omega arith)
 
 filter_less : (p : Row → Bool) (xs : List Row) → (length (filter p xs) ≤ length xs) × (rows_size (filter p xs) ≤ rows_size xs)
 filter_less p [] = (omega arith, omega arith)

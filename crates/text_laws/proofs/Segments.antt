@@ -1,5 +1,6 @@
 -- Segments of a text that are read as their tokens whatever stands around them, within bounds.
-use Rattle.std.proofs.Common.{◌≡◌, ℕ, ◌+◌, ◌-◌, ◌<◌, ◌==◌, Bool, true, false, not, ◌||◌, List, [], ◌∷◌, ◌++◌, length, get_or, Some, None, Ok, refl, sym, ap, ◌∙◌, subst, arith, append_assoc, append-nil, length-append, nat_lt}
+use Rattle.std.proofs.Common.{◌≡◌, ℕ, ◌+◌, ◌-◌, ◌<◌, ◌==◌, Bool, true, not, ◌||◌, List, [], ◌∷◌, ◌++◌, length, get_or, Some, None, Ok, refl, sym, ap, ◌∙◌, subst, arith, append_assoc, append-nil, length-append, nat_lt}
+use Rattle.std.proofs.lemmas.Bool.{le-ltb}
 use Rattle.std.proofs.lemmas.Bool.Decides.{nat_tests}
 use Rattle.plan_base.specs.Words.{is_word_byte}
 use Rattle.plan_lexer.specs.Gaps.{is_blank, gap_at}
@@ -59,9 +60,6 @@ lexes_whole {text = text} {kinds = kinds} P = subst (λ s. Lexes s kinds) (appen
 
 -- ---- blanks
 
-less_self : (n : ℕ) → nat_lt n n ≡ false
-less_self n = grind (arith, nat_tests)
-
 less_next : (n : ℕ) → nat_lt n (n + 1) ≡ true
 less_next n = grind (arith, nat_tests)
 
@@ -85,7 +83,7 @@ lexes_blank b rest more e h = λ at. let r = h (at + 1) in
 
 token_move : (at : ℕ) (text : List ℕ) (k : TokenKind) (next : ℕ) → gap_at at text ≡ Ok at → token_at at text ≡ Ok (k, next) → move_at at text ≡ Ok (Some k, next)
 unfolding move_at
-token_move at text k next g t = rw (g, t) (rw (less_self at) refl)
+token_move at text k next g t = rw (g, t) (rw (le-ltb at at (omega arith)) refl)
 
 lexes_token : (k : TokenKind) (front rest : List ℕ) (more : List TokenKind) → Spells k front → EndsBefore k rest → ((at : ℕ) → gap_at at (front ++ rest) ≡ Ok at)
     → Lexes rest more → Lexes (front ++ rest) (k ∷ more)

@@ -1,7 +1,7 @@
 -- What a quote or a comment begins, as a move.
-use Rattle.std.proofs.Common.{◌≡◌, ℕ, Bool, false, List, ◌∷◌, Option, Some, None, Result, Ok, Err, nat_lt, refl, ◌∙◌, ap, arith}
+use Rattle.std.proofs.Common.{◌≡◌, ℕ, Bool, List, ◌∷◌, Option, Some, None, Result, Ok, Err, nat_lt, refl, ◌∙◌, ap, arith}
 use Rattle.std.specs.Prelude.{if◌then◌else◌}
-use Rattle.std.proofs.lemmas.Bool.Decides.{nat_tests}
+use Rattle.std.proofs.lemmas.Bool.{le-ltb}
 use Rattle.plan_lexer.specs.Faults.{◌>>=◌}
 use Rattle.plan_lexer.specs.Gaps.{gap_at, comment_at}
 use Rattle.plan_lexer.specs.Quoted.{string_at, char_at}
@@ -10,9 +10,6 @@ use Rattle.plan_lexer.specs.Scanning.{move_at, token_at, signed_at, hash_at}
 use Rattle.plan_lexer.specs.declared.token.TokenKind.{TokenKind}
 use Rattle.plan_lexer.specs.declared.token.TokenKind.TheVariants as kind
 use Rattle.plan_lexer.specs.declared.fault.LexFault.{LexFault}
-
-not_less : (n : ℕ) → nat_lt n n ≡ false
-not_less n = grind (arith, nat_tests)
 
 abbrev pub Move : Type 0
 Move = Result (Option TokenKind × ℕ) LexFault
@@ -23,7 +20,7 @@ moved kind_of r = r >>= λ x. Ok (Some (kind_of x.0), x.1)
 
 -- a token that begins with no blank and no comment
 after_gap : (at : ℕ) (text : List ℕ) (r : Move) → (token_at at text >>= λ t. Ok (Some t.0, t.1)) ≡ r → (if nat_lt at at then Ok (None, at) else (token_at at text >>= λ t. Ok (Some t.0, t.1))) ≡ r
-after_gap at text r h = ap (λ (b : Bool). if b then Ok (None, at) else (token_at at text >>= λ t. Ok (Some t.0, t.1))) (not_less at) ∙ h
+after_gap at text r h = ap (λ (b : Bool). if b then Ok (None, at) else (token_at at text >>= λ t. Ok (Some t.0, t.1))) (le-ltb at at (omega arith)) ∙ h
 
 -- what is read as a token, and the move that it makes
 abbrev as_token : {A : Type 0} → (A → TokenKind) → A × ℕ → Result (TokenKind × ℕ) LexFault

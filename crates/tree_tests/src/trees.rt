@@ -3,7 +3,7 @@ use plan_base::{
     Param, Params, Program, Svc, Text, Ty, Tys, Value, Values, chunk_nesting, chunk_weight,
     code_size, nesting, type_size, weight,
 };
-use plan_items::{Boxed, Items};
+use plan_items::{Boxed, Items, Shared};
 use std::alloc::Global;
 use std::test::Fail;
 
@@ -78,10 +78,15 @@ fn sending(alloc: Global) -> Result<Program, Fail> {
     )
 }
 
+/// The same, for the chunks of that program.
+fn shared(alloc: Global, f: Fun) -> Result<Shared<Program>, Fail> {
+    Ok(Shared::new(alloc, program(alloc, f)?)?)
+}
+
 /// The chunk `|f|(..)` of `fun f() : unit = ()`.
 fn chunk(alloc: Global, args: Values) -> Result<Chunk, Fail> {
     Ok(Chunk {
-        code: program(alloc, fun(alloc, Items::new(alloc), Ty::Unit, Expr::Unit)?)?,
+        code: shared(alloc, fun(alloc, Items::new(alloc), Ty::Unit, Expr::Unit)?)?,
         entry: name(alloc, b"f")?,
         args,
     })

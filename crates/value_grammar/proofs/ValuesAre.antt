@@ -16,7 +16,7 @@ use Rattle.plan_grammar.specs.Ahead.{Front, Reader, place, behind, next_kind, is
 use Rattle.plan_grammar.specs.Types.{opens, more, type_to}
 use Rattle.grammar_laws.specs.Grammar.{Sym, behind2}
 use Rattle.grammar_laws.proofs.TypesAre.{symbol_ends_type, more_ends, more_adds, type_is}
-use Rattle.grammar_laws.proofs.ExprsAre.{comma_shut}
+use Rattle.grammar_laws.proofs.ExprsAre.{comma_shut, comma_shut_list}
 use Rattle.grammar_laws.proofs.Follows.{symbol_here}
 use Rattle.grammar_laws.proofs.TokenFacts.{room_open}
 use Rattle.plan_parser.specs.declared.item.Item.{Item}
@@ -69,10 +69,6 @@ starts {f = f} (gram.nothing a b) = paren_starts f a
 starts {f = f} (gram.tuple a d m n b) = paren_starts f a
 starts {f = f} (gram.no_items a b d n c) = bracket_starts f a
 starts {f = f} (gram.items a d m n b) = bracket_starts f a
-
-comma_bracket : (f : Front) → Sym symbols.BracketClose f → is_symbol symbols.Comma f ≡ false
-unfolding is_symbol
-comma_bracket f e = rw e refl
 
 -- ---- each production, by what is read inside it
 
@@ -138,7 +134,7 @@ mutual
   value_is {o} {f = f} (gram.items {r = q} {g = g} {h = h} {i = i} {vs = vs} a d m few b) small =
       let s = starts d in
       step o (suc q) f (list_of i.ty (i.value ∷ vs), behind h)
-      (list_by o q (value_to o (suc q)) f g h i (i.value ∷ vs) (bracket_no_paren f a) (symbol_here f a) s.no_colon s.begins (value_is d small) (like_is m small (suc q) 62 (i.value ∷ []) few (comma_bracket h b)) (symbol_here h b))
+      (list_by o q (value_to o (suc q)) f g h i (i.value ∷ vs) (bracket_no_paren f a) (symbol_here f a) s.no_colon s.begins (value_is d small) (like_is m small (suc q) 62 (i.value ∷ []) few (comma_shut_list h b)) (symbol_here h b))
 
   more_is : {o r : ℕ} {f g : Front} {is : List Item} → MoreAt o r f is g → o ≤ 1 → (limit : _) (left : ℕ) (done : List Item) → length is ≤ left → is_symbol symbols.Comma g ≡ false
       → more (value_to o (suc r)) begins_value symbols.Comma limit wanted.AValue left done f ≡ Ok (done ++ is, g)

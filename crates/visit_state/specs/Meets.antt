@@ -2,13 +2,15 @@
 use Rattle.std.specs.Prelude.{◌≡◌, ◌≢◌, Result, Ok, Err}
 use Rattle.plan_base.specs.declared.tree.Exn.{Exn}
 use Rattle.plan_base.specs.declared.tree.Value.{Value}
-use Rattle.value_rules.specs.Rules.{Given, gives, raises, unfit}
+use Rattle.value_rules.specs.Rules.{Given, gives, raises, unfit, limited}
 use Rattle.remote_calls.specs.declared.fault.SendFault.{SendFault}
 use Rattle.remote_calls.specs.declared.fault.SendFault.TheVariants as fault
-use Rattle.value_rules.specs.Rules.{no_service}
+use Rattle.value_rules.specs.Rules.{no_service, too_large}
 use Rattle.plan_meaning.specs.declared.stop.Stop.{Stop}
-use Rattle.plan_meaning.specs.declared.stop.Stop.TheVariants.{Raised, Wrong, NoMemory}
+use Rattle.plan_meaning.specs.declared.stop.Stop.TheVariants.{Raised, WorkSpent, Wrong, NoMemory}
 use Rattle.plan_meaning.specs.State.{VisitState}
+use Rattle.visit_state.specs.declared.weighing.Weighing.{Weighing}
+use Rattle.visit_state.specs.declared.weighing.Weighing.TheVariants.{Paid, Spent, TooLarge}
 use Rattle.plan_meaning.specs.Meaning.{no_bound, no_route, not_neighbour}
 use Rattle.plan_meaning.specs.Run.{gave, stopped, Step}
 
@@ -17,6 +19,12 @@ abbrev pub Meets : {A : Type 0} → Step A → Result A Stop → VisitState → 
 Meets want (Ok a) new = want.after ≡ gave a new
 Meets want (Err e) new = e ≢ NoMemory → want.after ≡ stopped e new
 
+-- whether the weight of a value was spent
+abbrev pub Weighs : Step Value → Value → Weighing → VisitState → Type 0
+Weighs want v Paid new = want.after ≡ gave v new
+Weighs want v Spent new = want.after ≡ stopped WorkSpent new
+Weighs want v TooLarge new = want.after ≡ stopped (Raised too_large) new
+
 -- the same of an operator or a primitive
 abbrev pub MeetsGiven : Given → Result Value Stop → Type 0
 MeetsGiven want (Ok v) = want ≡ gives v
@@ -24,6 +32,14 @@ MeetsGiven want (Err (Raised x)) = want ≡ raises x
 MeetsGiven want (Err Wrong) = want ≡ unfit
 MeetsGiven want (Err NoMemory) = Unit {0}
 MeetsGiven want (Err _) = ⊥
+
+-- the same of a value that is not weighed yet
+abbrev pub MeetsUnweighed : Given → Result Value Stop → Type 0
+MeetsUnweighed want (Ok v) = want ≡ limited v
+MeetsUnweighed want (Err (Raised x)) = want ≡ raises x
+MeetsUnweighed want (Err Wrong) = want ≡ unfit
+MeetsUnweighed want (Err NoMemory) = Unit {0}
+MeetsUnweighed want (Err _) = ⊥
 
 -- the exception, or want of memory
 abbrev pub RaisesOnly : Exn → Stop → Type 0

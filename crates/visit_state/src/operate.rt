@@ -1,7 +1,8 @@
 ghost use Rattle.value_rules.specs.Rules as rules;
 ghost use Rattle.value_rules.specs.Rules.{Given};
-ghost use Rattle.plan_values.specs.Answers.{Answers};
-ghost use Rattle.visit_state.specs.Meets.{MeetsGiven};
+ghost use Rattle.plan_base.specs.declared.tree.Value.{out-Value};
+ghost use Rattle.plan_values.specs.Answers.{Answers, AnswersUnweighed};
+ghost use Rattle.visit_state.specs.Meets.{MeetsGiven, MeetsUnweighed};
 
 use plan_base::{Op, Primitive, Value, Values};
 use plan_meaning::Stop;
@@ -25,6 +26,25 @@ pub fn binary(alloc: Global, op: Op, a: &Value, b: &Value) -> Result<Value, Stop
     ensures { MeetsGiven (rules.binary op a.now b.now) result }
 {
     given(plan_values::binary(alloc, op, a, b))
+}
+
+/// The same of a value that isn't weighed yet.
+fn unweighed(answer: Result<Value, PrimFault>) -> Result<Value, Stop>
+    ensures { (want : Given) → AnswersUnweighed want answer → MeetsUnweighed want result }
+{
+    match answer {
+        Ok(v) => Ok(v),
+        Err(PrimFault::Raises(x)) => Err(Stop::Raised(x)),
+        Err(PrimFault::Unfit) => Err(Stop::Wrong),
+        Err(PrimFault::NoMemory) => Err(Stop::NoMemory),
+    }
+}
+
+/// What `x :: xs` gives of owned values; it isn't weighed yet.
+pub fn cons(x: Value, xs: Value) -> Result<Value, Stop>
+    ensures { MeetsUnweighed (rules.put_first x (out-Value xs)) result }
+{
+    unweighed(plan_values::cons(x, xs))
 }
 
 /// What a primitive gives of its arguments.

@@ -1,4 +1,7 @@
-ghost use Rattle.std.specs.Prelude.{◌≡◌, ◌+◌, ◌≤◌, length, [], OnOk};
+ghost use Rattle.std.specs.Prelude.{◌≡◌, ◌+◌, ◌≤◌, length, min, [], OnOk, IsTrue, IsFalse};
+ghost use Rattle.plan_meaning.specs.declared.stop.Stop.TheVariants.{WorkSpent};
+ghost use Rattle.plan_meaning.specs.Run.{gave, stopped};
+ghost use Rattle.plan_base.specs.Sizes.{weight, nesting};
 ghost use Rattle.plan_base.specs.declared.tree.Value.{Value};
 ghost use Rattle.service_api.specs.Services.{Standing, IsGoodChunk};
 ghost use Rattle.plan_meaning.specs.Safe.{IsSafe};
@@ -6,9 +9,10 @@ ghost use Rattle.plan_meaning.specs.State.{Own, joined};
 ghost use Rattle.plan_meaning.specs.Run as run;
 ghost use Rattle.plan_meaning.specs.Visit.{allowance, ended};
 ghost use Rattle.plan_meaning.specs.Meaning as spec;
-ghost use Rattle.visit_state.specs.Meets.{Meets, StopsBy};
+ghost use Rattle.visit_state.specs.Meets.{Meets, StopsBy, Weighs};
 
 use crate::raised::{no_bound, no_route, no_service, not_neighbour, too_large};
+use crate::weighing::{Weighing, plain_weight};
 use chunk_types::{CheckedChunk, CheckedPacket};
 use plan_base::{Chunk, Dev, Family, Host, Name, NoMemory, Value, nesting, weight};
 use plan_items::Items;
@@ -48,12 +52,12 @@ impl Model for State {
     ghost invariant = { λ s. (s.ctx.purse + s.evals ≤ 65535) × (length s.ctx.neighbours ≤ 8) };
 }
 
-/// Whether a value passes the limits: weight 16,384 and nesting 4.
+/// Whether a value of that weight and nesting passes the limits: weight 16,384 and nesting 4.
 #[tactic(auto, unfolding(plan_meaning::specs::Run::is_too_large))]
-fn is_too_large(v: &Value) -> bool
-    ensures { result ≡ run.is_too_large v.now }
+fn is_too_large(size: u64, deep: u32) -> bool
+    ensures { (v : Value) → size ≡ min (weight v) 18446744073709551615 → deep ≡ min (nesting v) 4294967295 → result ≡ run.is_too_large v }
 {
-    weight(v) > 16384 || nesting(v) > 4
+    size > 16384 || deep > 4
 }
 
 /// How an evaluation stops where a send is refused.
@@ -116,31 +120,59 @@ impl State {
         &self.ctx
     }
 
-    /// Spends work.
+    /// Spends work where there is as much, or says no.
     #[tactic(auto, unfolding(plan_meaning::specs::Run::spend))]
-    pub fn spend(&mut self, n: u64) -> Result<(), Stop>
-        ensures meets { (s : Standing) → Meets (run.spend n (joined self.old s)) result (joined self.new s) }
-        ensures spends { OnOk result (self.new.work + n ≡ self.old.work) }
+    pub fn pays(&mut self, n: u64) -> bool
+        ensures paid { IsTrue result → (s : Standing) → (run.spend n (joined self.old s)).after ≡ gave tt (joined self.new s) }
+        ensures unpaid { IsFalse result → (s : Standing) → (run.spend n (joined self.old s)).after ≡ stopped WorkSpent (joined self.new s) }
+        ensures spends { IsTrue result → self.new.work + n ≡ self.old.work }
         ensures falls { self.new.work ≤ self.old.work }
     {
         if self.work < n {
-            return Err(Stop::WorkSpent);
+            return false;
         }
         self.work -= n;
-        Ok(())
+        true
+    }
+
+    /// Spends the weight of a value with that nesting, unless it passes the limits.
+    #[tactic(auto, unfolding(plan_meaning::specs::Run::weighed, plan_meaning::specs::Run::is_too_large))]
+    pub fn weighs_as(&mut self, size: u64, deep: u32) -> Weighing
+        ensures weighs { (v : Value) (s : Standing) → size ≡ min (weight v) 18446744073709551615 → deep ≡ min (nesting v) 4294967295
+            → Weighs (run.weighed v (joined self.old s)) v result (joined self.new s) }
+        ensures falls { self.new.work ≤ self.old.work }
+    {
+        if is_too_large(size, deep) {
+            return Weighing::TooLarge;
+        }
+        if self.pays(size) {
+            Weighing::Paid
+        } else {
+            Weighing::Spent
+        }
+    }
+
+    /// Spends the weight of a value, unless it passes the limits.
+    pub fn weighs(&mut self, v: &Value) -> Weighing
+        ensures weighs { (s : Standing) → Weighs (run.weighed v.now (joined self.old s)) v.now result (joined self.new s) }
+        ensures falls { self.new.work ≤ self.old.work }
+    {
+        match plain_weight(v) {
+            Some(size) => self.weighs_as(size, 0),
+            None => self.weighs_as(weight(v), nesting(v)),
+        }
     }
 
     /// Refuses a value over the limits, and spends the weight of another.
-    #[tactic(auto, unfolding(plan_meaning::specs::Run::weighed, plan_meaning::specs::Run::is_too_large))]
     pub fn weighed(&mut self, alloc: Global, v: Value) -> Result<Value, Stop>
         ensures meets { (s : Standing) → Meets (run.weighed v (joined self.old s)) result (joined self.new s) }
         ensures falls { self.new.work ≤ self.old.work }
     {
-        if is_too_large(&v) {
-            return Err(too_large(alloc));
+        match self.weighs(&v) {
+            Weighing::Paid => Ok(v),
+            Weighing::Spent => Err(Stop::WorkSpent),
+            Weighing::TooLarge => Err(too_large(alloc)),
         }
-        self.spend(weight(&v))?;
-        Ok(v)
     }
 
     /// Pays for an eval.
@@ -162,20 +194,13 @@ impl State {
 
     /// Sends a typed chunk on a way that is there.
     #[tactic(auto, using(crate::proofs::Sending::checked))]
-    fn sent(
-        &mut self,
-        alloc: Global,
-        way: Way,
-        chunk: &Chunk,
-        host: Host,
-        route: Name,
-    ) -> Result<(), Stop>
-        requires good { IsGoodChunk chunk.now }
+    fn sent(&mut self, way: Way, chunk: Chunk, host: Host, route: Name) -> Result<(), Stop>
+        requires good { IsGoodChunk chunk }
         requires paid { way.bound ≤ self.old.ctx.purse }
-        ensures meets { (s : Standing) → Meets (spec.sent way.dev chunk.now host way.bound route (joined self.old s)) result (joined self.new s) }
+        ensures meets { (s : Standing) → Meets (spec.sent way.dev chunk host way.bound route (joined self.old s)) result (joined self.new s) }
         ensures falls { self.new.work ≤ self.old.work }
     {
-        let chunk = CheckedChunk::of(chunk.copy(alloc)?);
+        let chunk = CheckedChunk::of(chunk);
         let mut purse = Purse::of(self.ctx.purse);
         let packet = CheckedPacket::of(self.family, host, way.bound, route, chunk);
         send(&mut purse, &mut self.outbox, way.dev, packet)?;
@@ -187,18 +212,18 @@ impl State {
     pub fn send_remote(
         &mut self,
         alloc: Global,
-        chunk: &Chunk,
+        chunk: Chunk,
         host: Host,
         n: i64,
         route: &Name,
     ) -> Result<(), Stop>
-        requires safe { (s : Standing) × IsSafe (spec.send_remote chunk.now host n route.now (joined self.old s)).asks }
-        ensures meets { (s : Standing) → Meets (spec.send_remote chunk.now host n route.now (joined self.old s)) result (joined self.new s) }
+        requires safe { (s : Standing) × IsSafe (spec.send_remote chunk host n route.now (joined self.old s)).asks }
+        ensures meets { (s : Standing) → Meets (spec.send_remote chunk host n route.now (joined self.old s)) result (joined self.new s) }
         ensures falls { self.new.work ≤ self.old.work }
     {
         let purse = Purse::of(self.ctx.purse);
         match remote_way(&purse, &self.ctx, host, n, route) {
-            Ok(way) => self.sent(alloc, way, chunk, host, route.copy(alloc)?),
+            Ok(way) => self.sent(way, chunk, host, route.copy(alloc)?),
             Err(fault) => Err(unsent(alloc, fault)),
         }
     }
@@ -207,18 +232,18 @@ impl State {
     pub fn send_neighbour(
         &mut self,
         alloc: Global,
-        chunk: &Chunk,
+        chunk: Chunk,
         host: Host,
         n: i64,
         dev: Dev,
     ) -> Result<(), Stop>
-        requires safe { (s : Standing) × IsSafe (spec.send_neighbour chunk.now host n dev (joined self.old s)).asks }
-        ensures meets { (s : Standing) → Meets (spec.send_neighbour chunk.now host n dev (joined self.old s)) result (joined self.new s) }
+        requires safe { (s : Standing) × IsSafe (spec.send_neighbour chunk host n dev (joined self.old s)).asks }
+        ensures meets { (s : Standing) → Meets (spec.send_neighbour chunk host n dev (joined self.old s)) result (joined self.new s) }
         ensures falls { self.new.work ≤ self.old.work }
     {
         let purse = Purse::of(self.ctx.purse);
         match neighbour_way(&purse, &self.ctx, host, n, dev) {
-            Ok(way) => self.sent(alloc, way, chunk, host, default_route(alloc)?),
+            Ok(way) => self.sent(way, chunk, host, default_route(alloc)?),
             Err(fault) => Err(unsent(alloc, fault)),
         }
     }

@@ -6,22 +6,67 @@ use Rattle.chunk_codec.specs.Reading.{expr_at, clause_at}
 use Rattle.chunk_codec.proofs.exprs.+exprs.Given as goal
 
 abbrev pub decreases-expr_of : goal.decreases-expr_of
-decreases-expr_of l = 4 * l.room
+decreases-expr_of l = 5 * l.room
 
 abbrev pub decreases-expr_with_tag : goal.decreases-expr_with_tag
-decreases-expr_with_tag l = 4 * l.room - 1
+decreases-expr_with_tag l = 5 * l.room - 1
+
+abbrev pub decreases-tuple_behind : goal.decreases-tuple_behind
+decreases-tuple_behind l = 5 * l.room - 2
+
+abbrev pub decreases-call_behind : goal.decreases-call_behind
+decreases-call_behind l = 5 * l.room - 2
+
+abbrev pub decreases-choice_behind : goal.decreases-choice_behind
+decreases-choice_behind l = 5 * l.room - 2
+
+abbrev pub decreases-binding_behind : goal.decreases-binding_behind
+decreases-binding_behind l = 5 * l.room - 2
+
+abbrev pub decreases-sequence_behind : goal.decreases-sequence_behind
+decreases-sequence_behind l = 5 * l.room - 2
+
+abbrev pub decreases-both_behind : goal.decreases-both_behind
+decreases-both_behind l = 5 * l.room - 2
+
+abbrev pub decreases-either_behind : goal.decreases-either_behind
+decreases-either_behind l = 5 * l.room - 2
+
+abbrev pub decreases-operation_behind : goal.decreases-operation_behind
+decreases-operation_behind l = 5 * l.room - 2
+
+abbrev pub decreases-part_behind : goal.decreases-part_behind
+decreases-part_behind l = 5 * l.room - 2
+
+abbrev pub decreases-handling_behind : goal.decreases-handling_behind
+decreases-handling_behind l = 5 * l.room - 2
+
+abbrev pub decreases-fold_left_behind : goal.decreases-fold_left_behind
+decreases-fold_left_behind l = 5 * l.room - 2
+
+abbrev pub decreases-fold_right_behind : goal.decreases-fold_right_behind
+decreases-fold_right_behind l = 5 * l.room - 2
+
+abbrev pub decreases-packing_behind : goal.decreases-packing_behind
+decreases-packing_behind l = 5 * l.room - 2
+
+abbrev pub decreases-remote_behind : goal.decreases-remote_behind
+decreases-remote_behind l = 5 * l.room - 2
+
+abbrev pub decreases-neighbour_behind : goal.decreases-neighbour_behind
+decreases-neighbour_behind l = 5 * l.room - 2
 
 abbrev pub decreases-boxed : goal.decreases-boxed
-decreases-boxed l = 4 * l.room + 1
+decreases-boxed l = 5 * l.room + 1
 
 abbrev pub decreases-exprs_of : goal.decreases-exprs_of
-decreases-exprs_of l = 4 * l.room + 1
+decreases-exprs_of l = 5 * l.room + 1
 
 abbrev pub decreases-clauses_of : goal.decreases-clauses_of
-decreases-clauses_of l = 4 * l.room + 2
+decreases-clauses_of l = 5 * l.room + 2
 
 abbrev pub decreases-clause_of : goal.decreases-clause_of
-decreases-clause_of l = 4 * l.room + 1
+decreases-clause_of l = 5 * l.room + 1
 
 abbrev pub invariant-exprs_of-loop-i : goal.invariant-exprs_of-loop-i
 invariant-exprs_of-loop-i l = with_front l.exprs (many (expr_at l.room) (l.count - l._i) l.s) ≡ many (expr_at l.room) l.count l.fn.s

@@ -2,7 +2,8 @@ use Rattle.std.proofs.Common.{◌≡◌, ◌∙◌, ◌++◌, [], length, take, 
 use Rattle.node_io.specs.Pieces.{AppendsFront}
 use Rattle.fleet_run.specs.Children.{AreNumbered}
 use Rattle.fleet_run.specs.Fleets.{fleet_text, fleet_end}
-use Rattle.fleet_run.proofs.FleetLaws.{text_none, whole_given, end_given, front_all, front_written, front_of_given}
+use Rattle.node_io.proofs.Fronts.{front_all}
+use Rattle.fleet_run.proofs.FleetLaws.{text_none, whole_given, end_given, front_written, front_of_given}
 use Rattle.fleet_run.proofs.fleet.run_fleet.Goals as goal
 
 pub returns-in_default-clause-reports : goal.returns-in_default-clause-reports

@@ -1,4 +1,4 @@
-use Rattle.net_world.proofs.RunLaws.{front_none}
+use Rattle.node_io.proofs.Fronts.{front_none}
 use Rattle.grow_run.proofs.run.grow.Goals as goal
 
 pub returns-in_err-text-clause-front : goal.returns-in_err-text-clause-front

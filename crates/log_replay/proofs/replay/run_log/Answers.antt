@@ -1,4 +1,5 @@
-use Rattle.log_replay.proofs.ReplayLaws.{front_none, front_all, header_front, lines_front, end_front, whole_written}
+use Rattle.node_io.proofs.Fronts.{front_none, front_all}
+use Rattle.log_replay.proofs.ReplayLaws.{header_front, lines_front, end_front, whole_written}
 use Rattle.node_model.specs.State.{new_node}
 use Rattle.serve_model.specs.Runs.{played}
 use Rattle.log_replay.proofs.replay.run_log.Goals as goal

@@ -2,7 +2,8 @@ use Rattle.std.proofs.Common.{◌+◌, ◌++◌, take, refl, sym, ap, ◌∙◌,
 use Rattle.std.proofs.lemmas.List.Elements.{All-get_or}
 use Rattle.network_plan.specs.NodeRules.{KeepsEntry}
 use Rattle.serve_model.specs.Runs.{node_after}
-use Rattle.log_replay.proofs.ReplayLaws.{none_played, none_stands, next_stands, next_written, next_front, all_written, front_all}
+use Rattle.node_io.proofs.Fronts.{front_all}
+use Rattle.log_replay.proofs.ReplayLaws.{none_played, none_stands, next_stands, next_written, next_front, all_written}
 use Rattle.log_replay.proofs.replay.write_entries.Goals as goal
 
 pub loop-entry-init : goal.loop-entry-init

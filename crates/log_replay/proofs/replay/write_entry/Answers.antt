@@ -1,4 +1,4 @@
-use Rattle.log_replay.proofs.ReplayLaws.{front_none}
+use Rattle.node_io.proofs.Fronts.{front_none}
 use Rattle.log_replay.proofs.replay.write_entry.Goals as goal
 
 pub returns-in_err-text-clause-front : goal.returns-in_err-text-clause-front

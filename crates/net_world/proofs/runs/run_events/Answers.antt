@@ -3,7 +3,8 @@ use Rattle.std.proofs.lemmas.List.{append-nil}
 use Rattle.std.proofs.lemmas.List.Elements.{All-get_or}
 use Rattle.world_model.specs.World.{opening}
 use Rattle.world_model.specs.Sound.{event_fits}
-use Rattle.net_world.proofs.RunLaws.{stands_none, counts_none, text_none, opening_made, events_fit, countable, stands_next, counts_next, written_next, front_event, text_all, counts_all, front_all}
+use Rattle.node_io.proofs.Fronts.{front_all}
+use Rattle.net_world.proofs.RunLaws.{stands_none, counts_none, text_none, opening_made, events_fit, countable, stands_next, counts_next, written_next, front_event, text_all, counts_all}
 use Rattle.net_world.proofs.runs.run_events.Goals as goal
 
 pub loop-event-init : goal.loop-event-init

@@ -4,7 +4,8 @@ use Rattle.run_ledger.specs.Stands.{Stands}
 use Rattle.run_ledger.proofs.LineLaws.{nothing_stands}
 use Rattle.world_model.specs.World.{opening, world_after, history_of}
 use Rattle.network_laws.proofs.Balance.{opening_balances}
-use Rattle.net_world.proofs.RunLaws.{front_none, front_header, front_lines, front_no_ledger, front_ledger, whole_run, front_all}
+use Rattle.node_io.proofs.Fronts.{front_none, front_all}
+use Rattle.net_world.proofs.RunLaws.{front_header, front_lines, front_no_ledger, front_ledger, whole_run}
 use Rattle.net_world.proofs.runs.write_run.Goals as goal
 
 pub returns-in_err-ledger-clause-front : goal.returns-in_err-ledger-clause-front

@@ -1,0 +1,6 @@
+use Rattle.plan_base.specs.declared.tree.Value.{out-Value}
+use Rattle.value_rules.specs.Rules as rules
+use Rattle.visit_state.proofs.operate.cons.Goals as goal
+
+pub returns : goal.returns
+returns c = c.unweighed.ensures (rules.put_first c.args.x (out-Value c.args.xs)) c.cons.ensures
