@@ -31,7 +31,7 @@ use Rattle.run_ledger.specs.Stands.{Stands}
 use Rattle.run_ledger.proofs.Runs.{event_fits_at, history_of-push, world_after-push}
 use Rattle.net_world.specs.declared.network.Network.{Network}
 use Rattle.net_world.specs.Stands.{WorldStands}
-use Rattle.net_world.specs.Running.{IsCountable}
+use Rattle.net_world.specs.Running.{IsCountable, IsWaiting}
 
 pub entries_text-append : (frames : Bool) (xs ys : List Entry) → entries_text frames (xs ++ ys) ≡ entries_text frames xs ++ entries_text frames ys
 unfolding entries_text
@@ -54,6 +54,33 @@ front_within old mid new done piece rest whole a b f =
       is = f.is ∙ ap (λ x. x ++ take f.count piece) a ∙ append_assoc old done (take f.count piece)
           ∙ ap (λ x. old ++ x) (ap (λ x. done ++ x) (sym (take-within piece rest f.count)) ∙ sym (take-append-add done (piece ++ rest) n) ∙ ap (take (length done + n)) (sym b));
     }
+
+-- nothing waits, and all waits
+pub waits_none : (taken bytes : List ℕ) → IsWaiting taken taken bytes bytes
+waits_none taken bytes = record { done = []; written = sym (append-nil taken); is = refl }
+
+pub waits_written : (old new bytes : List ℕ) → new ≡ old ++ bytes → IsWaiting old new [] bytes
+waits_written old new bytes h = record { done = bytes; written = h; is = sym (append-nil bytes) }
+
+-- one piece more
+waits_more : (old mid new text left before piece : List ℕ) → IsWaiting old mid text before → IsWaiting mid new left (text ++ piece) → IsWaiting old new left (before ++ piece)
+waits_more old mid new text left before piece a b = record {
+  done = a.done ++ b.done;
+  written = b.written ∙ ap (λ x. x ++ b.done) a.written ∙ append_assoc old a.done b.done;
+  is = ap (λ x. x ++ piece) a.is ∙ append_assoc a.done text piece ∙ ap (λ x. a.done ++ x) b.is ∙ sym (append_assoc a.done b.done left);
+}
+
+-- a front of what waits with one piece more is a front of the whole
+front_waiting : (old mid new text before piece rest whole : List ℕ) → whole ≡ before ++ (piece ++ rest) → IsWaiting old mid text before → AppendsFront mid new (text ++ piece) → AppendsFront old new whole
+front_waiting old mid new text before piece rest whole e a f = front_within old mid new a.done (text ++ piece) rest whole a.written
+    (e ∙ ap (λ x. x ++ (piece ++ rest)) a.is ∙ append_assoc a.done text (piece ++ rest) ∙ ap (λ x. a.done ++ x) (sym (append_assoc text piece rest))) f
+
+-- what waited is written, or a front of it
+pub waited_written : (old mid new text whole : List ℕ) → IsWaiting old mid text whole → new ≡ mid ++ text → new ≡ old ++ whole
+waited_written old mid new text whole a n = n ∙ ap (λ x. x ++ text) a.written ∙ append_assoc old a.done text ∙ ap (λ x. old ++ x) (sym a.is)
+
+pub waited_front : (old mid new text whole : List ℕ) → IsWaiting old mid text whole → AppendsFront mid new text → AppendsFront old new whole
+waited_front old mid new text whole a f = front_within old mid new a.done text [] whole a.written (a.is ∙ ap (λ x. a.done ++ x) (sym (append-nil text))) f
 
 -- nothing more was written
 pub front_so_far : (old mid done rest whole : List ℕ) → mid ≡ old ++ done → whole ≡ done ++ rest → AppendsFront old mid whole
@@ -81,10 +108,10 @@ module _ (w : WorldState) (es : List WorldEvent) (i : ℕ) (e : WorldEvent) (wit
     text_more : entries_text frames (history_of (take (i + 1) es) w) ≡ entries_text frames (history_of (take i es) w) ++ entries_text frames (entries (world_after (take i es) w) e)
     text_more = ap (entries_text frames) (sym history_next) ∙ entries_text-append frames (history_of (take i es) w) (entries (world_after (take i es) w) e)
 
-    pub written_next : (old mid new : List ℕ) → mid ≡ old ++ entries_text frames (history_of (take i es) w) → new ≡ mid ++ entries_text frames (entries (world_after (take i es) w) e)
-        → new ≡ old ++ entries_text frames (history_of (take (i + 1) es) w)
-    written_next old mid new m n = n ∙ ap (λ x. x ++ entries_text frames (entries (world_after (take i es) w) e)) m
-        ∙ append_assoc old (entries_text frames (history_of (take i es) w)) (entries_text frames (entries (world_after (take i es) w) e)) ∙ ap (λ x. old ++ x) (sym text_more)
+    pub waits_next : (old mid new text left : List ℕ) → IsWaiting old mid text (entries_text frames (history_of (take i es) w)) → IsWaiting mid new left (text ++ entries_text frames (entries (world_after (take i es) w) e))
+        → IsWaiting old new left (entries_text frames (history_of (take (i + 1) es) w))
+    waits_next old mid new text left a b = subst (IsWaiting old new left) (sym text_more)
+        (waits_more old mid new text left (entries_text frames (history_of (take i es) w)) (entries_text frames (entries (world_after (take i es) w) e)) a b)
 
     -- the text of some events, of one more, and of the rest
     text_split : entries_text frames (history_of es w)
@@ -97,10 +124,10 @@ module _ (w : WorldState) (es : List WorldEvent) (i : ℕ) (e : WorldEvent) (wit
         ∙ append_assoc (entries_text frames (history_of (take i es) w)) (entries_text frames (entries (world_after (take i es) w) e)) (entries_text frames (history_of (drop (i + 1) es) (world_after (take (i + 1) es) w)))
 
     -- a front of an event's text behind that of the events before it
-    pub front_event : (old mid new : List ℕ) → mid ≡ old ++ entries_text frames (history_of (take i es) w) → AppendsFront mid new (entries_text frames (entries (world_after (take i es) w) e))
+    pub front_event : (old mid new text : List ℕ) → IsWaiting old mid text (entries_text frames (history_of (take i es) w)) → AppendsFront mid new (text ++ entries_text frames (entries (world_after (take i es) w) e))
         → AppendsFront old new (entries_text frames (history_of es w))
-    front_event old mid new m f = front_within old mid new (entries_text frames (history_of (take i es) w)) (entries_text frames (entries (world_after (take i es) w) e))
-        (entries_text frames (history_of (drop (i + 1) es) (world_after (take (i + 1) es) w))) (entries_text frames (history_of es w)) m text_split f
+    front_event old mid new text a f = front_waiting old mid new text (entries_text frames (history_of (take i es) w)) (entries_text frames (entries (world_after (take i es) w) e))
+        (entries_text frames (history_of (drop (i + 1) es) (world_after (take (i + 1) es) w))) (entries_text frames (history_of es w)) text_split a f
 
 -- before the first event
 pub text_none : (frames : Bool) (w : WorldState) (es : List WorldEvent) → entries_text frames (history_of (take 0 es) w) ≡ []
@@ -116,8 +143,8 @@ unfolding history_of
 counts_none rows w es h = h
 
 -- once all events were made
-pub text_all : (frames : Bool) (w : WorldState) (es : List WorldEvent) (i : ℕ) (old new : List ℕ) → length es ≤ i → new ≡ old ++ entries_text frames (history_of (take i es) w) → new ≡ old ++ entries_text frames (history_of es w)
-text_all frames w es i old new h e = e ∙ ap (λ x. old ++ entries_text frames (history_of x w)) (take_all i es h)
+pub waits_all : (frames : Bool) (w : WorldState) (es : List WorldEvent) (i : ℕ) (old new text : List ℕ) → length es ≤ i → IsWaiting old new text (entries_text frames (history_of (take i es) w)) → IsWaiting old new text (entries_text frames (history_of es w))
+waits_all frames w es i old new text h a = subst (λ x. IsWaiting old new text (entries_text frames (history_of x w))) (take_all i es h) a
 
 pub counts_all : (rows : List FamilyRow) (w : WorldState) (es : List WorldEvent) (i : ℕ) → length es ≤ i → Stands (history_of (take i es) w) rows → Stands (history_of es w) rows
 counts_all rows w es i h s = subst (λ x. Stands (history_of x w) rows) (take_all i es h) s

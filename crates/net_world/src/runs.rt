@@ -1,6 +1,6 @@
 ghost use Rattle.std.specs.Prelude.{◌≡◌, ◌++◌, ◌+◌, ◌≤◌, ◌<◌, ◌-◌, ◌^◌, [], ℕ, List, map, take, codes, length, All, IsTrue, IfOk, OnOk, IsErrOf};
 ghost use Rattle.plan_base.specs.declared.ids.Family.{Family as FamilyOf};
-ghost use Rattle.node_io.specs.Causes.{Rose};
+ghost use Rattle.node_io.specs.Causes.{HasCause, Rose};
 ghost use Rattle.node_io.specs.Pieces.{AppendsFront};
 ghost use Rattle.network_plan.specs.Rules.{KeepsRules};
 ghost use Rattle.world_model.specs.World as spec;
@@ -15,7 +15,7 @@ ghost use Rattle.world_routes.specs.Roads.{NotRaw};
 ghost use Rattle.world_routes.specs.Routes.{RunKeepsRoutes};
 ghost use Rattle.run_ledger.specs.Stands.{Stands};
 ghost use Rattle.net_world.specs.Stands.{WorldStands};
-ghost use Rattle.net_world.specs.Running.{IsCountable};
+ghost use Rattle.net_world.specs.Running.{IsCountable, IsWaiting};
 
 use crate::world::World;
 use bound_ledger::Ledger;
@@ -27,6 +27,9 @@ use run_ledger::count_lines;
 use run_text::{put_ledger, put_lines};
 use service_api::Services;
 use std::alloc::Global;
+
+/// The bytes of text that are written at once.
+const PIECE: usize = 8_192;
 
 /// Why a run ended early.
 #[derive(Debug, Clone, Copy, PartialEq, Eq)]
@@ -57,18 +60,19 @@ impl From<NoMemory> for RunFault {
     }
 }
 
-/// Makes an event, counts its lines, and gives their text.
+/// Makes an event, counts its lines, and adds their text.
 fn make_event<S: Services>(
     alloc: Global,
     world: &mut World<S>,
     ledger: &mut Ledger,
     frames: bool,
     event: &WorldEvent,
-) -> Result<Bytes, NoMemory>
+    text: &mut Bytes,
+) -> Result<(), NoMemory>
     requires fits { event_fits event.now }
     requires few { world.old.made < 2 ^ 32 - 2 }
     requires counts { IsCountable S.stands world.old event.now ledger.old }
-    ensures text { (w : WorldState) → WorldStands S.stands world.old w → IfOk result (λ text. text ≡ entries_text frames (spec.entries w event.now)) }
+    ensures text { (w : WorldState) → WorldStands S.stands world.old w → OnOk result (text.new ≡ text.old ++ entries_text frames (spec.entries w event.now)) }
     ensures world { (w : WorldState) → WorldStands S.stands world.old w → OnOk result (WorldStands S.stands world.new (spec.happens w event.now).world) }
     ensures ledger { (w : WorldState) (h : List EntryOf) → WorldStands S.stands world.old w → Stands h ledger.old → OnOk result (Stands (h ++ spec.entries w event.now) ledger.new) }
     ensures made { OnOk result (world.new.made ≡ world.old.made + 1) }
@@ -76,34 +80,48 @@ fn make_event<S: Services>(
     let number = world.made() + 1;
     let lines = world.step(alloc, event)?;
     count_lines(ledger, lines.as_slice())?;
-    let mut text = Bytes::new(alloc);
-    put_lines(alloc, &mut text, frames, number, lines.as_slice())?;
-    Ok(text)
+    put_lines(alloc, text, frames, number, lines.as_slice())?;
+    Ok(())
 }
 
-/// Makes an event, counts its lines and writes them.
+/// Writes a text that has grown to a piece; a shorter one waits.
+fn write_piece<K: Sink>(alloc: Global, text: Bytes, out: &mut K) -> Result<Bytes, Failed>
+    ensures waits { IsTrue K.tells → IfOk result (λ left. IsWaiting (K.taken out.old) (K.taken out.new) left text) }
+    ensures front { IsTrue K.tells → AppendsFront (K.taken out.old) (K.taken out.new) text }
+    ensures cause { HasCause (K.faults out.old) (K.faults out.new) result }
+{
+    if text.len() < PIECE {
+        return Ok(text);
+    }
+    put_all(out, text.as_slice())?;
+    Ok(Bytes::new(alloc))
+}
+
+/// Makes an event, counts its lines and adds their text to what waits to be written; what still waits.
 fn run_event<S: Services, K: Sink>(
     alloc: Global,
     world: &mut World<S>,
     ledger: &mut Ledger,
     frames: bool,
     event: &WorldEvent,
+    text: Bytes,
     out: &mut K,
-) -> Result<(), RunFault>
+) -> Result<Bytes, RunFault>
     requires fits { event_fits event.now }
     requires few { world.old.made < 2 ^ 32 - 2 }
     requires counts { IsCountable S.stands world.old event.now ledger.old }
-    ensures whole { (w : WorldState) → WorldStands S.stands world.old w → IsTrue K.tells → OnOk result (K.taken out.new ≡ K.taken out.old ++ entries_text frames (spec.entries w event.now)) }
-    ensures front { (w : WorldState) → WorldStands S.stands world.old w → IsTrue K.tells → AppendsFront (K.taken out.old) (K.taken out.new) (entries_text frames (spec.entries w event.now)) }
+    ensures waits { (w : WorldState) → WorldStands S.stands world.old w → IsTrue K.tells → IfOk result (λ left. IsWaiting (K.taken out.old) (K.taken out.new) left (text ++ entries_text frames (spec.entries w event.now))) }
+    ensures front { (w : WorldState) → WorldStands S.stands world.old w → IsTrue K.tells → AppendsFront (K.taken out.old) (K.taken out.new) (text ++ entries_text frames (spec.entries w event.now)) }
     ensures write { IsErrOf result RunFault.WriteFault → Rose (K.faults out.old) (K.faults out.new) }
     ensures later { K.faults out.old ≤ K.faults out.new }
     ensures world { (w : WorldState) → WorldStands S.stands world.old w → OnOk result (WorldStands S.stands world.new (spec.happens w event.now).world) }
     ensures ledger { (w : WorldState) (h : List EntryOf) → WorldStands S.stands world.old w → Stands h ledger.old → OnOk result (Stands (h ++ spec.entries w event.now) ledger.new) }
     ensures made { OnOk result (world.new.made ≡ world.old.made + 1) }
 {
-    let text = make_event(alloc, world, ledger, frames, event)?;
-    put_all(out, text.as_slice())?;
-    Ok(())
+    let mut waiting = text;
+    make_event(alloc, world, ledger, frames, event, &mut waiting)?;
+    let left = write_piece(alloc, waiting, out)?;
+    Ok(left)
 }
 
 /// Makes the events of a schedule in order, counts their lines and writes them. Conditions: nothing has happened in
@@ -125,9 +143,11 @@ fn run_events<S: Services, K: Sink>(
     ensures ledger { OnOk result (Stands (spec.history_of schedule.now.events (opening schedule.now.topology)) ledger.new) }
 {
     let events = schedule.events.as_slice();
+    let mut text = Bytes::new(alloc);
     for event in events {
-        run_event(alloc, world, ledger, schedule.frames, event, out)?;
+        text = run_event(alloc, world, ledger, schedule.frames, event, text, out)?;
     }
+    put_all(out, text.as_slice())?;
     Ok(())
 }
 

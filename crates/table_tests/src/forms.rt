@@ -24,7 +24,11 @@ static LITERALS: [Call; 9] = [
     (b"fun f() : chunk = |f|()", b"<chunk f 15>"),
 ];
 
-static FORMS: [Call; 18] = [
+static FORMS: [Call; 19] = [
+    (
+        b"fun h() : unit = () fun g(u : unit, c : char, k : chunk) : (unit * unit * char * char * bool) = (u, u, c, c, k = k) fun f() : (unit * unit * char * char * bool) = g((), 'a', |h|())",
+        b"((), (), 'a', 'a', true)",
+    ),
     (
         b"fun f() : int = let val x : int = 1 in let val x : int = x + 1 in x + x end end",
         b"4",
@@ -158,7 +162,7 @@ fn each_operator_and_primitive_is_evaluated(rt: HostRuntime) -> Result<(), Fail>
     all_answer(&rt, rt.alloc(), &PRIMITIVES)
 }
 
-static EXCEPTIONS: [Call; 20] = [
+static EXCEPTIONS: [Call; 21] = [
     (b"fun f() : int = 9223372036854775807 + 1", b"Overflow"),
     (b"fun f() : int = ~9223372036854775808 - 1", b"Overflow"),
     (b"fun f() : int = 3037000500 * 3037000500", b"Overflow"),
@@ -190,6 +194,10 @@ static EXCEPTIONS: [Call; 20] = [
     (
         b"fun f() : unit = OnNeighbor(|f|(), @2, 1, %2)",
         b"NotNeighbor",
+    ),
+    (
+        b"svc put : (string, int, int, int) -> unit svc generateKey : () -> int fun p0() : unit = put(\"t\", generateKey(), 7, 1) fun p1() : unit = p0(); p0(); p0(); p0() fun p2() : unit = p1(); p1(); p1(); p1() fun p3() : unit = p2(); p2(); p2(); p2() fun p4() : unit = p3(); p3(); p3(); p3() fun f() : unit = p4(); p4(); p4(); p4(); p0()",
+        b"TableFull",
     ),
     (b"fun f() : int = raise TableFull", b"TableFull"),
     (b"fun f() : int = raise NotFound", b"NotFound"),

@@ -4,6 +4,8 @@
 #[cfg(test)]
 mod forms;
 #[cfg(test)]
+mod schemes;
+#[cfg(test)]
 mod services;
 #[cfg(test)]
 mod tables;

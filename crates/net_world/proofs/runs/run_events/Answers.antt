@@ -1,10 +1,11 @@
-use Rattle.std.proofs.Common.{◌+◌, ◌<◌, ◌≤◌, ◌++◌, get_or, length, sym, ap, ◌∙◌, subst, arith}
+use Rattle.std.proofs.Common.{◌+◌, ◌<◌, ◌≤◌, [], ◌++◌, get_or, length, sym, ap, ◌∙◌, subst, arith}
 use Rattle.std.proofs.lemmas.List.{append-nil}
 use Rattle.std.proofs.lemmas.List.Elements.{All-get_or}
 use Rattle.world_model.specs.World.{opening}
 use Rattle.world_model.specs.Sound.{event_fits}
+use Rattle.node_io.specs.Pieces.{AppendsFront}
 use Rattle.node_io.proofs.Fronts.{front_all}
-use Rattle.net_world.proofs.RunLaws.{stands_none, counts_none, text_none, opening_made, events_fit, countable, stands_next, counts_next, written_next, front_event, text_all, counts_all}
+use Rattle.net_world.proofs.RunLaws.{stands_none, counts_none, text_none, opening_made, events_fit, countable, stands_next, counts_next, waits_next, front_event, waits_all, waited_written, waited_front, counts_all}
 use Rattle.net_world.proofs.runs.run_events.Goals as goal
 
 pub loop-event-init : goal.loop-event-init
@@ -15,7 +16,7 @@ loop-event-init g c =
       ledger = counts_none c.args.ledger.now (opening s.topology) s.events c.requires.empty;
       made = c.requires.opening.made ∙ opening_made s.topology;
       later = omega arith;
-      written = λ t. sym (append-nil (g.K.Sink.taken c.args.out.now)) ∙ ap (λ x. g.K.Sink.taken c.args.out.now ++ x) (sym (text_none s.frames (opening s.topology) s.events));
+      waits = λ t. record { done = []; written = sym (append-nil (g.K.Sink.taken c.args.out.now)); is = text_none s.frames (opening s.topology) s.events ∙ sym c.new-text.ensures };
     }
 
 pub run_event-requires-clause-fits : goal.run_event-requires-clause-fits
@@ -50,7 +51,7 @@ loop-event-preserved g c =
       ledger = counts_next w s.events c.loop-event.event-index c.event-item.result within is c.run_event.new.ledger (done.ledger _ _ i.world i.ledger);
       made = done.made ∙ ap (λ n. n + 1) i.made;
       later = omega (arith, i.later, c.run_event.ensures.later);
-      written = λ t. written_next w s.events c.loop-event.event-index c.event-item.result within is s.frames (g.K.Sink.taken c.args.out.now) (g.K.Sink.taken c.loop-event.out) (g.K.Sink.taken c.run_event.new.out) (i.written t) (done.whole _ i.world t);
+      waits = λ t. waits_next w s.events c.loop-event.event-index c.event-item.result within is s.frames (g.K.Sink.taken c.args.out.now) (g.K.Sink.taken c.loop-event.out) (g.K.Sink.taken c.run_event.new.out) c.loop-event.text _ (i.waits t) (done.waits _ i.world t);
     }
 
 pub returns-in_err-run_event-clause-front : goal.returns-in_err-run_event-clause-front
@@ -59,21 +60,27 @@ returns-in_err-run_event-clause-front g c = λ t.
     let i = c.loop-event.invariant in
     let within = subst (λ es. c.loop-event.event-index < length es) c.as_slice-events.ensures c.loop-event-test.true in
     let is = c.event-item.is ∙ ap (λ es. get_or es c.loop-event.event-index c.event-item.result) c.as_slice-events.ensures in
-    front_event (opening s.topology) s.events c.loop-event.event-index c.event-item.result within is s.frames (g.K.Sink.taken c.args.out.now) (g.K.Sink.taken c.loop-event.out) (g.K.Sink.taken c.run_event.new.out) (i.written t)
+    front_event (opening s.topology) s.events c.loop-event.event-index c.event-item.result within is s.frames (g.K.Sink.taken c.args.out.now) (g.K.Sink.taken c.loop-event.out) (g.K.Sink.taken c.run_event.new.out) c.loop-event.text (i.waits t)
     (c.run_event.ensures.front _ i.world t)
+
+pub returns-in_err-put_all-clause-front : goal.returns-in_err-put_all-clause-front
+returns-in_err-put_all-clause-front g c = λ t.
+    let s = c.args.schedule.now in
+    let all = subst (λ es. length es ≤ c.loop-event.event-index) c.as_slice-events.ensures c.loop-event-test.false in
+    waited_front (g.K.Sink.taken c.args.out.now) (g.K.Sink.taken c.loop-event.out) (g.K.Sink.taken c.put_all.new.sink) c.loop-event.text _
+    (waits_all s.frames (opening s.topology) s.events c.loop-event.event-index (g.K.Sink.taken c.args.out.now) (g.K.Sink.taken c.loop-event.out) c.loop-event.text all (c.loop-event.invariant.waits t))
+    (subst (AppendsFront (g.K.Sink.taken c.loop-event.out) (g.K.Sink.taken c.put_all.new.sink)) c.as_slice.ensures (c.put_all.ensures.front t))
 
 pub returns-clause-whole : goal.returns-clause-whole
 returns-clause-whole g c = λ t.
     let s = c.args.schedule.now in
     let all = subst (λ es. length es ≤ c.loop-event.event-index) c.as_slice-events.ensures c.loop-event-test.false in
-    text_all s.frames (opening s.topology) s.events c.loop-event.event-index (g.K.Sink.taken c.args.out.now) (g.K.Sink.taken c.loop-event.out) all (c.loop-event.invariant.written t)
+    waited_written (g.K.Sink.taken c.args.out.now) (g.K.Sink.taken c.loop-event.out) (g.K.Sink.taken c.put_all.new.sink) c.loop-event.text _
+    (waits_all s.frames (opening s.topology) s.events c.loop-event.event-index (g.K.Sink.taken c.args.out.now) (g.K.Sink.taken c.loop-event.out) c.loop-event.text all (c.loop-event.invariant.waits t))
+    (c.in_ok-put_all.ensures.whole t ∙ ap (λ x. g.K.Sink.taken c.loop-event.out ++ x) c.as_slice.ensures)
 
 pub returns-clause-front : goal.returns-clause-front
-returns-clause-front g c = λ t.
-    let s = c.args.schedule.now in
-    let all = subst (λ es. length es ≤ c.loop-event.event-index) c.as_slice-events.ensures c.loop-event-test.false in
-    front_all (g.K.Sink.taken c.args.out.now) (g.K.Sink.taken c.loop-event.out) _
-    (text_all s.frames (opening s.topology) s.events c.loop-event.event-index (g.K.Sink.taken c.args.out.now) (g.K.Sink.taken c.loop-event.out) all (c.loop-event.invariant.written t))
+returns-clause-front g c = λ t. front_all (g.K.Sink.taken c.args.out.now) (g.K.Sink.taken c.put_all.new.sink) _ (returns-clause-whole g c t)
 
 pub returns-clause-ledger : goal.returns-clause-ledger
 returns-clause-ledger g c =
