@@ -16,12 +16,12 @@ begin_top-decided-requires-clause-linked g c = linked_top c.args.codes.now c.arg
 pub begin_top-decided-requires-clause-safe : goal.begin_top-decided-requires-clause-safe
 begin_top-decided-requires-clause-safe g c =
     safe_here c.args.codes.now c.args.outer.now c.args.top (joined c.args.state.now (g.S.Services.stands c.args.svc.now)) c.requires.linked
-    (joined c.if-not-pays.new.self (g.S.Services.stands c.args.svc.now)) (c.if-not-pays.ensures.paid refl (g.S.Services.stands c.args.svc.now)) c.requires.safe
+    (joined c.pays.new.self (g.S.Services.stands c.args.svc.now)) (c.if-not-pays.ensures.paid refl (g.S.Services.stands c.args.svc.now)) c.requires.safe
 
 pub returns-clause-turned : goal.returns-clause-turned
 returns-clause-turned g c =
     let new = g.S.Services.stands c.begin_top-decided.new.svc in
     turn_begins c.args.codes.now c.args.outer.now c.args.top c.begin_top-decided.result (joined c.begin_top-decided.new.state new) (joined c.apply.new.state new) c.apply.result c.apply.new.codes c.apply.new.outer
-    (joined c.args.state.now (g.S.Services.stands c.args.svc.now)) (joined c.if-not-pays.new.self (g.S.Services.stands c.args.svc.now)) (c.if-not-pays.ensures.paid refl (g.S.Services.stands c.args.svc.now)) c.requires.linked
+    (joined c.args.state.now (g.S.Services.stands c.args.svc.now)) (joined c.pays.new.self (g.S.Services.stands c.args.svc.now)) (c.if-not-pays.ensures.paid refl (g.S.Services.stands c.args.svc.now)) c.requires.linked
     c.begin_top-decided.ensures.decides
     (λ code at want here d done. c.apply.ensures.turned code at want new here d done)
