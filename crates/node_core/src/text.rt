@@ -15,9 +15,15 @@ use service_api::Note;
 use std::alloc::Global;
 
 /// Appends a number in decimal.
+#[tactic(auto, using(std::proofs::lemmas::Fmt::decimal_digit))]
 pub fn put_number(out: &mut Bytes, n: u64) -> Result<(), NoMemory>
     ensures { OnOk result (out.new ≡ out.old ++ decimal n) }
 {
+    // (most numbers of a trace have one digit)
+    if n < 10 {
+        out.add(b'0' + n as u8)?;
+        return Ok(());
+    }
     let mut digits = Buffer::new();
     out.add_all(digits.format(n).as_bytes())?;
     Ok(())
