@@ -45,7 +45,7 @@ loop-event-preserved g c =
     let i = c.loop-event.invariant in
     let within = subst (λ es. c.loop-event.event-index < length es) c.as_slice-events.ensures c.loop-event-test.true in
     let is = c.event-item.is ∙ ap (λ es. get_or es c.loop-event.event-index c.event-item.result) c.as_slice-events.ensures in
-    let done = c.in_ok-run_event.ensures in
+    let done = c.in_ok-text.ensures in
     record {
       world = stands_next w s.events c.loop-event.event-index c.event-item.result within is g.S.Services.stands c.run_event.new.world (done.world _ i.world);
       ledger = counts_next w s.events c.loop-event.event-index c.event-item.result within is c.run_event.new.ledger (done.ledger _ _ i.world i.ledger);
@@ -54,8 +54,8 @@ loop-event-preserved g c =
       waits = λ t. waits_next w s.events c.loop-event.event-index c.event-item.result within is s.frames (g.K.Sink.taken c.args.out.now) (g.K.Sink.taken c.loop-event.out) (g.K.Sink.taken c.run_event.new.out) c.loop-event.text _ (i.waits t) (done.waits _ i.world t);
     }
 
-pub returns-in_err-run_event-clause-front : goal.returns-in_err-run_event-clause-front
-returns-in_err-run_event-clause-front g c = λ t.
+pub returns-in_err-text-clause-front : goal.returns-in_err-text-clause-front
+returns-in_err-text-clause-front g c = λ t.
     let s = c.args.schedule.now in
     let i = c.loop-event.invariant in
     let within = subst (λ es. c.loop-event.event-index < length es) c.as_slice-events.ensures c.loop-event-test.true in
