@@ -88,7 +88,7 @@ impl Expr {
 }
 
 #[cycle(copy_expr)]
-#[tactic(auto, using(crate::specs::Trees::trees))]
+#[tactic(auto, using(crate::specs::Trees::trees, crate::proofs::SizeLaws::expr_nodes_out))]
 fn copy_expr(alloc: Global, e: &Expr) -> Result<Expr, NoMemory>
     ensures { IfOk result (λ f. f ≡ e.now) }
 {
