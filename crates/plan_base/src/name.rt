@@ -170,5 +170,15 @@ pub fn is_reserved(word: &[u8]) -> bool
 fn is_among(word: &[u8], words: &[&[u8]]) -> bool
     ensures { result ≡ list_any (λ r. bytes_eq r.now word.now) words.now }
 {
-    words.iter().any(|r| *r == word)
+    words.iter().any(|r| is_same(r, word))
+}
+
+/// Whether two words are the same; most differ in their first byte.
+fn is_same(word: &[u8], other: &[u8]) -> bool
+    ensures { result ≡ bytes_eq word.now other.now }
+{
+    match (word, other) {
+        ([a, ..], [b, ..]) if a != b => false,
+        _ => word == other,
+    }
 }
