@@ -1,7 +1,8 @@
 ghost use Rattle.std.specs.Prelude.{◌≡◌, IfOk};
+ghost use Rattle.plan_base.specs.declared.tree.Expr.{Expr};
 
 use crate::{
-    Chunk, Clause, Clauses, Draft, Exn, Expr, Exprs, Fun, Funs, Name, Names, NoMemory, Packet,
+    Chunk, Clause, Clauses, Draft, Exn, Expr, Exprs, Fun, Funs, Name, Names, NoMemory, Op, Packet,
     Param, Params, Places, Program, Svc, Svcs, Ty, Tys, Value, Values,
 };
 use plan_items::{Boxed, Items};
@@ -87,7 +88,7 @@ impl Expr {
 }
 
 #[cycle(copy_expr)]
-#[tactic(auto, using(crate::specs::Trees::trees))]
+#[tactic(auto, using(crate::specs::Trees::trees, crate::proofs::SizeLaws::expr_nodes_out))]
 fn copy_expr(alloc: Global, e: &Expr) -> Result<Expr, NoMemory>
     ensures { IfOk result (λ f. f ≡ e.now) }
 {
@@ -103,65 +104,180 @@ fn copy_expr(alloc: Global, e: &Expr) -> Result<Expr, NoMemory>
         Expr::Nil(t) => Ok(Expr::Nil(copy_option_type(alloc, t)?)),
         Expr::Var(x) => Ok(Expr::Var(x.copy(alloc)?)),
         Expr::Tuple(es) => Ok(Expr::Tuple(copy_exprs(alloc, es.as_slice())?)),
-        Expr::Call(f, es) => Ok(Expr::Call(f.copy(alloc)?, copy_exprs(alloc, es.as_slice())?)),
-        Expr::If(c, a, b) => Ok(Expr::If(
-            copy_boxed(alloc, c)?,
-            copy_boxed(alloc, a)?,
-            copy_boxed(alloc, b)?,
-        )),
-        Expr::Let(x, t, a, b) => Ok(Expr::Let(
-            x.copy(alloc)?,
-            t.copy(alloc)?,
-            copy_boxed(alloc, a)?,
-            copy_boxed(alloc, b)?,
-        )),
-        Expr::Then(a, b) => Ok(Expr::Then(copy_boxed(alloc, a)?, copy_boxed(alloc, b)?)),
-        Expr::And(a, b) => Ok(Expr::And(copy_boxed(alloc, a)?, copy_boxed(alloc, b)?)),
-        Expr::Or(a, b) => Ok(Expr::Or(copy_boxed(alloc, a)?, copy_boxed(alloc, b)?)),
+        Expr::Call(f, es) => copy_call(alloc, f, es),
+        Expr::If(c, a, b) => copy_if(alloc, c, a, b),
+        Expr::Let(x, t, a, b) => copy_let(alloc, x, t, a, b),
+        Expr::Then(a, b) => copy_then(alloc, a, b),
+        Expr::And(a, b) => copy_and(alloc, a, b),
+        Expr::Or(a, b) => copy_or(alloc, a, b),
         Expr::Not(a) => Ok(Expr::Not(copy_boxed(alloc, a)?)),
-        Expr::Binary(op, a, b) => Ok(Expr::Binary(
-            *op,
-            copy_boxed(alloc, a)?,
-            copy_boxed(alloc, b)?,
-        )),
+        Expr::Binary(op, a, b) => copy_binary(alloc, *op, a, b),
         Expr::Part(i, a) => Ok(Expr::Part(*i, copy_boxed(alloc, a)?)),
-        Expr::Raise(x, t) => Ok(Expr::Raise(x.copy(alloc)?, copy_option_type(alloc, t)?)),
-        Expr::Try(a, clauses) => Ok(Expr::Try(
-            copy_boxed(alloc, a)?,
-            copy_clauses(alloc, clauses.as_slice())?,
-        )),
-        Expr::Foldl(f, a, l) => Ok(Expr::Foldl(
-            f.copy(alloc)?,
-            copy_boxed(alloc, a)?,
-            copy_boxed(alloc, l)?,
-        )),
-        Expr::Foldr(f, a, l) => Ok(Expr::Foldr(
-            f.copy(alloc)?,
-            copy_boxed(alloc, a)?,
-            copy_boxed(alloc, l)?,
-        )),
-        Expr::ChunkOf(f, es) => Ok(Expr::ChunkOf(
-            f.copy(alloc)?,
-            copy_exprs(alloc, es.as_slice())?,
-        )),
+        Expr::Raise(x, t) => copy_raise(alloc, x, t),
+        Expr::Try(a, clauses) => copy_try(alloc, a, clauses),
+        Expr::Foldl(f, a, l) => copy_foldl(alloc, f, a, l),
+        Expr::Foldr(f, a, l) => copy_foldr(alloc, f, a, l),
+        Expr::ChunkOf(f, es) => copy_chunk_of(alloc, f, es),
         Expr::Eval(c) => Ok(Expr::Eval(copy_boxed(alloc, c)?)),
-        Expr::OnRemote(c, h, n, r) => {
-            Ok(Expr::OnRemote(
-                copy_boxed(alloc, c)?,
-                copy_boxed(alloc, h)?,
-                copy_boxed(alloc, n)?,
-                r.copy(alloc)?,
-            ))
-        }
-        Expr::OnNeighbor(c, h, n, d) => {
-            Ok(Expr::OnNeighbor(
-                copy_boxed(alloc, c)?,
-                copy_boxed(alloc, h)?,
-                copy_boxed(alloc, n)?,
-                copy_boxed(alloc, d)?,
-            ))
-        }
+        Expr::OnRemote(c, h, n, r) => copy_on_remote(alloc, c, h, n, r),
+        Expr::OnNeighbor(c, h, n, d) => copy_on_neighbor(alloc, c, h, n, d),
     }
+}
+
+#[cycle(copy_expr)]
+#[tactic(auto, using(crate::specs::Trees::trees))]
+fn copy_call(alloc: Global, f: &Name, args: &Exprs) -> Result<Expr, NoMemory>
+    ensures { IfOk result (λ copied. copied ≡ Expr.Call f.now args.now) }
+{
+    Ok(Expr::Call(f.copy(alloc)?, copy_exprs(alloc, args.as_slice())?))
+}
+
+#[cycle(copy_expr)]
+#[tactic(auto, using(crate::specs::Trees::trees))]
+fn copy_if(
+    alloc: Global,
+    c: &Boxed<Expr>,
+    a: &Boxed<Expr>,
+    b: &Boxed<Expr>,
+) -> Result<Expr, NoMemory>
+    ensures { IfOk result (λ copied. copied ≡ Expr.If c.now a.now b.now) }
+{
+    Ok(Expr::If(
+        copy_boxed(alloc, c)?,
+        copy_boxed(alloc, a)?,
+        copy_boxed(alloc, b)?,
+    ))
+}
+
+#[cycle(copy_expr)]
+#[tactic(auto, using(crate::specs::Trees::trees))]
+fn copy_let(
+    alloc: Global,
+    x: &Name,
+    t: &Ty,
+    a: &Boxed<Expr>,
+    b: &Boxed<Expr>,
+) -> Result<Expr, NoMemory>
+    ensures { IfOk result (λ copied. copied ≡ Expr.Let x.now t.now a.now b.now) }
+{
+    Ok(Expr::Let(
+        x.copy(alloc)?,
+        t.copy(alloc)?,
+        copy_boxed(alloc, a)?,
+        copy_boxed(alloc, b)?,
+    ))
+}
+
+#[cycle(copy_expr)]
+#[tactic(auto, using(crate::specs::Trees::trees))]
+fn copy_then(alloc: Global, a: &Boxed<Expr>, b: &Boxed<Expr>) -> Result<Expr, NoMemory>
+    ensures { IfOk result (λ copied. copied ≡ Expr.Then a.now b.now) }
+{
+    Ok(Expr::Then(copy_boxed(alloc, a)?, copy_boxed(alloc, b)?))
+}
+
+#[cycle(copy_expr)]
+#[tactic(auto, using(crate::specs::Trees::trees))]
+fn copy_and(alloc: Global, a: &Boxed<Expr>, b: &Boxed<Expr>) -> Result<Expr, NoMemory>
+    ensures { IfOk result (λ copied. copied ≡ Expr.And a.now b.now) }
+{
+    Ok(Expr::And(copy_boxed(alloc, a)?, copy_boxed(alloc, b)?))
+}
+
+#[cycle(copy_expr)]
+#[tactic(auto, using(crate::specs::Trees::trees))]
+fn copy_or(alloc: Global, a: &Boxed<Expr>, b: &Boxed<Expr>) -> Result<Expr, NoMemory>
+    ensures { IfOk result (λ copied. copied ≡ Expr.Or a.now b.now) }
+{
+    Ok(Expr::Or(copy_boxed(alloc, a)?, copy_boxed(alloc, b)?))
+}
+
+#[cycle(copy_expr)]
+#[tactic(auto, using(crate::specs::Trees::trees))]
+fn copy_binary(alloc: Global, op: Op, a: &Boxed<Expr>, b: &Boxed<Expr>) -> Result<Expr, NoMemory>
+    ensures { IfOk result (λ copied. copied ≡ Expr.Binary op a.now b.now) }
+{
+    Ok(Expr::Binary(op, copy_boxed(alloc, a)?, copy_boxed(alloc, b)?))
+}
+
+#[tactic(auto, using(crate::specs::Trees::trees))]
+fn copy_raise(alloc: Global, x: &Name, t: &Option<Ty>) -> Result<Expr, NoMemory>
+    ensures { IfOk result (λ copied. copied ≡ Expr.Raise x.now t.now) }
+{
+    Ok(Expr::Raise(x.copy(alloc)?, copy_option_type(alloc, t)?))
+}
+
+#[cycle(copy_expr)]
+#[tactic(auto, using(crate::specs::Trees::trees))]
+fn copy_try(alloc: Global, a: &Boxed<Expr>, clauses: &Clauses) -> Result<Expr, NoMemory>
+    ensures { IfOk result (λ copied. copied ≡ Expr.Try a.now clauses.now) }
+{
+    Ok(Expr::Try(
+        copy_boxed(alloc, a)?,
+        copy_clauses(alloc, clauses.as_slice())?,
+    ))
+}
+
+#[cycle(copy_expr)]
+#[tactic(auto, using(crate::specs::Trees::trees))]
+fn copy_foldl(alloc: Global, f: &Name, a: &Boxed<Expr>, l: &Boxed<Expr>) -> Result<Expr, NoMemory>
+    ensures { IfOk result (λ copied. copied ≡ Expr.Foldl f.now a.now l.now) }
+{
+    Ok(Expr::Foldl(f.copy(alloc)?, copy_boxed(alloc, a)?, copy_boxed(alloc, l)?))
+}
+
+#[cycle(copy_expr)]
+#[tactic(auto, using(crate::specs::Trees::trees))]
+fn copy_foldr(alloc: Global, f: &Name, a: &Boxed<Expr>, l: &Boxed<Expr>) -> Result<Expr, NoMemory>
+    ensures { IfOk result (λ copied. copied ≡ Expr.Foldr f.now a.now l.now) }
+{
+    Ok(Expr::Foldr(f.copy(alloc)?, copy_boxed(alloc, a)?, copy_boxed(alloc, l)?))
+}
+
+#[cycle(copy_expr)]
+#[tactic(auto, using(crate::specs::Trees::trees))]
+fn copy_chunk_of(alloc: Global, f: &Name, args: &Exprs) -> Result<Expr, NoMemory>
+    ensures { IfOk result (λ copied. copied ≡ Expr.ChunkOf f.now args.now) }
+{
+    Ok(Expr::ChunkOf(f.copy(alloc)?, copy_exprs(alloc, args.as_slice())?))
+}
+
+#[cycle(copy_expr)]
+#[tactic(auto, using(crate::specs::Trees::trees))]
+fn copy_on_remote(
+    alloc: Global,
+    c: &Boxed<Expr>,
+    h: &Boxed<Expr>,
+    n: &Boxed<Expr>,
+    r: &Name,
+) -> Result<Expr, NoMemory>
+    ensures { IfOk result (λ copied. copied ≡ Expr.OnRemote c.now h.now n.now r.now) }
+{
+    Ok(Expr::OnRemote(
+        copy_boxed(alloc, c)?,
+        copy_boxed(alloc, h)?,
+        copy_boxed(alloc, n)?,
+        r.copy(alloc)?,
+    ))
+}
+
+#[cycle(copy_expr)]
+#[tactic(auto, using(crate::specs::Trees::trees))]
+fn copy_on_neighbor(
+    alloc: Global,
+    c: &Boxed<Expr>,
+    h: &Boxed<Expr>,
+    n: &Boxed<Expr>,
+    d: &Boxed<Expr>,
+) -> Result<Expr, NoMemory>
+    ensures { IfOk result (λ copied. copied ≡ Expr.OnNeighbor c.now h.now n.now d.now) }
+{
+    Ok(Expr::OnNeighbor(
+        copy_boxed(alloc, c)?,
+        copy_boxed(alloc, h)?,
+        copy_boxed(alloc, n)?,
+        copy_boxed(alloc, d)?,
+    ))
 }
 
 #[cycle(copy_expr)]
