@@ -56,14 +56,14 @@ fn told(alloc: Global, fault: FrameFault) -> Result<Bytes, NoMemory> {
 
 /// Why the bytes are no frame, as it is told; nothing where they are one.
 pub fn refusal(alloc: Global, bytes: &[u8]) -> Result<Bytes, NoMemory> {
-    match get_frame(alloc, bytes) {
+    match get_frame(alloc, bytes, None) {
         Err(fault) => told(alloc, fault),
         Ok(_) => Ok(Bytes::new(alloc)),
     }
 }
 
 fn packet(alloc: Global, bytes: &[u8]) -> Option<CheckedPacket> {
-    match get_frame(alloc, bytes) {
+    match get_frame(alloc, bytes, None) {
         Ok(Frame::Packet(packet)) => Some(packet),
         _ => None,
     }
@@ -85,14 +85,14 @@ fn packet_again(alloc: Global, bytes: &[u8]) -> bool {
 }
 
 fn advert_again(alloc: Global, bytes: &[u8]) -> bool {
-    match get_frame(alloc, bytes) {
+    match get_frame(alloc, bytes, None) {
         Ok(Frame::Advert(a)) => is_written(put_advert(alloc, &a), bytes),
         _ => false,
     }
 }
 
 fn ask_again(alloc: Global, bytes: &[u8]) -> bool {
-    match get_frame(alloc, bytes) {
+    match get_frame(alloc, bytes, None) {
         Ok(Frame::Ask(_, c)) => is_written(put_ask(alloc, 10, &c), bytes),
         _ => false,
     }
@@ -125,7 +125,7 @@ fn a_packet_goes_on(rt: HostRuntime) {
 fn an_ill_typed_packet_is_refused(rt: HostRuntime) {
     assert!(rt;
         matches!(
-            get_frame(rt.alloc(), ILL_TYPED),
+            get_frame(rt.alloc(), ILL_TYPED, None),
             Err(FrameFault::IllTyped(Ill::Argument(0)))
         )
     );

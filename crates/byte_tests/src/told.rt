@@ -10,7 +10,7 @@ fn an_advert_is_told(rt: HostRuntime) -> Result<(), Fail> {
     let mut out = Bytes::new(rt.alloc());
     let frame =
         b"PLAN\x01\x02\x00\x00\x00\x02\x00\x02\x00\x00\x00\x01\x00\x00\x00\x01\x00\x00\x00\x02\x00\x00\x00\x00";
-    if let Ok(advert) = get_frame(rt.alloc(), frame.as_slice()) {
+    if let Ok(advert) = get_frame(rt.alloc(), frame.as_slice(), None) {
         print_frame(rt.alloc(), &advert, &mut out)?;
     }
     assert_eq!(rt; out.as_slice(), b"advert @2\n@1 1\n@2 0\n".as_slice());

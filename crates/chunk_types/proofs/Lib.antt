@@ -1,3 +1,4 @@
+pub mod Known
 pub mod Levels
 pub mod Loops
 pub mod Values

@@ -1,20 +1,48 @@
 //! What comes first that is wrong with a chunk.
 
-ghost use Rattle.std.specs.Prelude.{◌≡◌, IfOk, length};
+ghost use Rattle.std.specs.Prelude.{◌≡◌, IfOk, IsTrue, length};
 ghost use Rattle.std.specs.List.{list_all};
 ghost use Rattle.plan_base.specs.TypingNames.{param_types};
+ghost use Rattle.plan_types.specs.Kept.{IsChecked};
 ghost use Rattle.chunk_types.specs.Chunks as spec;
 
 use crate::fault::Ill;
 use crate::shape::fits;
 use plan_base::{Chunk, Name, NoMemory, Param, Program, Ty, Value};
-use plan_types::{fun_of, refused};
+use plan_types::{Checked, fun_of, refused};
 use std::alloc::Global;
+
+/// Whether a program is the same as one that was checked.
+#[tactic(auto, using(crate::proofs::Known::checked_too))]
+fn is_known(known: Option<&Checked>, code: &Program) -> bool
+    ensures { IsTrue result → IsChecked code.now }
+{
+    match known {
+        None => false,
+        Some(program) => program.program().is(code),
+    }
+}
+
+/// What comes first that is wrong with a chunk within the limits of size, whose code isn't checked again where it is known.
+#[tactic(auto, using(crate::proofs::Known::known_passes))]
+pub fn illness_by(
+    alloc: Global,
+    chunk: &Chunk,
+    known: Option<&Checked>,
+) -> Result<Option<Ill>, NoMemory>
+    ensures { IfOk result (λ o. o ≡ spec.illness chunk.now) }
+{
+    let code = chunk.code.get();
+    if is_known(known, code) {
+        return ill_call(alloc, code, &chunk.entry, chunk.args.as_slice());
+    }
+    illness(alloc, chunk)
+}
 
 /// What comes first that is wrong with a chunk within the limits of size.
 #[cycle(illness)]
 #[tactic(auto, using(crate::proofs::Levels::illness_is, crate::proofs::Levels::code_passes))]
-pub fn illness(alloc: Global, chunk: &Chunk) -> Result<Option<Ill>, NoMemory>
+fn illness(alloc: Global, chunk: &Chunk) -> Result<Option<Ill>, NoMemory>
     ensures { IfOk result (λ o. o ≡ spec.illness chunk.now) }
 {
     match refused(alloc, chunk.code.get())? {

@@ -10,7 +10,7 @@ ghost use Rattle.chunk_types.specs.Chunks as spec;
 ghost use Rattle.chunk_types.specs.Chunks.{IsCheckedChunk};
 
 use crate::fault::ChunkFault;
-use crate::ill::{ill_call, illness};
+use crate::ill::{ill_call, illness_by};
 use plan_base::{Chunk, Name, NoMemory, Values, chunk_nesting, chunk_weight};
 use plan_types::Checked;
 use std::alloc::Global;
@@ -54,6 +54,15 @@ impl CheckedChunk {
         &self.chunk
     }
 
+    /// The program of the chunk, for one more owner. Takes no memory, and fails only where the count of owners is full.
+    #[tactic(auto, using(crate::proofs::Known::code_checked))]
+    pub fn code(&self) -> Result<Checked, NoMemory>
+        ensures { IfOk result (λ k. k ≡ self.now.code) }
+    {
+        let code = self.chunk.code.share()?;
+        Ok(Checked::of(code))
+    }
+
     /// The chunk itself. Takes no memory.
     pub fn into_chunk(self) -> Chunk
         ensures value { result ≡ self }
@@ -78,9 +87,13 @@ fn is_small(chunk: &Chunk) -> bool
 }
 
 /// Checks a chunk that is within the limits of size: its code, its entry, the number of its arguments and
-/// each of them. Else what comes first that is wrong.
+/// each of them. Else what comes first that is wrong. Code that is the same as a `known` program isn't checked again.
 #[tactic(auto, using(crate::proofs::Values::chunk_found, crate::proofs::Values::chunk_only))]
-pub fn check_chunk(alloc: Global, chunk: Chunk) -> Result<CheckedChunk, ChunkFault>
+pub fn check_chunk(
+    alloc: Global,
+    chunk: Chunk,
+    known: Option<&Checked>,
+) -> Result<CheckedChunk, ChunkFault>
     requires formed { IsWellFormedChunk chunk }
     requires full { ChunkHasTypes chunk }
     requires small { 1 + chunk_weight chunk ≤ 16384 }
@@ -88,7 +101,7 @@ pub fn check_chunk(alloc: Global, chunk: Chunk) -> Result<CheckedChunk, ChunkFau
     ensures only { IsTypedChunk chunk → MatchResult result (λ k. k ≡ chunk) (λ f. f ≡ ChunkFault.NoMemory) }
     ensures fault { IfErr result (λ f. f ≢ ChunkFault.NoMemory → spec.as_fault (spec.illness chunk) ≡ Some f) }
 {
-    if let Some(ill) = illness(alloc, &chunk)? {
+    if let Some(ill) = illness_by(alloc, &chunk, known)? {
         return Err(ChunkFault::Ill(ill));
     }
     Ok(CheckedChunk { chunk })

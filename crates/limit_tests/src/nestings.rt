@@ -50,7 +50,7 @@ fn chunk(alloc: Global, program: &Checked) -> Result<CheckedChunk, Fail> {
 }
 
 fn arrives(alloc: Global, bytes: &[u8]) -> bool {
-    matches!(get_frame(alloc, bytes), Ok(Frame::Ask(5, _)))
+    matches!(get_frame(alloc, bytes, None), Ok(Frame::Ask(5, _)))
 }
 
 // Whether a program that is sent arrives.

@@ -48,7 +48,7 @@ fn read_frame(alloc: Global, bytes: &[u8]) -> Result<Frame, FrameFault>
     ensures found { IfOk result (λ x. frame_of bytes.now ≡ Ok (plain_of x)) }
     ensures fault { IfErr result (λ e. (e ≡ FrameFault.NoMemory) ⊎ (frame_of bytes.now ≡ Err e)) }
 {
-    get_frame(alloc, bytes)
+    get_frame(alloc, bytes, None)
 }
 
 /// The lines of a frame from outside before it arrives: a packet grants its bound.

@@ -26,6 +26,7 @@ use node_model::{Act, ActList, Acts, Reason};
 use packet_frame::{Frame, FrameFault, get_frame};
 use plan_base::{Dev, Family, Host, NoMemory};
 use plan_items::Items;
+use plan_types::Checked;
 use remote_calls::default_route;
 use service_api::{Advert, Ctx, Hop, Services};
 use spelled_frame::SpelledFrame;
@@ -35,7 +36,8 @@ use std::alloc::Global;
 const DEVICES: usize = 9;
 
 /// A node: its host, its neighbours by device, its routes, its services, a queue for each device from
-/// 0 to 8, the serial number of its next injection, and its time in ticks.
+/// 0 to 8, the serial number of its next injection, its time in ticks, and the program of the last chunk
+/// that arrived, so that the same program isn't checked again.
 #[derive(Drop)]
 pub struct Node<S: Services> {
     here: Host,
@@ -45,6 +47,7 @@ pub struct Node<S: Services> {
     queues: Vec<Queue<SpelledFrame>>,
     serial: u64,
     time: u64,
+    known: Option<Checked>,
 }
 
 /// A list of one act.
@@ -138,14 +141,23 @@ pub fn are_bytes(bytes: &[u8])
     let _count = bytes.len();
 }
 
-/// Reads a frame; the answer is that of the definition, where memory is there.
-fn read_frame(alloc: Global, bytes: &[u8]) -> Result<Frame, FrameFault>
+/// Reads a frame; the answer is that of the definition, where memory is there, whatever program is known.
+fn read_frame(alloc: Global, bytes: &[u8], known: Option<&Checked>) -> Result<Frame, FrameFault>
     ensures found { IfOk result (λ x. frame_of bytes.now ≡ Ok (plain_of x)) }
     ensures fault { IfErr result (λ e. (e ≡ FrameFault.NoMemory) ⊎ (frame_of bytes.now ≡ Err e)) }
     ensures within { IfOk result (λ x. asks_within (plain_of x)) }
 {
     are_bytes(bytes);
-    get_frame(alloc, bytes)
+    get_frame(alloc, bytes, known)
+}
+
+/// The program of a frame's chunk, for one more owner, or `None` where there is none or it has too many owners.
+fn code_of(frame: &Frame) -> Option<Checked> {
+    match frame {
+        Frame::Packet(packet) => packet.chunk().code().ok(),
+        Frame::Advert(_) => None,
+        Frame::Ask(_, chunk) => chunk.code().ok(),
+    }
 }
 
 /// The next tick, which stands still at the last number.
@@ -180,6 +192,7 @@ impl<S: Services + Drop> Node<S> {
             queues,
             serial,
             time: 0,
+            known: None,
         })
     }
 }
@@ -436,14 +449,26 @@ impl<S: Services> Node<S> {
         }
     }
 
+    /// Keeps the program of a frame's chunk, where it has one. Takes no memory.
+    fn remember(&mut self, frame: &Frame)
+        ensures { (s : NodeState) → NodeStands S.stands self.old s → NodeStands S.stands self.new s }
+    {
+        if let Some(program) = code_of(frame) {
+            self.known = Some(program);
+        }
+    }
+
     /// The step of bytes that arrive over a device.
     #[tactic(auto, unfolding(node_model::specs::Node::arrive_step))]
     pub fn arrive(&mut self, alloc: Global, dev: Dev, bytes: &[u8]) -> Result<Acts, NoMemory>
         ensures ok { (s : NodeState) → NodeStands S.stands self.old s → IfOk result (λ acts. IsStep S.stands (spec.arrive_step s dev bytes.now) acts self.new) }
         ensures err { (s : NodeState) → NodeStands S.stands self.old s → OnErr result (NodeStands S.stands self.new s) }
     {
-        match read_frame(alloc, bytes) {
-            Ok(frame) => self.arrive_frame(alloc, dev, &frame),
+        match read_frame(alloc, bytes, self.known.as_ref()) {
+            Ok(frame) => {
+                self.remember(&frame);
+                self.arrive_frame(alloc, dev, &frame)
+            }
             Err(FrameFault::NoMemory) => Err(NoMemory),
             Err(refusal) => self.only_acts(alloc, Act::Arrived(dev), Act::Bad(refusal)),
         }
@@ -470,8 +495,11 @@ impl<S: Services> Node<S> {
         ensures ok { (s : NodeState) → NodeStands S.stands self.old s → IfOk result (λ acts. IsStep S.stands (spec.control_step s bytes.now) acts self.new) }
         ensures err { (s : NodeState) → NodeStands S.stands self.old s → OnErr result (NodeStands S.stands self.new s) }
     {
-        match read_frame(alloc, bytes) {
-            Ok(frame) => self.ask_frame(alloc, &frame),
+        match read_frame(alloc, bytes, self.known.as_ref()) {
+            Ok(frame) => {
+                self.remember(&frame);
+                self.ask_frame(alloc, &frame)
+            }
             Err(FrameFault::NoMemory) => Err(NoMemory),
             Err(refusal) => self.only_acts(alloc, Act::Asked, Act::Bad(refusal)),
         }

@@ -49,7 +49,7 @@ fn typed(alloc: Global, chunk: Chunk) -> Result<Option<CheckedChunk>, NoMemory>
     requires { a_whole_chunk.Fits chunk }
     ensures { Finds result (if_typed (Some chunk)) }
 {
-    match check_chunk(alloc, chunk) {
+    match check_chunk(alloc, chunk, None) {
         Ok(chunk) => Ok(Some(chunk)),
         Err(ChunkFault::NoMemory) => Err(NoMemory),
         Err(_) => Ok(None),

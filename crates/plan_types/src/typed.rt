@@ -35,6 +35,15 @@ impl Model for Checked {
 }
 
 impl Checked {
+    /// A program that is known to be typed, so that nothing is tested again. Condition: it is typed and well formed, and
+    /// no type is missing in it. Takes no memory.
+    pub fn of(program: Shared<Program>) -> Checked
+        requires { IsChecked program }
+        ensures { result ≡ program }
+    {
+        Checked { program }
+    }
+
     /// The program. Takes no memory.
     pub fn program(&self) -> &Program
         ensures value { result.now ≡ self.now }

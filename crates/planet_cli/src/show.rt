@@ -65,7 +65,7 @@ fn framed(alloc: Global, bytes: &[u8]) -> Result<Frame, Stop>
     ensures own { IfStoppedRefused result IsOwn }
     ensures unwritten { IsErrOf result Stop.WriteFault → ⊥ }
 {
-    match get_frame(alloc, bytes) {
+    match get_frame(alloc, bytes, None) {
         Ok(frame) => Ok(frame),
         Err(refusal) => Err(stop_at(Refusal::Frame(refusal))),
     }

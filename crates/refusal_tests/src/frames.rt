@@ -15,7 +15,7 @@ fn reason(alloc: Global, chunk: &[u8]) -> Result<Bytes, Fail> {
     let mut bytes = Vec::from_slice(alloc, b"PLAN\x01\x03\x00\x00\x00\x0a".as_slice())?;
     bytes.extend_from_slice(chunk)?;
     let mut out = Bytes::new(alloc);
-    if let Err(fault) = get_frame(alloc, bytes.as_slice()) {
+    if let Err(fault) = get_frame(alloc, bytes.as_slice(), None) {
         put_reason(alloc, &fault, &mut out)?;
     }
     Ok(out)
