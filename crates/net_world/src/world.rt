@@ -31,11 +31,12 @@ impl<S: Services> Model for World<S> {
     ghost use Rattle.std.specs.Prelude.{◌≤◌, ◌+◌};
     ghost use Rattle.std.specs.Coded.{codes};
     ghost use Rattle.packet_frame.specs.contracts.frame.PlainFrame as frame;
+    ghost use Rattle.plan_base.specs.contracts.tree.Program as program;
     ghost use Rattle.net_world.specs.declared.network.Network.{Network};
 
     ghost Value = { Network S };
 
-    ghost coded = { Prim.hlevel (codes, frame.the_row.coded) };
+    ghost coded = { Prim.hlevel (codes, frame.the_row.coded, program.the_row.coded) };
 
     ghost view = { λ w. w.network };
 
