@@ -1,13 +1,15 @@
 //! Packets whose chunk is typed.
 
-ghost use Rattle.std.specs.Prelude.{◌≡◌, ◌≤◌};
+ghost use Rattle.std.specs.Prelude.{◌≡◌, ◌≤◌, true, None, Some};
+ghost use Rattle.plan_base.specs.Handlers.{is_handler, MayHandle};
 ghost use Rattle.chunk_types.specs.Chunks.{IsCheckedChunk};
 
 use crate::typed_chunk::CheckedChunk;
 use plan_base::{Family, Host, Name};
 use std::marker::Model;
 
-/// A packet whose chunk is typed, which contracts see as that packet.
+/// A packet whose chunk is typed and whose handler, if it has one, is a function of its code that may handle, which contracts
+/// see as that packet.
 #[derive(Debug, Drop)]
 pub struct CheckedPacket {
     family: Family,
@@ -15,25 +17,27 @@ pub struct CheckedPacket {
     bound: u32,
     route: Name,
     chunk: CheckedChunk,
+    handler: Option<Name>,
 }
 
 impl Model for CheckedPacket {
     ghost use Rattle.std.specs.Prelude.{◌≤◌};
     ghost use Rattle.plan_base.specs.declared.tree.Packet.{Packet};
     ghost use Rattle.plan_base.specs.contracts.tree.Packet as whole;
+    ghost use Rattle.plan_base.specs.Handlers.{MayHandle};
     ghost use Rattle.chunk_types.specs.Chunks.{IsCheckedChunk};
 
     ghost Value = { Packet };
 
     ghost coded = { whole.the_row.coded };
 
-    ghost view = { λ k. record { family = k.family; dest = k.dest; bound = k.bound; route = k.route; chunk = k.chunk } };
+    ghost view = { λ k. record { family = k.family; dest = k.dest; bound = k.bound; route = k.route; chunk = k.chunk; handler = k.handler } };
 
-    ghost invariant = { λ k. (k.bound ≤ 65535) × IsCheckedChunk k.chunk };
+    ghost invariant = { λ k. (k.bound ≤ 65535) × (IsCheckedChunk k.chunk × MayHandle k.chunk k.handler) };
 }
 
 impl CheckedPacket {
-    /// The packet of these parts. Condition: the bound is at most 65,535. Takes no memory.
+    /// The packet of these parts, without a handler. Condition: the bound is at most 65,535. Takes no memory.
     pub fn of(
         family: Family,
         dest: Host,
@@ -42,7 +46,7 @@ impl CheckedPacket {
         chunk: CheckedChunk,
     ) -> CheckedPacket
         requires { bound ≤ 65535 }
-        ensures { result ≡ record { family = family; dest = dest; bound = bound; route = route; chunk = chunk } }
+        ensures { result ≡ record { family = family; dest = dest; bound = bound; route = route; chunk = chunk; handler = None } }
     {
         CheckedPacket {
             family,
@@ -50,6 +54,30 @@ impl CheckedPacket {
             bound,
             route,
             chunk,
+            handler: None,
+        }
+    }
+
+    /// The packet with this handler. Condition: it is a function of the chunk's code that may handle. Takes no memory.
+    pub fn handled_by(self, name: Name) -> CheckedPacket
+        requires { is_handler self.chunk.code name ≡ true }
+        ensures { result ≡ record self { handler = Some name } }
+    {
+        let CheckedPacket {
+            family,
+            dest,
+            bound,
+            route,
+            chunk,
+            handler: _old,
+        } = self;
+        CheckedPacket {
+            family,
+            dest,
+            bound,
+            route,
+            chunk,
+            handler: Some(name),
         }
     }
 
@@ -88,5 +116,13 @@ impl CheckedPacket {
         ensures kept { IsCheckedChunk self.now.chunk }
     {
         &self.chunk
+    }
+
+    /// Its handler. Takes no memory.
+    pub fn handler(&self) -> &Option<Name>
+        ensures value { result.now ≡ self.now.handler }
+        ensures kept { MayHandle self.now.chunk self.now.handler }
+    {
+        &self.handler
     }
 }

@@ -49,7 +49,7 @@ module _ (bytes : List ℕ) (are_bytes : IsBytes bytes) (f : FrameFault) (first 
 
 -- ---- types
 
-carried_well : (x : PlainFrame) → FrameFits x → CarriesTyped x → illness_in (carried x) ≡ None
+pub carried_well : (x : PlainFrame) → FrameFits x → CarriesTyped x → illness_in (carried x) ≡ None
 carried_well (PlainFrame.Packet p) fits typed = chunk_only p.chunk (chunk_is_formed p.chunk fits.1.1.1.1.1.0) typed
 carried_well (PlainFrame.Advert a) fits typed = refl
 carried_well (PlainFrame.Ask bound c) fits typed = chunk_only c (chunk_is_formed c fits.1.0) typed
@@ -68,7 +68,7 @@ first_is bytes e h (ill_typed x spells c) = ap typed_of (spelled_is bytes x spel
 found_chunk : (c : Chunk) → a_whole_chunk.Fits c → illness c ≡ None → IsTypedChunk c
 found_chunk c fits well = (chunk_found c (chunk_is_formed c fits) (chunk_is_full c fits) (chunk_is_small c fits) well).typed
 
-found_typed : (x : PlainFrame) → FrameFits x → illness_in (carried x) ≡ None → CarriesTyped x
+pub found_typed : (x : PlainFrame) → FrameFits x → illness_in (carried x) ≡ None → CarriesTyped x
 found_typed (PlainFrame.Packet p) fits well = found_chunk p.chunk fits.1.1.1.1.1.0 well
 found_typed (PlainFrame.Advert a) fits well = tt
 found_typed (PlainFrame.Ask bound c) fits well = found_chunk c fits.1.0 well

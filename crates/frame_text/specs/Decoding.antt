@@ -5,7 +5,11 @@ use Rattle.chunk_types.specs.declared.fault.Ill.{Ill}
 use Rattle.chunk_types.specs.Chunks.{illness}
 use Rattle.plan_base.specs.declared.tree.Chunk.{Chunk}
 use Rattle.packet_frame.specs.declared.fault.FrameFault.{FrameFault}
+use Rattle.link_window.specs.declared.window.Version.{Version}
+use Rattle.link_window.specs.declared.window.Version.TheVariants.{One, Two}
 use Rattle.packet_frame.specs.declared.frame.PlainFrame.{PlainFrame}
+use Rattle.packet_frame.specs.declared.frame.PlainStamped.{PlainStamped}
+use Rattle.packet_frame.specs.Versions.{stamped_at}
 use Rattle.packet_frame.specs.Forms.{frame_at}
 use Rattle.packet_frame.specs.Frames.{begins, carried}
 
@@ -34,3 +38,35 @@ typed_of (Err f) = Err f
 -- the frame that the bytes spell, whose chunk is typed, or the first refusal
 unfoldable pub frame_of : List ℕ → Result PlainFrame FrameFault
 frame_of bytes = typed_of (spelled_of bytes)
+
+-- ---- by version
+
+-- a frame without stamp
+abbrev pub unstamped : Result PlainFrame FrameFault → Result PlainStamped FrameFault
+unstamped (Ok x) = Ok (record { stamp = None; frame = x })
+unstamped (Err e) = Err e
+
+-- nothing may be left behind what was read of version 2
+abbrev pub all_stamped : ℕ → Result (PlainStamped × Scan) FrameFault → Result PlainStamped FrameFault
+all_stamped count (Ok x) = if nat_le count x.1.front.at then Ok x.0 else Err (FrameFault.Trailing x.1.front.at)
+all_stamped count (Err e) = Err e
+
+abbrev pub stamped_spelled : List ℕ → Result PlainStamped FrameFault
+stamped_spelled bytes = if nat_le (length bytes) 16512 then all_stamped (length bytes) (stamped_at (begins bytes)) else Err FrameFault.TooLong
+
+abbrev pub stamped_or_ill : PlainStamped → Option Ill → Result PlainStamped FrameFault
+stamped_or_ill x None = Ok x
+stamped_or_ill x (Some i) = Err (FrameFault.IllTyped i)
+
+abbrev pub stamped_typed : Result PlainStamped FrameFault → Result PlainStamped FrameFault
+stamped_typed (Ok x) = stamped_or_ill x (illness_in (carried x.frame))
+stamped_typed (Err f) = Err f
+
+-- what a node of version 2 reads
+unfoldable pub stamped_of : List ℕ → Result PlainStamped FrameFault
+stamped_of bytes = stamped_typed (stamped_spelled bytes)
+
+-- what a node of a version reads: the frame that the bytes spell, or the first refusal
+abbrev pub read_by : Version → List ℕ → Result PlainStamped FrameFault
+read_by One bytes = unstamped (frame_of bytes)
+read_by Two bytes = stamped_of bytes

@@ -6,5 +6,5 @@ mod laws;
 mod reasons;
 
 pub use frames::print_frame;
-pub use laws::reading_laws;
+pub use laws::{reading_laws, version_laws};
 pub use reasons::put_reason;

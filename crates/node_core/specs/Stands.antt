@@ -1,5 +1,5 @@
 -- Which state of the definition a node stands for.
-use Rattle.std.specs.Prelude.{◌≡◌, ℕ, ◌≤◌}
+use Rattle.std.specs.Prelude.{◌≡◌, ℕ, ◌≤◌, None}
 use Rattle.plan_base.specs.declared.ids.Host.{Host}
 use Rattle.plan_base.specs.declared.ids.Family.{Family}
 use Rattle.plan_base.specs.declared.tree.Chunk.{Chunk}
@@ -35,7 +35,7 @@ abbrev pub own_family : Host → ℕ → Family
 own_family here serial = record { source = here; serial = serial }
 
 abbrev pub own_packet : Host → ℕ → Chunk → ℕ → Packet
-own_packet here serial chunk bound = record { family = own_family here serial; dest = here; bound = bound; route = default_route; chunk = chunk }
+own_packet here serial chunk bound = record { family = own_family here serial; dest = here; bound = bound; route = default_route; chunk = chunk; handler = None }
 
 -- the bound of an ask is at most 65,535
 abbrev pub asks_within : PlainFrame → Type 0

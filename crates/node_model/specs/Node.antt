@@ -104,7 +104,7 @@ visited acts node p = stepped (acts ++ visit_acts node.queues p (visit_at node p
 
 -- the packet of an injection
 abbrev pub injected_packet : NodeState → Chunk → ℕ → Packet
-injected_packet node chunk bound = record { family = record { source = node.here; serial = node.serial }; dest = node.here; bound = bound; route = default_route; chunk = chunk }
+injected_packet node chunk bound = record { family = record { source = node.here; serial = node.serial }; dest = node.here; bound = bound; route = default_route; chunk = chunk; handler = None }
 
 abbrev pub next_serial : NodeState → NodeState
 next_serial node = record node { serial = node.serial + 1 }

@@ -30,6 +30,7 @@ fails_with FrameFault.BoundTooLarge r h = h
 fails_with (FrameFault.BadOrder _) r h = h
 fails_with (FrameFault.Trailing _) r h = h
 fails_with (FrameFault.IllTyped _) r h = h
+fails_with FrameFault.IllHandler r h = h
 fails_with FrameFault.NoMemory r h = tt
 
 module _ {A : Type 0} (p : Part A) (l : Lawful p) (none : (x : A) → p.nodes x ≡ 0) where

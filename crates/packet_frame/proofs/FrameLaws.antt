@@ -16,12 +16,12 @@ use Rattle.packet_frame.specs.declared.kind.Kind.{Kind}
 use Rattle.packet_frame.specs.Bytes.{letters, head_bytes, frame_bytes}
 use Rattle.packet_frame.specs.Faults.{of_number}
 use Rattle.packet_frame.specs.Fields.{number, magic_at, version_at, kind_of, known_kind, kind_at}
-use Rattle.packet_frame.specs.Forms.{FrameItem, the_magic, the_version, the_kind, the_end, forms, Held, bytes_of_fields, AllFit, items_of_fields, frame_of_fields, fields_of, FrameFits, frame_at}
+use Rattle.packet_frame.specs.Forms.{FrameItem, the_magic, the_version, the_kind, the_end, forms, Held, bytes_of_fields, AllFit, items_of_fields, frame_of_fields, fields_of, FrameFits, IsPlain, frame_at}
 use Rattle.packet_frame.specs.Frames.{frame_step, nothing_left, a_frame, begins, SpellsFrame, SpellingFault, too_long, misspelled}
 use Rattle.packet_frame.specs.Reading.{Fails}
 use Rattle.packet_frame.proofs.FieldLaws.{AllKept, told_ok, told_is, judged_ok, judged_is, host_kept, serial_kept, bound_kept, route_kept, chunk_kept, rows_kept, reads_takes, reads_again, reads_go}
 
-forms_kept : (k : Kind) → AllKept (forms k)
+pub forms_kept : (k : Kind) → AllKept (forms k)
 forms_kept Kind.Packet = (host_kept, (serial_kept, (host_kept, (bound_kept, (route_kept, (chunk_kept, tt))))))
 forms_kept Kind.Advert = (host_kept, (rows_kept, tt))
 forms_kept Kind.Ask = (bound_kept, (chunk_kept, tt))
@@ -57,25 +57,30 @@ known_ok (Some u) s g k e = let p = ok_inj e in (ap (λ q. Some q.0) p, ap (λ q
 known_ok None s g k e = cc
 
 -- what a frame spells, by its kind
-frame_is : (k : Kind) (xs : Held (forms k)) → frame_bytes (frame_of_fields k xs) ≡ head_bytes (kind_number k) ++ bytes_of_fields (forms k) xs
+pub frame_is : (k : Kind) (xs : Held (forms k)) → frame_bytes (frame_of_fields k xs) ≡ head_bytes (kind_number k) ++ bytes_of_fields (forms k) xs
 unfolding frame_bytes
 frame_is Kind.Packet xs = ap (λ l. head_bytes 1 ++ (to_be_bytes w32 xs.0 ++ (to_be_bytes w64 xs.1.0 ++ (to_be_bytes w32 xs.1.1.0 ++ (to_be_bytes w32 xs.1.1.1.0 ++ ((length xs.1.1.1.1.0 ∷ xs.1.1.1.1.0) ++ l)))))) (sym (append-nil _))
 frame_is Kind.Advert xs = ap (λ l. head_bytes 2 ++ (to_be_bytes w32 xs.0 ++ l)) (sym (append-nil _))
 frame_is Kind.Ask xs = ap (λ l. head_bytes 3 ++ (to_be_bytes w32 xs.0 ++ l)) (sym (append-nil _))
 
-same_frame : (x : PlainFrame) → frame_of_fields (fields_of x).0 (fields_of x).1 ≡ x
-same_frame (PlainFrame.Packet p) = refl
-same_frame (PlainFrame.Advert a) = refl
-same_frame (PlainFrame.Ask bound c) = refl
+same_frame : (x : PlainFrame) → IsPlain x → frame_of_fields (fields_of x).0 (fields_of x).1 ≡ x
+same_frame (PlainFrame.Packet p) h = λ i. PlainFrame.Packet (record p { handler = sym h i })
+same_frame (PlainFrame.Advert a) h = refl
+same_frame (PlainFrame.Ask bound c) h = refl
 
-fits_held : (k : Kind) (xs : Held (forms k)) → AllFit (forms k) xs → FrameFits (frame_of_fields k xs)
+plain_held : (k : Kind) (xs : Held (forms k)) → IsPlain (frame_of_fields k xs)
+plain_held Kind.Packet xs = refl
+plain_held Kind.Advert xs = tt
+plain_held Kind.Ask xs = tt
+
+pub fits_held : (k : Kind) (xs : Held (forms k)) → AllFit (forms k) xs → FrameFits (frame_of_fields k xs)
 fits_held Kind.Packet xs h = h
 fits_held Kind.Advert xs h = h
 fits_held Kind.Ask xs h = h
 
 -- ---- the head
 
-magic_takes : (f g : Scan) (n : ℕ) → IsBytes f.front.rest → magic_at f ≡ Ok (n, g) → Took f (to_be_bytes w32 letters) 0 g
+pub magic_takes : (f g : Scan) (n : ℕ) → IsBytes f.front.rest → magic_at f ≡ Ok (n, g) → Took f (to_be_bytes w32 letters) 0 g
 unfolding magic_at
 magic_takes f g n h e =
     let b = bind_ok (number w32 f) _ _ e in
@@ -85,7 +90,7 @@ magic_takes f g n h e =
     let P : Scan → Type 0 = λ s. Took f (to_be_bytes w32 letters) 0 s in
     subst P (ap (λ q. q.1) j.1) (Took-as (ap (to_be_bytes w32) is) refl t.0)
 
-magic_again : (f g : Scan) → Took f (to_be_bytes w32 letters) 0 g → magic_at f ≡ Ok (letters, g)
+pub magic_again : (f g : Scan) → Took f (to_be_bytes w32 letters) 0 g → magic_at f ≡ Ok (letters, g)
 unfolding magic_at
 magic_again f g t = bind_is _ (told_is of_number (number_field w32 f) (letters, g) (number_again w32 wide32 f g letters (omega arith) t)) (judged_is _ FrameFault.BadMagic (letters, g) refl)
 
@@ -118,7 +123,7 @@ kind_again f g k t = bind_is _ (told_is of_number (number_field w8 f) (kind_numb
 
 -- ---- the whole
 
-pub frame_takes : (f g : Scan) (x : PlainFrame) → IsBytes f.front.rest → f.nodes ≤ 4096 → frame_at f ≡ Ok (x, g) → Took f (frame_bytes x) 0 g × FrameFits x
+pub frame_takes : (f g : Scan) (x : PlainFrame) → IsBytes f.front.rest → f.nodes ≤ 4096 → frame_at f ≡ Ok (x, g) → Took f (frame_bytes x) 0 g × (FrameFits x × IsPlain x)
 unfolding frame_at
 frame_takes f g x h small e =
     let b = bind_ok (magic_at f) _ _ e in
@@ -134,8 +139,8 @@ frame_takes f g x h small e =
     let r = reads_takes (forms k) (forms_kept k) (frame_of_fields k) d.first.1 g x (Took-bytes t hv) few d.then_read in
     let head : Took f (head_bytes (kind_number k)) 0 d.first.1 = Took-then m (Took-then v t) in
     let whole : Took f (head_bytes (kind_number k) ++ bytes_of_fields (forms k) r.held) 0 g = Took-then head r.all.took in
-    let P : PlainFrame → Type 0 = λ y. Took f (frame_bytes y) 0 g × FrameFits y in
-    subst P (sym r.is) (Took-as (sym (frame_is k r.held)) refl whole, fits_held k r.held r.all.fit)
+    let P : PlainFrame → Type 0 = λ y. Took f (frame_bytes y) 0 g × (FrameFits y × IsPlain y) in
+    subst P (sym r.is) (Took-as (sym (frame_is k r.held)) refl whole, (fits_held k r.held r.all.fit, plain_held k r.held))
 
 again_by : (k : Kind) (xs : Held (forms k)) (f g : Scan) → AllFit (forms k) xs → Took f (head_bytes (kind_number k) ++ bytes_of_fields (forms k) xs) 0 g → g.nodes ≤ 4096
     → frame_at f ≡ Ok (frame_of_fields k xs, g)
@@ -155,12 +160,12 @@ again_by k xs f g fits t small =
     (bind_is _ (kind_again v m k (Took-second a m (1 ∷ []) (kind_number k ∷ []) 0 0 one))
     (reads_again (forms k) (forms_kept k) (frame_of_fields k) m g xs fits behind small)))
 
-pub frame_again : (f g : Scan) (x : PlainFrame) → FrameFits x → Took f (frame_bytes x) 0 g → g.nodes ≤ 4096 → frame_at f ≡ Ok (x, g)
-frame_again f g x fits t small =
+pub frame_again : (f g : Scan) (x : PlainFrame) → FrameFits x → IsPlain x → Took f (frame_bytes x) 0 g → g.nodes ≤ 4096 → frame_at f ≡ Ok (x, g)
+frame_again f g x fits plain t small =
     let k = (fields_of x).0 in
     let xs = (fields_of x).1 in
-    let is : frame_bytes x ≡ head_bytes (kind_number k) ++ bytes_of_fields (forms k) xs = ap frame_bytes (sym (same_frame x)) ∙ frame_is k xs in
-    again_by k xs f g fits (Took-as is refl t) small ∙ (λ i. Ok (same_frame x i, g))
+    let is : frame_bytes x ≡ head_bytes (kind_number k) ++ bytes_of_fields (forms k) xs = ap frame_bytes (sym (same_frame x plain)) ∙ frame_is k xs in
+    again_by k xs f g fits (Took-as is refl t) small ∙ (λ i. Ok (same_frame x plain i, g))
 
 pub frame_goes : (more : List FrameItem) (f : Scan) → Goes frame_step (the_magic ∷ the_version ∷ the_kind ∷ more) f (λ _. more) (frame_at f)
 unfolding frame_at
@@ -179,11 +184,11 @@ frame_goes more f =
 abbrev pub ends : ℕ → List ℕ → Scan
 ends at rest = record { front = record { at = at; rest = rest }; nodes = 0 }
 
-read_whole : (bytes rest : List ℕ) (x : PlainFrame) → FrameFits x → bytes ≡ frame_bytes x ++ rest → frame_at (begins bytes) ≡ Ok (x, ends (length (frame_bytes x)) rest)
-read_whole bytes rest x fits is = frame_again (begins bytes) (ends (length (frame_bytes x)) rest) x fits (record { parts = is; place = omega arith; count = omega arith }) (omega arith)
+read_whole : (bytes rest : List ℕ) (x : PlainFrame) → FrameFits x → IsPlain x → bytes ≡ frame_bytes x ++ rest → frame_at (begins bytes) ≡ Ok (x, ends (length (frame_bytes x)) rest)
+read_whole bytes rest x fits plain is = frame_again (begins bytes) (ends (length (frame_bytes x)) rest) x fits plain (record { parts = is; place = omega arith; count = omega arith }) (omega arith)
 
 pub spelled_read : (bytes : List ℕ) (x : PlainFrame) → SpellsFrame bytes x → frame_at (begins bytes) ≡ Ok (x, ends (length (frame_bytes x)) [])
-spelled_read bytes x h = read_whole bytes [] x h.fits (h.is ∙ sym (append-nil (frame_bytes x)))
+spelled_read bytes x h = read_whole bytes [] x h.fits h.plain (h.is ∙ sym (append-nil (frame_bytes x)))
 
 module _ (bytes : List ℕ) (x : PlainFrame) (s : Scan) (read : frame_at (begins bytes) ≡ Ok (x, s)) where
   pub found_whole : IsBytes bytes → length bytes ≤ 16512 → length bytes ≤ s.front.at → SpellsFrame bytes x
@@ -192,7 +197,7 @@ module _ (bytes : List ℕ) (x : PlainFrame) (s : Scan) (read : frame_at (begins
       let l = ap length t.0.parts in
       let m = length-append (frame_bytes x) s.front.rest in
       let none : length s.front.rest ≡ 0 = omega (arith, l, m, t.0.place, all) in
-      record { short = short; fits = t.1; is = t.0.parts ∙ ap (λ r. frame_bytes x ++ r) (empty s.front.rest none) ∙ append-nil (frame_bytes x) }
+      record { short = short; fits = t.1.0; plain = t.1.1; is = t.0.parts ∙ ap (λ r. frame_bytes x ++ r) (empty s.front.rest none) ∙ append-nil (frame_bytes x) }
     where
       empty : (r : List ℕ) → length r ≡ 0 → r ≡ []
       empty [] e = refl
@@ -245,6 +250,7 @@ fails_is FrameFault.BoundTooLarge r h = inr h
 fails_is (FrameFault.BadOrder _) r h = inr h
 fails_is (FrameFault.Trailing _) r h = inr h
 fails_is (FrameFault.IllTyped _) r h = inr h
+fails_is FrameFault.IllHandler r h = inr h
 fails_is FrameFault.NoMemory r h = inl refl
 
 module _ (bytes : List ℕ) (f : Front) (first : f.at ≡ 0) (all : f.rest ≡ bytes) where
@@ -285,8 +291,8 @@ module _ (bytes : List ℕ) (f : Front) (first : f.at ≡ 0) (all : f.rest ≡ b
 
 pub one_spelling_is : (a b x y : List ℕ) (v w : PlainFrame) → SpellsFrame a v → SpellsFrame b w → a ++ x ≡ b ++ y → (a ≡ b) × (v ≡ w) × (x ≡ y)
 one_spelling_is a b x y v w h k e =
-    let one = read_whole (a ++ x) x v h.fits (ap (λ l. l ++ x) h.is) in
-    let two = read_whole (a ++ x) y w k.fits (e ∙ ap (λ l. l ++ y) k.is) in
+    let one = read_whole (a ++ x) x v h.fits h.plain (ap (λ l. l ++ x) h.is) in
+    let two = read_whole (a ++ x) y w k.fits k.plain (e ∙ ap (λ l. l ++ y) k.is) in
     let same = ok_inj (sym one ∙ two) in
     let is : v ≡ w = ap (λ q. q.0) same in
     (h.is ∙ ap frame_bytes is ∙ sym k.is, is, ap (λ q. q.1.front.rest) same)

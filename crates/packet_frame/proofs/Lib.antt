@@ -4,3 +4,7 @@ pub mod FieldLaws
 pub mod FrameLaws
 pub mod Rows
 pub mod Sizes
+pub mod WholeLaws
+pub mod StampedLaws
+pub mod Links
+pub mod StampedSizes

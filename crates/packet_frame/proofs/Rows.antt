@@ -20,6 +20,7 @@ fails_on FrameFault.BoundTooLarge r q h k = h k
 fails_on (FrameFault.BadOrder _) r q h k = h k
 fails_on (FrameFault.Trailing _) r q h k = h k
 fails_on (FrameFault.IllTyped _) r q h k = h k
+fails_on FrameFault.IllHandler r q h k = h k
 fails_on FrameFault.NoMemory r q h k = tt
 
 module _ (before : Option ℕ) (xs : List AdvertRow) (count k : ℕ) (s : Scan) (start : Result (List AdvertRow × Scan) FrameFault) (same : with_front xs (rows_from before (count - k) s) ≡ start) where

@@ -1,4 +1,4 @@
-use Rattle.std.proofs.Common.{◌≡◌, ℕ, ◌+◌, ◌*◌, ◌<◌, ◌≤◌, List, [], ◌∷◌, ◌++◌, length, drop, get_or, length-append, Bool, true, false, refl, ap, subst, arith, ◌^◌}
+use Rattle.std.proofs.Common.{◌≡◌, ℕ, ◌+◌, ◌*◌, ◌<◌, ◌≤◌, List, [], ◌∷◌, ◌++◌, length, drop, get_or, length-append, Bool, true, false, None, refl, sym, ap, subst, arith, ◌^◌}
 use Rattle.std.specs.Prelude.{◌&&◌, nat_le}
 use Rattle.std.specs.List.{flat_map}
 use Rattle.std.specs.Int.{w16, w32, w64, to_be_bytes}
@@ -28,7 +28,7 @@ use Rattle.packet_frame.specs.Frames.{SpellsFrame}
 pub chunk_can : (c : Chunk) → a_whole_chunk.Fits c → chunk_kept c ≡ true
 chunk_can = chunk_fits_kept 3
 
-chunk_bytes_small : (c : Chunk) → a_whole_chunk.Fits c → length (chunk_bytes c) ≤ 16383
+pub chunk_bytes_small : (c : Chunk) → a_whole_chunk.Fits c → length (chunk_bytes c) ≤ 16383
 chunk_bytes_small c h = let l = leb-true (length (chunk_bytes c) + 1) 16384 h.weighs in omega (arith, l)
 
 pub chunk_small : (c : Chunk) → a_whole_chunk.Fits c → chunk_weight c ≤ 16383
@@ -42,17 +42,17 @@ pub rows_size : (rows : List AdvertRow) → length (flat_map row_bytes rows) ≡
 rows_size [] = refl
 rows_size (r ∷ rs) = let e = rows_size rs in let l = length-append (row_bytes r) (flat_map row_bytes rs) in omega (arith, e, l)
 
-pub spells_packet : (p : Packet) (bytes : List ℕ) → FrameFits (PlainFrame.Packet p)
+pub spells_packet : (p : Packet) (bytes : List ℕ) → FrameFits (PlainFrame.Packet p) → p.handler ≡ None
     → bytes ≡ (((((head_bytes 1 ++ to_be_bytes w32 p.family.source.0) ++ to_be_bytes w64 p.family.serial) ++ to_be_bytes w32 p.dest.0) ++ to_be_bytes w32 p.bound) ++ name_bytes p.route) ++ chunk_bytes p.chunk
     → SpellsFrame bytes (PlainFrame.Packet p)
 unfolding frame_bytes
-spells_packet p bytes fits e =
+spells_packet p bytes fits plain e =
     let is : bytes ≡ frame_bytes (PlainFrame.Packet p) = e in
     let route = route_short p.route fits.1.1.1.1.0 in
     let chunk = chunk_bytes_small p.chunk fits.1.1.1.1.1.0 in
     let l = length-append p.route (chunk_bytes p.chunk) in
     let n = ap length is in
-    record { short = omega (arith, n, l, route, chunk); fits = fits; is = is }
+    record { short = omega (arith, n, l, route, chunk); fits = fits; plain = plain; is = is }
 
 pub spells_advert : (a : Advert) (bytes : List ℕ) → FrameFits (PlainFrame.Advert a)
     → bytes ≡ ((head_bytes 2 ++ to_be_bytes w32 a.host.0) ++ to_be_bytes w16 (length a.rows)) ++ flat_map row_bytes a.rows → SpellsFrame bytes (PlainFrame.Advert a)
@@ -62,7 +62,7 @@ spells_advert a bytes fits e =
     let n = ap length is in
     let l = rows_size a.rows in
     let few = fits.1.0.0 in
-    record { short = omega (arith, n, l, few); fits = fits; is = is }
+    record { short = omega (arith, n, l, few); fits = fits; plain = tt; is = is }
 
 pub spells_ask : (bound : ℕ) (c : Chunk) (bytes : List ℕ) → FrameFits (PlainFrame.Ask bound c) → bytes ≡ (head_bytes 3 ++ to_be_bytes w32 bound) ++ chunk_bytes c → SpellsFrame bytes (PlainFrame.Ask bound c)
 unfolding frame_bytes
@@ -70,19 +70,19 @@ spells_ask bound c bytes fits e =
     let is : bytes ≡ frame_bytes (PlainFrame.Ask bound c) = e in
     let n = ap length is in
     let chunk = chunk_bytes_small c fits.1.0 in
-    record { short = omega (arith, n, chunk); fits = fits; is = is }
+    record { short = omega (arith, n, chunk); fits = fits; plain = tt; is = is }
 
 -- the same of the parts that were read of a packet and of an ask
 pub packet_spelled : (p : Packet) (bound : ℕ) (family : Family) (dest : Host) (route : List ℕ) (chunk : Chunk) (bytes : List ℕ)
-    → family ≡ p.family → dest ≡ p.dest → route ≡ p.route → chunk ≡ p.chunk
+    → p.handler ≡ None → family ≡ p.family → dest ≡ p.dest → route ≡ p.route → chunk ≡ p.chunk
     → family.source.0 < 2 ^ 32 → family.serial < 2 ^ 64 → dest.0 < 2 ^ 32 → bound ≤ 65535 → IsName route → a_whole_chunk.Fits chunk
     → bytes ≡ (((((head_bytes 1 ++ to_be_bytes w32 family.source.0) ++ to_be_bytes w64 family.serial) ++ to_be_bytes w32 dest.0) ++ to_be_bytes w32 bound) ++ name_bytes route) ++ chunk_bytes chunk
     → SpellsFrame bytes (PlainFrame.Packet (record p { bound = bound }))
-packet_spelled p bound family dest route chunk bytes f d r c source serial to few name fits e =
+packet_spelled p bound family dest route chunk bytes h f d r c source serial to few name fits e =
     let P : PlainFrame → Type 0 = λ x. SpellsFrame bytes x in
-    let q : Packet = record { family = family; dest = dest; bound = bound; route = route; chunk = chunk } in
-    subst P (λ i. PlainFrame.Packet (record { family = f i; dest = d i; bound = bound; route = r i; chunk = c i }))
-    (spells_packet q bytes (source, (serial, (to, (few, (name, (fits, tt)))))) e)
+    let q : Packet = record { family = family; dest = dest; bound = bound; route = route; chunk = chunk; handler = None } in
+    subst P (λ i. PlainFrame.Packet (record { family = f i; dest = d i; bound = bound; route = r i; chunk = c i; handler = sym h i }))
+    (spells_packet q bytes (source, (serial, (to, (few, (name, (fits, tt)))))) refl e)
 
 pub ask_spelled : (bound : ℕ) (c chunk : Chunk) (bytes : List ℕ) → chunk ≡ c → bound ≤ 65535 → a_whole_chunk.Fits chunk
     → bytes ≡ (head_bytes 3 ++ to_be_bytes w32 bound) ++ chunk_bytes chunk → SpellsFrame bytes (PlainFrame.Ask bound c)

@@ -1,5 +1,5 @@
 -- The forms of a frame: what stands behind the kind, one field after another.
-use Rattle.std.specs.Prelude.{ℕ, ◌≤◌, ◌<◌, ◌^◌, List, [], ◌∷◌, ◌++◌, length, Option, None, Ok}
+use Rattle.std.specs.Prelude.{◌≡◌, ℕ, ◌≤◌, ◌<◌, ◌^◌, List, [], ◌∷◌, ◌++◌, length, Option, None, Some, Ok}
 use Rattle.std.specs.Int.{w32, w64, to_be_bytes}
 use Rattle.read_laws.specs.Reading.{◌>>=◌}
 use Rattle.plan_base.specs.Words.{IsName}
@@ -14,7 +14,7 @@ use Rattle.packet_frame.specs.declared.kind.Kind.{Kind}
 use Rattle.packet_frame.specs.Bytes.{rows_bytes}
 use Rattle.packet_frame.specs.Fields.{Reader, number, magic_at, version_at, kind_at, bound_at, route_at, carried_at, rows_at}
 
--- What can still be to read of a frame. Rows are still to come behind a host, so many.
+-- What can still be to read of a frame. Rows are still to come behind a host, so many; a kind stands behind this version.
 pub data FrameItem : Type 0 where
   the_magic : FrameItem
   the_version : FrameItem
@@ -28,6 +28,8 @@ pub data FrameItem : Type 0 where
   rows_behind : Option ℕ → ℕ → FrameItem
   a_cost : FrameItem
   the_end : FrameItem
+  either_version : FrameItem
+  the_form : ℕ → FrameItem
 
 -- a field: how it is read, how it is spelled, and what may be spelled
 pub record Field (A : Type 0) : Type 1 where
@@ -95,6 +97,7 @@ frame_of_fields Kind.Packet xs = PlainFrame.Packet (record {
   bound = xs.1.1.1.0;
   route = xs.1.1.1.1.0;
   chunk = xs.1.1.1.1.1.0;
+  handler = None;
 })
 frame_of_fields Kind.Advert xs = PlainFrame.Advert (record { host = record { 0 = xs.0 }; rows = xs.1.0 })
 frame_of_fields Kind.Ask xs = PlainFrame.Ask xs.0 xs.1.0
@@ -108,6 +111,11 @@ fields_of (PlainFrame.Ask bound c) = (Kind.Ask, (bound, (c, tt)))
 -- a frame keeps the limits of its fields
 abbrev pub FrameFits : PlainFrame → Type 0
 FrameFits x = AllFit (forms (fields_of x).0) (fields_of x).1
+
+-- a frame that version 1 can carry: a packet without a handler, and all else
+abbrev pub IsPlain : PlainFrame → Type 0
+IsPlain (PlainFrame.Packet p) = p.handler ≡ None
+IsPlain _ = Unit {0}
 
 -- a frame and what is behind it
 unfoldable pub frame_at : Reader PlainFrame

@@ -9,7 +9,8 @@ use Rattle.packet_frame.specs.declared.fault.FrameFault.{FrameFault}
 use Rattle.packet_frame.specs.declared.frame.PlainFrame.{PlainFrame}
 use Rattle.packet_frame.specs.Bytes.{frame_bytes}
 use Rattle.packet_frame.specs.Fields.{number, magic_at, version_at, kind_at, bound_at, route_at, carried_at, count_at, row_host_at, cost_at}
-use Rattle.packet_frame.specs.Forms.{FrameItem, the_magic, the_version, the_kind, a_host, a_serial, a_bound, a_route, a_carried_chunk, some_rows, rows_behind, a_cost, the_end, items_of_fields, forms, FrameFits}
+use Rattle.packet_frame.specs.Forms.{FrameItem, the_magic, the_version, the_kind, a_host, a_serial, a_bound, a_route, a_carried_chunk, some_rows, rows_behind, a_cost, the_end, either_version, the_form, items_of_fields, forms, FrameFits, IsPlain}
+use Rattle.packet_frame.specs.Versions.{either_version_at, form_at, stamped_forms}
 
 -- the item was a field of its own
 abbrev pub past : {A : Type 0} → List FrameItem → Result (A × Scan) FrameFault → Result (List FrameItem × Scan) FrameFault
@@ -35,6 +36,8 @@ frame_step (rows_behind before zero) more s = Ok (more, s)
 frame_step (rows_behind before (suc n)) more s = row_host_at before s >>= λ h. Ok (a_cost ∷ rows_behind (Some h.0) n ∷ more, h.1)
 frame_step a_cost more s = past more (cost_at s)
 frame_step the_end more s = nothing_left s.front.rest more s
+frame_step either_version more s = either_version_at s >>= λ v. Ok (the_form v.0 ∷ more, v.1)
+frame_step (the_form v) more s = form_at v s >>= λ k. Ok (items_of_fields (stamped_forms k.0) more, k.1)
 
 -- what is to read of a frame at first
 abbrev pub a_frame : List FrameItem
@@ -48,6 +51,7 @@ begins bytes = record { front = record { at = 0; rest = bytes }; nodes = 0 }
 pub record SpellsFrame (bytes : List ℕ) (x : PlainFrame) : Type 0 where
   pub short : length bytes ≤ 16512
   pub fits : FrameFits x
+  pub plain : IsPlain x
   pub is : bytes ≡ frame_bytes x
 
 -- the first fault of bytes that spell no frame

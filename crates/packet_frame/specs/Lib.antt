@@ -2,6 +2,8 @@ pub mod Bytes
 pub mod Faults
 pub mod Fields
 pub mod Forms
+pub mod Versions
 pub mod Frames
 pub mod Reading
 pub mod Typed
+pub mod Stamped

@@ -4,6 +4,7 @@ use Rattle.plan_base.specs.declared.tree.Chunk.{Chunk}
 use Rattle.plan_base.specs.Typing.{IsTypedChunk}
 use Rattle.chunk_types.specs.declared.fault.Ill.{Ill}
 use Rattle.chunk_types.specs.Chunks.{illness}
+use Rattle.plan_base.specs.Handlers.{MayHandle}
 use Rattle.packet_frame.specs.declared.fault.FrameFault.{FrameFault}
 use Rattle.packet_frame.specs.declared.frame.PlainFrame.{PlainFrame}
 use Rattle.packet_frame.specs.declared.checked.Frame.{Frame}
@@ -26,6 +27,11 @@ pub record Accepts (bytes : List ℕ) (x : PlainFrame) : Type 0 where
   pub spells : SpellsFrame bytes x
   pub typed : CarriesTyped x
 
+-- the handler of a packet, if it has one, is a function of its chunk's code that may handle
+abbrev pub CarriesHandler : PlainFrame → Type 0
+CarriesHandler (PlainFrame.Packet p) = MayHandle p.chunk p.handler
+CarriesHandler _ = Unit {0}
+
 -- what is wrong with the chunk that a frame carries
 pub record CarriesIll (x : PlainFrame) (e : FrameFault) : Type 0 where
   pub chunk : Chunk
@@ -33,6 +39,12 @@ pub record CarriesIll (x : PlainFrame) (e : FrameFault) : Type 0 where
   pub is_carried : carried x ≡ Some chunk
   pub first : illness chunk ≡ Some ill
   pub is : e ≡ FrameFault.IllTyped ill
+
+-- a frame whose chunk is typed has a handler that is none
+pub record CarriesNoHandler (x : PlainFrame) (e : FrameFault) : Type 0 where
+  pub typed : CarriesTyped x
+  pub refused : CarriesHandler x → ⊥
+  pub is : e ≡ FrameFault.IllHandler
 
 -- the first fault of bytes that are no typed frame: that of their spelling, and then that of the chunk's types
 pub data FrameFirst (e : FrameFault) (bytes : List ℕ) : Type 0 where

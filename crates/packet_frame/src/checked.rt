@@ -1,18 +1,24 @@
-ghost use Rattle.std.specs.Prelude.{◌≡◌, ◌⊎◌, ◌≤◌, Some, IfOk, IfErr, MatchResult};
+ghost use Rattle.plan_base.specs.Handlers.{is_handler as handles_by, MayHandle};
+ghost use Rattle.std.specs.Prelude.{◌≡◌, ◌⊎◌, ◌≤◌, true, None, Some, IfOk, IfErr, MatchResult};
 ghost use Rattle.plan_base.specs.Typing.{IsTypedChunk};
 ghost use Rattle.chunk_types.specs.Chunks.{illness};
 ghost use Rattle.chunk_types.specs.declared.fault.Ill.{Ill as Wrong};
 ghost use Rattle.chunk_spelling.specs.Spelling.{a_whole_chunk};
 ghost use Rattle.packet_frame.specs.Forms.{FrameFits};
-ghost use Rattle.packet_frame.specs.Typed.{plain_of, CarriesTyped, CarriesIll, Accepts, FrameFirst};
+ghost use Rattle.packet_frame.specs.Typed.{plain_of, CarriesTyped, CarriesHandler, CarriesIll, CarriesNoHandler, Accepts, FrameFirst};
 ghost use Rattle.packet_frame.specs.declared.frame.PlainFrame.{PlainFrame as Plain};
+ghost use Rattle.packet_frame.specs.declared.frame.PlainStamped.{PlainStamped as PlainOne};
+ghost use Rattle.packet_frame.specs.Stamped.{stamped_plain, AcceptsBy, StampedFirst};
+ghost use Rattle.link_window.specs.declared.window.Version.TheVariants.{Two};
 
 use crate::fault::FrameFault;
-use crate::frame::PlainFrame;
+use crate::frame::{PlainFrame, PlainStamped};
 use crate::get::get_plain_frame;
+use crate::get_stamped::get_plain_stamped;
 use chunk_types::{CheckedChunk, CheckedPacket, ChunkFault, check_chunk};
-use plan_base::{Chunk, Packet};
-use plan_types::Checked;
+use link_window::Stamp;
+use plan_base::{Chunk, Name, Packet};
+use plan_types::{Checked, is_handler};
 use service_api::Advert;
 use std::alloc::Global;
 
@@ -25,6 +31,15 @@ pub enum Frame {
     Advert(Advert),
     /// A bound, and a chunk to be injected with it.
     Ask(u32, CheckedChunk),
+}
+
+/// A frame whose chunk is typed, with its stamp.
+#[derive(Debug, Drop)]
+pub struct Stamped {
+    /// Its stamp: there under version 2, and not under version 1.
+    pub stamp: Option<Stamp>,
+    /// The frame.
+    pub frame: Frame,
 }
 
 /// A chunk that was read, where it is typed.
@@ -46,7 +61,32 @@ fn typed_chunk(
     }
 }
 
-/// A packet that was read, where its chunk is typed.
+/// A packet with the handler of this name, where that may handle.
+fn handled(packet: CheckedPacket, name: Name) -> Result<CheckedPacket, FrameFault>
+    ensures found { IfOk result (λ k. (k ≡ record packet { handler = Some name }) × (handles_by packet.chunk.code name ≡ true)) }
+    ensures only { handles_by packet.chunk.code name ≡ true → IfErr result (λ e. ⊥) }
+    ensures fault { IfErr result (λ e. (handles_by packet.chunk.code name ≡ true → ⊥) × (e ≡ FrameFault.IllHandler)) }
+{
+    if !is_handler(packet.chunk().chunk().code.get(), &name) {
+        return Err(FrameFault::IllHandler);
+    }
+    Ok(packet.handled_by(name))
+}
+
+/// A packet without a handler, with the handler that was read, where that may handle.
+fn with_handler(packet: CheckedPacket, handler: Option<Name>) -> Result<CheckedPacket, FrameFault>
+    requires { packet.handler ≡ None }
+    ensures found { IfOk result (λ k. (k ≡ record packet { handler = handler }) × MayHandle packet.chunk handler) }
+    ensures only { MayHandle packet.chunk handler → IfErr result (λ e. ⊥) }
+    ensures fault { IfErr result (λ e. (MayHandle packet.chunk handler → ⊥) × (e ≡ FrameFault.IllHandler)) }
+{
+    match handler {
+        None => Ok(packet),
+        Some(name) => handled(packet, name),
+    }
+}
+
+/// A packet that was read, where its chunk is typed and its handler may handle.
 fn checked_packet(
     alloc: Global,
     p: Packet,
@@ -54,9 +94,9 @@ fn checked_packet(
 ) -> Result<CheckedPacket, FrameFault>
     requires fits { a_whole_chunk.Fits p.chunk }
     requires bound { p.bound ≤ 65535 }
-    ensures found { IfOk result (λ k. (k ≡ p) × IsTypedChunk p.chunk) }
-    ensures only { IsTypedChunk p.chunk → MatchResult result (λ k. k ≡ p) (λ e. e ≡ FrameFault.NoMemory) }
-    ensures fault { IfErr result (λ e. (e ≡ FrameFault.NoMemory) ⊎ ((i : Wrong) × (illness p.chunk ≡ Some i) × (e ≡ FrameFault.IllTyped i))) }
+    ensures found { IfOk result (λ k. (k ≡ p) × (IsTypedChunk p.chunk × MayHandle p.chunk p.handler)) }
+    ensures only { IsTypedChunk p.chunk → MayHandle p.chunk p.handler → MatchResult result (λ k. k ≡ p) (λ e. e ≡ FrameFault.NoMemory) }
+    ensures fault { IfErr result (λ e. (e ≡ FrameFault.NoMemory) ⊎ (((i : Wrong) × (illness p.chunk ≡ Some i) × (e ≡ FrameFault.IllTyped i)) ⊎ (IsTypedChunk p.chunk × ((MayHandle p.chunk p.handler → ⊥) × (e ≡ FrameFault.IllHandler))))) }
 {
     let Packet {
         family,
@@ -64,17 +104,18 @@ fn checked_packet(
         bound,
         route,
         chunk,
+        handler,
     } = p;
     let chunk = typed_chunk(alloc, chunk, known)?;
-    Ok(CheckedPacket::of(family, dest, bound, route, chunk))
+    with_handler(CheckedPacket::of(family, dest, bound, route, chunk), handler)
 }
 
-/// A frame that was read, where its chunk is typed.
+/// A frame that was read, where its chunk is typed and its handler may handle.
 fn checked(alloc: Global, plain: PlainFrame, known: Option<&Checked>) -> Result<Frame, FrameFault>
     requires { FrameFits plain }
-    ensures found { IfOk result (λ x. (plain_of x ≡ plain) × CarriesTyped plain) }
-    ensures only { CarriesTyped plain → MatchResult result (λ x. plain_of x ≡ plain) (λ e. e ≡ FrameFault.NoMemory) }
-    ensures fault { IfErr result (λ e. (e ≡ FrameFault.NoMemory) ⊎ CarriesIll plain e) }
+    ensures found { IfOk result (λ x. (plain_of x ≡ plain) × (CarriesTyped plain × CarriesHandler plain)) }
+    ensures only { CarriesTyped plain → CarriesHandler plain → MatchResult result (λ x. plain_of x ≡ plain) (λ e. e ≡ FrameFault.NoMemory) }
+    ensures fault { IfErr result (λ e. (e ≡ FrameFault.NoMemory) ⊎ (CarriesIll plain e ⊎ CarriesNoHandler plain e)) }
 {
     match plain {
         PlainFrame::Packet(p) => Ok(Frame::Packet(checked_packet(alloc, p, known)?)),
@@ -95,4 +136,34 @@ pub fn get_frame(alloc: Global, bytes: &[u8], known: Option<&Checked>) -> Result
 {
     let plain = get_plain_frame(alloc, bytes)?;
     checked(alloc, plain, known)
+}
+
+/// A frame of version 2 that was read, where its chunk is typed and its handler may handle.
+fn checked_stamped(
+    alloc: Global,
+    plain: PlainStamped,
+    known: Option<&Checked>,
+) -> Result<Stamped, FrameFault>
+    requires { FrameFits plain.frame }
+    ensures found { IfOk result (λ x. (stamped_plain x ≡ plain) × (CarriesTyped plain.frame × CarriesHandler plain.frame)) }
+    ensures only { CarriesTyped plain.frame → CarriesHandler plain.frame → MatchResult result (λ x. stamped_plain x ≡ plain) (λ e. e ≡ FrameFault.NoMemory) }
+    ensures fault { IfErr result (λ e. (e ≡ FrameFault.NoMemory) ⊎ (CarriesIll plain.frame e ⊎ CarriesNoHandler plain.frame e)) }
+{
+    let PlainStamped { stamp, frame } = plain;
+    let frame = checked(alloc, frame, known)?;
+    Ok(Stamped { stamp, frame })
+}
+
+/// Reads a frame as a node of version 2 does.
+///
+/// Ok exactly where all the bytes, at most 16,512, are its spelling, its chunk is typed and its handler, if it has one, is a
+/// function of that chunk's code that may handle; otherwise the first fault.
+#[tactic(auto, using(crate::proofs::Carried::two_spelled, crate::proofs::Carried::two_only))]
+pub fn get_frame2(alloc: Global, bytes: &[u8], known: Option<&Checked>) -> Result<Stamped, FrameFault>
+    ensures found { IfOk result (λ x. AcceptsBy Two bytes.now (stamped_plain x)) }
+    ensures only { (x : PlainOne) → AcceptsBy Two bytes.now x → MatchResult result (λ y. stamped_plain y ≡ x) (λ e. e ≡ FrameFault.NoMemory) }
+    ensures fault { IfErr result (λ e. (e ≡ FrameFault.NoMemory) ⊎ StampedFirst e bytes.now) }
+{
+    let plain = get_plain_stamped(alloc, bytes)?;
+    checked_stamped(alloc, plain, known)
 }

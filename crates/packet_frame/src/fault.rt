@@ -30,6 +30,8 @@ pub enum FrameFault {
     Trailing(u32),
     /// The bytes spell a frame, and the chunk that it carries isn't typed.
     IllTyped(Ill),
+    /// The bytes spell a packet whose chunk is typed, and its handler is no function of that chunk's code that may handle.
+    IllHandler,
     /// Memory was refused.
     NoMemory,
 }

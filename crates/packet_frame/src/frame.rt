@@ -1,3 +1,4 @@
+use link_window::Stamp;
 use plan_base::{Chunk, Packet};
 use service_api::Advert;
 
@@ -10,4 +11,13 @@ pub enum PlainFrame {
     Advert(Advert),
     /// A bound, and a chunk to be injected with it.
     Ask(u32, Chunk),
+}
+
+/// What a frame spells, with its stamp where it has one.
+#[derive(Debug, Drop)]
+pub struct PlainStamped {
+    /// Its stamp: there under version 2, and not under version 1.
+    pub stamp: Option<Stamp>,
+    /// What it spells.
+    pub frame: PlainFrame,
 }

@@ -22,7 +22,7 @@ use wire_bytes::Cursor;
 
 /// A number of four bytes.
 #[tactic(auto, unfolding(chunk_spelling::specs::Scan::number_field))]
-fn word_of(c: &mut Cursor<'_>) -> Result<u32, FrameFault>
+pub fn word_of(c: &mut Cursor<'_>) -> Result<u32, FrameFault>
     ensures { Gives result c.new (number w32 (from_front c.old)) }
 {
     Ok(c.u32()?)
@@ -30,7 +30,7 @@ fn word_of(c: &mut Cursor<'_>) -> Result<u32, FrameFault>
 
 /// A number of eight bytes.
 #[tactic(auto, unfolding(chunk_spelling::specs::Scan::number_field))]
-fn serial_of(c: &mut Cursor<'_>) -> Result<u64, FrameFault>
+pub fn serial_of(c: &mut Cursor<'_>) -> Result<u64, FrameFault>
     ensures { Gives result c.new (number w64 (from_front c.old)) }
 {
     Ok(c.u64()?)
@@ -38,7 +38,7 @@ fn serial_of(c: &mut Cursor<'_>) -> Result<u64, FrameFault>
 
 /// The letters PLAN.
 #[tactic(auto, unfolding(crate::specs::Fields::magic_at))]
-fn magic_of(c: &mut Cursor<'_>) -> Result<u32, FrameFault>
+pub fn magic_of(c: &mut Cursor<'_>) -> Result<u32, FrameFault>
     ensures { Gives result c.new (magic_at (from_front c.old)) }
 {
     let number = word_of(c)?;
@@ -75,7 +75,7 @@ fn kind_of(c: &mut Cursor<'_>) -> Result<Kind, FrameFault>
 
 /// A bound.
 #[tactic(auto, unfolding(crate::specs::Fields::bound_at))]
-fn bound_of(c: &mut Cursor<'_>) -> Result<u32, FrameFault>
+pub fn bound_of(c: &mut Cursor<'_>) -> Result<u32, FrameFault>
     ensures { Gives result c.new (bound_at (from_front c.old)) }
 {
     let bound = word_of(c)?;
@@ -87,7 +87,7 @@ fn bound_of(c: &mut Cursor<'_>) -> Result<u32, FrameFault>
 
 /// The name of a routing function.
 #[tactic(auto, using(crate::proofs::Carries::route_read, crate::proofs::Carries::route_refused))]
-fn route_of(alloc: Global, c: &mut Cursor<'_>) -> Result<Name, FrameFault>
+pub fn route_of(alloc: Global, c: &mut Cursor<'_>) -> Result<Name, FrameFault>
     ensures { Gives result c.new (route_at (from_front c.old)) }
 {
     Ok(get_name(alloc, c)?)
@@ -95,14 +95,14 @@ fn route_of(alloc: Global, c: &mut Cursor<'_>) -> Result<Name, FrameFault>
 
 /// The chunk that a frame carries.
 #[tactic(auto, using(crate::proofs::Carries::chunk_read, crate::proofs::Carries::chunk_refused))]
-fn chunk_of(alloc: Global, c: &mut Cursor<'_>) -> Result<Chunk, FrameFault>
+pub fn chunk_of(alloc: Global, c: &mut Cursor<'_>) -> Result<Chunk, FrameFault>
     ensures { Gives result c.new (carried_at (from_front c.old)) }
 {
     Ok(get_chunk(alloc, c)?)
 }
 
 /// A packet.
-fn packet_of(alloc: Global, c: &mut Cursor<'_>) -> Result<PlainFrame, FrameFault>
+pub fn packet_of(alloc: Global, c: &mut Cursor<'_>) -> Result<PlainFrame, FrameFault>
     ensures { Gives result c.new (reads (forms TheKind.Packet) (frame_of_fields TheKind.Packet) (from_front c.old)) }
 {
     let source = Host(word_of(c)?);
@@ -117,12 +117,13 @@ fn packet_of(alloc: Global, c: &mut Cursor<'_>) -> Result<PlainFrame, FrameFault
         bound,
         route,
         chunk,
+        handler: None,
     }))
 }
 
 /// How many rows an advert has.
 #[tactic(auto, unfolding(crate::specs::Fields::count_at, chunk_spelling::specs::Scan::number_field))]
-fn count_of(c: &mut Cursor<'_>) -> Result<u16, FrameFault>
+pub fn count_of(c: &mut Cursor<'_>) -> Result<u16, FrameFault>
     ensures { Gives result c.new (count_at (from_front c.old)) }
 {
     let at = c.at();
@@ -166,7 +167,7 @@ fn row_host_of(c: &mut Cursor<'_>, before: Option<u32>) -> Result<u32, FrameFaul
 }
 
 /// So many rows, whose hosts are above `before` and ascend.
-fn rows_of(alloc: Global, c: &mut Cursor<'_>, count: u16) -> Result<AdvertRows, FrameFault>
+pub fn rows_of(alloc: Global, c: &mut Cursor<'_>, count: u16) -> Result<AdvertRows, FrameFault>
     ensures { Gives result c.new (rows_from None count (from_front c.old)) }
 {
     let mut rows = Items::new(alloc);
@@ -185,7 +186,7 @@ fn rows_of(alloc: Global, c: &mut Cursor<'_>, count: u16) -> Result<AdvertRows, 
 
 /// An advert.
 #[tactic(auto, unfolding(crate::specs::Fields::rows_at))]
-fn advert_of(alloc: Global, c: &mut Cursor<'_>) -> Result<PlainFrame, FrameFault>
+pub fn advert_of(alloc: Global, c: &mut Cursor<'_>) -> Result<PlainFrame, FrameFault>
     ensures { Gives result c.new (reads (forms TheKind.Advert) (frame_of_fields TheKind.Advert) (from_front c.old)) }
 {
     let host = Host(word_of(c)?);
@@ -195,7 +196,7 @@ fn advert_of(alloc: Global, c: &mut Cursor<'_>) -> Result<PlainFrame, FrameFault
 }
 
 /// An ask.
-fn ask_of(alloc: Global, c: &mut Cursor<'_>) -> Result<PlainFrame, FrameFault>
+pub fn ask_of(alloc: Global, c: &mut Cursor<'_>) -> Result<PlainFrame, FrameFault>
     ensures { Gives result c.new (reads (forms TheKind.Ask) (frame_of_fields TheKind.Ask) (from_front c.old)) }
 {
     let bound = bound_of(c)?;
@@ -226,7 +227,7 @@ fn frame_of(alloc: Global, c: &mut Cursor<'_>) -> Result<PlainFrame, FrameFault>
 }
 
 /// A cursor at the first of the bytes, which are bytes.
-fn first_of(bytes: &[u8]) -> Cursor<'_>
+pub fn first_of(bytes: &[u8]) -> Cursor<'_>
     requires { length bytes.now ≤ 16512 }
     ensures at { result.at ≡ 0 }
     ensures rest { result.rest ≡ bytes.now }

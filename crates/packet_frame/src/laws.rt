@@ -1,6 +1,8 @@
 ghost use Rattle.std.specs.Prelude.{◌≡◌, ◌++◌, ◌⊎◌, List, ℕ};
 ghost use Rattle.wire_bytes.specs.Fields.{IsBytes};
 ghost use Rattle.packet_frame.specs.Frames.{SpellsFrame, SpellingFault};
+ghost use Rattle.packet_frame.specs.Stamped.{SpellsStamped, StampedFault};
+ghost use Rattle.packet_frame.specs.declared.frame.PlainStamped.{PlainStamped};
 ghost use Rattle.packet_frame.specs.declared.fault.FrameFault.{FrameFault};
 ghost use Rattle.packet_frame.specs.declared.frame.PlainFrame.{PlainFrame};
 
@@ -11,4 +13,12 @@ pub fn frame_laws()
     ensures one_fault { (bytes : List ℕ) (d e : FrameFault) → SpellingFault d bytes → SpellingFault e bytes → d ≡ e }
     ensures either { (bytes : List ℕ) → IsBytes bytes → ((x : PlainFrame) × SpellsFrame bytes x) ⊎ ((e : FrameFault) × SpellingFault e bytes) }
     ensures never_both { (bytes : List ℕ) (x : PlainFrame) (e : FrameFault) → SpellsFrame bytes x → SpellingFault e bytes → ⊥ }
+{}
+
+/// The same laws of what a node of version 2 reads.
+pub fn stamped_laws()
+    ensures one_spelling { (a b x y : List ℕ) (v w : PlainStamped) → SpellsStamped a v → SpellsStamped b w → a ++ x ≡ b ++ y → (a ≡ b) × (v ≡ w) × (x ≡ y) }
+    ensures one_fault { (bytes : List ℕ) (d e : FrameFault) → StampedFault d bytes → StampedFault e bytes → d ≡ e }
+    ensures either { (bytes : List ℕ) → IsBytes bytes → ((x : PlainStamped) × SpellsStamped bytes x) ⊎ ((e : FrameFault) × StampedFault e bytes) }
+    ensures never_both { (bytes : List ℕ) (x : PlainStamped) (e : FrameFault) → SpellsStamped bytes x → StampedFault e bytes → ⊥ }
 {}

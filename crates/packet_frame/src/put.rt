@@ -38,7 +38,7 @@ fn put_row(r: &AdvertRow, out: &mut Out)
 }
 
 /// Puts rows one after another.
-fn put_rows(rows: &[AdvertRow], out: &mut Out)
+pub fn put_rows(rows: &[AdvertRow], out: &mut Out)
     requires { length (flat_map row_bytes rows.now) ≤ out.old.room }
     ensures bytes { out.new.bytes ≡ out.old.bytes ++ flat_map row_bytes rows.now }
     ensures room { out.new.room + length (flat_map row_bytes rows.now) ≡ out.old.room }
@@ -50,7 +50,7 @@ fn put_rows(rows: &[AdvertRow], out: &mut Out)
 
 /// The number of bytes of a chunk. Condition: it keeps the limits of its spelling.
 #[tactic(auto, using(crate::proofs::Sizes::chunk_small, spelling_sizes::proofs::LengthLaws::chunk_length))]
-fn size_of(c: &Chunk) -> u32
+pub fn size_of(c: &Chunk) -> u32
     requires { a_whole_chunk.Fits c.now }
     ensures size { result ≡ length (chunk_bytes c.now) }
     ensures small { result ≤ 16383 }
@@ -60,7 +60,7 @@ fn size_of(c: &Chunk) -> u32
 
 /// Puts a chunk. Conditions: it keeps the limits of its spelling, and the bytes have room.
 #[tactic(auto, using(crate::proofs::Sizes::chunk_can))]
-fn put_carried(c: &Chunk, out: &mut Out)
+pub fn put_carried(c: &Chunk, out: &mut Out)
     requires fits { a_whole_chunk.Fits c.now }
     requires room { length (chunk_bytes c.now) ≤ out.old.room }
     ensures bytes { out.new.bytes ≡ out.old.bytes ++ chunk_bytes c.now }
@@ -85,7 +85,7 @@ pub fn put_advert(alloc: Global, a: &Advert) -> Result<Bytes, NoMemory>
 }
 
 /// The chunk of a checked one, which keeps the limits of its spelling.
-fn spellable(c: &CheckedChunk) -> &Chunk
+pub fn spellable(c: &CheckedChunk) -> &Chunk
     ensures value { result.now ≡ c.now }
     ensures fits { a_whole_chunk.Fits result.now }
 {
@@ -95,7 +95,7 @@ fn spellable(c: &CheckedChunk) -> &Chunk
 }
 
 /// Puts what a packet has before its bound: its family and its destination.
-fn put_way(family: Family, dest: Host, out: &mut Out)
+pub fn put_way(family: Family, dest: Host, out: &mut Out)
     requires { 16 ≤ out.old.room }
     ensures bytes { out.new.bytes ≡ ((out.old.bytes ++ to_be_bytes w32 family.source.0) ++ to_be_bytes w64 family.serial) ++ to_be_bytes w32 dest.0 }
     ensures room { out.new.room + 16 ≡ out.old.room }
@@ -106,10 +106,11 @@ fn put_way(family: Family, dest: Host, out: &mut Out)
     out.put_u32(dest.0);
 }
 
-/// The frame of a packet with another bound. Condition: that bound is at most 65,535.
+/// The frame of a packet with another bound. Conditions: that bound is at most 65,535, and it has no handler.
 #[tactic(auto, using(crate::proofs::Sizes::packet_spelled, crate::proofs::Sizes::route_short))]
 pub fn put_packet(alloc: Global, packet: &CheckedPacket, new_bound: u32) -> Result<Bytes, NoMemory>
-    requires { new_bound ≤ 65535 }
+    requires bound { new_bound ≤ 65535 }
+    requires plain { packet.now.handler ≡ None }
     ensures { IfOk result (λ b. SpellsFrame b (Plain.Packet (record packet.now { bound = new_bound }))) }
 {
     let chunk = spellable(packet.chunk());

@@ -7,3 +7,4 @@ pub mod Typing
 pub mod TypingNames
 pub mod TypingOrder
 pub mod TypingFills
+pub mod Handlers

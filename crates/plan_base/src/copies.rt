@@ -510,6 +510,16 @@ impl Exn {
     }
 }
 
+/// The name of a handler, where there is one.
+pub fn copy_handler(alloc: Global, handler: &Option<Name>) -> Result<Option<Name>, NoMemory>
+    ensures { IfOk result (λ h. h ≡ handler.now) }
+{
+    match handler {
+        None => Ok(None),
+        Some(name) => Ok(Some(name.copy(alloc)?)),
+    }
+}
+
 impl Packet {
     /// The same packet.
     pub fn copy(&self, alloc: Global) -> Result<Packet, NoMemory>
@@ -521,6 +531,7 @@ impl Packet {
             bound: self.bound,
             route: self.route.copy(alloc)?,
             chunk: self.chunk.copy(alloc)?,
+            handler: copy_handler(alloc, &self.handler)?,
         })
     }
 }

@@ -18,7 +18,7 @@ mod type_fault;
 
 pub use bytes::Bytes;
 pub use copies::{
-    copy_clauses, copy_exprs, copy_funs, copy_names, copy_params, copy_places, copy_svcs,
+    copy_clauses, copy_exprs, copy_funs, copy_handler, copy_names, copy_params, copy_places, copy_svcs,
     copy_types, copy_values,
 };
 pub use depths::{chunk_nesting, nesting};

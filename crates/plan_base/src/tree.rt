@@ -267,6 +267,8 @@ pub struct Packet {
     pub route: Name,
     /// What it carries.
     pub chunk: Chunk,
+    /// The name of its handler, a function of its code that is told why a visit gave no value.
+    pub handler: Option<Name>,
 }
 
 /// A place in a draft: a declaration or an expression, by its number from 0.

@@ -22,7 +22,7 @@ innermost_top codes [] a = refl
 innermost_top codes (b ∷ []) a = refl
 innermost_top codes (b ∷ c ∷ outer) a = innermost_top codes (c ∷ outer) a
 
-runs_there : (code : Program) (seen : ℕ) (at : Option Spot) → innermost_run (Some code) seen at ≡ run_at code seen at
+pub runs_there : (code : Program) (seen : ℕ) (at : Option Spot) → innermost_run (Some code) seen at ≡ run_at code seen at
 runs_there code seen (Some at) = refl
 runs_there code seen None = refl
 
@@ -52,7 +52,7 @@ raised_in codes outer a x s = all_ended_push codes outer a (quiet (stopped (Rais
 
 -- ---- more programs
 
-grown : {A : Type 0} (xs ys : List A) (i : ℕ) (x : A) → slice_get xs i ≡ Some x → slice_get (xs ++ ys) i ≡ Some x
+pub grown : {A : Type 0} (xs ys : List A) (i : ℕ) (x : A) → slice_get xs i ≡ Some x → slice_get (xs ++ ys) i ≡ Some x
 grown [] ys i x is = absurd (none-some is)
 grown (y ∷ xs) ys zero x is = is
 grown (y ∷ xs) ys (suc i) x is = grown xs ys i x is

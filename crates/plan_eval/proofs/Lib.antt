@@ -18,3 +18,7 @@ mod Giving
 mod Visits
 mod Starting
 mod Taking
+mod Waiting
+mod Backs
+mod Diving
+mod Hot

@@ -37,7 +37,7 @@ module _ (code : Program) (seen : ℕ) where
   resumed_asks (Expr-F.Try a ks) env n held p h = h.0.0
   resumed_asks l env n held p h = h.0
 
-  resume_asks : (at : Spot) (f : Frame) (p : Step Value) → IsSafe (resume code seen at f p).asks → IsSafe p.asks
+  pub resume_asks : (at : Spot) (f : Frame) (p : Step Value) → IsSafe (resume code seen at f p).asks → IsSafe p.asks
   resume_asks at (frame.Part n held) p h = resumed_asks (out-Expr at.expr) at.env n held p h
   resume_asks at (frame.Last n) p h = h.0
   resume_asks at (frame.Bound v) p h = h.0
@@ -64,7 +64,7 @@ all_asks codes (a ∷ outer) p h = all_asks codes outer p (ended_asks codes a _ 
 
 -- ---- a turn
 
-spot_there : (o : Option Spot) → IsSome o → (at : Spot) × (o ≡ Some at)
+pub spot_there : (o : Option Spot) → IsSome o → (at : Spot) × (o ≡ Some at)
 spot_there (Some at) h = (at, refl)
 spot_there None h = absurd (false≢true h)
 
@@ -141,6 +141,11 @@ module _ (codes : List Program) (outer : List Activation) (a : Activation) (s : 
       → (code : Program) (at : Spot) → slice_get codes a.code ≡ Some code → spot_in codes a ≡ Some at → IsSafe (begins code a.fun at s').asks
   safe_here s' paid safe code at here there =
       (begun_here code a.fun at.env at.expr s s' paid).safe (ended_asks codes a _ (all_asks codes outer _ (rw (runs_on codes outer code a at s here there) at safe)))
+
+  -- the innermost expression is safe where the stack is
+  pub safe_run : IsSafe (stands_for codes (outer ++ a ∷ []) mode.Run s).asks
+      → (code : Program) (at : Spot) → slice_get codes a.code ≡ Some code → spot_in codes a ≡ Some at → IsSafe (meaning code a.fun at.env at.expr s).asks
+  safe_run safe code at here there = ended_asks codes a _ (all_asks codes outer _ (rw (runs_on codes outer code a at s here there) at safe))
 
   -- where the work is spent
   pub turn_unpaid : (e : Stop) (t : VisitState) → (spend 1 s).after ≡ stopped e t → (stands_for codes (outer ++ a ∷ []) mode.Run s).after ≡ stopped e t

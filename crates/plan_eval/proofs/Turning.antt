@@ -1,5 +1,5 @@
 -- What was decided, done on the stack: each case leads on.
-use Rattle.std.proofs.Common.{◌≡◌, ◌≢◌, ℕ, List, [], ◌∷◌, ◌++◌, length, Option, Some, None, IsSome, refl, sym, subst, slice_get, ◌∙◌}
+use Rattle.std.proofs.Common.{◌≡◌, ◌≢◌, ℕ, List, [], ◌∷◌, ◌++◌, Option, Some, None, IsSome, refl, sym, subst, slice_get, ◌∙◌}
 use Rattle.plan_base.specs.declared.tree.Exn.{Exn}
 use Rattle.plan_base.specs.declared.tree.Program.{Program}
 use Rattle.plan_base.specs.declared.tree.Value.{Value}
@@ -27,10 +27,10 @@ use Rattle.plan_eval.proofs.Entering.{spot_in_entry, entered_stack, visited_stac
 use Rattle.plan_eval.proofs.Ending.{IsFinal, ended_stops, all_stop, resume_final}
 
 -- where a step gives or raises at once, it leads there
-at_once : {A : Type 0} (p : Step A) (a : A) (s : VisitState) → p.after ≡ gave a s → Leads p (quiet (gave a s))
+pub at_once : {A : Type 0} (p : Step A) (a : A) (s : VisitState) → p.after ≡ gave a s → Leads p (quiet (gave a s))
 at_once p a s is = record { same = is; safe = λ k. tt }
 
-at_once_raised : {A : Type 0} (p : Step A) (e : Stop) (s : VisitState) → p.after ≡ stopped e s → Leads p (quiet (stopped e s))
+pub at_once_raised : {A : Type 0} (p : Step A) (e : Stop) (s : VisitState) → p.after ≡ stopped e s → Leads p (quiet (stopped e s))
 at_once_raised p e s is = record { same = is; safe = λ k. tt }
 
 is_some : {A : Type 0} {o : Option A} {x : A} → o ≡ Some x → IsSome o
@@ -51,11 +51,11 @@ module _ (codes : List Program) (outer : List Activation) (code : Program) (a : 
   same_links : AreLinked codes (outer ++ a ∷ [])
   same_links = linked_push codes outer a here.linked (is_some here.spot)
 
-  gives_on : (w : Value) (t : VisitState) → want.after ≡ gave w t
+  pub gives_on : (w : Value) (t : VisitState) → want.after ≡ gave w t
       → Leads whole_of (stands_for codes (outer ++ a ∷ []) (mode.Give w) t) × AreLinked codes (outer ++ a ∷ [])
   gives_on w t h = (rw (given_to codes outer a w t) (inside (quiet (gave w t)) (at_once want w t h)), same_links)
 
-  raises_on : (x : Exn) (t : VisitState) → want.after ≡ stopped (Raised x) t
+  pub raises_on : (x : Exn) (t : VisitState) → want.after ≡ stopped (Raised x) t
       → Leads whole_of (stands_for codes (outer ++ a ∷ []) (mode.Raise x) t) × AreLinked codes (outer ++ a ∷ [])
   raises_on x t h = (rw (raised_in codes outer a x t) (inside (quiet (stopped (Raised x) t)) (at_once_raised want (Raised x) t h)), same_links)
 

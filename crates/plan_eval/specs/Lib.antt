@@ -3,3 +3,4 @@ pub mod Leads
 pub mod Nexts
 pub mod Turns
 pub mod Forms
+pub mod Direct

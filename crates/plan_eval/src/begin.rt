@@ -1,22 +1,24 @@
 //! How an expression begins.
-ghost use Rattle.std.specs.Prelude.{◌≡◌, ◌≤◌, Some, [], ℕ, IsSome, slice_get};
-ghost use Rattle.plan_base.specs.declared.name.Name.{Name};
+ghost use Rattle.std.specs.Prelude.{◌≡◌, ◌≤◌, [], ℕ, List, IfSome, IsSome, option_copied};
 ghost use Rattle.plan_base.specs.declared.tree.Expr.{Expr-F, out-Expr};
-ghost use Rattle.plan_base.specs.declared.tree.Program.{Program};
 ghost use Rattle.plan_meaning.specs.State.{VisitState, joined};
-ghost use Rattle.plan_meaning.specs.Meaning.{Env, bound};
+ghost use Rattle.plan_meaning.specs.Meaning.{bound, value_of};
 ghost use Rattle.plan_meaning.specs.Safe.{IsSafe};
-ghost use Rattle.plan_eval.specs.Stack.{Spot, spot_in};
-ghost use Rattle.plan_eval.specs.Turns.{spot_at};
-ghost use Rattle.plan_eval.specs.Nexts.{Decides, IsDone, Starts, begins, call_of};
+ghost use Rattle.plan_base.specs.declared.tree.Program.{Program as AProgram};
+ghost use Rattle.service_api.specs.Services.{Standing};
+ghost use Rattle.plan_eval.specs.Direct.{spot, env_of, Flows, IsNumber, Lasts};
+ghost use Rattle.plan_eval.specs.Nexts.{Decides, Starts, begins};
 
+use crate::back::ended;
 use crate::call::called;
-use crate::frame::{Activation, Codes, Frame};
+use crate::frame::Frame;
+use crate::here::Here;
 use crate::kind::{Kind, kind_of};
 use crate::next::Next;
-use crate::place::{Place, argument_of, can_do, place_in};
+use crate::place::argument_of;
+use crate::rest::Flow;
 use crate::walk::value_from;
-use plan_base::{Chunk, Exn, Name, Program, Value};
+use plan_base::{Chunk, Exn, Expr, Name, Program, Value};
 use plan_items::{Boxed, Items, Shared};
 use plan_meaning::Stop;
 use service_api::Services;
@@ -24,17 +26,90 @@ use std::alloc::Global;
 use visit_state::State;
 
 /// What a name stands for where an activation stands.
-#[tactic(auto, using(crate::proofs::Naming::name_at, crate::proofs::Beginning::gives_name, crate::proofs::Beginning::no_name))]
-fn named(alloc: Global, place: Place<'_>, top: &Activation, name: &Name) -> Result<Next, Stop>
-    requires form { out-Expr place.expr.now ≡ Expr-F.Var name.now }
-    ensures { (base : Env) (s : VisitState) → bound place.entry.function.now.params top.now.args ≡ Some base
-        → Decides place.entry.code.now top.now.fun (spot_at place.entry.function.now top.now.frames base place.entry.expr.now)
-        (begins place.entry.code.now top.now.fun (spot_at place.entry.function.now top.now.frames base place.entry.expr.now) s) result s }
+#[tactic(auto, using(crate::proofs::Backs::gives_here, crate::proofs::Backs::none_here))]
+fn named(alloc: Global, here: &Here<'_>, e: &Expr, name: &Name) -> Result<Next, Stop>
+    requires form { out-Expr e.now ≡ Expr-F.Var name.now }
+    requires binds { IsSome (bound here.now.function.now.params here.now.args.now) }
+    ensures { (s : VisitState) → Decides here.now.code.now here.now.fun (spot here.now e.now) (begins here.now.code.now here.now.fun (spot here.now e.now) s) result s }
 {
-    let outside = argument_of(name, place.function.params.as_slice(), top.args.as_slice());
-    match value_from(name, outside, &place.function.body, top.frames.as_slice()) {
+    let outside = argument_of(name, here.function.params.as_slice(), here.args);
+    match value_from(name, outside, &here.function.body, here.frames) {
         Some(value) => Ok(Next::Give(value.copy(alloc)?)),
         None => Err(Stop::Wrong),
+    }
+}
+
+/// What a name stands for.
+#[tactic(auto, using(crate::proofs::Backs::gives_here, crate::proofs::Backs::none_here))]
+pub fn variable(
+    alloc: Global,
+    here: &Here<'_>,
+    e: &Expr,
+    name: &Name,
+    state: &mut State,
+) -> Result<Flow, Stop>
+    requires form { out-Expr e.now ≡ Expr-F.Var name.now }
+    requires binds { IsSome (bound here.now.function.now.params here.now.args.now) }
+    ensures flows { (codes : List AProgram) (n : Standing) → Flows codes here.now.code.now here.now.fun (spot here.now e.now)
+        (begins here.now.code.now here.now.fun (spot here.now e.now) (joined state.old n)) result (joined state.new n) }
+    ensures lasts { Lasts 3 state.old.work result state.new.work }
+{
+    let outside = argument_of(name, here.function.params.as_slice(), here.args);
+    match value_from(name, outside, &here.function.body, here.frames) {
+        Some(value) => ended(alloc, value.copy(alloc)?, state),
+        None => Err(Stop::Wrong),
+    }
+}
+
+/// What a numeral gives.
+pub fn number(
+    alloc: Global,
+    here: &Here<'_>,
+    e: &Expr,
+    n: i64,
+    state: &mut State,
+) -> Result<Flow, Stop>
+    requires form { out-Expr e.now ≡ Expr-F.Int n }
+    ensures flows { (codes : List AProgram) (m : Standing) → Flows codes here.now.code.now here.now.fun (spot here.now e.now)
+        (begins here.now.code.now here.now.fun (spot here.now e.now) (joined state.old m)) result (joined state.new m) }
+    ensures lasts { Lasts 3 state.old.work result state.new.work }
+{
+    ended(alloc, Value::Int(n), state)
+}
+
+/// What a name stands for, lent.
+#[tactic(auto, using(crate::proofs::Backs::here_name))]
+fn named_value<'a>(here: &Here<'a>, name: &Name) -> Option<&'a Value>
+    requires binds { IsSome (bound here.now.function.now.params here.now.args.now) }
+    ensures { option_copied result ≡ value_of name.now (env_of here.now.function.now here.now.args.now here.now.frames.now) }
+{
+    let outside = argument_of(name, here.function.params.as_slice(), here.args);
+    value_from(name, outside, &here.function.body, here.frames)
+}
+
+/// The number that a name stands for.
+#[tactic(auto, using(crate::proofs::Hot::name_number, plan_base::specs::Trees::trees))]
+fn named_number(here: &Here<'_>, e: &Expr, name: &Name) -> Option<i64>
+    requires form { out-Expr e.now ≡ Expr-F.Var name.now }
+    requires binds { IsSome (bound here.now.function.now.params here.now.args.now) }
+    ensures { IfSome result (λ n. IsNumber here.now.code.now here.now.fun (spot here.now e.now) n) }
+{
+    match named_value(here, name) {
+        Some(Value::Int(n)) => Some(*n),
+        _ => None,
+    }
+}
+
+/// The number that an expression without parts gives.
+#[tactic(auto, using(crate::proofs::Hot::numeral_number, plan_base::specs::Trees::trees))]
+pub fn leaf_number(here: &Here<'_>, e: &Expr) -> Option<i64>
+    requires binds { IsSome (bound here.now.function.now.params here.now.args.now) }
+    ensures { IfSome result (λ n. IsNumber here.now.code.now here.now.fun (spot here.now e.now) n) }
+{
+    match e {
+        Expr::Int(n) => Some(*n),
+        Expr::Var(x) => named_number(here, e, x),
+        _ => None,
     }
 }
 
@@ -53,65 +128,38 @@ fn bare_chunk(alloc: Global, code: &Shared<Program>, entry: &Name) -> Result<Nex
 
 /// How an expression begins, once it spent 1.
 #[tactic(auto, using(crate::proofs::Beginning::gives_literal, crate::proofs::Beginning::no_type, crate::proofs::Beginning::raises_named, crate::proofs::Beginning::begins_call, crate::proofs::Deciding::opens_part))]
-fn begin<S: Services>(
+pub fn begin<S: Services>(
     alloc: Global,
-    place: Place<'_>,
-    top: &Activation,
+    here: &Here<'_>,
+    e: &Expr,
     state: &mut State,
     svc: &mut S,
 ) -> Result<Next, Stop>
     requires open { IsSome (S.stands svc.old).begun }
-    requires safe { (f : Name) → out-Expr place.expr.now ≡ Expr-F.Call f [] → IsSafe (call_of place.code.now top.now.fun f [] (joined state.old (S.stands svc.old))).asks }
-    ensures decides { (base : Env) → bound place.entry.function.now.params top.now.args ≡ Some base
-        → Decides place.entry.code.now top.now.fun (spot_at place.entry.function.now top.now.frames base place.entry.expr.now)
-        (begins place.entry.code.now top.now.fun (spot_at place.entry.function.now top.now.frames base place.entry.expr.now) (joined state.old (S.stands svc.old)))
+    requires binds { IsSome (bound here.now.function.now.params here.now.args.now) }
+    requires safe { IsSafe (begins here.now.code.now here.now.fun (spot here.now e.now) (joined state.old (S.stands svc.old))).asks }
+    ensures decides { Decides here.now.code.now here.now.fun (spot here.now e.now)
+        (begins here.now.code.now here.now.fun (spot here.now e.now) (joined state.old (S.stands svc.old)))
         result (joined state.new (S.stands svc.new)) }
     ensures falls { state.new.work ≤ state.old.work }
     ensures offer { (S.stands svc.new).offer ≡ (S.stands svc.old).offer }
     ensures begun { (S.stands svc.new).begun ≡ (S.stands svc.old).begun }
 {
-    match kind_of(alloc, place.expr)? {
+    match kind_of(alloc, e)? {
         Kind::Gives(value) => Ok(Next::Give(value)),
-        Kind::Named(name) => named(alloc, place, top, name),
+        Kind::Named(name) => named(alloc, here, e, name),
         Kind::Raises(name) => Err(Stop::Raised(Exn(name.copy(alloc)?))),
         Kind::Calls(name) => called(
             alloc,
-            place.code,
-            top.fun,
+            here.code,
+            here.fun,
             name,
             Items::new(alloc),
             state,
             svc,
         ),
-        Kind::Packs(name) => bare_chunk(alloc, place.code, name),
+        Kind::Packs(name) => bare_chunk(alloc, here.code, name),
         Kind::Untyped => Err(Stop::Wrong),
         Kind::Opens => Ok(Next::Open(Frame::Part(0, Items::new(alloc)))),
     }
-}
-
-/// How the innermost expression of an activation begins, once it spent 1.
-#[tactic(auto, using(crate::proofs::Naming::at_place, crate::proofs::Beginning::safe_bare))]
-pub fn begin_top<S: Services>(
-    alloc: Global,
-    codes: &Codes,
-    top: &Activation,
-    state: &mut State,
-    svc: &mut S,
-) -> Result<Next, Stop>
-    requires open { IsSome (S.stands svc.old).begun }
-    requires linked { IsSome (spot_in codes.now top.now) }
-    requires safe { (code : Program) (at : Spot) → slice_get codes.now top.now.code ≡ Some code → spot_in codes.now top.now ≡ Some at
-        → IsSafe (begins code top.now.fun at (joined state.old (S.stands svc.old))).asks }
-    ensures decides { (code : Program) (at : Spot) → slice_get codes.now top.now.code ≡ Some code → spot_in codes.now top.now ≡ Some at
-        → Decides code top.now.fun at (begins code top.now.fun at (joined state.old (S.stands svc.old))) result (joined state.new (S.stands svc.new))
-        × IsDone code at result }
-    ensures falls { state.new.work ≤ state.old.work }
-    ensures offer { (S.stands svc.new).offer ≡ (S.stands svc.old).offer }
-    ensures begun { (S.stands svc.new).begun ≡ (S.stands svc.old).begun }
-{
-    let Some(place) = place_in(codes, top) else {
-        return Err(Stop::Wrong);
-    };
-    let decided = begin(alloc, place, top, state, svc);
-    can_do(place, decided)
 }

@@ -91,6 +91,7 @@ fn items_of(v: Value) -> Option<Values>
 
 /// The list of a fold from the first item on, or its first step.
 #[tactic(auto, using(crate::proofs::Deciding::list_of_foldl, crate::proofs::Gathering::left_decides, crate::proofs::Gathering::no_left_items))]
+#[inline(never)]
 pub fn left_part(
     alloc: Global,
     code: &Shared<Program>,
@@ -112,6 +113,7 @@ pub fn left_part(
 
 /// The list of a fold from the last item on, or its first step.
 #[tactic(auto, using(crate::proofs::Deciding::list_of_foldr, crate::proofs::Gathering::right_decides, crate::proofs::Gathering::no_right_items))]
+#[inline(never)]
 pub fn right_part(
     alloc: Global,
     code: &Shared<Program>,
@@ -133,6 +135,7 @@ pub fn right_part(
 
 /// A step of a fold gave a value.
 #[tactic(auto, using(plan_base::specs::Trees::trees))]
+#[inline(never)]
 pub fn item_gave(
     alloc: Global,
     code: &Shared<Program>,

@@ -29,6 +29,7 @@ fn part_behind(es: &[Expr], n: usize) -> Option<usize>
 
 /// The next part of a tuple, or the tuple.
 #[tactic(auto, using(crate::proofs::Deciding::next_of_tuple, crate::proofs::Deciding::last_of_tuple))]
+#[inline(never)]
 pub fn tuple_part(es: &Exprs, n: usize, held: Values, v: Value) -> Result<Next, Stop>
     ensures { (code : Program) (seen : ℕ) (s : VisitState) → Continues code seen (Expr-F.Tuple es.now) n held v s result s }
 {
@@ -42,6 +43,7 @@ pub fn tuple_part(es: &Exprs, n: usize, held: Values, v: Value) -> Result<Next, 
 
 /// The next argument of a chunk, or the chunk.
 #[tactic(auto, using(crate::proofs::Deciding::next_of_chunk, crate::proofs::Deciding::last_of_chunk))]
+#[inline(never)]
 pub fn chunk_part(
     alloc: Global,
     code: &Shared<Program>,
@@ -68,6 +70,7 @@ pub fn chunk_part(
 
 /// The next argument of a call, or the call.
 #[tactic(auto, using(crate::proofs::Deciding::next_of_call, crate::proofs::Gathering::call_decides))]
+#[inline(never)]
 pub fn call_part<S: Services>(
     alloc: Global,
     code: &Shared<Program>,

@@ -68,6 +68,36 @@ fn after_part<S: Services>(
     }
 }
 
+/// What an open expression does when what its frame waits for gave a value.
+#[tactic(auto, using(crate::proofs::Giving::by_part, crate::proofs::Delivering::last_given, crate::proofs::Delivering::bound_given, crate::proofs::Delivering::body_given, crate::proofs::Delivering::chunk_given, crate::proofs::Giving::by_item))]
+pub fn frame_given<S: Services>(
+    alloc: Global,
+    code: &Shared<Program>,
+    seen: usize,
+    e: &Expr,
+    frame: Frame,
+    v: Value,
+    state: &mut State,
+    svc: &mut S,
+) -> Result<Next, Stop>
+    requires open { IsSome (S.stands svc.old).begun }
+    requires safe { (env : Env) × IsSafe (resume code.now seen (record { expr = e.now; env = env }) frame (quiet (gave v (joined state.old (S.stands svc.old))))).asks }
+    ensures decides { (env : Env) → Decides code.now seen (record { expr = e.now; env = env })
+        (resume code.now seen (record { expr = e.now; env = env }) frame (quiet (gave v (joined state.old (S.stands svc.old)))))
+        result (joined state.new (S.stands svc.new)) }
+    ensures falls { state.new.work ≤ state.old.work }
+    ensures offer { (S.stands svc.new).offer ≡ (S.stands svc.old).offer }
+    ensures begun { (S.stands svc.new).begun ≡ (S.stands svc.old).begun }
+{
+    match frame {
+        Frame::Part(n, held) => after_part(alloc, code, seen, e, n, held, v, state, svc),
+        Frame::Last(_) | Frame::Body => Ok(Next::Give(v)),
+        Frame::Bound(_) => Ok(Next::Give(v)),
+        Frame::Items(left) => item_gave(alloc, code, seen, e, v, left),
+        Frame::Chunk => Ok(Next::Give(Value::Unit)),
+    }
+}
+
 /// What an activation does when its innermost frame, which is off it, is given a value.
 #[tactic(auto, using(crate::proofs::Naming::at_place, crate::proofs::Giving::by_part, crate::proofs::Delivering::last_given, crate::proofs::Delivering::bound_given, crate::proofs::Delivering::body_given, crate::proofs::Delivering::chunk_given, crate::proofs::Giving::by_item))]
 pub fn give_top<S: Services>(

@@ -2,12 +2,15 @@
 #![tactic(auto)]
 
 mod apply;
+mod back;
 mod begin;
 mod call;
+mod direct;
 mod fold;
 mod frame;
 mod gather;
 mod given;
+mod here;
 mod kind;
 mod machine;
 mod next;
@@ -16,7 +19,9 @@ mod parts;
 mod place;
 mod pure;
 mod raise;
+mod rest;
 mod send;
+mod turn;
 mod visiting;
 mod walk;
 

@@ -1,18 +1,27 @@
 //! The turns of a visit.
-ghost use Rattle.std.specs.Prelude.{◌≡◌, ◌<◌, ◌∷◌, ◌++◌, [], IfOk, IsSome};
+ghost use Rattle.std.specs.Prelude.{◌≡◌, ◌<◌, ◌∷◌, ◌++◌, [], ℕ, List, IfOk, IsSome, Some, slice_get};
 ghost use Rattle.service_api.specs.Services.{Standing};
 ghost use Rattle.plan_meaning.specs.State.{joined};
 ghost use Rattle.plan_meaning.specs.Safe.{IsSafe};
 ghost use Rattle.visit_state.specs.Meets.{Meets};
 ghost use Rattle.plan_eval.specs.declared.frame.Mode.TheVariants as mode;
-ghost use Rattle.plan_eval.specs.Stack.{AreLinked, stands_for};
-ghost use Rattle.plan_eval.specs.Turns.{Turned, load};
+ghost use Rattle.plan_base.specs.declared.tree.Program.{Program as Code};
+ghost use Rattle.plan_base.specs.declared.tree.Value.{Value as AValue};
+ghost use Rattle.plan_meaning.specs.State.{VisitState};
+ghost use Rattle.plan_meaning.specs.Run.{Step};
+ghost use Rattle.plan_meaning.specs.Meaning.{meaning};
+ghost use Rattle.plan_eval.specs.Direct.{Flows, Grows, Spends};
+ghost use Rattle.plan_eval.specs.Stack.{Spot, spot_in, ended, all_ended, AreLinked, stands_for};
+ghost use Rattle.plan_eval.specs.Turns.{Stands, Turned, load};
 
 use crate::apply::apply;
-use crate::begin::begin_top;
+use crate::direct::evaluate;
 use crate::frame::{Activation, Activations, Codes, Mode};
 use crate::given::give_top;
+use crate::here::Here;
 use crate::raise::raise_top;
+use crate::rest::{Flow, stacked};
+use crate::walk::expr_from;
 use plan_base::{Exn, Value};
 use plan_meaning::Stop;
 use service_api::Services;
@@ -66,6 +75,73 @@ fn raise(
     apply(alloc, codes, outer, below, decided, state)
 }
 
+/// What came of the innermost expression, on the stack.
+fn landed(outer: &mut Activations, top: Activation, flow: Result<Flow, Stop>) -> Result<Mode, Stop>
+    ensures turned { (codes : List Code) (code : Code) (at : Spot) (want : Step AValue) (s : VisitState) → Stands codes outer.old top code at
+        → Flows codes code top.fun at want flow s → Turned (all_ended codes outer.old (ended codes top want)) result codes outer.new s }
+    ensures shrinks { (depth old new : ℕ) → 0 < depth → Spends depth old flow new
+        → IfOk result (λ how. load how outer.new new < load mode.Run (outer.old ++ top ∷ []) old) }
+{
+    match flow {
+        Ok(Flow::Done(v)) => {
+            outer.add(top)?;
+            Ok(Mode::Give(v))
+        }
+        Ok(Flow::Wait(rest)) => {
+            stacked(outer, top, rest)?;
+            Ok(Mode::Run)
+        }
+        Err(Stop::Raised(x)) => {
+            outer.add(top)?;
+            Ok(Mode::Raise(x))
+        }
+        Err(Stop::WorkSpent) => Err(Stop::WorkSpent),
+        Err(Stop::Wrong) => Err(Stop::Wrong),
+        Err(Stop::NoMemory) => Err(Stop::NoMemory),
+    }
+}
+
+/// How far the innermost expression of an activation comes on the native stack.
+#[tactic(auto, using(crate::proofs::Naming::no_code, crate::proofs::Naming::no_function, crate::proofs::Naming::no_expression))]
+fn run_top<S: Services>(
+    alloc: Global,
+    codes: &mut Codes,
+    top: &Activation,
+    state: &mut State,
+    svc: &mut S,
+) -> Result<Flow, Stop>
+    requires open { IsSome (S.stands svc.old).begun }
+    requires linked { IsSome (spot_in codes.old top.now) }
+    requires safe { (code : Code) (at : Spot) → slice_get codes.old top.now.code ≡ Some code → spot_in codes.old top.now ≡ Some at
+        → IsSafe (meaning code top.now.fun at.env at.expr (joined state.old (S.stands svc.old))).asks }
+    ensures flows { (code : Code) (at : Spot) → slice_get codes.old top.now.code ≡ Some code → spot_in codes.old top.now ≡ Some at
+        → Flows codes.new code top.now.fun at (meaning code top.now.fun at.env at.expr (joined state.old (S.stands svc.old))) result (joined state.new (S.stands svc.new)) }
+    ensures spends { Spends 256 state.old.work result state.new.work }
+    ensures grown { Grows codes.old codes.new }
+    ensures offer { (S.stands svc.new).offer ≡ (S.stands svc.old).offer }
+    ensures begun { (S.stands svc.new).begun ≡ (S.stands svc.old).begun }
+{
+    let Some(shared) = codes.get(top.code) else {
+        return Err(Stop::Wrong);
+    };
+    let code = shared.share()?;
+    let Some(function) = code.get().funs.get(top.fun) else {
+        return Err(Stop::Wrong);
+    };
+    let Some(expr) = expr_from(&function.body, top.frames.as_slice()) else {
+        return Err(Stop::Wrong);
+    };
+    let here = Here {
+        code: &code,
+        number: top.code,
+        fun: top.fun,
+        function,
+        args: top.args.as_slice(),
+        frames: top.frames.as_slice(),
+    };
+    evaluate(alloc, codes, &here, expr, 256, state, svc)
+}
+
 /// Evaluates the innermost expression of the innermost activation, which is off the stack.
 fn begin<S: Services>(
     alloc: Global,
@@ -83,11 +159,8 @@ fn begin<S: Services>(
     ensures offer { (S.stands svc.new).offer ≡ (S.stands svc.old).offer }
     ensures begun { (S.stands svc.new).begun ≡ (S.stands svc.old).begun }
 {
-    if !state.pays(1) {
-        return Err(Stop::WorkSpent);
-    }
-    let decided = begin_top(alloc, codes, &top, state, svc);
-    apply(alloc, codes, outer, top, decided, state)
+    let flow = run_top(alloc, codes, &top, state, svc);
+    landed(outer, top, flow)
 }
 
 /// One turn of a visit, with its innermost activation off the stack.

@@ -58,6 +58,19 @@ fn part_raised(e: &Expr, x: Exn) -> Result<Next, Stop>
     }
 }
 
+/// What an open expression does when what its frame waits for raised an exception.
+#[tactic(auto, using(crate::proofs::Catching::passes_frame))]
+pub fn frame_raised(e: &Expr, frame: &Frame, x: Exn) -> Result<Next, Stop>
+    ensures { (code : Program) (seen : ℕ) (env : Env) (s : VisitState) → Decides code seen (record { expr = e.now; env = env })
+        (resume code seen (record { expr = e.now; env = env }) frame.now (quiet (stopped (Raised x) s))) result s }
+{
+    match frame {
+        Frame::Part(_, _) => part_raised(e, x),
+        Frame::Last(_) | Frame::Body | Frame::Chunk => Err(Stop::Raised(x)),
+        Frame::Bound(_) | Frame::Items(_) => Err(Stop::Raised(x)),
+    }
+}
+
 /// What an activation does when an exception reaches its innermost frame, which is off it.
 #[tactic(auto, using(crate::proofs::Naming::at_place, crate::proofs::Catching::passes_frame))]
 pub fn raise_top(codes: &Codes, top: &Activation, frame: &Frame, x: Exn) -> Result<Next, Stop>

@@ -30,6 +30,7 @@ fn chunk_of(v: Value) -> Option<Chunk>
 
 /// An eval, which is paid before its chunk runs.
 #[tactic(auto, using(crate::proofs::Deciding::chunk_paid, crate::proofs::Sending::chunk_unpaid, crate::proofs::Sending::no_chunk))]
+#[inline(never)]
 pub fn evaluated(alloc: Global, v: Value, state: &mut State) -> Result<Next, Stop>
     ensures decides { (code : Program) (seen : ℕ) (a : Expr) (n : ℕ) (held : List Value) (s : Standing)
         → Continues code seen (Expr-F.Eval a) n held v (joined state.old s) result (joined state.new s) }
@@ -90,6 +91,7 @@ fn send_remote(
 
 /// The next part of a send by a routing name, or the send.
 #[tactic(auto, using(crate::proofs::Deciding::host_of_remote, crate::proofs::Deciding::bound_of_remote, crate::proofs::Sending::early_remote))]
+#[inline(never)]
 pub fn remote_part(
     alloc: Global,
     r: &Name,
@@ -160,6 +162,7 @@ fn send_neighbour(
 
 /// The next part of a send to a neighbour, or the send.
 #[tactic(auto, using(crate::proofs::Deciding::host_of_neighbour, crate::proofs::Deciding::bound_of_neighbour, crate::proofs::Deciding::dev_of_neighbour, crate::proofs::Sending::early_neighbour, crate::proofs::Sending::third_neighbour))]
+#[inline(never)]
 pub fn neighbour_part(
     alloc: Global,
     held: Values,

@@ -125,7 +125,7 @@ bound_of (pos n) = n
 bound_of (negsuc n) = 0
 
 abbrev pub packet : VisitState → Chunk → Host → ℕ → Name → Packet
-packet s k h n r = record { family = s.family; dest = h; bound = n; route = r; chunk = k }
+packet s k h n r = record { family = s.family; dest = h; bound = n; route = r; chunk = k; handler = None }
 
 -- a packet of this family with that bound, which the purse pays
 abbrev pub sent : Dev → Chunk → Host → ℕ → Name → Run (Unit {0})

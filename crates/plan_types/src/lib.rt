@@ -6,6 +6,7 @@ mod body;
 mod call;
 mod checker;
 mod form;
+mod handlers;
 mod names;
 mod operation;
 mod program;
@@ -13,6 +14,7 @@ mod settle;
 mod state;
 mod typed;
 
+pub use handlers::is_handler;
 pub use names::fun_of;
 pub use plan_base::TypeFault;
 pub use typed::{Checked, annotate, check, refused};

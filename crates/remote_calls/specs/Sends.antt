@@ -1,5 +1,5 @@
 -- What a send does, and where a device leads.
-use Rattle.std.specs.Prelude.{◌≡◌, ℕ, ◌+◌, Bool, if◌then◌else◌, ◌==◌, List, [], ◌∷◌, ◌++◌}
+use Rattle.std.specs.Prelude.{◌≡◌, ℕ, ◌+◌, Bool, if◌then◌else◌, ◌==◌, List, [], ◌∷◌, ◌++◌, None}
 use Rattle.plan_base.specs.declared.name.Name.{Name}
 use Rattle.plan_base.specs.declared.ids.Host.{Host}
 use Rattle.plan_base.specs.declared.ids.Dev.{Dev}
@@ -15,7 +15,7 @@ unfoldable pub leads : Ctx → Dev → Host → Bool
 leads ctx d h = if d.0 == 0 then ctx.here.0 == h.0 else leads_to ctx.neighbours d h
 
 abbrev pub packet_of : Family → Host → ℕ → Name → Chunk → Packet
-packet_of family host bound route chunk = record { family = family; dest = host; bound = bound; route = route; chunk = chunk }
+packet_of family host bound route chunk = record { family = family; dest = host; bound = bound; route = route; chunk = chunk; handler = None }
 
 -- the purse paid the packet's bound, and the packet is the last that is to be sent
 pub record IsSent (dev : Dev) (packet : Packet) (purse : ℕ) (outbox : List Sent) (left : ℕ) (all : List Sent) : Type 0 where

@@ -1,4 +1,4 @@
-ghost use Rattle.std.specs.Prelude.{◌≡◌, ◌≤◌, IfOk};
+ghost use Rattle.std.specs.Prelude.{◌≡◌, ◌≤◌, None, IfOk};
 ghost use Rattle.service_api.specs.Adverts.{AdvertFits};
 ghost use Rattle.packet_frame.specs.Typed.{Accepts};
 ghost use Rattle.packet_frame.specs.declared.frame.PlainFrame.{PlainFrame};
@@ -43,13 +43,14 @@ impl Model for SpelledFrame {
 }
 
 impl SpelledFrame {
-    /// The frame of a packet with another bound. Condition: the bound is at most 65,535.
+    /// The frame of a packet with another bound. Conditions: the bound is at most 65,535, and it has no handler.
     pub fn of_packet(
         alloc: Global,
         packet: &CheckedPacket,
         bound: u32,
     ) -> Result<SpelledFrame, NoMemory>
-        requires { bound ≤ 65535 }
+        requires bound { bound ≤ 65535 }
+        requires plain { packet.now.handler ≡ None }
         ensures { IfOk result (λ s. s ≡ PlainFrame.Packet (record packet.now { bound = bound })) }
     {
         // The chunk of a checked packet is typed, and so is that of the frame.

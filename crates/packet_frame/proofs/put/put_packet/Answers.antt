@@ -10,8 +10,8 @@ pub returns : goal.returns
 returns c =
     let sizes = c.put_way.ensures.ranges in
     packet_spelled c.args.packet.now c.args.new_bound c.family.result c.dest.result c.route-route.result.now c.spellable-chunk.result.now c.of.result
-    c.family.ensures c.dest.ensures c.route-route.ensures (c.spellable-chunk.ensures.value ∙ c.chunk.ensures.value)
-    sizes.0 sizes.1 sizes.2 c.requires c.as_slice.ensures.name c.spellable-chunk.ensures.fits
+    c.requires.plain c.family.ensures c.dest.ensures c.route-route.ensures (c.spellable-chunk.ensures.value ∙ c.chunk.ensures.value)
+    sizes.0 sizes.1 sizes.2 c.requires.bound c.as_slice.ensures.name c.spellable-chunk.ensures.fits
     (c.of.ensures ∙ c.into_vec.ensures ∙ c.put_carried.ensures.bytes
     ∙ ap (λ l. l ++ chunk_bytes c.spellable-chunk.result.now) (c.put_name.ensures.bytes
     ∙ ap (λ l. l ++ name_bytes c.route-route.result.now) (c.put_u32.ensures.bytes

@@ -1,0 +1,138 @@
+-- What came back from the native stack, by what was evaluated there.
+use Rattle.std.proofs.Common.{◌≡◌, ◌≢◌, ℕ, ◌+◌, ◌*◌, ◌<◌, List, [], ◌∷◌, ◌++◌, reverse, length, length-append, arith, Some, None, IsSome, Result, Ok, Err, refl, sym, ◌∙◌, ap}
+use Rattle.std.proofs.lemmas.List.{reverse-append, length-reverse}
+use Rattle.std.proofs.lemmas.List.Sums.{sum_by-append, sum_by-cons}
+use Rattle.plan_base.specs.declared.name.Name.{Name}
+use Rattle.plan_base.specs.declared.tree.Exn.{Exn}
+use Rattle.plan_base.specs.declared.tree.Expr.{Expr, Expr-F, out-Expr}
+use Rattle.plan_base.specs.declared.tree.Fun.{Fun}
+use Rattle.plan_base.specs.declared.tree.Program.{Program}
+use Rattle.plan_base.specs.declared.tree.Value.{Value}
+use Rattle.plan_meaning.specs.declared.stop.Stop.{Stop}
+use Rattle.plan_meaning.specs.declared.stop.Stop.TheVariants.{Raised, Wrong, WorkSpent, NoMemory}
+use Rattle.plan_meaning.specs.State.{VisitState}
+use Rattle.plan_meaning.specs.Run.{Step, gave, stopped, quiet, weighed}
+use Rattle.plan_meaning.specs.Meaning.{bound, value_of}
+use Rattle.plan_eval.specs.declared.frame.Frame.{Frame}
+use Rattle.plan_eval.specs.declared.frame.Frame.TheVariants as frame
+use Rattle.plan_eval.specs.declared.frame.Activation.{Activation}
+use Rattle.plan_eval.specs.declared.frame.Mode.TheVariants as mode
+use Rattle.plan_eval.specs.declared.rest.Rest.{Rest}
+use Rattle.plan_eval.specs.declared.rest.Flow.{Flow}
+use Rattle.plan_eval.specs.declared.rest.Flow.TheVariants as flow
+use Rattle.plan_eval.specs.declared.turn.Turn.{Turn}
+use Rattle.plan_eval.specs.declared.turn.Turn.TheVariants as turn
+use Rattle.plan_eval.specs.Stack.{Spot, deeper, resume, value_from}
+use Rattle.plan_eval.specs.Nexts.{begins, fold_on}
+use Rattle.plan_eval.specs.Leads.{Leads}
+use Rattle.plan_eval.specs.Turns.{argument_of, frames_in, load}
+use Rattle.plan_eval.specs.Direct.{base_of, env_of, Above, Flows, Enters, Advances, Lasts, Spends, burden}
+use Rattle.plan_eval.proofs.Leading.{onward}
+use Rattle.plan_eval.proofs.Stacks.{resume_leads}
+use Rattle.plan_eval.proofs.Delivering.{item_given}
+use Rattle.plan_eval.proofs.Beginning.{gives_name, no_name}
+use Rattle.plan_eval.proofs.Naming.{name_at}
+use Rattle.plan_eval.proofs.Turning.{at_once, at_once_raised}
+use Rattle.plan_eval.proofs.Waiting.{some_base, waits_below}
+
+-- ---- an evaluation that leads to another came as far
+
+pub flows_from : (codes : List Program) (code : Program) (seen : ℕ) (at : Spot) (p q : Step Value) (r : Result Flow Stop) (s : VisitState) → Leads p q → Flows codes code seen at q r s → Flows codes code seen at p r s
+flows_from codes code seen at p q (Ok (flow.Done v)) s h f = h.same ∙ f
+flows_from codes code seen at p q (Ok (flow.Wait r)) s h f = record { leads = onward _ _ _ h f.leads; stands = f.stands; linked = f.linked }
+flows_from codes code seen at p q (Err e) s h f = λ other. h.same ∙ f other
+
+pub enters_from : (codes : List Program) (p q : Step Value) (r : Result Flow Stop) (s : VisitState) → Leads p q → Enters codes q r s → Enters codes p r s
+enters_from codes p q (Ok (flow.Done v)) s h f = h.same ∙ f
+enters_from codes p q (Ok (flow.Wait r)) s h f = record { bare = f.bare; first = f.first; more = f.more; are = f.are; leads = onward _ _ _ h f.leads; linked = f.linked }
+enters_from codes p q (Err e) s h f = λ other. h.same ∙ f other
+
+pub advances_from : (codes : List Program) (code : Program) (seen : ℕ) (at : Spot) (p q : Step Value) (r : Result Turn Stop) (s : VisitState) → Leads p q → Advances codes code seen at q r s → Advances codes code seen at p r s
+advances_from codes code seen at p q (Ok (turn.More n)) s h f = onward _ _ _ h f
+advances_from codes code seen at p q (Ok (turn.End g)) s h f = flows_from codes code seen at p q (Ok g) s h f
+advances_from codes code seen at p q (Err e) s h f = λ other. h.same ∙ f other
+
+-- ---- what a frame waited for
+
+module _ (code : Program) (seen : ℕ) (at : Spot) (c : Step Value) (s : VisitState) where
+  pub resume_gave : (f : Frame) (v : Value) → c.after ≡ gave v s → Leads (resume code seen at f c) (resume code seen at f (quiet (gave v s)))
+  resume_gave f v h = resume_leads code seen at f _ _ (at_once c v s h)
+
+  pub resume_raised : (f : Frame) (x : Exn) → (Raised x ≢ NoMemory → c.after ≡ stopped (Raised x) s) → Leads (resume code seen at f c) (resume code seen at f (quiet (stopped (Raised x) s)))
+  resume_raised f x h = resume_leads code seen at f _ _ (at_once_raised c (Raised x) s (h (λ (e : Raised x ≡ NoMemory). cc)))
+
+  pub item_came : (left : List Value) (v : Value) → c.after ≡ gave v s → Leads (resume code seen at (frame.Items left) c) (fold_on code seen at v left s)
+  item_came left v h = onward _ _ _ (resume_gave (frame.Items left) v h) (item_given code seen at s left v)
+
+  module _ (codes : List Program) (r : Rest) (a : Above codes c r s) where
+    pub waits_body : Flows codes code seen at (resume code seen at frame.Body c) (Ok (flow.Wait (record { frames = r.frames ++ frame.Body ∷ []; activations = r.activations }))) s
+    unfolding deeper
+    waits_body = waits_below codes code seen at frame.Body r c s refl a
+
+    pub waits_chunk : Flows codes code seen at (resume code seen at frame.Chunk c) (Ok (flow.Wait (record { frames = r.frames ++ frame.Chunk ∷ []; activations = r.activations }))) s
+    unfolding deeper
+    waits_chunk = waits_below codes code seen at frame.Chunk r c s refl a
+
+    pub waits_items : (left : List Value) → Flows codes code seen at (resume code seen at (frame.Items left) c) (Ok (flow.Wait (record { frames = r.frames ++ frame.Items left ∷ []; activations = r.activations }))) s
+    unfolding deeper
+    waits_items left = waits_below codes code seen at (frame.Items left) r c s refl a
+
+-- ---- names
+
+pub here_name : (x : Name) (f : Fun) (args : List Value) (frames : List Frame) → IsSome (bound f.params args)
+    → value_from x (argument_of x None f.params args) (Some f.body) frames ≡ value_of x (env_of f args frames)
+unfolding env_of
+here_name x f args frames h = name_at x f args frames (base_of (bound f.params args)) (some_base (bound f.params args) h)
+
+module _ (code : Program) (seen : ℕ) (s : VisitState) (e : Expr) (x : Name) (f : Fun) (args : List Value) (frames : List Frame) (form : out-Expr e ≡ Expr-F.Var x) (h : IsSome (bound f.params args)) where
+  pub gives_here : (v : Value) → value_from x (argument_of x None f.params args) (Some f.body) frames ≡ Some v
+      → Leads (begins code seen (record { expr = e; env = env_of f args frames }) s) (weighed v s)
+  gives_here v is = gives_name code seen (env_of f args frames) s e x v form (sym (here_name x f args frames h) ∙ is)
+
+  pub none_here : value_from x (argument_of x None f.params args) (Some f.body) frames ≡ None
+      → (begins code seen (record { expr = e; env = env_of f args frames }) s).after ≡ stopped Wrong s
+  none_here is = no_name code seen (env_of f args frames) s e x form (sym (here_name x f args frames h) ∙ is)
+
+-- ---- how much is left to do
+
+frames_reverse : (xs : List Activation) → frames_in (reverse xs) ≡ frames_in xs
+frames_reverse [] = refl
+frames_reverse (x ∷ xs) =
+    let before = frames_reverse xs in
+    ap frames_in (reverse-append (x ∷ []) xs) ∙ sum_by-append (λ (a : Activation). length a.frames) (reverse xs) (x ∷ [])
+    ∙ omega (arith, before, sum_by-cons (λ (a : Activation). length a.frames) x xs, sum_by-cons (λ (a : Activation). length a.frames) x [])
+
+module _ (outer : List Activation) (a : Activation) (r : Rest) where
+  abbrev whole : Activation
+  whole = record a { frames = a.frames ++ reverse r.frames }
+
+  frames_of : frames_in ((outer ++ whole ∷ []) ++ reverse r.activations) ≡ frames_in outer + length a.frames + length r.frames + frames_in r.activations
+  frames_of =
+      omega (
+        arith,
+        sum_by-append (λ (b : Activation). length b.frames) (outer ++ whole ∷ []) (reverse r.activations),
+        sum_by-append (λ (b : Activation). length b.frames) outer (whole ∷ []),
+        sum_by-cons (λ (b : Activation). length b.frames) whole [],
+        length-append a.frames (reverse r.frames),
+        length-reverse r.frames,
+        frames_reverse r.activations,
+      )
+
+  length_of : length ((outer ++ whole ∷ []) ++ reverse r.activations) ≡ length outer + 1 + length r.activations
+  length_of = omega (arith, length-append (outer ++ whole ∷ []) (reverse r.activations), length-append outer (whole ∷ []), length-reverse r.activations)
+
+  frames_before : frames_in (outer ++ a ∷ []) ≡ frames_in outer + length a.frames
+  frames_before = omega (arith, sum_by-append (λ (b : Activation). length b.frames) outer (a ∷ []), sum_by-cons (λ (b : Activation). length b.frames) a [])
+
+  pub load_waits : (depth old new : ℕ) → 0 < depth → Spends depth old (Ok (flow.Wait r)) new
+      → load mode.Run ((outer ++ whole ∷ []) ++ reverse r.activations) new < load mode.Run (outer ++ a ∷ []) old
+  load_waits depth old new some h = let less : 5 * new + burden r < 5 * old = h.1 some in omega (arith, less, frames_of, length_of, frames_before, length-append outer (a ∷ []))
+
+-- an expression that went on spent 1 before
+pub spends_one : (depth old mid new : ℕ) (r : Result Flow Stop) → mid + 1 ≡ old → Lasts 3 mid r new → Spends depth old r new
+spends_one depth old mid new (Ok (flow.Done v)) is h = omega (arith, is, h)
+spends_one depth old mid new (Ok (flow.Wait r)) is h = (omega (arith, is, h), λ some. omega (arith, is, h))
+spends_one depth old mid new (Err (Raised x)) is h = omega (arith, is, h)
+spends_one depth old mid new (Err Wrong) is h = omega (arith, is, h)
+spends_one depth old mid new (Err WorkSpent) is h = omega (arith, is, h)
+spends_one depth old mid new (Err NoMemory) is h = omega (arith, is, h)

@@ -1,0 +1,159 @@
+-- Steps of the recursion on the native stack.
+use Rattle.std.proofs.Common.{◌≡◌, ℕ, false, List, [], ◌∷◌, ◌++◌, length, slice_get, Option, Some, IsSome, Result, Ok, Err, refl, sym, ◌∙◌, ap, subst, append-nil}
+use Rattle.std.proofs.lemmas.List.{append_assoc}
+use Rattle.std.proofs.lemmas.Bool.{false≢true}
+use Rattle.small_laws.proofs.Options.{some-same}
+use Rattle.plan_base.specs.declared.tree.Expr.{Expr}
+use Rattle.plan_base.specs.declared.tree.Fun.{Fun}
+use Rattle.plan_base.specs.declared.tree.Param.{Param}
+use Rattle.plan_base.specs.declared.tree.Program.{Program}
+use Rattle.plan_base.specs.declared.tree.Value.{Value}
+use Rattle.plan_meaning.specs.declared.stop.Stop.{Stop}
+use Rattle.plan_meaning.specs.State.{VisitState}
+use Rattle.plan_meaning.specs.Run.{Step}
+use Rattle.plan_meaning.specs.Safe.{IsSafe}
+use Rattle.plan_meaning.specs.Meaning.{meaning, bound, entered}
+use Rattle.plan_eval.specs.declared.frame.Frame.{Frame}
+use Rattle.plan_eval.specs.declared.frame.Frame.TheVariants as frame
+use Rattle.plan_eval.specs.declared.frame.Activation.{Activation}
+use Rattle.plan_eval.specs.declared.frame.Mode.{Mode}
+use Rattle.plan_eval.specs.declared.frame.Mode.TheVariants as mode
+use Rattle.plan_eval.specs.declared.here.Here.{Here}
+use Rattle.plan_eval.specs.Turns.{IsAt, IsPlaced, Stands, Turned}
+use Rattle.plan_eval.specs.declared.next.Next.TheVariants as next
+use Rattle.plan_eval.specs.declared.rest.Flow.{Flow}
+use Rattle.plan_eval.specs.declared.rest.Flow.TheVariants as flow
+use Rattle.plan_eval.specs.Stack.{Spot, spot_of, env_at, deeper, part_or_self, part_number, resume, spot_in, ended, all_ended, AreLinked, stands_for}
+use Rattle.plan_eval.specs.Nexts.{next_step}
+use Rattle.plan_eval.specs.Leads.{Leads}
+use Rattle.plan_eval.specs.Direct.{env_of, IsHere, is_let, Flows, Bodies, Grows}
+use Rattle.plan_eval.proofs.Leading.{itself}
+use Rattle.plan_eval.proofs.Applying.{grown, program_of, spot_in_grown, ended_grown, all_ended_grown}
+use Rattle.plan_eval.proofs.Beginning.{runs_on}
+use Rattle.plan_eval.proofs.Delivering.{entered_on}
+use Rattle.plan_eval.proofs.Entering.{last_one, linked_outer, linked_top, linked_grown}
+use Rattle.plan_eval.proofs.Naming.{binds_all, stands_at}
+use Rattle.plan_eval.proofs.Taking.{resume_asks, spot_there}
+use Rattle.plan_eval.proofs.Waiting.{bound_env, paused, waits_inside}
+use Rattle.plan_eval.proofs.Backs.{flows_from}
+
+-- ---- programs that come behind others
+
+pub grown_get : (old new : List Program) (i : ℕ) (code : Program) → Grows old new → slice_get old i ≡ Some code → slice_get new i ≡ Some code
+grown_get old new i code g is = rw g.grown (grown old g.more i code is)
+
+pub here_grown : (old new : List Program) (here : Here) → Grows old new → IsHere old here → IsHere new here
+here_grown old new here g h = record { program = grown_get old new here.number here.code.now g h.program; function = h.function; binds = h.binds }
+
+pub grows_on : (a b c : List Program) → Grows a b → Grows b c → Grows a c
+grows_on a b c g h = record { more = g.more ++ h.more; grown = h.grown ∙ ap (λ (x : List Program). x ++ h.more) g.grown ∙ append_assoc a g.more h.more }
+
+-- ---- a part
+
+pub deeper_here : (at : Spot) (f : Frame) (part : Expr) → part_or_self at.expr (part_number f) ≡ Some part → is_let f ≡ false → deeper at f ≡ Some (record { expr = part; env = at.env })
+unfolding deeper
+deeper_here at (frame.Bound v) part is other = absurd (false≢true (sym other))
+deeper_here at f part is other = ap (λ o. spot_of o at.env) is
+
+spot_some : (at : Spot) (f : Frame) (part : Expr) → part_or_self at.expr (part_number f) ≡ Some part → (inside : Spot) × (deeper at f ≡ Some inside)
+unfolding deeper
+spot_some at f part is = (record { expr = part; env = env_at at.expr at.env f }, ap (λ o. spot_of o (env_at at.expr at.env f)) is)
+
+module _ (code : Program) (seen : ℕ) (at : Spot) (f : Frame) (s : VisitState) where
+  -- a part that is not begun
+  pub opened_paused : (codes : List Program) (part : Expr) → part_or_self at.expr (part_number f) ≡ Some part
+      → Flows codes code seen at (next_step code seen at (next.Open f) s) (Ok (flow.Wait (record { frames = f ∷ []; activations = [] }))) s
+  opened_paused codes part is =
+      let inside = spot_some at f part is in
+      waits_inside codes code seen at f inside.0 inside.1 (record { frames = []; activations = [] }) s _ (meaning code seen inside.0.env inside.0.expr s) (rw inside.1 (itself _)) (paused codes code seen inside.0 s)
+
+  module _ (part : Expr) (deep : deeper at f ≡ Some (record { expr = part; env = at.env })) (safe : IsSafe (next_step code seen at (next.Open f) s).asks) where
+    pub opened_safe : IsSafe (resume code seen at f (meaning code seen at.env part s)).asks
+    opened_safe = rw deep at safe
+
+    pub part_safe : IsSafe (meaning code seen at.env part s).asks
+    part_safe = resume_asks code seen at f _ opened_safe
+
+-- ---- a body
+
+some_is : {A : Type 0} (o : Option A) (x : A) → o ≡ Some x → IsSome o
+some_is o x is = rw is refl
+
+pub binds_some : (ps : List Param) (vs : List Value) → length ps ≡ length vs → IsSome (bound ps vs)
+binds_some ps vs h = let b = binds_all ps vs h in some_is (bound ps vs) b.0 b.1
+
+module _ (code : Program) (fun : ℕ) (f : Fun) (args vs : List Value) (fs : List Frame) (s : VisitState) (has : slice_get code.funs fun ≡ Some f) (many : length f.params ≡ length args) (same : vs ≡ args) (none : fs ≡ []) where
+  pub body_leads : Leads (entered meaning code fun args s) (meaning code fun (env_of f vs fs) f.body s)
+  body_leads = rw (same, none) (entered_on code fun args f (env_of f args []) s has (bound_env f args (binds_some f.params args many)))
+
+  pub body_binds : IsSome (bound f.params vs)
+  body_binds = rw same (binds_some f.params args many)
+
+  bodies : (codes : List Program) (number : ℕ) (want : Step Value) (r : Result Flow Stop) (t : VisitState) → slice_get codes number ≡ Some code
+      → Flows codes code fun (record { expr = f.body; env = env_of f args [] }) want r t → Bodies codes code number fun f args want r t
+  bodies codes number want (Ok (flow.Done v)) t is h = h
+  bodies codes number want (Ok (flow.Wait r)) t is h = record { program = is; function = has; binds = binds_some f.params args many; waits = h }
+  bodies codes number want (Err e) t is h = h
+
+  pub bodies_from : (codes : List Program) (number : ℕ) (r : Result Flow Stop) (t : VisitState) → slice_get codes number ≡ Some code
+      → Flows codes code fun (record { expr = f.body; env = env_of f vs fs }) (meaning code fun (env_of f vs fs) f.body s) r t → Bodies codes code number fun f args (entered meaning code fun args s) r t
+  bodies_from codes number r t is h =
+      bodies codes number _ r t is (rw (same, none) at (flows_from codes code fun (record { expr = f.body; env = env_of f vs fs }) _ _ r t body_leads h))
+
+-- ---- where an activation stands
+
+same_some : {A : Type 0} (o : Option A) (x y : A) → o ≡ Some x → o ≡ Some y → x ≡ y
+same_some o x y h k = some-same (sym h ∙ k)
+
+module _ (codes : List Program) (a : Activation) (code : Program) (f : Fun) (e : Expr) (h : IsAt codes a code f e) (linked : IsSome (spot_in codes a)) (vs : List Value) (fs : List Frame) (same : vs ≡ a.args) (those : fs ≡ a.frames) where
+  pub here_binds : IsSome (bound f.params vs)
+  here_binds = let stands = stands_at codes a code f e h linked in rw same (some_is (bound f.params a.args) stands.0 stands.1)
+
+  pub here_spot : spot_in codes a ≡ Some (record { expr = e; env = env_of f vs fs })
+  unfolding env_of
+  here_spot = let stands = stands_at codes a code f e h linked in rw (same, those, stands.1) stands.2
+
+  pub here_only : (P : Program → Spot → Type 0) → P code (record { expr = e; env = env_of f vs fs })
+      → (c : Program) (at : Spot) → slice_get codes a.code ≡ Some c → spot_in codes a ≡ Some at → P c at
+  here_only P p c at is there =
+      subst (λ (x : Program). P x at) (same_some (slice_get codes a.code) code c h.program is)
+      (subst (λ (y : Spot). P code y) (same_some (spot_in codes a) (record { expr = e; env = env_of f vs fs }) at here_spot there) p)
+
+-- ---- the innermost expression of the machine's stack
+
+module _ (codes new : List Program) (outer : List Activation) (a : Activation) (s : VisitState) (linked : AreLinked codes (outer ++ a ∷ [])) (grows : Grows codes new) (r : Result Mode Stop) (outer' : List Activation) (t : VisitState) where
+  alike : (code : Program) (at : Spot) → slice_get codes a.code ≡ Some code → spot_in codes a ≡ Some at
+      → stands_for codes (outer ++ a ∷ []) mode.Run s ≡ all_ended (codes ++ grows.more) outer (ended (codes ++ grows.more) a (meaning code a.fun at.env at.expr s))
+  alike code at is there =
+      runs_on codes outer code a at s is there
+      ∙ sym (all_ended_grown codes grows.more outer _ (linked_outer codes outer a linked) ∙ ap (all_ended codes outer) (ended_grown codes grows.more a _ (linked_top codes outer a linked)))
+
+  stands_grown : (code : Program) (at : Spot) → slice_get codes a.code ≡ Some code → spot_in codes a ≡ Some at → Stands (codes ++ grows.more) outer a code at
+  stands_grown code at is there = record {
+    program = grown codes grows.more a.code code is;
+    spot = spot_in_grown codes grows.more a (linked_top codes outer a linked) ∙ there;
+    linked = linked_grown codes grows.more outer (linked_outer codes outer a linked);
+  }
+
+  pub turn_dives : ((code : Program) (at : Spot) → slice_get codes a.code ≡ Some code → spot_in codes a ≡ Some at → Stands new outer a code at
+      → Turned (all_ended new outer (ended new a (meaning code a.fun at.env at.expr s))) r new outer' t)
+      → Turned (stands_for codes (outer ++ a ∷ []) mode.Run s) r new outer' t
+  turn_dives lands =
+      let stands = linked_top codes outer a linked in
+      let code = program_of codes a stands in
+      let at = spot_there (spot_in codes a) stands in
+      rw (alike code.0 at.0 code.1 at.1)
+      (subst (λ (x : List Program). Turned (all_ended x outer (ended x a (meaning code.0 a.fun at.0.env at.0.expr s))) r new outer' t) grows.grown
+      (lands code.0 at.0 code.1 at.1 (subst (λ (x : List Program). Stands x outer a code.0 at.0) (sym grows.grown) (stands_grown code.0 at.0 code.1 at.1))))
+
+pub grows_none : (old new : List Program) → new ≡ old → Grows old new
+grows_none old new is = record { more = []; grown = is ∙ sym (append-nil old) }
+
+pub grows_one : (old new : List Program) (code : Program) → new ≡ old ++ code ∷ [] → Grows old new
+grows_one old new code is = record { more = code ∷ []; grown = is }
+
+pub placed_grows : (old new : List Program) (code : Program) (n : ℕ) → IsPlaced old code n new → Grows old new
+placed_grows old new code n p = record { more = p.more; grown = p.grown }
+
+pub placed_one : (old : List Program) (code : Program) → IsPlaced old code (length old) (old ++ code ∷ [])
+placed_one old code = record { more = code ∷ []; grown = refl; there = last_one old code }

@@ -1,0 +1,272 @@
+-- The forms that are evaluated by themselves on the native stack.
+use Rattle.std.proofs.Common.{◌≡◌, arith, ℕ, ◌+◌, ℤ, List, [], ◌∷◌, ◌++◌, length, length-append, drop, slice_get, zero, suc, true, false, Some, None, IsSome, Result, refl, sym, ◌∙◌, ap, subst}
+use Rattle.small_laws.proofs.Options.{none-some}
+use Rattle.plan_base.specs.declared.name.Name.{Name}
+use Rattle.plan_base.specs.declared.tree.Op.{Op}
+use Rattle.plan_base.specs.declared.tree.Expr.{Expr, Expr-F, out-Expr}
+use Rattle.plan_base.specs.declared.tree.Fun.{Fun}
+use Rattle.plan_base.specs.declared.tree.Program.{Program}
+use Rattle.plan_base.specs.declared.tree.Value.{Value}
+use Rattle.plan_base.specs.declared.tree.Value as value
+use Rattle.plan_base.specs.declared.tree.Expr as expr
+use Rattle.plan_base.specs.Sizes.{weight, nesting}
+use Rattle.plan_base.proofs.SizeLaws.{weight_out, nesting_out}
+use Rattle.plan_base.specs.Trees.{ExprLayer, trees}
+use Rattle.plan_meaning.specs.declared.stop.Stop.{Stop}
+use Rattle.plan_meaning.specs.declared.stop.Stop.TheVariants.{Wrong, WorkSpent}
+use Rattle.plan_meaning.specs.State.{VisitState}
+use Rattle.plan_meaning.specs.Run.{Step, gave, stopped, pure, «next», spend, weighed, is_too_large}
+use Rattle.plan_meaning.specs.Safe.{IsSafe}
+use Rattle.plan_meaning.specs.Meaning.{Env, meaning, bound, as_bool, value_of}
+use Rattle.plan_eval.specs.declared.frame.Frame.{Frame}
+use Rattle.plan_eval.specs.declared.frame.Frame.TheVariants as frame
+use Rattle.plan_eval.specs.declared.next.Next.TheVariants as next
+use Rattle.plan_eval.specs.declared.rest.Flow.{Flow}
+use Rattle.plan_eval.specs.Forms.{HasParts}
+use Rattle.plan_eval.specs.Stack.{Spot, deeper, part_or_self, resumed, resume, value_from}
+use Rattle.plan_eval.specs.Nexts.{begins, next_step, part_gave, call_of}
+use Rattle.plan_eval.specs.Leads.{Leads}
+use Rattle.plan_eval.specs.Turns.{argument_of}
+use Rattle.plan_eval.specs.Direct.{env_of, Flows, IsNumber, pending}
+use Rattle.plan_eval.proofs.Leading.{onward}
+use Rattle.plan_eval.proofs.Beginning.{gives_literal, gives_name, calls_bare, begun_here, begun_spent}
+use Rattle.plan_eval.proofs.Delivering.{IsNoTry, part_given}
+use Rattle.plan_eval.proofs.Deciding.{opens_part, chosen_true, chosen_false, chosen_none, second, front_of, rest_of, next_of_call, last_of_call}
+use Rattle.plan_eval.proofs.Taking.{resume_asks}
+use Rattle.plan_eval.proofs.Backs.{flows_from, gives_here, resume_gave}
+
+-- a name's value, once it is weighed
+pub variable_gives : (codes : List Program) (code : Program) (seen : ℕ) (e : Expr) (x : Name) (f : Fun) (args : List Value) (frames : List Frame) (v : Value) (r : Result Flow Stop) (s t : VisitState)
+    → out-Expr e ≡ Expr-F.Var x → IsSome (bound f.params args) → value_from x (argument_of x None f.params args) (Some f.body) frames ≡ Some v
+    → Flows codes code seen (record { expr = e; env = env_of f args frames }) (weighed v s) r t
+    → Flows codes code seen (record { expr = e; env = env_of f args frames }) (begins code seen (record { expr = e; env = env_of f args frames }) s) r t
+variable_gives codes code seen e x f args frames v r s t form h is flows =
+    flows_from codes code seen (record { expr = e; env = env_of f args frames }) _ _ r t (gives_here code seen s e x f args frames form h v is) flows
+
+pub if_form : (t a b : Expr) → out-Expr (expr.If t a b) ≡ Expr-F.If t a b
+if_form t a b = grind (arith, trees)
+
+pub binary_form : (o : Op) (a b : Expr) → out-Expr (expr.Binary o a b) ≡ Expr-F.Binary o a b
+binary_form o a b = grind (arith, trees)
+
+pub number_gives : (code : Program) (seen : ℕ) (e : Expr) (n : ℤ) (env : Env) (s : VisitState) → out-Expr e ≡ Expr-F.Int n → Leads (begins code seen (record { expr = e; env = env }) s) (weighed (value.Int n) s)
+number_gives code seen e n env s form = gives_literal code seen env s e (value.Int n) (rw form refl)
+
+-- what passes a part that gave no value
+resumed_stops : (code : Program) (seen : ℕ) (l : ExprLayer) (env : Env) (n : ℕ) (held : List Value) (c : Step Value) (x : Stop) (s : VisitState) → IsNoTry l → c.after ≡ stopped x s
+    → (resumed code seen l env n held c).after ≡ stopped x s
+resumed_stops code seen (Expr-F.Try a ks) env n held c x s other is = absurd other
+resumed_stops code seen l env n held c x s other is = rw is refl
+
+module _ (code : Program) (seen : ℕ) (at : Spot) where
+  pub part_stops_so : (n : ℕ) (held : List Value) (c : Step Value) (x : Stop) (s : VisitState) → IsNoTry (out-Expr at.expr) → c.after ≡ stopped x s → (resume code seen at (frame.Part n held) c).after ≡ stopped x s
+  part_stops_so n held c x s other is = resumed_stops code seen (out-Expr at.expr) at.env n held c x s other is
+
+  pub last_stops_so : (n : ℕ) (c : Step Value) (x : Stop) (s : VisitState) → c.after ≡ stopped x s → (resume code seen at (frame.Last n) c).after ≡ stopped x s
+  last_stops_so n c x s is = rw is refl
+
+  -- a part that gave its value
+  pub part_came : (n : ℕ) (held : List Value) (c : Step Value) (v : Value) (s : VisitState) → c.after ≡ gave v s → Leads (resume code seen at (frame.Part n held) c) (part_gave code seen at n held v s)
+  part_came n held c v s is = onward _ _ _ (resume_gave code seen at c s (frame.Part n held) v is) (part_given code seen at s (out-Expr at.expr) n held v)
+
+  -- the first part
+  module _ (part : Expr) (s : VisitState) (some : HasParts (out-Expr at.expr)) (deep : deeper at (frame.Part 0 []) ≡ Some (record { expr = part; env = at.env })) where
+    pub first_leads : Leads (begins code seen at s) (resume code seen at (frame.Part 0 []) (meaning code seen at.env part s))
+    first_leads = rw deep at (opens_part code seen at.expr at.env s some)
+
+    pub first_safe : IsSafe (begins code seen at s).asks → IsSafe (meaning code seen at.env part s).asks
+    first_safe safe = resume_asks code seen at (frame.Part 0 []) _ (first_leads.safe safe)
+
+-- ---- `if`
+
+module _ (code : Program) (seen : ℕ) (e t a b : Expr) (env : Env) (form : out-Expr e ≡ Expr-F.If t a b) where
+  abbrev here : Spot
+  here = record { expr = e; env = env }
+
+  pub if_test : deeper here (frame.Part 0 []) ≡ Some (record { expr = t; env = env })
+  unfolding deeper
+  if_test = rw form refl
+
+  pub if_yes : part_or_self e (Some 1) ≡ Some a
+  if_yes = rw form refl
+
+  pub if_no : part_or_self e (Some 2) ≡ Some b
+  if_no = rw form refl
+
+  pub if_parts : HasParts (out-Expr e)
+  if_parts = rw form tt
+
+  pub if_no_try : IsNoTry (out-Expr e)
+  if_no_try = rw form tt
+
+  module _ (s s1 : VisitState) (v : Value) (came : (meaning code seen env t s).after ≡ gave v s1) where
+    if_came : Leads (begins code seen here s) (part_gave code seen here 0 [] v s1)
+    if_came = onward _ _ _ (first_leads code seen here t s if_parts if_test) (part_came code seen here 0 [] (meaning code seen env t s) v s1 came)
+
+    pub if_true : as_bool v ≡ Some true → Leads (begins code seen here s) (next_step code seen here (next.Open (frame.Last 1)) s1)
+    if_true is = onward _ _ _ if_came (chosen_true code seen e env s1 t a b 0 [] v form is)
+
+    pub if_false : as_bool v ≡ Some false → Leads (begins code seen here s) (next_step code seen here (next.Open (frame.Last 2)) s1)
+    if_false is = onward _ _ _ if_came (chosen_false code seen e env s1 t a b 0 [] v form is)
+
+    pub if_wrong : as_bool v ≡ None → (begins code seen here s).after ≡ stopped Wrong s1
+    if_wrong is = if_came.same ∙ chosen_none code seen e env s1 t a b 0 [] v form is
+
+-- ---- operators
+
+module _ (code : Program) (seen : ℕ) (o : Op) (e a b : Expr) (env : Env) (form : out-Expr e ≡ Expr-F.Binary o a b) where
+  abbrev here2 : Spot
+  here2 = record { expr = e; env = env }
+
+  pub left_part : deeper here2 (frame.Part 0 []) ≡ Some (record { expr = a; env = env })
+  unfolding deeper
+  left_part = rw form refl
+
+  pub right_part : (x : Value) → deeper here2 (frame.Part 1 (x ∷ [])) ≡ Some (record { expr = b; env = env })
+  unfolding deeper
+  right_part x = rw form refl
+
+  pub operator_parts : HasParts (out-Expr e)
+  operator_parts = rw form tt
+
+  pub operator_no_try : IsNoTry (out-Expr e)
+  operator_no_try = rw form tt
+
+  pub right_leads : (s s1 : VisitState) (x : Value) → (meaning code seen env a s).after ≡ gave x s1 → Leads (begins code seen here2 s) (resume code seen here2 (frame.Part 1 (x ∷ [])) (meaning code seen env b s1))
+  right_leads s s1 x came =
+      rw (right_part x) at
+      (onward _ _ _ (first_leads code seen here2 a s operator_parts left_part)
+      (onward _ _ _ (part_came code seen here2 0 [] (meaning code seen env a s) x s1 came)
+      (second code seen e env s1 o a b 0 x form)))
+
+-- ---- calls
+
+pub drop_front : {A : Type 0} (xs : List A) (n : ℕ) (x : A) → slice_get xs n ≡ Some x → drop n xs ≡ x ∷ drop (suc n) xs
+drop_front [] n x is = absurd (none-some is)
+drop_front (y ∷ ys) zero x is = cc
+drop_front (y ∷ ys) (suc n) x is = drop_front ys n x is
+
+pub drop_end : {A : Type 0} (xs : List A) (n : ℕ) → slice_get xs n ≡ None → drop n xs ≡ []
+drop_end [] zero is = refl
+drop_end [] (suc n) is = refl
+drop_end (y ∷ ys) zero is = absurd (none-some (sym is))
+drop_end (y ∷ ys) (suc n) is = drop_end ys n is
+
+pub call_form : (f : Name) (es : List Expr) → out-Expr (expr.Call f es) ≡ Expr-F.Call f es
+call_form f es = grind (arith, trees)
+
+module _ (code : Program) (seen : ℕ) (e : Expr) (f : Name) (es : List Expr) (env : Env) (form : out-Expr e ≡ Expr-F.Call f es) where
+  abbrev here3 : Spot
+  here3 = record { expr = e; env = env }
+
+  pub call_no_try : IsNoTry (out-Expr e)
+  call_no_try = rw form tt
+
+  pub argument_deep : (held : List Value) (x : Expr) (more : List Expr) → drop (length held) es ≡ x ∷ more → deeper here3 (frame.Part (length held) held) ≡ Some (record { expr = x; env = env })
+  unfolding deeper
+  argument_deep held x more is = rw (form, front_of es more x (length held) is) refl
+
+  begins_at : (xs : List Expr) → es ≡ xs → (s : VisitState) → Leads (begins code seen here3 s) (pending code seen here3 f [] xs s)
+  begins_at [] is s = calls_bare code seen env s e f (form ∙ ap (Expr-F.Call f) is)
+  begins_at (x ∷ more) is s = first_leads code seen here3 x s (rw (form, is) tt) (argument_deep [] x more is)
+
+  pub call_begins : (s : VisitState) → Leads (begins code seen here3 s) (pending code seen here3 f [] es s)
+  call_begins s = begins_at es refl s
+
+  next_at : (n : ℕ) (held : List Value) (v : Value) (y : Expr) (s : VisitState) → length held + 1 ≡ n
+      → Leads (part_gave code seen here3 (length held) held v s) (next_step code seen here3 (next.Open (frame.Part (length held + 1) (held ++ v ∷ []))) s)
+      → deeper here3 (frame.Part n (held ++ v ∷ [])) ≡ Some (record { expr = y; env = env })
+      → Leads (part_gave code seen here3 (length held) held v s) (resume code seen here3 (frame.Part n (held ++ v ∷ [])) (meaning code seen env y s))
+  next_at n held v y s long h deep =
+      rw deep at (subst (λ (k : ℕ). Leads (part_gave code seen here3 (length held) held v s) (next_step code seen here3 (next.Open (frame.Part k (held ++ v ∷ []))) s)) long h)
+
+  goes_at : (held : List Value) (v : Value) (xs : List Expr) (s : VisitState) → drop (length held + 1) es ≡ xs
+      → Leads (part_gave code seen here3 (length held) held v s) (pending code seen here3 f (held ++ v ∷ []) xs s)
+  goes_at held v [] s is = last_of_call code seen e env s f es (length held) held v form is
+  goes_at held v (y ∷ ys) s is =
+      let long : length held + 1 ≡ length (held ++ v ∷ []) = sym (length-append held (v ∷ [])) in
+      let there : drop (length (held ++ v ∷ [])) es ≡ y ∷ ys = subst (λ (n : ℕ). drop n es ≡ y ∷ ys) long is in
+      next_at (length (held ++ v ∷ [])) held v y s long (next_of_call code seen e env s f es ys y (length held) held v form is) (argument_deep (held ++ v ∷ []) y ys there)
+
+  -- an argument gave its value
+  pub call_goes : (held : List Value) (x : Expr) (more : List Expr) (v : Value) (s s1 : VisitState) → drop (length held) es ≡ x ∷ more → (meaning code seen env x s).after ≡ gave v s1
+      → Leads (pending code seen here3 f held (x ∷ more) s) (pending code seen here3 f (held ++ v ∷ []) more s1)
+  call_goes held x more v s s1 is came =
+      onward _ _ _ (part_came code seen here3 (length held) held (meaning code seen env x s) v s1 came) (goes_at held v more s1 (rest_of es more x (length held) is))
+
+  -- the arguments from the next one on
+  pub call_next : (held : List Value) (x : Expr) (s0 s : VisitState) → slice_get es (length held) ≡ Some x → Leads (begins code seen here3 s0) (pending code seen here3 f held (drop (length held) es) s)
+      → Leads (begins code seen here3 s0) (resume code seen here3 (frame.Part (length held) held) (meaning code seen env x s))
+  call_next held x s0 s is leads = rw (drop_front es (length held) x is) at leads
+
+  pub next_deep : (held : List Value) (x : Expr) → slice_get es (length held) ≡ Some x → deeper here3 (frame.Part (length held) held) ≡ Some (record { expr = x; env = env })
+  next_deep held x is = argument_deep held x (drop (suc (length held)) es) (drop_front es (length held) x is)
+
+  pub next_safe : (held : List Value) (x : Expr) (s0 s : VisitState) → slice_get es (length held) ≡ Some x → Leads (begins code seen here3 s0) (pending code seen here3 f held (drop (length held) es) s)
+      → IsSafe (begins code seen here3 s0).asks → IsSafe (meaning code seen env x s).asks
+  next_safe held x s0 s is leads safe = resume_asks code seen here3 (frame.Part (length held) held) _ ((call_next held x s0 s is leads).safe safe)
+
+  pub call_more : (held all : List Value) (x : Expr) (v : Value) (s0 s s1 : VisitState) → slice_get es (length held) ≡ Some x → Leads (begins code seen here3 s0) (pending code seen here3 f held (drop (length held) es) s)
+      → (meaning code seen env x s).after ≡ gave v s1 → all ≡ held ++ v ∷ [] → Leads (begins code seen here3 s0) (pending code seen here3 f all (drop (length all) es) s1)
+  call_more held all x v s0 s s1 is leads came whole =
+      let front = drop_front es (length held) x is in
+      let rest : drop (length (held ++ v ∷ [])) es ≡ drop (suc (length held)) es =
+      subst (λ (n : ℕ). drop n es ≡ drop (suc (length held)) es) (sym (length-append held (v ∷ []))) (rest_of es (drop (suc (length held)) es) x (length held) front) in
+      rw (whole, rest) (onward _ _ _ (rw front at leads) (call_goes held x (drop (suc (length held)) es) v s s1 front came))
+
+  pub call_done : (held : List Value) (s0 s : VisitState) → slice_get es (length held) ≡ None → Leads (begins code seen here3 s0) (pending code seen here3 f held (drop (length held) es) s)
+      → Leads (begins code seen here3 s0) (call_of code seen f held s)
+  call_done held s0 s is leads = rw (drop_end es (length held) is) at leads
+
+-- ---- numbers at hand
+
+weight_int : (n : ℤ) → weight (value.Int n) ≡ 9
+weight_int n = grind (arith, weight_out, trees)
+
+nesting_int : (n : ℤ) → nesting (value.Int n) ≡ 0
+nesting_int n = grind (arith, nesting_out, trees)
+
+module _ (n : ℤ) (s s1 : VisitState) where
+  weighs_nine : (spend 9 s).after ≡ gave tt s1 → (weighed (value.Int n) s).after ≡ gave (value.Int n) s1
+  unfolding weighed is_too_large
+  weighs_nine h = rw (weight_int n, nesting_int n) (ap (λ r. («next» r (λ _. pure (value.Int n))).after) h)
+
+  stops_nine : (x : Stop) → (spend 9 s).after ≡ stopped x s1 → (weighed (value.Int n) s).after ≡ stopped x s1
+  unfolding weighed is_too_large
+  stops_nine x h = rw (weight_int n, nesting_int n) (ap (λ r. («next» r (λ _. pure (value.Int n))).after) h)
+
+module _ (code : Program) (seen : ℕ) (at : Spot) (n : ℤ) (is : IsNumber code seen at n) (s s1 : VisitState) where
+  pub number_comes : (s2 : VisitState) → (spend 1 s).after ≡ gave tt s1 → (spend 9 s1).after ≡ gave tt s2 → (meaning code seen at.env at.expr s).after ≡ gave (value.Int n) s2
+  number_comes s2 one nine = (begun_here code seen at.env at.expr s s1 one).same ∙ (is s1).same ∙ weighs_nine n s1 s2 nine
+
+  pub number_unpaid : (spend 1 s).after ≡ stopped WorkSpent s1 → (meaning code seen at.env at.expr s).after ≡ stopped WorkSpent s1
+  number_unpaid one = begun_spent code seen at.env at.expr WorkSpent s s1 one
+
+  pub number_unweighed : (s2 : VisitState) → (spend 1 s).after ≡ gave tt s1 → (spend 9 s1).after ≡ stopped WorkSpent s2 → (meaning code seen at.env at.expr s).after ≡ stopped WorkSpent s2
+  number_unweighed s2 one nine = (begun_here code seen at.env at.expr s s1 one).same ∙ (is s1).same ∙ stops_nine n s1 s2 WorkSpent nine
+
+-- what a name or a numeral gives
+pub name_number : (code : Program) (seen : ℕ) (e : Expr) (x : Name) (env : Env) (n : ℤ) → out-Expr e ≡ Expr-F.Var x → value_of x env ≡ Some (value.Int n) → IsNumber code seen (record { expr = e; env = env }) n
+name_number code seen e x env n form is = λ s. gives_name code seen env s e x (value.Int n) form is
+
+pub numeral_number : (code : Program) (seen : ℕ) (e : Expr) (env : Env) (n : ℤ) → out-Expr e ≡ Expr-F.Int n → IsNumber code seen (record { expr = e; env = env }) n
+numeral_number code seen e env n form = λ s. number_gives code seen e n env s form
+
+-- an operator of two numbers at hand
+module _ (code : Program) (seen : ℕ) (o : Op) (e a b : Expr) (env : Env) (form : out-Expr e ≡ Expr-F.Binary o a b) (x y : ℤ) (s s1 : VisitState) where
+  pub left_spent : (t : VisitState) → (meaning code seen env a s).after ≡ stopped WorkSpent t → (begins code seen (record { expr = e; env = env }) s).after ≡ stopped WorkSpent t
+  left_spent t ends =
+      (first_leads code seen (record { expr = e; env = env }) a s (operator_parts code seen o e a b env form) (left_part code seen o e a b env form)).same
+      ∙ part_stops_so code seen (record { expr = e; env = env }) 0 [] (meaning code seen env a s) WorkSpent t (operator_no_try code seen o e a b env form) ends
+
+  module _ (came : (meaning code seen env a s).after ≡ gave (value.Int x) s1) where
+    pub right_spent : (t : VisitState) → (meaning code seen env b s1).after ≡ stopped WorkSpent t → (begins code seen (record { expr = e; env = env }) s).after ≡ stopped WorkSpent t
+    right_spent t ends =
+        (right_leads code seen o e a b env form s s1 (value.Int x) came).same
+        ∙ part_stops_so code seen (record { expr = e; env = env }) 1 (value.Int x ∷ []) (meaning code seen env b s1) WorkSpent t (operator_no_try code seen o e a b env form) ends
+
+    pub both_came : (t : VisitState) → (meaning code seen env b s1).after ≡ gave (value.Int y) t
+        → Leads (begins code seen (record { expr = e; env = env }) s) (part_gave code seen (record { expr = e; env = env }) 1 (value.Int x ∷ []) (value.Int y) t)
+    both_came t also =
+        onward _ _ _ (right_leads code seen o e a b env form s s1 (value.Int x) came)
+        (part_came code seen (record { expr = e; env = env }) 1 (value.Int x ∷ []) (meaning code seen env b s1) (value.Int y) t also)

@@ -1,0 +1,157 @@
+-- An evaluation on the native stack: how far it came, and what waits where it stopped.
+use Rattle.std.specs.Prelude.{◌≡◌, ◌≢◌, ◌+◌, ◌*◌, ◌≤◌, ◌<◌, length, reverse, ℕ, ℤ, Bool, true, false, List, [], ◌∷◌, ◌++◌, Option, Some, None, IsSome, Result, Ok, Err, slice_get}
+use Rattle.plan_base.specs.declared.name.Name.{Name}
+use Rattle.plan_base.specs.declared.tree.Expr.{Expr}
+use Rattle.plan_base.specs.declared.tree.Fun.{Fun}
+use Rattle.plan_base.specs.declared.tree.Program.{Program}
+use Rattle.plan_base.specs.declared.tree.Value.{Value}
+use Rattle.plan_base.specs.declared.tree.Value as value
+use Rattle.plan_meaning.specs.declared.stop.Stop.{Stop}
+use Rattle.plan_meaning.specs.declared.stop.Stop.TheVariants.{Raised, NoMemory}
+use Rattle.plan_meaning.specs.State.{VisitState}
+use Rattle.plan_meaning.specs.Run.{Run, Step, gave, stopped, weighed}
+use Rattle.plan_meaning.specs.Meaning.{Env, bound, meaning}
+use Rattle.plan_eval.specs.declared.frame.Frame.{Frame}
+use Rattle.plan_eval.specs.declared.frame.Frame.TheVariants as frame
+use Rattle.plan_eval.specs.declared.frame.Activation.{Activation}
+use Rattle.plan_eval.specs.declared.frame.Mode.TheVariants as mode
+use Rattle.plan_eval.specs.declared.here.Here.{Here}
+use Rattle.plan_eval.specs.declared.rest.Rest.{Rest}
+use Rattle.plan_eval.specs.declared.rest.Flow.{Flow}
+use Rattle.plan_eval.specs.declared.rest.Flow.TheVariants as flow
+use Rattle.plan_eval.specs.declared.turn.Turn.{Turn}
+use Rattle.plan_eval.specs.declared.turn.Turn.TheVariants as turn
+use Rattle.plan_eval.specs.Stack.{Spot, env_from, spot_from, resume, through, AreLinked, stands_for}
+use Rattle.plan_eval.specs.Nexts.{run_at, begins, next_step, call_of}
+use Rattle.plan_eval.specs.Leads.{Leads}
+use Rattle.plan_eval.specs.Turns.{frames_in}
+
+-- ---- where
+
+abbrev pub base_of : Option Env → Env
+base_of (Some base) = base
+base_of None = []
+
+-- the bindings that an expression sees
+unfoldable pub env_of : Fun → List Value → List Frame → Env
+env_of f args frames = env_from (Some f.body) (base_of (bound f.params args)) frames
+
+abbrev pub spot : Here → Expr → Spot
+spot here e = record { expr = e; env = env_of here.function.now here.args.now here.frames.now }
+
+-- its program has its number, and the function takes so many arguments
+pub record IsHere (codes : List Program) (here : Here) : Type 0 where
+  pub program : slice_get codes here.number ≡ Some here.code.now
+  pub function : slice_get here.code.now.funs here.fun ≡ Some here.function.now
+  pub binds : IsSome (bound here.function.now.params here.args.now)
+
+-- ---- what waits
+
+abbrev pub innermost_of : List Program → Program → ℕ → Option Spot → List Activation → Run Value
+innermost_of codes code seen at [] = run_at code seen at
+innermost_of codes code seen at (a ∷ more) = λ s. stands_for codes (a ∷ more) mode.Run s
+
+-- what is left at a spot, as it goes on
+unfoldable pub waits : List Program → Program → ℕ → Spot → Rest → VisitState → Step Value
+waits codes code seen at r s = through code seen (Some at) (reverse r.frames) (innermost_of codes code seen (spot_from (Some at) (reverse r.frames)) (reverse r.activations) s)
+
+-- an evaluation leads to what is left at a spot
+pub record Waits (codes : List Program) (code : Program) (seen : ℕ) (at : Spot) (want : Step Value) (r : Rest) (s : VisitState) : Type 0 where
+  pub leads : Leads want (waits codes code seen at r s)
+  pub stands : IsSome (spot_from (Some at) (reverse r.frames))
+  pub linked : AreLinked codes (reverse r.activations)
+
+-- how far an expression at a spot came
+abbrev pub Flows : List Program → Program → ℕ → Spot → Step Value → Result Flow Stop → VisitState → Type 0
+Flows codes code seen at want (Ok (flow.Done v)) s = want.after ≡ gave v s
+Flows codes code seen at want (Ok (flow.Wait r)) s = Waits codes code seen at want r s
+Flows codes code seen at want (Err e) s = e ≢ NoMemory → want.after ≡ stopped e s
+
+-- an evaluation leads to some activations
+pub record Above (codes : List Program) (want : Step Value) (r : Rest) (s : VisitState) : Type 0 where
+  pub bare : r.frames ≡ []
+  pub first : Activation
+  pub more : List Activation
+  pub are : reverse r.activations ≡ first ∷ more
+  pub leads : Leads want (stands_for codes (first ∷ more) mode.Run s)
+  pub linked : AreLinked codes (first ∷ more)
+
+-- how far a function came
+abbrev pub Enters : List Program → Step Value → Result Flow Stop → VisitState → Type 0
+Enters codes want (Ok (flow.Done v)) s = want.after ≡ gave v s
+Enters codes want (Ok (flow.Wait r)) s = Above codes want r s
+Enters codes want (Err e) s = e ≢ NoMemory → want.after ≡ stopped e s
+
+-- how far the body of a function with these arguments came, which was entered so
+pub record BodyWaits (codes : List Program) (code : Program) (number fun : ℕ) (f : Fun) (args : List Value) (want : Step Value) (r : Rest) (s : VisitState) : Type 0 where
+  pub program : slice_get codes number ≡ Some code
+  pub function : slice_get code.funs fun ≡ Some f
+  pub binds : IsSome (bound f.params args)
+  pub waits : Waits codes code fun (record { expr = f.body; env = env_of f args [] }) want r s
+
+abbrev pub Bodies : List Program → Program → ℕ → ℕ → Fun → List Value → Step Value → Result Flow Stop → VisitState → Type 0
+Bodies codes code number fun f args want (Ok (flow.Done v)) s = want.after ≡ gave v s
+Bodies codes code number fun f args want (Ok (flow.Wait r)) s = BodyWaits codes code number fun f args want r s
+Bodies codes code number fun f args want (Err e) s = e ≢ NoMemory → want.after ≡ stopped e s
+
+-- how an open expression went on
+abbrev pub Advances : List Program → Program → ℕ → Spot → Step Value → Result Turn Stop → VisitState → Type 0
+Advances codes code seen at want (Ok (turn.More n)) s = Leads want (next_step code seen at n s)
+Advances codes code seen at want (Ok (turn.End f)) s = Flows codes code seen at want (Ok f) s
+Advances codes code seen at want (Err e) s = e ≢ NoMemory → want.after ≡ stopped e s
+
+-- a frame that binds a name
+abbrev pub is_let : Frame → Bool
+is_let (frame.Bound v) = true
+is_let _ = false
+
+abbrev pub IsMore : Turn → Type 0
+IsMore (turn.More n) = Unit {0}
+IsMore (turn.End f) = ⊥
+
+-- the programs before stay where they are
+pub record Grows (old new : List Program) : Type 0 where
+  pub more : List Program
+  pub grown : new ≡ old ++ more
+
+-- ---- numbers
+
+-- an expression that gives a number at once, whatever the state
+abbrev pub IsNumber : Program → ℕ → Spot → ℤ → Type 0
+IsNumber code seen at n = (s : VisitState) → Leads (begins code seen at s) (weighed (value.Int n) s)
+
+-- ---- arguments
+
+-- a call with these values so far, and these arguments to be evaluated
+abbrev pub pending : Program → ℕ → Spot → Name → List Value → List Expr → VisitState → Step Value
+pending code seen at f held [] s = call_of code seen f held s
+pending code seen at f held (x ∷ more) s = resume code seen at (frame.Part (length held) held) (meaning code seen at.env x s)
+
+-- ---- how much is left to do
+
+abbrev pub burden : Rest → ℕ
+burden r = 2 * length r.frames + 2 * frames_in r.activations + length r.activations
+
+-- it spent no less than what waits weighs
+abbrev pub Lasts : ℕ → ℕ → Result Flow Stop → ℕ → Type 0
+Lasts more old (Ok (flow.Done v)) new = new ≤ old
+Lasts more old (Ok (flow.Wait r)) new = 5 * new + burden r ≤ 5 * old + more
+Lasts more old (Err e) new = new ≤ old
+
+-- the same, and it spent something where it was to begin
+abbrev pub Spends : ℕ → ℕ → Result Flow Stop → ℕ → Type 0
+Spends depth old (Ok (flow.Done v)) new = new < old
+Spends depth old (Ok (flow.Wait r)) new = (5 * new + burden r ≤ 5 * old) × (0 < depth → 5 * new + burden r < 5 * old)
+Spends depth old (Err (Raised x)) new = new < old
+Spends depth old (Err e) new = new ≤ old
+
+-- the same of a function that was entered
+abbrev pub Goes : ℕ → Result Flow Stop → ℕ → Type 0
+Goes old (Ok (flow.Done v)) new = new < old
+Goes old (Ok (flow.Wait r)) new = 5 * new + burden r ≤ 5 * old + 1
+Goes old (Err e) new = new ≤ old
+
+abbrev pub Turns : ℕ → Result Turn Stop → ℕ → Type 0
+Turns old (Ok (turn.More n)) new = new < old
+Turns old (Ok (turn.End f)) new = Lasts 3 old (Ok f) new
+Turns old (Err e) new = new ≤ old

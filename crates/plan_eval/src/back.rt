@@ -1,0 +1,261 @@
+//! What an open expression does when what it waits for came so far.
+ghost use Rattle.std.specs.Prelude.{◌≡◌, ◌≢◌, ◌≤◌, ℕ, List, Err, IfOk, IsSome, Some};
+ghost use Rattle.plan_base.specs.declared.tree.Fun.{Fun as AFun};
+ghost use Rattle.plan_base.specs.declared.tree.Program.{Program as Code};
+ghost use Rattle.plan_base.specs.declared.tree.Value.{Value as AValue};
+ghost use Rattle.service_api.specs.Services.{Standing};
+ghost use Rattle.plan_meaning.specs.State.{VisitState, joined};
+ghost use Rattle.plan_meaning.specs.Run.{Step, gave, stopped, quiet, weighed};
+ghost use Rattle.plan_meaning.specs.Meaning.{Env};
+ghost use Rattle.plan_meaning.specs.Safe.{IsSafe};
+ghost use Rattle.plan_eval.specs.Stack.{Spot, deeper, resume};
+ghost use Rattle.plan_eval.specs.declared.frame.Frame.TheVariants as frame;
+ghost use Rattle.plan_meaning.specs.declared.stop.Stop.TheVariants.{Raised};
+ghost use Rattle.plan_meaning.specs.declared.stop.Stop.TheVariants as stops;
+ghost use Rattle.plan_eval.specs.Nexts.{fold_on};
+ghost use Rattle.plan_eval.specs.Direct.{spot, Flows, Bodies, Enters, Advances, Goes, Lasts, Spends, Turns, is_let, IsMore};
+
+use crate::fold::item_gave;
+use crate::frame::Frame;
+use crate::given::frame_given;
+use crate::here::Here;
+use crate::next::Next;
+use crate::raise::frame_raised;
+use crate::rest::{Flow, above, inside};
+use crate::turn::Turn;
+use plan_base::{Exn, Expr, Value, Values};
+use plan_meaning::Stop;
+use service_api::Services;
+use std::alloc::Global;
+use visit_state::{State, Weighing, too_large};
+
+/// Whether a frame binds a name.
+pub fn is_bound(frame: &Frame) -> bool
+    ensures { result ≡ is_let frame.now }
+{
+    match frame {
+        Frame::Bound(_) => true,
+        _ => false,
+    }
+}
+
+/// Ends with a value, which is weighed first.
+pub fn give(alloc: Global, v: Value, state: &mut State) -> Result<Turn, Stop>
+    ensures advances { (codes : List Code) (code : Code) (seen : ℕ) (at : Spot) (n : Standing)
+        → Advances codes code seen at (weighed v (joined state.old n)) result (joined state.new n) }
+    ensures turns { Turns state.old.work result state.new.work }
+{
+    match state.weighed(alloc, v) {
+        Ok(value) => Ok(Turn::End(Flow::Done(value))),
+        Err(stop) => Err(stop),
+    }
+}
+
+/// The value of the whole, which is weighed first.
+pub fn ended(alloc: Global, v: Value, state: &mut State) -> Result<Flow, Stop>
+    ensures flows { (codes : List Code) (code : Code) (seen : ℕ) (at : Spot) (n : Standing)
+        → Flows codes code seen at (weighed v (joined state.old n)) result (joined state.new n) }
+    ensures lasts { Lasts 3 state.old.work result state.new.work }
+{
+    match state.weighs(&v) {
+        Weighing::Paid => Ok(Flow::Done(v)),
+        Weighing::Spent => Err(Stop::WorkSpent),
+        Weighing::TooLarge => Err(too_large(alloc)),
+    }
+}
+
+/// A part whose value is that of the whole came so far.
+pub fn last_back(
+    alloc: Global,
+    n: usize,
+    flow: Result<Flow, Stop>,
+    state: &mut State,
+) -> Result<Flow, Stop>
+    ensures flows { (codes : List Code) (code : Code) (seen : ℕ) (at inner : Spot) (c : Step AValue) (m : Standing) → deeper at (frame.Last n) ≡ Some inner
+        → Flows codes code seen inner c flow (joined state.old m)
+        → Flows codes code seen at (resume code seen at (frame.Last n) c) result (joined state.new m) }
+    ensures lasts { (depth old : ℕ) → Spends depth old flow state.old.work → Lasts 3 old result state.new.work }
+{
+    match flow {
+        Ok(Flow::Done(v)) => ended(alloc, v, state),
+        Ok(Flow::Wait(rest)) => Ok(inside(alloc, rest, Frame::Last(n))?),
+        Err(stop) => Err(stop),
+    }
+}
+
+/// A function that was called came so far.
+pub fn called_back(alloc: Global, flow: Result<Flow, Stop>) -> Result<Turn, Stop>
+    ensures advances { (codes : List Code) (code : Code) (seen : ℕ) (at : Spot) (c : Step AValue) (s : VisitState) → Enters codes c flow s
+        → Advances codes code seen at (resume code seen at frame.Body c) result s }
+    ensures turns { (old new : ℕ) → Goes old flow new → Turns old result new }
+{
+    match flow {
+        Ok(Flow::Done(v)) => Ok(Turn::More(Next::Give(v))),
+        Ok(Flow::Wait(rest)) => Ok(Turn::End(inside(alloc, rest, Frame::Body)?)),
+        Err(stop) => Err(stop),
+    }
+}
+
+/// A function that a call entered came so far.
+pub fn body_back(alloc: Global, flow: Result<Flow, Stop>, state: &mut State) -> Result<Flow, Stop>
+    ensures flows { (codes : List Code) (code : Code) (seen : ℕ) (at : Spot) (c : Step AValue) (m : Standing) → Enters codes c flow (joined state.old m)
+        → Flows codes code seen at (resume code seen at frame.Body c) result (joined state.new m) }
+    ensures lasts { (old : ℕ) → Goes old flow state.old.work → Lasts 3 old result state.new.work }
+{
+    match flow {
+        Ok(Flow::Done(v)) => ended(alloc, v, state),
+        Ok(Flow::Wait(rest)) => Ok(inside(alloc, rest, Frame::Body)?),
+        Err(stop) => Err(stop),
+    }
+}
+
+/// The chunk of an `eval` came so far.
+pub fn visited_back(alloc: Global, flow: Result<Flow, Stop>) -> Result<Turn, Stop>
+    ensures advances { (codes : List Code) (code : Code) (seen : ℕ) (at : Spot) (c : Step AValue) (s : VisitState) → Enters codes c flow s
+        → Advances codes code seen at (resume code seen at frame.Chunk c) result s }
+    ensures turns { (old new : ℕ) → Goes old flow new → Turns old result new }
+{
+    match flow {
+        Ok(Flow::Done(_)) => Ok(Turn::More(Next::Give(Value::Unit))),
+        Ok(Flow::Wait(rest)) => Ok(Turn::End(inside(alloc, rest, Frame::Chunk)?)),
+        Err(stop) => Err(stop),
+    }
+}
+
+/// A step of a fold gave a value.
+fn item_back(alloc: Global, here: &Here<'_>, e: &Expr, left: Values, v: Value) -> Result<Turn, Stop>
+    ensures advances { (codes : List Code) (env : Env) (s : VisitState)
+        → Advances codes here.now.code.now here.now.fun (record { expr = e.now; env = env })
+        (fold_on here.now.code.now here.now.fun (record { expr = e.now; env = env }) v left s) result s }
+    ensures more { IfOk result IsMore }
+{
+    match item_gave(alloc, here.code, here.fun, e, v, left) {
+        Ok(next) => Ok(Turn::More(next)),
+        Err(stop) => Err(stop),
+    }
+}
+
+/// A step of a fold came so far.
+pub fn stepped_back(
+    alloc: Global,
+    here: &Here<'_>,
+    e: &Expr,
+    left: Values,
+    flow: Result<Flow, Stop>,
+) -> Result<Turn, Stop>
+    ensures advances { (codes : List Code) (env : Env) (c : Step AValue) (s : VisitState) → Enters codes c flow s
+        → Advances codes here.now.code.now here.now.fun (record { expr = e.now; env = env })
+        (resume here.now.code.now here.now.fun (record { expr = e.now; env = env }) (frame.Items left) c) result s }
+    ensures turns { (old new : ℕ) → Goes old flow new → Turns old result new }
+{
+    match flow {
+        Ok(Flow::Done(v)) => item_back(alloc, here, e, left, v),
+        Ok(Flow::Wait(rest)) => Ok(Turn::End(inside(alloc, rest, Frame::Items(left))?)),
+        Err(stop) => Err(stop),
+    }
+}
+
+/// A part gave a value.
+fn value_back<S: Services>(
+    alloc: Global,
+    here: &Here<'_>,
+    e: &Expr,
+    frame: Frame,
+    v: Value,
+    state: &mut State,
+    svc: &mut S,
+) -> Result<Turn, Stop>
+    requires open { IsSome (S.stands svc.old).begun }
+    requires safe { IsSafe (resume here.now.code.now here.now.fun (spot here.now e.now) frame (quiet (gave v (joined state.old (S.stands svc.old))))).asks }
+    ensures advances { (codes : List Code) → Advances codes here.now.code.now here.now.fun (spot here.now e.now)
+        (resume here.now.code.now here.now.fun (spot here.now e.now) frame (quiet (gave v (joined state.old (S.stands svc.old)))))
+        result (joined state.new (S.stands svc.new)) }
+    ensures more { IfOk result IsMore }
+    ensures falls { state.new.work ≤ state.old.work }
+    ensures offer { (S.stands svc.new).offer ≡ (S.stands svc.old).offer }
+    ensures begun { (S.stands svc.new).begun ≡ (S.stands svc.old).begun }
+{
+    match frame_given(alloc, here.code, here.fun, e, frame, v, state, svc) {
+        Ok(next) => Ok(Turn::More(next)),
+        Err(stop) => Err(stop),
+    }
+}
+
+/// A part raised an exception.
+fn exception_back(e: &Expr, frame: &Frame, x: Exn) -> Result<Turn, Stop>
+    ensures advances { (codes : List Code) (code : Code) (seen : ℕ) (env : Env) (s : VisitState)
+        → Advances codes code seen (record { expr = e.now; env = env })
+        (resume code seen (record { expr = e.now; env = env }) frame.now (quiet (stopped (Raised x) s))) result s }
+    ensures more { IfOk result IsMore }
+{
+    match frame_raised(e, frame, x) {
+        Ok(next) => Ok(Turn::More(next)),
+        Err(stop) => Err(stop),
+    }
+}
+
+/// A part ended without a value.
+#[tactic(auto, using(crate::proofs::Ending::resume_final))]
+#[inline(never)]
+fn stop_back(e: &Expr, frame: &Frame, stop: Stop) -> Result<Turn, Stop>
+    ensures advances { (codes : List Code) (code : Code) (seen : ℕ) (env : Env) (c : Step AValue) (s : VisitState)
+        → (stop ≢ stops.NoMemory → c.after ≡ stopped stop s)
+        → Advances codes code seen (record { expr = e.now; env = env }) (resume code seen (record { expr = e.now; env = env }) frame.now c) result s }
+    ensures turns { (depth old new : ℕ) → Spends depth old (Err stop) new → Turns old result new }
+{
+    match stop {
+        Stop::Raised(x) => exception_back(e, frame, x),
+        Stop::WorkSpent => Err(Stop::WorkSpent),
+        Stop::Wrong => Err(Stop::Wrong),
+        Stop::NoMemory => Err(Stop::NoMemory),
+    }
+}
+
+/// A part came so far.
+#[inline(never)]
+pub fn part_back<S: Services>(
+    alloc: Global,
+    here: &Here<'_>,
+    e: &Expr,
+    frame: Frame,
+    flow: Result<Flow, Stop>,
+    state: &mut State,
+    svc: &mut S,
+) -> Result<Turn, Stop>
+    requires open { IsSome (S.stands svc.old).begun }
+    requires safe { (codes : List Code) × (inner : Spot) × (c : Step AValue)
+        × Flows codes here.now.code.now here.now.fun inner c flow (joined state.old (S.stands svc.old))
+        × IsSafe (resume here.now.code.now here.now.fun (spot here.now e.now) frame c).asks }
+    ensures advances { (codes : List Code) (inner : Spot) (c : Step AValue) → deeper (spot here.now e.now) frame ≡ Some inner
+        → Flows codes here.now.code.now here.now.fun inner c flow (joined state.old (S.stands svc.old))
+        → Advances codes here.now.code.now here.now.fun (spot here.now e.now)
+        (resume here.now.code.now here.now.fun (spot here.now e.now) frame c) result (joined state.new (S.stands svc.new)) }
+    ensures turns { (depth old : ℕ) → Spends depth old flow state.old.work → Turns old result state.new.work }
+    ensures offer { (S.stands svc.new).offer ≡ (S.stands svc.old).offer }
+    ensures begun { (S.stands svc.new).begun ≡ (S.stands svc.old).begun }
+{
+    match flow {
+        Ok(Flow::Done(v)) => value_back(alloc, here, e, frame, v, state, svc),
+        Ok(Flow::Wait(rest)) => Ok(Turn::End(inside(alloc, rest, frame)?)),
+        Err(stop) => stop_back(e, &frame, stop),
+    }
+}
+
+/// A body came so far; where it waits, its activation takes its arguments.
+pub fn args_back(
+    alloc: Global,
+    number: usize,
+    fun: usize,
+    args: Values,
+    flow: Result<Flow, Stop>,
+) -> Result<Flow, Stop>
+    ensures enters { (codes : List Code) (code : Code) (f : AFun) (c : Step AValue) (s : VisitState) → Bodies codes code number fun f args c flow s
+        → Enters codes c result s }
+    ensures goes { (depth old new : ℕ) → Spends depth old flow new → Goes old result new }
+{
+    match flow {
+        Ok(Flow::Done(v)) => Ok(Flow::Done(v)),
+        Ok(Flow::Wait(rest)) => Ok(above(alloc, rest, number, fun, args)?),
+        Err(stop) => Err(stop),
+    }
+}

@@ -1,0 +1,567 @@
+//! Evaluation by recursion on the native stack, down to a depth; what is left there waits.
+ghost use Rattle.std.specs.Prelude.{◌≡◌, length, option_copied, IfOk, IsSome, Some, slice_get};
+ghost use Rattle.plan_base.specs.declared.tree.Expr.{Expr-F, out-Expr};
+ghost use Rattle.plan_eval.specs.declared.frame.Frame.TheVariants as frame;
+ghost use Rattle.plan_eval.specs.Stack.{part_or_self};
+ghost use Rattle.plan_meaning.specs.State.{joined};
+ghost use Rattle.plan_meaning.specs.Meaning.{entered, meaning, visited};
+ghost use Rattle.plan_meaning.specs.Safe.{IsSafe};
+ghost use Rattle.plan_eval.specs.declared.next.Next.TheVariants as next;
+ghost use Rattle.plan_eval.specs.Nexts.{begins, call_of, next_step};
+ghost use Rattle.plan_eval.specs.Turns.{IsPlaced};
+ghost use Rattle.plan_eval.specs.Direct.{spot, IsHere, Flows, Bodies, Enters, Advances, Grows, Goes, Lasts, Spends, Turns};
+
+use crate::back::{
+    args_back, body_back, called_back, ended, give, is_bound, last_back, part_back, stepped_back,
+    visited_back,
+};
+use crate::begin::{begin, leaf_number, number, variable};
+use crate::call::called;
+use crate::frame::{Codes, Frame};
+use crate::here::Here;
+use crate::next::Next;
+use crate::operand::{numbers, operands_back};
+use crate::rest::{Flow, inside, pause, pause_in};
+use crate::turn::Turn;
+use crate::walk::part_or_self;
+use plan_base::{Chunk, Expr, Fun, Name, NoMemory, Op, Program, Values, place_of};
+use plan_items::{Items, Shared};
+use plan_meaning::Stop;
+use service_api::Services;
+use std::alloc::Global;
+use visit_state::{State, as_bool};
+
+/// Evaluates an expression, down to a depth.
+#[cycle(evaluate)]
+#[tactic(auto, using(plan_base::specs::Trees::trees))]
+pub fn evaluate<S: Services>(
+    alloc: Global,
+    codes: &mut Codes,
+    here: &Here<'_>,
+    e: &Expr,
+    depth: u64,
+    state: &mut State,
+    svc: &mut S,
+) -> Result<Flow, Stop>
+    requires open { IsSome (S.stands svc.old).begun }
+    requires here { IsHere codes.old here.now }
+    requires safe { IsSafe (meaning here.now.code.now here.now.fun (spot here.now e.now).env e.now (joined state.old (S.stands svc.old))).asks }
+    ensures flows { Flows codes.new here.now.code.now here.now.fun (spot here.now e.now)
+        (meaning here.now.code.now here.now.fun (spot here.now e.now).env e.now (joined state.old (S.stands svc.old)))
+        result (joined state.new (S.stands svc.new)) }
+    ensures spends { Spends depth state.old.work result state.new.work }
+    ensures grown { Grows codes.old codes.new }
+    ensures offer { (S.stands svc.new).offer ≡ (S.stands svc.old).offer }
+    ensures begun { (S.stands svc.new).begun ≡ (S.stands svc.old).begun }
+{
+    if depth == 0 {
+        return Ok(pause(alloc)?);
+    }
+    if !state.pays(1) {
+        return Err(Stop::WorkSpent);
+    }
+    match e {
+        Expr::Int(n) => number(alloc, here, e, *n, state),
+        Expr::Var(x) => variable(alloc, here, e, x, state),
+        Expr::If(t, a, b) => choice(
+            alloc,
+            codes,
+            here,
+            e,
+            t.get(),
+            a.get(),
+            b.get(),
+            depth - 1,
+            state,
+            svc,
+        ),
+        Expr::Binary(op, a, b) => operation(
+            alloc,
+            codes,
+            here,
+            e,
+            *op,
+            a.get(),
+            b.get(),
+            depth - 1,
+            state,
+            svc,
+        ),
+        Expr::Call(f, es) => call(
+            alloc,
+            codes,
+            here,
+            e,
+            f,
+            es.as_slice(),
+            depth - 1,
+            state,
+            svc,
+        ),
+        _ => general(alloc, codes, here, e, depth - 1, state, svc),
+    }
+}
+
+/// Evaluates an expression of any form, once it spent 1.
+#[cycle(evaluate)]
+#[inline(never)]
+fn general<S: Services>(
+    alloc: Global,
+    codes: &mut Codes,
+    here: &Here<'_>,
+    e: &Expr,
+    depth: u64,
+    state: &mut State,
+    svc: &mut S,
+) -> Result<Flow, Stop>
+    requires open { IsSome (S.stands svc.old).begun }
+    requires here { IsHere codes.old here.now }
+    requires safe { IsSafe (begins here.now.code.now here.now.fun (spot here.now e.now) (joined state.old (S.stands svc.old))).asks }
+    ensures flows { Flows codes.new here.now.code.now here.now.fun (spot here.now e.now)
+        (begins here.now.code.now here.now.fun (spot here.now e.now) (joined state.old (S.stands svc.old)))
+        result (joined state.new (S.stands svc.new)) }
+    ensures lasts { Lasts 3 state.old.work result state.new.work }
+    ensures grown { Grows codes.old codes.new }
+    ensures offer { (S.stands svc.new).offer ≡ (S.stands svc.old).offer }
+    ensures begun { (S.stands svc.new).begun ≡ (S.stands svc.old).begun }
+{
+    match begin(alloc, here, e, state, svc) {
+        Ok(next) => proceed(alloc, codes, here, e, next, depth, state, svc),
+        Err(stop) => Err(stop),
+    }
+}
+
+/// Evaluates a test and a branch.
+#[cycle(evaluate)]
+fn choice<S: Services>(
+    alloc: Global,
+    codes: &mut Codes,
+    here: &Here<'_>,
+    e: &Expr,
+    t: &Expr,
+    a: &Expr,
+    b: &Expr,
+    depth: u64,
+    state: &mut State,
+    svc: &mut S,
+) -> Result<Flow, Stop>
+    requires form { out-Expr e.now ≡ Expr-F.If t.now a.now b.now }
+    requires open { IsSome (S.stands svc.old).begun }
+    requires here { IsHere codes.old here.now }
+    requires safe { IsSafe (begins here.now.code.now here.now.fun (spot here.now e.now) (joined state.old (S.stands svc.old))).asks }
+    ensures flows { Flows codes.new here.now.code.now here.now.fun (spot here.now e.now)
+        (begins here.now.code.now here.now.fun (spot here.now e.now) (joined state.old (S.stands svc.old)))
+        result (joined state.new (S.stands svc.new)) }
+    ensures lasts { Lasts 3 state.old.work result state.new.work }
+    ensures grown { Grows codes.old codes.new }
+    ensures offer { (S.stands svc.new).offer ≡ (S.stands svc.old).offer }
+    ensures begun { (S.stands svc.new).begun ≡ (S.stands svc.old).begun }
+{
+    match evaluate(alloc, codes, here, t, depth, state, svc) {
+        Ok(Flow::Done(v)) => match as_bool(&v) {
+            Some(true) => last_part(alloc, codes, here, e, 1, a, depth, state, svc),
+            Some(false) => last_part(alloc, codes, here, e, 2, b, depth, state, svc),
+            None => Err(Stop::Wrong),
+        },
+        Ok(Flow::Wait(rest)) => Ok(inside(alloc, rest, Frame::Part(0, Items::new(alloc)))?),
+        Err(stop) => Err(stop),
+    }
+}
+
+/// Evaluates the part whose value is that of the whole.
+#[cycle(evaluate)]
+fn last_part<S: Services>(
+    alloc: Global,
+    codes: &mut Codes,
+    here: &Here<'_>,
+    e: &Expr,
+    n: usize,
+    part: &Expr,
+    depth: u64,
+    state: &mut State,
+    svc: &mut S,
+) -> Result<Flow, Stop>
+    requires open { IsSome (S.stands svc.old).begun }
+    requires here { IsHere codes.old here.now }
+    requires part { part_or_self e.now (Some n) ≡ Some part.now }
+    requires safe { IsSafe (next_step here.now.code.now here.now.fun (spot here.now e.now) (next.Open (frame.Last n)) (joined state.old (S.stands svc.old))).asks }
+    ensures flows { Flows codes.new here.now.code.now here.now.fun (spot here.now e.now)
+        (next_step here.now.code.now here.now.fun (spot here.now e.now) (next.Open (frame.Last n)) (joined state.old (S.stands svc.old)))
+        result (joined state.new (S.stands svc.new)) }
+    ensures lasts { Lasts 3 state.old.work result state.new.work }
+    ensures grown { Grows codes.old codes.new }
+    ensures offer { (S.stands svc.new).offer ≡ (S.stands svc.old).offer }
+    ensures begun { (S.stands svc.new).begun ≡ (S.stands svc.old).begun }
+{
+    let flow = evaluate(alloc, codes, here, part, depth, state, svc);
+    last_back(alloc, n, flow, state)
+}
+
+/// Evaluates both operands, and what the operator gives.
+#[cycle(evaluate)]
+fn operation<S: Services>(
+    alloc: Global,
+    codes: &mut Codes,
+    here: &Here<'_>,
+    e: &Expr,
+    op: Op,
+    a: &Expr,
+    b: &Expr,
+    depth: u64,
+    state: &mut State,
+    svc: &mut S,
+) -> Result<Flow, Stop>
+    requires form { out-Expr e.now ≡ Expr-F.Binary op a.now b.now }
+    requires open { IsSome (S.stands svc.old).begun }
+    requires here { IsHere codes.old here.now }
+    requires safe { IsSafe (begins here.now.code.now here.now.fun (spot here.now e.now) (joined state.old (S.stands svc.old))).asks }
+    ensures flows { Flows codes.new here.now.code.now here.now.fun (spot here.now e.now)
+        (begins here.now.code.now here.now.fun (spot here.now e.now) (joined state.old (S.stands svc.old)))
+        result (joined state.new (S.stands svc.new)) }
+    ensures lasts { Lasts 3 state.old.work result state.new.work }
+    ensures grown { Grows codes.old codes.new }
+    ensures offer { (S.stands svc.new).offer ≡ (S.stands svc.old).offer }
+    ensures begun { (S.stands svc.new).begun ≡ (S.stands svc.old).begun }
+{
+    if let Some(m) = leaf_number(here, a) {
+        if let Some(n) = leaf_number(here, b) {
+            return numbers(alloc, op, m, n, state);
+        }
+    }
+    match evaluate(alloc, codes, here, a, depth, state, svc) {
+        Ok(Flow::Done(x)) => {
+            let flow = evaluate(alloc, codes, here, b, depth, state, svc);
+            operands_back(alloc, op, x, flow, state)
+        }
+        Ok(Flow::Wait(rest)) => Ok(inside(alloc, rest, Frame::Part(0, Items::new(alloc)))?),
+        Err(stop) => Err(stop),
+    }
+}
+
+/// The argument with that number, from 0.
+fn argument_at(es: &[Expr], n: usize) -> Option<&Expr>
+    ensures { option_copied result ≡ slice_get es.now n }
+{
+    match es.get(n) {
+        Some(e) => Some(e),
+        None => None,
+    }
+}
+
+/// Evaluates the arguments of a call, and calls.
+#[cycle(evaluate)]
+fn call<S: Services>(
+    alloc: Global,
+    codes: &mut Codes,
+    here: &Here<'_>,
+    e: &Expr,
+    f: &Name,
+    es: &[Expr],
+    depth: u64,
+    state: &mut State,
+    svc: &mut S,
+) -> Result<Flow, Stop>
+    requires form { out-Expr e.now ≡ Expr-F.Call f.now es.now }
+    requires open { IsSome (S.stands svc.old).begun }
+    requires here { IsHere codes.old here.now }
+    requires safe { IsSafe (begins here.now.code.now here.now.fun (spot here.now e.now) (joined state.old (S.stands svc.old))).asks }
+    ensures flows { Flows codes.new here.now.code.now here.now.fun (spot here.now e.now)
+        (begins here.now.code.now here.now.fun (spot here.now e.now) (joined state.old (S.stands svc.old)))
+        result (joined state.new (S.stands svc.new)) }
+    ensures lasts { Lasts 3 state.old.work result state.new.work }
+    ensures grown { Grows codes.old codes.new }
+    ensures offer { (S.stands svc.new).offer ≡ (S.stands svc.old).offer }
+    ensures begun { (S.stands svc.new).begun ≡ (S.stands svc.old).begun }
+{
+    let mut args = Items::new(alloc);
+    while let Some(x) = argument_at(es, args.len()) {
+        match evaluate(alloc, codes, here, x, depth, state, svc) {
+            Ok(Flow::Done(v)) => args.add(v)?,
+            Ok(Flow::Wait(rest)) => return Ok(inside(alloc, rest, Frame::Part(args.len(), args))?),
+            Err(stop) => return Err(stop),
+        }
+    }
+    invoke(alloc, codes, here, e, f, args, depth, state, svc)
+}
+
+/// Calls a function, a service or a primitive.
+#[cycle(evaluate)]
+fn invoke<S: Services>(
+    alloc: Global,
+    codes: &mut Codes,
+    here: &Here<'_>,
+    e: &Expr,
+    f: &Name,
+    args: Values,
+    depth: u64,
+    state: &mut State,
+    svc: &mut S,
+) -> Result<Flow, Stop>
+    requires open { IsSome (S.stands svc.old).begun }
+    requires here { IsHere codes.old here.now }
+    requires safe { IsSafe (call_of here.now.code.now here.now.fun f.now args (joined state.old (S.stands svc.old))).asks }
+    ensures flows { Flows codes.new here.now.code.now here.now.fun (spot here.now e.now)
+        (call_of here.now.code.now here.now.fun f.now args (joined state.old (S.stands svc.old)))
+        result (joined state.new (S.stands svc.new)) }
+    ensures lasts { Lasts 3 state.old.work result state.new.work }
+    ensures grown { Grows codes.old codes.new }
+    ensures offer { (S.stands svc.new).offer ≡ (S.stands svc.old).offer }
+    ensures begun { (S.stands svc.new).begun ≡ (S.stands svc.old).begun }
+{
+    match called(alloc, here.code, here.fun, f, args, state, svc) {
+        Ok(Next::Give(v)) => ended(alloc, v, state),
+        Ok(Next::Call(fun, passed)) => {
+            let flow = enter(
+                alloc,
+                codes,
+                here.code,
+                here.number,
+                fun,
+                passed,
+                depth,
+                state,
+                svc,
+            );
+            body_back(alloc, flow, state)
+        }
+        Ok(next) => proceed(alloc, codes, here, e, next, depth, state, svc),
+        Err(stop) => Err(stop),
+    }
+}
+
+/// Goes on with an open expression.
+#[cycle(evaluate)]
+#[inline(never)]
+fn proceed<S: Services>(
+    alloc: Global,
+    codes: &mut Codes,
+    here: &Here<'_>,
+    e: &Expr,
+    first: Next,
+    depth: u64,
+    state: &mut State,
+    svc: &mut S,
+) -> Result<Flow, Stop>
+    requires open { IsSome (S.stands svc.old).begun }
+    requires here { IsHere codes.old here.now }
+    requires safe { IsSafe (next_step here.now.code.now here.now.fun (spot here.now e.now) first (joined state.old (S.stands svc.old))).asks }
+    ensures flows { Flows codes.new here.now.code.now here.now.fun (spot here.now e.now)
+        (next_step here.now.code.now here.now.fun (spot here.now e.now) first (joined state.old (S.stands svc.old)))
+        result (joined state.new (S.stands svc.new)) }
+    ensures lasts { Lasts 3 state.old.work result state.new.work }
+    ensures grown { Grows codes.old codes.new }
+    ensures offer { (S.stands svc.new).offer ≡ (S.stands svc.old).offer }
+    ensures begun { (S.stands svc.new).begun ≡ (S.stands svc.old).begun }
+{
+    let mut next = first;
+    loop {
+        match advance(alloc, codes, here, e, next, depth, state, svc) {
+            Ok(Turn::More(more)) => next = more,
+            Ok(Turn::End(flow)) => return Ok(flow),
+            Err(stop) => return Err(stop),
+        }
+    }
+}
+
+/// Does what an open expression does next.
+#[cycle(evaluate)]
+fn advance<S: Services>(
+    alloc: Global,
+    codes: &mut Codes,
+    here: &Here<'_>,
+    e: &Expr,
+    now: Next,
+    depth: u64,
+    state: &mut State,
+    svc: &mut S,
+) -> Result<Turn, Stop>
+    requires open { IsSome (S.stands svc.old).begun }
+    requires here { IsHere codes.old here.now }
+    requires safe { IsSafe (next_step here.now.code.now here.now.fun (spot here.now e.now) now (joined state.old (S.stands svc.old))).asks }
+    ensures advances { Advances codes.new here.now.code.now here.now.fun (spot here.now e.now)
+        (next_step here.now.code.now here.now.fun (spot here.now e.now) now (joined state.old (S.stands svc.old)))
+        result (joined state.new (S.stands svc.new)) }
+    ensures turns { Turns state.old.work result state.new.work }
+    ensures grown { Grows codes.old codes.new }
+    ensures offer { (S.stands svc.new).offer ≡ (S.stands svc.old).offer }
+    ensures begun { (S.stands svc.new).begun ≡ (S.stands svc.old).begun }
+{
+    match now {
+        Next::Give(v) => give(alloc, v, state),
+        Next::Open(frame) => opened(alloc, codes, here, e, frame, depth, state, svc),
+        Next::Call(fun, args) => {
+            let flow = enter(
+                alloc,
+                codes,
+                here.code,
+                here.number,
+                fun,
+                args,
+                depth,
+                state,
+                svc,
+            );
+            called_back(alloc, flow)
+        }
+        Next::Step(fun, args, left) => {
+            let flow = enter(
+                alloc,
+                codes,
+                here.code,
+                here.number,
+                fun,
+                args,
+                depth,
+                state,
+                svc,
+            );
+            stepped_back(alloc, here, e, left, flow)
+        }
+        Next::Visit(chunk) => {
+            let flow = visit(alloc, codes, chunk, depth, state, svc);
+            visited_back(alloc, flow)
+        }
+    }
+}
+
+/// Evaluates a part that is opened.
+#[cycle(evaluate)]
+fn opened<S: Services>(
+    alloc: Global,
+    codes: &mut Codes,
+    here: &Here<'_>,
+    e: &Expr,
+    frame: Frame,
+    depth: u64,
+    state: &mut State,
+    svc: &mut S,
+) -> Result<Turn, Stop>
+    requires open { IsSome (S.stands svc.old).begun }
+    requires here { IsHere codes.old here.now }
+    requires safe { IsSafe (next_step here.now.code.now here.now.fun (spot here.now e.now) (next.Open frame) (joined state.old (S.stands svc.old))).asks }
+    ensures advances { Advances codes.new here.now.code.now here.now.fun (spot here.now e.now)
+        (next_step here.now.code.now here.now.fun (spot here.now e.now) (next.Open frame) (joined state.old (S.stands svc.old)))
+        result (joined state.new (S.stands svc.new)) }
+    ensures turns { Turns state.old.work result state.new.work }
+    ensures grown { Grows codes.old codes.new }
+    ensures offer { (S.stands svc.new).offer ≡ (S.stands svc.old).offer }
+    ensures begun { (S.stands svc.new).begun ≡ (S.stands svc.old).begun }
+{
+    let Some(part) = part_or_self(e, &frame) else {
+        return Err(Stop::Wrong);
+    };
+    if is_bound(&frame) {
+        return Ok(Turn::End(pause_in(alloc, frame)?));
+    }
+    let flow = evaluate(alloc, codes, here, part, depth, state, svc);
+    part_back(alloc, here, e, frame, flow, state, svc)
+}
+
+/// Evaluates the body of a function.
+#[cycle(evaluate)]
+fn enter<S: Services>(
+    alloc: Global,
+    codes: &mut Codes,
+    code: &Shared<Program>,
+    number: usize,
+    fun: usize,
+    args: Values,
+    depth: u64,
+    state: &mut State,
+    svc: &mut S,
+) -> Result<Flow, Stop>
+    requires open { IsSome (S.stands svc.old).begun }
+    requires program { slice_get codes.old number ≡ Some code.now }
+    requires safe { IsSafe (entered meaning code.now fun args (joined state.old (S.stands svc.old))).asks }
+    ensures enters { Enters codes.new (entered meaning code.now fun args (joined state.old (S.stands svc.old))) result (joined state.new (S.stands svc.new)) }
+    ensures spends { Goes state.old.work result state.new.work }
+    ensures grown { Grows codes.old codes.new }
+    ensures offer { (S.stands svc.new).offer ≡ (S.stands svc.old).offer }
+    ensures begun { (S.stands svc.new).begun ≡ (S.stands svc.old).begun }
+{
+    let Some(function) = code.get().funs.get(fun) else {
+        return Err(Stop::Wrong);
+    };
+    if function.params.len() != args.len() {
+        return Err(Stop::Wrong);
+    }
+    let flow = body_flow(
+        alloc, codes, code, number, fun, function, &args, depth, state, svc,
+    );
+    args_back(alloc, number, fun, args, flow)
+}
+
+/// Evaluates the body of a function whose parameters are bound.
+#[cycle(evaluate)]
+fn body_flow<S: Services>(
+    alloc: Global,
+    codes: &mut Codes,
+    code: &Shared<Program>,
+    number: usize,
+    fun: usize,
+    function: &Fun,
+    args: &Values,
+    depth: u64,
+    state: &mut State,
+    svc: &mut S,
+) -> Result<Flow, Stop>
+    requires open { IsSome (S.stands svc.old).begun }
+    requires program { slice_get codes.old number ≡ Some code.now }
+    requires function { slice_get code.now.funs fun ≡ Some function.now }
+    requires many { length function.now.params ≡ length args.now }
+    requires safe { IsSafe (entered meaning code.now fun args.now (joined state.old (S.stands svc.old))).asks }
+    ensures flows { Bodies codes.new code.now number fun function.now args.now (entered meaning code.now fun args.now (joined state.old (S.stands svc.old))) result (joined state.new (S.stands svc.new)) }
+    ensures spends { Spends depth state.old.work result state.new.work }
+    ensures grown { Grows codes.old codes.new }
+    ensures offer { (S.stands svc.new).offer ≡ (S.stands svc.old).offer }
+    ensures begun { (S.stands svc.new).begun ≡ (S.stands svc.old).begun }
+{
+    let none = Items::new(alloc);
+    let here = Here {
+        code,
+        number,
+        fun,
+        function,
+        args: args.as_slice(),
+        frames: none.as_slice(),
+    };
+    evaluate(alloc, codes, &here, &function.body, depth, state, svc)
+}
+
+/// The number of a program that comes behind those that are open.
+#[tactic(auto, using(crate::proofs::Diving::placed_one, crate::proofs::Diving::grows_none, crate::proofs::Diving::grows_one))]
+fn open_code(codes: &mut Codes, code: &Shared<Program>) -> Result<usize, NoMemory>
+    ensures placed { IfOk result (λ n. IsPlaced codes.old code.now n codes.new) }
+    ensures grown { Grows codes.old codes.new }
+{
+    let number = codes.len();
+    codes.add(code.share()?)?;
+    Ok(number)
+}
+
+/// Evaluates a chunk.
+#[cycle(evaluate)]
+#[inline(never)]
+fn visit<S: Services>(
+    alloc: Global,
+    codes: &mut Codes,
+    chunk: Chunk,
+    depth: u64,
+    state: &mut State,
+    svc: &mut S,
+) -> Result<Flow, Stop>
+    requires open { IsSome (S.stands svc.old).begun }
+    requires safe { IsSafe (visited meaning chunk (joined state.old (S.stands svc.old))).asks }
+    ensures enters { Enters codes.new (visited meaning chunk (joined state.old (S.stands svc.old))) result (joined state.new (S.stands svc.new)) }
+    ensures spends { Goes state.old.work result state.new.work }
+    ensures grown { Grows codes.old codes.new }
+    ensures offer { (S.stands svc.new).offer ≡ (S.stands svc.old).offer }
+    ensures begun { (S.stands svc.new).begun ≡ (S.stands svc.old).begun }
+{
+    let Chunk { code, entry, args } = chunk;
+    let Some(fun) = place_of(&entry, code.get().funs.as_slice()) else {
+        return Err(Stop::Wrong);
+    };
+    let number = open_code(codes, &code)?;
+    enter(alloc, codes, &code, number, fun, args, depth, state, svc)
+}

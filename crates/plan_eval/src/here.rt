@@ -1,0 +1,21 @@
+//! Where an expression is evaluated.
+use crate::frame::Frame;
+use plan_base::{Fun, Program, Value};
+use plan_items::Shared;
+
+/// The body in which an expression is evaluated.
+#[derive(Clone, Copy)]
+pub struct Here<'a> {
+    /// The program.
+    pub code: &'a Shared<Program>,
+    /// Its number among those that are open.
+    pub number: usize,
+    /// The place of the function in it.
+    pub fun: usize,
+    /// The function.
+    pub function: &'a Fun,
+    /// Its arguments.
+    pub args: &'a [Value],
+    /// The open expressions of the body that stand outside, the innermost last.
+    pub frames: &'a [Frame],
+}

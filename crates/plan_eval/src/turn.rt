@@ -1,0 +1,12 @@
+//! How an open expression goes on.
+use crate::next::Next;
+use crate::rest::Flow;
+
+/// How an open expression went on.
+#[derive(Drop)]
+pub enum Turn {
+    /// It does this next.
+    More(Next),
+    /// It came so far.
+    End(Flow),
+}

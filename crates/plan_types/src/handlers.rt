@@ -1,0 +1,46 @@
+//! Functions that may handle.
+
+ghost use Rattle.std.specs.Prelude.{◌≡◌, Some};
+ghost use Rattle.plan_base.specs.declared.tree.Ty as ty;
+ghost use Rattle.plan_base.specs.Handlers as spec;
+
+use crate::names::fun_of;
+use plan_base::{Fun, Name, Param, Program, Ty};
+
+fn is_string(t: &Ty) -> bool
+    ensures { result ≡ spec.is_string (ty.out-Ty t.now) }
+{
+    matches!(t, Ty::Str)
+}
+
+fn is_unit(t: &Ty) -> bool
+    ensures { result ≡ spec.is_unit (ty.out-Ty t.now) }
+{
+    matches!(t, Ty::Unit)
+}
+
+fn is_one_string(params: &[Param]) -> bool
+    ensures { result ≡ spec.is_one_string params.now }
+{
+    match params {
+        [p] => is_string(&p.ty),
+        _ => false,
+    }
+}
+
+fn handles(d: &Fun) -> bool
+    ensures { result ≡ spec.handles (Some d.now) }
+{
+    is_one_string(d.params.as_slice()) && is_unit(&d.result)
+}
+
+/// Whether a program has a function of that name with one parameter of type string and result unit.
+#[tactic(auto, unfolding(plan_base::specs::Handlers::is_handler))]
+pub fn is_handler(code: &Program, name: &Name) -> bool
+    ensures { result ≡ spec.is_handler code.now name.now }
+{
+    match fun_of(code, name) {
+        None => false,
+        Some(d) => handles(d),
+    }
+}
