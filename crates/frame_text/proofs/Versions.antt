@@ -84,7 +84,7 @@ carried_refused x h = by_case (carries_handler x) refl
     by_case false q = q
 
 -- the last judgement, where the types are well
-judged_last : PlainStamped → Bool → Result PlainStamped FrameFault
+abbrev judged_last : PlainStamped → Bool → Result PlainStamped FrameFault
 judged_last y b = if b then Ok y else Err FrameFault.IllHandler
 
 module _ (bytes : List ℕ) (x : PlainStamped) where
