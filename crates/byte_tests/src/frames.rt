@@ -1,3 +1,5 @@
+ghost use Rattle.std.specs.Prelude.{◌≡◌, None, IfSome};
+
 use chunk_types::Ill;
 use frame_text::put_reason;
 use packet_frame::{CheckedPacket, Frame, FrameFault, get_frame, put_advert, put_ask, put_packet};
@@ -62,7 +64,9 @@ pub fn refusal(alloc: Global, bytes: &[u8]) -> Result<Bytes, NoMemory> {
     }
 }
 
-fn packet(alloc: Global, bytes: &[u8]) -> Option<CheckedPacket> {
+fn packet(alloc: Global, bytes: &[u8]) -> Option<CheckedPacket>
+    ensures { IfSome result (λ p. p.handler ≡ None) }
+{
     match get_frame(alloc, bytes, None) {
         Ok(Frame::Packet(packet)) => Some(packet),
         _ => None,

@@ -230,6 +230,7 @@ fn packet(alloc: Global) -> Result<Packet, Fail> {
         bound: 4,
         route: name(alloc, b"defaultRoute")?,
         chunk: chunk(alloc, Items::new(alloc))?,
+        handler: Some(name(alloc, b"told")?),
     })
 }
 
@@ -239,6 +240,7 @@ fn a_packet_is_copied_whole(rt: HostRuntime) -> Result<(), Fail> {
     let same = packet.copy(rt.alloc())?;
     assert!(rt; same.chunk.is(&packet.chunk));
     assert_eq!(rt; same.bound, 4);
+    assert!(rt; same.handler.is_some());
     Ok(())
 }
 
