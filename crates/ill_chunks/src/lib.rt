@@ -13,6 +13,7 @@ ghost use Rattle.chunk_types.specs.declared.fault.ChunkFault.{ChunkFault};
 ghost use Rattle.chunk_types.specs.declared.fault.ChunkFault.TheVariants as fault;
 ghost use Rattle.chunk_types.specs.Chunks.{illness, refusal_of};
 ghost use Rattle.ill_chunks.specs.Conditions.{conditions, call_conditions, FirstFailing};
+ghost use Rattle.ill_chunks.specs.Memory.{IllHoldsNoMemory, HoldsNoMemory};
 
 /// What comes first that is wrong with a chunk, its own size aside, is what is told for the first condition that it doesn't
 /// keep: its code, its entry, the number of its arguments, and each of them.
@@ -24,4 +25,10 @@ pub fn first_failing_is_answered()
 /// condition that it doesn't keep: its entry, the number of its arguments, each of them, and its size.
 pub fn first_failing_call_is_answered()
     ensures { (c : Chunk) (f : ChunkFault) → IsTrue (list_all well_formed_value c.args) → IsTrue (list_all value_has_types c.args) → (refusal_of c ≡ Some f) ↔ FirstFailing c f (call_conditions c) }
+{}
+
+/// What comes first that is wrong with a chunk, or with a call, is never want of memory, and holds none.
+pub fn refusals_hold_no_memory()
+    ensures chunks { (c : Chunk) (i : Ill) → illness c ≡ Some i → IllHoldsNoMemory i }
+    ensures calls { (c : Chunk) (f : ChunkFault) → refusal_of c ≡ Some f → HoldsNoMemory f }
 {}

@@ -4,11 +4,12 @@
 //! Each law stands on a function without code, so that contracts of other crates can name it.
 #![tactic(auto)]
 
-ghost use Rattle.std.specs.Prelude.{◌≡◌, ◌≤◌, ◌↔◌, ℕ, Option, Err};
+ghost use Rattle.std.specs.Prelude.{◌≡◌, ◌≢◌, ◌≤◌, ◌↔◌, ℕ, Option, Err};
 ghost use Rattle.plan_base.specs.declared.tree.Expr.{Expr};
 ghost use Rattle.plan_base.specs.declared.tree.Program.{Program};
 ghost use Rattle.plan_base.specs.declared.tree.Ty.{Ty};
 ghost use Rattle.plan_base.specs.declared.type_fault.TypeFault.{TypeFault};
+ghost use Rattle.plan_base.specs.declared.type_fault.TypeFault.TheVariants as fault;
 ghost use Rattle.plan_base.specs.Sizes.{expr_depth};
 ghost use Rattle.plan_base.specs.WellFormed.{IsWellFormedProgram};
 ghost use Rattle.plan_base.specs.Typing.{Ctx, Typed};
@@ -34,4 +35,9 @@ pub fn programs_fail_first()
     ensures some { (p : Program) → IsWellFormedProgram p → IsTypedOrRefused p }
     ensures apart { (p q : Program) (f : TypeFault) → IsWellFormedProgram p → Fills p q → Typed q → FirstRefusal p f → ⊥ }
     ensures one { (p : Program) (f g : TypeFault) → FirstRefusal p f → FirstRefusal p g → f ≡ g }
+{}
+
+/// No first refusal of a program is want of memory.
+pub fn refusals_hold_no_memory()
+    ensures { (p : Program) (f : TypeFault) → annotated p ≡ Err f → f ≢ fault.NoMemory }
 {}

@@ -2,3 +2,4 @@ pub mod Works
 pub mod TypesWork
 pub mod ValuesWork
 pub mod Whole
+pub mod Own
