@@ -13,6 +13,7 @@ use Rattle.service_api.specs.Adverts.{is_above}
 use Rattle.packet_frame.specs.declared.fault.FrameFault.{FrameFault}
 use Rattle.packet_frame.specs.declared.fault.FrameFault.TheVariants as faults
 use Rattle.packet_frame.specs.declared.kind.Kind.{Kind}
+use Rattle.packet_frame.specs.declared.kind.Form.{Form}
 use Rattle.packet_frame.specs.Bytes.{letters}
 use Rattle.packet_frame.specs.Faults.{of_spelling, of_number}
 use Rattle.packet_frame.specs.Fields.{told, judged, number, magic_at, version_at, kind_of, known_kind, kind_at, bound_at, route_at, count_at, row_host_at, cost_at}
@@ -78,13 +79,14 @@ version_own : (s : Scan) → OwnFrame (version_at s)
 unfolding version_at
 version_own s = then_own _ _ (size_own w8 s) (λ n. judged_own (n.0 == 1) faults.BadVersion n tt)
 
+known_kind_own : (o : Option Kind) (s : Scan) → OwnFrame (known_kind o s)
+unfolding OwnFrame
+known_kind_own (Some k) s = tt
+known_kind_own None s = tt
+
 kind_own : (s : Scan) → OwnFrame (kind_at s)
-unfolding kind_at OwnFrame
-kind_own s = then_own _ _ (size_own w8 s) (λ n. go (kind_of n.0) n.1)
-  where
-    go : (o : Option Kind) (s : Scan) → OwnFrame (known_kind o s)
-    go (Some k) s = tt
-    go None s = tt
+unfolding kind_at
+kind_own s = then_own _ _ (size_own w8 s) (λ n. known_kind_own (kind_of n.0) n.1)
 
 bound_own : (s : Scan) → OwnFrame (bound_at s)
 unfolding bound_at
@@ -106,13 +108,14 @@ either_own : (s : Scan) → OwnFrame (either_version_at s)
 unfolding either_version_at
 either_own s = then_own _ _ (size_own w8 s) (λ n. judged_own (n.0 == 1 || n.0 == 2) faults.BadVersion n tt)
 
+known_form_own : (o : Option Form) (s : Scan) → OwnFrame (known_form o s)
+unfolding OwnFrame
+known_form_own (Some k) s = tt
+known_form_own None s = tt
+
 form_own : (v : ℕ) (s : Scan) → OwnFrame (form_at v s)
-unfolding form_at OwnFrame
-form_own v s = then_own _ _ (size_own w8 s) (λ n. go (form_of v n.0) n.1)
-  where
-    go : (o : Option _) (s : Scan) → OwnFrame (known_form o s)
-    go (Some k) s = tt
-    go None s = tt
+unfolding form_at
+form_own v s = then_own _ _ (size_own w8 s) (λ n. known_form_own (form_of v n.0) n.1)
 
 past_own : {A : Type 0} (more : List FrameItem) (r : Result (A × Scan) FrameFault) → OwnFrame r → OwnFrame (past more r)
 past_own more r h = then_own r _ h (λ x. fine _ _)

@@ -1,5 +1,5 @@
 -- Each line keeps the rules of a schedule, so a file's schedule keeps them.
-use Rattle.std.proofs.Common.{◌≡◌, ℕ, ◌<◌, ◌≤◌, ◌^◌, Bool, true, false, cond, not, eqb, ltb, List, [], ◌∷◌, ◌++◌, length, Option, Some, Result, Ok, Err, refl, subst, arith, length-append}
+use Rattle.std.proofs.Common.{◌≡◌, ℕ, ◌+◌, ◌<◌, ◌≤◌, ◌^◌, Bool, true, false, cond, not, eqb, ltb, List, [], ◌∷◌, ◌++◌, length, Option, Some, Result, Ok, Err, refl, subst, arith, length-append}
 use Rattle.std.specs.Prelude.{IfOk}
 use Rattle.std.specs.List.{All, find}
 use Rattle.std.specs.Option.{ok_or}
@@ -232,7 +232,7 @@ add_event s e weight k room h sum light = record {
   programs = k.programs;
   few = omega (arith, length-append s.events (e ∷ []), room);
   events = All-push (KeepsEvent s.hosts) s.events e k.events h;
-  weight = (let p = weights_push s.events e in let w = k.weight.0 in omega (arith, p, w, sum), light);
+  weight = ((let p = weights_push s.events e in let w = k.weight.0 in omega (arith, p, w, sum)), light);
 }
 
 -- one that injects nothing
