@@ -5,6 +5,7 @@ ghost use Rattle.std.specs.List.{list_all};
 ghost use Rattle.chunk_types.specs.Chunks as spec;
 
 use plan_base::{Ty, Value};
+use plan_equality::Same;
 
 /// Whether the value's shape has the type; a chunk isn't looked into. Takes no memory.
 #[cycle(fits)]
@@ -23,7 +24,7 @@ pub fn fits(v: &Value, t: &Ty) -> bool
         Value::Dev(_) => matches!(t, Ty::Dev),
         Value::Chunk(_) => matches!(t, Ty::Chunk),
         Value::List(item, items) => match t {
-            Ty::List(other) => item.is(other.get()) && all_fit(items.as_slice(), item),
+            Ty::List(other) => item.get().is(other.get()) && all_fit(items.as_slice(), item.get()),
             _ => false,
         },
         Value::Tuple(parts) => match t {

@@ -51,7 +51,7 @@ text_enough (kid ∷ kids) (s ∷ given) = ap (λ l. kid_line kid s ++ l) (text_
 
 -- ---- fronts
 
--- a front of the lines of the first statuses is one of the lines of all
+-- a prefix of the lines of the first statuses is one of the lines of all
 pub front_of_given : (kids : List Kid) (given : List ℕ) (n : ℕ) (old new : List ℕ) → AppendsFront old new (fleet_text kids (take n given)) → AppendsFront old new (fleet_text kids given)
 front_of_given kids given n old new f =
     let split = text_split kids given n in

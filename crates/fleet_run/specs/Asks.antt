@@ -48,7 +48,7 @@ SendsAsk (Err LinkFault) old new a = new ≡ old
 SendsAsk (Err WriteFault) old new a = new ≡ old ++ ask_sent a ∷ []
 SendsAsk (Err NoMemory) old new a = new ≡ old
 
--- the output: the line, or a front of it where the output failed
+-- the output: the line, or a prefix of it where the output failed
 abbrev pub WritesAsk : {T : Type 0} → Result T AskFault → List ℕ → List ℕ → AskFile → Type 0
 WritesAsk (Ok x) old new a = new ≡ old ++ ask_line a
 WritesAsk (Err LinkFault) old new a = new ≡ old

@@ -50,12 +50,12 @@ fleet_end (kid ∷ kids) (status ∷ statuses) = if status == 0 then fleet_end k
 
 -- ---- what stands after each answer
 
--- a front of these starts was asked
+-- a prefix of these starts was asked
 pub record StartsFront (old new all : List Words) : Type 0 where
   pub count : ℕ
   pub is : new ≡ old ++ take count all
 
--- the starts asked: all, or a front of them after a failed start; where memory was refused, all or none
+-- the starts asked: all, or a prefix of them after a failed start; where memory was refused, all or none
 abbrev pub Asks : {T : Type 0} → Result T FleetFault → List Words → List Words → List Words → Type 0
 Asks (Ok x) old new all = new ≡ old ++ all
 Asks (Err StartFault) old new all = StartsFront old new all
@@ -71,7 +71,7 @@ Waits (Err WaitFault) old new again = LeavesOpen old new
 Waits (Err WriteFault) old new again = LeavesOpen old new
 Waits (Err NoMemory) old new again = LeavesOpen old new
 
--- the output: these lines, none after a failed start, and a front of them where the output failed
+-- the output: these lines, none after a failed start, and a prefix of them where the output failed
 abbrev pub Writes : {T : Type 0} → Result T FleetFault → List ℕ → List ℕ → List ℕ → Type 0
 Writes (Ok x) old new text = new ≡ old ++ text
 Writes (Err StartFault) old new text = new ≡ old

@@ -2,7 +2,7 @@ ghost use Rattle.std.specs.Prelude.{◌≡◌, ◌≢◌, ◌≤◌, ◌++◌, �
 ghost use Rattle.std.specs.String.{string_bytes};
 ghost use Rattle.network_plan.specs.Hosts.{dev_of};
 ghost use Rattle.network_plan.specs.NodeRules.{KeepsAsk};
-ghost use Rattle.node_io.specs.Causes.{HasCause, Rose};
+ghost use Rattle.node_io.specs.Causes.{HasCause, HasRisen};
 ghost use Rattle.node_io.specs.Links.{HasPeer, Sends, Binds};
 ghost use Rattle.fleet_run.specs.Asks.{ask_frame, ask_peers, asked_line, ask_line, BindsAsk, SendsAsk, WritesAsk};
 
@@ -80,10 +80,10 @@ pub fn inject<L: Link, K: Sink>(
     ensures sent { IsTrue L.tells → SendsAsk result (L.sent link.old) (L.sent link.new) ask.now }
     ensures line { IsTrue K.tells → WritesAsk result (K.taken out.old) (K.taken out.new) ask.now }
     ensures script { IsTrue L.tells → L.script link.new ≡ L.script link.old }
-    ensures link_fault { IsErrOf result AskFault.LinkFault → Rose (L.faults link.old) (L.faults link.new) }
-    ensures write_fault { IsErrOf result AskFault.WriteFault → Rose (K.faults out.old) (K.faults out.new) }
-    ensures complete { ¬ (Rose (L.faults link.old) (L.faults link.new))
-        → ¬ (Rose (K.faults out.old) (K.faults out.new))
+    ensures link_fault { IsErrOf result AskFault.LinkFault → HasRisen (L.faults link.old) (L.faults link.new) }
+    ensures write_fault { IsErrOf result AskFault.WriteFault → HasRisen (K.faults out.old) (K.faults out.new) }
+    ensures complete { ¬ (HasRisen (L.faults link.old) (L.faults link.new))
+        → ¬ (HasRisen (K.faults out.old) (K.faults out.new))
         → (result ≡ Ok tt) ⊎ (result ≡ Err AskFault.NoMemory) }
     ensures link_later { L.faults link.old ≤ L.faults link.new }
     ensures later { K.faults out.old ≤ K.faults out.new }

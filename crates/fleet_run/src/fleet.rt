@@ -1,5 +1,5 @@
 ghost use Rattle.std.specs.Prelude.{◌≡◌, ◌++◌, ◌≤◌, ◌⊎◌, Ok, Err, IsTrue, IsOk, IsErrOf, IfOk, OnOk, [], drop, length, vec_capacity};
-ghost use Rattle.node_io.specs.Causes.{Rose, one_more};
+ghost use Rattle.node_io.specs.Causes.{HasRisen, one_more};
 ghost use Rattle.node_io.specs.Pieces.{AppendsFront};
 ghost use Rattle.fleet_run.specs.Fleets.{fleet_starts, fleet_text, fleet_end, Asks, Waits, Reports};
 
@@ -38,7 +38,7 @@ fn prepare(alloc: Global, kids: &[Kid]) -> Result<Prepared, NoMemory>
 
 /// Starts the children of a fleet, in order, waits for each, in order, and writes `node @H status S` or `ask @H status S`
 /// for each. After a failed start those already started are waited for, without lines. A failed wait, a line that isn't
-/// written, and want of memory end the waiting.
+/// written, and `NoMemory` end the waiting.
 pub fn run_fleet<P: Spawner, K: Sink>(
     alloc: Global,
     fleet: &Fleet,
@@ -46,9 +46,9 @@ pub fn run_fleet<P: Spawner, K: Sink>(
     out: &mut K,
 ) -> Result<FleetEnd, FleetFault>
     ensures starts { IsTrue P.tells → Asks result (P.starts spawn.old) (P.starts spawn.new) (fleet_starts fleet.now.children) }
-    ensures waited { Waits result (P.children spawn.old) (P.children spawn.new) (Rose (one_more (P.faults spawn.old)) (P.faults spawn.new)) }
+    ensures waited { Waits result (P.children spawn.old) (P.children spawn.new) (HasRisen (one_more (P.faults spawn.old)) (P.faults spawn.new)) }
     ensures reports { Reports fleet.now.children result K.tells (K.taken out.old) (K.taken out.new) P.tells (drop (P.started spawn.old) (P.statuses spawn.old)) }
-    // Where both tell: the lines of the statuses that the spawner gives, and a front of them after every answer.
+    // Where both tell: the lines of the statuses that the spawner gives, and a prefix of them after every answer.
     ensures whole { IsTrue P.tells
         → IsTrue K.tells
         → OnOk result (K.taken out.new ≡ K.taken out.old ++ fleet_text fleet.now.children (drop (P.started spawn.old) (P.statuses spawn.old))) }
@@ -58,11 +58,11 @@ pub fn run_fleet<P: Spawner, K: Sink>(
     ensures ended { IsTrue P.tells
         → IfOk result (λ end. end ≡ fleet_end fleet.now.children (drop (P.started spawn.old) (P.statuses spawn.old))) }
     ensures statuses { IsTrue P.tells → P.statuses spawn.new ≡ P.statuses spawn.old }
-    ensures start_fault { IsErrOf result FleetFault.StartFault → Rose (P.faults spawn.old) (P.faults spawn.new) }
-    ensures wait_fault { IsErrOf result FleetFault.WaitFault → Rose (P.faults spawn.old) (P.faults spawn.new) }
-    ensures write_fault { IsErrOf result FleetFault.WriteFault → Rose (K.faults out.old) (K.faults out.new) }
-    ensures complete { ¬ (Rose (P.faults spawn.old) (P.faults spawn.new))
-        → ¬ (Rose (K.faults out.old) (K.faults out.new))
+    ensures start_fault { IsErrOf result FleetFault.StartFault → HasRisen (P.faults spawn.old) (P.faults spawn.new) }
+    ensures wait_fault { IsErrOf result FleetFault.WaitFault → HasRisen (P.faults spawn.old) (P.faults spawn.new) }
+    ensures write_fault { IsErrOf result FleetFault.WriteFault → HasRisen (K.faults out.old) (K.faults out.new) }
+    ensures complete { ¬ (HasRisen (P.faults spawn.old) (P.faults spawn.new))
+        → ¬ (HasRisen (K.faults out.old) (K.faults out.new))
         → IsOk result ⊎ IsErrOf result FleetFault.NoMemory }
     ensures spawn_later { P.faults spawn.old ≤ P.faults spawn.new }
     ensures later { K.faults out.old ≤ K.faults out.new }

@@ -1,5 +1,5 @@
 ghost use Rattle.std.specs.Prelude.{◌≡◌, ◌≢◌, ◌++◌, ◌≤◌, List, ℕ, [], Err, IsTrue, IsErrOf, OnOk, MatchResult, length, take, drop, vec_capacity};
-ghost use Rattle.node_io.specs.Causes.{Rose};
+ghost use Rattle.node_io.specs.Causes.{HasRisen};
 ghost use Rattle.node_io.specs.declared.spawner.Child.{Child as Open};
 ghost use Rattle.fleet_run.specs.Children.{AreOpen, AreNumbered, LeavesOpen};
 ghost use Rattle.fleet_run.specs.Fleets.{fleet_text, fleet_end, Writes};
@@ -12,7 +12,7 @@ use plan_base::Host;
 use std::alloc::Global;
 
 /// How the children of a fleet ended.
-#[derive(Debug, Clone, Copy, PartialEq, Eq)]
+#[derive(Clone, Copy, PartialEq, Eq)]
 pub enum FleetEnd {
     /// All with status 0.
     Well,
@@ -47,8 +47,8 @@ pub fn report_all<P: Spawner, K: Sink>(
         → statuses.new.items ≡ take (length statuses.new.items) (drop n (P.statuses spawn.old)) }
     ensures kept { IsTrue P.tells
         → (P.statuses spawn.new ≡ P.statuses spawn.old) × (P.starts spawn.new ≡ P.starts spawn.old) }
-    ensures wait_fault { IsErrOf result FleetFault.WaitFault → Rose (P.faults spawn.old) (P.faults spawn.new) }
-    ensures write_fault { IsErrOf result FleetFault.WriteFault → Rose (K.faults out.old) (K.faults out.new) }
+    ensures wait_fault { IsErrOf result FleetFault.WaitFault → HasRisen (P.faults spawn.old) (P.faults spawn.new) }
+    ensures write_fault { IsErrOf result FleetFault.WriteFault → HasRisen (K.faults out.old) (K.faults out.new) }
     ensures spawn_later { P.faults spawn.old ≤ P.faults spawn.new }
     ensures later { K.faults out.old ≤ K.faults out.new }
 {

@@ -1,5 +1,5 @@
 ghost use Rattle.std.specs.Prelude.{◌≡◌, ◌++◌, ◌≤◌, ◌⊎◌, List, [], IsTrue, OnOk, OnErr, MatchResult, length, vec_len, vec_capacity};
-ghost use Rattle.node_io.specs.Causes.{HasCause, Rose};
+ghost use Rattle.node_io.specs.Causes.{HasCause, HasRisen};
 ghost use Rattle.node_io.specs.declared.spawner.Child.{Child as Kid};
 ghost use Rattle.fleet_run.specs.Children.{AreOpen, AreNumbered, LeavesOpen};
 ghost use Rattle.fleet_run.specs.Fleets.{StartsFront};
@@ -37,7 +37,7 @@ pub fn wait_all<P: Spawner>(started: &[Child], spawn: &mut P)
     requires { (base : List Kid) × AreOpen base (P.children spawn.old) started.now }
     ensures waited { (base : List Kid)
         → AreOpen base (P.children spawn.old) started.now
-        → (P.children spawn.new ≡ base) ⊎ (Rose (P.faults spawn.old) (P.faults spawn.new) × LeavesOpen base (P.children spawn.new)) }
+        → (P.children spawn.new ≡ base) ⊎ (HasRisen (P.faults spawn.old) (P.faults spawn.new) × LeavesOpen base (P.children spawn.new)) }
     ensures kept { IsTrue P.tells
         → (P.statuses spawn.new ≡ P.statuses spawn.old) × (P.starts spawn.new ≡ P.starts spawn.old) }
     ensures later { P.faults spawn.old ≤ P.faults spawn.new }

@@ -6,7 +6,7 @@ use Rattle.plan_base.specs.declared.tree.Program.{Program}
 use Rattle.plan_base.specs.declared.tree.Value.TheVariants as value
 use Rattle.program_text.specs.declared.fault.TextFault.{TextFault}
 use Rattle.program_text.specs.Texts.{program_of}
-use Rattle.grown_network.specs.Summaries.{GrowText}
+use Rattle.grow_run.specs.Summaries.{GrowText}
 
 -- the program of a ping: it goes to a host, and from there an answer comes back and prints
 unfoldable pub ping_text : List ℕ

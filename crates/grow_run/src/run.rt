@@ -1,8 +1,8 @@
 ghost use Rattle.std.specs.Prelude.{◌≡◌, ◌≤◌, ◌++◌, map, IsTrue, IfOk, OnOk, IsErrOf};
-ghost use Rattle.node_io.specs.Causes.{Rose};
+ghost use Rattle.node_io.specs.Causes.{HasRisen};
 ghost use Rattle.node_io.specs.Pieces.{AppendsFront};
 ghost use Rattle.world_model.specs.World.{opening_services};
-ghost use Rattle.grown_network.specs.Grow.{ring};
+ghost use Rattle.grow_run.specs.Grow.{ring};
 ghost use Rattle.grow_run.specs.Pings as spec;
 
 use crate::growth::Growth;
@@ -44,7 +44,7 @@ pub fn grow<S: Services + Drop, K: Sink>(
     requires services { map S.stands services ≡ map opening_services ring.hosts }
     ensures whole { IsTrue K.tells → OnOk result (K.taken out.new ≡ K.taken out.old ++ spec.grow_output seed events) }
     ensures front { IsTrue K.tells → AppendsFront (K.taken out.old) (K.taken out.new) (spec.grow_output seed events) }
-    ensures write { IsErrOf result RunFault.WriteFault → Rose (K.faults out.old) (K.faults out.new) }
+    ensures write { IsErrOf result RunFault.WriteFault → HasRisen (K.faults out.old) (K.faults out.new) }
     ensures later { K.faults out.old ≤ K.faults out.new }
 {
     let text = grown_bytes(alloc, seed, events, services)?;

@@ -5,7 +5,7 @@ use Rattle.std.proofs.lemmas.List.{take_all, take-append-drop, length-take-le}
 use Rattle.std.proofs.Math.Seq.{take-append-add}
 use Rattle.plan_base.specs.declared.ids.Host.{Host}
 use Rattle.network_plan.specs.declared.event.LogEvent.{LogEvent}
-use Rattle.service_api.specs.Services.{Standing}
+use Rattle.service_api.specs.Services.{ServiceState}
 use Rattle.node_io.specs.Pieces.{AppendsFront}
 use Rattle.node_io.proofs.Fronts.{front_longer}
 use Rattle.node_model.specs.State.{NodeState}
@@ -48,7 +48,7 @@ next_played here s es i n d h number =
 
 -- ---- the loop
 
-pub none_stands : {S : Type 0} (stands : S → Standing) (n : Node S) (s : NodeState) → NodeStands stands n s → NodeStands stands n (node_after s [])
+pub none_stands : {S : Type 0} (stands : S → ServiceState) (n : Node S) (s : NodeState) → NodeStands stands n s → NodeStands stands n (node_after s [])
 unfolding node_after
 none_stands stands n s h = h
 
@@ -56,7 +56,7 @@ one_after : (s : NodeState) (e : LogEvent) → node_after s (e ∷ []) ≡ node_
 unfolding node_after
 one_after s e = refl
 
-pub next_stands : {S : Type 0} (stands : S → Standing) (n : Node S) (s : NodeState) (es : List LogEvent) (i : ℕ) (d e : LogEvent) → i < length es → e ≡ get_or es i d
+pub next_stands : {S : Type 0} (stands : S → ServiceState) (n : Node S) (s : NodeState) (es : List LogEvent) (i : ℕ) (d e : LogEvent) → i < length es → e ≡ get_or es i d
     → NodeStands stands n (node_by (node_after s (take i es)) e) → NodeStands stands n (node_after s (take (i + 1) es))
 next_stands stands n s es i d e h same x =
     let g = get_or es i d in
@@ -91,7 +91,7 @@ all_written here s es i old new h x = x ∙ ap (λ l. old ++ lines_text here (pl
 
 -- ---- fronts
 
--- a front of a later part
+-- a prefix of a later part
 front_behind : (old mid new first lines rest : List ℕ) → mid ≡ old ++ first → AppendsFront mid new lines → AppendsFront old new (first ++ (lines ++ rest))
 front_behind old mid new first lines rest h x =
     let more = front_longer x.count lines rest in

@@ -1,7 +1,7 @@
 ghost use Rattle.std.specs.Prelude.{◌≡◌, ◌++◌, ◌≤◌, ◌<◌, ◌^◌, length, IsTrue, IfOk, OnOk, IsErrOf};
 ghost use Rattle.std.specs.List.{All};
 ghost use Rattle.network_plan.specs.NodeRules.{KeepsEntry, KeepsLog, KeepsNode, KeepsNodeEvent};
-ghost use Rattle.node_io.specs.Causes.{Rose};
+ghost use Rattle.node_io.specs.Causes.{HasRisen};
 ghost use Rattle.node_io.specs.Pieces.{AppendsFront};
 ghost use Rattle.node_model.specs.State.{NodeState, new_node};
 ghost use Rattle.node_model.specs.Node.{node_step};
@@ -67,7 +67,7 @@ fn write_entry<S: Services, K: Sink>(
     ensures whole { IsTrue K.tells → (s : NodeState) → NodeStands S.stands node.old s → OnOk result (K.taken out.new ≡ K.taken out.old ++ lines_text here (entries_at number (acts_of s entry.now))) }
     ensures front { IsTrue K.tells → (s : NodeState) → NodeStands S.stands node.old s → AppendsFront (K.taken out.old) (K.taken out.new) (lines_text here (entries_at number (acts_of s entry.now))) }
     ensures after { (s : NodeState) → NodeStands S.stands node.old s → OnOk result (NodeStands S.stands node.new (node_by s entry.now)) }
-    ensures write { IsErrOf result ReplayFault.WriteFault → Rose (K.faults out.old) (K.faults out.new) }
+    ensures write { IsErrOf result ReplayFault.WriteFault → HasRisen (K.faults out.old) (K.faults out.new) }
     ensures later { K.faults out.old ≤ K.faults out.new }
 {
     let text = entry_lines(alloc, node, here, number, entry)?;
@@ -87,7 +87,7 @@ fn write_entries<S: Services, K: Sink>(
     requires few { length entries.now ≤ 50000 }
     ensures whole { IsTrue K.tells → (s : NodeState) → NodeStands S.stands node.old s → OnOk result (K.taken out.new ≡ K.taken out.old ++ lines_text here (played 0 s entries.now)) }
     ensures front { IsTrue K.tells → (s : NodeState) → NodeStands S.stands node.old s → AppendsFront (K.taken out.old) (K.taken out.new) (lines_text here (played 0 s entries.now)) }
-    ensures write { IsErrOf result ReplayFault.WriteFault → Rose (K.faults out.old) (K.faults out.new) }
+    ensures write { IsErrOf result ReplayFault.WriteFault → HasRisen (K.faults out.old) (K.faults out.new) }
     ensures later { K.faults out.old ≤ K.faults out.new }
 {
     let mut number = 0;
@@ -128,7 +128,7 @@ pub fn begin_node<S: Services + Drop>(
 
 /// Writes the trace of a log: its first line, the lines of each entry's step at a new node with these services, with
 /// `drop @H NoMemory` for one that found no memory, and `end`. Conditions: the log keeps its rules, and no `begin` of the
-/// services is open. Where it fails, what was written is a front of the trace.
+/// services is open. Where it fails, what was written is a prefix of the trace.
 pub fn run_log<S: Services + Drop, K: Sink>(
     alloc: Global,
     log: &Log,
@@ -139,7 +139,7 @@ pub fn run_log<S: Services + Drop, K: Sink>(
     requires services { IsResting (S.stands services) }
     ensures whole { IsTrue K.tells → OnOk result (K.taken out.new ≡ K.taken out.old ++ whole_trace log.now.node.here (played 0 (new_node log.now.node (S.stands services)) log.now.events)) }
     ensures front { IsTrue K.tells → AppendsFront (K.taken out.old) (K.taken out.new) (whole_trace log.now.node.here (played 0 (new_node log.now.node (S.stands services)) log.now.events)) }
-    ensures write { IsErrOf result ReplayFault.WriteFault → Rose (K.faults out.old) (K.faults out.new) }
+    ensures write { IsErrOf result ReplayFault.WriteFault → HasRisen (K.faults out.old) (K.faults out.new) }
     ensures later { K.faults out.old ≤ K.faults out.new }
 {
     let mut node = begin_node(alloc, &log.node, services)?;

@@ -1,4 +1,4 @@
--- Runs of one event more, fronts of what they write, and what holds after each prefix.
+-- Runs of one event more, prefixes of what they write, and what holds after each prefix.
 use Rattle.std.proofs.Common.{◌≡◌, ℕ, ◌+◌, ◌<◌, ◌≤◌, List, [], ◌∷◌, ◌++◌, length, take, drop, get_or, refl, sym, ap, ◌∙◌, append_assoc, arith, subst}
 use Rattle.std.specs.Prelude.{Bool, min, codes, map, All}
 use Rattle.std.proofs.lemmas.List.Concat.{flat_map-append}
@@ -7,7 +7,7 @@ use Rattle.std.proofs.lemmas.List.Elements.{All-take, All-weaker}
 use Rattle.std.proofs.Math.Seq.{take-append-add, take-append_seam}
 use Rattle.std.proofs.lemmas.Grind.{take_at_read}
 use Rattle.plan_base.specs.declared.ids.Family.{Family}
-use Rattle.service_api.specs.Services.{Standing}
+use Rattle.service_api.specs.Services.{ServiceState}
 use Rattle.network_plan.specs.declared.event.WorldEvent.{WorldEvent}
 use Rattle.network_plan.specs.declared.event.WorldEvent.TheVariants.{Inject, Send, Deliver, Lose, Tick, Raw}
 use Rattle.network_plan.specs.declared.schedule.HostSpec.{HostSpec}
@@ -45,7 +45,7 @@ history_of-append (x ∷ es) fs w = ap (λ h. entries w x ++ h) (history_of-appe
 take-within : {X : Type 0} (xs ys : List X) (n : ℕ) → take (min n (length xs)) (xs ++ ys) ≡ take n xs
 take-within xs ys n = take-append-le (min n (length xs)) xs ys (omega arith) ∙ take_min n xs
 
--- a front of a piece behind what was written is a front of the whole
+-- a prefix of a piece behind what was written is a prefix of the whole
 pub front_within : (old mid new done piece rest whole : List ℕ) → mid ≡ old ++ done → whole ≡ done ++ (piece ++ rest) → AppendsFront mid new piece → AppendsFront old new whole
 front_within old mid new done piece rest whole a b f =
     let n = min f.count (length piece) in
@@ -70,12 +70,12 @@ waits_more old mid new text left before piece a b = record {
   is = ap (λ x. x ++ piece) a.is ∙ append_assoc a.done text piece ∙ ap (λ x. a.done ++ x) b.is ∙ sym (append_assoc a.done b.done left);
 }
 
--- a front of what waits with one piece more is a front of the whole
+-- a prefix of what waits with one piece more is a prefix of the whole
 front_waiting : (old mid new text before piece rest whole : List ℕ) → whole ≡ before ++ (piece ++ rest) → IsWaiting old mid text before → AppendsFront mid new (text ++ piece) → AppendsFront old new whole
 front_waiting old mid new text before piece rest whole e a f = front_within old mid new a.done (text ++ piece) rest whole a.written
     (e ∙ ap (λ x. x ++ (piece ++ rest)) a.is ∙ append_assoc a.done text (piece ++ rest) ∙ ap (λ x. a.done ++ x) (sym (append_assoc text piece rest))) f
 
--- what waited is written, or a front of it
+-- what waited is written, or a prefix of it
 pub waited_written : (old mid new text whole : List ℕ) → IsWaiting old mid text whole → new ≡ mid ++ text → new ≡ old ++ whole
 waited_written old mid new text whole a n = n ∙ ap (λ x. x ++ text) a.written ∙ append_assoc old a.done text ∙ ap (λ x. old ++ x) (sym a.is)
 
@@ -97,7 +97,7 @@ module _ (w : WorldState) (es : List WorldEvent) (i : ℕ) (e : WorldEvent) (wit
   history_next : history_of (take i es) w ++ entries (world_after (take i es) w) e ≡ history_of (take (i + 1) es) w
   history_next = sym (history_of-push (take i es) e w) ∙ ap (λ x. history_of x w) (sym next_events)
 
-  pub stands_next : {S : Type 0} (stands : S → Standing) (n : Network S) → WorldStands stands n (happens (world_after (take i es) w) e).world → WorldStands stands n (world_after (take (i + 1) es) w)
+  pub stands_next : {S : Type 0} (stands : S → ServiceState) (n : Network S) → WorldStands stands n (happens (world_after (take i es) w) e).world → WorldStands stands n (world_after (take (i + 1) es) w)
   stands_next stands n h = subst (WorldStands stands n) world_next h
 
   pub counts_next : (rows : List FamilyRow) → Stands (history_of (take i es) w ++ entries (world_after (take i es) w) e) rows → Stands (history_of (take (i + 1) es) w) rows
@@ -123,7 +123,7 @@ module _ (w : WorldState) (es : List WorldEvent) (i : ℕ) (e : WorldEvent) (wit
         ∙ ap (λ x. x ++ entries_text frames (history_of (drop (i + 1) es) (world_after (take (i + 1) es) w))) text_more
         ∙ append_assoc (entries_text frames (history_of (take i es) w)) (entries_text frames (entries (world_after (take i es) w) e)) (entries_text frames (history_of (drop (i + 1) es) (world_after (take (i + 1) es) w)))
 
-    -- a front of an event's text behind that of the events before it
+    -- a prefix of an event's text behind that of the events before it
     pub front_event : (old mid new text : List ℕ) → IsWaiting old mid text (entries_text frames (history_of (take i es) w)) → AppendsFront mid new (text ++ entries_text frames (entries (world_after (take i es) w) e))
         → AppendsFront old new (entries_text frames (history_of es w))
     front_event old mid new text a f = front_waiting old mid new text (entries_text frames (history_of (take i es) w)) (entries_text frames (entries (world_after (take i es) w) e))
@@ -134,7 +134,7 @@ pub text_none : (frames : Bool) (w : WorldState) (es : List WorldEvent) → entr
 unfolding history_of entries_text
 text_none frames w es = refl
 
-pub stands_none : {S : Type 0} (stands : S → Standing) (n : Network S) (w : WorldState) (es : List WorldEvent) → WorldStands stands n w → WorldStands stands n (world_after (take 0 es) w)
+pub stands_none : {S : Type 0} (stands : S → ServiceState) (n : Network S) (w : WorldState) (es : List WorldEvent) → WorldStands stands n w → WorldStands stands n (world_after (take 0 es) w)
 unfolding world_after
 stands_none stands n w es h = h
 
@@ -167,7 +167,7 @@ pub events_fit : (s : Schedule) → KeepsRules s → EventsFit s.events
 events_fit s k = All-weaker (KeepsEvent s.topology.hosts) event_fits (event_keeps s.topology.hosts) s.events k.events
 
 -- the lines of the next event can be counted
-pub countable : {S : Type 0} (stands : S → Standing) (n : Network S) (s : Schedule) (i : ℕ) (e : WorldEvent) (rows : List FamilyRow) → i < length s.events → e ≡ get_or s.events i e → KeepsRules s
+pub countable : {S : Type 0} (stands : S → ServiceState) (n : Network S) (s : Schedule) (i : ℕ) (e : WorldEvent) (rows : List FamilyRow) → i < length s.events → e ≡ get_or s.events i e → KeepsRules s
     → WorldStands stands n (world_after (take i s.events) (opening s.topology)) → Stands (history_of (take i s.events) (opening s.topology)) rows → IsCountable stands n e rows
 countable stands n s i e rows within is k h c = record {
   state = world_after (take i s.events) (opening s.topology);
@@ -201,7 +201,7 @@ unfolding run_text trace_text
 run_text_is frames es w = refl
 
 module _ (frames : Bool) (es : List WorldEvent) (w : WorldState) where
-  -- the fronts of a run's text at each place where it may end
+  -- the prefixes of a run's text at each place where it may end
   pub front_header : (old new : List ℕ) → AppendsFront old new (codes "planet trace 1\n") → AppendsFront old new (run_text frames es w)
   front_header old new f = front_within old old new [] header (entries_text frames (history_of es w) ++ ledger_text (history_of es w) (world_after es w)) (run_text frames es w) (sym (append-nil old))
       (run_text_is frames es w ∙ append_assoc header (entries_text frames (history_of es w)) (ledger_text (history_of es w) (world_after es w))) f

@@ -1,6 +1,6 @@
 ghost use Rattle.std.specs.Prelude.{◌≡◌, ◌++◌, ◌+◌, ◌≤◌, ◌<◌, ◌-◌, ◌^◌, [], ℕ, List, map, take, codes, length, All, IsTrue, IfOk, OnOk, IsErrOf};
 ghost use Rattle.plan_base.specs.declared.ids.Family.{Family as FamilyOf};
-ghost use Rattle.node_io.specs.Causes.{HasCause, Rose};
+ghost use Rattle.node_io.specs.Causes.{HasCause, HasRisen};
 ghost use Rattle.node_io.specs.Pieces.{AppendsFront};
 ghost use Rattle.network_plan.specs.Rules.{KeepsRules};
 ghost use Rattle.world_model.specs.World as spec;
@@ -32,7 +32,7 @@ use std::alloc::Global;
 const PIECE: usize = 8_192;
 
 /// Why a run ended early.
-#[derive(Debug, Clone, Copy, PartialEq, Eq)]
+#[derive(Clone, Copy, PartialEq, Eq)]
 pub enum RunFault {
     /// A push to the sink failed.
     WriteFault,
@@ -112,7 +112,7 @@ fn run_event<S: Services, K: Sink>(
     requires counts { IsCountable S.stands world.old event.now ledger.old }
     ensures waits { (w : WorldState) → WorldStands S.stands world.old w → IsTrue K.tells → IfOk result (λ left. IsWaiting (K.taken out.old) (K.taken out.new) left (text ++ entries_text frames (spec.entries w event.now))) }
     ensures front { (w : WorldState) → WorldStands S.stands world.old w → IsTrue K.tells → AppendsFront (K.taken out.old) (K.taken out.new) (text ++ entries_text frames (spec.entries w event.now)) }
-    ensures write { IsErrOf result RunFault.WriteFault → Rose (K.faults out.old) (K.faults out.new) }
+    ensures write { IsErrOf result RunFault.WriteFault → HasRisen (K.faults out.old) (K.faults out.new) }
     ensures later { K.faults out.old ≤ K.faults out.new }
     ensures world { (w : WorldState) → WorldStands S.stands world.old w → OnOk result (WorldStands S.stands world.new (spec.happens w event.now).world) }
     ensures ledger { (w : WorldState) (h : List EntryOf) → WorldStands S.stands world.old w → Stands h ledger.old → OnOk result (Stands (h ++ spec.entries w event.now) ledger.new) }
@@ -138,7 +138,7 @@ fn run_events<S: Services, K: Sink>(
     requires empty { Stands [] ledger.old }
     ensures whole { IsTrue K.tells → OnOk result (K.taken out.new ≡ K.taken out.old ++ entries_text schedule.now.frames (spec.history_of schedule.now.events (opening schedule.now.topology))) }
     ensures front { IsTrue K.tells → AppendsFront (K.taken out.old) (K.taken out.new) (entries_text schedule.now.frames (spec.history_of schedule.now.events (opening schedule.now.topology))) }
-    ensures write { IsErrOf result RunFault.WriteFault → Rose (K.faults out.old) (K.faults out.new) }
+    ensures write { IsErrOf result RunFault.WriteFault → HasRisen (K.faults out.old) (K.faults out.new) }
     ensures later { K.faults out.old ≤ K.faults out.new }
     ensures ledger { OnOk result (Stands (spec.history_of schedule.now.events (opening schedule.now.topology)) ledger.new) }
 {
@@ -171,7 +171,7 @@ fn write_run<S: Services, K: Sink>(
     requires opening { WorldStands S.stands world.old (opening schedule.now.topology) }
     ensures whole { IsTrue K.tells → OnOk result (K.taken out.new ≡ K.taken out.old ++ run_text schedule.now.frames schedule.now.events (opening schedule.now.topology)) }
     ensures front { IsTrue K.tells → AppendsFront (K.taken out.old) (K.taken out.new) (run_text schedule.now.frames schedule.now.events (opening schedule.now.topology)) }
-    ensures write { IsErrOf result RunFault.WriteFault → Rose (K.faults out.old) (K.faults out.new) }
+    ensures write { IsErrOf result RunFault.WriteFault → HasRisen (K.faults out.old) (K.faults out.new) }
     ensures later { K.faults out.old ≤ K.faults out.new }
 {
     let mut ledger = Ledger::new(alloc)?;
@@ -193,7 +193,7 @@ fn run_schedule<S: Services + Drop, K: Sink>(
     requires services { map S.stands services ≡ map spec.opening_services schedule.now.topology.hosts }
     ensures whole { IsTrue K.tells → OnOk result (K.taken out.new ≡ K.taken out.old ++ run_text schedule.now.frames schedule.now.events (opening schedule.now.topology)) }
     ensures front { IsTrue K.tells → AppendsFront (K.taken out.old) (K.taken out.new) (run_text schedule.now.frames schedule.now.events (opening schedule.now.topology)) }
-    ensures write { IsErrOf result RunFault.WriteFault → Rose (K.faults out.old) (K.faults out.new) }
+    ensures write { IsErrOf result RunFault.WriteFault → HasRisen (K.faults out.old) (K.faults out.new) }
     ensures later { K.faults out.old ≤ K.faults out.new }
 {
     let mut world = World::new(alloc, &schedule.topology, services)?;
@@ -216,7 +216,7 @@ pub fn run<S: Services + Drop, K: Sink>(
     requires services { map S.stands services ≡ map spec.opening_services schedule.now.topology.hosts }
     ensures whole { IsTrue K.tells → OnOk result (K.taken out.new ≡ K.taken out.old ++ run_text schedule.now.frames schedule.now.events (opening schedule.now.topology)) }
     ensures front { IsTrue K.tells → AppendsFront (K.taken out.old) (K.taken out.new) (run_text schedule.now.frames schedule.now.events (opening schedule.now.topology)) }
-    ensures write { IsErrOf result RunFault.WriteFault → Rose (K.faults out.old) (K.faults out.new) }
+    ensures write { IsErrOf result RunFault.WriteFault → HasRisen (K.faults out.old) (K.faults out.new) }
     ensures later { K.faults out.old ≤ K.faults out.new }
     ensures law { (k : ℕ) (f : FamilyOf) → Balanced f (spec.history_of (take k schedule.now.events) (opening schedule.now.topology)) (spec.world_after (take k schedule.now.events) (opening schedule.now.topology)) }
     ensures bounded { (k : ℕ) (f : FamilyOf) → IsBounded f (spec.history_of (take k schedule.now.events) (opening schedule.now.topology)) (spec.world_after (take k schedule.now.events) (opening schedule.now.topology)) }

@@ -12,7 +12,7 @@ adds_nothing old new name e = record {
   others = λ other differs. ap (λ (m : FileMap). file_at m other) e;
 }
 
--- what was added is a front, by its length
+-- what was added is a prefix, by its length
 pub adds_front : (old mid new : FileMap) (name bytes : List ℕ) (n : ℕ) → new ≡ mid → WritesMore old mid name (take n bytes) → WritesFront old new name bytes
 adds_front old mid new name bytes n e more =
     let P : FileMap → Type 0 = λ m. WritesMore old m name (take n bytes) in

@@ -2,7 +2,7 @@
 use Rattle.std.specs.Prelude.{ℕ, Bool, not, ◌||◌, if◌then◌else◌, List, [], ◌∷◌, ◌++◌, drop, take, length, ◌≡◌, ◌⊎◌, ◌<◌, ◌≤◌, ◌==◌, IsTrue, Option, Some, None, Result, MatchResult}
 use Rattle.std.specs.List.{list_any}
 use Rattle.plan_base.specs.declared.ids.Dev.{Dev}
-use Rattle.node_io.specs.Causes.{Rose}
+use Rattle.node_io.specs.Causes.{HasRisen}
 use Rattle.node_io.specs.declared.link.Peer.{Peer}
 use Rattle.node_io.specs.declared.link.Arrival.{Arrival}
 use Rattle.node_io.specs.declared.link.Arrival.TheVariants.{Quiet, On}
@@ -25,7 +25,7 @@ IsFrameOfPeer peers Failed = Unit {0}
 -- the faults never fall, and rose where a receiving failed
 pub record GotHasCause (before now : ℕ) (result : Got) : Type 0 where
   pub later : before ≤ now
-  pub failed : result ≡ Failed → Rose before now
+  pub failed : result ≡ Failed → HasRisen before now
 
 -- a frame with the device on which it comes
 abbrev pub Heard : Type 0

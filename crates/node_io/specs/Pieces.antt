@@ -1,4 +1,4 @@
--- What a push appends, what a pull takes, and what stands where only a front of some bytes was written.
+-- What a push appends, what a pull takes, and what stands where only a prefix of some bytes was written.
 use Rattle.std.specs.Prelude.{ℕ, List, [], ◌++◌, ◌≡◌, ◌<◌, ◌≤◌, take, length, Result, IfOk, MatchResult}
 
 -- a push answers a number up to the piece's length, and at least 1 for a nonempty piece
@@ -9,7 +9,7 @@ PushCount result piece = IfOk result (λ n. (n ≤ length piece) × (0 < length 
 abbrev pub PushAppends : {E : Type 0} → List ℕ → List ℕ → Result ℕ E → List ℕ → Type 0
 PushAppends old new result piece = MatchResult result (λ n. new ≡ old ++ take n piece) (λ _. new ≡ old)
 
--- what was appended is a front of these bytes
+-- what was appended is a prefix of these bytes
 pub record AppendsFront (old new bytes : List ℕ) : Type 0 where
   pub count : ℕ
   pub is : new ≡ old ++ take count bytes

@@ -11,7 +11,7 @@ use plan_items::Items;
 use std::alloc::{AllocError, Global};
 
 /// A link in memory, whose arrivals are a script.
-#[derive(Debug, Drop)]
+#[derive(Drop)]
 pub struct MemLink {
     alloc: Global,
     script: Arrivals,

@@ -9,7 +9,7 @@ use plan_base::{Bytes, NoMemory};
 use std::alloc::Global;
 
 /// A sink in memory, which keeps the bytes that it took.
-#[derive(Debug, Drop)]
+#[derive(Drop)]
 pub struct MemSink {
     taken: Bytes,
     fails: Calls,
@@ -59,7 +59,7 @@ impl MemSink {
         &self.taken
     }
 
-    // Takes a front of `piece` and answers its length, or `None` where the push is to fail.
+    // Takes a prefix of `piece` and answers its length, or `None` where the push is to fail.
     fn take(&mut self, piece: &[u8]) -> Option<usize>
         ensures count { IfSome result (λ n. (n ≤ length piece.now) × (0 < length piece.now → 0 < n)) }
         ensures bytes { MatchOption result (self.new.taken ≡ self.old.taken) (λ n. self.new.taken ≡ self.old.taken ++ take n piece.now) }

@@ -6,7 +6,7 @@ ghost use Rattle.node_io.specs.FileMaps.{FileMap, file_at, contents, ChangesOnly
 use plan_items::Items;
 
 /// The answer of a call of the outside that failed. A count of faults rose in that call.
-#[derive(Debug, Clone, Copy, PartialEq, Eq)]
+#[derive(Clone, Copy, PartialEq, Eq)]
 pub struct Failed;
 
 /// The numbers, counted from 1, of the calls of a form in memory that are to fail.
@@ -21,7 +21,7 @@ pub trait Sink {
 
     ghost taken: { Self → List ℕ };
 
-    /// Appends a front of `piece` and answers its length, at least 1 for a nonempty piece.
+    /// Appends a prefix of `piece` and answers its length, at least 1 for a nonempty piece.
     fn push(&mut self, piece: &[u8]) -> Result<usize, Failed>
         ensures count { PushCount result piece.now }
         ensures bytes { IsTrue tells → PushAppends (taken self.old) (taken self.new) result piece.now }
@@ -88,7 +88,7 @@ pub trait Files {
         ensures cause { HasCause (write_faults self.old) (write_faults self.new) result }
         ensures same { (read_faults self.new ≡ read_faults self.old) × (reading self.new ≡ reading self.old) };
 
-    /// Appends a front of `piece` to the file being written and answers its length, at least 1 for a
+    /// Appends a prefix of `piece` to the file being written and answers its length, at least 1 for a
     /// nonempty piece. A failed push takes nothing. Condition: a writing is begun.
     fn push(&mut self, piece: &[u8]) -> Result<usize, Failed>
         requires { IsTrue (writing self.old) }

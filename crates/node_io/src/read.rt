@@ -1,5 +1,5 @@
 ghost use Rattle.std.specs.Prelude.{◌≡◌, ◌≢◌, ◌++◌, ◌+◌, ◌^◌, ◌<◌, ◌≤◌, [], length, IsTrue, IsOk, OnOk, IfOk, IfSome, IsSomeAnd, IsErrOf};
-ghost use Rattle.node_io.specs.Causes.{Rose};
+ghost use Rattle.node_io.specs.Causes.{HasRisen};
 ghost use Rattle.node_io.specs.FileMaps.{file_at, MayName};
 
 use crate::outside::{Failed, Files};
@@ -7,7 +7,7 @@ use plan_base::{Bytes, NoMemory};
 use std::alloc::{AllocError, Global};
 
 /// Why a file wasn't read whole.
-#[derive(Debug, Clone, Copy, PartialEq, Eq)]
+#[derive(Clone, Copy, PartialEq, Eq)]
 pub enum ReadError {
     /// A call of the files failed; the count of faults of reading rose.
     Fault,
@@ -47,7 +47,7 @@ fn pull_some<F: Files>(files: &mut F, most: usize, bytes: &mut Bytes) -> Result<
     ensures few { IsTrue F.tells → length (F.left files.old) ≤ length (F.left files.new) + most }
     ensures grown { IfOk result (λ n. length bytes.new ≡ length bytes.old + n) }
     ensures within { IfOk result (λ n. n ≤ most) }
-    ensures fault { IsErrOf result ReadError.Fault → Rose (F.read_faults files.old) (F.read_faults files.new) }
+    ensures fault { IsErrOf result ReadError.Fault → HasRisen (F.read_faults files.old) (F.read_faults files.new) }
     ensures no_end { result ≢ Err ReadError.TooLong }
     ensures later { F.read_faults files.old ≤ F.read_faults files.new }
     ensures kept { IsTrue F.tells
@@ -72,7 +72,7 @@ fn read_rest<F: Files>(files: &mut F, limit: usize, bytes: &mut Bytes) -> Result
     ensures within { OnOk result (length bytes.new ≤ limit) }
     ensures too_long { IsTrue F.tells → IsErrOf result ReadError.TooLong → limit < length (F.left files.old) }
     ensures stops { IsTrue F.tells → length (F.left files.old) ≤ length (F.left files.new) + limit + 1 }
-    ensures fault { IsErrOf result ReadError.Fault → Rose (F.read_faults files.old) (F.read_faults files.new) }
+    ensures fault { IsErrOf result ReadError.Fault → HasRisen (F.read_faults files.old) (F.read_faults files.new) }
     ensures later { F.read_faults files.old ≤ F.read_faults files.new }
     ensures kept { IsTrue F.tells
         → (F.files files.new ≡ F.files files.old) × (F.asked files.new ≡ F.asked files.old) × (F.made files.new ≡ F.made files.old) }
@@ -105,7 +105,7 @@ pub fn read_whole<F: Files>(
     ensures stops { IsTrue F.tells
         → IsTrue (F.reading files.new)
         → IfSome (file_at (F.files files.old) name.now) (λ bytes. length bytes ≤ length (F.left files.new) + limit + 1) }
-    ensures fault { IsErrOf result ReadError.Fault → Rose (F.read_faults files.old) (F.read_faults files.new) }
+    ensures fault { IsErrOf result ReadError.Fault → HasRisen (F.read_faults files.old) (F.read_faults files.new) }
     ensures later { F.read_faults files.old ≤ F.read_faults files.new }
     ensures asked { IsTrue F.tells → MayName (F.asked files.old) (F.asked files.new) name.now }
     ensures kept { IsTrue F.tells → (F.files files.new ≡ F.files files.old) × (F.made files.new ≡ F.made files.old) }

@@ -5,7 +5,7 @@ ghost use Rattle.node_io.specs.Pieces.{AppendsFront};
 
 use crate::outside::{Failed, Files, Sink};
 
-/// Pushes all of `bytes`. Where a push fails, a front of them was taken.
+/// Pushes all of `bytes`. Where a push fails, a prefix of them was taken.
 #[tactic(auto, using(crate::proofs::Fronts::front_at, crate::proofs::Fronts::front_more))]
 pub fn put_all<K: Sink>(sink: &mut K, bytes: &[u8]) -> Result<(), Failed>
     ensures whole { IsTrue K.tells → OnOk result (K.taken sink.new ≡ K.taken sink.old ++ bytes.now) }
@@ -19,7 +19,7 @@ pub fn put_all<K: Sink>(sink: &mut K, bytes: &[u8]) -> Result<(), Failed>
     Ok(())
 }
 
-/// Pushes all of `bytes` to the file being written. Where a push fails, a front of them was added.
+/// Pushes all of `bytes` to the file being written. Where a push fails, a prefix of them was added.
 /// Condition: a writing is begun.
 #[tactic(auto, using(crate::proofs::FileWrites::adds_front, crate::proofs::FileWrites::adds_more, crate::proofs::FileWrites::adds_nothing))]
 pub fn put_file<F: Files>(files: &mut F, bytes: &[u8]) -> Result<(), Failed>

@@ -82,7 +82,7 @@ module _ (cfg : ServeConfig) (old new : Outside) where
     answers = answers;
   }
 
-  -- a front of the log's first lines is one of every log
+  -- a prefix of the log's first lines is one of every log
   saves_more : (whole rest : List ℕ) → whole ≡ head_text cfg.node cfg.missing ++ rest → SavesFront old.files new.files cfg.log (head_text cfg.node cfg.missing) → SavesFront old.files new.files cfg.log whole
   saves_more whole rest e (untouched same) = untouched same
   saves_more whole rest e (begun count h) =
@@ -148,7 +148,7 @@ module _ (cfg : ServeConfig) (node : NodeState) (n : ℕ) (old mid new : Outside
         readable = subst (λ r. All IsReadable r.events) same a.shows.readable;
       }
 
-  -- a front of it
+  -- a prefix of it
   pub stopped : (seen : Seen) → Stopped cfg (seen_in old target) seen (opened node) (turns cfg mid.script mid.last mid.answers n)
       → new.files ≡ seen.files → new.taken ≡ seen.taken → new.sent ≡ seen.sent
       → new.binds ≡ mid.binds → UsedUpTo n mid.script new.script → UsedUpTo n mid.answers new.answers

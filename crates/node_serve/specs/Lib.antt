@@ -1,5 +1,5 @@
 pub mod Shown
 pub mod Served
 pub mod Steps
-pub mod Standing
+pub mod Stays
 pub mod Again

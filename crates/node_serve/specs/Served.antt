@@ -51,7 +51,7 @@ pub record Begins (cfg : ServeConfig) (old new : Outside) (target : List ℕ) : 
   pub last : new.last ≡ old.last
   pub answers : new.answers ≡ old.answers
 
--- only fronts of the log's first lines and of the trace's first line were written
+-- only prefixes of the log's first lines and of the trace's first line were written
 pub record EndsEarly (cfg : ServeConfig) (old new : Outside) : Type 0 where
   pub log : SavesFront old.files new.files cfg.log (head_text cfg.node cfg.missing)
   pub out : AppendsFront old.taken new.taken (codes "planet trace 1\n")
@@ -75,12 +75,12 @@ pub record Served (cfg : ServeConfig) (node : NodeState) (turns : ℕ) (old new 
   pub answers : new.answers ≡ drop turns old.answers
   pub readable : All IsReadable (run_in cfg node turns old refused).events
 
--- a front of some frames was sent
+-- a prefix of some frames was sent
 pub record SendsFront (old new frames : List Heard) : Type 0 where
   pub count : ℕ
   pub is : new ≡ old ++ take count frames
 
--- a front of the run was made, with the steps refused that its log says; what stands outside are fronts of what the run makes
+-- a prefix of the run was made, with the steps refused that its log says; what stands outside are prefixes of what the run makes
 pub record Begun (cfg : ServeConfig) (node : NodeState) (turns : ℕ) (old new : Outside) : Type 0 where
   pub refused : List ℕ
   pub steps : ℕ

@@ -1,17 +1,17 @@
 ghost use Rattle.std.specs.Prelude.{◌≡◌, ◌≤◌, ◌<◌, ◌⊎◌, List, Option, Some, IsTrue, IsErrOf};
 ghost use Rattle.network_plan.specs.NodeRules.{KeepsNodeEvent};
-ghost use Rattle.node_io.specs.Causes.{Rose};
+ghost use Rattle.node_io.specs.Causes.{HasRisen};
 ghost use Rattle.node_io.specs.Links.{Heard};
 ghost use Rattle.serve_model.specs.Runs as spec;
 ghost use Rattle.node_serve.specs.Shown.{Seen, Shows, Leaves};
-ghost use Rattle.node_serve.specs.Standing.{StandsFor, seen_of};
+ghost use Rattle.node_serve.specs.Stays.{StandsFor, seen_of};
 ghost use Rattle.network_plan.specs.Hosts.{dev_of};
 ghost use Rattle.network_plan.specs.declared.event.Event.TheVariants as event;
 ghost use Rattle.packet_frame.specs.Bytes.{frame_bytes};
 
 use crate::fault::ServeFault;
 use crate::server::Server;
-use crate::steps::Stepped;
+use crate::steps::StepOutcome;
 use network_plan::{Event, ServeConfig};
 use node_core::are_bytes;
 use node_io::{Files, Sink};
@@ -42,7 +42,7 @@ impl<S: Services> Server<S> {
     ) -> Result<(), ServeFault>
         requires writing { IsTrue (F.writing files.old) }
         ensures run { IsTrue F.tells → IsTrue K.tells → (sent : List Heard) (base : Seen) (r : spec.Running) → StandsFor S.stands self.old r → Shows cfg.now base (seen_of (F.files files.old) (F.target files.old) (K.taken out.old) sent) r → Leaves (StandsFor S.stands self.new) cfg.now base (seen_of (F.files files.new) (F.target files.new) (K.taken out.new) sent) r (spec.come_back frame) result }
-        ensures write { IsErrOf result ServeFault.WriteFault → Rose (F.write_faults files.old) (F.write_faults files.new) ⊎ Rose (K.faults out.old) (K.faults out.new) }
+        ensures write { IsErrOf result ServeFault.WriteFault → HasRisen (F.write_faults files.old) (F.write_faults files.new) ⊎ HasRisen (K.faults out.old) (K.faults out.new) }
         ensures no_link { IsErrOf result ServeFault.LinkFault → ⊥ }
         ensures later { (F.write_faults files.old ≤ F.write_faults files.new) × (K.faults out.old ≤ K.faults out.new) }
         ensures writing { IsTrue (F.writing files.new) }
@@ -66,7 +66,7 @@ impl<S: Services> Server<S> {
     ) -> Result<(), ServeFault>
         requires writing { IsTrue (F.writing files.old) }
         ensures run { IsTrue F.tells → IsTrue K.tells → (sent : List Heard) (base : Seen) (r : spec.Running) → StandsFor S.stands self.old r → Shows cfg.now base (seen_of (F.files files.old) (F.target files.old) (K.taken out.old) sent) r → Leaves (StandsFor S.stands self.new) cfg.now base (seen_of (F.files files.new) (F.target files.new) (K.taken out.new) sent) r (spec.take_back) result }
-        ensures write { IsErrOf result ServeFault.WriteFault → Rose (F.write_faults files.old) (F.write_faults files.new) ⊎ Rose (K.faults out.old) (K.faults out.new) }
+        ensures write { IsErrOf result ServeFault.WriteFault → HasRisen (F.write_faults files.old) (F.write_faults files.new) ⊎ HasRisen (K.faults out.old) (K.faults out.new) }
         ensures no_link { IsErrOf result ServeFault.LinkFault → ⊥ }
         ensures later { (F.write_faults files.old ≤ F.write_faults files.new) × (K.faults out.old ≤ K.faults out.new) }
         ensures writing { IsTrue (F.writing files.new) }
@@ -74,8 +74,8 @@ impl<S: Services> Server<S> {
         ensures same { (F.read_faults files.new ≡ F.read_faults files.old) × (F.reading files.new ≡ F.reading files.old) }
     {
         match self.make(alloc, cfg, files, out, &Some(Event::Take(Dev(0))))? {
-            Stepped::Lost => Ok(()),
-            Stepped::Took(frame) => self.come_back(alloc, cfg, files, out, frame),
+            StepOutcome::Lost => Ok(()),
+            StepOutcome::Took(frame) => self.come_back(alloc, cfg, files, out, frame),
         }
     }
 
@@ -89,7 +89,7 @@ impl<S: Services> Server<S> {
     ) -> Result<(), ServeFault>
         requires writing { IsTrue (F.writing files.old) }
         ensures run { IsTrue F.tells → IsTrue K.tells → (sent : List Heard) (base : Seen) (r : spec.Running) → StandsFor S.stands self.old r → Shows cfg.now base (seen_of (F.files files.old) (F.target files.old) (K.taken out.old) sent) r → Leaves (StandsFor S.stands self.new) cfg.now base (seen_of (F.files files.new) (F.target files.new) (K.taken out.new) sent) r (spec.loop_back) result }
-        ensures write { IsErrOf result ServeFault.WriteFault → Rose (F.write_faults files.old) (F.write_faults files.new) ⊎ Rose (K.faults out.old) (K.faults out.new) }
+        ensures write { IsErrOf result ServeFault.WriteFault → HasRisen (F.write_faults files.old) (F.write_faults files.new) ⊎ HasRisen (K.faults out.old) (K.faults out.new) }
         ensures no_link { IsErrOf result ServeFault.LinkFault → ⊥ }
         ensures later { (F.write_faults files.old ≤ F.write_faults files.new) × (K.faults out.old ≤ K.faults out.new) }
         ensures writing { IsTrue (F.writing files.new) }

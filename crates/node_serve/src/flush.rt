@@ -1,15 +1,15 @@
 ghost use Rattle.std.specs.Prelude.{◌≡◌, ◌≤◌, ◌<◌, ◌⊎◌, Option, Some, IsTrue, IsErrOf, ◌==◌};
-ghost use Rattle.node_io.specs.Causes.{Rose};
+ghost use Rattle.node_io.specs.Causes.{HasRisen};
 ghost use Rattle.node_io.specs.Links.{has_peer, HasPeer};
 ghost use Rattle.serve_model.specs.Runs as spec;
 ghost use Rattle.node_serve.specs.Shown.{Seen, Shows, Leaves};
-ghost use Rattle.node_serve.specs.Standing.{StandsFor, seen_of};
+ghost use Rattle.node_serve.specs.Stays.{StandsFor, seen_of};
 ghost use Rattle.std.specs.List.{list_any};
 ghost use Rattle.node_serve.specs.Steps.{SendsTaken};
 
 use crate::fault::ServeFault;
 use crate::server::Server;
-use crate::steps::Stepped;
+use crate::steps::StepOutcome;
 use network_plan::{Event, ServeConfig};
 use node_io::{Files, Link, Sink};
 use plan_base::Dev;
@@ -25,7 +25,7 @@ fn send_frame<L: Link>(
 ) -> Result<(), ServeFault>
     requires { HasPeer (L.bound link.old) dev }
     ensures sent { IsTrue L.tells → SendsTaken (L.sent link.old) (L.sent link.new) dev frame.now result }
-    ensures link { IsErrOf result ServeFault.LinkFault → Rose (L.faults link.old) (L.faults link.new) }
+    ensures link { IsErrOf result ServeFault.LinkFault → HasRisen (L.faults link.old) (L.faults link.new) }
     ensures no_write { IsErrOf result ServeFault.WriteFault → ⊥ }
     ensures later { L.faults link.old ≤ L.faults link.new }
     ensures bound { L.bound link.new ≡ L.bound link.old }
@@ -74,8 +74,8 @@ impl<S: Services> Server<S> {
         requires peer { HasPeer (spec.peers_of cfg.now) dev }
         requires device { dev.0 ≤ 8 }
         ensures run { IsTrue F.tells → IsTrue K.tells → IsTrue L.tells → (base : Seen) (r : spec.Running) → StandsFor S.stands self.old r → Shows cfg.now base (seen_of (F.files files.old) (F.target files.old) (K.taken out.old) (L.sent link.old)) r → Leaves (StandsFor S.stands self.new) cfg.now base (seen_of (F.files files.new) (F.target files.new) (K.taken out.new) (L.sent link.new)) r (spec.take_send dev) result }
-        ensures write { IsErrOf result ServeFault.WriteFault → Rose (F.write_faults files.old) (F.write_faults files.new) ⊎ Rose (K.faults out.old) (K.faults out.new) }
-        ensures link { IsErrOf result ServeFault.LinkFault → Rose (L.faults link.old) (L.faults link.new) }
+        ensures write { IsErrOf result ServeFault.WriteFault → HasRisen (F.write_faults files.old) (F.write_faults files.new) ⊎ HasRisen (K.faults out.old) (K.faults out.new) }
+        ensures link { IsErrOf result ServeFault.LinkFault → HasRisen (L.faults link.old) (L.faults link.new) }
         ensures later { (F.write_faults files.old ≤ F.write_faults files.new) × (K.faults out.old ≤ K.faults out.new) }
         ensures later_link { L.faults link.old ≤ L.faults link.new }
         ensures bound { L.bound link.new ≡ L.bound link.old }
@@ -89,11 +89,11 @@ impl<S: Services> Server<S> {
             return Ok(());
         }
         match self.make(alloc, cfg, files, out, &Some(Event::Take(dev)))? {
-            Stepped::Lost => {
+            StepOutcome::Lost => {
                 self.held = true;
                 Ok(())
             }
-            Stepped::Took(frame) => send_frame(link, dev, &frame),
+            StepOutcome::Took(frame) => send_frame(link, dev, &frame),
         }
     }
 
@@ -113,8 +113,8 @@ impl<S: Services> Server<S> {
         requires peer { HasPeer (spec.peers_of cfg.now) dev }
         requires device { dev.0 ≤ 8 }
         ensures run { IsTrue F.tells → IsTrue K.tells → IsTrue L.tells → (base : Seen) (r : spec.Running) → StandsFor S.stands self.old r → Shows cfg.now base (seen_of (F.files files.old) (F.target files.old) (K.taken out.old) (L.sent link.old)) r → Leaves (StandsFor S.stands self.new) cfg.now base (seen_of (F.files files.new) (F.target files.new) (K.taken out.new) (L.sent link.new)) r (spec.repeat_send dev count) result }
-        ensures write { IsErrOf result ServeFault.WriteFault → Rose (F.write_faults files.old) (F.write_faults files.new) ⊎ Rose (K.faults out.old) (K.faults out.new) }
-        ensures link { IsErrOf result ServeFault.LinkFault → Rose (L.faults link.old) (L.faults link.new) }
+        ensures write { IsErrOf result ServeFault.WriteFault → HasRisen (F.write_faults files.old) (F.write_faults files.new) ⊎ HasRisen (K.faults out.old) (K.faults out.new) }
+        ensures link { IsErrOf result ServeFault.LinkFault → HasRisen (L.faults link.old) (L.faults link.new) }
         ensures later { (F.write_faults files.old ≤ F.write_faults files.new) × (K.faults out.old ≤ K.faults out.new) }
         ensures later_link { L.faults link.old ≤ L.faults link.new }
         ensures bound { L.bound link.new ≡ L.bound link.old }
@@ -144,8 +144,8 @@ impl<S: Services> Server<S> {
         requires bound { L.bound link.old ≡ spec.peers_of cfg.now }
         requires device { dev.0 ≤ 8 }
         ensures run { IsTrue F.tells → IsTrue K.tells → IsTrue L.tells → (base : Seen) (r : spec.Running) → StandsFor S.stands self.old r → Shows cfg.now base (seen_of (F.files files.old) (F.target files.old) (K.taken out.old) (L.sent link.old)) r → Leaves (StandsFor S.stands self.new) cfg.now base (seen_of (F.files files.new) (F.target files.new) (K.taken out.new) (L.sent link.new)) r (spec.flush_device (spec.peers_of cfg.now) dev) result }
-        ensures write { IsErrOf result ServeFault.WriteFault → Rose (F.write_faults files.old) (F.write_faults files.new) ⊎ Rose (K.faults out.old) (K.faults out.new) }
-        ensures link { IsErrOf result ServeFault.LinkFault → Rose (L.faults link.old) (L.faults link.new) }
+        ensures write { IsErrOf result ServeFault.WriteFault → HasRisen (F.write_faults files.old) (F.write_faults files.new) ⊎ HasRisen (K.faults out.old) (K.faults out.new) }
+        ensures link { IsErrOf result ServeFault.LinkFault → HasRisen (L.faults link.old) (L.faults link.new) }
         ensures later { (F.write_faults files.old ≤ F.write_faults files.new) × (K.faults out.old ≤ K.faults out.new) }
         ensures later_link { L.faults link.old ≤ L.faults link.new }
         ensures bound { L.bound link.new ≡ L.bound link.old }
@@ -174,8 +174,8 @@ impl<S: Services> Server<S> {
         requires writing { IsTrue (F.writing files.old) }
         requires bound { L.bound link.old ≡ spec.peers_of cfg.now }
         ensures run { IsTrue F.tells → IsTrue K.tells → IsTrue L.tells → (base : Seen) (r : spec.Running) → StandsFor S.stands self.old r → Shows cfg.now base (seen_of (F.files files.old) (F.target files.old) (K.taken out.old) (L.sent link.old)) r → Leaves (StandsFor S.stands self.new) cfg.now base (seen_of (F.files files.new) (F.target files.new) (K.taken out.new) (L.sent link.new)) r (spec.flush_to (spec.peers_of cfg.now) 8) result }
-        ensures write { IsErrOf result ServeFault.WriteFault → Rose (F.write_faults files.old) (F.write_faults files.new) ⊎ Rose (K.faults out.old) (K.faults out.new) }
-        ensures link { IsErrOf result ServeFault.LinkFault → Rose (L.faults link.old) (L.faults link.new) }
+        ensures write { IsErrOf result ServeFault.WriteFault → HasRisen (F.write_faults files.old) (F.write_faults files.new) ⊎ HasRisen (K.faults out.old) (K.faults out.new) }
+        ensures link { IsErrOf result ServeFault.LinkFault → HasRisen (L.faults link.old) (L.faults link.new) }
         ensures later { (F.write_faults files.old ≤ F.write_faults files.new) × (K.faults out.old ≤ K.faults out.new) }
         ensures later_link { L.faults link.old ≤ L.faults link.new }
         ensures bound { L.bound link.new ≡ L.bound link.old }
@@ -203,8 +203,8 @@ impl<S: Services> Server<S> {
         requires writing { IsTrue (F.writing files.old) }
         requires bound { L.bound link.old ≡ spec.peers_of cfg.now }
         ensures run { IsTrue F.tells → IsTrue K.tells → IsTrue L.tells → (base : Seen) (r : spec.Running) → StandsFor S.stands self.old r → Shows cfg.now base (seen_of (F.files files.old) (F.target files.old) (K.taken out.old) (L.sent link.old)) r → Leaves (StandsFor S.stands self.new) cfg.now base (seen_of (F.files files.new) (F.target files.new) (K.taken out.new) (L.sent link.new)) r (spec.flush (spec.peers_of cfg.now)) result }
-        ensures write { IsErrOf result ServeFault.WriteFault → Rose (F.write_faults files.old) (F.write_faults files.new) ⊎ Rose (K.faults out.old) (K.faults out.new) }
-        ensures link { IsErrOf result ServeFault.LinkFault → Rose (L.faults link.old) (L.faults link.new) }
+        ensures write { IsErrOf result ServeFault.WriteFault → HasRisen (F.write_faults files.old) (F.write_faults files.new) ⊎ HasRisen (K.faults out.old) (K.faults out.new) }
+        ensures link { IsErrOf result ServeFault.LinkFault → HasRisen (L.faults link.old) (L.faults link.new) }
         ensures later { (F.write_faults files.old ≤ F.write_faults files.new) × (K.faults out.old ≤ K.faults out.new) }
         ensures later_link { L.faults link.old ≤ L.faults link.new }
         ensures bound { L.bound link.new ≡ L.bound link.old }
@@ -230,8 +230,8 @@ impl<S: Services> Server<S> {
         requires writing { IsTrue (F.writing files.old) }
         requires bound { L.bound link.old ≡ spec.peers_of cfg.now }
         ensures run { IsTrue F.tells → IsTrue K.tells → IsTrue L.tells → (base : Seen) (r : spec.Running) → StandsFor S.stands self.old r → Shows cfg.now base (seen_of (F.files files.old) (F.target files.old) (K.taken out.old) (L.sent link.old)) r → Leaves (StandsFor S.stands self.new) cfg.now base (seen_of (F.files files.new) (F.target files.new) (K.taken out.new) (L.sent link.new)) r (spec.end_turn (spec.peers_of cfg.now)) result }
-        ensures write { IsErrOf result ServeFault.WriteFault → Rose (F.write_faults files.old) (F.write_faults files.new) ⊎ Rose (K.faults out.old) (K.faults out.new) }
-        ensures link { IsErrOf result ServeFault.LinkFault → Rose (L.faults link.old) (L.faults link.new) }
+        ensures write { IsErrOf result ServeFault.WriteFault → HasRisen (F.write_faults files.old) (F.write_faults files.new) ⊎ HasRisen (K.faults out.old) (K.faults out.new) }
+        ensures link { IsErrOf result ServeFault.LinkFault → HasRisen (L.faults link.old) (L.faults link.new) }
         ensures later { (F.write_faults files.old ≤ F.write_faults files.new) × (K.faults out.old ≤ K.faults out.new) }
         ensures later_link { L.faults link.old ≤ L.faults link.new }
         ensures bound { L.bound link.new ≡ L.bound link.old }

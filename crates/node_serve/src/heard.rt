@@ -1,10 +1,10 @@
 ghost use Rattle.std.specs.Prelude.{◌≡◌, ◌≤◌, ◌<◌, ◌⊎◌, List, Option, Some, IsTrue, IsErrOf, IfSome, length};
 ghost use Rattle.network_plan.specs.NodeRules.{KeepsNodeEvent, KeepsServe};
-ghost use Rattle.node_io.specs.Causes.{Rose};
+ghost use Rattle.node_io.specs.Causes.{HasRisen};
 ghost use Rattle.node_io.specs.Links.{Heard, next_heard};
 ghost use Rattle.serve_model.specs.Runs as spec;
 ghost use Rattle.node_serve.specs.Shown.{Seen, Shows, Leaves, UsesOne};
-ghost use Rattle.node_serve.specs.Standing.{StandsFor, seen_of};
+ghost use Rattle.node_serve.specs.Stays.{StandsFor, seen_of};
 
 use crate::fault::ServeFault;
 use crate::server::Server;
@@ -45,7 +45,7 @@ impl<S: Services> Server<S> {
         requires some { 0 < length bytes.now }
         requires few { length bytes.now ≤ 16513 }
         ensures run { IsTrue F.tells → IsTrue K.tells → (sent : List Heard) (base : Seen) (r : spec.Running) → StandsFor S.stands self.old r → Shows cfg.now base (seen_of (F.files files.old) (F.target files.old) (K.taken out.old) sent) r → Leaves (StandsFor S.stands self.new) cfg.now base (seen_of (F.files files.new) (F.target files.new) (K.taken out.new) sent) r (spec.hear (Some (dev, bytes.now))) result }
-        ensures write { IsErrOf result ServeFault.WriteFault → Rose (F.write_faults files.old) (F.write_faults files.new) ⊎ Rose (K.faults out.old) (K.faults out.new) }
+        ensures write { IsErrOf result ServeFault.WriteFault → HasRisen (F.write_faults files.old) (F.write_faults files.new) ⊎ HasRisen (K.faults out.old) (K.faults out.new) }
         ensures no_link { IsErrOf result ServeFault.LinkFault → ⊥ }
         ensures later { (F.write_faults files.old ≤ F.write_faults files.new) × (K.faults out.old ≤ K.faults out.new) }
         ensures writing { IsTrue (F.writing files.new) }
@@ -71,8 +71,8 @@ impl<S: Services> Server<S> {
         requires keeps { KeepsServe cfg.now }
         requires room { length buf.old ≡ 16513 }
         ensures run { IsTrue F.tells → IsTrue K.tells → IsTrue L.tells → (base : Seen) (r : spec.Running) → StandsFor S.stands self.old r → Shows cfg.now base (seen_of (F.files files.old) (F.target files.old) (K.taken out.old) (L.sent link.old)) r → Leaves (StandsFor S.stands self.new) cfg.now base (seen_of (F.files files.new) (F.target files.new) (K.taken out.new) (L.sent link.new)) r (spec.hear (next_heard (spec.peers_of cfg.now) (L.script link.old))) result }
-        ensures write { IsErrOf result ServeFault.WriteFault → Rose (F.write_faults files.old) (F.write_faults files.new) ⊎ Rose (K.faults out.old) (K.faults out.new) }
-        ensures link { IsErrOf result ServeFault.LinkFault → Rose (L.faults link.old) (L.faults link.new) }
+        ensures write { IsErrOf result ServeFault.WriteFault → HasRisen (F.write_faults files.old) (F.write_faults files.new) ⊎ HasRisen (K.faults out.old) (K.faults out.new) }
+        ensures link { IsErrOf result ServeFault.LinkFault → HasRisen (L.faults link.old) (L.faults link.new) }
         ensures later { (F.write_faults files.old ≤ F.write_faults files.new) × (K.faults out.old ≤ K.faults out.new) }
         ensures later_link { L.faults link.old ≤ L.faults link.new }
         ensures bound { L.bound link.new ≡ L.bound link.old }

@@ -1,7 +1,7 @@
 ghost use Rattle.std.specs.Prelude.{◌≡◌, ◌∷◌, ◌++◌, ◌≤◌, ◌⊎◌, map, ℕ, List, IfOk, IsErrOf, IsTrue, OnOk, codes, length};
 ghost use Rattle.network_plan.specs.NodeRules.{KeepsServe};
 ghost use Rattle.node_files.specs.LogTexts.{head_text};
-ghost use Rattle.node_io.specs.Causes.{Rose};
+ghost use Rattle.node_io.specs.Causes.{HasRisen};
 ghost use Rattle.node_io.specs.FileMaps.{ChangesOnly, SavesFront, Names};
 ghost use Rattle.node_io.specs.Links.{Binds};
 ghost use Rattle.node_io.specs.Pieces.{AppendsFront};
@@ -47,7 +47,7 @@ fn bind<L: Link>(alloc: Global, cfg: &ServeConfig, link: &mut L) -> Result<(), S
     ensures bound { OnOk result (L.bound link.new ≡ peers_of cfg.now) }
     ensures binds { IsTrue L.tells → Binds (L.binds link.old) (L.binds link.new) (own_bind cfg.now) result }
     ensures kept { IsTrue L.tells → (L.script link.new ≡ L.script link.old) × (L.sent link.new ≡ L.sent link.old) }
-    ensures link { IsErrOf result ServeFault.LinkFault → Rose (L.faults link.old) (L.faults link.new) }
+    ensures link { IsErrOf result ServeFault.LinkFault → HasRisen (L.faults link.old) (L.faults link.new) }
     ensures no_write { IsErrOf result ServeFault.WriteFault → ⊥ }
     ensures later { L.faults link.old ≤ L.faults link.new }
 {
@@ -76,7 +76,7 @@ fn begin_log<F: Files>(alloc: Global, cfg: &ServeConfig, files: &mut F) -> Resul
     ensures writing { OnOk result (IsTrue (F.writing files.new)) }
     ensures made { IsTrue F.tells → Names (F.made files.old) (F.made files.new) cfg.now.log result }
     ensures asked { IsTrue F.tells → F.asked files.new ≡ F.asked files.old }
-    ensures write { IsErrOf result ServeFault.WriteFault → Rose (F.write_faults files.old) (F.write_faults files.new) }
+    ensures write { IsErrOf result ServeFault.WriteFault → HasRisen (F.write_faults files.old) (F.write_faults files.new) }
     ensures no_link { IsErrOf result ServeFault.LinkFault → ⊥ }
     ensures later { F.write_faults files.old ≤ F.write_faults files.new }
     ensures same { (F.read_faults files.new ≡ F.read_faults files.old) × (F.reading files.new ≡ F.reading files.old) }
@@ -91,7 +91,7 @@ fn begin_log<F: Files>(alloc: Global, cfg: &ServeConfig, files: &mut F) -> Resul
 fn begin_trace<K: Sink>(out: &mut K) -> Result<(), ServeFault>
     ensures whole { IsTrue K.tells → OnOk result (K.taken out.new ≡ K.taken out.old ++ codes "planet trace 1\n") }
     ensures front { IsTrue K.tells → AppendsFront (K.taken out.old) (K.taken out.new) (codes "planet trace 1\n") }
-    ensures write { IsErrOf result ServeFault.WriteFault → Rose (K.faults out.old) (K.faults out.new) }
+    ensures write { IsErrOf result ServeFault.WriteFault → HasRisen (K.faults out.old) (K.faults out.new) }
     ensures no_link { IsErrOf result ServeFault.LinkFault → ⊥ }
     ensures later { K.faults out.old ≤ K.faults out.new }
 {
@@ -113,8 +113,8 @@ pub(crate) fn begin<L: Link, F: Files, K: Sink>(
     ensures writing { OnOk result (IsTrue (F.writing files.new)) }
     ensures made { IsTrue F.tells → Names (F.made files.old) (F.made files.new) cfg.now.log result }
     ensures asked { IsTrue F.tells → F.asked files.new ≡ F.asked files.old }
-    ensures write { IsErrOf result ServeFault.WriteFault → Rose (F.write_faults files.old) (F.write_faults files.new) ⊎ Rose (K.faults out.old) (K.faults out.new) }
-    ensures link { IsErrOf result ServeFault.LinkFault → Rose (L.faults link.old) (L.faults link.new) }
+    ensures write { IsErrOf result ServeFault.WriteFault → HasRisen (F.write_faults files.old) (F.write_faults files.new) ⊎ HasRisen (K.faults out.old) (K.faults out.new) }
+    ensures link { IsErrOf result ServeFault.LinkFault → HasRisen (L.faults link.old) (L.faults link.new) }
     ensures later { (F.write_faults files.old ≤ F.write_faults files.new) × (K.faults out.old ≤ K.faults out.new) }
     ensures later_link { L.faults link.old ≤ L.faults link.new }
     ensures same { (F.read_faults files.new ≡ F.read_faults files.old) × (F.reading files.new ≡ F.reading files.old) }

@@ -1,15 +1,15 @@
 ghost use Rattle.std.specs.Prelude.{◌≡◌, ◌+◌, ◌≤◌, ◌<◌, ◌⊎◌, List, Option, IsTrue, IsErrOf, IfSome, IfOk, MatchResult};
 ghost use Rattle.network_plan.specs.declared.event.Event.{Event as EventOf};
 ghost use Rattle.network_plan.specs.NodeRules.{KeepsNodeEvent};
-ghost use Rattle.node_io.specs.Causes.{Rose};
+ghost use Rattle.node_io.specs.Causes.{HasRisen};
 ghost use Rattle.node_io.specs.Links.{Heard};
 ghost use Rattle.serve_model.specs.Runs as spec;
 ghost use Rattle.node_serve.specs.Shown.{Seen, Shows, Leaves, Stopped};
-ghost use Rattle.node_serve.specs.Standing.{StandsFor, Makes, seen_of};
+ghost use Rattle.node_serve.specs.Stays.{StandsFor, Makes, seen_of};
 ghost use Rattle.node_serve.specs.Steps.{IsWritten};
 
 use crate::fault::ServeFault;
-use crate::steps::{Stepped, try_step};
+use crate::steps::{StepOutcome, try_step};
 use network_plan::{Event, ServeConfig};
 use node_core::Node;
 use node_io::{Files, Sink, put_all, put_file};
@@ -44,7 +44,7 @@ fn write_step<F: Files, K: Sink>(
     requires writing { IsTrue (F.writing files.old) }
     ensures run { IsTrue F.tells → IsTrue K.tells → IsWritten (F.files files.old) (F.files files.new) (F.target files.old) line.now (K.taken out.old) (K.taken out.new) lines.now result }
     ensures target { IsTrue F.tells → F.target files.new ≡ F.target files.old }
-    ensures write { IsErrOf result ServeFault.WriteFault → Rose (F.write_faults files.old) (F.write_faults files.new) ⊎ Rose (K.faults out.old) (K.faults out.new) }
+    ensures write { IsErrOf result ServeFault.WriteFault → HasRisen (F.write_faults files.old) (F.write_faults files.new) ⊎ HasRisen (K.faults out.old) (K.faults out.new) }
     ensures no_link { IsErrOf result ServeFault.LinkFault → ⊥ }
     ensures later { (F.write_faults files.old ≤ F.write_faults files.new) × (K.faults out.old ≤ K.faults out.new) }
     ensures writing { IsTrue (F.writing files.new) }
@@ -66,11 +66,11 @@ impl<S: Services> Server<S> {
         files: &mut F,
         out: &mut K,
         event: &Option<Event>,
-    ) -> Result<Stepped, ServeFault>
+    ) -> Result<StepOutcome, ServeFault>
         requires writing { IsTrue (F.writing files.old) }
         requires event { IfSome event.now KeepsNodeEvent }
         ensures run { IsTrue F.tells → IsTrue K.tells → (sent : List Heard) (base : Seen) (r : spec.Running) (e : EventOf) → StandsFor S.stands self.old r → Shows cfg.now base (seen_of (F.files files.old) (F.target files.old) (K.taken out.old) sent) r → IfSome event.now (λ x. x ≡ e) → MatchResult result (λ made. Makes S.stands cfg.now base (seen_of (F.files files.new) (F.target files.new) (K.taken out.new) sent) r e made self.new) (λ _. Stopped cfg.now base (seen_of (F.files files.new) (F.target files.new) (K.taken out.new) sent) r (spec.make e)) }
-        ensures write { IsErrOf result ServeFault.WriteFault → Rose (F.write_faults files.old) (F.write_faults files.new) ⊎ Rose (K.faults out.old) (K.faults out.new) }
+        ensures write { IsErrOf result ServeFault.WriteFault → HasRisen (F.write_faults files.old) (F.write_faults files.new) ⊎ HasRisen (K.faults out.old) (K.faults out.new) }
         ensures no_link { IsErrOf result ServeFault.LinkFault → ⊥ }
         ensures later { (F.write_faults files.old ≤ F.write_faults files.new) × (K.faults out.old ≤ K.faults out.new) }
         ensures writing { IsTrue (F.writing files.new) }
@@ -96,7 +96,7 @@ impl<S: Services> Server<S> {
         requires writing { IsTrue (F.writing files.old) }
         requires event { IfSome event.now KeepsNodeEvent }
         ensures run { IsTrue F.tells → IsTrue K.tells → (sent : List Heard) (base : Seen) (r : spec.Running) (e : EventOf) → StandsFor S.stands self.old r → Shows cfg.now base (seen_of (F.files files.old) (F.target files.old) (K.taken out.old) sent) r → IfSome event.now (λ x. x ≡ e) → Leaves (StandsFor S.stands self.new) cfg.now base (seen_of (F.files files.new) (F.target files.new) (K.taken out.new) sent) r (spec.make e) result }
-        ensures write { IsErrOf result ServeFault.WriteFault → Rose (F.write_faults files.old) (F.write_faults files.new) ⊎ Rose (K.faults out.old) (K.faults out.new) }
+        ensures write { IsErrOf result ServeFault.WriteFault → HasRisen (F.write_faults files.old) (F.write_faults files.new) ⊎ HasRisen (K.faults out.old) (K.faults out.new) }
         ensures no_link { IsErrOf result ServeFault.LinkFault → ⊥ }
         ensures later { (F.write_faults files.old ≤ F.write_faults files.new) × (K.faults out.old ≤ K.faults out.new) }
         ensures writing { IsTrue (F.writing files.new) }

@@ -1,13 +1,13 @@
 ghost use Rattle.std.specs.Prelude.{◌≡◌, ◌++◌, ◌≤◌, ◌⊎◌, IfOk, IsErrOf, IsTrue, OnOk, codes, length};
 ghost use Rattle.node_io.specs.Pieces.{AppendsFront};
 ghost use Rattle.network_plan.specs.NodeRules.{KeepsServe};
-ghost use Rattle.node_io.specs.Causes.{Rose};
+ghost use Rattle.node_io.specs.Causes.{HasRisen};
 ghost use Rattle.node_io.specs.FileMaps.{Names};
 ghost use Rattle.node_core.specs.Turns.{IsResting};
 ghost use Rattle.node_model.specs.State.{NodeState, new_node};
 ghost use Rattle.serve_model.specs.Runs.{opened, peers_of};
 ghost use Rattle.node_serve.specs.Served.{Begins, Ends, Outside, outside_of};
-ghost use Rattle.node_serve.specs.Standing.{StandsFor};
+ghost use Rattle.node_serve.specs.Stays.{StandsFor};
 
 use crate::fault::ServeFault;
 use crate::opening::{begin, room};
@@ -23,7 +23,7 @@ use std::alloc::Global;
 fn end_trace<K: Sink>(out: &mut K) -> Result<(), ServeFault>
     ensures whole { IsTrue K.tells → OnOk result (K.taken out.new ≡ K.taken out.old ++ codes "end\n") }
     ensures front { IsTrue K.tells → AppendsFront (K.taken out.old) (K.taken out.new) (codes "end\n") }
-    ensures write { IsErrOf result ServeFault.WriteFault → Rose (K.faults out.old) (K.faults out.new) }
+    ensures write { IsErrOf result ServeFault.WriteFault → HasRisen (K.faults out.old) (K.faults out.new) }
     ensures no_link { IsErrOf result ServeFault.LinkFault → ⊥ }
     ensures later { K.faults out.old ≤ K.faults out.new }
 {
@@ -50,8 +50,8 @@ impl<S: Services> Server<S> {
         requires room { length room.old ≡ 16513 }
         ensures ends { IsTrue F.tells → IsTrue K.tells → IsTrue L.tells → IsTrue C.tells → (node : NodeState) (old : Outside) → StandsFor S.stands self.old (opened node) → Begins cfg.now old (outside_of (L.script link.old) (L.sent link.old) (L.binds link.old) (C.last clock.old) (C.answers clock.old) (F.files files.old) (K.taken out.old)) (F.target files.old) → Ends cfg.now node turns old (outside_of (L.script link.new) (L.sent link.new) (L.binds link.new) (C.last clock.new) (C.answers clock.new) (F.files files.new) (K.taken out.new)) result }
         ensures kept { IsTrue F.tells → (F.asked files.new ≡ F.asked files.old) × (F.made files.new ≡ F.made files.old) }
-        ensures write { IsErrOf result ServeFault.WriteFault → Rose (F.write_faults files.old) (F.write_faults files.new) ⊎ Rose (K.faults out.old) (K.faults out.new) }
-        ensures link { IsErrOf result ServeFault.LinkFault → Rose (L.faults link.old) (L.faults link.new) }
+        ensures write { IsErrOf result ServeFault.WriteFault → HasRisen (F.write_faults files.old) (F.write_faults files.new) ⊎ HasRisen (K.faults out.old) (K.faults out.new) }
+        ensures link { IsErrOf result ServeFault.LinkFault → HasRisen (L.faults link.old) (L.faults link.new) }
         ensures later { (F.write_faults files.old ≤ F.write_faults files.new) × (K.faults out.old ≤ K.faults out.new) }
         ensures later_link { L.faults link.old ≤ L.faults link.new }
         ensures same { (F.read_faults files.new ≡ F.read_faults files.old) × (F.reading files.new ≡ F.reading files.old) }
@@ -84,7 +84,7 @@ fn open<S: Services + Drop>(
 /// node ticks where its period is over, takes the injections of this turn, hears one frame, takes what it sent to itself, and
 /// sends what is queued for its neighbours. Each step writes its line of the log, and then its lines of the trace. A step that
 /// finds no memory is logged as lost, changes nothing, and doesn't end the run. Conditions: the configuration keeps its rules,
-/// and no `begin` of the services is open. Where it fails, what was written and sent are fronts of what the run writes and
+/// and no `begin` of the services is open. Where it fails, what was written and sent are prefixes of what the run writes and
 /// sends.
 pub fn serve<S: Services + Drop, L: Link, C: Clock, F: Files, K: Sink>(
     alloc: Global,
@@ -98,13 +98,13 @@ pub fn serve<S: Services + Drop, L: Link, C: Clock, F: Files, K: Sink>(
 ) -> Result<(), ServeFault>
     requires keeps { KeepsServe cfg.now }
     requires services { IsResting (S.stands services) }
-    // The run of the node, or fronts of it.
+    // The run of the node, or prefixes of it.
     ensures ends { IsTrue F.tells → IsTrue K.tells → IsTrue L.tells → IsTrue C.tells → Ends cfg.now (new_node cfg.now.node (S.stands services)) turns (outside_of (L.script link.old) (L.sent link.old) (L.binds link.old) (C.last clock.old) (C.answers clock.old) (F.files files.old) (K.taken out.old)) (outside_of (L.script link.new) (L.sent link.new) (L.binds link.new) (C.last clock.new) (C.answers clock.new) (F.files files.new) (K.taken out.new)) result }
     // The log is made once, or at most once where the run fails; nothing is read.
     ensures made { IsTrue F.tells → Names (F.made files.old) (F.made files.new) cfg.now.log result }
     ensures asked { IsTrue F.tells → F.asked files.new ≡ F.asked files.old }
-    ensures write { IsErrOf result ServeFault.WriteFault → Rose (F.write_faults files.old) (F.write_faults files.new) ⊎ Rose (K.faults out.old) (K.faults out.new) }
-    ensures link { IsErrOf result ServeFault.LinkFault → Rose (L.faults link.old) (L.faults link.new) }
+    ensures write { IsErrOf result ServeFault.WriteFault → HasRisen (F.write_faults files.old) (F.write_faults files.new) ⊎ HasRisen (K.faults out.old) (K.faults out.new) }
+    ensures link { IsErrOf result ServeFault.LinkFault → HasRisen (L.faults link.old) (L.faults link.new) }
     ensures later { (F.write_faults files.old ≤ F.write_faults files.new) × (K.faults out.old ≤ K.faults out.new) }
     ensures later_link { L.faults link.old ≤ L.faults link.new }
     ensures same { (F.read_faults files.new ≡ F.read_faults files.old) × (F.reading files.new ≡ F.reading files.old) }

@@ -1,10 +1,10 @@
 ghost use Rattle.std.specs.Prelude.{◌≡◌, ◌≤◌, ◌<◌, ◌⊎◌, List, Option, Some, IsTrue, IsErrOf, IfSome, length, ◌+◌, nat_le};
 ghost use Rattle.network_plan.specs.NodeRules.{KeepsNodeEvent, KeepsServe, KeepsInject};
-ghost use Rattle.node_io.specs.Causes.{Rose};
+ghost use Rattle.node_io.specs.Causes.{HasRisen};
 ghost use Rattle.node_io.specs.Links.{Heard};
 ghost use Rattle.serve_model.specs.Runs as spec;
 ghost use Rattle.node_serve.specs.Shown.{Seen, Shows, Leaves};
-ghost use Rattle.node_serve.specs.Standing.{StandsFor, seen_of};
+ghost use Rattle.node_serve.specs.Stays.{StandsFor, seen_of};
 ghost use Rattle.network_plan.specs.declared.event.Event.TheVariants as event;
 
 use crate::fault::ServeFault;
@@ -43,7 +43,7 @@ impl<S: Services> Server<S> {
     ) -> Result<(), ServeFault>
         requires writing { IsTrue (F.writing files.old) }
         ensures run { IsTrue F.tells → IsTrue K.tells → (sent : List Heard) (base : Seen) (r : spec.Running) → StandsFor S.stands self.old r → Shows cfg.now base (seen_of (F.files files.old) (F.target files.old) (K.taken out.old) sent) r → Leaves (StandsFor S.stands self.new) cfg.now base (seen_of (F.files files.new) (F.target files.new) (K.taken out.new) sent) r (spec.tick cfg.now.period now) result }
-        ensures write { IsErrOf result ServeFault.WriteFault → Rose (F.write_faults files.old) (F.write_faults files.new) ⊎ Rose (K.faults out.old) (K.faults out.new) }
+        ensures write { IsErrOf result ServeFault.WriteFault → HasRisen (F.write_faults files.old) (F.write_faults files.new) ⊎ HasRisen (K.faults out.old) (K.faults out.new) }
         ensures no_link { IsErrOf result ServeFault.LinkFault → ⊥ }
         ensures later { (F.write_faults files.old ≤ F.write_faults files.new) × (K.faults out.old ≤ K.faults out.new) }
         ensures writing { IsTrue (F.writing files.new) }
@@ -71,7 +71,7 @@ impl<S: Services> Server<S> {
         requires writing { IsTrue (F.writing files.old) }
         requires keeps { KeepsInject inject.now }
         ensures run { IsTrue F.tells → IsTrue K.tells → (sent : List Heard) (base : Seen) (r : spec.Running) → StandsFor S.stands self.old r → Shows cfg.now base (seen_of (F.files files.old) (F.target files.old) (K.taken out.old) sent) r → Leaves (StandsFor S.stands self.new) cfg.now base (seen_of (F.files files.new) (F.target files.new) (K.taken out.new) sent) r (spec.inject_one turn (Some inject.now)) result }
-        ensures write { IsErrOf result ServeFault.WriteFault → Rose (F.write_faults files.old) (F.write_faults files.new) ⊎ Rose (K.faults out.old) (K.faults out.new) }
+        ensures write { IsErrOf result ServeFault.WriteFault → HasRisen (F.write_faults files.old) (F.write_faults files.new) ⊎ HasRisen (K.faults out.old) (K.faults out.new) }
         ensures no_link { IsErrOf result ServeFault.LinkFault → ⊥ }
         ensures later { (F.write_faults files.old ≤ F.write_faults files.new) × (K.faults out.old ≤ K.faults out.new) }
         ensures writing { IsTrue (F.writing files.new) }
@@ -97,7 +97,7 @@ impl<S: Services> Server<S> {
         requires writing { IsTrue (F.writing files.old) }
         requires keeps { KeepsServe cfg.now }
         ensures run { IsTrue F.tells → IsTrue K.tells → (sent : List Heard) (base : Seen) (r : spec.Running) → StandsFor S.stands self.old r → Shows cfg.now base (seen_of (F.files files.old) (F.target files.old) (K.taken out.old) sent) r → Leaves (StandsFor S.stands self.new) cfg.now base (seen_of (F.files files.new) (F.target files.new) (K.taken out.new) sent) r (spec.inject_to turn cfg.now.at (length cfg.now.at)) result }
-        ensures write { IsErrOf result ServeFault.WriteFault → Rose (F.write_faults files.old) (F.write_faults files.new) ⊎ Rose (K.faults out.old) (K.faults out.new) }
+        ensures write { IsErrOf result ServeFault.WriteFault → HasRisen (F.write_faults files.old) (F.write_faults files.new) ⊎ HasRisen (K.faults out.old) (K.faults out.new) }
         ensures no_link { IsErrOf result ServeFault.LinkFault → ⊥ }
         ensures later { (F.write_faults files.old ≤ F.write_faults files.new) × (K.faults out.old ≤ K.faults out.new) }
         ensures writing { IsTrue (F.writing files.new) }
@@ -123,7 +123,7 @@ impl<S: Services> Server<S> {
         requires writing { IsTrue (F.writing files.old) }
         requires keeps { KeepsServe cfg.now }
         ensures run { IsTrue F.tells → IsTrue K.tells → (sent : List Heard) (base : Seen) (r : spec.Running) → StandsFor S.stands self.old r → Shows cfg.now base (seen_of (F.files files.old) (F.target files.old) (K.taken out.old) sent) r → Leaves (StandsFor S.stands self.new) cfg.now base (seen_of (F.files files.new) (F.target files.new) (K.taken out.new) sent) r (spec.begin_turn cfg.now turn now) result }
-        ensures write { IsErrOf result ServeFault.WriteFault → Rose (F.write_faults files.old) (F.write_faults files.new) ⊎ Rose (K.faults out.old) (K.faults out.new) }
+        ensures write { IsErrOf result ServeFault.WriteFault → HasRisen (F.write_faults files.old) (F.write_faults files.new) ⊎ HasRisen (K.faults out.old) (K.faults out.new) }
         ensures no_link { IsErrOf result ServeFault.LinkFault → ⊥ }
         ensures later { (F.write_faults files.old ≤ F.write_faults files.new) × (K.faults out.old ≤ K.faults out.new) }
         ensures writing { IsTrue (F.writing files.new) }

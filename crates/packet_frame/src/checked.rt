@@ -1,6 +1,6 @@
-ghost use Rattle.plan_base.specs.Handlers.{is_handler as handles_by, MayHandle};
+ghost use Rattle.typing_rules.specs.Handlers.{is_handler as handles_by, MayHandle};
 ghost use Rattle.std.specs.Prelude.{◌≡◌, ◌⊎◌, ◌≤◌, true, None, Some, IfOk, IfErr, MatchResult};
-ghost use Rattle.plan_base.specs.Typing.{IsTypedChunk};
+ghost use Rattle.typing_rules.specs.Typing.{IsTypedChunk};
 ghost use Rattle.chunk_types.specs.Chunks.{illness};
 ghost use Rattle.chunk_types.specs.declared.fault.Ill.{Ill as Wrong};
 ghost use Rattle.chunk_spelling.specs.Spelling.{a_whole_chunk};
@@ -23,7 +23,7 @@ use service_api::Advert;
 use std::alloc::Global;
 
 /// A frame whose chunk is typed.
-#[derive(Debug, Drop)]
+#[derive(Drop)]
 pub enum Frame {
     /// A packet on its way.
     Packet(CheckedPacket),
@@ -34,7 +34,7 @@ pub enum Frame {
 }
 
 /// A frame whose chunk is typed, with its stamp.
-#[derive(Debug, Drop)]
+#[derive(Drop)]
 pub struct Stamped {
     /// Its stamp: there under version 2, and not under version 1.
     pub stamp: Option<Stamp>,
@@ -107,7 +107,10 @@ fn checked_packet(
         handler,
     } = p;
     let chunk = typed_chunk(alloc, chunk, known)?;
-    with_handler(CheckedPacket::of(family, dest, bound, route, chunk), handler)
+    with_handler(
+        CheckedPacket::of(family, dest, bound, route, chunk),
+        handler,
+    )
 }
 
 /// A frame that was read, where its chunk is typed and its handler may handle.
@@ -159,7 +162,11 @@ fn checked_stamped(
 /// Ok exactly where all the bytes, at most 16,512, are its spelling, its chunk is typed and its handler, if it has one, is a
 /// function of that chunk's code that may handle; otherwise the first fault.
 #[tactic(auto, using(crate::proofs::Carried::two_spelled, crate::proofs::Carried::two_only))]
-pub fn get_frame2(alloc: Global, bytes: &[u8], known: Option<&Checked>) -> Result<Stamped, FrameFault>
+pub fn get_frame2(
+    alloc: Global,
+    bytes: &[u8],
+    known: Option<&Checked>,
+) -> Result<Stamped, FrameFault>
     ensures found { IfOk result (λ x. AcceptsBy Two bytes.now (stamped_plain x)) }
     ensures only { (x : PlainOne) → AcceptsBy Two bytes.now x → MatchResult result (λ y. stamped_plain y ≡ x) (λ e. e ≡ FrameFault.NoMemory) }
     ensures fault { IfErr result (λ e. (e ≡ FrameFault.NoMemory) ⊎ StampedFirst e bytes.now) }

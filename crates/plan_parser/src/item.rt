@@ -4,6 +4,7 @@ ghost use Rattle.plan_grammar.specs.Ahead.{Gives, Answers, next_kind};
 ghost use Rattle.plan_parser.specs.Values as spec;
 
 use plan_base::{Dev, Host, Ty, Value, Values};
+use plan_copies::Copied;
 use plan_grammar::{Ahead, ParseFault, Wanted};
 use plan_items::{Boxed, Items};
 use plan_lexer::{Key, Symbol, TokenKind};
@@ -105,7 +106,7 @@ pub fn tuple_of(alloc: Global, items: Items<Item>) -> Result<Item, ParseFault>
 pub fn list_of(alloc: Global, ty: Ty, values: Values) -> Result<Item, ParseFault>
     ensures { Answers (Ok (spec.list_of ty values)) result }
 {
-    let of = ty.copy(alloc)?;
+    let of = Boxed::new(alloc, ty.copy(alloc)?)?;
     Ok(Item {
         value: Value::List(of, values),
         ty: Ty::List(Boxed::new(alloc, ty)?),

@@ -8,14 +8,14 @@ use Rattle.std.proofs.lemmas.Bool.{leb-true, le-leb}
 use Rattle.plan_base.specs.declared.tree.Expr.{Expr}
 use Rattle.plan_base.specs.declared.tree.Fun.{Fun}
 use Rattle.plan_base.specs.declared.tree.Program.{Program}
-use Rattle.plan_base.specs.declared.type_fault.TypeFault.{TypeFault}
-use Rattle.plan_base.specs.declared.type_fault.TypeFault.TheVariants as fault
+use Rattle.typing_rules.specs.declared.type_fault.TypeFault.{TypeFault}
+use Rattle.typing_rules.specs.declared.type_fault.TypeFault.TheVariants as fault
 use Rattle.plan_base.specs.Sizes.{code_size, expr_depth, expr_nodes}
 use Rattle.plan_base.specs.WellFormed.{IsWellFormedProgram}
-use Rattle.plan_base.specs.Typing.{Typed}
-use Rattle.plan_base.specs.TypingNames.{built_in}
-use Rattle.plan_base.specs.TypingOrder.{Found, after, checked, bodies_from, then_by, services_from, exceptions_from, functions_from, declarations, sized, annotated}
-use Rattle.plan_base.specs.TypingFills.{Becomes, FunFills, Fills}
+use Rattle.typing_rules.specs.Typing.{Typed}
+use Rattle.typing_rules.specs.TypingNames.{built_in}
+use Rattle.typing_rules.specs.TypingOrder.{Found, after, checked, bodies_from, then_by, services_from, exceptions_from, functions_from, declarations, sized, annotated}
+use Rattle.typing_rules.specs.TypingFills.{Becomes, FunFills, Fills}
 use Rattle.typing_laws.proofs.Right.{becomes_suits}
 use Rattle.typing_laws.proofs.Programs.{annotated_sound, annotated_complete, depths_kept}
 use Rattle.typing_order.specs.Judgements.{behind, Refused}
@@ -141,6 +141,9 @@ module _ (p : Program) where
   one_first _ (later k more h s) (here _ _ m d) = absurd (m h)
   one_first _ (later k more h s) (later _ _ m t) = one_first more s t
 
+  pub one_refusal : (f g : TypeFault) → FirstRefusal p f → FirstRefusal p g → f ≡ g
+  one_refusal f g h k = one_first (conditions p) h k
+
   -- ---- the whole
 
   size_stands : (gs : List Fun) → FillsFrom 0 p.funs gs → StandsFor p (of_size ∷ []) (sized (record p { funs = gs }))
@@ -190,6 +193,3 @@ module _ (p : Program) where
 
     pub not_both : (q : Program) (f : TypeFault) → Fills p q → Typed q → FirstRefusal p f → ⊥
     not_both q f h t r = let z : ◌≡◌ {A = Result Program TypeFault} (Ok q) (Err f) = sym (annotated_complete p q (depths_kept p w) h t) ∙ (first_is f).1 r in cc
-
-    pub one_refusal : (f g : TypeFault) → FirstRefusal p f → FirstRefusal p g → f ≡ g
-    one_refusal f g h k = one_first (conditions p) h k

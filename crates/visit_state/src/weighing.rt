@@ -3,10 +3,11 @@ ghost use Rattle.std.specs.Prelude.{◌≡◌, min, IfSome};
 ghost use Rattle.std.specs.List.{sum_by};
 ghost use Rattle.plan_base.specs.Sizes.{largest_by, weight, nesting};
 
-use plan_base::{Value, type_size};
+use plan_base::Value;
+use plan_sizes::type_size;
 
 /// What came of weighing a value.
-#[derive(Debug, Clone, Copy)]
+#[derive(Clone, Copy)]
 pub enum Weighing {
     /// Its weight was spent.
     Paid,
@@ -46,7 +47,7 @@ pub fn plain_weight(v: &Value) -> Option<u64>
         Value::Blob(b) => Some((b.as_slice().len() as u64).saturating_add(3)),
         Value::Chunk(_) => None,
         Value::List(t, items) => match plain_weights(items.as_slice()) {
-            Some(size) => Some(size.saturating_add(type_size(t)).saturating_add(3)),
+            Some(size) => Some(size.saturating_add(type_size(t.get())).saturating_add(3)),
             None => None,
         },
         Value::Tuple(parts) => match plain_weights(parts.as_slice()) {

@@ -1,5 +1,5 @@
 use Rattle.std.proofs.Common.{◌∙◌, ◌+◌, inr, drop, get_or, refl, arith, rules}
-use Rattle.node_io.specs.Causes.{Rose}
+use Rattle.node_io.specs.Causes.{HasRisen}
 use Rattle.node_io.specs.declared.spawner.Child.{Child}
 use Rattle.fleet_run.proofs.ChildLaws.{next_is_open, next_waited, leaves}
 use Rattle.fleet_run.proofs.starts.wait_all.Goals as goal
@@ -16,7 +16,7 @@ returns-then-is_err-clause-waited g c = λ base o.
     let none : Child = record { 0 = 0 } in
     let i = c.loop-child.child-index in
     let after = g.P.Spawner.children c.wait.new.self in
-    let rose : Rose (g.P.Spawner.faults c.args.spawn.now) (g.P.Spawner.faults c.wait.new.self) = search rules in
+    let rose : HasRisen (g.P.Spawner.faults c.args.spawn.now) (g.P.Spawner.faults c.wait.new.self) = search rules in
     let open_still = next_waited base (g.P.Spawner.children c.loop-child.spawn) after c.args.started.now i none (get_or c.args.started.now i none) c.loop-child-test.true refl c.wait.ensures.children
     (c.loop-child.invariant.running base o) in
     inr (rose, leaves base after (drop (i + 1) c.args.started.now) open_still)

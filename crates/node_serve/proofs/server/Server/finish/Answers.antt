@@ -1,7 +1,7 @@
 use Rattle.std.proofs.Common.{refl}
 use Rattle.node_serve.proofs.Following.{match_err}
 use Rattle.node_serve.proofs.Ending.{stopped}
-use Rattle.node_serve.specs.Standing.{seen_of}
+use Rattle.node_serve.specs.Stays.{seen_of}
 use Rattle.serve_model.specs.Runs.{opened}
 use Rattle.node_serve.proofs.Ending.{ends_by}
 use Rattle.node_serve.proofs.server.Server.finish.Goals as goal

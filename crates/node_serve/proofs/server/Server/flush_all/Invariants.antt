@@ -1,7 +1,7 @@
 use Rattle.std.proofs.Common.{◌≡◌, ◌≤◌, IsTrue}
 use Rattle.serve_model.specs.Runs.{Running, flush_to, peers_of}
 use Rattle.node_serve.specs.Shown.{Seen, Shows, Reached}
-use Rattle.node_serve.specs.Standing.{StandsFor, seen_of}
+use Rattle.node_serve.specs.Stays.{StandsFor, seen_of}
 use Rattle.node_serve.proofs.server.Server.flush_all.Given as goal
 
 abbrev pub invariant-loop-number : goal.invariant-loop-number

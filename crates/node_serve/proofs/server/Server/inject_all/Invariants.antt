@@ -2,7 +2,7 @@ use Rattle.std.proofs.Common.{◌≡◌, ◌≤◌, List, IsTrue}
 use Rattle.node_io.specs.Links.{Heard}
 use Rattle.serve_model.specs.Runs.{Running, inject_to}
 use Rattle.node_serve.specs.Shown.{Seen, Shows, Reached}
-use Rattle.node_serve.specs.Standing.{StandsFor, seen_of}
+use Rattle.node_serve.specs.Stays.{StandsFor, seen_of}
 use Rattle.node_serve.proofs.server.Server.inject_all.Given as goal
 
 abbrev pub invariant-loop-inject : goal.invariant-loop-inject

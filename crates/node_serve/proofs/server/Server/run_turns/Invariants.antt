@@ -1,7 +1,7 @@
 use Rattle.std.proofs.Common.{◌≡◌, ◌≤◌, IsTrue, length, drop}
 use Rattle.serve_model.specs.Runs.{Running, turns, time_at}
 use Rattle.node_serve.specs.Shown.{Seen, Shows, Reached}
-use Rattle.node_serve.specs.Standing.{StandsFor, seen_of}
+use Rattle.node_serve.specs.Stays.{StandsFor, seen_of}
 use Rattle.node_serve.proofs.server.Server.run_turns.Given as goal
 
 abbrev pub invariant-loop-done : goal.invariant-loop-done

@@ -5,7 +5,7 @@ use Rattle.serve_model.specs.Runs.{with_entry}
 use Rattle.network_plan.specs.Hosts.{dev_of}
 use Rattle.network_plan.specs.declared.event.Event.TheVariants.{Take}
 use Rattle.network_plan.specs.declared.event.LogEvent.TheVariants.{Step}
-use Rattle.node_serve.specs.Standing.{StandsFor}
+use Rattle.node_serve.specs.Stays.{StandsFor}
 use Rattle.node_serve.proofs.server.Server.take_back.Goals as goal
 
 pub returns-in_err-make-clause-run : goal.returns-in_err-make-clause-run
