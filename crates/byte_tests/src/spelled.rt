@@ -3,7 +3,9 @@
 use chunk_codec::{SpellFault, get_chunk, get_name, get_type, get_value};
 use chunk_writer::{put_name, put_type, put_value};
 use plan_base::{Chunk, Family, Host, Limit, Name, Packet, Ty, Value};
-use plan_sizes::{chunk_nesting, chunk_weight, nesting, type_size, weight};
+use plan_copies::Copied;
+use plan_equality::Same;
+use plan_sizes::{Deep, chunk_nesting, chunk_weight, nesting, type_size, weight};
 use std::alloc::Global;
 use std::test::Fail;
 use wire_bytes::{Cursor, Out};

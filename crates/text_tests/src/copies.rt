@@ -1,6 +1,8 @@
 // Copies are equal to what they are copies of, and to nothing else; names are words that aren't reserved.
 
 use plan_base::Name;
+use plan_copies::Copied;
+use plan_equality::Same;
 use plan_lexer::lex;
 use plan_parser::{parse, parse_value};
 use program_text::read_program;
