@@ -1,12 +1,30 @@
 // Files of messages: what they say, where they are refused, and what is written of one.
 
-use cut_files::{cut_text, read_cut};
-use line_cases::told;
+use cut_files::{CutFile, cut_text, read_cut};
+use line_files::{LineFault, LineReason};
 use std::alloc::Global;
 use std::test::Fail;
 
 // A file, with the line and the reason of its refusal, or 0 and nothing.
 type Case = (&'static [u8], u32, &'static str);
+
+fn reason_name(reason: &LineReason) -> &'static str {
+    match reason {
+        LineReason::BadHeader => "BadHeader",
+        LineReason::BadWord => "BadWord",
+        LineReason::BadNumber => "BadNumber",
+        LineReason::BadArgument => "BadArgument",
+        _ => "another",
+    }
+}
+
+fn told(answer: Result<CutFile, LineFault>) -> (u32, &'static str) {
+    match answer {
+        Ok(_) => (0, ""),
+        Err(LineFault::Line(n, reason)) => (n, reason_name(&reason)),
+        Err(LineFault::NoMemory) => (0, "NoMemory"),
+    }
+}
 
 fn holds(alloc: Global, case: &Case) -> bool {
     if case.0.len() > 4_194_304 {
