@@ -18,4 +18,3 @@ pub use config::read_config;
 pub use fleet::read_fleet;
 pub use log::read_log;
 pub use log_text::{log_reads_again, put_log_head, put_log_line, put_lost_line};
-pub use parts::{expect, last_number};
