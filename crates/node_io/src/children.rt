@@ -1,5 +1,5 @@
 ghost use Rattle.std.specs.Prelude.{◌≡◌, ◌++◌, ◌∷◌, ◌+◌, ◌<◌, ◌==◌, [], false, filter, Contains, IfOk, MatchResult};
-ghost use Rattle.node_io.specs.Children.{is_other, IsFresh};
+ghost use Rattle.node_io.specs.Spawners.{is_other, IsFresh};
 
 use crate::spawner::Child;
 use std::alloc::{AllocError, Global};

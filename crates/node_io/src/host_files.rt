@@ -34,25 +34,18 @@ impl<'a, R: System> HostFiles<'a, R> {
 }
 
 impl<R: System> Files for HostFiles<'_, R> {
-    ghost read_faults = { λ f. f.read_faults };
-
-    ghost write_faults = { λ f. f.write_faults };
-
-    ghost reading = { λ f. is_some f.source };
-
-    ghost writing = { λ f. is_some f.target };
-
-    ghost tells = { false };
-
-    ghost files = { λ _. [] };
-
-    ghost left = { λ _. [] };
-
-    ghost target = { λ _. [] };
-
-    ghost asked = { λ _. [] };
-
-    ghost made = { λ _. [] };
+    ghost state = { λ f. record {
+      observable = false;
+      held = [];
+      asked = [];
+      made = [];
+      left = [];
+      target = [];
+      reading = is_some f.source;
+      writing = is_some f.target;
+      read_faults = f.read_faults;
+      write_faults = f.write_faults;
+    } };
 
     fn read_from(&mut self, name: &str) -> Result<(), Failed> {
         self.source = fs::open(self.system, name).ok();

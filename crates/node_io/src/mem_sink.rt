@@ -1,7 +1,6 @@
 ghost use Rattle.std.specs.Prelude.{◌≡◌, ◌++◌, ◌-◌, ◌<◌, ◌≤◌, ◌⊎◌, [], true, take, length, IsNone, IfNone, IfSome, IsErr, OnErr, IfOk, MatchOption, MatchResult, option_map};
-ghost use Rattle.node_io.specs.Causes.{HasCause};
-ghost use Rattle.node_io.specs.Pieces.{PushCount, PushAppends};
-ghost use Rattle.node_io.specs.Memory.{room_of, IsDuePush, IsFull, LacksRoom, CountsPush};
+ghost use Rattle.node_io.specs.Sinks.{Pushes};
+ghost use Rattle.node_io.specs.Memory.{sink_state, room_of, IsDuePush, IsFull, LacksRoom, CountsPush};
 
 use crate::counts::{is_due, raise};
 use crate::outside::{Calls, Failed, Sink};
@@ -54,7 +53,7 @@ impl MemSink {
 
     /// The bytes taken so far.
     pub fn taken(&self) -> &Bytes
-        ensures { result.now ≡ ⟦<MemSink as Sink>⟧.taken self.now }
+        ensures { result.now ≡ (⟦<MemSink as Sink>⟧.state self.now).taken }
     {
         &self.taken
     }
@@ -108,16 +107,10 @@ fn less(room: Option<u64>, count: usize) -> Option<u64>
 }
 
 impl Sink for MemSink {
-    ghost faults = { λ s. s.faults };
-
-    ghost tells = { true };
-
-    ghost taken = { λ s. s.taken };
+    ghost state = { sink_state };
 
     fn push(&mut self, piece: &[u8]) -> Result<usize, Failed>
-        ensures count { PushCount result piece.now }
-        ensures bytes { PushAppends self.old.taken self.new.taken result piece.now }
-        ensures cause { HasCause self.old.faults self.new.faults result }
+        ensures pushes { Pushes piece.now (sink_state self.old) (sink_state self.new) result }
         ensures room { MatchResult result (λ n. room_of self.new ≡ option_map (λ r. r - n) (room_of self.old)) (λ _. room_of self.new ≡ room_of self.old) }
         ensures due { IsDuePush self.old → IsErr result }
         ensures full { IsFull self.old piece.now → IsErr result }
