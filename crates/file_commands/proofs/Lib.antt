@@ -1,0 +1,6 @@
+pub mod Refusing
+pub mod Taking
+pub mod Rendering
+pub mod Acting
+pub mod ShowLemmas
+pub mod Showing
