@@ -194,7 +194,8 @@ impl<S: Services> Server<S> {
     ) -> Result<(), ServeFault>
         requires writing { IsTrue (F.state files.old).writing }
         requires bound { (L.state link.old).bound ≡ spec.peers_of cfg.now }
-        ensures goes { Goes S.stands cfg.now (spec.end_turn (spec.peers_of cfg.now)) self.old self.new
+        ensures goes { Goes S.stands cfg.now (spec.end_turn (spec.peers_of cfg.now))
+            self.old self.new
             (desk (F.state files.old) (K.state out.old) (L.state link.old))
             (desk (F.state files.new) (K.state out.new) (L.state link.new)) result }
         ensures script { (L.state link.new).script ≡ (L.state link.old).script }

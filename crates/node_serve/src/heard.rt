@@ -68,7 +68,8 @@ impl<S: Services> Server<S> {
         requires keeps { KeepsServe cfg.now }
         requires room { length buf.old ≡ 16513 }
         ensures goes { Goes S.stands cfg.now
-            (spec.hear (next_heard (spec.peers_of cfg.now) (L.state link.old).script)) self.old self.new
+            (spec.hear (next_heard (spec.peers_of cfg.now) (L.state link.old).script))
+            self.old self.new
             (desk (F.state files.old) (K.state out.old) (L.state link.old))
             (desk (F.state files.new) (K.state out.new) (L.state link.new)) result }
         ensures script { IsTrue (L.state link.old).observable

@@ -10,6 +10,8 @@ ghost use Rattle.node_serve.specs.Served.{Served, run_in};
 /// the trace of that run.
 pub fn reads_again()
     ensures { (cfg : ServeConfig) (node : NodeState) (turns : ℕ) (old new : Serving)
-        (s : Served cfg node turns old new) → KeepsServe cfg
-        → length (run_in cfg node turns old s.refused).events ≤ 50000 → ReadsAgain cfg node old new }
+        (s : Served cfg node turns old new)
+        → KeepsServe cfg
+        → length (run_in cfg node turns old s.refused).events ≤ 50000
+        → ReadsAgain cfg node old new }
 {}

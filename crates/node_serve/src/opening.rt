@@ -15,7 +15,8 @@ use std::alloc::Global;
 
 /// The peers of a node: its owner on device 0, at this port, and its neighbours.
 fn peers_at(alloc: Global, control: u16, ports: &[(Dev, u16)]) -> Result<Peers, NoMemory>
-    ensures { IfOk result (λ peers. peers ≡ peer (dev_of 0) control ∷ map (λ p. peer p.0 p.1) ports.now) }
+    ensures { IfOk result
+        (λ peers. peers ≡ peer (dev_of 0) control ∷ map (λ p. peer p.0 p.1) ports.now) }
 {
     let mut peers = Peers::new(alloc);
     peers.add(Peer {

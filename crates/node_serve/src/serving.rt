@@ -90,7 +90,8 @@ pub fn serve<S: Services + Drop, L: Link, C: Clock, F: Files, K: Sink>(
     // The run of the node, or a front of it; only the log is made and written, and a fault comes only where its count rose.
     ensures { Serves cfg.now (new_node cfg.now.node (S.stands services)) turns
         (serving (F.state files.old) (K.state out.old) (L.state link.old) (C.state clock.old))
-        (serving (F.state files.new) (K.state out.new) (L.state link.new) (C.state clock.new)) result }
+        (serving (F.state files.new) (K.state out.new) (L.state link.new) (C.state clock.new))
+        result }
 {
     let Ok(mut server) = open(alloc, cfg, services) else {
         return Err(ServeFault::NoMemory);

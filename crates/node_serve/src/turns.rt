@@ -41,7 +41,8 @@ impl<S: Services> Server<S> {
         now: u64,
     ) -> Result<(), ServeFault>
         requires { IsTrue (F.state files.old).writing }
-        ensures { (l : LinkState) → Goes S.stands cfg.now (spec.tick cfg.now.period now) self.old self.new
+        ensures { (l : LinkState)
+            → Goes S.stands cfg.now (spec.tick cfg.now.period now) self.old self.new
             (desk (F.state files.old) (K.state out.old) l)
             (desk (F.state files.new) (K.state out.new) l) result }
     {
@@ -67,7 +68,8 @@ impl<S: Services> Server<S> {
     ) -> Result<(), ServeFault>
         requires writing { IsTrue (F.state files.old).writing }
         requires keeps { KeepsInject inject.now }
-        ensures { (l : LinkState) → Goes S.stands cfg.now (spec.inject_one turn (Some inject.now)) self.old self.new
+        ensures { (l : LinkState)
+            → Goes S.stands cfg.now (spec.inject_one turn (Some inject.now)) self.old self.new
             (desk (F.state files.old) (K.state out.old) l)
             (desk (F.state files.new) (K.state out.new) l) result }
     {
@@ -89,7 +91,8 @@ impl<S: Services> Server<S> {
     ) -> Result<(), ServeFault>
         requires writing { IsTrue (F.state files.old).writing }
         requires keeps { KeepsServe cfg.now }
-        ensures { (l : LinkState) → Goes S.stands cfg.now (spec.inject_to turn cfg.now.at (length cfg.now.at))
+        ensures { (l : LinkState)
+            → Goes S.stands cfg.now (spec.inject_to turn cfg.now.at (length cfg.now.at))
             self.old self.new
             (desk (F.state files.old) (K.state out.old) l)
             (desk (F.state files.new) (K.state out.new) l) result }
@@ -114,7 +117,8 @@ impl<S: Services> Server<S> {
     ) -> Result<(), ServeFault>
         requires writing { IsTrue (F.state files.old).writing }
         requires keeps { KeepsServe cfg.now }
-        ensures { (l : LinkState) → Goes S.stands cfg.now (spec.begin_turn cfg.now turn now) self.old self.new
+        ensures { (l : LinkState)
+            → Goes S.stands cfg.now (spec.begin_turn cfg.now turn now) self.old self.new
             (desk (F.state files.old) (K.state out.old) l)
             (desk (F.state files.new) (K.state out.new) l) result }
     {
