@@ -56,7 +56,8 @@ fn prepare(alloc: Global, ask: &AskFile) -> Result<Prepared, NoMemory>
 // Binds a port with its peers and sends one frame on device 0, which is among them.
 fn send_one<L: Link>(link: &mut L, port: u16, peers: &Peers, frame: &[u8]) -> Result<(), Failed>
     requires { HasPeer peers.now (dev_of 0) }
-    ensures { SendsOne (port, peers.now) (dev_of 0, frame.now) (L.state link.old) (L.state link.new) result }
+    ensures { SendsOne (port, peers.now) (dev_of 0, frame.now)
+        (L.state link.old) (L.state link.new) result }
 {
     let Ok(()) = link.bind(port, peers) else {
         return Err(Failed);
@@ -74,7 +75,8 @@ pub fn inject<L: Link, K: Sink>(
     out: &mut K,
 ) -> Result<(), AskFault>
     requires { KeepsAsk ask.now }
-    ensures { Asks ask.now (L.state link.old) (L.state link.new) (K.state out.old) (K.state out.new) result }
+    ensures { Asks ask.now (L.state link.old) (L.state link.new)
+        (K.state out.old) (K.state out.new) result }
 {
     let Ok(made) = prepare(alloc, ask) else {
         return Err(AskFault::NoMemory);

@@ -23,7 +23,9 @@ struct Prepared {
 fn prepare(alloc: Global, kids: &[Kid]) -> Result<Prepared, NoMemory>
     ensures starts { IfOk result (λ made. made.starts ≡ fleet_starts kids.now) }
     ensures none { IfOk result (λ made. (made.started.items ≡ []) × (made.statuses.items ≡ [])) }
-    ensures room { IfOk result (λ made. (vec_capacity made.started ≡ length kids.now) × (vec_capacity made.statuses ≡ length kids.now)) }
+    ensures room { IfOk result
+        (λ made. (vec_capacity made.started ≡ length kids.now)
+        × (vec_capacity made.statuses ≡ length kids.now)) }
 {
     let starts = starts_of(alloc, kids)?;
     let started = Vec::with_capacity(alloc, kids.len())?;
@@ -44,7 +46,8 @@ pub fn run_fleet<P: Spawner, K: Sink>(
     spawn: &mut P,
     out: &mut K,
 ) -> Result<FleetEnd, FleetFault>
-    ensures { RunsFleet fleet.now.children (P.state spawn.old) (P.state spawn.new) (K.state out.old) (K.state out.new) result }
+    ensures { RunsFleet fleet.now.children (P.state spawn.old) (P.state spawn.new)
+        (K.state out.old) (K.state out.new) result }
 {
     let kids = fleet.children.as_slice();
     let Ok(mut made) = prepare(alloc, kids) else {

@@ -10,12 +10,12 @@ ghost use Rattle.fleet_run.specs.declared.fault.FleetFault.{FleetFault as Fault}
 
 /// After every answer the output is a prefix of the lines of the statuses that the spawner gives.
 pub fn lines_are_a_prefix()
-    ensures { (kids : List Kid) (old new : SpawnerState) (a b : SinkState) (result : Result End Fault)
+    ensures { (kids : List Kid) (old new : SpawnerState) (a b : SinkState)
+        (result : Result End Fault)
         → RunsFleet kids old new a b result
         → IsTrue old.observable
         → WritesPrefix a b (fleet_text kids (drop old.started old.statuses)) }
-{
-}
+{}
 
 /// A fleet that ended did so by these statuses.
 pub fn ends_by_its_statuses()
@@ -23,5 +23,4 @@ pub fn ends_by_its_statuses()
         → RunsFleet kids old new a b (Ok end)
         → IsTrue old.observable
         → end ≡ fleet_end kids (drop old.started old.statuses) }
-{
-}
+{}

@@ -34,7 +34,8 @@ pub fn report_all<P: Spawner, K: Sink>(
     requires open { (base : List Open) × AreOpen base (P.state spawn.old).children started.now }
     requires none { statuses.old.items ≡ [] }
     requires room { length kids.now ≤ vec_capacity statuses.old }
-    ensures { ReportsEach kids.now started.now statuses.new.items (P.state spawn.old) (P.state spawn.new) (K.state out.old) (K.state out.new) result }
+    ensures { ReportsEach kids.now started.now statuses.new.items
+        (P.state spawn.old) (P.state spawn.new) (K.state out.old) (K.state out.new) result }
 {
     for (i, kid) in kids.iter().enumerate() {
         let Ok(status) = spawn.wait(started[i]) else {

@@ -14,7 +14,8 @@ pub fn start_all<P: Spawner>(
 ) -> Result<(), Failed>
     requires none { started.old.items ≡ [] }
     requires room { length starts.now ≤ vec_capacity started.old }
-    ensures { StartsAll starts.now started.new.items (P.state spawn.old) (P.state spawn.new) result }
+    ensures { StartsAll starts.now started.new.items
+        (P.state spawn.old) (P.state spawn.new) result }
 {
     for words in starts {
         let Ok(child) = spawn.start(words) else {

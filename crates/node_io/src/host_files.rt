@@ -21,7 +21,8 @@ pub struct HostFiles<'a, R: System> {
 impl<'a, R: System> HostFiles<'a, R> {
     /// The files of this system: no fault is counted, and nothing is begun.
     pub fn new(system: &'a R) -> HostFiles<'a, R>
-        ensures { (result.read_faults ≡ 0) × (result.write_faults ≡ 0) × (is_some result.source ≡ false) × (is_some result.target ≡ false) }
+        ensures { (result.read_faults ≡ 0) × (result.write_faults ≡ 0)
+            × (is_some result.source ≡ false) × (is_some result.target ≡ false) }
     {
         HostFiles {
             system,

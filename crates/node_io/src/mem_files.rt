@@ -34,8 +34,9 @@ impl MemFiles {
     pub fn new(alloc: Global, files: FileList, fails: Calls) -> Result<MemFiles, NoMemory>
         requires { HasDistinctNames files }
         ensures { IfOk result
-            (λ f. (f.files ≡ files) × (f.asked ≡ []) × (f.made ≡ []) × (f.fails ≡ fails) × (f.calls ≡ 0)
-            × (f.refused ≡ 0) × (f.read_faults ≡ 0) × (f.write_faults ≡ 0) × (f.reading ≡ None) × (f.writing ≡ None)) }
+            (λ f. (f.files ≡ files) × (f.asked ≡ []) × (f.made ≡ []) × (f.fails ≡ fails)
+            × (f.calls ≡ 0) × (f.refused ≡ 0) × (f.read_faults ≡ 0) × (f.write_faults ≡ 0)
+            × (f.reading ≡ None) × (f.writing ≡ None)) }
     {
         Ok(MemFiles {
             alloc,
@@ -70,7 +71,8 @@ fn open(
     due: bool,
 ) -> Result<Option<Reading>, NoMemory>
     ensures found { IfOk result
-        (λ r. MatchOption r (IsTrue due ⊎ (file_at files.now name.now ≡ None)) (λ left. file_at files.now name.now ≡ Some left)) }
+        (λ r. MatchOption r (IsTrue due ⊎ (file_at files.now name.now ≡ None))
+        (λ left. file_at files.now name.now ≡ Some left)) }
     ensures due { IsTrue due → IfOk result (λ r. r ≡ None) }
     ensures missing { file_at files.now name.now ≡ None → IfOk result (λ r. r ≡ None) }
     ensures asked { Names asked.old asked.new name.now result }
@@ -97,7 +99,8 @@ fn make(
     due: bool,
 ) -> Result<Option<Text>, NoMemory>
     ensures found { IfOk result
-        (λ r. MatchOption r (IsTrue due × (files.new ≡ files.old)) (λ target. (target ≡ name.now) × ChangesOnly files.old files.new name.now [])) }
+        (λ r. MatchOption r (IsTrue due × (files.new ≡ files.old))
+        (λ target. (target ≡ name.now) × ChangesOnly files.old files.new name.now [])) }
     ensures due { IsTrue due → IfOk result (λ r. r ≡ None) }
     ensures stays { OnErr result (files.new ≡ files.old) }
     ensures made { Names made.old made.new name.now result }
@@ -115,13 +118,15 @@ impl Files for MemFiles {
     ghost state = { files_state };
 
     fn read_from(&mut self, name: &str) -> Result<(), Failed>
-        ensures begins { BeginsReading name.now (files_state self.old) (files_state self.new) result }
+        ensures begins { BeginsReading name.now
+            (files_state self.old) (files_state self.new) result }
         ensures named { OnErr result
             ((self.new.asked ≡ self.old.asked ++ name.now ∷ []) ⊎ LacksMemory self.old self.new) }
         ensures due { IsDueCall self.old → IsErr result }
         ensures missing { file_at self.old.files name.now ≡ None → IsErr result }
         ensures only { OnErr result
-            (IsDueCall self.old ⊎ (file_at self.old.files name.now ≡ None) ⊎ LacksMemory self.old self.new) }
+            (IsDueCall self.old ⊎ (file_at self.old.files name.now ≡ None)
+            ⊎ LacksMemory self.old self.new) }
         ensures counted { CountsCall self.old self.new }
     {
         raise(&mut self.calls);
@@ -169,7 +174,8 @@ impl Files for MemFiles {
     }
 
     fn write_to(&mut self, name: &str) -> Result<(), Failed>
-        ensures begins { BeginsWriting name.now (files_state self.old) (files_state self.new) result }
+        ensures begins { BeginsWriting name.now
+            (files_state self.old) (files_state self.new) result }
         ensures named { OnErr result
             ((self.new.made ≡ self.old.made ++ name.now ∷ []) ⊎ LacksMemory self.old self.new) }
         ensures due { IsDueCall self.old → IsErr result }

@@ -30,7 +30,8 @@ impl MemLink {
     /// A link with this script, whose calls with the numbers in `fails`, from 1, fail.
     pub fn new(alloc: Global, script: Arrivals, fails: Calls) -> Result<MemLink, NoMemory>
         ensures { IfOk result
-            (λ l. (l.script ≡ script) × (l.taken ≡ 0) × (l.sent ≡ []) × (l.binds ≡ []) × (l.peers ≡ []) × (l.fails ≡ fails)
+            (λ l. (l.script ≡ script) × (l.taken ≡ 0) × (l.sent ≡ []) × (l.binds ≡ [])
+            × (l.peers ≡ []) × (l.fails ≡ fails)
             × (l.calls ≡ 0) × (l.refused ≡ 0) × (l.faults ≡ 0)) }
     {
         Ok(MemLink {
@@ -131,7 +132,8 @@ impl Link for MemLink {
         ensures due { IsDueAtLink self.old → IsErr result }
         ensures only { OnErr result (IsDueAtLink self.old ⊎ LinkLacksMemory self.old self.new) }
         ensures asked { OnErr result
-            ((self.new.binds ≡ self.old.binds ++ (port, peers.now) ∷ []) ⊎ LinkLacksMemory self.old self.new) }
+            ((self.new.binds ≡ self.old.binds ++ (port, peers.now) ∷ [])
+            ⊎ LinkLacksMemory self.old self.new) }
         ensures counted { CountsAtLink self.old self.new }
     {
         raise(&mut self.calls);

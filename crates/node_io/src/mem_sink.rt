@@ -24,7 +24,8 @@ impl MemSink {
     /// A sink that fails at the pushes whose numbers, from 1, are in `fails`.
     pub fn new(alloc: Global, fails: Calls) -> Result<MemSink, NoMemory>
         ensures { IfOk result
-            (λ s. (s.taken ≡ []) × (s.fails ≡ fails) × (s.calls ≡ 0) × (s.refused ≡ 0) × (s.faults ≡ 0) × (s.room ≡ None)) }
+            (λ s. (s.taken ≡ []) × (s.fails ≡ fails) × (s.calls ≡ 0) × (s.refused ≡ 0)
+            × (s.faults ≡ 0) × (s.room ≡ None)) }
     {
         Ok(MemSink {
             taken: Bytes::new(alloc),
@@ -39,7 +40,8 @@ impl MemSink {
     /// A sink that takes `n` bytes and then fails.
     pub fn stopping(alloc: Global, n: u64) -> Result<MemSink, NoMemory>
         ensures { IfOk result
-            (λ s. (s.taken ≡ []) × (s.fails ≡ []) × (s.calls ≡ 0) × (s.refused ≡ 0) × (s.faults ≡ 0) × (s.room ≡ Some n)) }
+            (λ s. (s.taken ≡ []) × (s.fails ≡ []) × (s.calls ≡ 0) × (s.refused ≡ 0) × (s.faults ≡ 0)
+            × (s.room ≡ Some n)) }
     {
         Ok(MemSink {
             taken: Bytes::new(alloc),
@@ -60,12 +62,16 @@ impl MemSink {
 
     // Takes a front of `piece` and answers its length, or `None` where the push is to fail.
     fn take(&mut self, piece: &[u8]) -> Option<usize>
-        ensures count { IfSome result (λ n. (n ≤ length piece.now) × (0 < length piece.now → 0 < n)) }
-        ensures bytes { MatchOption result (self.new.taken ≡ self.old.taken) (λ n. self.new.taken ≡ self.old.taken ++ take n piece.now) }
-        ensures room { MatchOption result (self.new.room ≡ self.old.room) (λ n. self.new.room ≡ option_map (λ r. r - n) self.old.room) }
+        ensures count { IfSome result
+            (λ n. (n ≤ length piece.now) × (0 < length piece.now → 0 < n)) }
+        ensures bytes { MatchOption result (self.new.taken ≡ self.old.taken)
+            (λ n. self.new.taken ≡ self.old.taken ++ take n piece.now) }
+        ensures room { MatchOption result (self.new.room ≡ self.old.room)
+            (λ n. self.new.room ≡ option_map (λ r. r - n) self.old.room) }
         ensures due { IsDuePush self.old → IsNone result }
         ensures full { IsFull self.old piece.now → IsNone result }
-        ensures only { IfNone result (IsDuePush self.old ⊎ IsFull self.old piece.now ⊎ LacksRoom self.old self.new) }
+        ensures only { IfNone result (IsDuePush self.old ⊎ IsFull self.old piece.now
+            ⊎ LacksRoom self.old self.new) }
         ensures counted { CountsPush self.old self.new }
         ensures kept { self.new.faults ≡ self.old.faults }
     {
@@ -111,10 +117,13 @@ impl Sink for MemSink {
 
     fn push(&mut self, piece: &[u8]) -> Result<usize, Failed>
         ensures pushes { Pushes piece.now (sink_state self.old) (sink_state self.new) result }
-        ensures room { MatchResult result (λ n. room_of self.new ≡ option_map (λ r. r - n) (room_of self.old)) (λ _. room_of self.new ≡ room_of self.old) }
+        ensures room { MatchResult result
+            (λ n. room_of self.new ≡ option_map (λ r. r - n) (room_of self.old))
+            (λ _. room_of self.new ≡ room_of self.old) }
         ensures due { IsDuePush self.old → IsErr result }
         ensures full { IsFull self.old piece.now → IsErr result }
-        ensures only { OnErr result (IsDuePush self.old ⊎ IsFull self.old piece.now ⊎ LacksRoom self.old self.new) }
+        ensures only { OnErr result (IsDuePush self.old ⊎ IsFull self.old piece.now
+            ⊎ LacksRoom self.old self.new) }
         ensures counted { CountsPush self.old self.new }
     {
         match self.take(piece) {

@@ -29,7 +29,8 @@ impl MemSpawner {
     /// A spawner with these statuses, whose calls with the numbers in `fails`, from 1, fail.
     pub fn new(alloc: Global, statuses: Statuses, fails: Calls) -> Result<MemSpawner, NoMemory>
         ensures { IfOk result
-            (λ s. (s.statuses ≡ statuses) × (s.starts ≡ []) × (s.children.0 ≡ 0) × (s.children.1 ≡ []) × (s.fails ≡ fails) × (s.calls ≡ 0)
+            (λ s. (s.statuses ≡ statuses) × (s.starts ≡ []) × (s.children.0 ≡ 0)
+            × (s.children.1 ≡ []) × (s.fails ≡ fails) × (s.calls ≡ 0)
             × (s.refused ≡ 0) × (s.faults ≡ 0)) }
     {
         Ok(MemSpawner {
@@ -70,9 +71,11 @@ impl Spawner for MemSpawner {
     fn start(&mut self, words: &Texts) -> Result<Child, Failed>
         ensures starts { Starts words.now (spawner_state self.old) (spawner_state self.new) result }
         ensures due { IsDueAtSpawner self.old → IsErr result }
-        ensures only { OnErr result (IsDueAtSpawner self.old ⊎ HasAllChildren self.old ⊎ SpawnerLacksMemory self.old self.new) }
+        ensures only { OnErr result (IsDueAtSpawner self.old ⊎ HasAllChildren self.old
+            ⊎ SpawnerLacksMemory self.old self.new) }
         ensures asked { OnErr result
-            ((self.new.starts ≡ self.old.starts ++ words.now ∷ []) ⊎ SpawnerLacksMemory self.old self.new) }
+            ((self.new.starts ≡ self.old.starts ++ words.now ∷ [])
+            ⊎ SpawnerLacksMemory self.old self.new) }
         ensures counted { CountsAtSpawner self.old self.new }
     {
         raise(&mut self.calls);
@@ -101,7 +104,8 @@ impl Spawner for MemSpawner {
         ensures waits { Waits child (spawner_state self.old) (spawner_state self.new) result }
         ensures due { IsDueAtSpawner self.old → IsErr result }
         ensures past { slice_get self.old.statuses child.0 ≡ None → IsErr result }
-        ensures only { OnErr result (IsDueAtSpawner self.old ⊎ (slice_get self.old.statuses child.0 ≡ None)) }
+        ensures only { OnErr result (IsDueAtSpawner self.old
+            ⊎ (slice_get self.old.statuses child.0 ≡ None)) }
         ensures counted { CountsAtSpawner self.old self.new }
     {
         raise(&mut self.calls);

@@ -13,8 +13,8 @@ use Rattle.network_plan.specs.declared.event.LogEvent.{LogEvent}
 use Rattle.network_plan.specs.declared.event.LogEvent.TheVariants as entry
 use Rattle.network_plan.specs.declared.serve.ServeConfig.{ServeConfig}
 use Rattle.service_api.specs.Services.{Standing}
-use Rattle.node_io.specs.FileMaps.{FileMap, ChangesOnly, WritesMore, WritesFront}
-use Rattle.node_io.specs.Pieces.{AppendsFront}
+use Rattle.node_io.specs.FileMaps.{FileMap, ChangesOnly, WritesMore}
+use Rattle.node_serve.specs.Fronts.{AppendsFront, WritesFront}
 use Rattle.node_io.specs.declared.link.Peer.{Peer}
 use Rattle.node_io.specs.declared.link.Arrival.{Arrival}
 use Rattle.node_io.specs.Links.{Heard, has_peer, next_heard}
@@ -34,7 +34,7 @@ use Rattle.node_serve.specs.declared.steps.Stepped.{Stepped}
 use Rattle.node_serve.specs.declared.steps.Stepped.TheVariants.{Lost, Took}
 use Rattle.node_serve.specs.declared.steps.StepTexts.{StepTexts}
 use Rattle.node_serve.specs.Steps.{was_lost, Written, WrittenFront, in_log, in_trace, sending, SendsTaken}
-use Rattle.node_serve.specs.Standing.{StandsFor, Makes, seen_of}
+use Rattle.node_serve.specs.Standing.{StandsFor, Makes}
 
 pub made_reached : {S : Type 0} (stands : S → Standing) (cfg : ServeConfig) (base seen : Seen) (r : Running) (e : Event) (made : Stepped) (server : Server S) → Makes stands cfg base seen r e made server → Reached (StandsFor stands server) cfg base seen r (make e)
 made_reached stands cfg base seen r e made server m = reached_make (StandsFor stands server) cfg base seen r e (was_lost made) m.stands_for m.shows
@@ -212,10 +212,6 @@ shows_held cfg base seen r s = record { log = s.log; target = s.target; out = s.
 -- what a step gave, by its case
 pub made_as : {S : Type 0} (stands : S → Standing) (cfg : ServeConfig) (base seen : Seen) (r : Running) (e : Event) (made now : Stepped) (server : Server S) → made ≡ now → Makes stands cfg base seen r e made server → Makes stands cfg base seen r e now server
 made_as stands cfg base seen r e made now server same m = subst (λ x. Makes stands cfg base seen r e x server) same m
-
--- the frames sent are as before
-pub sent_as : (cfg : ServeConfig) (base : Seen) (files : FileMap) (target taken : List ℕ) (before now : List Heard) (r : Running) → now ≡ before → Shows cfg base (seen_of files target taken before) r → Shows cfg base (seen_of files target taken now) r
-sent_as cfg base files target taken before now r same h = subst (λ s. Shows cfg base (seen_of files target taken s) r) (sym same) h
 
 -- no frame was queued for the node itself
 pub back_stay : (x : Option PlainFrame) (r : Running) → x ≡ None → (refused : List ℕ) → come_back x refused r ≡ r
