@@ -1,6 +1,5 @@
 pub mod Refusing
 pub mod Taking
 pub mod Rendering
-pub mod Acting
 pub mod ShowLemmas
 pub mod Showing

@@ -26,13 +26,13 @@ refuses_by said r false e h = (e, h)
 pub refuses_told : {A : Type 0} (said : Said A) (r : Refusal) (cause : Cause) → cause ≡ cause_at r → said ≡ outside r → Refuses said cause
 refuses_told said r cause is h = subst (Refuses said) (sym is) (refuses_by said r (holds_memory r) refl h)
 
-line_refuses : {A : Type 0} (fault : LineFault) (cause : Cause) → cause ≡ stop_of fault → Refuses {A = A} (said_by (Err fault)) cause
-line_refuses (faults.Line n reason) cause is = refuses_told (outside (Line n reason)) (Line n reason) cause is refl
-line_refuses {A} faults.NoMemory cause is = subst (Refuses {A = A} nothing) (sym is) tt
+line_refuses : (A : Type 0) (fault : LineFault) (cause : Cause) → cause ≡ stop_of fault → Refuses {A = A} (said_by (Err fault)) cause
+line_refuses A (faults.Line n reason) cause is = refuses_told (outside (Line n reason)) (Line n reason) cause is refl
+line_refuses A faults.NoMemory cause is = subst (Refuses {A = A} nothing) (sym is) tt
 
 -- what a reader of lines answered
 pub lines_refuse : {A : Type 0} (read : Result A LineFault) (fault : LineFault) (cause : Cause) → (fault ≡ faults.NoMemory) ⊎ (read ≡ Err fault) → cause ≡ stop_of fault → Refuses (said_by read) cause
-lines_refuse read fault cause (inr e) is = subst (λ x. Refuses (said_by x) cause) (sym e) (line_refuses fault cause is)
+lines_refuse {A} read fault cause (inr e) is = subst (λ x. Refuses (said_by x) cause) (sym e) (line_refuses A fault cause is)
 lines_refuse read fault cause (inl none) is =
     let wants : cause ≡ NoMemory = is ∙ ap stop_of none in
     subst (Refuses (said_by read)) (sym wants) tt

@@ -1,12 +1,13 @@
 -- The command `show`: what a frame in hex says to it.
-use Rattle.std.specs.Prelude.{ℕ, ◌-◌, ◌==◌, List, length, take, get_or, Result, Ok, Err, if◌then◌else◌}
+use Rattle.std.specs.Prelude.{◌≡◌, ℕ, ◌-◌, ◌==◌, List, length, take, get_or, Some, Result, Ok, Err, if◌then◌else◌}
 use Rattle.hex.specs.Hex.{decode_of}
 use Rattle.hex.specs.declared.error.FromHexError.{FromHexError}
 use Rattle.packet_frame.specs.declared.frame.PlainFrame.{PlainFrame}
 use Rattle.packet_frame.specs.declared.fault.FrameFault.{FrameFault}
+use Rattle.packet_frame.specs.Typed.{Accepts}
 use Rattle.frame_text.specs.Frames.{frame_text}
 use Rattle.frame_text.specs.Decoding.{frame_of}
-use Rattle.node_io.specs.FileMaps.{FileMap}
+use Rattle.node_io.specs.FileMaps.{FileMap, file_at}
 use Rattle.call_causes.specs.declared.status.Refusal.TheVariants.{Frame, BadHex}
 use Rattle.file_commands.specs.Said.{Said, nothing, outside, says, said_in}
 
@@ -41,3 +42,11 @@ frame_said text = decoded_said (bytes_said (decode_of (without_feed text)))
 -- what the file of this name says to `show`
 abbrev pub show_said : List ℕ → FileMap → Said (List ℕ)
 show_said name files = said_in frame_limit frame_said name files
+
+-- the file of this name is the hex of this frame, whose chunk is typed
+pub record HoldsFrame (files : FileMap) (file : List ℕ) (frame : PlainFrame) : Type 0 where
+  pub text : List ℕ
+  pub bytes : List ℕ
+  pub there : file_at files file ≡ Some text
+  pub decoded : decode_of (without_feed text) ≡ Ok bytes
+  pub accepted : Accepts bytes frame

@@ -1,47 +1,42 @@
--- The command `fleet`: how it ends, and what stands of its starts.
-use Rattle.std.specs.Prelude.{ℕ, ◌≡◌, List}
+-- The command `fleet`: what it does with the fleet that its file says, and how it ends.
+use Rattle.std.specs.Prelude.{◌≡◌, ℕ, List, Result, Ok, Err}
 use Rattle.network_plan.specs.declared.fleet.Fleet.{Fleet}
-use Rattle.node_io.specs.Pieces.{AppendsFront}
-use Rattle.node_io.specs.Children.{Words}
-use Rattle.fleet_run.specs.Fleets.{fleet_starts, fleet_text, StartsFront}
+use Rattle.node_files.specs.Fleets.{fleet_of}
+use Rattle.node_io.specs.FileMaps.{FileMap}
+use Rattle.node_io.specs.Sinks.{SinkState}
+use Rattle.node_io.specs.Spawners.{SpawnerState}
+use Rattle.fleet_run.specs.Runs.{RunsFleet}
+use Rattle.fleet_run.specs.declared.fault.FleetFault.{FleetFault}
+use Rattle.fleet_run.specs.declared.fault.FleetFault.TheVariants.{StartFault, WaitFault, WriteFault, NoMemory}
 use Rattle.fleet_run.specs.declared.reports.FleetEnd.{FleetEnd}
 use Rattle.fleet_run.specs.declared.reports.FleetEnd.TheVariants.{Well, Failed}
-use Rattle.planet_cli.specs.declared.status.Cause.{Cause}
-use Rattle.planet_cli.specs.declared.status.Cause.TheVariants.{Done, Usage, Refused, ReadFault, WriteFault, LinkFault, SpawnFault, NoMemory, NodesFailed}
-use Rattle.planet_cli.specs.Said.{Said, nothing, outside, says}
+use Rattle.call_causes.specs.declared.status.Cause.{Cause}
+use Rattle.call_causes.specs.declared.status.Cause.TheVariants as causes
+use Rattle.file_commands.specs.Said.{Said, lines_said}
 
--- a fact of how a fleet ended, where the cause is that of an end: the first child with another status than 0 decides
-abbrev pub IfEnded : Cause → (FleetEnd → Type 0) → Type 0
-IfEnded Done P = P Well
-IfEnded (NodesFailed h s) P = P (Failed h s)
-IfEnded Usage P = Unit {0}
-IfEnded (Refused r) P = Unit {0}
-IfEnded ReadFault P = Unit {0}
-IfEnded WriteFault P = Unit {0}
-IfEnded LinkFault P = Unit {0}
-IfEnded SpawnFault P = Unit {0}
-IfEnded NoMemory P = Unit {0}
+-- what the file of this name says to `fleet`
+abbrev pub fleet_said : List ℕ → FileMap → Said Fleet
+fleet_said name files = lines_said fleet_of name files
 
--- the cause is that of an end
-abbrev pub IsEnded : Cause → Type 0
-IsEnded Done = Unit {0}
-IsEnded (NodesFailed h s) = Unit {0}
-IsEnded Usage = ⊥
-IsEnded (Refused r) = ⊥
-IsEnded ReadFault = ⊥
-IsEnded WriteFault = ⊥
-IsEnded LinkFault = ⊥
-IsEnded SpawnFault = ⊥
-IsEnded NoMemory = ⊥
+-- the cause that tells how a fleet ended
+abbrev pub fleet_cause : Result FleetEnd FleetFault → Cause
+fleet_cause (Ok Well) = causes.Done
+fleet_cause (Ok (Failed host status)) = causes.NodesFailed host status
+fleet_cause (Err StartFault) = causes.SpawnFault
+fleet_cause (Err WaitFault) = causes.SpawnFault
+fleet_cause (Err WriteFault) = causes.WriteFault
+fleet_cause (Err NoMemory) = causes.NoMemory
 
--- a front of the starts of its children was asked, and none where the file says no fleet
-abbrev pub StartsAtMost : Said Fleet → List Words → List Words → Type 0
-StartsAtMost nothing old new = new ≡ old
-StartsAtMost (outside r) old new = new ≡ old
-StartsAtMost (says f) old new = StartsFront old new (fleet_starts f.children)
+-- the children that are started, and the output
+pub record Shop : Type 0 where
+  pub children : SpawnerState
+  pub out : SinkState
 
--- the output is a front of the lines of these statuses, and nothing where the file says no fleet
-abbrev pub LinesAtMost : Said Fleet → List ℕ → List ℕ → List ℕ → Type 0
-LinesAtMost nothing given old new = new ≡ old
-LinesAtMost (outside r) given old new = new ≡ old
-LinesAtMost (says f) given old new = AppendsFront old new (fleet_text f.children given)
+abbrev pub shop : SpawnerState → SinkState → Shop
+shop children out = record { children = children; out = out }
+
+-- a fleet that was read ran so, and this cause tells how it ended
+pub record RunsAs (f : Fleet) (cause : Cause) (old new : Shop) : Type 0 where
+  pub result : Result FleetEnd FleetFault
+  pub is : cause ≡ fleet_cause result
+  pub runs : RunsFleet f.children old.children new.children old.out new.out result

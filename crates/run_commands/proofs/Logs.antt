@@ -1,20 +1,18 @@
--- A file that says a log begins as no schedule, so a replay of it that is done wrote the trace of the log.
-use Rattle.std.proofs.Common.{◌≡◌, ℕ, Bool, true, false, nat_lt, List, [], ◌∷◌, ◌++◌, length, Ok, Err, refl, ap, ◌∙◌, subst}
+-- What a file says to `replay`, by what it says; one that says a log begins as no schedule.
+use Rattle.std.proofs.Common.{◌≡◌, ℕ, Bool, true, false, List, [], ◌∷◌, Ok, Err, refl, ap, ◌∙◌}
 use Rattle.std.specs.Str.{bytes_eq}
 use Rattle.std.proofs.lemmas.Slice.Eq.{bytes_eq-Decides}
 use lib.Chars.{codes}
+use Rattle.network_plan.specs.declared.schedule.Schedule.{Schedule}
 use Rattle.network_plan.specs.declared.node.Log.{Log}
-use Rattle.node_io.specs.FileMaps.{FileMap}
 use Rattle.line_files.specs.declared.fault.LineFault.TheVariants as faults
 use Rattle.line_files.specs.declared.fault.LineReason.TheVariants.{BadHeader}
 use Rattle.line_files.specs.Lines.{lines}
 use Rattle.line_files.specs.Files.{read_on}
 use Rattle.schedule_text.specs.Schedules.{schedule_of, schedule_format, step, nothing_read}
 use Rattle.node_files.specs.Logs.{log_of, log_format, log_step_at, nothing_logged}
-use Rattle.planet_cli.specs.Outcomes.{Outcome, judged, outcome_at, answered, outcome_of, Writes, IsAccepted}
-use Rattle.planet_cli.specs.Schedules.{schedule_limit, schedule_refusal, schedule_output, replayed_by, replayed_of, output_in, as_log, log_trace}
-use Rattle.planet_cli.specs.Replays.{IsLogOf}
-use Rattle.planet_cli.proofs.Headline.{written_text}
+use Rattle.file_commands.specs.Said.{says}
+use Rattle.run_commands.specs.Schedules.{replayed_by, replayed_of, as_log, replay_text, log_trace, run_said, schedule_said}
 
 -- a first line is not that of a schedule and of a log
 other_line : (line : List ℕ) → bytes_eq line (codes "planet log 1") ≡ true → bytes_eq line (codes "planet schedule 1") ≡ false
@@ -36,20 +34,12 @@ log_replayed : (bytes : List ℕ) (l : Log) → log_of bytes ≡ Ok l → replay
 unfolding schedule_of
 log_replayed bytes l says = ap (λ s. replayed_by s bytes) (log_begins (lines bytes) l says)
 
-log_said : (bytes : List ℕ) (l : Log) → log_of bytes ≡ Ok l → schedule_output bytes ≡ log_trace l
-unfolding schedule_output
-log_said bytes l says = ap output_in (log_replayed bytes l says ∙ ap as_log says)
+-- a file that says a log says its trace to `replay`
+pub log_said : (bytes : List ℕ) (l : Log) → log_of bytes ≡ Ok l → schedule_said bytes ≡ says (log_trace l)
+unfolding schedule_said
+log_said bytes l e = ap run_said (log_replayed bytes l e ∙ ap as_log e)
 
-log_outcome : (words : List (List ℕ)) (files : FileMap) (l : Log) (r : IsLogOf words files l) → outcome_of words files ≡ judged schedule_limit schedule_refusal schedule_output r.bytes
-log_outcome words files l r =
-    ap (λ q. answered q files) r.asked ∙ ap (λ o. outcome_at schedule_limit schedule_refusal schedule_output o) r.there
-
--- a replay of a log that is done wrote its trace
-pub log_written : (words : List (List ℕ)) (files : FileMap) (l : Log) → IsLogOf words files l → (old new : List ℕ) → IsAccepted (outcome_of words files)
-    → Writes (outcome_of words files) old new → new ≡ old ++ log_trace l
-log_written words files l r old new h w =
-    let e = log_outcome words files l r in
-    let P : Outcome → Type 0 = λ o. IsAccepted o in
-    let Q : Outcome → Type 0 = λ o. Writes o old new in
-    written_text (nat_lt schedule_limit (length r.bytes)) (schedule_refusal r.bytes) (schedule_output r.bytes) old new (subst P e h) (subst Q e w)
-    ∙ ap (λ text. old ++ text) (log_said r.bytes l r.says)
+-- and one that says a schedule its run
+pub replay_said_is : (bytes : List ℕ) (s : Schedule) → schedule_of bytes ≡ Ok s → schedule_said bytes ≡ says (replay_text s)
+unfolding schedule_said
+replay_said_is bytes s e = ap (λ r. run_said (replayed_by r bytes)) e

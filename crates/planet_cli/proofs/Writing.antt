@@ -1,0 +1,63 @@
+-- A command of one text that is done wrote the text of its file.
+use Rattle.std.proofs.Common.{◌≡◌, ℕ, IsTrue, Bool, true, false, cond, nat_lt, List, length, Option, Some, None, Result, Ok, Err, refl, sym, ap, ◌∙◌, subst}
+use Rattle.plan_base.specs.declared.tree.Program.{Program}
+use Rattle.program_text.specs.Texts.{program_of}
+use Rattle.network_plan.specs.declared.schedule.Schedule.{Schedule}
+use Rattle.network_plan.specs.declared.node.Log.{Log}
+use Rattle.schedule_text.specs.Schedules.{schedule_of}
+use Rattle.node_files.specs.Logs.{log_of}
+use Rattle.node_io.specs.FileMaps.{FileMap, file_at}
+use Rattle.node_io.specs.FileStates.{FilesState}
+use Rattle.node_io.specs.Outsides.{Outside}
+use Rattle.node_io.specs.Sinks.{SinkState, Writes}
+use Rattle.call_causes.specs.declared.status.Cause.{Cause}
+use Rattle.call_causes.specs.declared.status.Cause.TheVariants.{Done}
+use Rattle.call_causes.specs.declared.status.Refusal.{Refusal}
+use Rattle.call_causes.specs.declared.status.Refusal.TheVariants.{TooLong}
+use Rattle.file_commands.specs.Said.{Said, outside, says, said_at, said_in}
+use Rattle.file_commands.specs.Checks.{program_limit, program_said, check_said, sizes_text, sizes_of}
+use Rattle.run_commands.specs.Schedules.{schedule_limit, schedule_said, replay_said, replay_text, log_trace}
+use Rattle.run_commands.proofs.Logs.{replay_said_is, log_said}
+use Rattle.planet_cli.specs.Requests.{Request, replay, check}
+use Rattle.planet_cli.specs.Calls.{Calls}
+use Rattle.planet_cli.specs.Outcomes.{Outcome, whole, outcome_by, outcome_of, IsAccepted, WritesOut}
+use Rattle.planet_cli.proofs.Giving.{is_accepted, is_written}
+
+-- what a file says that isn't too long
+unlimited : (long : Bool) (said : Said (List ℕ)) (text : List ℕ) (a b : SinkState) → said ≡ says text → IsAccepted (outcome_by whole (cond long (outside TooLong) said))
+    → WritesOut (outcome_by whole (cond long (outside TooLong) said)) a b → Writes a b text
+unlimited true said text a b e h w = elim h [ ]
+unlimited false said text a b e h w = subst (λ s. WritesOut (outcome_by whole s) a b) e w
+
+at_file : (limit : ℕ) (read : List ℕ → Said (List ℕ)) (file : Option (List ℕ)) (bytes text : List ℕ) (a b : SinkState) → file ≡ Some bytes → read bytes ≡ says text
+    → IsAccepted (outcome_by whole (said_at limit read file)) → WritesOut (outcome_by whole (said_at limit read file)) a b → Writes a b text
+at_file limit read file bytes text a b there e h w =
+    unlimited (nat_lt limit (length bytes)) (read bytes) text a b e
+    (subst (λ f. IsAccepted (outcome_by whole (said_at limit read f))) there h)
+    (subst (λ f. WritesOut (outcome_by whole (said_at limit read f)) a b) there w)
+
+module _ (file bytes : List ℕ) where
+  -- a replay of a schedule
+  pub schedule_written : (s : Schedule) (cause : Cause) (old new : Outside) (n m : SinkState) → Calls (Some (replay file)) cause old new n m → IsTrue old.files.observable
+      → file_at old.files.held file ≡ Some bytes → schedule_of bytes ≡ Ok s → cause ≡ Done → Writes old.out new.out (replay_text s)
+  schedule_written s cause old new n m call seen there e done =
+      at_file schedule_limit schedule_said (file_at old.files.held file) bytes (replay_text s) old.out new.out there (replay_said_is bytes s e)
+      (is_accepted (Some (replay file)) cause old new n m call seen done) (is_written (Some (replay file)) cause old new n m call seen done)
+
+  -- of a log
+  pub log_written : (l : Log) (cause : Cause) (old new : Outside) (n m : SinkState) → Calls (Some (replay file)) cause old new n m → IsTrue old.files.observable
+      → file_at old.files.held file ≡ Some bytes → log_of bytes ≡ Ok l → cause ≡ Done → Writes old.out new.out (log_trace l)
+  log_written l cause old new n m call seen there e done =
+      at_file schedule_limit schedule_said (file_at old.files.held file) bytes (log_trace l) old.out new.out there (log_said bytes l e)
+      (is_accepted (Some (replay file)) cause old new n m call seen done) (is_written (Some (replay file)) cause old new n m call seen done)
+
+  sizes_said : (p : Program) → program_of bytes ≡ Ok p → program_said bytes ≡ says (sizes_text p)
+  unfolding program_said
+  sizes_said p e = ap sizes_of e
+
+  -- a check of a program
+  pub check_written : (p : Program) (cause : Cause) (old new : Outside) (n m : SinkState) → Calls (Some (check file)) cause old new n m → IsTrue old.files.observable
+      → file_at old.files.held file ≡ Some bytes → program_of bytes ≡ Ok p → cause ≡ Done → Writes old.out new.out (sizes_text p)
+  check_written p cause old new n m call seen there e done =
+      at_file program_limit program_said (file_at old.files.held file) bytes (sizes_text p) old.out new.out there (sizes_said p e)
+      (is_accepted (Some (check file)) cause old new n m call seen done) (is_written (Some (check file)) cause old new n m call seen done)
