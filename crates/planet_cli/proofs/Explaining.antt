@@ -20,7 +20,7 @@ use Rattle.node_serve.specs.Desks.{Serving, desk_of}
 use Rattle.node_serve.specs.Serves.{Serves}
 use Rattle.node_serve.specs.declared.fault.ServeFault.{ServeFault}
 use Rattle.node_serve.specs.declared.fault.ServeFault.TheVariants as serves
-use Rattle.call_causes.specs.Causes.{Explains}
+use Rattle.call_causes.specs.Causes.{WriteRose, Explains}
 use Rattle.call_causes.specs.declared.status.Cause.{Cause}
 use Rattle.call_causes.specs.declared.status.Cause.TheVariants.{Done, Usage, Refused, ReadFault, WriteFault, LinkFault, SpawnFault, NoMemory, NodesFailed}
 use Rattle.file_commands.specs.Said.{Said}
@@ -131,3 +131,17 @@ module _ (old new : Outside) (n m : SinkState) where
   -- and of a call
   pub call_explains : (q : Option Request) (cause : Cause) → Calls q cause old new n m → Explains cause old new n m
   call_explains q cause call = by_notes call.found cause call.notes (explains q call.found call.does)
+
+-- fault by fault
+module _ (q : Option Request) (old new : Outside) (n m : SinkState) where
+  pub read_rose : Calls q ReadFault old new n m → Rose old.files.read_faults new.files.read_faults
+  read_rose call = call_explains old new n m q ReadFault call
+
+  pub write_rose : Calls q WriteFault old new n m → WriteRose old new n m
+  write_rose call = call_explains old new n m q WriteFault call
+
+  pub link_rose : Calls q LinkFault old new n m → Rose old.link.faults new.link.faults
+  link_rose call = call_explains old new n m q LinkFault call
+
+  pub spawn_rose : Calls q SpawnFault old new n m → Rose old.children.faults new.children.faults
+  spawn_rose call = call_explains old new n m q SpawnFault call

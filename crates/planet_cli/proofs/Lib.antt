@@ -9,6 +9,7 @@ pub mod Frames
 pub mod Writing
 pub mod Headline
 pub mod Keeping
+pub mod NodeKeeping
 pub mod Showing
 pub mod Asking
 pub mod Fleets

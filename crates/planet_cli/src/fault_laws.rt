@@ -12,36 +12,36 @@ ghost use Rattle.planet_cli.specs.Laws.{UnlessLinked, UnlessFleet, IfNodesFailed
 use call_causes::Cause;
 
 /// A fault of reading comes only where the count of the files rose.
-#[tactic(auto, using(crate::proofs::Explaining::call_explains))]
+#[tactic(auto, using(crate::proofs::Explaining::read_rose))]
 pub fn read_fault()
-    ensures { (old new : Outside) (n m : SinkState) (q : Option Request)
+    ensures { (q : Option Request) (old new : Outside) (n m : SinkState)
         → Calls q Cause.ReadFault old new n m
         → Rose old.files.read_faults new.files.read_faults }
 {
 }
 
 /// A fault of writing comes only where the count of the output, of the files or of the notes rose.
-#[tactic(auto, using(crate::proofs::Explaining::call_explains))]
+#[tactic(auto, using(crate::proofs::Explaining::write_rose))]
 pub fn write_fault()
-    ensures { (old new : Outside) (n m : SinkState) (q : Option Request)
+    ensures { (q : Option Request) (old new : Outside) (n m : SinkState)
         → Calls q Cause.WriteFault old new n m
         → WriteRose old new n m }
 {
 }
 
 /// A fault of the link comes only where its count rose.
-#[tactic(auto, using(crate::proofs::Explaining::call_explains))]
+#[tactic(auto, using(crate::proofs::Explaining::link_rose))]
 pub fn link_fault()
-    ensures { (old new : Outside) (n m : SinkState) (q : Option Request)
+    ensures { (q : Option Request) (old new : Outside) (n m : SinkState)
         → Calls q Cause.LinkFault old new n m
         → Rose old.link.faults new.link.faults }
 {
 }
 
 /// A fault of children comes only where their count rose.
-#[tactic(auto, using(crate::proofs::Explaining::call_explains))]
+#[tactic(auto, using(crate::proofs::Explaining::spawn_rose))]
 pub fn spawn_fault()
-    ensures { (old new : Outside) (n m : SinkState) (q : Option Request)
+    ensures { (q : Option Request) (old new : Outside) (n m : SinkState)
         → Calls q Cause.SpawnFault old new n m
         → Rose old.children.faults new.children.faults }
 {

@@ -9,7 +9,9 @@ ghost use Rattle.net_world.specs.Keeping.{KeepsRun};
 ghost use Rattle.call_causes.specs.Causes.{code_of, Explains};
 ghost use Rattle.planet_cli.specs.Requests.{request_of};
 ghost use Rattle.planet_cli.specs.Calls.{Calls};
-ghost use Rattle.planet_cli.specs.Replays.{Replays};
+ghost use Rattle.run_commands.specs.Schedules.{log_node};
+ghost use Rattle.run_commands.specs.Keeping.{KeepsNodeRun};
+ghost use Rattle.planet_cli.specs.Replays.{Replays, ReplaysLog};
 
 use crate::by_words::run;
 use call_causes::{Cause, Status, settle};
@@ -35,7 +37,7 @@ fn exit_code(cause: &Cause) -> u8
 
 /// Does what the words after the program's name ask for, over these files, this output, these notes,
 /// link, clock and children. Each cause but `Done` writes one line to the notes.
-#[tactic(auto, using(crate::proofs::Headline::replay_writes, crate::proofs::Keeping::replay_keeps, crate::proofs::Explaining::call_explains))]
+#[tactic(auto, using(crate::proofs::Headline::replay_writes, crate::proofs::Keeping::replay_keeps, crate::proofs::NodeKeeping::log_keeps, crate::proofs::Explaining::call_explains))]
 pub fn planet<F: Files, K: Sink, N: Sink, L: Link, C: Clock, P: Spawner>(
     alloc: Global,
     words: &Texts,
@@ -53,6 +55,8 @@ pub fn planet<F: Files, K: Sink, N: Sink, L: Link, C: Clock, P: Spawner>(
         → Writes (K.state out.old) (K.state out.new) (run_text s.frames s.events (opening s.topology)) }
     // .. whose counts are in balance after every event, and whose visits are never without a case.
     ensures keeps { (s : Schedule) → Replays words.now (F.state files.old) s → KeepsRun s }
+    // The same of a log: the node whose steps it has keeps its limits, and each step is in balance.
+    ensures log_keeps { (l : Log) → ReplaysLog words.now (F.state files.old) l → KeepsNodeRun (log_node l) l.events }
     // What the words ask for was done, and the notes tell how it ended.
     ensures does { Calls (request_of words.now) result.cause
         (outside (F.state files.old) (K.state out.old) (L.state link.old) (C.state clock.old) (P.state spawn.old))
