@@ -51,7 +51,6 @@ fn decoded(alloc: Global, text: &[u8]) -> Result<Bytes, Cause>
 }
 
 // The frame that the bytes spell.
-#[tactic(auto, using(frame_text::proofs::OneAnswer::accepts_is, crate::proofs::ShowLemmas::frame_refused))]
 fn framed(alloc: Global, bytes: &[u8]) -> Result<Frame, Cause>
     requires { IsBytes bytes.now }
     ensures { MatchResult result (λ x. frame_of bytes.now ≡ Ok (plain_of x)) (λ why. Refuses (framed_said (frame_of bytes.now)) why) }
