@@ -30,7 +30,7 @@ fn event_lines<S: Services>(
     requires { KeepsNodeEvent event.now }
     ensures text { (s : NodeState) → NodeStands S.stands node.old s
         → IfOk result
-            (λ text. text ≡ lines_text here (entries_at number (node_step s event.now).acts)) }
+        (λ text. text ≡ lines_text here (entries_at number (node_step s event.now).acts)) }
     ensures after { (s : NodeState) → NodeStands S.stands node.old s
         → OnOk result (NodeStands S.stands node.new (node_step s event.now).node) }
 {

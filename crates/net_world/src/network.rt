@@ -110,7 +110,7 @@ impl<S: Services> Network<S> {
         requires { IsBytes bytes.now }
         ensures ok { (w : WorldState) → WorldStands S.stands self.old w
             → IfOk result
-                (λ lines. IsHappened S.stands (spec.raws w host dev bytes.now) lines self.new) }
+            (λ lines. IsHappened S.stands (spec.raws w host dev bytes.now) lines self.new) }
         ensures next { self.new.next ≡ self.old.next }
         ensures made { self.new.made ≡ self.old.made }
     {

@@ -111,7 +111,7 @@ pub fn take_at<S: Services>(
     requires { at < length nodes.old }
     ensures step { (states : List NodeState) → AllStand S.stands nodes.old states
         → IfOk result
-            (λ acts. StepsAt S.stands (λ node. take_step node dev) states at acts nodes.new) }
+        (λ acts. StepsAt S.stands (λ node. take_step node dev) states at acts nodes.new) }
     ensures same { (states : List NodeState) → AllStand S.stands nodes.old states
         → IfOk result (λ acts. acts.frame ≡ None → AllStand S.stands nodes.new states) }
 {

@@ -18,8 +18,7 @@ pub returns-clause-counts : goal.returns-clause-counts
 returns-clause-counts g c = λ w old h s t.
     let lines = (c.in_ok-lines.ensures.ok w h).list in
     let counted = entries_are w c.args.event.now _ (c.args.self.now.world.made + 1) c.args.self.now.world.made refl h.made (c.as_slice.ensures ∙ lines) in
-    let summed = entries_are w c.args.event.now _ (c.args.self.now.world.made + 1) c.args.self.now.world.made refl h.made (c.as_slice-2.ensures ∙ lines) in
-    (
+    let summed = entries_are w c.args.event.now _ (c.args.self.now.world.made + 1) c.args.self.now.world.made refl h.made (c.as_slice-2.ensures ∙ lines) in (
       subst (λ x. Stands (old ++ x) c.count_lines.new.ledger) counted (c.in_ok-count_lines.ensures old (c.args.self.now.world.made + 1) s),
-      c.count.ensures old (c.args.self.now.world.made + 1) t ∙ ap (λ x. summary_of (old ++ x)) summed
+      c.count.ensures old (c.args.self.now.world.made + 1) t ∙ ap (λ x. summary_of (old ++ x)) summed,
     )
