@@ -5,7 +5,7 @@ pub mod Joining
 pub mod Taking
 pub mod Turning
 pub mod Ending
-pub mod Opening
+pub mod Starting
 pub mod PeerLaws
 pub mod FrameSizes
 pub mod LogNames

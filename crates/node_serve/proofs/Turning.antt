@@ -1,5 +1,5 @@
 -- Turns: what is heard in them, and how they follow one another.
-use Rattle.std.proofs.Common.{◌≡◌, ℕ, ◌+◌, ◌<◌, ◌≤◌, ◌⊎◌, inl, inr, IsTrue, List, Option, Some, None, Result, Ok, Err, drop, refl, sym, ap, subst, ◌∙◌, arith}
+use Rattle.std.proofs.Common.{◌≡◌, ℕ, ◌+◌, ◌<◌, ◌≤◌, ◌⊎◌, inl, inr, false, IsTrue, List, Option, Some, None, Result, Ok, Err, drop, refl, sym, ap, subst, ◌∙◌, arith}
 use Rattle.network_plan.specs.declared.serve.ServeConfig.{ServeConfig}
 use Rattle.service_api.specs.Services.{Standing}
 use Rattle.node_io.specs.Causes.{Rose}
@@ -88,7 +88,7 @@ module _ {S T : Type 0} (stands : S → Standing) (cfg : ServeConfig) (i : ℕ) 
     (x : T) (g : GoesTurns {T = T} stands cfg i first mid a b (Ok x)) (u : GoesTurn stands cfg (i + 1) mid last b c result)
     (last_is : IsTrue a.clock.observable → b.clock.last ≡ time_at a.clock.last a.clock.answers i) where
   -- the turn by what a node was handed at first
-  the_turn : Action
+  abbrev the_turn : Action
   the_turn = turn cfg (i + 1) (time_at a.clock.last a.clock.answers (i + 1)) (next_heard (peers_of cfg) (drop i a.link.script))
 
   time_is : IsTrue a.clock.observable → u.time ≡ time_at a.clock.last a.clock.answers (i + 1)

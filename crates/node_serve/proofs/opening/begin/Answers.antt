@@ -1,5 +1,5 @@
 use Rattle.std.proofs.Common.{refl}
-use Rattle.node_serve.proofs.Opening.{opens_unbound, opens_unlogged, opens_untraced, opens_all}
+use Rattle.node_serve.proofs.Starting.{opens_unbound, opens_unlogged, opens_untraced, opens_all}
 use Rattle.node_serve.proofs.opening.begin.Goals as goal
 
 pub returns-in-Err : goal.returns-in-Err

@@ -1,6 +1,6 @@
 use Rattle.node_model.specs.State.{new_node}
 use Rattle.node_serve.specs.Desks.{desk, serving}
-use Rattle.node_serve.proofs.Opening.{serves_none, serves_unopened, serves_opened}
+use Rattle.node_serve.proofs.Starting.{serves_none, serves_unopened, serves_opened}
 use Rattle.node_serve.proofs.serving.serve.Goals as goal
 
 pub returns-in_default : goal.returns-in_default

@@ -1,5 +1,5 @@
 use Rattle.node_serve.specs.Desks.{serving}
-use Rattle.node_serve.proofs.Opening.{finish_stops, finish_cut, finish_whole}
+use Rattle.node_serve.proofs.Starting.{finish_stops, finish_cut, finish_whole}
 use Rattle.node_serve.proofs.server.Server.finish.Goals as goal
 
 pub returns-in-Err : goal.returns-in-Err

@@ -1,18 +1,18 @@
 use Rattle.std.proofs.Common.{◌≡◌, Some, None, take, subst, inl}
 use Rattle.serve_model.specs.Runs.{peers_of}
-use Rattle.node_io.specs.Links.{HasPeer, next_heard}
+use Rattle.node_io.specs.Links.{Heard, HasPeer, next_heard}
 use Rattle.node_serve.proofs.PeerLaws.{peer_small}
 use Rattle.node_serve.proofs.Turning.{hears_frame, hears_nothing, hears_fail, used_one}
 use Rattle.node_serve.proofs.server.Server.hear.Goals as goal
 
 pub returns-in-Frame-clause-goes : goal.returns-in-Frame-clause-goes
 returns-in-Frame-clause-goes g c =
-    let x = (c.in-Frame.dev, take c.in-Frame.count c.recv.new.buf) in
+    let x : Heard = (c.in-Frame.dev, take c.in-Frame.count c.recv.new.buf) in
     hears_frame g.S.Services.stands c.args.cfg.now (next_heard (peers_of c.args.cfg.now) (g.L.Link.state c.args.link.now).script) c.args.self.now (g.F.Files.state c.args.files.now) (g.K.Sink.state c.args.out.now) (g.L.Link.state c.args.link.now) (g.L.Link.state c.recv.new.self) _ _ c.in-Frame.ensures.hears
     x c.arrive.new.self _ _ c.arrive.result (λ seen. subst (λ ps. next_heard ps (g.L.Link.state c.args.link.now).script ≡ Some x) c.requires.bound (c.in-Frame.ensures.hears.did seen).0) (c.arrive.ensures (g.L.Link.state c.recv.new.self))
 
 pub returns-in-Frame-clause-script : goal.returns-in-Frame-clause-script
-returns-in-Frame-clause-script g c = λ seen. used_one c.arrive.result _ _ (c.in-Frame.ensures.hears.did seen).1
+returns-in-Frame-clause-script g c = λ seen. used_one c.arrive.result (g.L.Link.state c.args.link.now).script (g.L.Link.state c.recv.new.self).script (c.in-Frame.ensures.hears.did seen).1
 
 pub returns-in-Nothing-clause-goes : goal.returns-in-Nothing-clause-goes
 returns-in-Nothing-clause-goes g c =

@@ -36,7 +36,7 @@ returns-clause-goes g c =
       told = c.now-now.ensures.tells;
       goes = goes_then g.S.Services.stands c.args.cfg.now (begin_turn c.args.cfg.now c.args.number c.now-now.result) (then_do (hear h) (end_turn (peers_of c.args.cfg.now))) c.args.self.now c.begin_turn.new.self c.end_turn.new.self _ _ _ tt c.end_turn.result (c.in_default.ensures (g.L.Link.state c.args.link.now))
           (goes_then g.S.Services.stands c.args.cfg.now (hear h) (end_turn (peers_of c.args.cfg.now)) c.begin_turn.new.self c.hear.new.self c.end_turn.new.self _ _ _ tt c.end_turn.result c.in_default-hear.ensures.goes c.end_turn.ensures.goes);
-      script = λ seen. used_one c.end_turn.result _ _ (c.end_turn.ensures.script ∙ c.in_default-hear.ensures.script seen);
+      script = λ seen. used_one c.end_turn.result (g.L.Link.state c.args.link.now).script (g.L.Link.state c.end_turn.new.link).script (c.end_turn.ensures.script ∙ c.in_default-hear.ensures.script seen);
     }
 
 pub hear-requires-clause-writing : goal.hear-requires-clause-writing

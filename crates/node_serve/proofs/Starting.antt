@@ -36,8 +36,8 @@ pub log_unmade : {T E : Type 0} (cfg : ServeConfig) (name : List ℕ) (old new :
 log_unmade cfg name old new e named w = record {
   only = w.only;
   made = (subst (MayName old.made new.made) named w.made, λ seen. tt);
-  others = others_same cfg.log old new w.begun.1.0;
-  did = (w.begun.1.1, λ seen. untouched w.begun.1.0);
+  others = others_same cfg.log old new w.begun.1;
+  did = (w.begun.2, λ seen. untouched w.begun.1);
 }
 
 module _ {T E : Type 0} (cfg : ServeConfig) (name : List ℕ) (old mid new : FilesState) (x : T) (named : name ≡ cfg.log) (w : BeginsWriting {T = T} {E = E} name old mid (Ok x)) where
@@ -80,13 +80,13 @@ module _ (cfg : ServeConfig) (fs : FilesState) (o : SinkState) (l l2 : LinkState
   pub opens_unbound : (fault : ServeFault) → BindsNode {T = Unit {0}} cfg l l2 (Err fault) → Opens {T = Unit {0}} cfg (desk fs o l) (desk fs o l2) (Err fault)
   opens_unbound LinkFault b = record {
     only = only_link b.observable b.later;
-    faults = b.did.1.1;
+    faults = b.did.2;
     made = (inl refl, λ seen. tt);
     others = others_same cfg.log fs fs refl;
-    binds = λ seen. b.did.1.0;
+    binds = λ seen. b.did.1;
     unbound = λ none. (refl, refl);
     ready = tt;
-    begun = λ seen. early_log cfg (desk fs o l) (desk fs o l2) (untouched refl) refl b.sent b.did.1.0 b.script;
+    begun = λ seen. early_log cfg (desk fs o l) (desk fs o l2) (untouched refl) refl b.sent b.did.1 b.script;
   }
   opens_unbound WriteFault b = absurd b.did
   opens_unbound NoMemory b = record {
@@ -230,9 +230,9 @@ serves_unopened cfg node n a b clock fault u = record {
   runs = λ seen told. ended_early cfg a b clock node n (u.begun seen);
 }
 
-made_then : {T E U V : Type 0} (cfg : ServeConfig) (a b c : FilesState) (x : T) (result : Result U V) → MakesLog {T = T} {E = E} cfg a b (Ok x) → c.made ≡ b.made → MakesLog cfg a c result
-made_then cfg a b c x (Ok y) m same = (subst (λ l. MayName a.made l cfg.log) (sym same) m.0, λ seen. same ∙ m.1 seen)
-made_then cfg a b c x (Err e) m same = (subst (λ l. MayName a.made l cfg.log) (sym same) m.0, λ seen. tt)
+made_then : {U V : Type 0} (cfg : ServeConfig) (a b c : FilesState) (result : Result U V) → MakesLog {T = Unit {0}} {E = ServeFault} cfg a b (Ok tt) → c.made ≡ b.made → MakesLog cfg a c result
+made_then cfg a b c (Ok y) m same = (subst (λ l. MayName a.made l cfg.log) (sym same) m.0, λ seen. same ∙ m.1 seen)
+made_then cfg a b c (Err e) m same = (subst (λ l. MayName a.made l cfg.log) (sym same) m.0, λ seen. tt)
 
 bound_then : {T E : Type 0} (cfg : ServeConfig) (a b c : LinkState) (result : Result T E) → (IsTrue a.observable → IsBound cfg a b) → c.binds ≡ b.binds → MayBindNode cfg a c result
 bound_then cfg a b c (Ok y) h same = λ seen. same ∙ h seen
@@ -246,7 +246,7 @@ serves_opened stands cfg node n server a b clock c result st u f = record {
   out_later = omega (arith, u.only.out_later, f.keeps.only.out_later);
   link_later = omega (arith, u.only.link_later, f.keeps.only.link_later);
   faults = faults_from a b (desk_of c) result u.only f.faults;
-  made = made_then cfg a.files b.files c.files tt result u.made f.keeps.made;
+  made = made_then cfg a.files b.files c.files result u.made f.keeps.made;
   others = λ seen other differs.
       let on = subst IsTrue (sym u.only.files.observable) seen in
       f.keeps.others on other (λ same. differs (same ∙ u.ready.target on)) ∙ u.others seen other differs;
