@@ -57,7 +57,7 @@ fn value_with_tag(
             let ty = type_of(alloc, s, 7)?;
             let count = s.short()?;
             let items = values_of(alloc, s, nest, room - 1, count)?;
-            Ok(Value::List(ty, items))
+            Ok(Value::List(Boxed::new(alloc, ty)?, items))
         }
         ValueTag::Tuple => {
             let count = s.count(Limit::Parts, 2, 8)?;

@@ -1,21 +1,20 @@
 -- What the shape and the soundness of a value are, by its outermost level.
-use Rattle.std.proofs.Common.{◌≡◌, ℕ, ◌+◌, ◌==◌, min, Bool, true, false, not, ◌&&◌, if◌then◌else◌, refl, ap, sym, ◌∙◌, List, [], ◌∷◌, length, Option, Some, None}
+use Rattle.std.proofs.Common.{◌≡◌, ℕ, ◌+◌, ◌==◌, min, Bool, true, not, ◌&&◌, if◌then◌else◌, refl, ap, sym, ◌∙◌, List, [], ◌∷◌, length, Option, Some, None}
 use Rattle.std.specs.Prelude.{map, is_some, is_ok, IsTrue, Result, Ok, Err}
-use Rattle.std.specs.List.{list_all}
 use Rattle.std.proofs.lemmas.List.{length-map}
 use Rattle.small_laws.proofs.Lists.{list_all-map}
 use Rattle.plan_base.specs.declared.tree.Ty.{Ty, Ty-F, out-Ty}
 use Rattle.plan_base.specs.declared.tree.Fun.{Fun}
 use Rattle.plan_base.specs.declared.tree.Program.{Program}
 use Rattle.plan_base.specs.declared.type_fault.TypeFault.{TypeFault}
-use Rattle.plan_base.specs.declared.tree.Value.{Value, Value-F, out-Value, roll-out-Value, map-Value, fold-Value, fold_out-Value, para-roll-Value}
+use Rattle.plan_base.specs.declared.tree.Value.{Value, Value-F, out-Value, roll-out-Value, map-Value, fold_out-Value, para-roll-Value}
 use Rattle.plan_base.specs.declared.tree.Chunk.{Chunk, out-Chunk, roll-out-Chunk, fold-Chunk, para-Chunk, para-roll-Chunk}
 use Rattle.plan_base.specs.Trees.{TyLayer, ValueLayer}
 use Rattle.plan_base.specs.TypingNames.{param_types}
 use Rattle.plan_base.specs.TypingOrder.{same_type, fun_of, annotated}
 use Rattle.chunk_types.specs.declared.fault.Ill.{Ill}
-use Rattle.chunk_types.specs.declared.fault.Ill.TheVariants.{Code, Entry, Count, Argument}
-use Rattle.chunk_types.specs.Chunks.{fit_all, fits_layer, fits, ill_from, ill_with, ill_call, ill_code, ill_level, sound_level, paired_right, sound, right, illness}
+use Rattle.chunk_types.specs.declared.fault.Ill.TheVariants.{Count, Argument}
+use Rattle.chunk_types.specs.Chunks.{fit_all, fits_layer, fits, ill_from, ill_with, ill_call, ill_code, ill_level, sound_level, paired_right, is_small_chunk, sound, right, illness, is_right_chunk}
 
 fit_all-map : (f : Value → Ty → Bool) (vs : List Value) (ts : List Ty) → fit_all (λ g. g) (map f vs) ts ≡ fit_all f vs ts
 fit_all-map f [] [] = refl
@@ -46,26 +45,26 @@ ill_with-map : (vs : List Value) (o : Option Fun) → ill_with paired_right (map
 ill_with-map vs None = refl
 ill_with-map vs (Some d) = λ i. if length-map vs (paired sound) i == length d.params then ill_from-map 0 vs (param_types d.params) i else Some Count
 
-pub sound_chunk : (c : Chunk) → para-Chunk Bool Bool (sound_level (λ v. v.1) (λ c. c.1)) (λ c. not (is_some (ill_level paired_right c))) c ≡ not (is_some (illness c))
+pub sound_chunk : (c : Chunk) → para-Chunk Bool Bool (sound_level (λ v. v.1) (λ c. is_small_chunk c.0 && c.1)) (λ c. not (is_some (ill_level paired_right c))) c ≡ not (is_some (illness c))
 unfolding sound illness
 sound_chunk c =
-    ap (para-Chunk Bool Bool (sound_level (λ v. v.1) (λ c. c.1)) (λ c. not (is_some (ill_level paired_right c)))) (sym (roll-out-Chunk c))
-    ∙ para-roll-Chunk Bool Bool (sound_level (λ v. v.1) (λ c. c.1)) (λ c. not (is_some (ill_level paired_right c))) (out-Chunk c)
+    ap (para-Chunk Bool Bool (sound_level (λ v. v.1) (λ c. is_small_chunk c.0 && c.1)) (λ c. not (is_some (ill_level paired_right c)))) (sym (roll-out-Chunk c))
+    ∙ para-roll-Chunk Bool Bool (sound_level (λ v. v.1) (λ c. is_small_chunk c.0 && c.1)) (λ c. not (is_some (ill_level paired_right c))) (out-Chunk c)
     ∙ ap (λ o. not (is_some (ill_code (annotated c.code) o))) (ill_with-map c.args (fun_of c.code c.entry))
 
 sound_step : (f : Value → Bool) (g h : Chunk → Bool) → ((c : Chunk) → g c ≡ h c) → (x : ValueLayer)
-    → sound_level (λ v. v.1) (λ c. c.1) (map-Value Value Chunk (Value × Bool) (Chunk × Bool) (λ v. (v, f v)) (λ c. (c, g c)) x) ≡ sound_level f h x
-sound_step f g h e (Value-F.Chunk c) = e c
+    → sound_level (λ v. v.1) (λ c. is_small_chunk c.0 && c.1) (map-Value Value Chunk (Value × Bool) (Chunk × Bool) (λ v. (v, f v)) (λ c. (c, g c)) x) ≡ sound_level f (λ c. is_small_chunk c && h c) x
+sound_step f g h e (Value-F.Chunk c) = ap (λ b. is_small_chunk c && b) (e c)
 sound_step f g h e (Value-F.List t vs) = list_all-map (λ v. v.1) (paired f) vs
 sound_step f g h e (Value-F.Tuple vs) = list_all-map (λ v. v.1) (paired f) vs
 sound_step f g h e _ = refl
 
-pub sound_out : (v : Value) → sound v ≡ sound_level sound (λ c. not (is_some (illness c))) (out-Value v)
+pub sound_out : (v : Value) → sound v ≡ sound_level sound is_right_chunk (out-Value v)
 unfolding sound
 sound_out v =
     ap sound (sym (roll-out-Value v))
-    ∙ para-roll-Value Bool Bool (sound_level (λ v. v.1) (λ c. c.1)) (λ c. not (is_some (ill_level paired_right c))) (out-Value v)
-    ∙ sound_step sound (para-Chunk Bool Bool (sound_level (λ v. v.1) (λ c. c.1)) (λ c. not (is_some (ill_level paired_right c)))) (λ c. not (is_some (illness c))) sound_chunk (out-Value v)
+    ∙ para-roll-Value Bool Bool (sound_level (λ v. v.1) (λ c. is_small_chunk c.0 && c.1)) (λ c. not (is_some (ill_level paired_right c))) (out-Value v)
+    ∙ sound_step sound (para-Chunk Bool Bool (sound_level (λ v. v.1) (λ c. is_small_chunk c.0 && c.1)) (λ c. not (is_some (ill_level paired_right c)))) (λ c. not (is_some (illness c))) sound_chunk (out-Value v)
 
 pub illness_is : (c : Chunk) → illness c ≡ ill_code (annotated c.code) (ill_call right c.code c.entry c.args)
 unfolding illness

@@ -1,11 +1,9 @@
 -- What one more item does to what a loop still has to read.
-use Rattle.std.proofs.Common.{◌≡◌, ◌≢◌, ℕ, zero, suc, ◌+◌, ◌<◌, ◌∙◌, sym, ap, refl, min, Bool, true, false, ◌&&◌, if◌then◌else◌, List, [], ◌∷◌, length, drop, get_or, Option, Some, None, arith, drop-cons}
-use Rattle.std.specs.List.{list_all}
+use Rattle.std.proofs.Common.{◌≡◌, ◌≢◌, ℕ, zero, suc, ◌+◌, ◌<◌, ◌∙◌, ap, refl, min, Bool, true, false, ◌&&◌, if◌then◌else◌, List, [], ◌∷◌, length, drop, get_or, Some, arith}
 use Rattle.plan_base.specs.declared.tree.Ty.{Ty}
 use Rattle.plan_base.specs.declared.tree.Value.{Value}
 use Rattle.plan_base.specs.declared.tree.Param.{Param}
 use Rattle.plan_base.specs.TypingNames.{param_types}
-use Rattle.chunk_types.specs.declared.fault.Ill.{Ill}
 use Rattle.chunk_types.specs.declared.fault.Ill.TheVariants.{Argument}
 use Rattle.chunk_types.specs.Chunks.{fit_all, fits, ill_from, right}
 

@@ -1,7 +1,7 @@
--- A value within the limits has a type exactly where its shape has it and each chunk inside it is typed.
+-- A value has a type exactly where its shape has it and each chunk inside it is typed.
 use Rattle.std.proofs.Common.{◌≡◌, ℕ, zero, suc, ◌+◌, ◌==◌, ◌≤◌, ◌∙◌, sym, ap, refl, subst, min, max, Bool, true, false, not, ◌&&◌, if◌then◌else◌, List, [], ◌∷◌, length, Option, Some, None, slice_get, arith}
-use Rattle.std.specs.Prelude.{Result, Ok, Err, map, nat_le, is_some, option_and_then, IsTrue, ◌↔◌}
-use Rattle.std.specs.List.{fold, sum_by, list_all}
+use Rattle.std.specs.Prelude.{Result, Ok, Err, nat_le, is_some, option_and_then, IsTrue, ◌↔◌}
+use Rattle.std.specs.List.{sum_by, list_all}
 use Rattle.std.proofs.lemmas.List.{length-map}
 use Rattle.std.proofs.lemmas.Bool.{eqb-true, eq-eqb, leb-true, le-leb}
 use Rattle.small_laws.proofs.Bools.{and_left, and_right, and_both}
@@ -15,19 +15,18 @@ use Rattle.plan_base.specs.declared.tree.Value.{Value, Value-F, out-Value}
 use Rattle.plan_base.specs.declared.tree.Chunk.{Chunk}
 use Rattle.plan_base.specs.declared.type_fault.TypeFault.{TypeFault}
 use Rattle.plan_base.specs.Trees.{TyLayer, ValueLayer}
-use Rattle.plan_base.specs.Sizes.{largest_by, type_size, weight_level, weight, chunk_weight, nesting_level, nesting, chunk_nesting, value_depth, type_depth, program_nodes}
-use Rattle.plan_base.proofs.SizeLaws.{weight_out, nesting_out, chunk_weight_is, chunk_nesting_is}
+use Rattle.plan_base.specs.Sizes.{largest_by, weight_level, weight, chunk_weight, nesting, chunk_nesting, value_depth, type_depth, program_nodes}
+use Rattle.plan_base.proofs.SizeLaws.{weight_out, chunk_weight_is, chunk_nesting_is}
 use Rattle.plan_base.specs.WellFormed.{formed_value_level, formed_value, formed_chunk, formed_type, has_from_to, well_formed_type, well_formed_expr, well_formed_svc, well_formed_fun, well_formed_program, well_formed_value, IsWellFormedValue, ValueHasTypes, well_formed_chunk, IsWellFormedChunk, ChunkHasTypes, typed_value_level, value_has_types, chunk_has_types, program_has_types}
 use Rattle.plan_base.proofs.FormLaws.{formed_value_out, formed_chunk_is, value_has_types_out, chunk_has_types_is}
-use Rattle.plan_base.specs.Typing.{Typed, HasType, unit, bool, int, char, str, blob, host, dev, list, tuple, chunk, HaveTypes, no_values, and_value, AllHaveType, no_items, and_item, IsTypedChunk, within, IsSmall}
+use Rattle.plan_base.specs.Typing.{Typed, HasType, unit, bool, int, char, str, blob, host, dev, list, tuple, chunk, HaveTypes, no_values, and_value, AllHaveType, no_items, and_item, IsTypedChunk, within}
 use Rattle.plan_base.specs.TypingNames.{place_of, param_types}
 use Rattle.plan_base.specs.TypingOrder.{same_type, fun_of, annotated}
 use Rattle.plan_base.proofs.SameTypes.{out_same, same_type_true, same_type_itself}
 use Rattle.typing_laws.proofs.Programs.{annotated_sound, annotated_complete, fills_itself, fills_full, depths_kept}
 use Rattle.plan_types.specs.Kept.{IsChecked}
-use Rattle.chunk_types.specs.declared.fault.Ill.{Ill}
-use Rattle.chunk_types.specs.declared.fault.Ill.TheVariants.{Code, Entry, Count, Argument}
-use Rattle.chunk_types.specs.Chunks.{fit_all, fits_layer, fits, ill_from, ill_with, ill_call, ill_code, sound_level, sound, right, illness, is_small_chunk, as_fault, or_large, refusal_of, IsCheckedChunk}
+use Rattle.chunk_types.specs.declared.fault.Ill.TheVariants.{Count, Argument}
+use Rattle.chunk_types.specs.Chunks.{fit_all, fits_layer, fits, ill_from, ill_with, ill_call, ill_code, sound_level, sound, right, illness, is_small_chunk, is_right_chunk, as_fault, or_large, refusal_of, IsCheckedChunk}
 use Rattle.chunk_types.proofs.Levels.{fits_out, sound_out, illness_is}
 
 -- ---- parts are within the limits of the whole
@@ -42,35 +41,32 @@ largest_bounds f n x xs h = let k = largest_from f (max 0 (f x)) xs in (omega ar
 
 -- what is known of values that weigh at most n
 abbrev Typing : ℕ → Type 0
-Typing n = (v : Value) (t : Ty) → weight v ≤ n → nesting v ≤ 4 → value_has_types v ≡ true → fits v t ≡ true → sound v ≡ true → HasType v t
+Typing n = (v : Value) (t : Ty) → weight v ≤ n → value_has_types v ≡ true → fits v t ≡ true → sound v ≡ true → HasType v t
 
-items_typed : (n : ℕ) → Typing n → (u : Ty) (vs : List Value) → sum_by weight vs ≤ n → largest_by nesting vs ≤ 4 → list_all value_has_types vs ≡ true → list_all (λ v. fits v u) vs ≡ true → list_all sound vs ≡ true → AllHaveType u vs
-items_typed n ih u [] w s k f o = no_items
-items_typed n ih u (v ∷ vs) w s k f o =
+items_typed : (n : ℕ) → Typing n → (u : Ty) (vs : List Value) → sum_by weight vs ≤ n → list_all value_has_types vs ≡ true → list_all (λ v. fits v u) vs ≡ true → list_all sound vs ≡ true → AllHaveType u vs
+items_typed n ih u [] w k f o = no_items
+items_typed n ih u (v ∷ vs) w k f o =
     let a = sum_bounds weight n v vs w in
-    let b = largest_bounds nesting 4 v vs s in
-    and_item (ih v u a.0 b.0 (and_left (value_has_types v) (list_all value_has_types vs) k) (and_left (fits v u) (list_all (λ v. fits v u) vs) f) (and_left (sound v) (list_all sound vs) o))
-    (items_typed n ih u vs a.1 b.1 (and_right (value_has_types v) (list_all value_has_types vs) k) (and_right (fits v u) (list_all (λ v. fits v u) vs) f) (and_right (sound v) (list_all sound vs) o))
+    and_item (ih v u a.0 (and_left (value_has_types v) (list_all value_has_types vs) k) (and_left (fits v u) (list_all (λ v. fits v u) vs) f) (and_left (sound v) (list_all sound vs) o))
+    (items_typed n ih u vs a.1 (and_right (value_has_types v) (list_all value_has_types vs) k) (and_right (fits v u) (list_all (λ v. fits v u) vs) f) (and_right (sound v) (list_all sound vs) o))
 
-parts_typed : (n : ℕ) → Typing n → (vs : List Value) (ts : List Ty) → sum_by weight vs ≤ n → largest_by nesting vs ≤ 4 → list_all value_has_types vs ≡ true → fit_all fits vs ts ≡ true → list_all sound vs ≡ true → HaveTypes vs ts
-parts_typed n ih [] [] w s k f o = no_values
-parts_typed n ih [] (t ∷ ts) w s k f o = absurd (cc)
-parts_typed n ih (v ∷ vs) [] w s k f o = absurd (cc)
-parts_typed n ih (v ∷ vs) (t ∷ ts) w s k f o =
+parts_typed : (n : ℕ) → Typing n → (vs : List Value) (ts : List Ty) → sum_by weight vs ≤ n → list_all value_has_types vs ≡ true → fit_all fits vs ts ≡ true → list_all sound vs ≡ true → HaveTypes vs ts
+parts_typed n ih [] [] w k f o = no_values
+parts_typed n ih [] (t ∷ ts) w k f o = absurd (cc)
+parts_typed n ih (v ∷ vs) [] w k f o = absurd (cc)
+parts_typed n ih (v ∷ vs) (t ∷ ts) w k f o =
     let a = sum_bounds weight n v vs w in
-    let b = largest_bounds nesting 4 v vs s in
-    and_value (ih v t a.0 b.0 (and_left (value_has_types v) (list_all value_has_types vs) k) (and_left (fits v t) (fit_all fits vs ts) f) (and_left (sound v) (list_all sound vs) o))
-    (parts_typed n ih vs ts a.1 b.1 (and_right (value_has_types v) (list_all value_has_types vs) k) (and_right (fits v t) (fit_all fits vs ts) f) (and_right (sound v) (list_all sound vs) o))
+    and_value (ih v t a.0 (and_left (value_has_types v) (list_all value_has_types vs) k) (and_left (fits v t) (fit_all fits vs ts) f) (and_left (sound v) (list_all sound vs) o))
+    (parts_typed n ih vs ts a.1 (and_right (value_has_types v) (list_all value_has_types vs) k) (and_right (fits v t) (fit_all fits vs ts) f) (and_right (sound v) (list_all sound vs) o))
 
-args_typed : (n : ℕ) → Typing n → (i : ℕ) (vs : List Value) (ts : List Ty) → length vs ≡ length ts → sum_by weight vs ≤ n → largest_by nesting vs ≤ 4 → list_all value_has_types vs ≡ true → ill_from right i vs ts ≡ None → HaveTypes vs ts
-args_typed n ih i [] [] e w s k h = no_values
-args_typed n ih i [] (t ∷ ts) e w s k h = absurd (omega arith)
-args_typed n ih i (v ∷ vs) [] e w s k h = absurd (omega arith)
-args_typed n ih i (v ∷ vs) (t ∷ ts) e w s k h =
+args_typed : (n : ℕ) → Typing n → (i : ℕ) (vs : List Value) (ts : List Ty) → length vs ≡ length ts → sum_by weight vs ≤ n → list_all value_has_types vs ≡ true → ill_from right i vs ts ≡ None → HaveTypes vs ts
+args_typed n ih i [] [] e w k h = no_values
+args_typed n ih i [] (t ∷ ts) e w k h = absurd (omega arith)
+args_typed n ih i (v ∷ vs) [] e w k h = absurd (omega arith)
+args_typed n ih i (v ∷ vs) (t ∷ ts) e w k h =
     let a = sum_bounds weight n v vs w in
-    let b = largest_bounds nesting 4 v vs s in
-    go (λ f o. ih v t a.0 b.0 (and_left (value_has_types v) (list_all value_has_types vs) k) f o)
-    (λ r. args_typed n ih (min (i + 1) 255) vs ts (omega arith) a.1 b.1 (and_right (value_has_types v) (list_all value_has_types vs) k) r)
+    go (λ f o. ih v t a.0 (and_left (value_has_types v) (list_all value_has_types vs) k) f o)
+    (λ r. args_typed n ih (min (i + 1) 255) vs ts (omega arith) a.1 (and_right (value_has_types v) (list_all value_has_types vs) k) r)
     (fits v t) (sound v) refl refl h
   where
     go : (fits v t ≡ true → sound v ≡ true → HasType v t) → (ill_from right (min (i + 1) 255) vs ts ≡ None → HaveTypes vs ts) → (p q : Bool) → fits v t ≡ p → sound v ≡ q → (if p && q then ill_from right (min (i + 1) 255) vs ts else Some (Argument i)) ≡ None → HaveTypes (v ∷ vs) (t ∷ ts)
@@ -87,8 +83,7 @@ call_typed n ih c t w s m k h = place (place_of c.entry c.code.funs) refl h
     counted at d p g true e r =
         let same : length c.args ≡ length d.params = eqb-true (length c.args) (length d.params) e in
         let count : length c.args ≡ length (param_types d.params) = same ∙ sym (length-map d.params (λ p. p.ty)) in
-        let nests = chunk_nesting_is c in
-        within at d t p g (args_typed n ih 0 c.args (param_types d.params) count w (omega arith) k r) s m
+        within at d t p g (args_typed n ih 0 c.args (param_types d.params) count w k r) s m
 
     found : (at : ℕ) → place_of c.entry c.code.funs ≡ Some at → (o : Option Fun) → slice_get c.code.funs at ≡ o → ill_with right c.args o ≡ None → IsTypedChunk c
     found at p None g r = absurd (cc)
@@ -121,25 +116,35 @@ none_is : {X : Type 0} (o : Option X) → o ≡ None → not (is_some o) ≡ tru
 none_is None h = refl
 none_is (Some x) h = absurd (cc)
 
-at_level : (n : ℕ) → Typing n → suc n ≤ 16384 → (v : Value) (t : Ty) (l : ValueLayer) → out-Value v ≡ l → (m : TyLayer) → out-Ty t ≡ m → weight_level weight chunk_weight l ≤ suc n → nesting_level nesting chunk_nesting l ≤ 4 → typed_value_level value_has_types chunk_has_types l ≡ true
-    → fits_layer fits l m ≡ true → sound_level sound (λ c. not (is_some (illness c))) l ≡ true → HasType v t
-at_level n ih p v t Value-F.Unit e Ty-F.Unit g w s k f o = unit e (out_same t ty.Unit (g ∙ sym ty.outs-Unit))
-at_level n ih p v t (Value-F.Bool b) e Ty-F.Bool g w s k f o = bool b e (out_same t ty.Bool (g ∙ sym ty.outs-Bool))
-at_level n ih p v t (Value-F.Int i) e Ty-F.Int g w s k f o = int i e (out_same t ty.Int (g ∙ sym ty.outs-Int))
-at_level n ih p v t (Value-F.Char c) e Ty-F.Char g w s k f o = char c e (out_same t ty.Char (g ∙ sym ty.outs-Char))
-at_level n ih p v t (Value-F.Str x) e Ty-F.Str g w s k f o = str x e (out_same t ty.Str (g ∙ sym ty.outs-Str))
-at_level n ih p v t (Value-F.Blob x) e Ty-F.Blob g w s k f o = blob x e (out_same t ty.Blob (g ∙ sym ty.outs-Blob))
-at_level n ih p v t (Value-F.Host x) e Ty-F.Host g w s k f o = host x e (out_same t ty.Host (g ∙ sym ty.outs-Host))
-at_level n ih p v t (Value-F.Dev x) e Ty-F.Dev g w s k f o = dev x e (out_same t ty.Dev (g ∙ sym ty.outs-Dev))
-at_level n ih p v t (Value-F.List u vs) e (Ty-F.List x) g w s k f o =
+weighs_little : (c : Chunk) → is_small_chunk c ≡ true → 1 + chunk_weight c ≤ 16384
+weighs_little c s = leb-true (1 + chunk_weight c) 16384 (and_left (nat_le (1 + chunk_weight c) 16384) (nat_le (chunk_nesting c) 4) s)
+
+nests_little : (c : Chunk) → is_small_chunk c ≡ true → chunk_nesting c ≤ 4
+nests_little c s = leb-true (chunk_nesting c) 4 (and_right (nat_le (1 + chunk_weight c) 16384) (nat_le (chunk_nesting c) 4) s)
+
+within_limits : (c : Chunk) → IsTypedChunk c → is_small_chunk c ≡ true
+within_limits c (within at d t p g h n w) = and_both (nat_le (1 + chunk_weight c) 16384) (nat_le (chunk_nesting c) 4) (le-leb (1 + chunk_weight c) 16384 w) (le-leb (chunk_nesting c) 4 n)
+
+at_level : (n : ℕ) → Typing n → (v : Value) (t : Ty) (l : ValueLayer) → out-Value v ≡ l → (m : TyLayer) → out-Ty t ≡ m → weight_level weight chunk_weight l ≤ suc n → typed_value_level value_has_types chunk_has_types l ≡ true
+    → fits_layer fits l m ≡ true → sound_level sound is_right_chunk l ≡ true → HasType v t
+at_level n ih v t Value-F.Unit e Ty-F.Unit g w k f o = unit e (out_same t ty.Unit (g ∙ sym ty.outs-Unit))
+at_level n ih v t (Value-F.Bool b) e Ty-F.Bool g w k f o = bool b e (out_same t ty.Bool (g ∙ sym ty.outs-Bool))
+at_level n ih v t (Value-F.Int i) e Ty-F.Int g w k f o = int i e (out_same t ty.Int (g ∙ sym ty.outs-Int))
+at_level n ih v t (Value-F.Char c) e Ty-F.Char g w k f o = char c e (out_same t ty.Char (g ∙ sym ty.outs-Char))
+at_level n ih v t (Value-F.Str x) e Ty-F.Str g w k f o = str x e (out_same t ty.Str (g ∙ sym ty.outs-Str))
+at_level n ih v t (Value-F.Blob x) e Ty-F.Blob g w k f o = blob x e (out_same t ty.Blob (g ∙ sym ty.outs-Blob))
+at_level n ih v t (Value-F.Host x) e Ty-F.Host g w k f o = host x e (out_same t ty.Host (g ∙ sym ty.outs-Host))
+at_level n ih v t (Value-F.Dev x) e Ty-F.Dev g w k f o = dev x e (out_same t ty.Dev (g ∙ sym ty.outs-Dev))
+at_level n ih v t (Value-F.List u vs) e (Ty-F.List x) g w k f o =
     let same : u ≡ x = same_type_true u x (and_left (same_type u x) (list_all (λ v. fits v u) vs) f) in
     list u vs e (out_same t (ty.List u) (g ∙ (ap Ty-F.List (sym same) ∙ sym (ty.outs-List u))))
-    (items_typed n ih u vs (omega arith) s k (and_right (same_type u x) (list_all (λ v. fits v u) vs) f) o)
-at_level n ih p v t (Value-F.Tuple vs) e (Ty-F.Tuple ts) g w s k f o = tuple vs ts e (out_same t (ty.Tuple ts) (g ∙ sym (ty.outs-Tuple ts))) (parts_typed n ih vs ts (omega arith) s k f o)
-at_level n ih p v t (Value-F.Chunk c) e Ty-F.Chunk g w s k f o =
+    (items_typed n ih u vs (omega arith) k (and_right (same_type u x) (list_all (λ v. fits v u) vs) f) o)
+at_level n ih v t (Value-F.Tuple vs) e (Ty-F.Tuple ts) g w k f o = tuple vs ts e (out_same t (ty.Tuple ts) (g ∙ sym (ty.outs-Tuple ts))) (parts_typed n ih vs ts (omega arith) k f o)
+at_level n ih v t (Value-F.Chunk c) e Ty-F.Chunk g w k f o =
     let weighs = chunk_weight_is c in
-    chunk c e (out_same t ty.Chunk (g ∙ sym ty.outs-Chunk)) (chunk_typed n ih c (omega arith) s (omega arith) k (none_of (illness c) o))
-at_level n ih p v t _ e _ g w s k f o = absurd (cc)
+    let small = and_left (is_small_chunk c) (not (is_some (illness c))) o in
+    chunk c e (out_same t ty.Chunk (g ∙ sym ty.outs-Chunk)) (chunk_typed n ih c (omega arith) (nests_little c small) (weighs_little c small) k (none_of (illness c) (and_right (is_small_chunk c) (not (is_some (illness c))) o)))
+at_level n ih v t _ e _ g w k f o = absurd (cc)
 
 no_weight : (l : ValueLayer) → weight_level weight chunk_weight l ≤ zero → ⊥
 no_weight (Value-F.Str s) w = omega arith
@@ -149,17 +154,17 @@ no_weight (Value-F.List t vs) w = omega arith
 no_weight (Value-F.Tuple vs) w = omega arith
 no_weight _ w = omega arith
 
-pub typing : (n : ℕ) → n ≤ 16384 → Typing n
-typing zero p v t w s k f o = absurd (no_weight (out-Value v) (rw weight_out at w))
-typing (suc n) p v t w s k f o =
-    at_level n (typing n (omega arith)) p v t (out-Value v) refl (out-Ty t) refl (rw weight_out at w) (rw nesting_out at s) (sym (value_has_types_out v) ∙ k) (sym (fits_out v t) ∙ f) (sym (sound_out v) ∙ o)
+pub typing : (n : ℕ) → Typing n
+typing zero v t w k f o = absurd (no_weight (out-Value v) (rw weight_out at w))
+typing (suc n) v t w k f o =
+    at_level n (typing n) v t (out-Value v) refl (out-Ty t) refl (rw weight_out at w) (sym (value_has_types_out v) ∙ k) (sym (fits_out v t) ∙ f) (sym (sound_out v) ∙ o)
 
 -- ---- and the other way
 
-shaped : (v : Value) (t : Ty) (l : ValueLayer) (u : Ty) (m : TyLayer) → out-Value v ≡ l → t ≡ u → out-Ty u ≡ m → fits_layer fits l m ≡ true → sound_level sound (λ c. not (is_some (illness c))) l ≡ true → (fits v t ≡ true) × (sound v ≡ true)
+shaped : (v : Value) (t : Ty) (l : ValueLayer) (u : Ty) (m : TyLayer) → out-Value v ≡ l → t ≡ u → out-Ty u ≡ m → fits_layer fits l m ≡ true → sound_level sound is_right_chunk l ≡ true → (fits v t ≡ true) × (sound v ≡ true)
 shaped v t l u m e q g f o = (
   fits_out v t ∙ (λ i. fits_layer fits (e i) ((ap out-Ty q ∙ g) i)) ∙ f,
-  sound_out v ∙ (λ i. sound_level sound (λ c. not (is_some (illness c))) (e i)) ∙ o,
+  sound_out v ∙ (λ i. sound_level sound is_right_chunk (e i)) ∙ o,
 )
 
 level_formed : (v : Value) (l : ValueLayer) → out-Value v ≡ l → formed_value v ≡ true → formed_value_level formed_value formed_chunk l ≡ true
@@ -202,7 +207,7 @@ mutual
       let z = level_formed v (Value-F.Tuple vs) e f in
       let r = parts_by h (and_right (nat_le 2 (length vs) && nat_le (length vs) 8) (list_all formed_value vs) z) in
       shaped v t (Value-F.Tuple vs) (ty.Tuple ts) (Ty-F.Tuple ts) e q (ty.outs-Tuple ts) r.0 r.1
-  shape_by {v} {t} (chunk k e q h) f = shaped v t (Value-F.Chunk k) ty.Chunk Ty-F.Chunk e q ty.outs-Chunk refl (none_is (illness k) (chunk_by h (level_formed v (Value-F.Chunk k) e f)))
+  shape_by {v} {t} (chunk k e q h) f = shaped v t (Value-F.Chunk k) ty.Chunk Ty-F.Chunk e q ty.outs-Chunk refl (and_both (is_small_chunk k) (not (is_some (illness k))) (within_limits k h) (none_is (illness k) (chunk_by h (level_formed v (Value-F.Chunk k) e f))))
 
   items_by : {u : Ty} {vs : List Value} → AllHaveType u vs → list_all formed_value vs ≡ true → (list_all (λ v. fits v u) vs ≡ true) × (list_all sound vs ≡ true)
   items_by no_items f = (refl, refl)
@@ -250,7 +255,7 @@ chunk_found c f k m h =
     let small = largest_small c.args (and_right (formed_chunk c) (list_all (λ v. nat_le (nesting v) 3) c.args) f) in
     let nests = chunk_nesting_is c in
     let weighs = chunk_weight_is c in
-    record { typed = chunk_typed 16384 (typing 16384 (omega arith)) c (omega arith) (omega arith) m k h; formed = f; full = k }
+    record { typed = chunk_typed 16384 (typing 16384) c (omega arith) (omega arith) m k h; formed = f; full = k }
 
 -- and nothing is wrong where it is typed
 pub chunk_only : (c : Chunk) → IsWellFormedChunk c → IsTypedChunk c → illness c ≡ None
@@ -297,11 +302,11 @@ small_parts (v ∷ vs) h =
 pub call_found : (c : Chunk) → IsChecked c.code → IsTrue (list_all well_formed_value c.args) → IsTrue (list_all value_has_types c.args) → is_small_chunk c ≡ true → ill_call right c.code c.entry c.args ≡ None → IsCheckedChunk c
 unfolding well_formed_chunk
 call_found c code f k s h =
-    let m = leb-true (1 + chunk_weight c) 16384 (and_left (nat_le (1 + chunk_weight c) 16384) (nat_le (chunk_nesting c) 4) s) in
-    let n = leb-true (chunk_nesting c) 4 (and_right (nat_le (1 + chunk_weight c) 16384) (nat_le (chunk_nesting c) 4) s) in
+    let m = weighs_little c s in
+    let n = nests_little c s in
     let weighs = chunk_weight_is c in
     let nests = chunk_nesting_is c in
-    let typed = call_typed 16384 (typing 16384 (omega arith)) c code.typed (omega arith) n m k h in
+    let typed = call_typed 16384 (typing 16384) c code.typed (omega arith) n m k h in
     let formed : formed_chunk c ≡ true =
     formed_chunk_is c
     ∙ and_both (well_formed_program c.code) (nat_le (length c.args) 8 && list_all (λ v. formed_value v && nat_le (value_depth v) 8) c.args) code.formed
@@ -320,13 +325,13 @@ call_made code p entry n args a b k f t s h = call_found (record { code = code; 
 pub call_only : (c : Chunk) → IsTrue (list_all well_formed_value c.args) → IsTypedChunk c → refusal_of c ≡ None
 call_only c f (within at d t p g h n w) =
     let r = call_right c at d p g (same_count h) (args_by h (formed_args c.args f) 0) in
-    let s : is_small_chunk c ≡ true = and_both (nat_le (1 + chunk_weight c) 16384) (nat_le (chunk_nesting c) 4) (le-leb (1 + chunk_weight c) 16384 w) (le-leb (chunk_nesting c) 4 n) in
+    let s = within_limits c (within at d t p g h n w) in
     λ i. or_large (s i) (as_fault (r i))
 
--- for values within the limits
-pub value_law : (v : Value) (t : Ty) → IsWellFormedValue v → ValueHasTypes v → IsSmall v → HasType v t ↔ (IsTrue (fits v t) × IsTrue (sound v))
+-- of any value
+pub value_law : (v : Value) (t : Ty) → IsWellFormedValue v → ValueHasTypes v → HasType v t ↔ (IsTrue (fits v t) × IsTrue (sound v))
 unfolding well_formed_value
-value_law v t w k s = (
+value_law v t w k = (
   λ h. shape_by h (and_left (formed_value v) (nat_le (value_depth v) 8 && nat_le (nesting v) 4) w),
-  λ h. typing 16384 (omega arith) v t s.weighs s.nests k h.0 h.1,
+  λ h. typing (weight v) v t (omega arith) k h.0 h.1,
 )

@@ -74,24 +74,28 @@ sound_level sound chunk (Value-F.List _ vs) = list_all sound vs
 sound_level sound chunk (Value-F.Tuple vs) = list_all sound vs
 sound_level sound chunk _ = true
 
--- an argument is right where its shape has the type and no chunk inside it is ill
+-- a chunk within the limits of size
+abbrev pub is_small_chunk : Chunk → Bool
+is_small_chunk c = nat_le (1 + chunk_weight c) 16384 && nat_le (chunk_nesting c) 4
+
+-- an argument is right where its shape has the type and no chunk inside it is too large or ill
 abbrev pub paired_right : Value × Bool → Ty → Bool
 paired_right v t = fits v.0 t && v.1
 
--- whether no chunk inside the value is ill
+-- whether no chunk inside the value is too large or ill
 unfoldable pub sound : Value → Bool
-sound = para-Value Bool Bool (sound_level (λ v. v.1) (λ c. c.1)) (λ c. not (is_some (ill_level paired_right c)))
+sound = para-Value Bool Bool (sound_level (λ v. v.1) (λ c. is_small_chunk c.0 && c.1)) (λ c. not (is_some (ill_level paired_right c)))
 
 abbrev pub right : Value → Ty → Bool
 right v t = fits v t && sound v
 
--- what comes first that is wrong with a chunk within the limits of size
+-- what comes first that is wrong with a chunk, its own size aside
 unfoldable pub illness : Chunk → Option Ill
 illness c = ill_code (annotated c.code) (ill_call right c.code c.entry c.args)
 
--- a chunk within the limits of size
-abbrev pub is_small_chunk : Chunk → Bool
-is_small_chunk c = nat_le (1 + chunk_weight c) 16384 && nat_le (chunk_nesting c) 4
+-- whether a chunk is within the limits of size and nothing is wrong with it
+abbrev pub is_right_chunk : Chunk → Bool
+is_right_chunk c = is_small_chunk c && not (is_some (illness c))
 
 -- what is wrong, as a fault
 abbrev pub as_fault : Option Ill → Option ChunkFault

@@ -8,9 +8,16 @@ ghost use Rattle.chunk_types.specs.Chunks as spec;
 
 use crate::fault::Ill;
 use crate::shape::fits;
-use plan_base::{Chunk, Name, NoMemory, Param, Program, Ty, Value};
+use plan_base::{Chunk, Name, NoMemory, Param, Program, Ty, Value, chunk_nesting, chunk_weight};
 use plan_types::{Checked, fun_of, refused};
 use std::alloc::Global;
+
+/// Whether a chunk is within the limits of size. Takes no memory.
+pub fn is_small(chunk: &Chunk) -> bool
+    ensures { result ≡ spec.is_small_chunk chunk.now }
+{
+    chunk_weight(chunk) < 16384 && chunk_nesting(chunk) <= 4
+}
 
 /// Whether a program is the same as one that was checked.
 #[tactic(auto, using(crate::proofs::Known::checked_too))]
@@ -87,7 +94,7 @@ fn first_ill(alloc: Global, args: &[Value], params: &[Param]) -> Result<Option<I
     Ok(None)
 }
 
-/// Whether an argument's shape has the type and no chunk inside it is ill.
+/// Whether an argument's shape has the type and no chunk inside it is too large or ill.
 #[cycle(illness)]
 fn is_right(alloc: Global, v: &Value, t: &Ty) -> Result<bool, NoMemory>
     ensures { IfOk result (λ b. b ≡ spec.right v.now t.now) }
@@ -99,17 +106,29 @@ fn is_right(alloc: Global, v: &Value, t: &Ty) -> Result<bool, NoMemory>
     }
 }
 
-/// Whether no chunk inside the value is ill.
+/// Whether no chunk inside the value is too large or ill.
 #[cycle(illness)]
 #[tactic(auto, using(crate::proofs::Levels::sound_out, plan_base::specs::Trees::trees))]
 fn is_sound(alloc: Global, v: &Value) -> Result<bool, NoMemory>
     ensures { IfOk result (λ b. b ≡ spec.sound v.now) }
 {
     match v {
-        Value::Chunk(chunk) => Ok(illness(alloc, chunk.get())?.is_none()),
+        Value::Chunk(chunk) => is_right_chunk(alloc, chunk.get()),
         Value::List(_, items) => are_sound(alloc, items.as_slice()),
         Value::Tuple(parts) => are_sound(alloc, parts.as_slice()),
         _ => Ok(true),
+    }
+}
+
+/// Whether the chunk is within the limits of size and nothing is wrong with it. One that is too large isn't checked.
+#[cycle(illness)]
+fn is_right_chunk(alloc: Global, chunk: &Chunk) -> Result<bool, NoMemory>
+    ensures { IfOk result (λ b. b ≡ spec.is_right_chunk chunk.now) }
+{
+    if is_small(chunk) {
+        Ok(illness(alloc, chunk)?.is_none())
+    } else {
+        Ok(false)
     }
 }
 

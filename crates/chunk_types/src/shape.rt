@@ -23,7 +23,7 @@ pub fn fits(v: &Value, t: &Ty) -> bool
         Value::Dev(_) => matches!(t, Ty::Dev),
         Value::Chunk(_) => matches!(t, Ty::Chunk),
         Value::List(item, items) => match t {
-            Ty::List(other) => item.is(other.get()) && all_fit(items.as_slice(), item),
+            Ty::List(other) => item.get().is(other.get()) && all_fit(items.as_slice(), item.get()),
             _ => false,
         },
         Value::Tuple(parts) => match t {

@@ -10,8 +10,8 @@ ghost use Rattle.chunk_types.specs.Chunks as spec;
 ghost use Rattle.chunk_types.specs.Chunks.{IsCheckedChunk};
 
 use crate::fault::ChunkFault;
-use crate::ill::{ill_call, illness_by};
-use plan_base::{Chunk, Name, NoMemory, Values, chunk_nesting, chunk_weight};
+use crate::ill::{ill_call, illness_by, is_small};
+use plan_base::{Chunk, Name, NoMemory, Values};
 use plan_types::Checked;
 use std::alloc::Global;
 use std::marker::Model;
@@ -80,12 +80,6 @@ impl CheckedChunk {
     }
 }
 
-fn is_small(chunk: &Chunk) -> bool
-    ensures { result ≡ spec.is_small_chunk chunk.now }
-{
-    chunk_weight(chunk) < 16384 && chunk_nesting(chunk) <= 4
-}
-
 /// Checks a chunk that is within the limits of size: its code, its entry, the number of its arguments and
 /// each of them. Else what comes first that is wrong. Code that is the same as a `known` program isn't checked again.
 #[tactic(auto, using(crate::proofs::Values::chunk_found, crate::proofs::Values::chunk_only))]
@@ -108,7 +102,8 @@ pub fn check_chunk(
 }
 
 /// The chunk of a typed program with that entry and those arguments. Else what comes first that is wrong:
-/// the entry, the number of arguments, each of them, and then the size of the chunk.
+/// the entry, the number of arguments, each of them (a chunk over the limits of size has no type), and then the size of the
+/// whole.
 #[tactic(auto, using(crate::proofs::Values::call_found, crate::proofs::Values::call_only))]
 pub fn chunk_of(
     alloc: Global,

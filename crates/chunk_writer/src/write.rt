@@ -164,7 +164,7 @@ pub fn put_value(v: &Value, out: &mut Out)
         }
         Value::List(ty, items) => {
             out.put_u8(25);
-            put_ty(ty, out);
+            put_ty(ty.get(), out);
             out.put_u16(items.len() as u16);
             put_values(items.as_slice(), out);
         }

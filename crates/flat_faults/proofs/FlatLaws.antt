@@ -22,9 +22,11 @@ use Rattle.chunk_spelling.proofs.ValueLaws.{chunk_part_lawful}
 use Rattle.chunk_spelling.proofs.WholeLaws.{found_by, only_by, fault_by, at_most_one}
 use Rattle.packet_frame.specs.declared.fault.FrameFault.{FrameFault}
 use Rattle.packet_frame.specs.declared.kind.Kind.{Kind}
+use Rattle.packet_frame.specs.declared.kind.Form.{Form}
 use Rattle.packet_frame.specs.Faults.{of_spelling, of_number}
 use Rattle.packet_frame.specs.Fields.{told, number, magic_at, version_at, known_kind, kind_of, kind_at, judged, bound_at, route_at, count_at, row_host_at, cost_at}
-use Rattle.packet_frame.specs.Forms.{FrameItem, the_magic, the_version, the_kind, a_host, a_serial, a_bound, a_route, a_carried_chunk, some_rows, rows_behind, a_cost, the_end}
+use Rattle.packet_frame.specs.Forms.{FrameItem, the_magic, the_version, the_kind, a_host, a_serial, a_bound, a_route, a_carried_chunk, some_rows, rows_behind, a_cost, the_end, either_version, the_form}
+use Rattle.packet_frame.specs.Versions.{either_version_at, form_of, known_form, form_at}
 use Rattle.packet_frame.specs.Frames.{past, nothing_left, frame_step, SpellingFault}
 use Rattle.packet_frame.specs.Frames as frames
 use Rattle.packet_frame.proofs.FieldLaws.{told_ok, judged_ok}
@@ -107,6 +109,14 @@ kind_keeps : (f : Scan) (x : Kind × Scan) → kind_at f ≡ Ok x → Keeps f x.
 unfolding kind_at
 kind_keeps f x h = let a = bind_ok (number w8 f) _ _ h in subst (Keeps f) (known_is (kind_of a.first.0) a.first.1 x a.then_read) (own_keeps w8 f a.first a.read)
 
+form_known : (o : Option Form) (s : Scan) (x : Form × Scan) → known_form o s ≡ Ok x → s ≡ x.1
+form_known (Some k) s x h = ap (λ z. z.1) (ok_inj h)
+form_known None s x h = cc
+
+form_keeps : (v : ℕ) (f : Scan) (x : Form × Scan) → form_at v f ≡ Ok x → Keeps f x.1
+unfolding form_at
+form_keeps v f x h = let a = bind_ok (number w8 f) _ _ h in subst (Keeps f) (form_known (form_of v a.first.0) a.first.1 x a.then_read) (own_keeps w8 f a.first a.read)
+
 -- a step that is a field alone
 past_keeps : {A : Type 0} (r : Result (A × Scan) FrameFault) (f : Scan) (more : List FrameItem) (y : List FrameItem × Scan) → ((x : A × Scan) → r ≡ Ok x → Keeps f x.1) → past more r ≡ Ok y → Keeps f y.1
 past_keeps r f more y k h = let a = bind_ok r _ _ h in subst (Keeps f) (ap (λ z. z.1) (ok_inj a.then_read)) (k a.first a.read)
@@ -116,7 +126,7 @@ left_keeps [] more f y h = subst (Keeps f) (ap (λ z. z.1) (ok_inj h)) (stays f)
 left_keeps (b ∷ bs) more f y h = cc
 
 field_keeps : (i : FrameItem) (more : List FrameItem) (f : Scan) (y : List FrameItem × Scan) → is_chunk i ≡ false → frame_step i more f ≡ Ok y → Keeps f y.1
-unfolding magic_at version_at bound_at count_at row_host_at cost_at
+unfolding magic_at version_at bound_at count_at row_host_at cost_at either_version_at
 field_keeps the_magic more f y n h = past_keeps (magic_at f) f more y (λ x q. judged_keeps w32 f x _ _ q) h
 field_keeps the_version more f y n h = past_keeps (version_at f) f more y (λ x q. judged_keeps w8 f x _ _ q) h
 field_keeps the_kind more f y n h = let a = bind_ok (kind_at f) _ _ h in subst (Keeps f) (ap (λ z. z.1) (ok_inj a.then_read)) (kind_keeps f a.first a.read)
@@ -130,6 +140,8 @@ field_keeps (rows_behind before zero) more f y n h = subst (Keeps f) (ap (λ z. 
 field_keeps (rows_behind before (suc m)) more f y n h = let a = bind_ok (row_host_at before f) _ _ h in subst (Keeps f) (ap (λ z. z.1) (ok_inj a.then_read)) (judged_keeps w32 f a.first _ _ a.read)
 field_keeps a_cost more f y n h = past_keeps (cost_at f) f more y (λ x q. judged_keeps w32 f x _ _ q) h
 field_keeps the_end more f y n h = left_keeps f.front.rest more f y h
+field_keeps either_version more f y n h = let a = bind_ok (either_version_at f) _ _ h in subst (Keeps f) (ap (λ z. z.1) (ok_inj a.then_read)) (judged_keeps w8 f a.first _ _ a.read)
+field_keeps (the_form v) more f y n h = let a = bind_ok (form_at v f) _ _ h in subst (Keeps f) (ap (λ z. z.1) (ok_inj a.then_read)) (form_keeps v f a.first a.read)
 
 -- ---- a frame
 
@@ -146,6 +158,8 @@ which some_rows = inl refl
 which (rows_behind before n) = inl refl
 which a_cost = inl refl
 which the_end = inl refl
+which either_version = inl refl
+which (the_form v) = inl refl
 
 abbrev chunk_read : Front → Result (Chunk × Scan) SpellFault
 chunk_read f = a_whole_chunk.read (from_front f)

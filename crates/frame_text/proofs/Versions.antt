@@ -4,6 +4,9 @@ use Rattle.std.specs.Prelude.{nat_le, if◌then◌else◌}
 use Rattle.std.proofs.lemmas.Bool.{leb-true, leb-false, le-leb}
 use Rattle.wire_bytes.specs.Fields.{IsBytes}
 use Rattle.chunk_spelling.specs.Scan.{Scan}
+use Rattle.plan_base.specs.declared.name.Name.{Name}
+use Rattle.plan_base.specs.declared.tree.Chunk.{Chunk}
+use Rattle.plan_base.specs.Handlers.{MayHandle}
 use Rattle.chunk_types.specs.declared.fault.Ill.{Ill}
 use Rattle.link_window.specs.declared.window.Stamp.{Stamp}
 use Rattle.link_window.specs.declared.window.Version.{Version}
@@ -13,17 +16,18 @@ use Rattle.packet_frame.specs.declared.frame.PlainFrame.{PlainFrame}
 use Rattle.packet_frame.specs.declared.frame.PlainStamped.{PlainStamped}
 use Rattle.packet_frame.specs.Frames.{begins, carried}
 use Rattle.packet_frame.specs.Versions.{stamped_at}
-use Rattle.packet_frame.specs.Stamped.{stamped_bytes, SpellsStamped, StampedFault, AcceptsBy}
-use Rattle.packet_frame.specs.Typed.{CarriesTyped, Accepts}
+use Rattle.packet_frame.specs.Stamped.{stamped_bytes, SpellsStamped, StampedFault, AcceptsBy, StampedFirst, spells_none, ill_typed, ill_handled}
+use Rattle.packet_frame.specs.Typed.{CarriesTyped, CarriesHandler, Accepts}
+use Rattle.packet_frame.proofs.Carried.{plain_carries}
 use Rattle.packet_frame.proofs.WholeLaws.{Faulty, spelled_read, found_whole, trailing_fault, refused_fault, one_fault_is, never_both_is}
 use Rattle.packet_frame.proofs.WholeLaws as whole
 use Rattle.packet_frame.proofs.StampedLaws.{stamped_whole, is_spells, is_faulty, stamped_either}
-use Rattle.frame_text.specs.Decoding.{frame_of, illness_in, unstamped, all_stamped, stamped_spelled, stamped_or_ill, stamped_typed, stamped_of, read_by}
+use Rattle.frame_text.specs.Decoding.{frame_of, illness_in, unstamped, all_stamped, stamped_spelled, may_handle, carries_handler, stamped_or_ill, stamped_typed, stamped_of, read_by}
 use Rattle.frame_text.proofs.OneAnswer.{accepts_is, found_is, carried_well, found_typed}
 
 by_one : (bytes : List ℕ) (y : PlainFrame) → Accepts bytes y → AcceptsBy One bytes (record { stamp = None; frame = y })
 unfolding stamped_bytes
-by_one bytes y a = record { short = a.spells.short; fits = a.spells.fits; read = refl; is = a.spells.is; typed = a.typed }
+by_one bytes y a = record { short = a.spells.short; fits = a.spells.fits; read = (refl, a.spells.plain); is = a.spells.is; typed = a.typed; handler = plain_carries y a.spells.plain }
 
 -- ---- what version 2 spells
 
@@ -52,14 +56,46 @@ module _ (bytes : List ℕ) (are_bytes : IsBytes bytes) (f : FrameFault) (first 
   fault_is : stamped_spelled bytes ≡ Err f
   fault_is = by_length (nat_le (length bytes) 16512) refl
 
--- ---- types
+-- ---- types and handlers
+
+handler_told : (c : Chunk) (h : Option Name) → MayHandle c h → may_handle c h ≡ true
+handler_told c None h = refl
+handler_told c (Some n) h = h
+
+handler_found : (c : Chunk) (h : Option Name) → may_handle c h ≡ true → MayHandle c h
+handler_found c None h = tt
+handler_found c (Some n) h = h
+
+carried_told : (x : PlainFrame) → CarriesHandler x → carries_handler x ≡ true
+carried_told (PlainFrame.Packet p) h = handler_told p.chunk p.handler h
+carried_told (PlainFrame.Advert a) h = refl
+carried_told (PlainFrame.Ask bound c) h = refl
+
+carried_found : (x : PlainFrame) → carries_handler x ≡ true → CarriesHandler x
+carried_found (PlainFrame.Packet p) h = handler_found p.chunk p.handler h
+carried_found (PlainFrame.Advert a) h = tt
+carried_found (PlainFrame.Ask bound c) h = tt
+
+carried_refused : (x : PlainFrame) → (CarriesHandler x → ⊥) → carries_handler x ≡ false
+carried_refused x h = by_case (carries_handler x) refl
+  where
+    by_case : (b : Bool) → carries_handler x ≡ b → carries_handler x ≡ false
+    by_case true q = absurd (h (carried_found x q))
+    by_case false q = q
+
+-- the last judgement, where the types are well
+abbrev judged_last : PlainStamped → Bool → Result PlainStamped FrameFault
+judged_last y b = if b then Ok y else Err FrameFault.IllHandler
 
 module _ (bytes : List ℕ) (x : PlainStamped) where
-  accepted : (y : PlainStamped) → SpellsStamped bytes y → CarriesTyped y.frame → AcceptsBy Two bytes y
-  accepted y h t = record { short = h.short; fits = h.fits.0; read = h.fits.1; is = h.is; typed = t }
+  by_handler : (y : PlainStamped) → SpellsStamped bytes y → CarriesTyped y.frame → (b : Bool) → carries_handler y.frame ≡ b → (if b then Ok y else Err FrameFault.IllHandler) ≡ Ok x → AcceptsBy Two bytes x
+  by_handler y h t true q e =
+      let same : y ≡ x = cc in
+      subst (AcceptsBy Two bytes) same (record { short = h.short; fits = h.fits.0; read = h.fits.1; is = h.is; typed = t; handler = carried_found y.frame q })
+  by_handler y h t false q e = absurd (cc)
 
   by_illness : (y : PlainStamped) → SpellsStamped bytes y → (o : Option Ill) → illness_in (carried y.frame) ≡ o → stamped_or_ill y o ≡ Ok x → AcceptsBy Two bytes x
-  by_illness y spells None well e = let same : y ≡ x = cc in subst (AcceptsBy Two bytes) same (accepted y spells (found_typed y.frame spells.fits.0 well))
+  by_illness y spells None well e = by_handler y spells (found_typed y.frame spells.fits.0 well) (carries_handler y.frame) refl e
   by_illness y spells (Some i) well e = absurd (cc)
 
   by_spelling : IsBytes bytes → ((y : PlainStamped) × SpellsStamped bytes y) ⊎ ((f : FrameFault) × StampedFault f bytes) → stamped_typed (stamped_spelled bytes) ≡ Ok x → AcceptsBy Two bytes x
@@ -78,6 +114,16 @@ unfolding stamped_of
 accepts_by_two bytes x h =
     let spells : SpellsStamped bytes x = record { short = h.short; fits = (h.fits, h.read); is = h.is } in
     ap stamped_typed (spelled_is bytes x spells) ∙ ap (stamped_or_ill x) (carried_well x.frame h.fits h.typed)
+    ∙ ap (judged_last x) (carried_told x.frame h.handler)
+
+-- bytes that a node of version 2 doesn't read are refused with their first fault
+pub refused_by_two : (bytes : List ℕ) (e : FrameFault) → IsBytes bytes → StampedFirst e bytes → stamped_of bytes ≡ Err e
+unfolding stamped_of
+refused_by_two bytes e h (spells_none f) = ap stamped_typed (fault_is bytes h e (is_faulty e bytes f))
+refused_by_two bytes e h (ill_typed x spells c) = ap stamped_typed (spelled_is bytes x spells) ∙ ap (stamped_or_ill x) (ap illness_in c.is_carried ∙ c.first) ∙ ap Err (sym c.is)
+refused_by_two bytes e h (ill_handled x spells c) =
+    ap stamped_typed (spelled_is bytes x spells) ∙ ap (stamped_or_ill x) (carried_well x.frame spells.fits.0 c.typed)
+    ∙ ap (judged_last x) (carried_refused x.frame c.refused) ∙ ap Err (sym c.is)
 
 pub found_by : (v : Version) (bytes : List ℕ) (x : PlainStamped) → IsBytes bytes → read_by v bytes ≡ Ok x → AcceptsBy v bytes x
 found_by One bytes x h e = one (frame_of bytes) refl e
@@ -89,10 +135,10 @@ found_by Two bytes x h e = found_by_two bytes x h e
 
 accepts_by_one : (bytes : List ℕ) (o : Option Stamp) (y : PlainFrame) → o ≡ None → AcceptsBy One bytes (record { stamp = o; frame = y }) → Accepts bytes y
 unfolding stamped_bytes
-accepts_by_one bytes None y e a = record { spells = record { short = a.short; fits = a.fits; is = a.is }; typed = a.typed }
+accepts_by_one bytes None y e a = record { spells = record { short = a.short; fits = a.fits; plain = a.read.1; is = a.is }; typed = a.typed }
 accepts_by_one bytes (Some s) y e a = cc
 
 -- what is accepted in a version is what a node of that version reads
 pub accepted_by : (v : Version) (bytes : List ℕ) (x : PlainStamped) → AcceptsBy v bytes x → read_by v bytes ≡ Ok x
-accepted_by One bytes x a = ap unstamped (accepts_is bytes x.frame (accepts_by_one bytes x.stamp x.frame a.read a)) ∙ (λ i. Ok (record { stamp = sym a.read i; frame = x.frame }))
+accepted_by One bytes x a = ap unstamped (accepts_is bytes x.frame (accepts_by_one bytes x.stamp x.frame a.read.0 a)) ∙ (λ i. Ok (record { stamp = sym a.read.0 i; frame = x.frame }))
 accepted_by Two bytes x a = accepts_by_two bytes x a

@@ -1,9 +1,11 @@
 -- The frame that bytes spell, or why they are none, as one answer.
-use Rattle.std.specs.Prelude.{ℕ, nat_le, List, length, Option, Some, None, Result, Ok, Err, if◌then◌else◌}
+use Rattle.std.specs.Prelude.{ℕ, Bool, true, nat_le, List, length, Option, Some, None, Result, Ok, Err, if◌then◌else◌}
 use Rattle.chunk_spelling.specs.Scan.{Scan}
 use Rattle.chunk_types.specs.declared.fault.Ill.{Ill}
 use Rattle.chunk_types.specs.Chunks.{illness}
+use Rattle.plan_base.specs.declared.name.Name.{Name}
 use Rattle.plan_base.specs.declared.tree.Chunk.{Chunk}
+use Rattle.plan_base.specs.Handlers.{is_handler}
 use Rattle.packet_frame.specs.declared.fault.FrameFault.{FrameFault}
 use Rattle.link_window.specs.declared.window.Version.{Version}
 use Rattle.link_window.specs.declared.window.Version.TheVariants.{One, Two}
@@ -54,8 +56,19 @@ all_stamped count (Err e) = Err e
 abbrev pub stamped_spelled : List ℕ → Result PlainStamped FrameFault
 stamped_spelled bytes = if nat_le (length bytes) 16512 then all_stamped (length bytes) (stamped_at (begins bytes)) else Err FrameFault.TooLong
 
+-- whether the handler of a chunk's packet, if it has one, may handle
+abbrev pub may_handle : Chunk → Option Name → Bool
+may_handle c None = true
+may_handle c (Some n) = is_handler c.code n
+
+-- whether the handler that a frame carries, if it carries one, may handle
+abbrev pub carries_handler : PlainFrame → Bool
+carries_handler (PlainFrame.Packet p) = may_handle p.chunk p.handler
+carries_handler _ = true
+
+-- the types are judged first, and then the handler
 abbrev pub stamped_or_ill : PlainStamped → Option Ill → Result PlainStamped FrameFault
-stamped_or_ill x None = Ok x
+stamped_or_ill x None = if carries_handler x.frame then Ok x else Err FrameFault.IllHandler
 stamped_or_ill x (Some i) = Err (FrameFault.IllTyped i)
 
 abbrev pub stamped_typed : Result PlainStamped FrameFault → Result PlainStamped FrameFault

@@ -31,4 +31,5 @@ reason_text FrameFault.BoundTooLarge = codes "BoundTooLarge"
 reason_text (FrameFault.BadOrder at) = codes "BadOrder " ++ decimal at
 reason_text (FrameFault.Trailing at) = codes "Trailing " ++ decimal at
 reason_text (FrameFault.IllTyped i) = ill_text i
+reason_text FrameFault.IllHandler = codes "IllTyped Handler"
 reason_text FrameFault.NoMemory = codes "NoMemory"

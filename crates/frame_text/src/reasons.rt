@@ -52,6 +52,7 @@ fn reason_of(alloc: Global, fault: &FrameFault) -> Result<String, AllocError>
         FrameFault::BadOrder(at) => format!(in alloc; "BadOrder {at}"),
         FrameFault::Trailing(at) => format!(in alloc; "Trailing {at}"),
         FrameFault::IllTyped(ill) => ill_reason(alloc, ill),
+        FrameFault::IllHandler => String::from_str(alloc, "IllTyped Handler"),
         FrameFault::NoMemory => String::from_str(alloc, "NoMemory"),
     }
 }

@@ -28,8 +28,11 @@ fn event_lines<S: Services>(
     event: &Event,
 ) -> Result<Bytes, NoMemory>
     requires { KeepsNodeEvent event.now }
-    ensures text { (s : NodeState) → NodeStands S.stands node.old s → IfOk result (λ text. text ≡ lines_text here (entries_at number (node_step s event.now).acts)) }
-    ensures after { (s : NodeState) → NodeStands S.stands node.old s → OnOk result (NodeStands S.stands node.new (node_step s event.now).node) }
+    ensures text { (s : NodeState) → NodeStands S.stands node.old s
+        → IfOk result
+        (λ text. text ≡ lines_text here (entries_at number (node_step s event.now).acts)) }
+    ensures after { (s : NodeState) → NodeStands S.stands node.old s
+        → OnOk result (NodeStands S.stands node.new (node_step s event.now).node) }
 {
     let acts = node.step(alloc, event)?;
     step_lines(alloc, number, here, acts.list.as_slice())
@@ -44,8 +47,10 @@ fn entry_lines<S: Services>(
     entry: &LogEvent,
 ) -> Result<Bytes, NoMemory>
     requires { KeepsEntry entry.now }
-    ensures text { (s : NodeState) → NodeStands S.stands node.old s → IfOk result (λ text. text ≡ lines_text here (entries_at number (acts_of s entry.now))) }
-    ensures after { (s : NodeState) → NodeStands S.stands node.old s → OnOk result (NodeStands S.stands node.new (node_by s entry.now)) }
+    ensures text { (s : NodeState) → NodeStands S.stands node.old s
+        → IfOk result (λ text. text ≡ lines_text here (entries_at number (acts_of s entry.now))) }
+    ensures after { (s : NodeState) → NodeStands S.stands node.old s
+        → OnOk result (NodeStands S.stands node.new (node_by s entry.now)) }
 {
     match entry {
         LogEvent::Step(event) => event_lines(alloc, node, here, number, event),
@@ -65,8 +70,10 @@ fn write_entry<S: Services, K: Sink>(
 ) -> Result<(), ReplayFault>
     requires { KeepsEntry entry.now }
     ensures lines { (s : NodeState) → NodeStands S.stands node.old s
-        → Prints (lines_text here (entries_at number (acts_of s entry.now))) (K.state out.old) (K.state out.new) result }
-    ensures after { (s : NodeState) → NodeStands S.stands node.old s → OnOk result (NodeStands S.stands node.new (node_by s entry.now)) }
+        → Prints (lines_text here (entries_at number (acts_of s entry.now)))
+        (K.state out.old) (K.state out.new) result }
+    ensures after { (s : NodeState) → NodeStands S.stands node.old s
+        → OnOk result (NodeStands S.stands node.new (node_by s entry.now)) }
 {
     let Ok(text) = entry_lines(alloc, node, here, number, entry) else {
         return Err(ReplayFault::NoMemory);
@@ -88,7 +95,8 @@ fn write_entries<S: Services, K: Sink>(
     requires keeps { All KeepsEntry entries.now }
     requires few { length entries.now ≤ 50000 }
     ensures { (s : NodeState) → NodeStands S.stands node.old s
-        → Prints (lines_text here (played 0 s entries.now)) (K.state out.old) (K.state out.new) result }
+        → Prints (lines_text here (played 0 s entries.now))
+        (K.state out.old) (K.state out.new) result }
 {
     let mut number = 0;
     for entry in entries {
@@ -122,7 +130,8 @@ pub fn begin_node<S: Services + Drop>(
 ) -> Result<Node<S>, NoMemory>
     requires keeps { KeepsNode config.now }
     requires services { IsResting (S.stands services) }
-    ensures { IfOk result (λ node. NodeStands S.stands node (new_node config.now (S.stands services))) }
+    ensures { IfOk result
+        (λ node. NodeStands S.stands node (new_node config.now (S.stands services))) }
 {
     let config = copy_of(alloc, config)?;
     Node::new(alloc, config, services)
@@ -131,7 +140,7 @@ pub fn begin_node<S: Services + Drop>(
 #[tactic(auto, using(node_io::proofs::SinkLaws::prefix_none, crate::proofs::ReplayLaws::trace_begun))]
 /// Writes the trace of a log: its first line, the lines of each entry's step at a new node with these services, with
 /// `drop @H NoMemory` for one that found no memory, and `end`. Conditions: the log keeps its rules, and no `begin` of the
-/// services is open. Where it fails, what was written is a front of the trace.
+/// services is open. Where it fails, what was written is a prefix of the trace.
 pub fn run_log<S: Services + Drop, K: Sink>(
     alloc: Global,
     log: &Log,
@@ -140,7 +149,10 @@ pub fn run_log<S: Services + Drop, K: Sink>(
 ) -> Result<(), ReplayFault>
     requires keeps { KeepsLog log.now }
     requires services { IsResting (S.stands services) }
-    ensures { Prints (whole_trace log.now.node.here (played 0 (new_node log.now.node (S.stands services)) log.now.events)) (K.state out.old) (K.state out.new) result }
+    ensures { Prints
+        (whole_trace log.now.node.here
+        (played 0 (new_node log.now.node (S.stands services)) log.now.events))
+        (K.state out.old) (K.state out.new) result }
 {
     let Ok(mut node) = begin_node(alloc, &log.node, services) else {
         return Err(ReplayFault::NoMemory);

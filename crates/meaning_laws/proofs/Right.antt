@@ -21,12 +21,11 @@ use Rattle.service_api.specs.declared.router.Hop.{Hop}
 use Rattle.service_api.specs.declared.router.Hop.TheVariants.{To, NoService, NoRoute}
 use Rattle.service_api.specs.Routes.{hop, default_route}
 use Rattle.service_api.specs.Services.{Served, served, called, IsGoodValue, IsGoodChunk, AreGoodValues, IsGoodAnswer, IsGoodServed, IsGoodNote, IsGoodOptionNote, AreGoodRows}
-use Rattle.plan_meaning.specs.declared.sent.Sent.{Sent}
 use Rattle.plan_meaning.specs.declared.stop.Stop.TheVariants.{Raised, WorkSpent, Wrong, NoMemory}
 use Rattle.plan_meaning.specs.State.{VisitState}
 use Rattle.plan_meaning.specs.Run.{After, gave, stopped, Step, Run, «next», ◌>>=◌, ◌>>◌, pure, stop, raise, or_wrong, given, otherwise, rescue, spend, is_too_large, weighed, whole, serve, answered, noted}
 use Rattle.plan_meaning.specs.Meaning.{pay_eval, no_bound, is_paid, bound_of, sent, sent_by, send_remote, is_next, not_neighbour, send_neighbour}
-use Rattle.plan_meaning.specs.Safe.{AreGoodNotes, IsGoodState, Holds, IsRight, Yields}
+use Rattle.plan_meaning.specs.Safe.{AreGoodNotes, IsGoodSent, IsGoodState, Holds, IsRight, Yields}
 use Rattle.meaning_laws.proofs.Formed.{IsFormed, well_formed}
 use Rattle.value_rules.specs.Typed.{Fits}
 use Rattle.meaning_laws.proofs.Keeps.{Keeps}
@@ -95,7 +94,7 @@ all_behind P xs x h k = All-append P xs (x ∷ []) h (λ i d l. alone P x k i d 
 
 sent_right : (dev : Dev) (k : Chunk) (h : Host) (n : ℕ) (r : Name) → IsGoodChunk k → Yields {A = Unit {0}} (λ _. Unit {0}) (sent dev k h n r)
 sent_right dev k h n r t s g =
-    record { safe = t; holds = (tt, record { services = g.services; notes = g.notes; outbox = all_behind (λ (p : Sent). IsGoodChunk p.packet.chunk) s.outbox _ g.outbox t; near = g.near }) }
+    record { safe = t; holds = (tt, record { services = g.services; notes = g.notes; outbox = all_behind IsGoodSent s.outbox _ g.outbox (t, refl); near = g.near }) }
 
 sent_by_right : (hop : Hop) (k : Chunk) (h : Host) (n : ℕ) (r : Name) → IsGoodChunk k → Yields {A = Unit {0}} (λ _. Unit {0}) (sent_by hop k h n r)
 sent_by_right (To via dev) k h n r t = sent_right dev k h n r t

@@ -68,9 +68,12 @@ fn make_event<S: Services>(
     requires fits { event_fits event.now }
     requires few { world.old.made < 2 ^ 32 - 2 }
     requires counts { IsCountable S.stands world.old event.now ledger.old }
-    ensures text { (w : WorldState) → WorldStands S.stands world.old w → OnOk result (text.new ≡ text.old ++ entries_text frames (spec.entries w event.now)) }
-    ensures world { (w : WorldState) → WorldStands S.stands world.old w → OnOk result (WorldStands S.stands world.new (spec.happens w event.now).world) }
-    ensures ledger { (w : WorldState) (h : List EntryOf) → WorldStands S.stands world.old w → Stands h ledger.old → OnOk result (Stands (h ++ spec.entries w event.now) ledger.new) }
+    ensures text { (w : WorldState) → WorldStands S.stands world.old w
+        → OnOk result (text.new ≡ text.old ++ entries_text frames (spec.entries w event.now)) }
+    ensures world { (w : WorldState) → WorldStands S.stands world.old w
+        → OnOk result (WorldStands S.stands world.new (spec.happens w event.now).world) }
+    ensures ledger { (w : WorldState) (h : List EntryOf) → WorldStands S.stands world.old w
+        → Stands h ledger.old → OnOk result (Stands (h ++ spec.entries w event.now) ledger.new) }
     ensures made { OnOk result (world.new.made ≡ world.old.made + 1) }
 {
     let number = world.made() + 1;
@@ -109,9 +112,12 @@ fn run_event<S: Services, K: Sink>(
     requires few { world.old.made < 2 ^ 32 - 2 }
     requires counts { IsCountable S.stands world.old event.now ledger.old }
     ensures waits { (w : WorldState) → WorldStands S.stands world.old w
-        → WaitsFor (text ++ entries_text frames (spec.entries w event.now)) (K.state out.old) (K.state out.new) result }
-    ensures world { (w : WorldState) → WorldStands S.stands world.old w → OnOk result (WorldStands S.stands world.new (spec.happens w event.now).world) }
-    ensures ledger { (w : WorldState) (h : List EntryOf) → WorldStands S.stands world.old w → Stands h ledger.old → OnOk result (Stands (h ++ spec.entries w event.now) ledger.new) }
+        → WaitsFor (text ++ entries_text frames (spec.entries w event.now))
+        (K.state out.old) (K.state out.new) result }
+    ensures world { (w : WorldState) → WorldStands S.stands world.old w
+        → OnOk result (WorldStands S.stands world.new (spec.happens w event.now).world) }
+    ensures ledger { (w : WorldState) (h : List EntryOf) → WorldStands S.stands world.old w
+        → Stands h ledger.old → OnOk result (Stands (h ++ spec.entries w event.now) ledger.new) }
     ensures made { OnOk result (world.new.made ≡ world.old.made + 1) }
 {
     let mut waiting = text;
@@ -136,8 +142,12 @@ fn run_events<S: Services, K: Sink>(
     requires rules { KeepsRules schedule.now }
     requires opening { WorldStands S.stands world.old (opening schedule.now.topology) }
     requires empty { Stands [] ledger.old }
-    ensures lines { Prints (entries_text schedule.now.frames (spec.history_of schedule.now.events (opening schedule.now.topology))) (K.state out.old) (K.state out.new) result }
-    ensures ledger { OnOk result (Stands (spec.history_of schedule.now.events (opening schedule.now.topology)) ledger.new) }
+    ensures lines { Prints
+        (entries_text schedule.now.frames
+        (spec.history_of schedule.now.events (opening schedule.now.topology)))
+        (K.state out.old) (K.state out.new) result }
+    ensures ledger { OnOk result
+        (Stands (spec.history_of schedule.now.events (opening schedule.now.topology)) ledger.new) }
 {
     let events = schedule.events.as_slice();
     let mut text = Bytes::new(alloc);
@@ -155,7 +165,8 @@ fn run_events<S: Services, K: Sink>(
 
 /// The text of a ledger.
 fn ledger_bytes(alloc: Global, ledger: &Ledger) -> Result<Bytes, NoMemory>
-    ensures { (h : List EntryOf) (w : WorldState) → Stands h ledger.now → ((f : FamilyOf) → Balanced f h w) → IfOk result (λ text. text ≡ ledger_text h w) }
+    ensures { (h : List EntryOf) (w : WorldState) → Stands h ledger.now
+        → ((f : FamilyOf) → Balanced f h w) → IfOk result (λ text. text ≡ ledger_text h w) }
 {
     let mut text = Bytes::new(alloc);
     put_ledger(&mut text, ledger)?;
@@ -171,7 +182,9 @@ fn write_run<S: Services, K: Sink>(
 ) -> Result<(), RunFault>
     requires rules { KeepsRules schedule.now }
     requires opening { WorldStands S.stands world.old (opening schedule.now.topology) }
-    ensures { Prints (run_text schedule.now.frames schedule.now.events (opening schedule.now.topology)) (K.state out.old) (K.state out.new) result }
+    ensures { Prints
+        (run_text schedule.now.frames schedule.now.events (opening schedule.now.topology))
+        (K.state out.old) (K.state out.new) result }
 {
     let Ok(mut ledger) = Ledger::new(alloc) else {
         return Err(RunFault::NoMemory);
@@ -200,8 +213,11 @@ fn run_schedule<S: Services + Drop, K: Sink>(
     out: &mut K,
 ) -> Result<(), RunFault>
     requires rules { KeepsRules schedule.now }
-    requires services { map S.stands services ≡ map spec.opening_services schedule.now.topology.hosts }
-    ensures { Prints (run_text schedule.now.frames schedule.now.events (opening schedule.now.topology)) (K.state out.old) (K.state out.new) result }
+    requires services { map S.stands services
+        ≡ map spec.opening_services schedule.now.topology.hosts }
+    ensures { Prints
+        (run_text schedule.now.frames schedule.now.events (opening schedule.now.topology))
+        (K.state out.old) (K.state out.new) result }
 {
     let Ok(mut world) = World::new(alloc, &schedule.topology, services) else {
         return Err(RunFault::NoMemory);
@@ -221,8 +237,11 @@ pub fn run<S: Services + Drop, K: Sink>(
     out: &mut K,
 ) -> Result<(), RunFault>
     requires rules { KeepsRules schedule.now }
-    requires services { map S.stands services ≡ map spec.opening_services schedule.now.topology.hosts }
-    ensures prints { Prints (run_text schedule.now.frames schedule.now.events (opening schedule.now.topology)) (K.state out.old) (K.state out.new) result }
+    requires services { map S.stands services
+        ≡ map spec.opening_services schedule.now.topology.hosts }
+    ensures prints { Prints
+        (run_text schedule.now.frames schedule.now.events (opening schedule.now.topology))
+        (K.state out.old) (K.state out.new) result }
     ensures keeps { KeepsRun schedule.now }
 {
     run_schedule(alloc, schedule, services, out)

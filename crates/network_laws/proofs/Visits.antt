@@ -12,7 +12,7 @@ use Rattle.frame_text.specs.Decoding.{frame_of}
 use Rattle.frame_text.proofs.OneAnswer.{found_is}
 use Rattle.chunk_types.specs.Chunks.{IsCheckedChunk}
 use Rattle.service_api.specs.Services.{IsGood, IsGoodChunk, IsGoodNote, begun_now}
-use Rattle.plan_meaning.specs.Safe.{IsGoodState}
+use Rattle.plan_meaning.specs.Safe.{IsGoodSent, IsGoodState}
 use Rattle.plan_meaning.specs.Visit.{begun}
 use Rattle.meaning_laws.proofs.Allowances.{visit_can_end}
 use Rattle.network_plan.specs.declared.event.WorldEvent.{WorldEvent}
@@ -36,7 +36,7 @@ module _ (node : NodeState) (p : Packet) (good : IsGood node.services) (near : l
   good_start = record {
     services = record { serve = good.serve; rows = good.rows };
     notes = All-nil IsGoodNote;
-    outbox = All-nil (λ s. IsGoodChunk s.packet.chunk);
+    outbox = All-nil IsGoodSent;
     near = near;
   }
 

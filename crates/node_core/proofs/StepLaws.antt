@@ -9,6 +9,7 @@ use Rattle.wire_bytes.specs.Fields.{IsBytes}
 use Rattle.packet_frame.specs.declared.checked.Frame.{Frame}
 use Rattle.packet_frame.specs.declared.frame.PlainFrame.{PlainFrame}
 use Rattle.packet_frame.specs.declared.fault.FrameFault.{FrameFault}
+use Rattle.packet_frame.specs.Forms.{IsPlain}
 use Rattle.packet_frame.specs.Typed.{plain_of, Accepts, FrameFirst}
 use Rattle.frame_text.specs.Decoding.{frame_of}
 use Rattle.frame_text.proofs.OneAnswer.{accepts_is, first_is}
@@ -109,6 +110,13 @@ asked_so bytes (PlainFrame.Ask bound chunk) h = h.spells.fits.0
 pub read_within : (bytes : List ℕ) (r : Result Frame FrameFault) → IfOk r (λ x. Accepts bytes (plain_of x)) → IfOk r (λ x. asks_within (plain_of x))
 read_within bytes (Ok x) h = asked_so bytes (plain_of x) h
 read_within bytes (Err e) h = h
+
+plain_so : (bytes : List ℕ) (x : PlainFrame) → Accepts bytes x → IsPlain x
+plain_so bytes x h = h.spells.plain
+
+pub read_plain : (bytes : List ℕ) (r : Result Frame FrameFault) → IfOk r (λ x. Accepts bytes (plain_of x)) → IfOk r (λ x. IsPlain (plain_of x))
+read_plain bytes (Ok x) h = plain_so bytes (plain_of x) h
+read_plain bytes (Err e) h = h
 
 -- ---- adverts
 

@@ -8,6 +8,7 @@ ghost use Rattle.node_model.specs.Counts.{came, StepBalances};
 ghost use Rattle.node_model.specs.Fits.{ConfigFits, NodeFits, comes_fit, comes_within};
 ghost use Rattle.node_core.specs.Queued.{has_first, queued_at, TakesFirst};
 ghost use Rattle.wire_bytes.specs.Fields.{IsBytes};
+ghost use Rattle.packet_frame.specs.Forms.{IsPlain};
 ghost use Rattle.packet_frame.specs.Typed.{plain_of};
 ghost use Rattle.packet_frame.specs.declared.fault.FrameFault.{FrameFault};
 ghost use Rattle.frame_text.specs.Decoding.{frame_of};
@@ -146,6 +147,7 @@ fn read_frame(alloc: Global, bytes: &[u8], known: Option<&Checked>) -> Result<Fr
     ensures found { IfOk result (λ x. frame_of bytes.now ≡ Ok (plain_of x)) }
     ensures fault { IfErr result (λ e. (e ≡ FrameFault.NoMemory) ⊎ (frame_of bytes.now ≡ Err e)) }
     ensures within { IfOk result (λ x. asks_within (plain_of x)) }
+    ensures plain { IfOk result (λ x. IsPlain (plain_of x)) }
 {
     are_bytes(bytes);
     get_frame(alloc, bytes, known)
@@ -329,7 +331,7 @@ impl<S: Services> Node<S> {
         self.admit(alloc, before, chunk, bound)
     }
 
-    /// A packet that goes on over a device.
+    /// A packet without a handler that goes on over a device.
     fn send_on(
         &mut self,
         alloc: Global,
@@ -337,6 +339,7 @@ impl<S: Services> Node<S> {
         packet: &CheckedPacket,
         over: Dev,
     ) -> Result<Acts, NoMemory>
+        requires plain { packet.now.handler ≡ None }
         ensures ok { (s : NodeState) → NodeStands S.stands self.old s → IfOk result (λ acts. IsStep S.stands (spec.onward s dev (spec.packet_sending (record { dev = over; packet = packet.now }))) acts self.new) }
         ensures err { (s : NodeState) → NodeStands S.stands self.old s → OnErr result (NodeStands S.stands self.new s) }
     {
@@ -360,7 +363,7 @@ impl<S: Services> Node<S> {
         Ok(Acts { list, frame: None })
     }
 
-    /// A packet that goes on by a hop.
+    /// A packet without a handler that goes on by a hop.
     #[tactic(auto, unfolding(node_model::specs::Node::forward_by))]
     fn forward_by(
         &mut self,
@@ -369,6 +372,7 @@ impl<S: Services> Node<S> {
         packet: &CheckedPacket,
         hop: Hop,
     ) -> Result<Acts, NoMemory>
+        requires plain { packet.now.handler ≡ None }
         ensures ok { (s : NodeState) → NodeStands S.stands self.old s → IfOk result (λ acts. IsStep S.stands (spec.forward_by s dev packet.now hop) acts self.new) }
         ensures err { (s : NodeState) → NodeStands S.stands self.old s → OnErr result (NodeStands S.stands self.new s) }
     {
@@ -381,9 +385,10 @@ impl<S: Services> Node<S> {
         self.only_acts(alloc, Act::Arrived(dev), dropped)
     }
 
-    /// A packet for another host.
+    /// A packet without a handler for another host.
     #[tactic(auto, unfolding(node_model::specs::Node::forward_step))]
     fn forward(&mut self, alloc: Global, dev: Dev, packet: &CheckedPacket) -> Result<Acts, NoMemory>
+        requires plain { packet.now.handler ≡ None }
         ensures ok { (s : NodeState) → NodeStands S.stands self.old s → IfOk result (λ acts. IsStep S.stands (spec.forward_step s dev packet.now) acts self.new) }
         ensures err { (s : NodeState) → NodeStands S.stands self.old s → OnErr result (NodeStands S.stands self.new s) }
     {
@@ -396,9 +401,10 @@ impl<S: Services> Node<S> {
         self.forward_by(alloc, dev, packet, hop)
     }
 
-    /// A packet arrives: one for this host is visited.
+    /// A packet without a handler arrives: one for this host is visited.
     #[tactic(auto, unfolding(node_model::specs::Node::packet_step))]
     fn take_in(&mut self, alloc: Global, dev: Dev, packet: &CheckedPacket) -> Result<Acts, NoMemory>
+        requires plain { packet.now.handler ≡ None }
         ensures ok { (s : NodeState) → NodeStands S.stands self.old s → IfOk result (λ acts. IsStep S.stands (spec.packet_step s dev packet.now) acts self.new) }
         ensures err { (s : NodeState) → NodeStands S.stands self.old s → OnErr result (NodeStands S.stands self.new s) }
     {
@@ -437,8 +443,9 @@ impl<S: Services> Node<S> {
         Ok(acts)
     }
 
-    /// A frame arrives.
+    /// A frame of version 1 arrives.
     fn arrive_frame(&mut self, alloc: Global, dev: Dev, frame: &Frame) -> Result<Acts, NoMemory>
+        requires { IsPlain (plain_of frame.now) }
         ensures ok { (s : NodeState) → NodeStands S.stands self.old s → IfOk result (λ acts. IsStep S.stands (spec.frame_step s dev (plain_of frame.now)) acts self.new) }
         ensures err { (s : NodeState) → NodeStands S.stands self.old s → OnErr result (NodeStands S.stands self.new s) }
     {

@@ -1,4 +1,5 @@
-ghost use Rattle.std.specs.Prelude.{◌≡◌, map, IfOk};
+ghost use Rattle.std.specs.Prelude.{◌≡◌, None, map, IfOk};
+ghost use Rattle.plan_meaning.specs.Safe.{AreGoodPackets};
 ghost use Rattle.service_api.specs.Adverts.{AdvertFits};
 ghost use Rattle.node_model.specs.Node as spec;
 
@@ -12,7 +13,9 @@ use spelled_frame::SpelledFrame;
 use std::alloc::Global;
 
 /// The sending of a packet over a device: it goes on with 1 paid for the hop, or is dropped with the bound that was paid.
+/// Condition: it has no handler.
 pub fn packet_sending(alloc: Global, dev: Dev, packet: &CheckedPacket) -> Result<Sending, NoMemory>
+    requires { packet.now.handler ≡ None }
     ensures { IfOk result (λ s. s ≡ spec.packet_sending (record { dev = dev; packet = packet.now })) }
 {
     let (family, bound) = (packet.family(), packet.bound());
@@ -25,9 +28,10 @@ pub fn packet_sending(alloc: Global, dev: Dev, packet: &CheckedPacket) -> Result
     })
 }
 
-/// The sendings of a visit.
+/// The sendings of a visit. Condition: what it sends has no handler.
 #[tactic(auto, unfolding(node_model::specs::Node::visit_sends))]
 pub fn visit_sendings(alloc: Global, outbox: Outbox) -> Result<Sendings, NoMemory>
+    requires { AreGoodPackets outbox }
     ensures { IfOk result (λ sends. sends ≡ map spec.packet_sending outbox) }
 {
     let mut sends = Items::new(alloc);

@@ -50,8 +50,8 @@ fails_more a b c x y u f = record {
   rose = omega (arith, u.later, f.rose);
 }
 
--- a front of a list is one of every list that goes on from it
-front_longer : {A : Type 0} (n : ℕ) (xs ys : List A) → (m : ℕ) × (take n xs ≡ take m (xs ++ ys))
+-- a prefix of a list is one of every list that goes on from it
+pub front_longer : {A : Type 0} (n : ℕ) (xs ys : List A) → (m : ℕ) × (take n xs ≡ take m (xs ++ ys))
 front_longer zero xs ys = (0, refl)
 front_longer (suc n) [] ys = (0, refl)
 front_longer (suc n) (x ∷ xs) ys = let more = front_longer n xs ys in (suc more.0, ap (λ l. x ∷ l) more.1)

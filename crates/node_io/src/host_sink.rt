@@ -21,7 +21,7 @@ impl<W: Write + Drop> HostSink<W> {
     }
 }
 
-/// Writes a front of `piece`, at least one byte of a nonempty one, and flushes. Answers its length,
+/// Writes a prefix of `piece`, at least one byte of a nonempty one, and flushes. Answers its length,
 /// or `None` where the writing or the flushing failed.
 pub(crate) fn write_some<W: Write>(to: &mut W, piece: &[u8]) -> Option<usize>
     ensures { IfSome result (λ n. (n ≤ length piece.now) × (0 < length piece.now → 0 < n)) }

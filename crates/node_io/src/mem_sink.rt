@@ -60,7 +60,7 @@ impl MemSink {
         &self.taken
     }
 
-    // Takes a front of `piece` and answers its length, or `None` where the push is to fail.
+    // Takes a prefix of `piece` and answers its length, or `None` where the push is to fail.
     fn take(&mut self, piece: &[u8]) -> Option<usize>
         ensures count { IfSome result
             (λ n. (n ≤ length piece.now) × (0 < length piece.now → 0 < n)) }

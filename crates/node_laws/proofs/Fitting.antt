@@ -24,6 +24,7 @@ use Rattle.service_api.specs.Adverts.{AdvertFits}
 use Rattle.service_api.specs.Routes.{hop}
 use Rattle.service_api.specs.Services.{Rows, Standing, IsGoodChunk, IsGoodValue, AreGoodRows, expired}
 use Rattle.plan_meaning.specs.declared.sent.Sent.{Sent}
+use Rattle.plan_meaning.specs.Safe.{IsGoodSent, AreGoodPackets}
 use Rattle.plan_meaning.specs.Visit.{bounds}
 use Rattle.dv_routing.specs.Routing.{all_routes, own_advert}
 use Rattle.dv_routing.proofs.Rows.{advert_fits}
@@ -44,13 +45,13 @@ hop_fits : (p : Packet) → PacketFits p → PacketFits (hop_packet p)
 hop_fits p h = record { bound = omega (arith, h.bound); chunk = h.chunk }
 
 -- what a visit sends is within its bound, and good
-sent_fits : (ss : List Sent) → bounds ss ≤ 65535 → All (λ s. IsGoodChunk s.packet.chunk) ss → All (Sends FrameKeeps) (map packet_sending ss)
+sent_fits : (ss : List Sent) → bounds ss ≤ 65535 → AreGoodPackets ss → All (Sends FrameKeeps) (map packet_sending ss)
 sent_fits [] h g = All-nil (Sends FrameKeeps)
 sent_fits (s ∷ ss) h g =
     let e = sum_by-cons (λ (s : Sent). s.packet.bound) s ss in
     All-cons (Sends FrameKeeps) (packet_sending s) (map packet_sending ss)
-    (hop_fits s.packet (record { bound = omega arith; chunk = All-head (λ s. IsGoodChunk s.packet.chunk) s ss g }))
-    (sent_fits ss (omega arith) (All-tail (λ s. IsGoodChunk s.packet.chunk) s ss g))
+    (hop_fits s.packet (record { bound = omega arith; chunk = (All-head IsGoodSent s ss g).0 }))
+    (sent_fits ss (omega arith) (All-tail IsGoodSent s ss g))
 
 adverts_sent : (a : Advert) (links : Links) → AdvertFits a → All (Sends FrameKeeps) (map (advert_sending a) links)
 adverts_sent a [] h = All-nil (Sends FrameKeeps)

@@ -13,7 +13,7 @@ use Rattle.plan_meaning.specs.declared.outcome.Visit.{Visit}
 use Rattle.plan_meaning.specs.State.{VisitState}
 use Rattle.plan_meaning.specs.Run.{After, gave, stopped}
 use Rattle.plan_meaning.specs.Meaning.{meaning, visited}
-use Rattle.plan_meaning.specs.Safe.{AreGoodPackets, IsGoodState, Holds}
+use Rattle.plan_meaning.specs.Safe.{IsGoodSent, AreGoodPackets, IsGoodState, Holds}
 use Rattle.plan_meaning.specs.Visit.{allowance, begun, spent, bounds}
 use Rattle.meaning_laws.specs.Laws.{left_by, total}
 use Rattle.meaning_laws.proofs.Even as even
@@ -53,7 +53,7 @@ good_start : (node : NodeState) (p : Packet) → IsGood node.services → length
 good_start node p g n = record {
   services = record { serve = g.serve; rows = g.rows };
   notes = All-nil IsGoodNote;
-  outbox = All-nil (λ s. IsGoodChunk s.packet.chunk);
+  outbox = All-nil IsGoodSent;
   near = n;
 }
 
@@ -97,7 +97,7 @@ undone_fits : (n : Standing) → IsGood n → ServicesFit (abandoned (begun_now 
 undone_fits n g = record { good = record { serve = g.serve; rows = g.rows }; closed = refl; waits = refl }
 
 spent_fits : (bound : ℕ) (n : Standing) → IsGood n → VisitFits (spent allowance bound) (abandoned (begun_now n))
-spent_fits bound n g = record { packets = All-nil (λ s. IsGoodChunk s.packet.chunk); services = undone_fits n g }
+spent_fits bound n g = record { packets = All-nil IsGoodSent; services = undone_fits n g }
 
 end_fits : (bound : ℕ) (n : Standing) (a : After Value) → IsGood n → IsGoodState (left_by a) → VisitFits (visit_end bound a) (services_end (begun_now n) a)
 end_fits bound n (gave v s) o g = record { packets = g.outbox; services = kept_fits s.services g.services }

@@ -1,5 +1,5 @@
 -- A step that was made and written, or not.
-use Rattle.std.proofs.Common.{◌≡◌, ◌≢◌, ℕ, suc, ◌+◌, ◌<◌, ◌==◌, ◌⊎◌, inl, inr, get_or, Bool, true, false, if◌then◌else◌, nat_le, List, [], ◌∷◌, ◌++◌, length, drop, slice_get, Option, Some, None, Result, Ok, Err, refl, sym, ◌∙◌, ap, subst, arith, length-append, append-nil}
+use Rattle.std.proofs.Common.{◌≡◌, ◌≢◌, ℕ, suc, ◌+◌, ◌<◌, ◌==◌, ◌⊎◌, inl, inr, get_or, Bool, true, false, if◌then◌else◌, nat_le, List, [], ◌∷◌, ◌++◌, length, drop, slice_get, Option, Some, None, Result, Ok, Err, MatchResult, refl, sym, ◌∙◌, ap, subst, arith, length-append, append-nil}
 use Rattle.std.proofs.lemmas.Bool.Decides.{nat_tests}
 use Rattle.plan_base.specs.declared.ids.Dev.{Dev}
 use Rattle.plan_base.specs.declared.ids.Host.{Host}
@@ -33,7 +33,7 @@ use Rattle.node_serve.specs.declared.server.Server.{Server}
 use Rattle.node_serve.specs.declared.steps.Stepped.{Stepped}
 use Rattle.node_serve.specs.declared.steps.Stepped.TheVariants.{Lost, Took}
 use Rattle.node_serve.specs.declared.steps.StepTexts.{StepTexts}
-use Rattle.node_serve.specs.Steps.{was_lost, Written, WrittenFront, in_log, in_trace, sending, SendsTaken}
+use Rattle.node_serve.specs.Steps.{was_lost, Written, WrittenFront, in_log, in_trace, sending}
 use Rattle.node_serve.specs.Standing.{StandsFor, Makes}
 
 pub made_reached : {S : Type 0} (stands : S → Standing) (cfg : ServeConfig) (base seen : Seen) (r : Running) (e : Event) (made : Stepped) (server : Server S) → Makes stands cfg base seen r e made server → Reached (StandsFor stands server) cfg base seen r (make e)
@@ -110,7 +110,7 @@ shows_taken cfg base old new d (Some x) r h f t k s = shows_sent cfg base old ne
 
 -- a frame that was taken, and sent or not
 pub send_result : {S T E : Type 0} (stands : S → Standing) (cfg : ServeConfig) (base old new : Seen) (r : Running) (d : Dev) (x : Option PlainFrame) (server : Server S) (result : Result T E) → r.held ≡ false → Makes stands cfg base old r (Take d) (Took x) server
-    → SendsTaken old.sent new.sent d x result → new.files ≡ old.files → new.target ≡ old.target → new.taken ≡ old.taken → Leaves (StandsFor stands server) cfg base new r (take_send d) result
+    → MatchResult result (λ _. new.sent ≡ old.sent ++ sending d x) (λ _. new.sent ≡ old.sent) → new.files ≡ old.files → new.target ≡ old.target → new.taken ≡ old.taken → Leaves (StandsFor stands server) cfg base new r (take_send d) result
 send_result stands cfg base old new r d x server (Ok y) h m s f t k =
     let taken = with_entry (entry.Step (Take d)) r in
     send_took (StandsFor stands server) cfg base new r d x h (m.frame refl) (stands_sent stands server d x taken m.stands_for) (shows_taken cfg base old new d x taken m.shows f t k s)

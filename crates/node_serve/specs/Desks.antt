@@ -32,6 +32,9 @@ serving files out link clock = record { files = files; out = out; link = link; c
 abbrev pub desk_of : Serving → Desk
 desk_of s = record { files = s.files; out = s.out; link = s.link }
 
+abbrev pub with_clock : Desk → ClockState → Serving
+with_clock d clock = record { files = d.files; out = d.out; link = d.link; clock = clock }
+
 -- what of a desk a run changes
 abbrev pub seen_at : Desk → Seen
 seen_at d = record { files = d.files.held; target = d.files.target; taken = d.out.taken; sent = d.link.sent }

@@ -64,6 +64,7 @@ NoneUnbound old new = new.link.bound ≡ [] → (new.files ≡ old.files) × (ne
 -- the log is being written, and the link has the peers of the node
 pub record IsReady (cfg : ServeConfig) (d : Desk) : Type 0 where
   pub writing : IsTrue d.files.writing
+  pub target : IsTrue d.files.observable → d.files.target ≡ cfg.log
   pub bound : d.link.bound ≡ peers_of cfg
 
 pub record Opens {T : Type 0} (cfg : ServeConfig) (old new : Desk) (result : Result T ServeFault) : Type 0 where

@@ -6,7 +6,7 @@ use Rattle.node_io.specs.FileStates.{OnlyWrites}
 use Rattle.service_api.specs.Services.{Standing}
 use Rattle.serve_model.specs.Runs.{opened}
 use Rattle.node_serve.specs.Standing.{StandsFor}
-use Rattle.node_serve.specs.Desks.{Desk, Serving, desk_of, IsSeen, OthersStay, KeepsDesk, Faults}
+use Rattle.node_serve.specs.Desks.{Desk, Serving, desk_of, with_clock, IsSeen, OthersStay, KeepsDesk, Faults}
 use Rattle.node_serve.specs.Served.{Begins, Ends}
 use Rattle.node_serve.specs.Openings.{MayBindNode, MakesLog, NoneUnbound}
 use Rattle.node_serve.specs.declared.server.Server.{Server}
@@ -18,7 +18,7 @@ pub record Finishes {S T : Type 0} (stands : S → Standing) (cfg : ServeConfig)
   pub keeps : KeepsDesk (desk_of old) (desk_of new)
   pub faults : Faults (desk_of old) (desk_of new) result
   pub ends : IsSeen (desk_of old) → IsTrue old.clock.observable → (node : NodeState) (first : Desk) → StandsFor stands server (opened node)
-      → Begins cfg first (desk_of old) → Ends cfg node turns (record old { files = first.files; out = first.out; link = first.link }) new result
+      → Begins cfg first (desk_of old) → Ends cfg node turns (with_clock first old.clock) new result
 
 -- a node served so many turns, or a front of them where it failed: only the log was made and written, the link was bound only
 -- once and before it, and each fault has its count

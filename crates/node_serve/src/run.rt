@@ -60,7 +60,7 @@ impl<S: Services> Server<S> {
         requires bound { (L.state link.old).bound ≡ spec.peers_of cfg.now }
         requires keeps { KeepsServe cfg.now }
         requires room { length buf.old ≡ 16513 }
-        ensures goes { GoesTurns S.stands cfg.now turns self.old self.new
+        ensures { GoesTurns S.stands cfg.now turns self.old self.new
             (serving (F.state files.old) (K.state out.old) (L.state link.old) (C.state clock.old))
             (serving (F.state files.new) (K.state out.new) (L.state link.new) (C.state clock.new))
             result }

@@ -84,11 +84,11 @@ fn took_texts(
     acts: Acts,
 ) -> Result<StepTexts, NoMemory>
     requires { KeepsNodeEvent event.now }
-    ensures line { IfOk result (λ texts. texts.line ≡ entry_text (entry.Step event.now)) }
+    ensures line { IfOk result (λ texts. (texts.line ≡ entry_text (entry.Step event.now))
+        × IsReadable (entry.Step event.now)) }
     ensures lines { IfOk result
         (λ texts. texts.lines ≡ lines_text here (entries_at number acts.list)) }
     ensures made { IfOk result (λ texts. texts.made ≡ stepped.Took acts.frame) }
-    ensures readable { OnOk result (IsReadable (entry.Step event.now)) }
 {
     let Acts { list, frame } = acts;
     let line = event_text(alloc, event)?;

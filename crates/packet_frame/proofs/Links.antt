@@ -1,6 +1,5 @@
 -- A frame of version 2 with another number.
 use Rattle.std.proofs.Common.{◌≡◌, ℕ, ◌+◌, ◌<◌, ◌≤◌, ◌^◌, List, [], ◌∷◌, ◌++◌, length, take, drop, Option, Some, None, refl, sym, ap, ◌∙◌, subst, arith}
-
 use Rattle.std.specs.Int.{w64, to_be_bytes}
 use Rattle.link_window.specs.declared.window.Stamp.{Stamp}
 use Rattle.packet_frame.specs.declared.frame.PlainFrame.{PlainFrame}

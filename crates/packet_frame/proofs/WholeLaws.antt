@@ -23,7 +23,6 @@ use Rattle.packet_frame.specs.Fields.{Reader}
 use Rattle.packet_frame.specs.Reading.{Fails}
 use Rattle.packet_frame.proofs.FieldLaws.{AllKept, told_ok, told_is, judged_ok, judged_is, host_kept, serial_kept, bound_kept, route_kept, chunk_kept, rows_kept, reads_takes, reads_again, reads_go}
 
-
 -- a whole frame: how it is read, what must be read of it, how it is spelled, what may be spelled, and that these agree
 pub record Whole (A : Type 0) : Type 1 where
   pub read : Reader A

@@ -71,4 +71,3 @@ stamped_at s = do
   v ← either_version_at m.1
   k ← form_at v.0 v.1
   reads (stamped_forms k.0) (stamped_of_fields k.0) k.1
-

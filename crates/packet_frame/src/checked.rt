@@ -107,7 +107,10 @@ fn checked_packet(
         handler,
     } = p;
     let chunk = typed_chunk(alloc, chunk, known)?;
-    with_handler(CheckedPacket::of(family, dest, bound, route, chunk), handler)
+    with_handler(
+        CheckedPacket::of(family, dest, bound, route, chunk),
+        handler,
+    )
 }
 
 /// A frame that was read, where its chunk is typed and its handler may handle.
@@ -159,7 +162,11 @@ fn checked_stamped(
 /// Ok exactly where all the bytes, at most 16,512, are its spelling, its chunk is typed and its handler, if it has one, is a
 /// function of that chunk's code that may handle; otherwise the first fault.
 #[tactic(auto, using(crate::proofs::Carried::two_spelled, crate::proofs::Carried::two_only))]
-pub fn get_frame2(alloc: Global, bytes: &[u8], known: Option<&Checked>) -> Result<Stamped, FrameFault>
+pub fn get_frame2(
+    alloc: Global,
+    bytes: &[u8],
+    known: Option<&Checked>,
+) -> Result<Stamped, FrameFault>
     ensures found { IfOk result (λ x. AcceptsBy Two bytes.now (stamped_plain x)) }
     ensures only { (x : PlainOne) → AcceptsBy Two bytes.now x → MatchResult result (λ y. stamped_plain y ≡ x) (λ e. e ≡ FrameFault.NoMemory) }
     ensures fault { IfErr result (λ e. (e ≡ FrameFault.NoMemory) ⊎ StampedFirst e bytes.now) }

@@ -9,7 +9,9 @@ ghost use Rattle.packet_frame.specs.declared.frame.PlainStamped.{PlainStamped as
 
 use crate::fault::FrameFault;
 use crate::frame::{PlainFrame, PlainStamped};
-use crate::get::{bound_of, chunk_of, count_of, first_of, magic_of, route_of, rows_of, serial_of, word_of};
+use crate::get::{
+    bound_of, chunk_of, count_of, first_of, magic_of, route_of, rows_of, serial_of, word_of,
+};
 use crate::kind::Form;
 use link_window::Stamp;
 use plan_base::{Family, Host, Packet};

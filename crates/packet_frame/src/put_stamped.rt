@@ -44,7 +44,12 @@ pub fn put_advert2(alloc: Global, a: &Advert, s: Stamp) -> Result<Bytes, NoMemor
 
 /// The frame of a packet without a handler.
 #[tactic(auto, using(crate::proofs::Sizes::route_short))]
-fn put_plain2(alloc: Global, packet: &CheckedPacket, new_bound: u32, s: Stamp) -> Result<Bytes, NoMemory>
+fn put_plain2(
+    alloc: Global,
+    packet: &CheckedPacket,
+    new_bound: u32,
+    s: Stamp,
+) -> Result<Bytes, NoMemory>
     requires bound { new_bound ≤ 65535 }
     requires plain { packet.now.handler ≡ None }
     ensures { IfOk result (λ b. SpellsStamped b (record { stamp = Some s; frame = Plain.Packet (record packet.now { bound = new_bound }) })) }
@@ -88,7 +93,12 @@ fn put_handled(
 }
 
 /// The frame of a packet with another bound under version 2. Condition: that bound is at most 65,535.
-pub fn put_packet2(alloc: Global, packet: &CheckedPacket, new_bound: u32, s: Stamp) -> Result<Bytes, NoMemory>
+pub fn put_packet2(
+    alloc: Global,
+    packet: &CheckedPacket,
+    new_bound: u32,
+    s: Stamp,
+) -> Result<Bytes, NoMemory>
     requires { new_bound ≤ 65535 }
     ensures { IfOk result (λ b. SpellsStamped b (record { stamp = Some s; frame = Plain.Packet (record packet.now { bound = new_bound }) })) }
 {

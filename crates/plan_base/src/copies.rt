@@ -461,7 +461,7 @@ fn copy_value(alloc: Global, v: &Value) -> Result<Value, NoMemory>
         Value::Dev(d) => Ok(Value::Dev(*d)),
         Value::Chunk(c) => Ok(Value::Chunk(Boxed::new(alloc, copy_chunk(alloc, c.get())?)?)),
         Value::List(t, items) => Ok(Value::List(
-            t.copy(alloc)?,
+            Boxed::new(alloc, t.get().copy(alloc)?)?,
             copy_values(alloc, items.as_slice())?,
         )),
         Value::Tuple(parts) => Ok(Value::Tuple(copy_values(alloc, parts.as_slice())?)),

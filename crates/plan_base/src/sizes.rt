@@ -223,7 +223,7 @@ pub fn weight(v: &Value) -> u64
         Value::Blob(b) => bytes_size(b.as_slice(), 3),
         Value::Chunk(c) => chunk_weight(c.get()).saturating_add(1),
         Value::List(t, items) => values_weight(items.as_slice())
-            .saturating_add(type_size(t))
+            .saturating_add(type_size(t.get()))
             .saturating_add(3),
         Value::Tuple(parts) => values_weight(parts.as_slice()).saturating_add(2),
     }

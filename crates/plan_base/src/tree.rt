@@ -232,8 +232,8 @@ pub enum Value {
     Dev(Dev),
     /// A chunk
     Chunk(Boxed<Chunk>),
-    /// A list with its element type
-    List(Ty, Values),
+    /// A list with its element type, in a box, since a value would otherwise be twice as large
+    List(Boxed<Ty>, Values),
     /// A tuple of 2 to 8 parts
     Tuple(Values),
 }

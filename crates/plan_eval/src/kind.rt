@@ -1,11 +1,20 @@
 //! What an expression begins with.
-ghost use Rattle.std.specs.Prelude.{IfOk};
+ghost use Rattle.std.specs.Prelude.{◌≡◌, IfOk, []};
+ghost use Rattle.plan_base.specs.declared.tree.Value as value;
 ghost use Rattle.plan_base.specs.declared.tree.Expr.{Expr-F, out-Expr};
 ghost use Rattle.plan_eval.specs.Forms.{IsKind};
 
-use plan_base::{Expr, Exprs, Name, NoMemory, Value};
-use plan_items::Items;
+use plan_base::{Expr, Exprs, Name, NoMemory, Ty, Value};
+use plan_items::{Boxed, Items};
 use std::alloc::Global;
+
+/// The empty list of this type of items.
+fn empty_of(alloc: Global, item: &Ty) -> Result<Value, NoMemory>
+    ensures { IfOk result (λ v. v ≡ value.List item.now []) }
+{
+    let item = Boxed::new(alloc, item.copy(alloc)?)?;
+    Ok(Value::List(item, Items::new(alloc)))
+}
 
 /// What an expression begins with.
 #[derive(Drop)]
@@ -67,7 +76,7 @@ pub fn kind_of<'a>(alloc: Global, e: &'a Expr) -> Result<Kind<'a>, NoMemory>
         Expr::Blob(b) => Ok(Kind::Gives(Value::Blob(b.copy(alloc)?))),
         Expr::Host(h) => Ok(Kind::Gives(Value::Host(*h))),
         Expr::Dev(d) => Ok(Kind::Gives(Value::Dev(*d))),
-        Expr::Nil(Some(t)) => Ok(Kind::Gives(Value::List(t.copy(alloc)?, Items::new(alloc)))),
+        Expr::Nil(Some(t)) => Ok(Kind::Gives(empty_of(alloc, t)?)),
         Expr::Nil(None) => Ok(Kind::Untyped),
         Expr::Var(x) => Ok(Kind::Named(x)),
         Expr::Raise(x, _) => Ok(Kind::Raises(x)),

@@ -27,8 +27,12 @@ IsSafe (both a b) = IsSafe a × IsSafe b
 abbrev pub AreGoodNotes : List Note → Type 0
 AreGoodNotes notes = All IsGoodNote notes
 
+-- what is sent carries such a chunk and no handler
+abbrev pub IsGoodSent : Sent → Type 0
+IsGoodSent p = IsGoodChunk p.packet.chunk × (p.packet.handler ≡ None)
+
 abbrev pub AreGoodPackets : List Sent → Type 0
-AreGoodPackets outbox = All (λ p. IsGoodChunk p.packet.chunk) outbox
+AreGoodPackets outbox = All IsGoodSent outbox
 
 -- the services keep their laws, notes and packets are good, and there are at most 8 neighbours
 pub record IsGoodState (s : VisitState) : Type 0 where

@@ -105,7 +105,7 @@ pub fn tuple_of(alloc: Global, items: Items<Item>) -> Result<Item, ParseFault>
 pub fn list_of(alloc: Global, ty: Ty, values: Values) -> Result<Item, ParseFault>
     ensures { Answers (Ok (spec.list_of ty values)) result }
 {
-    let of = ty.copy(alloc)?;
+    let of = Boxed::new(alloc, ty.copy(alloc)?)?;
     Ok(Item {
         value: Value::List(of, values),
         ty: Ty::List(Boxed::new(alloc, ty)?),

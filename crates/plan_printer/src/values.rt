@@ -38,7 +38,7 @@ fn put_value(alloc: Global, v: &Value, out: &mut Bytes) -> Result<(), NoMemory>
         Value::Chunk(c) => put_chunk(alloc, c.get(), out),
         Value::List(t, vs) => {
             if vs.len() == 0 {
-                return put_empty(t, out);
+                return put_empty(t.get(), out);
             }
             put(out, b"[")?;
             put_values(alloc, vs.as_slice(), out)?;

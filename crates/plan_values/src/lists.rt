@@ -7,7 +7,7 @@ ghost use Rattle.plan_values.specs.Answers.{Answers, AnswersUnweighed};
 use crate::PrimFault;
 use crate::raise::{bad_index, empty, too_large};
 use plan_base::{Bytes, NoMemory, Text, Ty, Value, Values, copy_values, weight};
-use plan_items::Items;
+use plan_items::{Boxed, Items};
 use std::alloc::{AllocError, Global};
 
 /// The value, or `TooLarge` where it weighs more than 16,384 bytes.
@@ -70,7 +70,7 @@ pub fn put_first(alloc: Global, x: &Value, xs: &Value) -> Result<Value, PrimFaul
 {
     match xs {
         Value::List(t, items) => {
-            let t = t.copy(alloc)?;
+            let t = Boxed::new(alloc, t.get().copy(alloc)?)?;
             let items = with_first(alloc, x, items.as_slice())?;
             limited(alloc, Value::List(t, items))
         }
@@ -133,7 +133,10 @@ pub fn later_items(alloc: Global, t: &Ty, items: &[Value]) -> Result<Value, Prim
     ensures { Answers (rules.later_items t.now items.now) result }
 {
     match items {
-        [_, later @ ..] => Ok(Value::List(t.copy(alloc)?, copy_values(alloc, later)?)),
+        [_, later @ ..] => Ok(Value::List(
+            Boxed::new(alloc, t.copy(alloc)?)?,
+            copy_values(alloc, later)?,
+        )),
         [] => Err(empty(alloc)),
     }
 }

@@ -63,7 +63,7 @@ fn tail(alloc: Global, a: &Value) -> Result<Value, PrimFault>
     ensures { Answers (rules.of_one prim.Tl (out-Value a.now)) result }
 {
     match a {
-        Value::List(t, items) => later_items(alloc, t, items.as_slice()),
+        Value::List(t, items) => later_items(alloc, t.get(), items.as_slice()),
         _ => Err(PrimFault::Unfit),
     }
 }

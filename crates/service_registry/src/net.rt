@@ -10,7 +10,7 @@ use crate::answers::{no_route, refused};
 use crate::arguments::as_host;
 use crate::types::hop_type;
 use plan_base::{Dev, Host, Name, NoMemory, Value, Values};
-use plan_items::Items;
+use plan_items::{Boxed, Items};
 use service_api::{Answer, Ctx, Hop, RouteRow};
 use service_meaning::Service;
 use std::alloc::Global;
@@ -81,7 +81,7 @@ fn neighbours(alloc: Global, ctx: &Ctx) -> Result<Answer, NoMemory>
     ensures { Tells (spec.given (value.List offered.hop_type (map (λ n. spec.hop_value n.0 n.1) ctx.entry.now.neighbours))) result }
 {
     let values = hop_values(alloc, ctx.neighbours.as_slice())?;
-    let item = hop_type(alloc)?;
+    let item = Boxed::new(alloc, hop_type(alloc)?)?;
     Ok(Answer::Gives(Value::List(item, values), None))
 }
 

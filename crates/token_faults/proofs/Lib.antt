@@ -2,3 +2,4 @@ pub mod Moves
 pub mod Quotes
 pub mod Blobs
 pub mod Nested
+pub mod Own

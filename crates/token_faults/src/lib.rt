@@ -3,10 +3,11 @@
 //! Each law stands on a function without code, so that contracts of other crates can name it.
 #![tactic(auto)]
 
-ghost use Rattle.std.specs.Prelude.{◌≡◌, ◌↔◌, ◌+◌, ℕ, List, ◌∷◌, Some, None, Ok, Err};
-ghost use Rattle.plan_lexer.specs.Scanning.{move_at};
+ghost use Rattle.std.specs.Prelude.{◌≡◌, ◌≢◌, ◌↔◌, ◌+◌, ℕ, List, ◌∷◌, Some, None, Ok, Err};
+ghost use Rattle.plan_lexer.specs.Scanning.{move_at, Refuses};
 ghost use Rattle.plan_lexer.specs.declared.token.TokenKind.{TokenKind};
 ghost use Rattle.plan_lexer.specs.declared.fault.LexFault.{LexFault};
+ghost use Rattle.plan_lexer.specs.declared.fault.LexFault.TheVariants as fault;
 ghost use Rattle.token_faults.specs.Faulty.{StringFault, CharFault, BlobFault};
 ghost use Rattle.token_faults.specs.Comments.{EndsAt, Unclosed};
 
@@ -31,4 +32,9 @@ pub fn comments_are_passed()
     ensures never { (at : ℕ) (text : List ℕ) (k : TokenKind) (next : ℕ) → move_at at (40 ∷ 42 ∷ text) ≡ Ok (Some k, next) → ⊥ }
     ensures passed { (at : ℕ) (text : List ℕ) (next : ℕ) → (move_at at (40 ∷ 42 ∷ text) ≡ Ok (None, next)) ↔ EndsAt at next (40 ∷ 42 ∷ text) }
     ensures refused { (at : ℕ) (text : List ℕ) (e : LexFault) → (move_at at (40 ∷ 42 ∷ text) ≡ Err e) ↔ Unclosed e at (40 ∷ 42 ∷ text) }
+{}
+
+/// No first refusal of tokens is want of memory.
+pub fn refusals_hold_no_memory()
+    ensures { (e : LexFault) (at : ℕ) (text : List ℕ) → Refuses e at text → e ≢ fault.NoMemory }
 {}

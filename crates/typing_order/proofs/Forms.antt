@@ -20,8 +20,9 @@ use Rattle.plan_base.specs.Typing.{Ctx}
 use Rattle.plan_base.specs.TypingNames.{service_of, binds, binding, param_types, prim_of, takes, makes, is_exception, may_catch, OpKind, arithmetic, joining, equality, ordering, listing, kind_of, is_joined, is_ordered}
 use Rattle.plan_base.specs.TypingOrder.{Checking, Found, pure, refuse, ◌>>=◌, or_refuse, same_type, items_of, parts_of, part_in, given_of, fun_of, earlier, not_earlier, settled}
 use Rattle.plan_base.specs.TypingOrder as order
-use Rattle.typing_order.specs.Judgements.{Judgement, kept, test, same, part, there, suits, shallow, parts, typed, arguments, clauses, behind}
+use Rattle.typing_order.specs.Judgements.{Judgement, kept, test, same, part, there, none_earlier, suits, shallow, parts, typed, arguments, clauses, behind}
 use Rattle.typing_order.specs.Judgements as spec
+use Rattle.typing_order.proofs.Named.{earlier_is, named_is, none_is}
 use Rattle.typing_order.proofs.Stands.{Stands, Good, AllGood, ClausesGood, ended, test_stands, there_stands, same_stands, suits_stands, shallow_stands, run_stands, typed_stands, parts_stand, arguments_stand, clauses_stand, folding_stands}
 
 fold_above : {X : Type 0} (f : X → ℕ) (a : ℕ) (xs : List X) → a ≤ fold (λ m y. max m (f y)) a xs
@@ -85,8 +86,10 @@ module _ (code : Program) (seen : ℕ) (run : Ctx → Option Ty → Expr → Che
       → Is n (sum_by expr_nodes es + 0) (spec.function code seen c at want f es) (order.function code seen run c at want f es)
   unfolding order.function
   function_stands n at c want f es low g =
-      there_stands code seen n (sum_by expr_nodes es + 0) (earlier code seen f) (not_earlier code f at) (λ d. order.applied code seen run c at want f es (param_types d.params) d.result)
-      (λ d. arguments c at (param_types d.params) es (suits at want d.result)) (λ d. applied_stands n at c want f es (param_types d.params) d.result low g)
+      subst (λ o. Is n (sum_by expr_nodes es + 0) (there o (none_earlier code f at) (λ d. arguments c at (param_types d.params) es (suits at want d.result))) (order.function code seen run c at want f es)) (earlier_is code seen f)
+      (subst (λ z. Is n (sum_by expr_nodes es + 0) (there (earlier code seen f) z (λ d. arguments c at (param_types d.params) es (suits at want d.result))) (order.function code seen run c at want f es)) (none_is code f at)
+      (there_stands code seen n (sum_by expr_nodes es + 0) (earlier code seen f) (not_earlier code f at) (λ d. order.applied code seen run c at want f es (param_types d.params) d.result)
+      (λ d. arguments c at (param_types d.params) es (suits at want d.result)) (λ d. applied_stands n at c want f es (param_types d.params) d.result low g)))
 
   call_stands : (n at : ℕ) (c : Ctx) (want : Option Ty) (f : Name) (es : List Expr) → n ≤ 4294967295 → AllGood code seen run es
       → Is n (sum_by expr_nodes es + 0) (spec.called code seen c at want f es (prim_of f)) (order.call code seen run c at want f es)
@@ -298,10 +301,11 @@ module _ (code : Program) (seen : ℕ) (run : Ctx → Option Ty → Expr → Che
       → Is n (sum_by expr_nodes es + 0) (spec.judged code seen c at want (Expr-F.ChunkOf f es)) (order.packing code seen run c at want f es)
   unfolding order.packing
   packing_stands n at c want f es low g =
-      there_stands code seen n (sum_by expr_nodes es + 0) (fun_of code f) (fault.UnknownName (place.Node at)) (λ d. order.arguments code seen run c at (param_types d.params) es >>= (λ given. settled at want (x.ChunkOf f given) ty.Chunk))
+      subst (λ o. Is n (sum_by expr_nodes es + 0) (there o (fault.UnknownName (place.Node at)) (λ d. arguments c at (param_types d.params) es (suits at want ty.Chunk))) (order.packing code seen run c at want f es)) (named_is code f)
+      (there_stands code seen n (sum_by expr_nodes es + 0) (fun_of code f) (fault.UnknownName (place.Node at)) (λ d. order.arguments code seen run c at (param_types d.params) es >>= (λ given. settled at want (x.ChunkOf f given) ty.Chunk))
       (λ d. arguments c at (param_types d.params) es (suits at want ty.Chunk))
       (λ d. arguments_stand code seen run n at 0 c (param_types d.params) es (λ given. settled at want (x.ChunkOf f given) ty.Chunk) (suits at want ty.Chunk) low g
-      (λ xs m small. suits_stands code seen m at want (x.ChunkOf f xs) ty.Chunk small))
+      (λ xs m small. suits_stands code seen m at want (x.ChunkOf f xs) ty.Chunk small)))
 
   -- how many expressions the parts of a form have, with what its checking stands for
   pub record Opened (c : Ctx) (at : ℕ) (want : Option Ty) (e : Expr) (l : ExprLayer) : Type 0 where

@@ -141,6 +141,9 @@ module _ (p : Program) where
   one_first _ (later k more h s) (here _ _ m d) = absurd (m h)
   one_first _ (later k more h s) (later _ _ m t) = one_first more s t
 
+  pub one_refusal : (f g : TypeFault) → FirstRefusal p f → FirstRefusal p g → f ≡ g
+  one_refusal f g h k = one_first (conditions p) h k
+
   -- ---- the whole
 
   size_stands : (gs : List Fun) → FillsFrom 0 p.funs gs → StandsFor p (of_size ∷ []) (sized (record p { funs = gs }))
@@ -190,6 +193,3 @@ module _ (p : Program) where
 
     pub not_both : (q : Program) (f : TypeFault) → Fills p q → Typed q → FirstRefusal p f → ⊥
     not_both q f h t r = let z : ◌≡◌ {A = Result Program TypeFault} (Ok q) (Err f) = sym (annotated_complete p q (depths_kept p w) h t) ∙ (first_is f).1 r in cc
-
-    pub one_refusal : (f g : TypeFault) → FirstRefusal p f → FirstRefusal p g → f ≡ g
-    one_refusal f g h k = one_first (conditions p) h k

@@ -18,7 +18,8 @@ use Rattle.plan_base.specs.TypingOrder.{Checking, Found, pure, refuse, after, �
 use Rattle.plan_base.specs.TypingOrder as order
 use Rattle.plan_base.specs.TypingFills.{Becomes}
 use Rattle.plan_base.proofs.SameTypes.{same_type_true, same_type_of}
-use Rattle.typing_order.specs.Judgements.{Judgement, kept, test, same, part, there, suits, shallow, parts, typed, arguments, clauses, behind, FirstFailing, fails, differ, refuses, passes, agree, becomes, Refused}
+use Rattle.typing_order.specs.Judgements.{Judgement, kept, test, same, part, there, stands_earlier, none_earlier, suits, shallow, parts, typed, arguments, clauses, behind, FirstFailing, fails, differ, refuses, passes, agree, becomes, Refused}
+use Rattle.typing_order.proofs.Named.{earlier_is, none_is}
 
 -- one part of the checking after two others
 in_turn : {A B C : Type 0} (q : Result (A × ℕ) TypeFault) (f : A → Checking B) (k : B → Checking C) → after q (λ a. f a >>= k) ≡ after (after q f) k
@@ -184,9 +185,12 @@ module _ (code : Program) (seen : ℕ) where
         (λ x. clauses_stand ks (behind n (expr_nodes q.body)) (done ++ record { name = q.name; body = x } ∷ []) c t k (omega arith) (rest_clauses q ks g))))
 
     pub folding_stands : {A : Type 0} (n at count : ℕ) (f : Name) (k : Ty × Ty × Ty → Checking A) (more : Ty × Ty → Ty → Judgement) → ((p : Ty × Ty) (r : Ty) → Stands n count (more p r) (k (p.0, p.1, r) n))
-        → Stands n count (there (earlier code seen f) (not_earlier code f at) (λ d. there (pair_of d.params) (fault.Arity (place.Node at)) (λ p. more p d.result))) ((order.folding code seen run at f >>= k) n)
+        → Stands n count (there (stands_earlier code seen f) (none_earlier code f at) (λ d. there (pair_of d.params) (fault.Arity (place.Node at)) (λ p. more p d.result))) ((order.folding code seen run at f >>= k) n)
     unfolding order.folding
-    folding_stands {A} n at count f k more s = by_fun (earlier code seen f)
+    folding_stands {A} n at count f k more s =
+        subst (λ o. Stands {A = A} n count (there o (none_earlier code f at) (λ d. there (pair_of d.params) (fault.Arity (place.Node at)) (λ p. more p d.result))) ((order.folding code seen run at f >>= k) n)) (earlier_is code seen f)
+        (subst (λ z. Stands {A = A} n count (there (earlier code seen f) z (λ d. there (pair_of d.params) (fault.Arity (place.Node at)) (λ p. more p d.result))) ((order.folding code seen run at f >>= k) n)) (none_is code f at)
+        (by_fun (earlier code seen f)))
       where
         by_pair : (d : Fun) (o : Option (Ty × Ty)) → Stands {A = A} n count (there o (fault.Arity (place.Node at)) (λ p. more p d.result)) (((or_refuse o (fault.Arity (place.Node at)) >>= (λ p. pure (p.0, p.1, d.result))) >>= k) n)
         by_pair d (Some p) = s p d.result

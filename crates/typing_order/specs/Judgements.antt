@@ -1,7 +1,8 @@
 -- What is judged of each form of expression, one condition after the other, apart from the checker; and the first that isn't
 -- kept. Parts are typed by the rules, and places are counted.
-use Rattle.std.specs.Prelude.{◌≡◌, ℕ, ◌+◌, ◌++◌, ◌==◌, min, nat_le, Bool, true, false, List, [], ◌∷◌, length, ◌⊎◌, Option, Some, None, option_and_then}
-use Rattle.std.specs.List.{list_all}
+use Rattle.std.specs.Prelude.{◌≡◌, ℕ, ◌+◌, ◌++◌, ◌==◌, min, nat_le, Bool, true, false, List, [], ◌∷◌, length, ◌⊎◌, Option, Some, None, is_some, option_and_then, take, if◌then◌else◌}
+use Rattle.std.specs.List.{find, list_all}
+use Rattle.std.specs.Str.{bytes_eq}
 use Rattle.plan_base.specs.declared.name.Name.{Name}
 use Rattle.plan_base.specs.declared.prim.Primitive.{Primitive}
 use Rattle.plan_base.specs.declared.tree.Ty.{Ty}
@@ -9,15 +10,16 @@ use Rattle.plan_base.specs.declared.tree.Ty as ty
 use Rattle.plan_base.specs.declared.tree.Expr.{Expr, Expr-F, out-Expr}
 use Rattle.plan_base.specs.declared.tree.Clause.{Clause}
 use Rattle.plan_base.specs.declared.tree.Svc.{Svc}
+use Rattle.plan_base.specs.declared.tree.Fun.{Fun}
 use Rattle.plan_base.specs.declared.tree.Program.{Program}
 use Rattle.plan_base.specs.declared.tree.Place.TheVariants.{Node}
 use Rattle.plan_base.specs.declared.type_fault.TypeFault.{TypeFault}
-use Rattle.plan_base.specs.declared.type_fault.TypeFault.TheVariants.{UnknownName, Mismatch, Arity, NeedsType, WrongShape, TypeTooDeep}
+use Rattle.plan_base.specs.declared.type_fault.TypeFault.TheVariants.{UnknownName, NotEarlier, Mismatch, Arity, NeedsType, WrongShape, TypeTooDeep}
 use Rattle.plan_base.specs.Trees.{ExprLayer}
 use Rattle.plan_base.specs.Sizes.{type_depth, expr_nodes}
 use Rattle.plan_base.specs.Typing.{Ctx}
 use Rattle.plan_base.specs.TypingNames.{service_of, binds, binding, param_types, prim_of, takes, makes, is_exception, may_catch, OpKind, arithmetic, joining, equality, ordering, listing, kind_of, is_joined, is_ordered}
-use Rattle.plan_base.specs.TypingOrder.{items_of, parts_of, part_in, want_at, given_of, pair_of, fun_of, earlier, not_earlier}
+use Rattle.plan_base.specs.TypingOrder.{items_of, parts_of, part_in, want_at, given_of, pair_of}
 use Rattle.plan_base.specs.TypingFills.{Becomes}
 
 -- Conditions in order: a test, with what is told where it fails; two types that must be the same, with what is told; and
@@ -60,6 +62,18 @@ abbrev pub clauses : Ctx → Ty → List Clause → Judgement
 clauses c t [] = kept
 clauses c t (k ∷ ks) = typed c t k.body (clauses c t ks)
 
+-- the first function of that name
+abbrev pub named : Name → List Fun → Option Fun
+named f ds = find (λ d. bytes_eq d.name f) ds
+
+-- the first of that name among those that stand before the number `seen`
+abbrev pub stands_earlier : Program → ℕ → Name → Option Fun
+stands_earlier code seen f = named f (take seen code.funs)
+
+-- what is told where none does: it is the function with that number or a later one, or there is none of that name
+abbrev pub none_earlier : Program → Name → ℕ → TypeFault
+none_earlier code f at = if is_some (named f code.funs) then NotEarlier (Node at) else UnknownName (Node at)
+
 -- The place behind so many expressions: an expression stands before its parts, and each part before the next. Places stop at
 -- the last of 32 bits.
 abbrev pub behind : ℕ → ℕ → ℕ
@@ -74,7 +88,7 @@ module _ (code : Program) (seen : ℕ) where
 
   -- a function that stands earlier
   abbrev pub function : Ctx → ℕ → Option Ty → Name → List Expr → Judgement
-  function c at want f es = there (earlier code seen f) (not_earlier code f at) (λ d. arguments c at (param_types d.params) es (suits at want d.result))
+  function c at want f es = there (stands_earlier code seen f) (none_earlier code f at) (λ d. arguments c at (param_types d.params) es (suits at want d.result))
 
   -- a declared service, or else a function
   abbrev pub service : Ctx → ℕ → Option Ty → Name → List Expr → Option Svc → Judgement
@@ -98,7 +112,7 @@ module _ (code : Program) (seen : ℕ) where
   -- parameters.
   abbrev pub folding : Ctx → ℕ → Option Ty → Name → Expr → Expr → (Ty × Ty → Ty × Ty) → Judgement
   folding c at want f a l turned =
-      there (earlier code seen f) (not_earlier code f at)
+      there (stands_earlier code seen f) (none_earlier code f at)
       (λ d. there (pair_of d.params) (Arity (Node at))
       (λ p. typed c (turned p).0 a (typed c (ty.List (turned p).1) l (same d.result (turned p).0 (WrongShape (Node at)) (suits at want (turned p).0)))))
 
@@ -132,7 +146,7 @@ module _ (code : Program) (seen : ℕ) where
   judged c at want (Expr-F.Try a ks) = test (list_all (λ k. may_catch code k.name) ks) (UnknownName (Node at)) (part c want a (λ t. clauses c t ks))
   judged c at want (Expr-F.Foldl f a l) = folding c at want f a l (λ p. p)
   judged c at want (Expr-F.Foldr f a l) = folding c at want f a l (λ p. (p.1, p.0))
-  judged c at want (Expr-F.ChunkOf f es) = there (fun_of code f) (UnknownName (Node at)) (λ d. arguments c at (param_types d.params) es (suits at want ty.Chunk))
+  judged c at want (Expr-F.ChunkOf f es) = there (named f code.funs) (UnknownName (Node at)) (λ d. arguments c at (param_types d.params) es (suits at want ty.Chunk))
   judged c at want (Expr-F.Eval a) = typed c ty.Chunk a (suits at want ty.Unit)
   judged c at want (Expr-F.OnRemote a h n r) = typed c ty.Chunk a (typed c ty.Host h (typed c ty.Int n (suits at want ty.Unit)))
   judged c at want (Expr-F.OnNeighbor a h n d) = typed c ty.Chunk a (typed c ty.Host h (typed c ty.Int n (typed c ty.Dev d (suits at want ty.Unit))))

@@ -33,5 +33,5 @@ pub fn programs_fail_first()
     ensures first { (p : Program) (f : TypeFault) → IsWellFormedProgram p → (annotated p ≡ Err f) ↔ FirstRefusal p f }
     ensures some { (p : Program) → IsWellFormedProgram p → IsTypedOrRefused p }
     ensures apart { (p q : Program) (f : TypeFault) → IsWellFormedProgram p → Fills p q → Typed q → FirstRefusal p f → ⊥ }
-    ensures one { (p : Program) (f g : TypeFault) → IsWellFormedProgram p → FirstRefusal p f → FirstRefusal p g → f ≡ g }
+    ensures one { (p : Program) (f g : TypeFault) → FirstRefusal p f → FirstRefusal p g → f ≡ g }
 {}

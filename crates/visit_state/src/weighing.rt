@@ -46,7 +46,7 @@ pub fn plain_weight(v: &Value) -> Option<u64>
         Value::Blob(b) => Some((b.as_slice().len() as u64).saturating_add(3)),
         Value::Chunk(_) => None,
         Value::List(t, items) => match plain_weights(items.as_slice()) {
-            Some(size) => Some(size.saturating_add(type_size(t)).saturating_add(3)),
+            Some(size) => Some(size.saturating_add(type_size(t.get())).saturating_add(3)),
             None => None,
         },
         Value::Tuple(parts) => match plain_weights(parts.as_slice()) {

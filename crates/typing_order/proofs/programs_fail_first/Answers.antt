@@ -11,4 +11,4 @@ pub returns-clause-apart : goal.returns-clause-apart
 returns-clause-apart c = λ p q f w h t r. not_both p w q f h t r
 
 pub returns-clause-one : goal.returns-clause-one
-returns-clause-one c = λ p f g w h k. one_refusal p w f g h k
+returns-clause-one c = λ p f g h k. one_refusal p f g h k

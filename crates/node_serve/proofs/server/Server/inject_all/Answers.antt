@@ -3,7 +3,7 @@ use Rattle.std.proofs.lemmas.Option.{slice_get-get_or}
 use Rattle.std.proofs.lemmas.List.Elements.{All-get_or}
 use Rattle.network_plan.specs.NodeRules.{KeepsInject}
 use Rattle.serve_model.specs.Runs.{Running, inject_to, inject_one}
-use Rattle.node_serve.specs.Goes.{desk}
+use Rattle.node_serve.specs.Desks.{desk}
 use Rattle.node_serve.proofs.MakeLaws.{inject_next, inject_none}
 use Rattle.node_serve.proofs.Looping.{inject_up, inject_past}
 use Rattle.node_serve.proofs.Joining.{goes_same, goes_as, goes_next, goes_no_more, no_link}
@@ -47,5 +47,5 @@ returns-in-Err g c = λ l.
 pub returns : goal.returns
 returns g c = λ l.
     goes_as g.S.Services.stands c.args.cfg.now (inject_to c.args.turn c.args.cfg.now.at c.loop-inject.inject-index) (inject_to c.args.turn c.args.cfg.now.at (length c.args.cfg.now.at)) c.args.self.now c.loop-inject.self _ _ _
-    (λ r st. inject_past c.args.turn c.args.cfg.now.at c.loop-inject.inject-index r (subst (λ xs. length xs ≤ c.loop-inject.inject-index) c.as_slice-inject-items.ensures c.loop-inject-test.false))
+    (λ seen r st. inject_past c.args.turn c.args.cfg.now.at c.loop-inject.inject-index r (subst (λ xs. length xs ≤ c.loop-inject.inject-index) c.as_slice-inject-items.ensures c.loop-inject-test.false))
     (c.loop-inject.invariant.run l)

@@ -1,7 +1,7 @@
 use Rattle.std.proofs.Common.{Some}
 use Rattle.serve_model.specs.Runs.{inject_one, make}
 use Rattle.network_plan.specs.declared.event.Event.TheVariants.{Inject}
-use Rattle.node_serve.specs.Goes.{desk}
+use Rattle.node_serve.specs.Desks.{desk}
 use Rattle.node_serve.proofs.MakeLaws.{inject_stay, inject_makes, not_same, is_same}
 use Rattle.node_serve.proofs.Joining.{goes_same, goes_as}
 use Rattle.node_serve.proofs.server.Server.inject_one.Goals as goal
@@ -14,4 +14,4 @@ pub returns : goal.returns
 returns g c = λ l.
     let e = Inject c.args.inject.now.2 c.args.inject.now.1 in
     goes_as g.S.Services.stands c.args.cfg.now (make e) (inject_one c.args.turn (Some c.args.inject.now)) c.args.self.now c.step.new.self _ _ c.step.result
-    (λ r st. inject_makes c.args.turn c.args.inject.now r (is_same _ _ c.if-inject-turn.false)) (c.step.ensures l e c.injection-event.ensures.event)
+    (λ seen r st. inject_makes c.args.turn c.args.inject.now r (is_same _ _ c.if-inject-turn.false)) (c.step.ensures l e c.injection-event.ensures.event)

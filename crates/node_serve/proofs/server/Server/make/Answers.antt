@@ -1,5 +1,5 @@
 use Rattle.std.proofs.Common.{refl}
-use Rattle.node_serve.specs.Goes.{desk}
+use Rattle.node_serve.specs.Desks.{desk}
 use Rattle.node_serve.proofs.Joining.{unmade_same, unmade_written, made_written}
 use Rattle.node_serve.proofs.server.Server.make.Goals as goal
 

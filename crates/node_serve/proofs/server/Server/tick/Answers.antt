@@ -1,7 +1,7 @@
 use Rattle.std.proofs.Common.{◌≡◌, true, false, refl, arith, ◌∙◌}
 use Rattle.serve_model.specs.Runs.{tick}
 use Rattle.network_plan.specs.declared.event.Event.TheVariants.{Tick}
-use Rattle.node_serve.specs.Goes.{desk}
+use Rattle.node_serve.specs.Desks.{desk}
 use Rattle.node_serve.proofs.Following.{tick_early}
 use Rattle.node_serve.proofs.MakeLaws.{over_is}
 use Rattle.node_serve.proofs.Joining.{goes_same, goes_ticked, goes_unticked}

@@ -1,0 +1,75 @@
+-- What the audit of logs answers, and the counts of a family over them.
+use Rattle.std.specs.Prelude.{◌≡◌, ℕ, ◌+◌, List, [], ◌∷◌, ◌++◌, sum_by, Option, Some, None}
+use Rattle.plan_base.specs.declared.ids.Family.{Family}
+use Rattle.frame_text.specs.Decoding.{frame_of}
+use Rattle.network_plan.specs.declared.event.LogEvent.{LogEvent}
+use Rattle.node_model.specs.State.{NodeState}
+use Rattle.node_model.specs.Counts.{act_sum, act_granted, act_hops, act_evals, act_left, node_live, frame_came}
+use Rattle.serve_model.specs.Runs.{node_after}
+use Rattle.world_model.specs.World.{Cables}
+use Rattle.bound_ledger.specs.declared.row.Row.{Row}
+use Rattle.ledger_audit.specs.Crossings.{Crossing, Arrival, Over, first_over, crossings, less_each}
+use Rattle.ledger_audit.specs.Runs.{accepted_in, sent_in, acts_in}
+
+-- a node at its beginning, and the entries of its log
+pub record Logged : Type 0 where
+  pub node : NodeState
+  pub entries : List LogEvent
+
+-- all that the logs accept, the first one numbered n + 1
+abbrev pub all_accepted : Cables → ℕ → List Logged → List Arrival
+all_accepted links n [] = []
+all_accepted links n (l ∷ ls) = accepted_in links (n + 1) 0 l.node l.entries ++ all_accepted links (n + 1) ls
+
+-- all that they send
+abbrev pub all_sent : List Logged → List Crossing
+all_sent [] = []
+all_sent (l ∷ ls) = sent_in l.node l.entries ++ all_sent ls
+
+-- the first accepted frame that wasn't sent so often
+unfoldable pub misfit : Cables → List Logged → Option Over
+misfit links ls = first_over (all_sent ls) [] (all_accepted links 0 ls)
+
+-- ---- counts of a family
+
+-- the bound of a crossing's packet, where it is one of this family
+abbrev pub crossing_live : Family → Crossing → ℕ
+crossing_live f c = frame_came f (frame_of c.bytes)
+
+-- what it was granted, over the acts of all logs
+abbrev pub granted : Family → List Logged → ℕ
+granted f ls = sum_by (λ l. act_sum (act_granted f) (acts_in l.node l.entries)) ls
+
+-- the hops that it paid
+abbrev pub hops : Family → List Logged → ℕ
+hops f ls = sum_by (λ l. act_sum (act_hops f) (acts_in l.node l.entries)) ls
+
+-- the evals that it paid
+abbrev pub evals : Family → List Logged → ℕ
+evals f ls = sum_by (λ l. act_sum (act_evals f) (acts_in l.node l.entries)) ls
+
+-- what was left of it
+abbrev pub left : Family → List Logged → ℕ
+left f ls = sum_by (λ l. act_sum (act_left f) (acts_in l.node l.entries)) ls
+
+-- queued at the ends of the logs
+abbrev pub queued : Family → List Logged → ℕ
+queued f ls = sum_by (λ l. node_live f (node_after l.node l.entries)) ls
+
+-- sent and not accepted
+abbrev pub on_the_way : Family → Cables → List Logged → ℕ
+on_the_way f links ls = sum_by (crossing_live f) (less_each (crossings (all_accepted links 0 ls)) (all_sent ls))
+
+-- all its counts; what is queued and what is on the way is live
+abbrev pub row_of : Family → Cables → List Logged → Row
+row_of f links ls = record {
+  granted = granted f ls;
+  hops = hops f ls;
+  evals = evals f ls;
+  live = queued f ls + on_the_way f links ls;
+  left = left f ls;
+}
+
+-- what a family was granted is what it paid, what is live and what was left
+abbrev pub AddsUp : Family → Cables → List Logged → Type 0
+AddsUp f links ls = granted f ls ≡ hops f ls + evals f ls + (queued f ls + on_the_way f links ls) + left f ls

@@ -1,0 +1,4 @@
+pub mod Crossings
+pub mod Runs
+pub mod Audits
+pub mod Spelling

@@ -1,0 +1,180 @@
+-- Steps of a node whose packets carry known chunks.
+use Rattle.std.proofs.Common.{◌≡◌, ℕ, ◌+◌, ◌-◌, Bool, true, false, cond, if◌then◌else◌, List, [], ◌∷◌, ◌++◌, map, Option, Some, None, refl, sym, ap, ◌∙◌, arith}
+use Rattle.std.specs.Prelude.{◌==◌, slice_get, slice_set, All}
+use Rattle.std.specs.List.{AllByRecursion}
+use Rattle.std.proofs.lemmas.List.Elements.{All-nil, All-cons}
+use Rattle.plan_base.specs.declared.ids.Dev.{Dev}
+use Rattle.plan_base.specs.declared.tree.Chunk.{Chunk}
+use Rattle.plan_base.specs.declared.tree.Packet.{Packet}
+use Rattle.plan_base.specs.declared.tree.Value.{Value}
+use Rattle.packet_frame.specs.declared.frame.PlainFrame.{PlainFrame}
+use Rattle.service_api.specs.declared.advert.Advert.{Advert}
+use Rattle.service_api.specs.declared.answer.Note.{Note}
+use Rattle.service_api.specs.declared.router.Hop.{Hop}
+use Rattle.service_api.specs.declared.router.Hop.TheVariants.{To, NoService, NoRoute}
+use Rattle.service_api.specs.declared.ctx.Ctx.{Ctx}
+use Rattle.service_api.specs.Routes.{hop}
+use Rattle.service_api.specs.Services.{Standing, begun_now}
+use Rattle.dv_routing.specs.Routing.{all_routes, own_advert}
+use Rattle.plan_meaning.specs.declared.sent.Sent.{Sent}
+use Rattle.plan_meaning.specs.declared.stop.Stop.TheVariants as stop
+use Rattle.plan_meaning.specs.declared.outcome.Visit.{Visit}
+use Rattle.plan_meaning.specs.State.{VisitState}
+use Rattle.plan_meaning.specs.Run.{After, gave, stopped}
+use Rattle.plan_meaning.specs.Visit.{allowance, begun}
+use Rattle.node_model.specs.declared.acts.Act.{Act}
+use Rattle.node_model.specs.declared.acts.Act.TheVariants.{Arrived, Noted, Ended, Dropped, Injected, SerialsSpent, Heard, Misplaced, Ticked, Taken}
+use Rattle.node_model.specs.declared.acts.Reason.TheVariants as reason
+use Rattle.node_model.specs.declared.acts.Sending.{Sending}
+use Rattle.plan_base.specs.declared.ids.Host.{Host}
+use Rattle.node_model.specs.State.{Links, Queues, NodeState, routing_of, is_host, leads_to}
+use Rattle.node_model.specs.Visits.{evaluated, visit_end, visit_of, services_end, services_after, around, visit_at}
+use Rattle.node_model.specs.Node.{Step, send_act, send_queues, sends_acts, sends_queues, has_room, packet_sending, visit_sends, visit_acts, visited, inject_step, next_serial, injected_packet, forward_by, forward_step, packet_step, advert_step, frame_step, tick_step, ticking, tick_sends, advert_sending, take_step, take_from, only_acts, onward, hearing}
+use Rattle.node_model.specs.Fits.{QueuesKeep}
+use Rattle.node_laws.proofs.Keeping.{send_keeps, sends_keep, took}
+use Rattle.port_visits.specs.Only.{Allowed, Good}
+use Rattle.port_visits.specs.Visits.{EndsGood}
+use Rattle.port_node.specs.Known.{IsClosed, FrameKnown, NodeKnown, ActKnown, TakenKnown, StepKnown}
+
+pub all_append : {X : Type 0} (P : X → Type 0) (xs ys : List X) → AllByRecursion P xs → AllByRecursion P ys → AllByRecursion P (xs ++ ys)
+all_append P [] ys h k = k
+all_append P (x ∷ xs) ys h k = (h.0, all_append P xs ys h.1 k)
+
+module _ (a : Allowed) (closed : IsClosed a) where
+  -- ---- visits
+
+  pub record VisitKnown (v : Visit) (services : Standing) : Type 0 where
+    pub sends : AllByRecursion (λ (x : Sent). a.chunk x.packet.chunk) v.outbox
+    pub notes : AllByRecursion a.note v.notes
+    pub offer : services.offer ≡ a.offer
+
+  end_known : (bound : ℕ) (old : Standing) (r : After Value) → old.offer ≡ a.offer → EndsGood a (λ (v : Value). Unit {0}) r → VisitKnown (visit_end bound r) (services_end old r)
+  end_known bound old (gave v s) o e = record { sends = e.0.sends; notes = e.0.notes; offer = e.0.offer }
+  end_known bound old (stopped (stop.Raised x) s) o e = record { sends = e.sends; notes = e.notes; offer = e.offer }
+  end_known bound old (stopped stop.WorkSpent s) o e = record { sends = tt; notes = tt; offer = o }
+  end_known bound old (stopped stop.Wrong s) o e = record { sends = tt; notes = tt; offer = o }
+  end_known bound old (stopped stop.NoMemory s) o e = record { sends = tt; notes = tt; offer = o }
+
+  pub visit_known : (ctx : Ctx) (services : Standing) (p : Packet) → services.offer ≡ a.offer → a.chunk p.chunk → VisitKnown (visit_of ctx services p) (services_after ctx services p)
+  unfolding visit_of services_after evaluated
+  visit_known ctx services p o k = end_known p.bound services (evaluated ctx services p) o (closed p.chunk k (begun allowance ctx p.family services) (record { offer = o; sends = tt; notes = tt }))
+
+  -- ---- sends
+
+  Sends : Sending → Type 0
+  Sends s = FrameKnown a s.frame
+
+  sends_all : (ss : List Sent) → AllByRecursion (λ (x : Sent). a.chunk x.packet.chunk) ss → All (λ s. FrameKnown a s.frame) (map packet_sending ss)
+  sends_all [] h = All-nil (λ s. FrameKnown a s.frame)
+  sends_all (s ∷ ss) h = All-cons (λ s. FrameKnown a s.frame) (packet_sending s) (map packet_sending ss) h.0 (sends_all ss h.1)
+
+  send_act_known : (queues : Queues) (s : Sent) → ActKnown a (send_act queues (packet_sending s))
+  unfolding send_act
+  send_act_known queues s = by (has_room queues (packet_sending s).dev)
+    where
+      by : (t : Bool) → ActKnown a (if t then (packet_sending s).queued else (packet_sending s).dropped)
+      by true = tt
+      by false = tt
+
+  sends_acts_known : (queues : Queues) (ss : List Sent) → AllByRecursion (ActKnown a) (sends_acts queues (map packet_sending ss))
+  unfolding sends_acts
+  sends_acts_known queues [] = tt
+  sends_acts_known queues (s ∷ ss) = (send_act_known queues s, sends_acts_known (send_queues queues (packet_sending s)) ss)
+
+  notes_known : (ns : List Note) → AllByRecursion a.note ns → AllByRecursion (ActKnown a) (map Noted ns)
+  notes_known [] h = tt
+  notes_known (n ∷ ns) h = (h.0, notes_known ns h.1)
+
+  visit_acts_known : (queues : Queues) (p : Packet) (v : Visit) (n : Standing) → VisitKnown v n → AllByRecursion (ActKnown a) (visit_acts queues p v)
+  unfolding visit_acts visit_sends
+  visit_acts_known queues p v n h = all_append (ActKnown a) (map Noted v.notes) (Ended p.family v.outcome v.evals v.left ∷ sends_acts queues (map packet_sending v.outbox)) (notes_known v.notes h.notes) (tt, sends_acts_known queues v.outbox)
+
+  -- ---- steps
+
+  pub visited_known : (acts : List Act) (node : NodeState) (p : Packet) → AllByRecursion (ActKnown a) acts → a.chunk p.chunk → NodeKnown a node → StepKnown a (visited acts node p)
+  unfolding visited visit_sends
+  visited_known acts node p h k n =
+      let v = visit_known (around node p) (begun_now node.services) p n.offer k in
+      record {
+        node = record { queues = sends_keep (FrameKnown a) node.queues (map packet_sending (visit_at node p).outbox) (sends_all (visit_at node p).outbox v.sends) n.queues; offer = v.offer };
+        acts = all_append (ActKnown a) acts (visit_acts node.queues p (visit_at node p)) h (visit_acts_known node.queues p (visit_at node p) (services_after (around node p) (begun_now node.services) p) v);
+        frame = tt;
+      }
+
+  pub inject_known : (node : NodeState) (c : Chunk) (b : ℕ) → a.chunk c → NodeKnown a node → StepKnown a (inject_step [] node c b)
+  unfolding inject_step
+  inject_known node c b k n = by (node.serial == 18446744073709551615)
+    where
+      by : (t : Bool) → StepKnown a (cond t (record { acts = SerialsSpent ∷ []; frame = None; node = node }) (visited (Injected (record { source = node.here; serial = node.serial }) b ∷ []) (next_serial node) (injected_packet node c b)))
+      by true = record { node = n; acts = (tt, tt); frame = tt }
+      by false = visited_known (Injected (record { source = node.here; serial = node.serial }) b ∷ []) (next_serial node) (injected_packet node c b) (tt, tt) k (record { queues = n.queues; offer = n.offer })
+
+  by_known : (node : NodeState) (d : Dev) (p : Packet) (h : Hop) → a.chunk p.chunk → NodeKnown a node → StepKnown a (forward_by node d p h)
+  unfolding forward_by
+  by_known node d p (To host over) k n = record {
+    node = record { queues = send_keeps (FrameKnown a) node.queues (packet_sending (record { dev = over; packet = p })) k n.queues; offer = n.offer };
+    acts = (tt, (send_act_known node.queues (record { dev = over; packet = p }), tt));
+    frame = tt;
+  }
+  by_known node d p NoService k n = record { node = n; acts = (tt, (tt, tt)); frame = tt }
+  by_known node d p NoRoute k n = record { node = n; acts = (tt, (tt, tt)); frame = tt }
+
+  pub packet_known : (node : NodeState) (d : Dev) (p : Packet) → a.chunk p.chunk → NodeKnown a node → StepKnown a (packet_step node d p)
+  unfolding packet_step forward_step
+  packet_known node d p k n = by (is_host p.dest node.here) (p.bound == 0)
+    where
+      by : (t u : Bool) → StepKnown a (cond t (visited (Arrived d ∷ []) node p) (cond u (record { acts = Arrived d ∷ Dropped reason.NoBound p.family 0 ∷ []; frame = None; node = node }) (forward_by node d p (hop (all_routes (routing_of node)) p.route node.here p.dest))))
+      by true u = visited_known (Arrived d ∷ []) node p (tt, tt) k n
+      by false true = record { node = n; acts = (tt, (tt, tt)); frame = tt }
+      by false false = by_known node d p (hop (all_routes (routing_of node)) p.route node.here p.dest) k n
+
+  advert_known : (node : NodeState) (d : Dev) (x : Advert) → NodeKnown a node → StepKnown a (advert_step node d x)
+  unfolding advert_step
+  advert_known node d x n = by (leads_to node.neighbours d x.host)
+    where
+      by : (t : Bool) → StepKnown a (if t then only_acts (Arrived d) (Heard d) (hearing node d x) else only_acts (Arrived d) Misplaced node)
+      by true = record { node = record { queues = n.queues; offer = n.offer }; acts = (tt, (tt, tt)); frame = tt }
+      by false = record { node = n; acts = (tt, (tt, tt)); frame = tt }
+
+  pub frame_known : (node : NodeState) (d : Dev) (x : PlainFrame) → FrameKnown a x → NodeKnown a node → StepKnown a (frame_step node d x)
+  frame_known node d (PlainFrame.Packet p) k n = packet_known node d p k n
+  frame_known node d (PlainFrame.Advert x) k n = advert_known node d x n
+  frame_known node d (PlainFrame.Ask b c) k n = record { node = n; acts = (tt, (tt, tt)); frame = tt }
+
+  pub take_known : (node : NodeState) (d : Dev) → NodeKnown a node → StepKnown a (take_step node d)
+  unfolding take_step
+  take_known node d n = by (slice_get node.queues d.0) refl
+    where
+      by : (o : Option (List PlainFrame)) → slice_get node.queues d.0 ≡ o → StepKnown a (take_from node d o)
+      by None e = record { node = n; acts = tt; frame = tt }
+      by (Some []) e = record { node = n; acts = tt; frame = tt }
+      by (Some (x ∷ queue)) e =
+          let t = took (FrameKnown a) node.queues d.0 x queue e n.queues in
+          record { node = record { queues = t.rest; offer = n.offer }; acts = (tt, tt); frame = t.frame }
+
+  -- ---- ticks: adverts alone
+
+  adverts_all : (x : Advert) (links : Links) → All (λ s. FrameKnown a s.frame) (map (advert_sending x) links)
+  adverts_all x [] = All-nil (λ s. FrameKnown a s.frame)
+  adverts_all x (l ∷ ls) = All-cons (λ s. FrameKnown a s.frame) (advert_sending x l) (map (advert_sending x) ls) tt (adverts_all x ls)
+
+  advert_act : (queues : Queues) (x : Advert) (l : Host × Dev) → ActKnown a (send_act queues (advert_sending x l))
+  unfolding send_act
+  advert_act queues x l = by (has_room queues (advert_sending x l).dev)
+    where
+      by : (t : Bool) → ActKnown a (if t then (advert_sending x l).queued else (advert_sending x l).dropped)
+      by true = tt
+      by false = tt
+
+  advert_acts : (queues : Queues) (x : Advert) (links : Links) → AllByRecursion (ActKnown a) (sends_acts queues (map (advert_sending x) links))
+  unfolding sends_acts
+  advert_acts queues x [] = tt
+  advert_acts queues x (l ∷ ls) = (advert_act queues x l, advert_acts (send_queues queues (advert_sending x l)) x ls)
+
+  pub tick_known : (node : NodeState) → NodeKnown a node → StepKnown a (tick_step node)
+  unfolding tick_step tick_sends
+  tick_known node n = record {
+    node = record { queues = sends_keep (FrameKnown a) node.queues (map (advert_sending (own_advert (routing_of node))) node.neighbours) (adverts_all (own_advert (routing_of node)) node.neighbours) n.queues; offer = n.offer };
+    acts = (tt, advert_acts node.queues (own_advert (routing_of node)) node.neighbours);
+    frame = tt;
+  }
