@@ -34,7 +34,8 @@ fn sizes_line(alloc: Global, code: &Program) -> Result<String, AllocError>
 #[tactic(auto, using(crate::proofs::Refusing::text_refused), unfolding(crate::specs::Checks::program_said))]
 fn line_of(alloc: Global, text: &[u8]) -> Result<String, Cause>
     requires { length text.now ≤ 65536 }
-    ensures { MatchResult result (λ line. program_said text.now ≡ says (string_bytes line)) (λ why. Refuses (program_said text.now) why) }
+    ensures { MatchResult result (λ line. program_said text.now ≡ says (string_bytes line))
+        (λ why. Refuses (program_said text.now) why) }
 {
     match read_program(alloc, text) {
         Err(fault) => {

@@ -23,7 +23,8 @@ pub fn bytes_of<F: Files>(
 ) -> Result<Bytes, Cause>
     requires { limit < 2 ^ 62 }
     ensures within { IfOk result (λ bytes. length bytes ≤ limit) }
-    ensures takes { Takes (said_in limit all_of name.now) name.now (F.state files.old) (F.state files.new) result }
+    ensures takes { Takes (said_in limit all_of name.now) name.now
+        (F.state files.old) (F.state files.new) result }
 {
     match read_whole(alloc, files, name, limit) {
         Ok(bytes) => Ok(bytes),
@@ -107,7 +108,8 @@ pub fn value_of<V: LineValue, F: Files>(
     files: &mut F,
     name: &str,
 ) -> Result<V, Cause>
-    ensures takes { Takes (lines_said V.said name.now) name.now (F.state files.old) (F.state files.new) result }
+    ensures takes { Takes (lines_said V.said name.now) name.now
+        (F.state files.old) (F.state files.new) result }
     ensures rules { IfOk result V.keeps }
 {
     match bytes_of(alloc, files, name, LINES_MAX) {

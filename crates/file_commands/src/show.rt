@@ -53,7 +53,8 @@ fn decoded(alloc: Global, text: &[u8]) -> Result<Bytes, Cause>
 // The frame that the bytes spell.
 fn framed(alloc: Global, bytes: &[u8]) -> Result<Frame, Cause>
     requires { IsBytes bytes.now }
-    ensures { MatchResult result (λ x. frame_of bytes.now ≡ Ok (plain_of x)) (λ why. Refuses (framed_said (frame_of bytes.now)) why) }
+    ensures { MatchResult result (λ x. frame_of bytes.now ≡ Ok (plain_of x))
+        (λ why. Refuses (framed_said (frame_of bytes.now)) why) }
 {
     match get_frame(alloc, bytes, None) {
         Ok(frame) => Ok(frame),

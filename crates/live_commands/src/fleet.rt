@@ -10,7 +10,8 @@ use std::alloc::Global;
 
 // Runs a fleet that was read.
 fn run_read<P: Spawner, K: Sink>(alloc: Global, fleet: &Fleet, spawn: &mut P, out: &mut K) -> Cause
-    ensures { RunsAs fleet.now result (shop (P.state spawn.old) (K.state out.old)) (shop (P.state spawn.new) (K.state out.new)) }
+    ensures { RunsAs fleet.now result (shop (P.state spawn.old) (K.state out.old))
+        (shop (P.state spawn.new) (K.state out.new)) }
 {
     match run_fleet(alloc, fleet, spawn, out) {
         Ok(FleetEnd::Well) => Cause::Done,
@@ -30,7 +31,8 @@ pub fn on_fleet<F: Files, P: Spawner, K: Sink>(
     spawn: &mut P,
     out: &mut K,
 ) -> Cause
-    ensures { TakesAndActs (fleet_said name.now) RunsAs name.now (F.state files.old) (F.state files.new) result
+    ensures { TakesAndActs (fleet_said name.now) RunsAs name.now
+        (F.state files.old) (F.state files.new) result
         (shop (P.state spawn.old) (K.state out.old)) (shop (P.state spawn.new) (K.state out.new)) }
 {
     match value_of::<Fleet, F>(alloc, files, name) {

@@ -12,7 +12,8 @@ use std::alloc::Global;
 // Sends a request and writes its line.
 fn send_ask<L: Link, K: Sink>(alloc: Global, ask: &AskFile, link: &mut L, out: &mut K) -> Cause
     requires { KeepsAsk ask.now }
-    ensures { AsksAs ask.now result (wire (L.state link.old) (K.state out.old)) (wire (L.state link.new) (K.state out.new)) }
+    ensures { AsksAs ask.now result (wire (L.state link.old) (K.state out.old))
+        (wire (L.state link.new) (K.state out.new)) }
 {
     match inject(alloc, ask, link, out) {
         Ok(()) => Cause::Done,
@@ -30,7 +31,8 @@ pub fn on_ask<F: Files, L: Link, K: Sink>(
     link: &mut L,
     out: &mut K,
 ) -> Cause
-    ensures { TakesAndActs (ask_said name.now) AsksAs name.now (F.state files.old) (F.state files.new) result
+    ensures { TakesAndActs (ask_said name.now) AsksAs name.now
+        (F.state files.old) (F.state files.new) result
         (wire (L.state link.old) (K.state out.old)) (wire (L.state link.new) (K.state out.new)) }
 {
     match value_of::<AskFile, F>(alloc, files, name) {

@@ -86,7 +86,7 @@ module _ (seed k : ℕ) (cause : Cause) (old new : Outside) (n m : SinkState) (c
   -- it is done, but for want of memory and faults of writing
   pub grow_is_whole : ¬ (Rose old.out.faults new.out.faults) → ¬ (Rose n.faults m.faults) → (cause ≡ Done) ⊎ (cause ≡ NoMemory)
   grow_is_whole f l = well call.found cause (Rose n.faults m.faults) (given (Some (grow seed k)) cause old new n m call) l
-      (elim (grown_so seed k call.found old.out new.out call.does.1) [ | inl e ↦ inl e | inr other ↦ elim other [ inl e ↦ inr e | inr w ↦ absurd (f w.1) ] ])
+      (elim (grown_so seed k call.found old.out new.out call.does.1) [ inl e ↦ inl e | inr other ↦ elim other [ inl e ↦ inr e | inr w ↦ absurd (f w.1) ] ])
 
   pub grow_writes : cause ≡ Done → OfGrown seed k (Writes old.out new.out)
   grow_writes done = subst (λ c. GrowsAs seed k c old.out new.out) (done_found (Some (grow seed k)) cause old new n m call done) call.does.1

@@ -96,7 +96,7 @@ none_ran nothing old new e = (ap (λ w. w.children) e, ap (λ w. w.out) e)
 none_ran (outside r) old new e = (ap (λ w. w.children) e, ap (λ w. w.out) e)
 none_ran (says f) old new e = (
   starts_none (fleet_starts f.children) old.children new.children (ap (λ w. w.children.starts) e),
-  subst (λ s. WritesPrefix old.out s (fleet_text f.children (drop old.children.started old.children.statuses))) (sym (ap (λ w. w.out) e)) (prefix_none old.out _)
+  subst (λ s. WritesPrefix old.out s (fleet_text f.children (drop old.children.started old.children.statuses))) (sym (ap (λ w. w.out) e)) (prefix_none old.out _),
 )
 
 -- ---- where no fault came

@@ -22,8 +22,10 @@ pub fn run<F: Files, K: Sink, L: Link, C: Clock, P: Spawner>(
     spawn: &mut P,
 ) -> Cause
     ensures { Does (request_of words.now) result
-        (outside (F.state files.old) (K.state out.old) (L.state link.old) (C.state clock.old) (P.state spawn.old))
-        (outside (F.state files.new) (K.state out.new) (L.state link.new) (C.state clock.new) (P.state spawn.new)) }
+        (outside (F.state files.old) (K.state out.old) (L.state link.old) (C.state clock.old)
+        (P.state spawn.old))
+        (outside (F.state files.new) (K.state out.new) (L.state link.new) (C.state clock.new)
+        (P.state spawn.new)) }
 {
     match read_words(words) {
         None => Cause::Usage,

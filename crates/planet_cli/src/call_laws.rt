@@ -22,8 +22,7 @@ pub fn usage()
         → Calls q cause old new n m
         → cause ≡ Cause.Usage
         → q ≡ None }
-{
-}
+{}
 
 /// And there it does, unless memory is refused or its note isn't written.
 #[tactic(auto, using(crate::proofs::Giving::usage_given))]
@@ -31,8 +30,7 @@ pub fn usage_always()
     ensures { (cause : Why) (old new : Outside) (n m : SinkState)
         → Calls None cause old new n m
         → Gives Cause.Usage cause (Rose n.faults m.faults) }
-{
-}
+{}
 
 /// A refusal is what the file says.
 #[tactic(auto, using(crate::proofs::Giving::is_refused))]
@@ -41,8 +39,7 @@ pub fn refused()
         → Calls q cause old new n m
         → IsTrue old.files.observable
         → IfRefused cause (λ r. outcome_of q old.files.held ≡ refused r) }
-{
-}
+{}
 
 /// And where the file is refused, that is the answer, unless it wasn't read, memory is refused, or the note isn't written.
 #[tactic(auto, using(crate::proofs::Giving::is_told))]
@@ -54,8 +51,7 @@ pub fn refused_always()
         → outcome_of q old.files.held ≡ refused r
         → ¬ (Rose old.files.read_faults new.files.read_faults)
         → Gives (Cause.Refused r) cause (Rose n.faults m.faults) }
-{
-}
+{}
 
 /// No refusal is, or holds, want of memory.
 #[tactic(auto, using(crate::proofs::Giving::is_own))]
@@ -63,8 +59,7 @@ pub fn own()
     ensures { (q : Option Request) (cause : Why) (old new : Outside) (n m : SinkState)
         → Calls q cause old new n m
         → IfRefused cause IsOwn }
-{
-}
+{}
 
 /// A refusal leaves the output as it was, its faults too.
 #[tactic(auto, using(crate::proofs::Giving::is_silent))]
@@ -72,8 +67,7 @@ pub fn silent()
     ensures { (q : Option Request) (cause : Why) (old new : Outside) (n m : SinkState)
         → Calls q cause old new n m
         → IfRefused cause (λ r. new.out ≡ old.out) }
-{
-}
+{}
 
 /// What is done does its work: the file is taken.
 #[tactic(auto, using(crate::proofs::Giving::is_accepted))]
@@ -83,8 +77,7 @@ pub fn accepted()
         → IsTrue old.files.observable
         → cause ≡ Cause.Done
         → IsAccepted (outcome_of q old.files.held) }
-{
-}
+{}
 
 /// And then its output was written, where it is defined whole.
 #[tactic(auto, using(crate::proofs::Giving::is_written))]
@@ -94,8 +87,7 @@ pub fn whole()
         → IsTrue old.files.observable
         → cause ≡ Cause.Done
         → WritesOut (outcome_of q old.files.held) old.out new.out }
-{
-}
+{}
 
 /// After every answer a prefix of it was.
 #[tactic(auto, using(crate::proofs::Giving::is_begun))]
@@ -104,8 +96,7 @@ pub fn front()
         → Calls q cause old new n m
         → IsTrue old.files.observable
         → BeginsOut (outcome_of q old.files.held) old.out new.out }
-{
-}
+{}
 
 /// Where the output is defined whole and no fault came, the call is done, or memory was refused.
 #[tactic(auto, using(crate::proofs::Giving::is_complete))]
@@ -119,8 +110,7 @@ pub fn complete()
         → ¬ (Rose n.faults m.faults)
         → WhereInjected q (¬ (Rose old.link.faults new.link.faults))
         → (cause ≡ Cause.Done) ⊎ (cause ≡ Cause.NoMemory) }
-{
-}
+{}
 
 /// The note of the cause was written, or the notes failed in a note.
 #[tactic(auto, using(crate::proofs::Giving::is_noted))]
@@ -128,6 +118,5 @@ pub fn note()
     ensures { (q : Option Request) (cause : Why) (old new : Outside) (n m : SinkState)
         → Calls q cause old new n m
         → Writes n m (note_text cause)
-            ⊎ ((cause ≡ Cause.WriteFault) × ((found : Why) × FailsIn n m (note_text found))) }
-{
-}
+        ⊎ ((cause ≡ Cause.WriteFault) × ((found : Why) × FailsIn n m (note_text found))) }
+{}

@@ -17,8 +17,7 @@ pub fn read_fault()
     ensures { (q : Option Request) (old new : Outside) (n m : SinkState)
         → Calls q Cause.ReadFault old new n m
         → Rose old.files.read_faults new.files.read_faults }
-{
-}
+{}
 
 /// A fault of writing comes only where the count of the output, of the files or of the notes rose.
 #[tactic(auto, using(crate::proofs::Explaining::write_rose))]
@@ -26,8 +25,7 @@ pub fn write_fault()
     ensures { (q : Option Request) (old new : Outside) (n m : SinkState)
         → Calls q Cause.WriteFault old new n m
         → WriteRose old new n m }
-{
-}
+{}
 
 /// A fault of the link comes only where its count rose.
 #[tactic(auto, using(crate::proofs::Explaining::link_rose))]
@@ -35,8 +33,7 @@ pub fn link_fault()
     ensures { (q : Option Request) (old new : Outside) (n m : SinkState)
         → Calls q Cause.LinkFault old new n m
         → Rose old.link.faults new.link.faults }
-{
-}
+{}
 
 /// A fault of children comes only where their count rose.
 #[tactic(auto, using(crate::proofs::Explaining::spawn_rose))]
@@ -44,8 +41,7 @@ pub fn spawn_fault()
     ensures { (q : Option Request) (old new : Outside) (n m : SinkState)
         → Calls q Cause.SpawnFault old new n m
         → Rose old.children.faults new.children.faults }
-{
-}
+{}
 
 /// Only the commands with a link end so.
 #[tactic(auto, using(crate::proofs::Causes::unlinked))]
@@ -53,8 +49,7 @@ pub fn no_link_fault()
     ensures { (q : Option Request) (cause : Why) (old new : Outside) (n m : SinkState)
         → Calls q cause old new n m
         → UnlessLinked q (cause ≢ Cause.LinkFault) }
-{
-}
+{}
 
 /// Only `fleet` ends for a fault of children.
 #[tactic(auto, using(crate::proofs::Causes::unspawned))]
@@ -62,8 +57,7 @@ pub fn no_spawn_fault()
     ensures { (q : Option Request) (cause : Why) (old new : Outside) (n m : SinkState)
         → Calls q cause old new n m
         → UnlessFleet q (cause ≢ Cause.SpawnFault) }
-{
-}
+{}
 
 /// And only it ends for nodes that failed.
 #[tactic(auto, using(crate::proofs::Causes::unfailing))]
@@ -71,5 +65,4 @@ pub fn no_nodes_failed()
     ensures { (q : Option Request) (cause : Why) (old new : Outside) (n m : SinkState)
         → Calls q cause old new n m
         → UnlessFleet q (IfNodesFailed cause (λ h s. ⊥)) }
-{
-}
+{}

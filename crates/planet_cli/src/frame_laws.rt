@@ -14,8 +14,7 @@ pub fn asked()
     ensures { (q : Option Request) (cause : Why) (old new : Outside) (n m : SinkState)
         → Calls q cause old new n m
         → AsksFor q old.files.asked new.files.asked }
-{
-}
+{}
 
 /// No command but `node` makes a file, and that at most its log.
 #[tactic(auto, using(crate::proofs::Frames::call_makes))]
@@ -23,8 +22,7 @@ pub fn made()
     ensures { (q : Option Request) (cause : Why) (old new : Outside) (n m : SinkState)
         → Calls q cause old new n m
         → MakesAtMost q old new }
-{
-}
+{}
 
 /// No command but `node` changes what files hold.
 #[tactic(auto, using(crate::proofs::Frames::call_holds))]
@@ -32,8 +30,7 @@ pub fn files()
     ensures { (q : Option Request) (cause : Why) (old new : Outside) (n m : SinkState)
         → Calls q cause old new n m
         → UnlessNode q (new.files.held ≡ old.files.held) }
-{
-}
+{}
 
 /// No command but `inject` and `node` uses the link.
 #[tactic(auto, using(crate::proofs::Frames::call_links))]
@@ -41,8 +38,7 @@ pub fn no_frames()
     ensures { (q : Option Request) (cause : Why) (old new : Outside) (n m : SinkState)
         → Calls q cause old new n m
         → UnlessLinked q (new.link ≡ old.link) }
-{
-}
+{}
 
 /// No command but `node` takes what arrives.
 #[tactic(auto, using(crate::proofs::Frames::call_hears))]
@@ -50,8 +46,7 @@ pub fn no_arrivals()
     ensures { (q : Option Request) (cause : Why) (old new : Outside) (n m : SinkState)
         → Calls q cause old new n m
         → UnlessNode q (new.link.script ≡ old.link.script) }
-{
-}
+{}
 
 /// A file that isn't taken leaves the link, the clock and the files as they were.
 #[tactic(auto, using(crate::proofs::Serving::none_kept))]
@@ -61,8 +56,7 @@ pub fn unserved()
         → IsTrue old.files.observable
         → ¬ (IsAccepted (outcome_of q old.files.held))
         → (new.link ≡ old.link) × (new.clock ≡ old.clock) × (new.files.held ≡ old.files.held) }
-{
-}
+{}
 
 /// No command but `node` uses the clock.
 #[tactic(auto, using(crate::proofs::Frames::call_times))]
@@ -70,8 +64,7 @@ pub fn no_moments()
     ensures { (q : Option Request) (cause : Why) (old new : Outside) (n m : SinkState)
         → Calls q cause old new n m
         → UnlessNode q (new.clock ≡ old.clock) }
-{
-}
+{}
 
 /// No command but `fleet` uses children.
 #[tactic(auto, using(crate::proofs::Frames::call_starts))]
@@ -79,8 +72,7 @@ pub fn no_starts()
     ensures { (q : Option Request) (cause : Why) (old new : Outside) (n m : SinkState)
         → Calls q cause old new n m
         → UnlessFleet q (new.children ≡ old.children) }
-{
-}
+{}
 
 /// The statuses that children end with stay.
 #[tactic(auto, using(crate::proofs::Frames::call_statuses))]
@@ -88,5 +80,4 @@ pub fn statuses()
     ensures { (q : Option Request) (cause : Why) (old new : Outside) (n m : SinkState)
         → Calls q cause old new n m
         → new.children.statuses ≡ old.children.statuses }
-{
-}
+{}

@@ -14,10 +14,23 @@ mod writing_laws;
 pub use args::{program_of, words_of};
 pub use by_words::run;
 pub use call_causes::{Cause, Refusal, Status};
-pub use call_laws::{accepted, complete, front, note, own, refused, refused_always, silent, usage, usage_always, whole};
-pub use fault_laws::{link_fault, no_link_fault, no_nodes_failed, no_spawn_fault, read_fault, spawn_fault, write_fault};
-pub use frame_laws::{asked, files, made, no_arrivals, no_frames, no_moments, no_starts, statuses, unserved};
-pub use live_laws::{fleet, fleet_complete, fleet_front, fleet_only, fleet_starts, injected, injected_line, injects, node_complete, served, serves, waited};
+pub use call_laws::{
+    accepted, complete, front, note, own, refused, refused_always, silent, usage, usage_always,
+    whole,
+};
+pub use fault_laws::{
+    link_fault, no_link_fault, no_nodes_failed, no_spawn_fault, read_fault, spawn_fault,
+    write_fault,
+};
+pub use frame_laws::{
+    asked, files, made, no_arrivals, no_frames, no_moments, no_starts, statuses, unserved,
+};
+pub use live_laws::{
+    fleet, fleet_complete, fleet_front, fleet_only, fleet_starts, injected, injected_line, injects,
+    node_complete, served, serves, waited,
+};
 pub use top::planet;
 pub use words::{Command, read_words};
-pub use writing_laws::{checked, grown, grown_whole, ledger, logged, replayed, shown, shown_only, shown_whole};
+pub use writing_laws::{
+    checked, grown, grown_whole, ledger, logged, replayed, shown, shown_only, shown_whole,
+};

@@ -33,8 +33,7 @@ pub fn injected()
         → ask_said file old.files.held ≡ says a
         → cause ≡ Cause.Done
         → Bound a old.link new.link × Sent a old.link new.link }
-{
-}
+{}
 
 /// And it wrote its line.
 #[tactic(auto, using(crate::proofs::Asking::ask_writes))]
@@ -46,8 +45,7 @@ pub fn injected_line()
         → ask_said file old.files.held ≡ says a
         → cause ≡ Cause.Done
         → Writes old.out new.out (ask_line a) }
-{
-}
+{}
 
 /// After every answer there is no other bind and no other frame.
 #[tactic(auto, using(crate::proofs::Asking::ask_bounds))]
@@ -56,8 +54,7 @@ pub fn injects()
         → Calls (Some (inject file)) cause old new n m
         → IsTrue old.files.observable
         → AsksAtMost (ask_said file old.files.held) old.link new.link }
-{
-}
+{}
 
 /// A fleet that is done, or whose nodes failed, ran as its file says: each child was started, waited for and reported.
 #[tactic(auto, using(crate::proofs::Fleets::fleet_runs))]
@@ -67,9 +64,9 @@ pub fn fleet()
         → IsTrue old.files.observable
         → (f : Fleet)
         → fleet_said file old.files.held ≡ says f
-        → IfEnded cause (λ end. RunsFleet f.children old.children new.children old.out new.out (Ok end)) }
-{
-}
+        → IfEnded cause
+        (λ end. RunsFleet f.children old.children new.children old.out new.out (Ok end)) }
+{}
 
 /// The starts of its file were asked in order, and the first status that isn't 0 decides.
 #[tactic(auto, using(crate::proofs::Fleets::fleet_begins))]
@@ -80,10 +77,9 @@ pub fn fleet_starts()
         → (f : Fleet)
         → fleet_said file old.files.held ≡ says f
         → IfEnded cause (λ end. Started (fleet_starts f.children) old.children new.children
-            × (IsTrue old.children.observable
-                → end ≡ fleet_end f.children (drop old.children.started old.children.statuses))) }
-{
-}
+        × (IsTrue old.children.observable
+        → end ≡ fleet_end f.children (drop old.children.started old.children.statuses))) }
+{}
 
 /// A fleet ends so only where its file says one.
 #[tactic(auto, using(crate::proofs::Fleets::fleet_says))]
@@ -92,8 +88,7 @@ pub fn fleet_only()
         → Calls (Some (fleet file)) cause old new n m
         → IsTrue old.files.observable
         → IfEnded cause (λ end. IsSaid (fleet_said file old.files.held)) }
-{
-}
+{}
 
 /// And each child that was started was waited for.
 #[tactic(auto, using(crate::proofs::Fleets::fleet_waits))]
@@ -101,8 +96,7 @@ pub fn waited()
     ensures { (file : List ℕ) (cause : Why) (old new : Outside) (n m : SinkState)
         → Calls (Some (fleet file)) cause old new n m
         → IfEnded cause (λ end. new.children.children ≡ old.children.children) }
-{
-}
+{}
 
 /// After every answer the starts and the lines are prefixes of those.
 #[tactic(auto, using(crate::proofs::Fleets::fleet_fronts))]
@@ -112,8 +106,7 @@ pub fn fleet_front()
         → IsTrue old.files.observable
         → IsTrue old.children.observable
         → RunsAtMost (fleet_said file old.files.held) old new }
-{
-}
+{}
 
 /// A fleet that no fault met ended, or memory was refused.
 #[tactic(auto, using(crate::proofs::Fleets::fleet_is_complete))]
@@ -128,8 +121,7 @@ pub fn fleet_complete()
         → ¬ (Rose old.out.faults new.out.faults)
         → ¬ (Rose n.faults m.faults)
         → IsEnded cause ⊎ (cause ≡ Cause.NoMemory) }
-{
-}
+{}
 
 /// A node that is done made the run of so many turns, with the steps refused that its log says.
 #[tactic(auto, using(crate::proofs::Serving::node_serves))]
@@ -142,8 +134,7 @@ pub fn served()
         → config_said file old.files.held ≡ says cfg
         → cause ≡ Cause.Done
         → Served cfg (own_node cfg) turns (serving_in old) (serving_in new) }
-{
-}
+{}
 
 /// After every answer what stands are prefixes of such a run, and nothing where the file says no configuration.
 #[tactic(auto, using(crate::proofs::Serving::node_fronts))]
@@ -153,8 +144,7 @@ pub fn serves()
         → IsSeen (desk_of (serving_in old))
         → IsTrue old.clock.observable
         → ServesAtMost (config_said file old.files.held) turns (serving_in old) (serving_in new) }
-{
-}
+{}
 
 /// A node that no fault met is done, or memory was refused.
 #[tactic(auto, using(crate::proofs::Serving::node_is_complete))]
@@ -170,5 +160,4 @@ pub fn node_complete()
         → ¬ (Rose old.out.faults new.out.faults)
         → ¬ (Rose n.faults m.faults)
         → (cause ≡ Cause.Done) ⊎ (cause ≡ Cause.NoMemory) }
-{
-}
+{}

@@ -50,22 +50,30 @@ pub fn planet<F: Files, K: Sink, N: Sink, L: Link, C: Clock, P: Spawner>(
 ) -> Status
     // The exit code is that of the cause.
     ensures code { result.code ≡ code_of result.cause }
-    // The headline: a replay that is done wrote the trace and the ledger of the written meaning of its schedule ..
-    ensures replayed { (s : Schedule) → Replays words.now (F.state files.old) s → result.cause ≡ Cause.Done
-        → Writes (K.state out.old) (K.state out.new) (run_text s.frames s.events (opening s.topology)) }
+    // The headline: a replay that is done wrote the trace and the ledger of the written meaning of
+    // its schedule ..
+    ensures replayed { (s : Schedule) → Replays words.now (F.state files.old) s
+        → result.cause ≡ Cause.Done
+        → Writes (K.state out.old) (K.state out.new)
+        (run_text s.frames s.events (opening s.topology)) }
     // .. whose counts are in balance after every event, and whose visits are never without a case.
     ensures keeps { (s : Schedule) → Replays words.now (F.state files.old) s → KeepsRun s }
     // The same of a log: the node whose steps it has keeps its limits, and each step is in balance.
-    ensures log_keeps { (l : Log) → ReplaysLog words.now (F.state files.old) l → KeepsNodeRun (log_node l) l.events }
+    ensures log_keeps { (l : Log) → ReplaysLog words.now (F.state files.old) l
+        → KeepsNodeRun (log_node l) l.events }
     // What the words ask for was done, and the notes tell how it ended.
     ensures does { Calls (request_of words.now) result.cause
-        (outside (F.state files.old) (K.state out.old) (L.state link.old) (C.state clock.old) (P.state spawn.old))
-        (outside (F.state files.new) (K.state out.new) (L.state link.new) (C.state clock.new) (P.state spawn.new))
+        (outside (F.state files.old) (K.state out.old) (L.state link.old) (C.state clock.old)
+        (P.state spawn.old))
+        (outside (F.state files.new) (K.state out.new) (L.state link.new) (C.state clock.new)
+        (P.state spawn.new))
         (N.state notes.old) (N.state notes.new) }
     // A fault comes only where its count rose in this call.
     ensures causes { Explains result.cause
-        (outside (F.state files.old) (K.state out.old) (L.state link.old) (C.state clock.old) (P.state spawn.old))
-        (outside (F.state files.new) (K.state out.new) (L.state link.new) (C.state clock.new) (P.state spawn.new))
+        (outside (F.state files.old) (K.state out.old) (L.state link.old) (C.state clock.old)
+        (P.state spawn.old))
+        (outside (F.state files.new) (K.state out.new) (L.state link.new) (C.state clock.new)
+        (P.state spawn.new))
         (N.state notes.old) (N.state notes.new) }
 {
     let found = run(alloc, words, files, out, link, clock, spawn);

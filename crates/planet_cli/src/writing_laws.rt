@@ -35,8 +35,7 @@ pub fn replayed()
         → Replays words old.files s
         → cause ≡ Cause.Done
         → Writes old.out new.out (run_text s.frames s.events (opening s.topology)) }
-{
-}
+{}
 
 /// And that run keeps what every run keeps.
 #[tactic(auto, using(crate::proofs::Keeping::replay_keeps))]
@@ -44,8 +43,7 @@ pub fn ledger()
     ensures { (words : List (List ℕ)) (files : FilesState) (s : Schedule)
         → Replays words files s
         → KeepsRun s }
-{
-}
+{}
 
 /// A replay of the log of a node that is done wrote the trace of its steps.
 #[tactic(auto, using(crate::proofs::Headline::log_writes))]
@@ -56,21 +54,20 @@ pub fn logged()
         → ReplaysLog words old.files l
         → cause ≡ Cause.Done
         → Writes old.out new.out (log_trace l) }
-{
-}
+{}
 
 /// A check that is done wrote the sizes of its typed program.
 #[tactic(auto, using(crate::proofs::Writing::check_written))]
 pub fn checked()
-    ensures { (file bytes : List ℕ) (p : Program) (cause : Why) (old new : Outside) (n m : SinkState)
+    ensures { (file bytes : List ℕ) (p : Program) (cause : Why) (old new : Outside)
+        (n m : SinkState)
         → Calls (Some (check file)) cause old new n m
         → IsTrue old.files.observable
         → file_at old.files.held file ≡ Some bytes
         → program_of bytes ≡ Ok p
         → cause ≡ Cause.Done
         → Writes old.out new.out (sizes_text p) }
-{
-}
+{}
 
 /// The hex of a frame whose chunk is typed is shown whole: what the frame says.
 #[tactic(auto, using(file_commands::proofs::Showing::frame_shown))]
@@ -78,8 +75,7 @@ pub fn shown_whole()
     ensures { (files : FileMap) (file : List ℕ) (x : PlainFrame)
         → HoldsFrame files file x
         → show_said file files ≡ says (frame_text x) }
-{
-}
+{}
 
 /// Nothing else is shown.
 #[tactic(auto, using(crate::proofs::Showing::show_found))]
@@ -89,8 +85,7 @@ pub fn shown_only()
         → IsTrue old.files.observable
         → cause ≡ Cause.Done
         → (x : PlainFrame) × HoldsFrame old.files.held file x }
-{
-}
+{}
 
 /// And a show that is done wrote it.
 #[tactic(auto, using(crate::proofs::Showing::show_written))]
@@ -102,8 +97,7 @@ pub fn shown()
         → HoldsFrame old.files.held file x
         → cause ≡ Cause.Done
         → Writes old.out new.out (frame_text x) }
-{
-}
+{}
 
 /// A network that grows is never refused: it is done where no fault of writing came, or memory was refused.
 #[tactic(auto, using(crate::proofs::Asking::grow_is_whole))]
@@ -113,8 +107,7 @@ pub fn grown_whole()
         → ¬ (Rose old.out.faults new.out.faults)
         → ¬ (Rose n.faults m.faults)
         → (cause ≡ Cause.Done) ⊎ (cause ≡ Cause.NoMemory) }
-{
-}
+{}
 
 /// Where it is done it wrote the summary of the network of its seed.
 #[tactic(auto, using(crate::proofs::Asking::grow_writes))]
@@ -123,5 +116,4 @@ pub fn grown()
         → Calls (Some (grow seed k)) cause old new n m
         → cause ≡ Cause.Done
         → OfGrown seed k (Writes old.out new.out) }
-{
-}
+{}
