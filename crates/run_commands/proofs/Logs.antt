@@ -21,18 +21,18 @@ other_line line is = ap (λ l. bytes_eq l (codes "planet schedule 1")) ((bytes_e
 -- a log's first line
 log_begins : (ls : List (List ℕ)) (l : Log) → read_on log_format 1 ls nothing_logged ≡ Ok l → read_on schedule_format 1 ls nothing_read ≡ Err (faults.Line 1 BadHeader)
 unfolding read_on log_step_at step
-log_begins [] l says = absurd (cc)
-log_begins (line ∷ more) l says = by_header (bytes_eq line (codes "planet log 1")) refl says
+log_begins [] l e = absurd (cc)
+log_begins (line ∷ more) l e = by_header (bytes_eq line (codes "planet log 1")) refl e
   where
     by_header : (b : Bool) → bytes_eq line (codes "planet log 1") ≡ b → read_on log_format 1 (line ∷ more) nothing_logged ≡ Ok l
         → read_on schedule_format 1 (line ∷ more) nothing_read ≡ Err (faults.Line 1 BadHeader)
-    by_header true is says = rw (other_line line is) refl
-    by_header false is says = absurd (cc)
+    by_header true is h = rw (other_line line is) refl
+    by_header false is h = absurd (cc)
 
 -- so what it says is the log
 log_replayed : (bytes : List ℕ) (l : Log) → log_of bytes ≡ Ok l → replayed_of bytes ≡ as_log (log_of bytes)
 unfolding schedule_of
-log_replayed bytes l says = ap (λ s. replayed_by s bytes) (log_begins (lines bytes) l says)
+log_replayed bytes l e = ap (λ s. replayed_by s bytes) (log_begins (lines bytes) l e)
 
 -- a file that says a log says its trace to `replay`
 pub log_said : (bytes : List ℕ) (l : Log) → log_of bytes ≡ Ok l → schedule_said bytes ≡ says (log_trace l)
