@@ -110,7 +110,7 @@ ended_or_poor f (Err fleets.WaitFault) old new p k o = absurd (k p.did.0)
 ended_or_poor f (Err fleets.WriteFault) old new p k o = absurd (o p.did.2.rose)
 ended_or_poor f (Err fleets.NoMemory) old new p k o = inr refl
 
-unread : {A : Type 0} (said : FileMap → Said A) (old new : FilesState) (c : Cause) (v : A) → Untaken said old new c → (IsTrue old.observable → said old.held ≡ says v) → IsTrue old.observable
+pub unread : {A : Type 0} (said : FileMap → Said A) (old new : FilesState) (c : Cause) (v : A) → Untaken said old new c → (IsTrue old.observable → said old.held ≡ says v) → IsTrue old.observable
     → ¬ (Rose old.read_faults new.read_faults) → c ≡ NoMemory
 unread said old new (Refused r) v u is seen p = let e : outside r ≡ says v = sym (u.1 seen) ∙ is seen in absurd (cc)
 unread said old new ReadFault v u is seen p = absurd (p u)
@@ -177,7 +177,7 @@ module _ (file : List ℕ) (cause : Cause) (old new : Outside) (n m : SinkState)
 
   pub fleet_is_complete : IsTrue old.files.observable → (f : Fleet) → fleet_said file old.files.held ≡ says f → ¬ (Rose old.files.read_faults new.files.read_faults)
       → ¬ (Rose old.children.faults new.children.faults) → ¬ (Rose old.out.faults new.out.faults) → ¬ (Rose n.faults m.faults) → IsEnded cause ⊎ (cause ≡ NoMemory)
-  fleet_is_complete seen f e r k o no = elim gives [
+  fleet_is_complete seen f e r k o written = elim gives [
     | inl same ↦ subst (λ x. IsEnded x ⊎ (x ≡ NoMemory)) (sym same) (complete_so call.found fleet_view f seen e r k o)
-    | inr other ↦ elim other [ inl poor ↦ inr poor | inr w ↦ absurd (no w.1) ]
+    | inr other ↦ elim other [ inl poor ↦ inr poor | inr w ↦ absurd (written w.1) ]
   ]

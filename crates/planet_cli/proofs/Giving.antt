@@ -45,9 +45,9 @@ module _ (found given : Cause) (X : Type 0) (gives : Gives found given X) where
   ]
 
   pub well : (¬ X) → (found ≡ Done) ⊎ (found ≡ NoMemory) → (given ≡ Done) ⊎ (given ≡ NoMemory)
-  well no h = elim (unfailed Done h) [
+  well written h = elim (unfailed Done h) [
     | inl e ↦ inl e
-    | inr other ↦ elim other [ inl n ↦ inr n | inr w ↦ absurd (no w.1) ]
+    | inr other ↦ elim other [ inl n ↦ inr n | inr w ↦ absurd (written w.1) ]
   ]
 
 of_refusal : {P Q : Refusal → Type 0} (c : Cause) → ((r : Refusal) → P r → Q r) → IfRefused c P → IfRefused c Q

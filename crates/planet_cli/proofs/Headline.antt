@@ -10,9 +10,13 @@ use Rattle.call_causes.specs.declared.status.Cause.{Cause}
 use Rattle.call_causes.specs.declared.status.Cause.TheVariants.{Done}
 use Rattle.run_commands.specs.Schedules.{log_trace}
 use Rattle.planet_cli.specs.Requests.{request_of}
+use Rattle.call_causes.specs.Causes.{Explains}
+use Rattle.call_causes.specs.Notes.{Notes}
+use Rattle.planet_cli.specs.Does.{Does}
 use Rattle.planet_cli.specs.Calls.{Calls}
 use Rattle.planet_cli.specs.Replays.{Replays, ReplaysLog}
 use Rattle.planet_cli.proofs.Writing.{schedule_written, log_written}
+use Rattle.planet_cli.proofs.Explaining.{call_explains}
 
 -- the words ask for a replay
 module _ (words : List (List ℕ)) (cause : Cause) (old new : Outside) (n m : SinkState) (call : Calls (request_of words) cause old new n m) where
@@ -25,3 +29,14 @@ module _ (words : List (List ℕ)) (cause : Cause) (old new : Outside) (n m : Si
   pub log_writes : (l : Log) (r : ReplaysLog words old.files l) → cause ≡ Done → Writes old.out new.out (log_trace l)
   log_writes l r done =
       log_written r.file r.bytes l cause old new n m (subst (λ q. Calls q cause old new n m) r.asked call) r.seen r.there r.says done
+
+-- of what was found, with its notes
+module _ (words : List (List ℕ)) (found cause : Cause) (old new : Outside) (n m : SinkState) (does : Does (request_of words) found old new) (notes : Notes found n m cause) where
+  called : Calls (request_of words) cause old new n m
+  called = record { found = found; does = does; notes = notes }
+
+  pub found_writes : (s : Schedule) → Replays words old.files s → cause ≡ Done → Writes old.out new.out (run_text s.frames s.events (opening s.topology))
+  found_writes s r done = replay_writes words cause old new n m called s r done
+
+  pub found_explains : Explains cause old new n m
+  found_explains = call_explains old new n m (request_of words) cause called

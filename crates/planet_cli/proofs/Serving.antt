@@ -107,21 +107,21 @@ says_one a b e = cc
 -- ---- calls
 
 module _ (file : List ℕ) (turns : ℕ) (cause : Cause) (old new : Outside) (n m : SinkState) (call : Calls (Some (node file turns)) cause old new n m) where
-  held : call.does.1.read.held ≡ old.files.held
-  held = call.does.1.did.takes.only.held
+  still_held : call.does.1.read.held ≡ old.files.held
+  still_held = call.does.1.did.takes.only.held
 
   node_view : Took (config_said file) (ServesAs turns) old.files call.does.1.read call.found (record (serving_in old) { files = call.does.1.read }) (serving_in new)
   node_view = view (config_said file) (ServesAs turns) file old.files call.does.1.read call.found (record (serving_in old) { files = call.does.1.read }) (serving_in new) call.does.1.did
 
   still_seen : IsSeen (desk_of (serving_in old)) → IsSeen (desk_of (record (serving_in old) { files = call.does.1.read }))
-  still_seen seen = (subst IsTrue (sym call.does.1.did.takes.only.observable) seen.0, seen.1)
+  still_seen seen = (subst IsTrue (sym call.does.1.did.takes.only.observable) seen.0, seen.1, seen.2)
 
   module _ (seen : IsSeen (desk_of (serving_in old))) (clock : IsTrue old.clock.observable) where
     served_so : (c : Cause) (cfg : ServeConfig) → Took (config_said file) (ServesAs turns) old.files call.does.1.read c (record (serving_in old) { files = call.does.1.read }) (serving_in new)
         → config_said file old.files.held ≡ says cfg → c ≡ Done → Served cfg (own_node cfg) turns (serving_in old) (serving_in new)
     served_so c cfg (took own_cfg own p) e done =
         subst (λ k. Served k (own_node k) turns (serving_in old) (serving_in new)) (says_one own_cfg cfg (sym (own seen.0) ∙ e))
-        (served_before own_cfg (own_node own_cfg) turns (serving_in old) (serving_in new) call.does.1.read held
+        (served_before own_cfg (own_node own_cfg) turns (serving_in old) (serving_in new) call.does.1.read still_held
         (served_well (record (serving_in old) { files = call.does.1.read }) (serving_in new) own_cfg turns p.result (sym p.is ∙ done) (p.serves.runs (still_seen seen) clock)))
     served_so c cfg (left u same) e done = elim (subst (Untaken (config_said file) old.files call.does.1.read) done u) [ ]
 
@@ -132,10 +132,10 @@ module _ (file : List ℕ) (turns : ℕ) (cause : Cause) (old new : Outside) (n 
         → ServesAtMost (config_said file old.files.held) turns (serving_in old) (serving_in new)
     at_most c (took cfg own p) =
         subst (λ s. ServesAtMost s turns (serving_in old) (serving_in new)) (sym (own seen.0))
-        (ended_before cfg (own_node cfg) turns (serving_in old) (serving_in new) call.does.1.read held p.result (p.serves.runs (still_seen seen) clock))
+        (ended_before cfg (own_node cfg) turns (serving_in old) (serving_in new) call.does.1.read still_held p.result (p.serves.runs (still_seen seen) clock))
     at_most c (left u same) =
         subst (λ s. ServesAtMost (config_said file old.files.held) turns (serving_in old) s) (sym same)
-        (none_served (config_said file old.files.held) turns (serving_in old) call.does.1.read held)
+        (none_served (config_said file old.files.held) turns (serving_in old) call.does.1.read still_held)
 
     pub node_fronts : ServesAtMost (config_said file old.files.held) turns (serving_in old) (serving_in new)
     node_fronts = at_most call.found node_view
@@ -167,22 +167,22 @@ module _ (c : Cause) (old new : Outside) (seen : IsTrue old.files.observable) wh
   ask_kept : (file : List ℕ) → new.clock ≡ old.clock → new.files.held ≡ old.files.held → ¬ (IsAccepted (outcome_by (λ a. whole (ask_line a)) (ask_said file old.files.held)))
       → Took (ask_said file) AsksAs old.files new.files c (wire_in old) (wire_in new) → Kept old new
   ask_kept file clock held h (took a own p) = absurd (h (taken_so (λ x. whole (ask_line x)) (ask_said file old.files.held) a (own seen) tt))
-  ask_kept file clock held h (left u same) = (ap (λ w. w.link) same, (clock, held))
+  ask_kept file clock held h (left u same) = (ap (λ w. w.link) same, clock, held)
 
   node_kept : (file : List ℕ) (turns : ℕ) (read : FilesState) → read.held ≡ old.files.held → ¬ (IsAccepted (outcome_by (λ x. runs) (config_said file old.files.held)))
       → Took (config_said file) (ServesAs turns) old.files read c (record (serving_in old) { files = read }) (serving_in new) → Kept old new
   node_kept file turns read held h (took cfg own p) = absurd (h (taken_so (λ x. runs) (config_said file old.files.held) cfg (own seen) tt))
-  node_kept file turns read held h (left u same) = (ap (λ w. w.link) same, (ap (λ w. w.clock) same, ap (λ w. w.files.held) same ∙ held))
+  node_kept file turns read held h (left u same) = (ap (λ w. w.link) same, ap (λ w. w.clock) same, ap (λ w. w.files.held) same ∙ held)
 
   kept : (q : Option Request) → Does q c old new → ¬ (IsAccepted (outcome_of q old.files.held)) → Kept old new
-  kept None d h = (ap (λ o. o.link) d.1, (ap (λ o. o.clock) d.1, ap (λ o. o.files.held) d.1))
-  kept (Some (replay file)) d h = (ap (λ o. o.link) d.0, (ap (λ o. o.clock) d.0, d.1.takes.only.held))
-  kept (Some (check file)) d h = (ap (λ o. o.link) d.0, (ap (λ o. o.clock) d.0, d.1.takes.only.held))
-  kept (Some (show file)) d h = (ap (λ o. o.link) d.0, (ap (λ o. o.clock) d.0, d.1.takes.only.held))
+  kept None d h = (ap (λ o. o.link) d.1, ap (λ o. o.clock) d.1, ap (λ o. o.files.held) d.1)
+  kept (Some (replay file)) d h = (ap (λ o. o.link) d.0, ap (λ o. o.clock) d.0, d.1.takes.only.held)
+  kept (Some (check file)) d h = (ap (λ o. o.link) d.0, ap (λ o. o.clock) d.0, d.1.takes.only.held)
+  kept (Some (show file)) d h = (ap (λ o. o.link) d.0, ap (λ o. o.clock) d.0, d.1.takes.only.held)
   kept (Some (inject file)) d h = ask_kept file (ap (λ o. o.clock) d.0) d.1.takes.only.held h (view (ask_said file) AsksAs file old.files new.files c (wire_in old) (wire_in new) d.1)
-  kept (Some (fleet file)) d h = (ap (λ o. o.link) d.0, (ap (λ o. o.clock) d.0, d.1.takes.only.held))
+  kept (Some (fleet file)) d h = (ap (λ o. o.link) d.0, ap (λ o. o.clock) d.0, d.1.takes.only.held)
   kept (Some (node file turns)) d h = node_kept file turns d.1.read d.1.did.takes.only.held h (view (config_said file) (ServesAs turns) file old.files d.1.read c (record (serving_in old) { files = d.1.read }) (serving_in new) d.1.did)
-  kept (Some (grow seed k)) d h = (ap (λ o. o.link) d.0, (ap (λ o. o.clock) d.0, ap (λ o. o.files.held) d.0))
+  kept (Some (grow seed k)) d h = (ap (λ o. o.link) d.0, ap (λ o. o.clock) d.0, ap (λ o. o.files.held) d.0)
 
 pub none_kept : (q : Option Request) (cause : Cause) (old new : Outside) (n m : SinkState) → Calls q cause old new n m → IsTrue old.files.observable → ¬ (IsAccepted (outcome_of q old.files.held))
     → (new.link ≡ old.link) × (new.clock ≡ old.clock) × (new.files.held ≡ old.files.held)

@@ -16,7 +16,6 @@ ghost use Rattle.planet_cli.specs.Laws.{WhereInjected};
 use call_causes::Cause;
 
 /// Usage comes only where the words are none of the commands.
-#[tactic(auto, using(crate::proofs::Giving::usage_asks))]
 pub fn usage()
     ensures { (q : Option Request) (cause : Why) (old new : Outside) (n m : SinkState)
         → Calls q cause old new n m
@@ -25,7 +24,6 @@ pub fn usage()
 {}
 
 /// And there it does, unless memory is refused or its note isn't written.
-#[tactic(auto, using(crate::proofs::Giving::usage_given))]
 pub fn usage_always()
     ensures { (cause : Why) (old new : Outside) (n m : SinkState)
         → Calls None cause old new n m
@@ -33,7 +31,6 @@ pub fn usage_always()
 {}
 
 /// A refusal is what the file says.
-#[tactic(auto, using(crate::proofs::Giving::is_refused))]
 pub fn refused()
     ensures { (q : Option Request) (cause : Why) (old new : Outside) (n m : SinkState)
         → Calls q cause old new n m
@@ -42,7 +39,6 @@ pub fn refused()
 {}
 
 /// And where the file is refused, that is the answer, unless it wasn't read, memory is refused, or the note isn't written.
-#[tactic(auto, using(crate::proofs::Giving::is_told))]
 pub fn refused_always()
     ensures { (q : Option Request) (cause : Why) (old new : Outside) (n m : SinkState)
         → Calls q cause old new n m
@@ -54,7 +50,6 @@ pub fn refused_always()
 {}
 
 /// No refusal is, or holds, want of memory.
-#[tactic(auto, using(crate::proofs::Giving::is_own))]
 pub fn own()
     ensures { (q : Option Request) (cause : Why) (old new : Outside) (n m : SinkState)
         → Calls q cause old new n m
@@ -62,7 +57,6 @@ pub fn own()
 {}
 
 /// A refusal leaves the output as it was, its faults too.
-#[tactic(auto, using(crate::proofs::Giving::is_silent))]
 pub fn silent()
     ensures { (q : Option Request) (cause : Why) (old new : Outside) (n m : SinkState)
         → Calls q cause old new n m
@@ -70,7 +64,6 @@ pub fn silent()
 {}
 
 /// What is done does its work: the file is taken.
-#[tactic(auto, using(crate::proofs::Giving::is_accepted))]
 pub fn accepted()
     ensures { (q : Option Request) (cause : Why) (old new : Outside) (n m : SinkState)
         → Calls q cause old new n m
@@ -80,7 +73,6 @@ pub fn accepted()
 {}
 
 /// And then its output was written, where it is defined whole.
-#[tactic(auto, using(crate::proofs::Giving::is_written))]
 pub fn whole()
     ensures { (q : Option Request) (cause : Why) (old new : Outside) (n m : SinkState)
         → Calls q cause old new n m
@@ -90,7 +82,6 @@ pub fn whole()
 {}
 
 /// After every answer a prefix of it was.
-#[tactic(auto, using(crate::proofs::Giving::is_begun))]
 pub fn front()
     ensures { (q : Option Request) (cause : Why) (old new : Outside) (n m : SinkState)
         → Calls q cause old new n m
@@ -99,7 +90,6 @@ pub fn front()
 {}
 
 /// Where the output is defined whole and no fault came, the call is done, or memory was refused.
-#[tactic(auto, using(crate::proofs::Giving::is_complete))]
 pub fn complete()
     ensures { (q : Option Request) (cause : Why) (old new : Outside) (n m : SinkState)
         → Calls q cause old new n m
@@ -113,7 +103,6 @@ pub fn complete()
 {}
 
 /// The note of the cause was written, or the notes failed in a note.
-#[tactic(auto, using(crate::proofs::Giving::is_noted))]
 pub fn note()
     ensures { (q : Option Request) (cause : Why) (old new : Outside) (n m : SinkState)
         → Calls q cause old new n m

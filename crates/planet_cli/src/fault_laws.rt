@@ -12,7 +12,6 @@ ghost use Rattle.planet_cli.specs.Laws.{UnlessLinked, UnlessFleet, IfNodesFailed
 use call_causes::Cause;
 
 /// A fault of reading comes only where the count of the files rose.
-#[tactic(auto, using(crate::proofs::Explaining::read_rose))]
 pub fn read_fault()
     ensures { (q : Option Request) (old new : Outside) (n m : SinkState)
         → Calls q Cause.ReadFault old new n m
@@ -20,7 +19,6 @@ pub fn read_fault()
 {}
 
 /// A fault of writing comes only where the count of the output, of the files or of the notes rose.
-#[tactic(auto, using(crate::proofs::Explaining::write_rose))]
 pub fn write_fault()
     ensures { (q : Option Request) (old new : Outside) (n m : SinkState)
         → Calls q Cause.WriteFault old new n m
@@ -28,7 +26,6 @@ pub fn write_fault()
 {}
 
 /// A fault of the link comes only where its count rose.
-#[tactic(auto, using(crate::proofs::Explaining::link_rose))]
 pub fn link_fault()
     ensures { (q : Option Request) (old new : Outside) (n m : SinkState)
         → Calls q Cause.LinkFault old new n m
@@ -36,7 +33,6 @@ pub fn link_fault()
 {}
 
 /// A fault of children comes only where their count rose.
-#[tactic(auto, using(crate::proofs::Explaining::spawn_rose))]
 pub fn spawn_fault()
     ensures { (q : Option Request) (old new : Outside) (n m : SinkState)
         → Calls q Cause.SpawnFault old new n m
@@ -44,7 +40,6 @@ pub fn spawn_fault()
 {}
 
 /// Only the commands with a link end so.
-#[tactic(auto, using(crate::proofs::Causes::unlinked))]
 pub fn no_link_fault()
     ensures { (q : Option Request) (cause : Why) (old new : Outside) (n m : SinkState)
         → Calls q cause old new n m
@@ -52,7 +47,6 @@ pub fn no_link_fault()
 {}
 
 /// Only `fleet` ends for a fault of children.
-#[tactic(auto, using(crate::proofs::Causes::unspawned))]
 pub fn no_spawn_fault()
     ensures { (q : Option Request) (cause : Why) (old new : Outside) (n m : SinkState)
         → Calls q cause old new n m
@@ -60,7 +54,6 @@ pub fn no_spawn_fault()
 {}
 
 /// And only it ends for nodes that failed.
-#[tactic(auto, using(crate::proofs::Causes::unfailing))]
 pub fn no_nodes_failed()
     ensures { (q : Option Request) (cause : Why) (old new : Outside) (n m : SinkState)
         → Calls q cause old new n m

@@ -9,7 +9,6 @@ ghost use Rattle.planet_cli.specs.Outcomes.{outcome_of, IsAccepted};
 ghost use Rattle.planet_cli.specs.Laws.{UnlessLinked, UnlessFleet, UnlessNode, AsksFor, MakesAtMost};
 
 /// The names asked of the files grew at most by the file of the request.
-#[tactic(auto, using(crate::proofs::Frames::call_asks))]
 pub fn asked()
     ensures { (q : Option Request) (cause : Why) (old new : Outside) (n m : SinkState)
         → Calls q cause old new n m
@@ -17,7 +16,6 @@ pub fn asked()
 {}
 
 /// No command but `node` makes a file, and that at most its log.
-#[tactic(auto, using(crate::proofs::Frames::call_makes))]
 pub fn made()
     ensures { (q : Option Request) (cause : Why) (old new : Outside) (n m : SinkState)
         → Calls q cause old new n m
@@ -25,7 +23,6 @@ pub fn made()
 {}
 
 /// No command but `node` changes what files hold.
-#[tactic(auto, using(crate::proofs::Frames::call_holds))]
 pub fn files()
     ensures { (q : Option Request) (cause : Why) (old new : Outside) (n m : SinkState)
         → Calls q cause old new n m
@@ -33,7 +30,6 @@ pub fn files()
 {}
 
 /// No command but `inject` and `node` uses the link.
-#[tactic(auto, using(crate::proofs::Frames::call_links))]
 pub fn no_frames()
     ensures { (q : Option Request) (cause : Why) (old new : Outside) (n m : SinkState)
         → Calls q cause old new n m
@@ -41,7 +37,6 @@ pub fn no_frames()
 {}
 
 /// No command but `node` takes what arrives.
-#[tactic(auto, using(crate::proofs::Frames::call_hears))]
 pub fn no_arrivals()
     ensures { (q : Option Request) (cause : Why) (old new : Outside) (n m : SinkState)
         → Calls q cause old new n m
@@ -49,7 +44,6 @@ pub fn no_arrivals()
 {}
 
 /// A file that isn't taken leaves the link, the clock and the files as they were.
-#[tactic(auto, using(crate::proofs::Serving::none_kept))]
 pub fn unserved()
     ensures { (q : Option Request) (cause : Why) (old new : Outside) (n m : SinkState)
         → Calls q cause old new n m
@@ -59,7 +53,6 @@ pub fn unserved()
 {}
 
 /// No command but `node` uses the clock.
-#[tactic(auto, using(crate::proofs::Frames::call_times))]
 pub fn no_moments()
     ensures { (q : Option Request) (cause : Why) (old new : Outside) (n m : SinkState)
         → Calls q cause old new n m
@@ -67,7 +60,6 @@ pub fn no_moments()
 {}
 
 /// No command but `fleet` uses children.
-#[tactic(auto, using(crate::proofs::Frames::call_starts))]
 pub fn no_starts()
     ensures { (q : Option Request) (cause : Why) (old new : Outside) (n m : SinkState)
         → Calls q cause old new n m
@@ -75,7 +67,6 @@ pub fn no_starts()
 {}
 
 /// The statuses that children end with stay.
-#[tactic(auto, using(crate::proofs::Frames::call_statuses))]
 pub fn statuses()
     ensures { (q : Option Request) (cause : Why) (old new : Outside) (n m : SinkState)
         → Calls q cause old new n m

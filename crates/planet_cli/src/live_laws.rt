@@ -24,7 +24,6 @@ ghost use Rattle.planet_cli.specs.Laws.{IfEnded, IsEnded, AsksAtMost, RunsAtMost
 use call_causes::Cause;
 
 /// An `inject` that is done bound the link once, at the request's port with the node as its one peer, and sent the one frame.
-#[tactic(auto, using(crate::proofs::Asking::ask_sends))]
 pub fn injected()
     ensures { (file : List ℕ) (cause : Why) (old new : Outside) (n m : SinkState)
         → Calls (Some (inject file)) cause old new n m
@@ -36,7 +35,6 @@ pub fn injected()
 {}
 
 /// And it wrote its line.
-#[tactic(auto, using(crate::proofs::Asking::ask_writes))]
 pub fn injected_line()
     ensures { (file : List ℕ) (cause : Why) (old new : Outside) (n m : SinkState)
         → Calls (Some (inject file)) cause old new n m
@@ -48,7 +46,6 @@ pub fn injected_line()
 {}
 
 /// After every answer there is no other bind and no other frame.
-#[tactic(auto, using(crate::proofs::Asking::ask_bounds))]
 pub fn injects()
     ensures { (file : List ℕ) (cause : Why) (old new : Outside) (n m : SinkState)
         → Calls (Some (inject file)) cause old new n m
@@ -57,7 +54,6 @@ pub fn injects()
 {}
 
 /// A fleet that is done, or whose nodes failed, ran as its file says: each child was started, waited for and reported.
-#[tactic(auto, using(crate::proofs::Fleets::fleet_runs))]
 pub fn fleet()
     ensures { (file : List ℕ) (cause : Why) (old new : Outside) (n m : SinkState)
         → Calls (Some (fleet file)) cause old new n m
@@ -69,7 +65,6 @@ pub fn fleet()
 {}
 
 /// The starts of its file were asked in order, and the first status that isn't 0 decides.
-#[tactic(auto, using(crate::proofs::Fleets::fleet_begins))]
 pub fn fleet_starts()
     ensures { (file : List ℕ) (cause : Why) (old new : Outside) (n m : SinkState)
         → Calls (Some (fleet file)) cause old new n m
@@ -82,7 +77,6 @@ pub fn fleet_starts()
 {}
 
 /// A fleet ends so only where its file says one.
-#[tactic(auto, using(crate::proofs::Fleets::fleet_says))]
 pub fn fleet_only()
     ensures { (file : List ℕ) (cause : Why) (old new : Outside) (n m : SinkState)
         → Calls (Some (fleet file)) cause old new n m
@@ -91,7 +85,6 @@ pub fn fleet_only()
 {}
 
 /// And each child that was started was waited for.
-#[tactic(auto, using(crate::proofs::Fleets::fleet_waits))]
 pub fn waited()
     ensures { (file : List ℕ) (cause : Why) (old new : Outside) (n m : SinkState)
         → Calls (Some (fleet file)) cause old new n m
@@ -99,7 +92,6 @@ pub fn waited()
 {}
 
 /// After every answer the starts and the lines are prefixes of those.
-#[tactic(auto, using(crate::proofs::Fleets::fleet_fronts))]
 pub fn fleet_front()
     ensures { (file : List ℕ) (cause : Why) (old new : Outside) (n m : SinkState)
         → Calls (Some (fleet file)) cause old new n m
@@ -109,7 +101,6 @@ pub fn fleet_front()
 {}
 
 /// A fleet that no fault met ended, or memory was refused.
-#[tactic(auto, using(crate::proofs::Fleets::fleet_is_complete))]
 pub fn fleet_complete()
     ensures { (file : List ℕ) (cause : Why) (old new : Outside) (n m : SinkState)
         → Calls (Some (fleet file)) cause old new n m
@@ -124,7 +115,6 @@ pub fn fleet_complete()
 {}
 
 /// A node that is done made the run of so many turns, with the steps refused that its log says.
-#[tactic(auto, using(crate::proofs::Serving::node_serves))]
 pub fn served()
     ensures { (file : List ℕ) (turns : ℕ) (cause : Why) (old new : Outside) (n m : SinkState)
         → Calls (Some (node file turns)) cause old new n m
@@ -137,7 +127,6 @@ pub fn served()
 {}
 
 /// After every answer what stands are prefixes of such a run, and nothing where the file says no configuration.
-#[tactic(auto, using(crate::proofs::Serving::node_fronts))]
 pub fn serves()
     ensures { (file : List ℕ) (turns : ℕ) (cause : Why) (old new : Outside) (n m : SinkState)
         → Calls (Some (node file turns)) cause old new n m
@@ -147,7 +136,6 @@ pub fn serves()
 {}
 
 /// A node that no fault met is done, or memory was refused.
-#[tactic(auto, using(crate::proofs::Serving::node_is_complete))]
 pub fn node_complete()
     ensures { (file : List ℕ) (turns : ℕ) (cause : Why) (old new : Outside) (n m : SinkState)
         → Calls (Some (node file turns)) cause old new n m

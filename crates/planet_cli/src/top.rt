@@ -37,7 +37,6 @@ fn exit_code(cause: &Cause) -> u8
 
 /// Does what the words after the program's name ask for, over these files, this output, these notes,
 /// link, clock and children. Each cause but `Done` writes one line to the notes.
-#[tactic(auto, using(crate::proofs::Headline::replay_writes, crate::proofs::Keeping::replay_keeps, crate::proofs::NodeKeeping::log_keeps, crate::proofs::Explaining::call_explains))]
 pub fn planet<F: Files, K: Sink, N: Sink, L: Link, C: Clock, P: Spawner>(
     alloc: Global,
     words: &Texts,

@@ -27,7 +27,6 @@ ghost use Rattle.planet_cli.specs.Replays.{Replays, ReplaysLog};
 use call_causes::Cause;
 
 /// A replay that is done wrote the run of its schedule.
-#[tactic(auto, using(crate::proofs::Headline::replay_writes))]
 pub fn replayed()
     ensures { (words : List (List ℕ)) (cause : Why) (old new : Outside) (n m : SinkState)
         → Calls (request_of words) cause old new n m
@@ -38,7 +37,6 @@ pub fn replayed()
 {}
 
 /// And that run keeps what every run keeps.
-#[tactic(auto, using(crate::proofs::Keeping::replay_keeps))]
 pub fn ledger()
     ensures { (words : List (List ℕ)) (files : FilesState) (s : Schedule)
         → Replays words files s
@@ -46,7 +44,6 @@ pub fn ledger()
 {}
 
 /// A replay of the log of a node that is done wrote the trace of its steps.
-#[tactic(auto, using(crate::proofs::Headline::log_writes))]
 pub fn logged()
     ensures { (words : List (List ℕ)) (cause : Why) (old new : Outside) (n m : SinkState)
         → Calls (request_of words) cause old new n m
@@ -57,7 +54,6 @@ pub fn logged()
 {}
 
 /// A check that is done wrote the sizes of its typed program.
-#[tactic(auto, using(crate::proofs::Writing::check_written))]
 pub fn checked()
     ensures { (file bytes : List ℕ) (p : Program) (cause : Why) (old new : Outside)
         (n m : SinkState)
@@ -70,7 +66,6 @@ pub fn checked()
 {}
 
 /// The hex of a frame whose chunk is typed is shown whole: what the frame says.
-#[tactic(auto, using(file_commands::proofs::Showing::frame_shown))]
 pub fn shown_whole()
     ensures { (files : FileMap) (file : List ℕ) (x : PlainFrame)
         → HoldsFrame files file x
@@ -78,7 +73,6 @@ pub fn shown_whole()
 {}
 
 /// Nothing else is shown.
-#[tactic(auto, using(crate::proofs::Showing::show_found))]
 pub fn shown_only()
     ensures { (file : List ℕ) (cause : Why) (old new : Outside) (n m : SinkState)
         → Calls (Some (show file)) cause old new n m
@@ -88,7 +82,6 @@ pub fn shown_only()
 {}
 
 /// And a show that is done wrote it.
-#[tactic(auto, using(crate::proofs::Showing::show_written))]
 pub fn shown()
     ensures { (file : List ℕ) (cause : Why) (old new : Outside) (n m : SinkState)
         → Calls (Some (show file)) cause old new n m
@@ -100,7 +93,6 @@ pub fn shown()
 {}
 
 /// A network that grows is never refused: it is done where no fault of writing came, or memory was refused.
-#[tactic(auto, using(crate::proofs::Asking::grow_is_whole))]
 pub fn grown_whole()
     ensures { (seed k : ℕ) (cause : Why) (old new : Outside) (n m : SinkState)
         → Calls (Some (grow seed k)) cause old new n m
@@ -110,7 +102,6 @@ pub fn grown_whole()
 {}
 
 /// Where it is done it wrote the summary of the network of its seed.
-#[tactic(auto, using(crate::proofs::Asking::grow_writes))]
 pub fn grown()
     ensures { (seed k : ℕ) (cause : Why) (old new : Outside) (n m : SinkState)
         → Calls (Some (grow seed k)) cause old new n m
