@@ -80,7 +80,7 @@ fn run_log_read<K: Sink>(alloc: Global, log: &Log, out: &mut K) -> Cause
 }
 
 // Writes the trace of the log that bytes say. Conditions: at most 4,194,304 bytes, and they begin as no schedule.
-#[tactic(auto, using(crate::proofs::Replaying::log_printed, crate::proofs::Replaying::log_refused))]
+#[tactic(auto, using(crate::proofs::Replaying::log_printed))]
 fn replay_log<K: Sink>(alloc: Global, bytes: &[u8], out: &mut K) -> Cause
     requires few { length bytes.now ≤ 4194304 }
     requires other { replayed_of bytes.now ≡ as_log (log_of bytes.now) }
@@ -93,7 +93,7 @@ fn replay_log<K: Sink>(alloc: Global, bytes: &[u8], out: &mut K) -> Cause
 }
 
 // Replays the log that bytes say that aren't read as a schedule, or refuses them. Condition: at most 4,194,304 bytes.
-#[tactic(auto, using(crate::proofs::Replaying::other_header, crate::proofs::Replaying::schedule_refused))]
+#[tactic(auto, using(crate::proofs::Replaying::other_header))]
 fn replay_other<K: Sink>(alloc: Global, bytes: &[u8], fault: LineFault, out: &mut K) -> Cause
     requires few { length bytes.now ≤ 4194304 }
     requires fault { (fault ≡ LineFault.NoMemory) ⊎ (schedule_of bytes.now ≡ Err fault) }
