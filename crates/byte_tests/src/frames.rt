@@ -131,7 +131,7 @@ fn an_ill_typed_packet_is_refused(rt: HostRuntime) {
     );
 }
 
-// Each proper front of these bytes is cut off at its place.
+// Each proper prefix of these bytes is cut off at its place.
 fn is_cut(alloc: Global, bytes: &[u8], places: &[u32]) -> Result<bool, Fail> {
     for length in 0..bytes.len() {
         let Some(at) = places.get(length) else {
@@ -145,7 +145,7 @@ fn is_cut(alloc: Global, bytes: &[u8], places: &[u32]) -> Result<bool, Fail> {
     Ok(true)
 }
 
-// Each proper front of each frame is cut off at the field that isn't whole.
+// Each proper prefix of each frame is cut off at the field that isn't whole.
 #[test]
 fn fronts_of_frames_are_cut_off(rt: HostRuntime) -> Result<(), Fail> {
     let alloc = rt.alloc();

@@ -4,6 +4,7 @@ ghost use Rattle.std.specs.Prelude.{◌≡◌};
 ghost use Rattle.std.specs.List.{list_all};
 ghost use Rattle.chunk_types.specs.Chunks as spec;
 
+use plan_equality::Same;
 use plan_base::{Ty, Value};
 
 /// Whether the value's shape has the type; a chunk isn't looked into. Takes no memory.

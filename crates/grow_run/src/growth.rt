@@ -1,13 +1,13 @@
 ghost use Rattle.std.specs.Prelude.{◌≡◌, ◌≤◌, ◌<◌, ◌+◌, ◌-◌, ◌^◌, ◌++◌, [], ℕ, List, map, IfOk, OnOk};
 ghost use Rattle.plan_base.specs.declared.ids.Family.{Family};
-ghost use Rattle.event_draws.specs.Draws.{begun};
+ghost use Rattle.grow_run.specs.Draws.{begun};
 ghost use Rattle.world_model.specs.declared.lines.Entry.{Entry};
 ghost use Rattle.world_model.specs.World.{WorldState, happens, entries, opening, opening_services};
 ghost use Rattle.world_model.specs.Counts.{Balanced};
 ghost use Rattle.world_model.specs.Sound.{event_fits};
 ghost use Rattle.run_ledger.specs.Stands.{Stands};
-ghost use Rattle.grown_network.specs.Grow as grow;
-ghost use Rattle.grown_network.specs.Summaries.{summary_of, grown_text};
+ghost use Rattle.grow_run.specs.Grow as grow;
+ghost use Rattle.grow_run.specs.Summaries.{summary_of, grown_text};
 ghost use Rattle.net_world.specs.Stands.{WorldStands};
 ghost use Rattle.net_world.specs.Running.{IsCountable};
 ghost use Rattle.grow_run.specs.Events.{grown_history};
@@ -15,8 +15,8 @@ ghost use Rattle.grow_run.specs.Pings as spec;
 
 use crate::events::next_event;
 use bound_ledger::Ledger;
-use event_draws::begin;
-use grown_network::{Summary, put_summary, ring, totals};
+use crate::begin;
+use crate::{Summary, put_summary, ring, totals};
 use net_world::World;
 use network_plan::WorldEvent;
 use plan_base::{Bytes, NoMemory};

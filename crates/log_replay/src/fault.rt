@@ -4,7 +4,7 @@ use node_io::Failed;
 use plan_base::NoMemory;
 
 /// Why the replay of a log ended early.
-#[derive(Debug, Clone, Copy, PartialEq, Eq)]
+#[derive(Clone, Copy, PartialEq, Eq)]
 pub enum ReplayFault {
     /// A push to the sink failed.
     WriteFault,

@@ -28,7 +28,7 @@ use std::alloc::Global;
 const PIECE: usize = 8_192;
 
 /// Why a run ended early.
-#[derive(Debug, Clone, Copy, PartialEq, Eq)]
+#[derive(Clone, Copy, PartialEq, Eq)]
 pub enum RunFault {
     /// A push to the sink failed.
     WriteFault,

@@ -12,7 +12,7 @@ pub type Case = (&'static [u8], u32, &'static str);
 pub const COMMENT: &[u8] = b"# a comment of a long file, which says nothing and is counted..\n";
 
 /// A kind of file.
-#[derive(Debug, Clone, Copy)]
+#[derive(Clone, Copy)]
 pub enum Kind {
     /// A request.
     Ask,

@@ -9,9 +9,9 @@ use Rattle.node_io.specs.Links.{LinkState}
 use Rattle.node_io.specs.Sinks.{SinkState, Writes, FailsIn}
 use Rattle.node_io.proofs.FileWrites.{only_same, only_both}
 use Rattle.node_model.specs.State.{NodeState}
-use Rattle.service_api.specs.Services.{Standing}
+use Rattle.service_api.specs.Services.{ServiceState}
 use Rattle.serve_model.specs.Runs.{opened, peers_of}
-use Rattle.node_serve.specs.Standing.{StandsFor}
+use Rattle.node_serve.specs.Stays.{StandsFor}
 use Rattle.node_serve.specs.Desks.{Desk, desk, Serving, desk_of, with_clock, seen_at, OthersStay, OnlyServes, KeepsDesk}
 use Rattle.node_serve.specs.Served.{IsBound}
 use Rattle.node_serve.specs.Openings.{BindsNode, MayBindNode, MakesLog, BeginsLog, NoneUnbound, Opens}
@@ -61,7 +61,7 @@ module _ {T E : Type 0} (cfg : ServeConfig) (name : List ℕ) (old mid new : Fil
     did = (a.writing ∙ w.begun.0, λ seen. (a.target ∙ (w.begun.1 seen).0 ∙ named, subst (ChangesOnly old.held new.held cfg.log) is (log_has head a seen)));
   }
 
-  -- or a front of them
+  -- or a prefix of them
   pub log_cut : (head : List ℕ) → head ≡ head_text cfg.node cfg.missing → FailsAdding mid new head → BeginsLog {T = Unit {0}} cfg old new (Err WriteFault)
   log_cut head is f = record {
     only = only_both old mid new w.only f.is.only;
@@ -159,7 +159,7 @@ module _ (cfg : ServeConfig) (fs fs2 : FilesState) (o o2 : SinkState) (l l2 : Li
 
 -- ---- from the opening to the end
 
-module _ {S : Type 0} (stands : S → Standing) (cfg : ServeConfig) (n : ℕ) (server after : Server S) (a b : Serving) where
+module _ {S : Type 0} (stands : S → ServiceState) (cfg : ServeConfig) (n : ℕ) (server after : Server S) (a b : Serving) where
   -- turns that failed
   pub finish_stops : (fault : ServeFault) → GoesTurns {T = Unit {0}} stands cfg n server after a b (Err fault) → Finishes {T = Unit {0}} stands cfg n server a b (Err fault)
   finish_stops fault g = record {
@@ -239,7 +239,7 @@ bound_then cfg a b c (Ok y) h same = λ seen. same ∙ h seen
 bound_then cfg a b c (Err e) h same = λ seen. inr (same ∙ h seen)
 
 -- the node was opened, and served
-pub serves_opened : {S : Type 0} (stands : S → Standing) (cfg : ServeConfig) (node : NodeState) (n : ℕ) (server : Server S) (a b : Desk) (clock : ClockState) (c : Serving) (result : Result (Unit {0}) ServeFault) → StandsFor stands server (opened node)
+pub serves_opened : {S : Type 0} (stands : S → ServiceState) (cfg : ServeConfig) (node : NodeState) (n : ℕ) (server : Server S) (a b : Desk) (clock : ClockState) (c : Serving) (result : Result (Unit {0}) ServeFault) → StandsFor stands server (opened node)
     → Opens {T = Unit {0}} cfg a b (Ok tt) → Finishes stands cfg n server (with_clock b clock) c result → Serves cfg node n (with_clock a clock) c result
 serves_opened stands cfg node n server a b clock c result st u f = record {
   only = only_both a.files b.files c.files u.only.files f.keeps.only.files;

@@ -5,7 +5,7 @@ use plan_base::NoMemory;
 use std::alloc::AllocError;
 
 /// Why a node stopped serving before the last turn was made and written.
-#[derive(Debug, Clone, Copy, PartialEq, Eq)]
+#[derive(Clone, Copy, PartialEq, Eq)]
 pub enum ServeFault {
     /// The link failed; its count of faults rose.
     LinkFault,

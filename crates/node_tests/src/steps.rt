@@ -439,7 +439,7 @@ fn is_as_before(rt: &impl Abort, alloc: Global, node: &mut Node<Registry>) -> Re
     )
 }
 
-// Every proper front of a packet for the host and of one through it is refused on each device and on control, with
+// Every proper prefix of a packet for the host and of one through it is refused on each device and on control, with
 // the place of its first field that isn't whole, and changes nothing.
 #[test]
 fn cut_packets(rt: HostRuntime) -> Result<(), Fail> {

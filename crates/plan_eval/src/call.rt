@@ -6,7 +6,8 @@ ghost use Rattle.plan_eval.specs.Stack.{Spot};
 ghost use Rattle.plan_eval.specs.Nexts.{Decides, call_of};
 
 use crate::next::Next;
-use plan_base::{Name, Program, Values, prim_of, service_of};
+use plan_base::{Name, Program, Values};
+use typing_rules::{prim_of, service_of};
 use plan_items::Shared;
 use plan_meaning::Stop;
 use service_api::Services;

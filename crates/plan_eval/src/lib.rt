@@ -7,7 +7,7 @@ mod begin;
 mod call;
 mod direct;
 mod fold;
-mod frame;
+mod stack_frame;
 mod gather;
 mod given;
 mod here;

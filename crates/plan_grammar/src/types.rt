@@ -8,6 +8,7 @@ ghost use Rattle.plan_grammar.specs.Types as spec;
 ghost use Rattle.plan_grammar.specs.Inside.{ReadsTypes};
 ghost use Rattle.plan_grammar.specs.declared.fault.ParseFault.TheVariants.{TooDeep, NoMemory};
 
+use plan_sizes::Deep;
 use crate::ahead::Ahead;
 use crate::codes::code_of_key;
 use crate::fault::{ParseFault, Wanted};

@@ -13,7 +13,7 @@ use Rattle.plan_parser.specs.declared.value_fault.ValueFault.{ValueFault}
 use Rattle.plan_parser.specs.declared.value_fault.ValueFault.TheVariants as faults
 use Rattle.plan_parser.specs.ReadTexts.{Reads, IsNoMemory, in_lexing, in_parsing, Fails, no_tokens, no_value}
 
--- a fault is want of memory, or it isn't
+-- a fault is `NoMemory`, or it isn't
 pub memory_or_not : (e : ParseFault) → (e ≡ NoMemory) ⊎ (e ≢ NoMemory)
 memory_or_not (Expected w n) = inr (λ h. cc)
 memory_or_not (TooDeep n) = inr (λ h. cc)

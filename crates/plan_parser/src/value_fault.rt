@@ -2,7 +2,7 @@ use plan_grammar::ParseFault;
 use plan_lexer::LexFault;
 
 /// Why a text is no value or no arguments.
-#[derive(Debug, Clone, Copy, PartialEq, Eq)]
+#[derive(Clone, Copy, PartialEq, Eq)]
 pub enum ValueFault {
     /// It has no list of tokens.
     Lex(LexFault),

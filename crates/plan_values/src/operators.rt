@@ -4,10 +4,11 @@ ghost use Rattle.plan_base.specs.declared.tree.Value.{out-Value};
 ghost use Rattle.value_rules.specs.Rules as rules;
 ghost use Rattle.value_rules.specs.Same.{same_value};
 ghost use Rattle.plan_base.specs.declared.tree.Ty.{Ty as AType};
-ghost use Rattle.plan_base.specs.Typing.{HasType};
+ghost use Rattle.typing_rules.specs.Typing.{HasType};
 ghost use Rattle.value_rules.specs.Typed.{OperatorTakes};
 ghost use Rattle.plan_values.specs.Answers.{Answers, IsFit};
 
+use plan_equality::Same;
 use crate::PrimFault;
 use crate::lists::{joined, put_first};
 use crate::numbers::{difference, product, quotient, remainder, sum};

@@ -25,7 +25,7 @@ unless_fleet (Some (fleet file)) P Q f h = tt
 unless_fleet (Some (node file turns)) P Q f h = f h
 unless_fleet (Some (grow seed n)) P Q f h = f h
 
--- a note adds no other cause than want of memory and a fault of writing
+-- a note adds no other cause than `NoMemory` and a fault of writing
 given_no : (w found given : Cause) (X : Type 0) → NoMemory ≢ w → WriteFault ≢ w → Gives found given X → found ≢ w → given ≢ w
 given_no w found given X memory fault gives not e = elim gives [
   | inl same ↦ not (sym same ∙ e)

@@ -1,4 +1,4 @@
--- How a fleet ends, by cases of the cause, and fronts of its starts.
+-- How a fleet ends, by cases of the cause, and prefixes of its starts.
 use Rattle.std.proofs.Common.{◌≡◌, ◌⊎◌, List, ◌++◌, length, inl, inr, sym, ◌∙◌, ap, subst}
 use Rattle.std.proofs.Math.Seq.{take-length}
 use Rattle.std.proofs.lemmas.List.{append-nil}

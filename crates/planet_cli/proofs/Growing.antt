@@ -3,7 +3,7 @@ use Rattle.std.proofs.Common.{◌≡◌, ℕ, List, Some, Ok, ◌++◌, sym, ap,
 use Rattle.plan_base.specs.declared.tree.Program.{Program}
 use Rattle.node_io.specs.FileMaps.{FileMap}
 use Rattle.program_text.specs.Texts.{program_of}
-use Rattle.grown_network.specs.Summaries.{GrowText}
+use Rattle.grow_run.specs.Summaries.{GrowText}
 use Rattle.grow_run.specs.Pings.{ping_text, ping, output_with, grow_output}
 use Rattle.planet_cli.specs.Requests.{grow, request_of}
 use Rattle.planet_cli.specs.Outcomes.{Outcome, whole, answered, outcome_of, Writes, IsWhole}

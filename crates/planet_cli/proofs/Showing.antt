@@ -9,8 +9,8 @@ use Rattle.packet_frame.specs.declared.frame.PlainFrame.{PlainFrame}
 use Rattle.packet_frame.specs.declared.fault.FrameFault.{FrameFault}
 use Rattle.packet_frame.specs.Typed.{Accepts}
 use Rattle.frame_text.specs.Frames.{frame_text}
-use Rattle.frame_text.specs.Decoding.{frame_of}
-use Rattle.frame_text.proofs.OneAnswer.{accepts_is, found_is}
+use Rattle.packet_frame.specs.Decoding.{frame_of}
+use Rattle.packet_frame.proofs.OneAnswer.{accepts_is, found_is}
 use Rattle.planet_cli.specs.declared.status.Refusal.{Refusal}
 use Rattle.planet_cli.specs.declared.status.Refusal.TheVariants.{TooLong}
 use Rattle.planet_cli.specs.Requests.{show, request_of}

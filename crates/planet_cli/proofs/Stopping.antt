@@ -19,7 +19,7 @@ own_by : (T : Type 0) (r : Refusal) (b : Bool) → holds_memory r ≡ b → IfSt
 own_by T r true h = tt
 own_by T r false h = h
 
--- it holds no want of memory
+-- it holds no `NoMemory`
 pub stopped_own : (T : Type 0) (r : Refusal) (s : Stop) → s ≡ stop_of r → IfStoppedRefused {T = T} (Err s) IsOwn
 stopped_own T r s is = subst (λ q. IfStoppedRefused {T = T} (Err q) IsOwn) (sym is) (own_by T r (holds_memory r) refl)
 

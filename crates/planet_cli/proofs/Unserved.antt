@@ -1,4 +1,4 @@
--- A node that didn't begin has done a front of its run.
+-- A node that didn't begin has done a prefix of its run.
 use Rattle.std.proofs.Common.{◌≡◌, ℕ, List, [], inl, inr, refl, sym, subst, arith}
 use Rattle.std.proofs.lemmas.List.{append-nil}
 use Rattle.network_plan.specs.declared.serve.ServeConfig.{ServeConfig}

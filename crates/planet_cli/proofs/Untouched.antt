@@ -5,8 +5,8 @@ use Rattle.network_plan.specs.declared.fleet.AskFile.{AskFile}
 use Rattle.network_plan.specs.declared.fleet.Fleet.{Fleet}
 use Rattle.node_io.specs.Links.{Bind, Heard}
 use Rattle.node_io.specs.Children.{Words}
-use Rattle.service_api.specs.Services.{Standing}
-use Rattle.service_meaning.specs.Offered.{Present}
+use Rattle.service_api.specs.Services.{ServiceState}
+use Rattle.service_meaning.specs.Offered.{InstalledPackages}
 use Rattle.service_meaning.specs.Beginning.{opening_standing}
 use Rattle.node_core.specs.Turns.{IsResting}
 use Rattle.network_plan.specs.declared.serve.ServeConfig.{ServeConfig}
@@ -48,7 +48,7 @@ none_made (outside r) old new is = is
 none_made (says cfg) old new is = inl is
 
 -- new services have no visit open
-pub new_rests : (s : Standing) (p : Present) → s ≡ opening_standing p → IsResting s
+pub new_rests : (s : ServiceState) (p : InstalledPackages) → s ≡ opening_standing p → IsResting s
 new_rests s p is = record { closed = ap (λ t. t.begun) is; waits = ap (λ t. t.ready) is }
 
 -- the output of a fleet, and of a node, is defined apart

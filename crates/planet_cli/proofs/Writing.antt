@@ -22,7 +22,7 @@ front_written (refused r) old new h = no_front old new h
 front_written (whole text) old new h = h
 front_written runs old new h = tt
 
--- where nothing was written, a front was
+-- where nothing was written, a prefix was
 pub nothing_written : (o : Outcome) (old : List ℕ) → WritesFront o old old
 nothing_written unasked old = refl
 nothing_written missing old = refl
@@ -30,7 +30,7 @@ nothing_written (refused r) old = refl
 nothing_written (whole text) old = record { count = 0; is = sym (append-nil old) }
 nothing_written runs old = tt
 
--- all of it is a front, and so is nothing
+-- all of it is a prefix, and so is nothing
 pub all_front : (old new text : List ℕ) → new ≡ old ++ text → AppendsFront old new text
 all_front old new text h = record { count = length text; is = h ∙ ap (λ t. old ++ t) (sym (take-length text)) }
 

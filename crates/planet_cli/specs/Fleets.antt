@@ -34,13 +34,13 @@ IsEnded LinkFault = ⊥
 IsEnded SpawnFault = ⊥
 IsEnded NoMemory = ⊥
 
--- a front of the starts of its children was asked, and none where the file says no fleet
+-- a prefix of the starts of its children was asked, and none where the file says no fleet
 abbrev pub StartsAtMost : Said Fleet → List Words → List Words → Type 0
 StartsAtMost nothing old new = new ≡ old
 StartsAtMost (outside r) old new = new ≡ old
 StartsAtMost (says f) old new = StartsFront old new (fleet_starts f.children)
 
--- the output is a front of the lines of these statuses, and nothing where the file says no fleet
+-- the output is a prefix of the lines of these statuses, and nothing where the file says no fleet
 abbrev pub LinesAtMost : Said Fleet → List ℕ → List ℕ → List ℕ → Type 0
 LinesAtMost nothing given old new = new ≡ old
 LinesAtMost (outside r) given old new = new ≡ old

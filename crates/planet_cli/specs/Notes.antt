@@ -5,7 +5,7 @@ use lib.Chars.{codes}
 use Rattle.node_io.specs.Pieces.{AppendsFront}
 use Rattle.program_text.specs.declared.fault.TextFault.{TextFault}
 use Rattle.program_text.specs.Reasons as texts
-use Rattle.frame_text.specs.Reasons as frames
+use Rattle.packet_frame.specs.Reasons as frames
 use Rattle.planet_cli.specs.declared.status.Cause.{Cause}
 use Rattle.planet_cli.specs.declared.status.Cause.TheVariants.{Done, Usage, Refused, ReadFault, WriteFault, LinkFault, SpawnFault, NoMemory, NodesFailed}
 use Rattle.planet_cli.specs.declared.status.Refusal.{Refusal}
@@ -54,7 +54,7 @@ note_text SpawnFault = codes "planet: spawn fault\n"
 note_text NoMemory = codes "planet: no memory\n"
 note_text (NodesFailed h s) = codes "planet: node @" ++ (decimal h.0 ++ (codes " failed with " ++ (decimal s ++ codes "\n")))
 
--- the note of the given cause was written; or a fault of the notes left a front of the note of another cause
+-- the note of the given cause was written; or a fault of the notes left a prefix of the note of another cause
 pub data Noted (old new : List ℕ) (given : Cause) (unwritten : Type 0) : Type 0 where
   whole : new ≡ old ++ note_text given → Noted old new given unwritten
   cut : (cause : Cause) → given ≡ WriteFault → unwritten → AppendsFront old new (note_text cause) → Noted old new given unwritten

@@ -103,7 +103,7 @@ Writes (refused r) old new = new ≡ old
 Writes (whole text) old new = new ≡ old ++ text
 Writes runs old new = Unit {0}
 
--- a front of it was written
+-- a prefix of it was written
 abbrev pub WritesFront : Outcome → List ℕ → List ℕ → Type 0
 WritesFront unasked old new = new ≡ old
 WritesFront missing old new = new ≡ old

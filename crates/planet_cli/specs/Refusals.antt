@@ -90,7 +90,7 @@ IsOutputCause LinkFault = ⊥
 IsOutputCause SpawnFault = ⊥
 IsOutputCause (NodesFailed h s) = ⊥
 
--- the wanted cause is given, or want of memory, or a fault of writing where a note wasn't written
+-- the wanted cause is given, or running out of memory, or a fault of writing where a note wasn't written
 abbrev pub Gives : Cause → Cause → Type 0 → Type 0
 Gives wanted given unwritten = (given ≡ wanted) ⊎ ((given ≡ NoMemory) ⊎ ((given ≡ WriteFault) × unwritten))
 

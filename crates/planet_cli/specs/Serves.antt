@@ -13,7 +13,7 @@ use Rattle.planet_cli.specs.Said.{Said, nothing, outside, says, said_in}
 abbrev pub own_node : ServeConfig → NodeState
 own_node cfg = new_node cfg.node (opening_standing (present_without cfg.missing))
 
--- the whole run of the node or a front of it, and nothing where the file says no configuration
+-- the whole run of the node or a prefix of it, and nothing where the file says no configuration
 abbrev pub ServesAtMost : Said ServeConfig → ℕ → Outside → Outside → Type 0
 ServesAtMost nothing turns old new = new ≡ old
 ServesAtMost (outside r) turns old new = new ≡ old

@@ -1,5 +1,5 @@
 ghost use Rattle.std.specs.Prelude.{◌≡◌, ◌++◌, ◌≤◌, ◌⊎◌, IsTrue};
-ghost use Rattle.node_io.specs.Causes.{Rose};
+ghost use Rattle.node_io.specs.Causes.{HasRisen};
 ghost use Rattle.node_io.specs.FileMaps.{file_at, MayName};
 ghost use Rattle.node_io.specs.Pieces.{AppendsFront};
 ghost use Rattle.planet_cli.specs.Memory.{IsOwn};
@@ -25,12 +25,12 @@ pub fn on_file<R: FileCommand, F: Files, K: Sink>(
     ensures refused_always { IsTrue F.tells
         → (r : Refusal)
         → outcome_at R.limit R.rule R.text (file_at (F.files files.old) name.now) ≡ refused r
-        → ¬ (Rose (F.read_faults files.old) (F.read_faults files.new))
+        → ¬ (HasRisen (F.read_faults files.old) (F.read_faults files.new))
         → (result ≡ Cause.Refused r) ⊎ (result ≡ Cause.NoMemory) }
     ensures own { IfRefused result IsOwn }
     ensures silent { IsTrue K.tells → IfRefused result (λ _. K.taken out.new ≡ K.taken out.old) }
-    ensures read_fault { result ≡ Cause.ReadFault → Rose (F.read_faults files.old) (F.read_faults files.new) }
-    ensures write_fault { result ≡ Cause.WriteFault → Rose (K.faults out.old) (K.faults out.new) }
+    ensures read_fault { result ≡ Cause.ReadFault → HasRisen (F.read_faults files.old) (F.read_faults files.new) }
+    ensures write_fault { result ≡ Cause.WriteFault → HasRisen (K.faults out.old) (K.faults out.new) }
     ensures accepted { IsTrue F.tells
         → result ≡ Cause.Done
         → IsWhole (outcome_at R.limit R.rule R.text (file_at (F.files files.old) name.now)) }
@@ -45,8 +45,8 @@ pub fn on_file<R: FileCommand, F: Files, K: Sink>(
         (output_of (outcome_at R.limit R.rule R.text (file_at (F.files files.old) name.now))) }
     ensures complete { IsTrue F.tells
         → IsWhole (outcome_at R.limit R.rule R.text (file_at (F.files files.old) name.now))
-        → ¬ (Rose (F.read_faults files.old) (F.read_faults files.new))
-        → ¬ (Rose (K.faults out.old) (K.faults out.new))
+        → ¬ (HasRisen (F.read_faults files.old) (F.read_faults files.new))
+        → ¬ (HasRisen (K.faults out.old) (K.faults out.new))
         → (result ≡ Cause.Done) ⊎ (result ≡ Cause.NoMemory) }
     ensures asked { IsTrue F.tells → MayName (F.asked files.old) (F.asked files.new) name.now }
     ensures kept { IsTrue F.tells → (F.files files.new ≡ F.files files.old) × (F.made files.new ≡ F.made files.old) }

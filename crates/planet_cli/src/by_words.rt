@@ -1,5 +1,5 @@
 ghost use Rattle.std.specs.Prelude.{◌≡◌, ◌≢◌, ◌++◌, ◌∷◌, [], ◌≤◌, ◌⊎◌, ◌↔◌, IsTrue, ℕ, List, Some, None, Ok, drop};
-ghost use Rattle.node_io.specs.Causes.{Rose};
+ghost use Rattle.node_io.specs.Causes.{HasRisen};
 ghost use Rattle.network_plan.specs.declared.fleet.AskFile.{AskFile as Request};
 ghost use Rattle.network_plan.specs.declared.fleet.Fleet.{Fleet as Children};
 ghost use Rattle.network_plan.specs.declared.serve.ServeConfig.{ServeConfig as Serving};
@@ -50,16 +50,16 @@ pub fn run<F: Files, K: Sink, L: Link, C: Clock, P: Spawner>(
     ensures refused_always { IsTrue F.tells
         → (r : Refusal)
         → outcome_of words.now (F.files files.old) ≡ refused r
-        → ¬ (Rose (F.read_faults files.old) (F.read_faults files.new))
+        → ¬ (HasRisen (F.read_faults files.old) (F.read_faults files.new))
         → (result ≡ Cause.Refused r) ⊎ (result ≡ Cause.NoMemory) }
     ensures own { IfRefused result IsOwn }
     ensures silent { IsTrue K.tells → IfRefused result (λ _. K.taken out.new ≡ K.taken out.old) }
-    ensures read_fault { result ≡ Cause.ReadFault → Rose (F.read_faults files.old) (F.read_faults files.new) }
+    ensures read_fault { result ≡ Cause.ReadFault → HasRisen (F.read_faults files.old) (F.read_faults files.new) }
     ensures write_fault { result ≡ Cause.WriteFault
-        → Rose (K.faults out.old) (K.faults out.new) ⊎ Rose (F.write_faults files.old) (F.write_faults files.new) }
-    ensures link_fault { result ≡ Cause.LinkFault → Rose (L.faults link.old) (L.faults link.new) }
+        → HasRisen (K.faults out.old) (K.faults out.new) ⊎ HasRisen (F.write_faults files.old) (F.write_faults files.new) }
+    ensures link_fault { result ≡ Cause.LinkFault → HasRisen (L.faults link.old) (L.faults link.new) }
     ensures no_link_fault { UnlessLinked (request_of words.now) (result ≢ Cause.LinkFault) }
-    ensures spawn_fault { result ≡ Cause.SpawnFault → Rose (P.faults spawn.old) (P.faults spawn.new) }
+    ensures spawn_fault { result ≡ Cause.SpawnFault → HasRisen (P.faults spawn.old) (P.faults spawn.new) }
     ensures no_spawn_fault { UnlessFleet (request_of words.now) (result ≢ Cause.SpawnFault) }
     ensures no_nodes_failed { UnlessFleet (request_of words.now) (IfNodesFailed result (λ _ _. ⊥)) }
     ensures accepted { IsTrue F.tells → result ≡ Cause.Done → IsAccepted (outcome_of words.now (F.files files.old)) }
@@ -72,9 +72,9 @@ pub fn run<F: Files, K: Sink, L: Link, C: Clock, P: Spawner>(
         → WritesFront (outcome_of words.now (F.files files.old)) (K.taken out.old) (K.taken out.new) }
     ensures complete { IsTrue F.tells
         → IsWhole (outcome_of words.now (F.files files.old))
-        → ¬ (Rose (F.read_faults files.old) (F.read_faults files.new))
-        → ¬ (Rose (K.faults out.old) (K.faults out.new))
-        → WhereInjected (request_of words.now) (¬ (Rose (L.faults link.old) (L.faults link.new)))
+        → ¬ (HasRisen (F.read_faults files.old) (F.read_faults files.new))
+        → ¬ (HasRisen (K.faults out.old) (K.faults out.new))
+        → WhereInjected (request_of words.now) (¬ (HasRisen (L.faults link.old) (L.faults link.new)))
         → (result ≡ Cause.Done) ⊎ (result ≡ Cause.NoMemory) }
     ensures injected { IsTrue F.tells
         → IsTrue L.tells
@@ -120,9 +120,9 @@ pub fn run<F: Files, K: Sink, L: Link, C: Clock, P: Spawner>(
         → (file : List ℕ) (f : Children)
         → request_of words.now ≡ Some (fleet file)
         → said_in fleet_of (F.files files.old) file ≡ says f
-        → ¬ (Rose (F.read_faults files.old) (F.read_faults files.new))
-        → ¬ (Rose (P.faults spawn.old) (P.faults spawn.new))
-        → ¬ (Rose (K.faults out.old) (K.faults out.new))
+        → ¬ (HasRisen (F.read_faults files.old) (F.read_faults files.new))
+        → ¬ (HasRisen (P.faults spawn.old) (P.faults spawn.new))
+        → ¬ (HasRisen (K.faults out.old) (K.faults out.new))
         → IsEnded result ⊎ (result ≡ Cause.NoMemory) }
     ensures served { IsTrue F.tells
         → IsTrue K.tells
@@ -148,10 +148,10 @@ pub fn run<F: Files, K: Sink, L: Link, C: Clock, P: Spawner>(
         → (file : List ℕ) (turns : ℕ) (cfg : Serving)
         → request_of words.now ≡ Some (node file turns)
         → said_in config_of (F.files files.old) file ≡ says cfg
-        → ¬ (Rose (F.read_faults files.old) (F.read_faults files.new))
-        → ¬ (Rose (F.write_faults files.old) (F.write_faults files.new))
-        → ¬ (Rose (L.faults link.old) (L.faults link.new))
-        → ¬ (Rose (K.faults out.old) (K.faults out.new))
+        → ¬ (HasRisen (F.read_faults files.old) (F.read_faults files.new))
+        → ¬ (HasRisen (F.write_faults files.old) (F.write_faults files.new))
+        → ¬ (HasRisen (L.faults link.old) (L.faults link.new))
+        → ¬ (HasRisen (K.faults out.old) (K.faults out.new))
         → (result ≡ Cause.Done) ⊎ (result ≡ Cause.NoMemory) }
     ensures no_frames { IsTrue L.tells
         → UnlessLinked (request_of words.now) ((L.binds link.new ≡ L.binds link.old) × (L.sent link.new ≡ L.sent link.old)) }

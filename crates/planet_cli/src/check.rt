@@ -1,16 +1,18 @@
 ghost use Rattle.std.specs.Prelude.{◌≡◌, ◌++◌, ◌≤◌, IsTrue, IfOk, OnOk, IsErrOf};
 ghost use Rattle.std.specs.String.{string_bytes};
-ghost use Rattle.node_io.specs.Causes.{Rose};
+ghost use Rattle.node_io.specs.Causes.{HasRisen};
 ghost use Rattle.node_io.specs.Pieces.{AppendsFront};
-ghost use Rattle.plan_base.specs.Typing.{Typed};
+ghost use Rattle.typing_rules.specs.Typing.{Typed};
 ghost use Rattle.planet_cli.specs.Refusals.{IfStoppedRefused};
 ghost use Rattle.planet_cli.specs.Checks.{program_limit, program_refusal, program_output, sizes_text};
 
+use plan_sizes::Counted;
 use crate::command::{FileCommand, Stop};
 use crate::memory::stop_at;
 use crate::status::Refusal;
 use node_io::{Sink, put_all};
-use plan_base::{Program, code_size};
+use plan_base::Program;
+use plan_sizes::code_size;
 use program_text::{TextFault, place_of, read_program};
 use std::alloc::{AllocError, Global};
 
@@ -38,7 +40,7 @@ fn write_sizes<K: Sink>(alloc: Global, code: &Program, out: &mut K) -> Result<()
     ensures unrefused { IfStoppedRefused result (λ _. ⊥) }
     ensures whole { IsTrue K.tells → OnOk result (K.taken out.new ≡ K.taken out.old ++ sizes_text code.now) }
     ensures front { IsTrue K.tells → AppendsFront (K.taken out.old) (K.taken out.new) (sizes_text code.now) }
-    ensures write_fault { IsErrOf result Stop.WriteFault → Rose (K.faults out.old) (K.faults out.new) }
+    ensures write_fault { IsErrOf result Stop.WriteFault → HasRisen (K.faults out.old) (K.faults out.new) }
     ensures later { K.faults out.old ≤ K.faults out.new }
 {
     let Ok(line) = sizes_line(alloc, code) else {

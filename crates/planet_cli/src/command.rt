@@ -1,5 +1,5 @@
 ghost use Rattle.std.specs.Prelude.{◌≡◌, ◌++◌, ◌^◌, ◌<◌, ◌≤◌, List, ℕ, Option, Some, None, length, IsTrue, OnOk, IsErrOf};
-ghost use Rattle.node_io.specs.Causes.{Rose};
+ghost use Rattle.node_io.specs.Causes.{HasRisen};
 ghost use Rattle.node_io.specs.Pieces.{AppendsFront};
 ghost use Rattle.planet_cli.specs.Memory.{IsOwn};
 ghost use Rattle.planet_cli.specs.Outcomes.{ruled, output_of};
@@ -11,7 +11,7 @@ use node_io::Sink;
 use std::alloc::Global;
 
 /// Why a command stopped before its output was whole.
-#[derive(Debug, Drop)]
+#[derive(Drop)]
 pub enum Stop {
     /// The file is refused. Nothing was written.
     Refused(Refusal),
@@ -46,6 +46,6 @@ pub trait FileCommand {
         ensures whole { IsTrue K.tells → OnOk result (K.taken out.new ≡ K.taken out.old ++ text bytes.now) }
         ensures front { IsTrue K.tells
             → AppendsFront (K.taken out.old) (K.taken out.new) (output_of (ruled (rule bytes.now) (text bytes.now))) }
-        ensures write_fault { IsErrOf result Stop.WriteFault → Rose (K.faults out.old) (K.faults out.new) }
+        ensures write_fault { IsErrOf result Stop.WriteFault → HasRisen (K.faults out.old) (K.faults out.new) }
         ensures later { K.faults out.old ≤ K.faults out.new };
 }

@@ -1,5 +1,5 @@
 ghost use Rattle.std.specs.Prelude.{◌≡◌, ◌++◌, ◌≤◌, ◌⊎◌, IsTrue, Ok, drop};
-ghost use Rattle.node_io.specs.Causes.{Rose};
+ghost use Rattle.node_io.specs.Causes.{HasRisen};
 ghost use Rattle.node_io.specs.FileMaps.{MayName};
 ghost use Rattle.network_plan.specs.declared.fleet.Fleet.{Fleet as Children};
 ghost use Rattle.node_files.specs.Fleets.{fleet_of};
@@ -34,10 +34,10 @@ fn run_read<P: Spawner, K: Sink>(alloc: Global, fleet: &Fleet, spawn: &mut P, ou
         → IsTrue K.tells
         → LinesAtMost (says fleet.now) (drop (P.started spawn.old) (P.statuses spawn.old)) (K.taken out.old) (K.taken out.new) }
     ensures statuses { IsTrue P.tells → P.statuses spawn.new ≡ P.statuses spawn.old }
-    ensures spawn_fault { result ≡ Cause.SpawnFault → Rose (P.faults spawn.old) (P.faults spawn.new) }
-    ensures write_fault { result ≡ Cause.WriteFault → Rose (K.faults out.old) (K.faults out.new) }
-    ensures complete { ¬ (Rose (P.faults spawn.old) (P.faults spawn.new))
-        → ¬ (Rose (K.faults out.old) (K.faults out.new))
+    ensures spawn_fault { result ≡ Cause.SpawnFault → HasRisen (P.faults spawn.old) (P.faults spawn.new) }
+    ensures write_fault { result ≡ Cause.WriteFault → HasRisen (K.faults out.old) (K.faults out.new) }
+    ensures complete { ¬ (HasRisen (P.faults spawn.old) (P.faults spawn.new))
+        → ¬ (HasRisen (K.faults out.old) (K.faults out.new))
         → IsEnded result ⊎ (result ≡ Cause.NoMemory) }
     ensures spawn_later { P.faults spawn.old ≤ P.faults spawn.new }
     ensures later { K.faults out.old ≤ K.faults out.new }
@@ -66,13 +66,13 @@ pub fn on_fleet<F: Files, P: Spawner, K: Sink>(
     ensures refused_always { IsTrue F.tells
         → (r : Refusal)
         → fleet_outcome (said_in fleet_of (F.files files.old) name.now) ≡ refused r
-        → ¬ (Rose (F.read_faults files.old) (F.read_faults files.new))
+        → ¬ (HasRisen (F.read_faults files.old) (F.read_faults files.new))
         → (result ≡ Cause.Refused r) ⊎ (result ≡ Cause.NoMemory) }
     ensures own { IfRefused result IsOwn }
     ensures silent { IsTrue K.tells → IfRefused result (λ _. K.taken out.new ≡ K.taken out.old) }
-    ensures read_fault { result ≡ Cause.ReadFault → Rose (F.read_faults files.old) (F.read_faults files.new) }
-    ensures write_fault { result ≡ Cause.WriteFault → Rose (K.faults out.old) (K.faults out.new) }
-    ensures spawn_fault { result ≡ Cause.SpawnFault → Rose (P.faults spawn.old) (P.faults spawn.new) }
+    ensures read_fault { result ≡ Cause.ReadFault → HasRisen (F.read_faults files.old) (F.read_faults files.new) }
+    ensures write_fault { result ≡ Cause.WriteFault → HasRisen (K.faults out.old) (K.faults out.new) }
+    ensures spawn_fault { result ≡ Cause.SpawnFault → HasRisen (P.faults spawn.old) (P.faults spawn.new) }
     ensures accepted { IsTrue F.tells → result ≡ Cause.Done → IsAccepted (fleet_outcome (said_in fleet_of (F.files files.old) name.now)) }
     ensures reports { IsTrue F.tells
         → (f : Children)
@@ -105,9 +105,9 @@ pub fn on_fleet<F: Files, P: Spawner, K: Sink>(
     ensures complete { IsTrue F.tells
         → (f : Children)
         → said_in fleet_of (F.files files.old) name.now ≡ says f
-        → ¬ (Rose (F.read_faults files.old) (F.read_faults files.new))
-        → ¬ (Rose (P.faults spawn.old) (P.faults spawn.new))
-        → ¬ (Rose (K.faults out.old) (K.faults out.new))
+        → ¬ (HasRisen (F.read_faults files.old) (F.read_faults files.new))
+        → ¬ (HasRisen (P.faults spawn.old) (P.faults spawn.new))
+        → ¬ (HasRisen (K.faults out.old) (K.faults out.new))
         → IsEnded result ⊎ (result ≡ Cause.NoMemory) }
     ensures statuses { IsTrue P.tells → P.statuses spawn.new ≡ P.statuses spawn.old }
     ensures asked { IsTrue F.tells → MayName (F.asked files.old) (F.asked files.new) name.now }

@@ -1,5 +1,5 @@
 ghost use Rattle.std.specs.Prelude.{◌≡◌, ◌≤◌, ◌++◌, IsTrue, OnOk, IsErrOf};
-ghost use Rattle.node_io.specs.Causes.{Rose};
+ghost use Rattle.node_io.specs.Causes.{HasRisen};
 ghost use Rattle.node_io.specs.Pieces.{AppendsFront};
 ghost use Rattle.grow_run.specs.Pings.{grow_output};
 ghost use Rattle.planet_cli.specs.Refusals.{IsOutputCause};
@@ -7,7 +7,7 @@ ghost use Rattle.planet_cli.specs.Refusals.{IsOutputCause};
 use crate::replay::services_of;
 use crate::status::Cause;
 use grow_run::grow;
-use grown_network::ring;
+use grow_run::ring;
 use net_world::RunFault;
 use node_io::Sink;
 use std::alloc::Global;
@@ -22,7 +22,7 @@ fn write_summary<K: Sink>(
     requires { events ≤ 50000 }
     ensures whole { IsTrue K.tells → OnOk result (K.taken out.new ≡ K.taken out.old ++ grow_output seed events) }
     ensures front { IsTrue K.tells → AppendsFront (K.taken out.old) (K.taken out.new) (grow_output seed events) }
-    ensures write { IsErrOf result RunFault.WriteFault → Rose (K.faults out.old) (K.faults out.new) }
+    ensures write { IsErrOf result RunFault.WriteFault → HasRisen (K.faults out.old) (K.faults out.new) }
     ensures later { K.faults out.old ≤ K.faults out.new }
 {
     let topology = ring(alloc)?;
@@ -36,7 +36,7 @@ pub fn on_seed<K: Sink>(alloc: Global, seed: u64, events: u32, out: &mut K) -> C
     ensures kind { IsOutputCause result }
     ensures whole { IsTrue K.tells → result ≡ Cause.Done → K.taken out.new ≡ K.taken out.old ++ grow_output seed events }
     ensures front { IsTrue K.tells → AppendsFront (K.taken out.old) (K.taken out.new) (grow_output seed events) }
-    ensures write_fault { result ≡ Cause.WriteFault → Rose (K.faults out.old) (K.faults out.new) }
+    ensures write_fault { result ≡ Cause.WriteFault → HasRisen (K.faults out.old) (K.faults out.new) }
     ensures later { K.faults out.old ≤ K.faults out.new }
 {
     match write_summary(alloc, seed, events, out) {

@@ -1,5 +1,5 @@
 ghost use Rattle.std.specs.Prelude.{◌≡◌, ◌++◌, ◌∷◌, [], ◌≤◌, ◌⊎◌, IsTrue};
-ghost use Rattle.node_io.specs.Causes.{Rose};
+ghost use Rattle.node_io.specs.Causes.{HasRisen};
 ghost use Rattle.node_io.specs.FileMaps.{MayName};
 ghost use Rattle.network_plan.specs.declared.fleet.AskFile.{AskFile as Request};
 ghost use Rattle.network_plan.specs.NodeRules.{KeepsAsk};
@@ -34,10 +34,10 @@ fn send_ask<L: Link, K: Sink>(alloc: Global, ask: &AskFile, link: &mut L, out: &
     ensures binds { IsTrue L.tells → BindsAtMost (says ask.now) (L.binds link.old) (L.binds link.new) }
     ensures sends { IsTrue L.tells → SendsAtMost (says ask.now) (L.sent link.old) (L.sent link.new) }
     ensures script { IsTrue L.tells → L.script link.new ≡ L.script link.old }
-    ensures link_fault { result ≡ Cause.LinkFault → Rose (L.faults link.old) (L.faults link.new) }
-    ensures write_fault { result ≡ Cause.WriteFault → Rose (K.faults out.old) (K.faults out.new) }
-    ensures complete { ¬ (Rose (L.faults link.old) (L.faults link.new))
-        → ¬ (Rose (K.faults out.old) (K.faults out.new))
+    ensures link_fault { result ≡ Cause.LinkFault → HasRisen (L.faults link.old) (L.faults link.new) }
+    ensures write_fault { result ≡ Cause.WriteFault → HasRisen (K.faults out.old) (K.faults out.new) }
+    ensures complete { ¬ (HasRisen (L.faults link.old) (L.faults link.new))
+        → ¬ (HasRisen (K.faults out.old) (K.faults out.new))
         → (result ≡ Cause.Done) ⊎ (result ≡ Cause.NoMemory) }
     ensures link_later { L.faults link.old ≤ L.faults link.new }
     ensures later { K.faults out.old ≤ K.faults out.new }
@@ -65,13 +65,13 @@ pub fn on_ask<F: Files, L: Link, K: Sink>(
     ensures refused_always { IsTrue F.tells
         → (r : Refusal)
         → ask_outcome (said_in ask_of (F.files files.old) name.now) ≡ refused r
-        → ¬ (Rose (F.read_faults files.old) (F.read_faults files.new))
+        → ¬ (HasRisen (F.read_faults files.old) (F.read_faults files.new))
         → (result ≡ Cause.Refused r) ⊎ (result ≡ Cause.NoMemory) }
     ensures own { IfRefused result IsOwn }
     ensures silent { IsTrue K.tells → IfRefused result (λ _. K.taken out.new ≡ K.taken out.old) }
-    ensures read_fault { result ≡ Cause.ReadFault → Rose (F.read_faults files.old) (F.read_faults files.new) }
-    ensures write_fault { result ≡ Cause.WriteFault → Rose (K.faults out.old) (K.faults out.new) }
-    ensures link_fault { result ≡ Cause.LinkFault → Rose (L.faults link.old) (L.faults link.new) }
+    ensures read_fault { result ≡ Cause.ReadFault → HasRisen (F.read_faults files.old) (F.read_faults files.new) }
+    ensures write_fault { result ≡ Cause.WriteFault → HasRisen (K.faults out.old) (K.faults out.new) }
+    ensures link_fault { result ≡ Cause.LinkFault → HasRisen (L.faults link.old) (L.faults link.new) }
     ensures accepted { IsTrue F.tells → result ≡ Cause.Done → IsAccepted (ask_outcome (said_in ask_of (F.files files.old) name.now)) }
     ensures whole { IsTrue F.tells
         → IsTrue K.tells
@@ -82,9 +82,9 @@ pub fn on_ask<F: Files, L: Link, K: Sink>(
         → WritesFront (ask_outcome (said_in ask_of (F.files files.old) name.now)) (K.taken out.old) (K.taken out.new) }
     ensures complete { IsTrue F.tells
         → IsWhole (ask_outcome (said_in ask_of (F.files files.old) name.now))
-        → ¬ (Rose (F.read_faults files.old) (F.read_faults files.new))
-        → ¬ (Rose (K.faults out.old) (K.faults out.new))
-        → ¬ (Rose (L.faults link.old) (L.faults link.new))
+        → ¬ (HasRisen (F.read_faults files.old) (F.read_faults files.new))
+        → ¬ (HasRisen (K.faults out.old) (K.faults out.new))
+        → ¬ (HasRisen (L.faults link.old) (L.faults link.new))
         → (result ≡ Cause.Done) ⊎ (result ≡ Cause.NoMemory) }
     ensures sent { IsTrue F.tells
         → IsTrue L.tells

@@ -1,5 +1,5 @@
 ghost use Rattle.std.specs.Prelude.{◌≡◌, ◌≤◌, ◌⊎◌, List, ℕ, Result, Ok, Err, IfOk, IfErr, IsOk, IsErrOf, IsTrue, length};
-ghost use Rattle.node_io.specs.Causes.{Rose};
+ghost use Rattle.node_io.specs.Causes.{HasRisen};
 ghost use Rattle.node_io.specs.FileMaps.{MayName};
 ghost use Rattle.line_files.specs.declared.fault.LineFault.{LineFault as Fault};
 ghost use Rattle.planet_cli.specs.Memory.{IsOwn};
@@ -100,14 +100,14 @@ pub fn value_of<V: LineValue, F: Files>(
     ensures refused_always { IsTrue F.tells
         → (r : Refusal)
         → said_in V.said (F.files files.old) name.now ≡ outside r
-        → ¬ (Rose (F.read_faults files.old) (F.read_faults files.new))
+        → ¬ (HasRisen (F.read_faults files.old) (F.read_faults files.new))
         → IsErrOf result (Cause.Refused r) ⊎ IsErrOf result Cause.NoMemory }
     ensures only { IsTrue F.tells
         → IsSaid (said_in V.said (F.files files.old) name.now)
-        → ¬ (Rose (F.read_faults files.old) (F.read_faults files.new))
+        → ¬ (HasRisen (F.read_faults files.old) (F.read_faults files.new))
         → IsOk result ⊎ IsErrOf result Cause.NoMemory }
     ensures own { IfErr result (λ cause. IfRefused cause IsOwn) }
-    ensures read_fault { IsErrOf result Cause.ReadFault → Rose (F.read_faults files.old) (F.read_faults files.new) }
+    ensures read_fault { IsErrOf result Cause.ReadFault → HasRisen (F.read_faults files.old) (F.read_faults files.new) }
     ensures rules { IfOk result V.keeps }
     ensures asked { IsTrue F.tells → MayName (F.asked files.old) (F.asked files.new) name.now }
     ensures kept { IsTrue F.tells → (F.files files.new ≡ F.files files.old) × (F.made files.new ≡ F.made files.old) }

@@ -7,7 +7,7 @@ use chunk_spelling::SpellFault;
 use chunk_types::Ill;
 use line_files::LineReason;
 use packet_frame::FrameFault;
-use plan_base::TypeFault;
+use typing_rules::TypeFault;
 use plan_grammar::ParseFault;
 use plan_lexer::LexFault;
 use program_text::TextFault;
@@ -44,7 +44,7 @@ fn frame_memory(fault: &FrameFault) -> bool
     }
 }
 
-// Whether a refusal is want of memory, or holds it.
+// Whether a refusal is `NoMemory`, or holds it.
 fn holds_memory(refusal: &Refusal) -> bool
     ensures { result ≡ holds_memory refusal.now }
 {
@@ -57,7 +57,7 @@ fn holds_memory(refusal: &Refusal) -> bool
     }
 }
 
-// Why a command stops at a refusal: one that holds want of memory is that.
+// Why a command stops at a refusal: one that holds `NoMemory` is that.
 pub fn stop_at(refusal: Refusal) -> Stop
     ensures { result ≡ stop_of refusal }
 {

@@ -1,5 +1,5 @@
 ghost use Rattle.std.specs.Prelude.{◌≡◌, ◌≤◌, ◌⊎◌, IsTrue};
-ghost use Rattle.node_io.specs.Causes.{Rose};
+ghost use Rattle.node_io.specs.Causes.{HasRisen};
 ghost use Rattle.node_io.specs.FileMaps.{MayName};
 ghost use Rattle.network_plan.specs.NodeRules.{KeepsServe};
 ghost use Rattle.network_plan.specs.declared.serve.ServeConfig.{ServeConfig as Serving};
@@ -52,9 +52,9 @@ fn serve_read<F: Files, L: Link, C: Clock, K: Sink>(
         (outside_of (L.script link.new) (L.sent link.new) (L.binds link.new) (C.last clock.new) (C.answers clock.new) (F.files files.new) (K.taken out.new)) }
     ensures made { IsTrue F.tells → MayName (F.made files.old) (F.made files.new) cfg.now.log }
     ensures asked { IsTrue F.tells → F.asked files.new ≡ F.asked files.old }
-    ensures link_fault { result ≡ Cause.LinkFault → Rose (L.faults link.old) (L.faults link.new) }
+    ensures link_fault { result ≡ Cause.LinkFault → HasRisen (L.faults link.old) (L.faults link.new) }
     ensures write_fault { result ≡ Cause.WriteFault
-        → Rose (F.write_faults files.old) (F.write_faults files.new) ⊎ Rose (K.faults out.old) (K.faults out.new) }
+        → HasRisen (F.write_faults files.old) (F.write_faults files.new) ⊎ HasRisen (K.faults out.old) (K.faults out.new) }
     ensures same { F.read_faults files.new ≡ F.read_faults files.old }
     ensures files_later { F.write_faults files.old ≤ F.write_faults files.new }
     ensures link_later { L.faults link.old ≤ L.faults link.new }
@@ -86,14 +86,14 @@ pub fn on_node<F: Files, L: Link, C: Clock, K: Sink>(
     ensures refused_always { IsTrue F.tells
         → (r : Refusal)
         → node_outcome (said_in config_of (F.files files.old) name.now) ≡ refused r
-        → ¬ (Rose (F.read_faults files.old) (F.read_faults files.new))
+        → ¬ (HasRisen (F.read_faults files.old) (F.read_faults files.new))
         → (result ≡ Cause.Refused r) ⊎ (result ≡ Cause.NoMemory) }
     ensures own { IfRefused result IsOwn }
     ensures silent { IsTrue K.tells → IfRefused result (λ _. K.taken out.new ≡ K.taken out.old) }
-    ensures read_fault { result ≡ Cause.ReadFault → Rose (F.read_faults files.old) (F.read_faults files.new) }
+    ensures read_fault { result ≡ Cause.ReadFault → HasRisen (F.read_faults files.old) (F.read_faults files.new) }
     ensures write_fault { result ≡ Cause.WriteFault
-        → Rose (K.faults out.old) (K.faults out.new) ⊎ Rose (F.write_faults files.old) (F.write_faults files.new) }
-    ensures link_fault { result ≡ Cause.LinkFault → Rose (L.faults link.old) (L.faults link.new) }
+        → HasRisen (K.faults out.old) (K.faults out.new) ⊎ HasRisen (F.write_faults files.old) (F.write_faults files.new) }
+    ensures link_fault { result ≡ Cause.LinkFault → HasRisen (L.faults link.old) (L.faults link.new) }
     ensures accepted { IsTrue F.tells → result ≡ Cause.Done → IsAccepted (node_outcome (said_in config_of (F.files files.old) name.now)) }
     ensures no_whole { ¬ (IsWhole (node_outcome (said_in config_of (F.files files.old) name.now))) }
     ensures whole { IsTrue F.tells
@@ -128,10 +128,10 @@ pub fn on_node<F: Files, L: Link, C: Clock, K: Sink>(
     ensures complete { IsTrue F.tells
         → (cfg : Serving)
         → said_in config_of (F.files files.old) name.now ≡ says cfg
-        → ¬ (Rose (F.read_faults files.old) (F.read_faults files.new))
-        → ¬ (Rose (F.write_faults files.old) (F.write_faults files.new))
-        → ¬ (Rose (L.faults link.old) (L.faults link.new))
-        → ¬ (Rose (K.faults out.old) (K.faults out.new))
+        → ¬ (HasRisen (F.read_faults files.old) (F.read_faults files.new))
+        → ¬ (HasRisen (F.write_faults files.old) (F.write_faults files.new))
+        → ¬ (HasRisen (L.faults link.old) (L.faults link.new))
+        → ¬ (HasRisen (K.faults out.old) (K.faults out.new))
         → (result ≡ Cause.Done) ⊎ (result ≡ Cause.NoMemory) }
     ensures made { IsTrue F.tells → LogsAtMost (said_in config_of (F.files files.old) name.now) (F.made files.old) (F.made files.new) }
     ensures asked { IsTrue F.tells → MayName (F.asked files.old) (F.asked files.new) name.now }

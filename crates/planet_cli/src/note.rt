@@ -1,5 +1,5 @@
 ghost use Rattle.std.specs.Prelude.{◌≡◌, ◌≤◌, ◌⊎◌, ◌++◌, IsTrue, IfOk, OnOk};
-ghost use Rattle.node_io.specs.Causes.{Rose};
+ghost use Rattle.node_io.specs.Causes.{HasRisen};
 ghost use Rattle.planet_cli.specs.Notes.{reason_name, refused_text, reason_text, refusal_text, note_text, Noted};
 ghost use Rattle.planet_cli.specs.Refusals.{Gives};
 
@@ -133,9 +133,9 @@ fn note_of(alloc: Global, cause: &Cause) -> Result<Bytes, NoMemory>
 // Pushes a note and answers its cause, or `WriteFault` where the notes failed.
 fn push_note<N: Sink>(notes: &mut N, cause: Cause, note: &[u8]) -> Cause
     requires { note.now ≡ note_text cause }
-    ensures gives { (result ≡ cause) ⊎ ((result ≡ Cause.WriteFault) × Rose (N.faults notes.old) (N.faults notes.new)) }
+    ensures gives { (result ≡ cause) ⊎ ((result ≡ Cause.WriteFault) × HasRisen (N.faults notes.old) (N.faults notes.new)) }
     ensures note { IsTrue N.tells
-        → Noted (N.taken notes.old) (N.taken notes.new) result (Rose (N.faults notes.old) (N.faults notes.new)) }
+        → Noted (N.taken notes.old) (N.taken notes.new) result (HasRisen (N.faults notes.old) (N.faults notes.new)) }
     ensures later { N.faults notes.old ≤ N.faults notes.new }
 {
     match put_all(notes, note) {
@@ -147,9 +147,9 @@ fn push_note<N: Sink>(notes: &mut N, cause: Cause, note: &[u8]) -> Cause
 /// Writes the note of a cause and answers the cause. Where there is no memory for the note, the cause
 /// is `NoMemory`, with its note; where the notes fail, it is `WriteFault`.
 pub fn settle<N: Sink>(alloc: Global, cause: Cause, notes: &mut N) -> Cause
-    ensures gives { Gives cause result (Rose (N.faults notes.old) (N.faults notes.new)) }
+    ensures gives { Gives cause result (HasRisen (N.faults notes.old) (N.faults notes.new)) }
     ensures note { IsTrue N.tells
-        → Noted (N.taken notes.old) (N.taken notes.new) result (Rose (N.faults notes.old) (N.faults notes.new)) }
+        → Noted (N.taken notes.old) (N.taken notes.new) result (HasRisen (N.faults notes.old) (N.faults notes.new)) }
     ensures later { N.faults notes.old ≤ N.faults notes.new }
 {
     match note_of(alloc, &cause) {

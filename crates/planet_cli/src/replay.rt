@@ -1,5 +1,5 @@
 ghost use Rattle.std.specs.Prelude.{◌≡◌, ◌++◌, ◌≤◌, Some, None, length, IsTrue, OnOk, IsErrOf, IfOk, map};
-ghost use Rattle.node_io.specs.Causes.{Rose};
+ghost use Rattle.node_io.specs.Causes.{HasRisen};
 ghost use Rattle.node_io.specs.Pieces.{AppendsFront};
 ghost use Rattle.network_plan.specs.Rules.{KeepsRules};
 ghost use Rattle.network_plan.specs.NodeRules.{KeepsLog};
@@ -54,7 +54,7 @@ fn run_with<K: Sink>(
     ensures unrefused { IfStoppedRefused result (λ _. ⊥) }
     ensures whole { IsTrue K.tells → OnOk result (K.taken out.new ≡ K.taken out.old ++ replay_text schedule.now) }
     ensures front { IsTrue K.tells → AppendsFront (K.taken out.old) (K.taken out.new) (replay_text schedule.now) }
-    ensures write_fault { IsErrOf result Stop.WriteFault → Rose (K.faults out.old) (K.faults out.new) }
+    ensures write_fault { IsErrOf result Stop.WriteFault → HasRisen (K.faults out.old) (K.faults out.new) }
     ensures later { K.faults out.old ≤ K.faults out.new }
 {
     match run(alloc, schedule, services, out) {
@@ -70,7 +70,7 @@ fn run_read<K: Sink>(alloc: Global, schedule: &Schedule, out: &mut K) -> Result<
     ensures unrefused { IfStoppedRefused result (λ _. ⊥) }
     ensures whole { IsTrue K.tells → OnOk result (K.taken out.new ≡ K.taken out.old ++ replay_text schedule.now) }
     ensures front { IsTrue K.tells → AppendsFront (K.taken out.old) (K.taken out.new) (replay_text schedule.now) }
-    ensures write_fault { IsErrOf result Stop.WriteFault → Rose (K.faults out.old) (K.faults out.new) }
+    ensures write_fault { IsErrOf result Stop.WriteFault → HasRisen (K.faults out.old) (K.faults out.new) }
     ensures later { K.faults out.old ≤ K.faults out.new }
 {
     match services_of(alloc, schedule.topology.hosts.as_slice()) {
@@ -95,7 +95,7 @@ fn run_log_read<K: Sink>(alloc: Global, log: &Log, out: &mut K) -> Result<(), St
     ensures unrefused { IfStoppedRefused result (λ _. ⊥) }
     ensures whole { IsTrue K.tells → OnOk result (K.taken out.new ≡ K.taken out.old ++ log_trace log.now) }
     ensures front { IsTrue K.tells → AppendsFront (K.taken out.old) (K.taken out.new) (log_trace log.now) }
-    ensures write_fault { IsErrOf result Stop.WriteFault → Rose (K.faults out.old) (K.faults out.new) }
+    ensures write_fault { IsErrOf result Stop.WriteFault → HasRisen (K.faults out.old) (K.faults out.new) }
     ensures later { K.faults out.old ≤ K.faults out.new }
 {
     let services = Registry::new(alloc, log.missing.as_slice());
@@ -118,7 +118,7 @@ fn replay_log<K: Sink>(alloc: Global, bytes: &[u8], out: &mut K) -> Result<(), S
     ensures begun { IsErrOf result Stop.WriteFault → schedule_refusal bytes.now ≡ None }
     ensures whole { IsTrue K.tells → OnOk result (K.taken out.new ≡ K.taken out.old ++ schedule_output bytes.now) }
     ensures front { IsTrue K.tells → AppendsFront (K.taken out.old) (K.taken out.new) (schedule_output bytes.now) }
-    ensures write_fault { IsErrOf result Stop.WriteFault → Rose (K.faults out.old) (K.faults out.new) }
+    ensures write_fault { IsErrOf result Stop.WriteFault → HasRisen (K.faults out.old) (K.faults out.new) }
     ensures later { K.faults out.old ≤ K.faults out.new }
 {
     match read_log(alloc, bytes) {

@@ -1,10 +1,10 @@
 ghost use Rattle.std.specs.Prelude.{◌≡◌, ◌++◌, ◌≤◌, ◌⊎◌, IsTrue, IfOk, IfErr, OnOk, IsErrOf, Some, None};
-ghost use Rattle.node_io.specs.Causes.{Rose};
+ghost use Rattle.node_io.specs.Causes.{HasRisen};
 ghost use Rattle.node_io.specs.Pieces.{AppendsFront};
 ghost use Rattle.hex.specs.Hex.{decode_of, IsBytes};
 ghost use Rattle.packet_frame.specs.Typed.{plain_of};
 ghost use Rattle.frame_text.specs.Frames.{frame_text};
-ghost use Rattle.frame_text.specs.Decoding.{frame_of};
+ghost use Rattle.packet_frame.specs.Decoding.{frame_of};
 ghost use Rattle.planet_cli.specs.Memory.{IsOwn};
 ghost use Rattle.planet_cli.specs.Refusals.{IfStoppedRefused};
 ghost use Rattle.planet_cli.specs.Shows.{frame_limit, without_feed, framed_refusal, hex_refusal, frame_refusal, frame_output};
@@ -89,7 +89,7 @@ fn write_frame<K: Sink>(alloc: Global, frame: &Frame, out: &mut K) -> Result<(),
     ensures unrefused { IfStoppedRefused result (λ _. ⊥) }
     ensures whole { IsTrue K.tells → OnOk result (K.taken out.new ≡ K.taken out.old ++ frame_text (plain_of frame.now)) }
     ensures front { IsTrue K.tells → AppendsFront (K.taken out.old) (K.taken out.new) (frame_text (plain_of frame.now)) }
-    ensures write_fault { IsErrOf result Stop.WriteFault → Rose (K.faults out.old) (K.faults out.new) }
+    ensures write_fault { IsErrOf result Stop.WriteFault → HasRisen (K.faults out.old) (K.faults out.new) }
     ensures later { K.faults out.old ≤ K.faults out.new }
 {
     let mut text = Bytes::new(alloc);

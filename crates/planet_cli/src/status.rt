@@ -4,7 +4,7 @@ use plan_base::Host;
 use program_text::TextFault;
 
 /// How a call of the product ended.
-#[derive(Debug, Drop)]
+#[derive(Drop)]
 pub struct Status {
     /// The exit code: 0 for `Done`, and then the causes in order.
     pub code: u8,
@@ -13,7 +13,7 @@ pub struct Status {
 }
 
 /// Why a call of the product ended.
-#[derive(Debug, Drop)]
+#[derive(Drop)]
 pub enum Cause {
     /// The command did all of its work. Code 0.
     Done,
@@ -36,7 +36,7 @@ pub enum Cause {
 }
 
 /// Why a file is refused.
-#[derive(Debug, Drop)]
+#[derive(Drop)]
 pub enum Refusal {
     /// The first line outside the format, from 1, and the reason.
     Line(u32, LineReason),

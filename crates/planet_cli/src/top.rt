@@ -1,5 +1,5 @@
 ghost use Rattle.std.specs.Prelude.{◌≡◌, ◌≢◌, ◌++◌, ◌∷◌, [], ◌⊎◌, List, ℕ, IsTrue, Some, None, Ok, drop};
-ghost use Rattle.node_io.specs.Causes.{Rose};
+ghost use Rattle.node_io.specs.Causes.{HasRisen};
 ghost use Rattle.planet_cli.specs.Requests.{show, inject, fleet, node, grow, request_of, UnlessLinked, UnlessFleet, UnlessNode, WhereInjected};
 ghost use Rattle.planet_cli.specs.Memory.{IsOwn};
 ghost use Rattle.planet_cli.specs.Said.{said_in, says, IsSaid};
@@ -29,7 +29,7 @@ ghost use Rattle.node_files.specs.Fleets.{fleet_of};
 ghost use Rattle.fleet_run.specs.Fleets.{fleet_starts, fleet_end, Reports};
 ghost use Rattle.fleet_run.specs.Asks.{ask_bind, ask_sent, ask_line};
 ghost use Rattle.program_text.specs.Texts.{program_of};
-ghost use Rattle.grown_network.specs.Summaries.{GrowText};
+ghost use Rattle.grow_run.specs.Summaries.{GrowText};
 ghost use Rattle.grow_run.specs.Pings.{ping_text, ping};
 ghost use Rattle.world_model.specs.World.{opening};
 ghost use Rattle.world_model.specs.Texts.{run_text};
@@ -72,22 +72,22 @@ pub fn planet<F: Files, K: Sink, N: Sink, L: Link, C: Clock, P: Spawner>(
 ) -> Status
     ensures code { result.code ≡ code_of result.cause }
     ensures usage { result.cause ≡ Cause.Usage → request_of words.now ≡ None }
-    ensures usage_always { request_of words.now ≡ None → Gives Cause.Usage result.cause (Rose (N.faults notes.old) (N.faults notes.new)) }
+    ensures usage_always { request_of words.now ≡ None → Gives Cause.Usage result.cause (HasRisen (N.faults notes.old) (N.faults notes.new)) }
     ensures refused { IsTrue F.tells → IfRefused result.cause (λ r. outcome_of words.now (F.files files.old) ≡ refused r) }
     ensures refused_always { IsTrue F.tells
         → (r : Refusal)
         → outcome_of words.now (F.files files.old) ≡ refused r
-        → ¬ (Rose (F.read_faults files.old) (F.read_faults files.new))
-        → Gives (Cause.Refused r) result.cause (Rose (N.faults notes.old) (N.faults notes.new)) }
-    // No refusal is, or holds, want of memory.
+        → ¬ (HasRisen (F.read_faults files.old) (F.read_faults files.new))
+        → Gives (Cause.Refused r) result.cause (HasRisen (N.faults notes.old) (N.faults notes.new)) }
+    // No refusal is, or holds, running out of memory.
     ensures own { IfRefused result.cause IsOwn }
     ensures silent { IsTrue K.tells → IfRefused result.cause (λ _. K.taken out.new ≡ K.taken out.old) }
-    ensures read_fault { result.cause ≡ Cause.ReadFault → Rose (F.read_faults files.old) (F.read_faults files.new) }
+    ensures read_fault { result.cause ≡ Cause.ReadFault → HasRisen (F.read_faults files.old) (F.read_faults files.new) }
     ensures write_fault { result.cause ≡ Cause.WriteFault
-        → Rose (K.faults out.old) (K.faults out.new)
-        ⊎ (Rose (F.write_faults files.old) (F.write_faults files.new) ⊎ Rose (N.faults notes.old) (N.faults notes.new)) }
-    ensures link_fault { result.cause ≡ Cause.LinkFault → Rose (L.faults link.old) (L.faults link.new) }
-    ensures spawn_fault { result.cause ≡ Cause.SpawnFault → Rose (P.faults spawn.old) (P.faults spawn.new) }
+        → HasRisen (K.faults out.old) (K.faults out.new)
+        ⊎ (HasRisen (F.write_faults files.old) (F.write_faults files.new) ⊎ HasRisen (N.faults notes.old) (N.faults notes.new)) }
+    ensures link_fault { result.cause ≡ Cause.LinkFault → HasRisen (L.faults link.old) (L.faults link.new) }
+    ensures spawn_fault { result.cause ≡ Cause.SpawnFault → HasRisen (P.faults spawn.old) (P.faults spawn.new) }
     // Only the commands with a link, and only `fleet`, end so.
     ensures no_link_fault { UnlessLinked (request_of words.now) (result.cause ≢ Cause.LinkFault) }
     ensures no_spawn_fault { UnlessFleet (request_of words.now) (result.cause ≢ Cause.SpawnFault) }
@@ -102,14 +102,14 @@ pub fn planet<F: Files, K: Sink, N: Sink, L: Link, C: Clock, P: Spawner>(
         → WritesFront (outcome_of words.now (F.files files.old)) (K.taken out.old) (K.taken out.new) }
     ensures complete { IsTrue F.tells
         → IsWhole (outcome_of words.now (F.files files.old))
-        → ¬ (Rose (F.read_faults files.old) (F.read_faults files.new))
-        → ¬ (Rose (F.write_faults files.old) (F.write_faults files.new))
-        → ¬ (Rose (K.faults out.old) (K.faults out.new))
-        → ¬ (Rose (N.faults notes.old) (N.faults notes.new))
-        → WhereInjected (request_of words.now) (¬ (Rose (L.faults link.old) (L.faults link.new)))
+        → ¬ (HasRisen (F.read_faults files.old) (F.read_faults files.new))
+        → ¬ (HasRisen (F.write_faults files.old) (F.write_faults files.new))
+        → ¬ (HasRisen (K.faults out.old) (K.faults out.new))
+        → ¬ (HasRisen (N.faults notes.old) (N.faults notes.new))
+        → WhereInjected (request_of words.now) (¬ (HasRisen (L.faults link.old) (L.faults link.new)))
         → (result.cause ≡ Cause.Done) ⊎ (result.cause ≡ Cause.NoMemory) }
     ensures note { IsTrue N.tells
-        → Noted (N.taken notes.old) (N.taken notes.new) result.cause (Rose (N.faults notes.old) (N.faults notes.new)) }
+        → Noted (N.taken notes.old) (N.taken notes.new) result.cause (HasRisen (N.faults notes.old) (N.faults notes.new)) }
     // The headline: a replay that is done wrote the trace and the ledger of the written meaning of
     // its schedule, whose counts are in balance after every event and whose visits are never without a case.
     ensures replayed { IsTrue F.tells
@@ -183,7 +183,7 @@ pub fn planet<F: Files, K: Sink, N: Sink, L: Link, C: Clock, P: Spawner>(
         × SendsAtMost (said_in ask_of (F.files files.old) file) (L.sent link.old) (L.sent link.new) }
     // And of `fleet`: where it is done, or nodes failed, the starts of its file were asked in order, each child was waited
     // for, and the line of each status was written; the first status that isn't 0 decides. After every answer the starts
-    // and the lines are fronts of those.
+    // and the lines are prefixes of those.
     ensures fleet { IsTrue F.tells
         → (file : List ℕ) (f : Children)
         → request_of words.now ≡ Some (fleet file)
@@ -215,13 +215,13 @@ pub fn planet<F: Files, K: Sink, N: Sink, L: Link, C: Clock, P: Spawner>(
         → (file : List ℕ) (f : Children)
         → request_of words.now ≡ Some (fleet file)
         → said_in fleet_of (F.files files.old) file ≡ says f
-        → ¬ (Rose (F.read_faults files.old) (F.read_faults files.new))
-        → ¬ (Rose (P.faults spawn.old) (P.faults spawn.new))
-        → ¬ (Rose (K.faults out.old) (K.faults out.new))
-        → ¬ (Rose (N.faults notes.old) (N.faults notes.new))
+        → ¬ (HasRisen (F.read_faults files.old) (F.read_faults files.new))
+        → ¬ (HasRisen (P.faults spawn.old) (P.faults spawn.new))
+        → ¬ (HasRisen (K.faults out.old) (K.faults out.new))
+        → ¬ (HasRisen (N.faults notes.old) (N.faults notes.new))
         → IsEnded result.cause ⊎ (result.cause ≡ Cause.NoMemory) }
     // And of `node`: where it is done, the run of its node stands for so many turns, with the steps refused that its log
-    // says. After every answer what stands are fronts of such a run, and nothing where the file says no configuration.
+    // says. After every answer what stands are prefixes of such a run, and nothing where the file says no configuration.
     ensures served { IsTrue F.tells
         → IsTrue K.tells
         → IsTrue L.tells
@@ -246,11 +246,11 @@ pub fn planet<F: Files, K: Sink, N: Sink, L: Link, C: Clock, P: Spawner>(
         → (file : List ℕ) (turns : ℕ) (cfg : Serving)
         → request_of words.now ≡ Some (node file turns)
         → said_in config_of (F.files files.old) file ≡ says cfg
-        → ¬ (Rose (F.read_faults files.old) (F.read_faults files.new))
-        → ¬ (Rose (F.write_faults files.old) (F.write_faults files.new))
-        → ¬ (Rose (L.faults link.old) (L.faults link.new))
-        → ¬ (Rose (K.faults out.old) (K.faults out.new))
-        → ¬ (Rose (N.faults notes.old) (N.faults notes.new))
+        → ¬ (HasRisen (F.read_faults files.old) (F.read_faults files.new))
+        → ¬ (HasRisen (F.write_faults files.old) (F.write_faults files.new))
+        → ¬ (HasRisen (L.faults link.old) (L.faults link.new))
+        → ¬ (HasRisen (K.faults out.old) (K.faults out.new))
+        → ¬ (HasRisen (N.faults notes.old) (N.faults notes.new))
         → (result.cause ≡ Cause.Done) ⊎ (result.cause ≡ Cause.NoMemory) }
     ensures asked { IsTrue F.tells → AsksFor (request_of words.now) (F.asked files.old) (F.asked files.new) }
     ensures made { IsTrue F.tells → MakesAtMost (request_of words.now) (F.files files.old) (F.made files.old) (F.made files.new) }

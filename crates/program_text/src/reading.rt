@@ -1,7 +1,7 @@
 ghost use Rattle.std.specs.Prelude.{◌≡◌, ◌≤◌, ◌⊎◌, List, length, Ok, Err, IfOk, IfErr, MatchResult};
-ghost use Rattle.plan_base.specs.Typing.{Typed};
-ghost use Rattle.plan_base.specs.TypingFills.{Fills};
-ghost use Rattle.plan_base.specs.TypingOrder.{annotated};
+ghost use Rattle.typing_rules.specs.Typing.{Typed};
+ghost use Rattle.typing_rules.specs.TypingFills.{Fills};
+ghost use Rattle.typing_rules.specs.TypingOrder.{annotated};
 ghost use Rattle.plan_base.specs.WellFormed.{IsWellFormedProgram};
 ghost use Rattle.plan_base.specs.declared.tree.Program.{Program};
 ghost use Rattle.plan_lexer.specs.Scanning.{Toks};
@@ -10,7 +10,8 @@ ghost use Rattle.plan_parser.specs.Programs as parsed;
 ghost use Rattle.program_text.specs.Texts.{byte_at, byte_of, placed, typed_of, program_of, IsProgram, Says, args_of_text};
 
 use crate::fault::TextFault;
-use plan_base::{Draft, NoMemory, Place, Places, TypeFault, Values};
+use plan_base::{Draft, NoMemory, Place, Places, Values};
+use typing_rules::TypeFault;
 use plan_grammar::ParseFault;
 use plan_items::Items;
 use plan_lexer::{LexFault, Tokens, lex};

@@ -7,6 +7,8 @@ ghost use Rattle.resident_tables.specs.Layers.{over, IsOver, room_of};
 ghost use Rattle.resident_tables.specs.PartRows.{part_row};
 ghost use Rattle.resident_tables.specs.Tables.{row_of, IsPut, IsGot};
 
+use plan_equality::Same;
+use plan_copies::Copied;
 use crate::counts::{Counts, bytes_after};
 use crate::fault::TableFault;
 use crate::moves::{

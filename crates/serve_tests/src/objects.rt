@@ -23,7 +23,7 @@ pub struct Outside {
 }
 
 /// Which calls of the link, the files and the output fail, 0 for none.
-#[derive(Debug, Clone, Copy)]
+#[derive(Clone, Copy)]
 pub struct Failing {
     pub link: u64,
     pub files: u64,

@@ -17,7 +17,7 @@ fn front(text: &str, end: usize) -> &str {
     }
 }
 
-// Serves four turns over objects that fail so; then the log and the output are fronts up to these places.
+// Serves four turns over objects that fail so; then the log and the output are prefixes up to these places.
 fn ends_so(
     rt: &impl Abort,
     alloc: Global,

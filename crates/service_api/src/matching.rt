@@ -2,6 +2,8 @@ ghost use Rattle.std.specs.Prelude.{◌≡◌, ◌↔◌, Some, IfOk, IsTrue, Ma
 ghost use Rattle.plan_base.specs.declared.tree.Ty.{Ty as AType};
 ghost use Rattle.service_api.specs.Schemes as spec;
 
+use plan_equality::Same;
+use plan_copies::Copied;
 use crate::scheme::{Scheme, SchemeTy};
 use plan_base::{NoMemory, Svc, Ty};
 use std::alloc::Global;

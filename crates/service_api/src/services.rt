@@ -1,5 +1,5 @@
 ghost use Rattle.std.specs.Prelude.{◌≡◌, ◌≤◌, length, IfOk, OnOk, OnErr, IsSome, IsTrue, None};
-ghost use Rattle.service_api.specs.Services.{Standing, Answers, AreGoodRows, AreGoodValues, begun_now, made_ready, kept, abandoned, expired, IsGoodServe, RefusesOthers};
+ghost use Rattle.service_api.specs.Services.{ServiceState, Answers, AreGoodRows, AreGoodValues, begun_now, made_ready, kept, abandoned, expired, IsGoodServe, RefusesOthers};
 
 use crate::answer::Answer;
 use crate::ctx::Ctx;
@@ -16,7 +16,7 @@ use std::alloc::Global;
 /// declaration of a name that isn't offered, or that is no instance of the type of its name, means `NoService` and
 /// leaves the rows (`refuses`).
 pub trait Services {
-    ghost stands: { Self → Standing };
+    ghost stands: { Self → ServiceState };
 
     /// The type of the service of that name, and `None` where there is none.
     fn scheme(&self, alloc: Global, name: &Name) -> Result<Option<Scheme>, NoMemory>

@@ -3,6 +3,7 @@ ghost use Rattle.service_api.specs.declared.ctx.Ctx.{Ctx as ACtx};
 ghost use Rattle.service_meaning.specs.Answers as spec;
 ghost use Rattle.service_registry.specs.Meets.{Tells};
 
+use plan_copies::Copied;
 use crate::answers::{bad_index, refused};
 use crate::arguments::as_int;
 use plan_base::{NoMemory, Value};

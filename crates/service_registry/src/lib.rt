@@ -9,7 +9,7 @@ mod offered;
 mod registry;
 mod resident;
 mod serving;
-mod there;
+mod installed_packages;
 mod types;
 
 pub use registry::Registry;

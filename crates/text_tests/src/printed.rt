@@ -1,7 +1,4 @@
-use plan_base::{
-    Bytes, Expr, Fun, Funs, Name, Names, Op, Param, Params, Program, Svcs, Text, Ty, Tys, Value,
-    Values,
-};
+use plan_base::{Bytes, Expr, Fun, Funs, Name, Names, Op, Param, Params, Program, Svcs, Text, Ty, Tys, Value, Values};
 use plan_items::Boxed;
 use plan_printer::{print_program, print_type, print_value};
 use std::alloc::Global;

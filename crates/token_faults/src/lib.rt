@@ -34,7 +34,7 @@ pub fn comments_are_passed()
     ensures refused { (at : ℕ) (text : List ℕ) (e : LexFault) → (move_at at (40 ∷ 42 ∷ text) ≡ Err e) ↔ Unclosed e at (40 ∷ 42 ∷ text) }
 {}
 
-/// No first refusal of tokens is want of memory.
+/// No first refusal of tokens is `NoMemory`.
 pub fn refusals_hold_no_memory()
     ensures { (e : LexFault) (at : ℕ) (text : List ℕ) → Refuses e at text → e ≢ fault.NoMemory }
 {}

@@ -1,13 +1,12 @@
-use plan_base::{
-    Dev, Expr, Exprs, Fun, Funs, Host, Name, Op, Param, Params, Place, Program, Ty, TypeFault,
-};
+use plan_base::{Dev, Expr, Exprs, Fun, Funs, Host, Name, Op, Param, Params, Place, Program, Ty};
+use typing_rules::TypeFault;
 use plan_items::{Boxed, Items};
 use plan_types::refused;
 use std::alloc::Global;
 use std::test::Fail;
 
 /// What the checking answers, without the types of a mismatch.
-#[derive(Debug, Clone, Copy, PartialEq)]
+#[derive(Clone, Copy, PartialEq)]
 enum Answer {
     Typed,
     NotEarlier(Place),

@@ -4,3 +4,4 @@ pub mod Exprs
 pub mod Named
 pub mod Names
 pub mod Programs
+pub mod ChunkFirsts

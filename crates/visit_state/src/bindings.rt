@@ -1,6 +1,7 @@
 ghost use Rattle.std.specs.Prelude.{◌≡◌, IfOk, option_copied};
 ghost use Rattle.plan_meaning.specs.Meaning as spec;
 
+use plan_copies::Copied;
 use plan_base::{Name, NoMemory, Param, Value};
 use plan_items::Items;
 use plan_meaning::{Binding, Env};

@@ -2,8 +2,8 @@ use Rattle.std.proofs.Common.{◌≡◌, ◌∙◌, ap, subst}
 use Rattle.world_model.specs.World.{opening, world_after, history_of}
 use Rattle.network_laws.proofs.Balance.{opening_balances}
 use Rattle.run_ledger.specs.Stands.{Stands}
-use Rattle.grown_network.specs.Grow.{ring, grown, Grow}
-use Rattle.grown_network.specs.Summaries.{summary_of, grown_text}
+use Rattle.grow_run.specs.Grow.{ring, grown, Grow}
+use Rattle.grow_run.specs.Summaries.{summary_of, grown_text}
 use Rattle.net_world.proofs.StandLaws.{if_ok}
 use Rattle.grow_run.specs.Pings.{ping, OfGrown}
 use Rattle.grow_run.proofs.Growing.{output_is}

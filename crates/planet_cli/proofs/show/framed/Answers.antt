@@ -1,5 +1,5 @@
 use Rattle.packet_frame.specs.declared.checked.Frame.{Frame}
-use Rattle.frame_text.proofs.OneAnswer.{accepts_is}
+use Rattle.packet_frame.proofs.OneAnswer.{accepts_is}
 use Rattle.planet_cli.specs.declared.status.Refusal.TheVariants as refusal
 use Rattle.planet_cli.proofs.ShowLemmas.{frame_stopped}
 use Rattle.planet_cli.proofs.Stopping.{stopped_own, stopped_unwritten}
