@@ -1,8 +1,8 @@
 //! Why there is no typed chunk.
 
 use plan_base::NoMemory;
-use typing_rules::TypeFault;
 use std::alloc::AllocError;
+use typing_rules::TypeFault;
 
 /// Why a chunk isn't typed: the first refusal in the order of checking.
 #[derive(Drop)]

@@ -9,10 +9,10 @@ ghost use Rattle.typing_rules.specs.Typing.{IsTypedChunk};
 ghost use Rattle.chunk_types.specs.Chunks as spec;
 ghost use Rattle.chunk_types.specs.Chunks.{IsCheckedChunk};
 
-use plan_copies::Copied;
 use crate::fault::ChunkFault;
 use crate::ill::{ill_call, illness_by, is_small};
 use plan_base::{Chunk, Name, NoMemory, Values};
+use plan_copies::Copied;
 use plan_types::Checked;
 use std::alloc::Global;
 use std::marker::Model;

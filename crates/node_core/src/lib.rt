@@ -1,10 +1,10 @@
 //! A node: its queues, its routes, its services and its step, and the text of what it does.
 #![tactic(auto)]
 
+mod idle_services;
 mod neighbour_list;
 mod node;
 mod outgoing;
-mod idle_services;
 mod routes;
 mod sends;
 mod text;

@@ -15,9 +15,9 @@ ghost use Rattle.packet_frame.specs.Decoding.{frame_of};
 ghost use Rattle.node_core.specs.Turns.{IsResting};
 ghost use Rattle.node_core.specs.Stands.{NodeStands, IsStep, own_family, own_packet, asks_within};
 
+use crate::idle_services::IdleServices;
 use crate::neighbour_list::NeighbourList;
 use crate::outgoing::{advert_sendings, packet_sending};
-use crate::idle_services::IdleServices;
 use crate::routes::Routes;
 use crate::sends::{send_all, send_one};
 use chunk_types::{CheckedChunk, CheckedPacket};

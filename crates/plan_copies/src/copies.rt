@@ -2,7 +2,10 @@ ghost use Rattle.std.specs.Prelude.{◌≡◌, IfOk};
 ghost use Rattle.plan_base.specs.declared.tree.Expr.{Expr};
 
 use crate::copied::Copied;
-use plan_base::{Chunk, Clause, Clauses, Draft, Exn, Expr, Exprs, Fun, Funs, Name, Names, NoMemory, Op, Packet, Param, Params, Places, Program, Svc, Svcs, Ty, Tys, Value, Values};
+use plan_base::{
+    Chunk, Clause, Clauses, Draft, Exn, Expr, Exprs, Fun, Funs, Name, Names, NoMemory, Op, Packet,
+    Param, Params, Places, Program, Svc, Svcs, Ty, Tys, Value, Values,
+};
 use plan_items::{Boxed, Items};
 use std::alloc::Global;
 

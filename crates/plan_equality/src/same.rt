@@ -420,7 +420,8 @@ fn same_value(v: &Value, other: &Value) -> bool
             _ => false,
         },
         Value::List(t, vs) => match other {
-            Value::List(t2, vs2) => t.get().is(t2.get()) && same_values(vs.as_slice(), vs2.as_slice()),
+            Value::List(t2, vs2) => t.get().is(t2.get())
+                && same_values(vs.as_slice(), vs2.as_slice()),
             _ => false,
         },
         Value::Tuple(vs) => match other {

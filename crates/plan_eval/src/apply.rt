@@ -13,15 +13,15 @@ ghost use Rattle.plan_eval.specs.Stack.{Spot, resume, ended, all_ended};
 ghost use Rattle.plan_eval.specs.Nexts.{CanDo, Decides, Enters, IsDone, next_step};
 ghost use Rattle.plan_eval.specs.Turns.{IsPlaced, Stands, Turned, WaitsFor, entry, load, under};
 
-use plan_equality::Same;
-use crate::stack_frame::{Activation, Activations, Codes, StackFrame, Mode};
 use crate::next::Next;
 use crate::place::enters;
+use crate::stack_frame::{Activation, Activations, Codes, Mode, StackFrame};
 use plan_base::{Chunk, NoMemory, Program, Value, Values};
-use typing_rules::place_of;
+use plan_equality::Same;
 use plan_items::{Items, Shared};
 use plan_meaning::Stop;
 use std::alloc::Global;
+use typing_rules::place_of;
 use visit_state::State;
 
 /// An activation under one more frame, back on the stack, and a function of that program on top of it.
@@ -192,7 +192,14 @@ fn go_on(
         Next::Give(v) => weigh(alloc, outer, top, v, state),
         Next::Open(frame) => open(outer, top, frame),
         Next::Call(fun, args) => enter_here(alloc, outer, top, StackFrame::Body, fun, args),
-        Next::Step(fun, args, left) => enter_here(alloc, outer, top, StackFrame::Items(left), fun, args),
+        Next::Step(fun, args, left) => enter_here(
+            alloc,
+            outer,
+            top,
+            StackFrame::Items(left),
+            fun,
+            args,
+        ),
         Next::Visit(chunk) => visit_chunk(alloc, codes, outer, top, chunk),
     }
 }

@@ -16,12 +16,12 @@ ghost use Rattle.plan_eval.specs.Nexts.{fold_on};
 ghost use Rattle.plan_eval.specs.Direct.{spot, Flows, Bodies, Enters, Advances, Goes, Lasts, Spends, Turns, is_let, IsMore};
 
 use crate::fold::item_gave;
-use crate::stack_frame::StackFrame;
 use crate::given::frame_given;
 use crate::here::Here;
 use crate::next::Next;
 use crate::raise::frame_raised;
 use crate::rest::{Flow, above, inside};
+use crate::stack_frame::StackFrame;
 use crate::turn::Turn;
 use plan_base::{Exn, Expr, Value, Values};
 use plan_meaning::Stop;

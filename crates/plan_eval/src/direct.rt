@@ -17,19 +17,19 @@ use crate::back::{
 };
 use crate::begin::{begin, leaf_number, number, variable};
 use crate::call::called;
-use crate::stack_frame::{Codes, StackFrame};
 use crate::here::Here;
 use crate::next::Next;
 use crate::operand::{numbers, operands_back};
 use crate::rest::{Flow, inside, pause, pause_in};
+use crate::stack_frame::{Codes, StackFrame};
 use crate::turn::Turn;
 use crate::walk::part_or_self;
 use plan_base::{Chunk, Expr, Fun, Name, NoMemory, Op, Program, Values};
-use typing_rules::place_of;
 use plan_items::{Items, Shared};
 use plan_meaning::Stop;
 use service_api::Services;
 use std::alloc::Global;
+use typing_rules::place_of;
 use visit_state::{State, as_bool};
 
 /// Evaluates an expression, down to a depth.
@@ -278,7 +278,11 @@ fn call<S: Services>(
     while let Some(x) = argument_at(es, args.len()) {
         match evaluate(alloc, codes, here, x, depth, state, svc) {
             Ok(Flow::Done(v)) => args.add(v)?,
-            Ok(Flow::Wait(rest)) => return Ok(inside(alloc, rest, StackFrame::Part(args.len(), args))?),
+            Ok(Flow::Wait(rest)) => return Ok(inside(
+                alloc,
+                rest,
+                StackFrame::Part(args.len(), args),
+            )?),
             Err(stop) => return Err(stop),
         }
     }

@@ -7,8 +7,8 @@ ghost use Rattle.plan_meaning.specs.Safe.{IsSafe};
 ghost use Rattle.plan_eval.specs.Nexts.{Continues, call_of};
 
 use crate::call::called;
-use crate::stack_frame::StackFrame;
 use crate::next::Next;
+use crate::stack_frame::StackFrame;
 use plan_base::{Chunk, Expr, Exprs, Name, Program, Value, Values};
 use plan_items::{Boxed, Shared};
 use plan_meaning::Stop;

@@ -9,13 +9,13 @@ ghost use Rattle.plan_eval.specs.Stack.{Spot, resume, spot_in};
 ghost use Rattle.plan_eval.specs.Nexts.{Decides, IsDone, part_gave};
 
 use crate::fold::{item_gave, left_part, right_part};
-use crate::stack_frame::{Activation, Codes, StackFrame};
 use crate::gather::{call_part, chunk_part, tuple_part};
 use crate::next::Next;
 use crate::operand::{operand, selected};
 use crate::place::{can_do, place_in};
 use crate::pure::{both, choose, either, turn};
 use crate::send::{evaluated, neighbour_part, remote_part};
+use crate::stack_frame::{Activation, Codes, StackFrame};
 use plan_base::{Expr, Program, Value, Values};
 use plan_items::Shared;
 use plan_meaning::Stop;

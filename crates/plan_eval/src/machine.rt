@@ -16,11 +16,11 @@ ghost use Rattle.plan_eval.specs.Turns.{Stands, Turned, load};
 
 use crate::apply::apply;
 use crate::direct::evaluate;
-use crate::stack_frame::{Activation, Activations, Codes, Mode};
 use crate::given::give_top;
 use crate::here::Here;
 use crate::raise::raise_top;
 use crate::rest::{Flow, stacked};
+use crate::stack_frame::{Activation, Activations, Codes, Mode};
 use crate::walk::expr_from;
 use plan_base::{Exn, Value};
 use plan_meaning::Stop;

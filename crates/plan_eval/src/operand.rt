@@ -19,9 +19,9 @@ ghost use Rattle.plan_eval.specs.Direct.{Flows, IsNumber, Lasts, Spends};
 ghost use Rattle.plan_eval.specs.Nexts.{Continues, begins, part_gave};
 
 use crate::back::ended;
-use crate::stack_frame::StackFrame;
 use crate::next::Next;
 use crate::rest::{Flow, inside};
+use crate::stack_frame::StackFrame;
 use plan_base::{NoMemory, Op, Value, Values};
 use plan_items::Items;
 use plan_meaning::Stop;

@@ -6,8 +6,8 @@ ghost use Rattle.plan_base.specs.declared.tree.Value.{Value};
 ghost use Rattle.plan_meaning.specs.State.{VisitState};
 ghost use Rattle.plan_eval.specs.Nexts.{Continues};
 
-use crate::stack_frame::StackFrame;
 use crate::next::Next;
+use crate::stack_frame::StackFrame;
 use plan_base::Value;
 use plan_meaning::Stop;
 use visit_state::as_bool;

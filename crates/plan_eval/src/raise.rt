@@ -11,9 +11,9 @@ ghost use Rattle.plan_eval.specs.declared.stack_frame.StackFrame.TheVariants as 
 ghost use Rattle.plan_eval.specs.Stack.{Spot, resume, spot_in, first_from};
 ghost use Rattle.plan_eval.specs.Nexts.{Decides, IsDone};
 
-use crate::stack_frame::{Activation, Codes, StackFrame};
 use crate::next::Next;
 use crate::place::{can_do, place_in};
+use crate::stack_frame::{Activation, Codes, StackFrame};
 use plan_base::{Clause, Clauses, Exn, Expr};
 use plan_meaning::Stop;
 use visit_state::catches;

@@ -9,9 +9,9 @@ ghost use Rattle.plan_meaning.specs.Meaning as spec;
 ghost use Rattle.plan_eval.specs.declared.stack_frame.StackFrame.TheVariants as frame;
 ghost use Rattle.plan_eval.specs.Nexts.{Continues, RemoteIsSafe, NeighbourIsSafe};
 
-use crate::stack_frame::StackFrame;
 use crate::next::Next;
 use crate::operand::behind_one;
+use crate::stack_frame::StackFrame;
 use plan_base::{Chunk, Name, NoMemory, Value, Values};
 use plan_meaning::Stop;
 use std::alloc::Global;

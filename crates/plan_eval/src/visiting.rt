@@ -12,17 +12,17 @@ ghost use Rattle.meaning_laws.specs.Laws.{VisitEnds, VisitsAlike, NoneSuffices};
 ghost use Rattle.visit_state.specs.Meets.{Meets};
 ghost use Rattle.plan_eval.specs.Turns.{entry};
 
-use crate::stack_frame::{Activation, Activations, Codes};
 use crate::machine::run;
 use crate::place::enters;
+use crate::stack_frame::{Activation, Activations, Codes};
 use chunk_types::CheckedPacket;
 use plan_base::{Chunk, Family, NoMemory, Value};
 use plan_copies::copy_values;
-use typing_rules::place_of;
 use plan_items::Items;
 use plan_meaning::{Outcome, Stop, Visit};
 use service_api::{Ctx, Services};
 use std::alloc::Global;
+use typing_rules::place_of;
 use visit_state::{ALLOWANCE, State};
 
 /// A visit that has no effect at all.

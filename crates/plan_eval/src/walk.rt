@@ -7,8 +7,8 @@ ghost use Rattle.plan_meaning.specs.Meaning.{value_of, bound};
 ghost use Rattle.plan_eval.specs.Stack as spec;
 ghost use Rattle.plan_eval.specs.Stack.{part_number, part_or_self, expr_from, value_from, value_at};
 
-use crate::stack_frame::StackFrame;
 use crate::parts::part_of;
+use crate::stack_frame::StackFrame;
 use plan_base::{Expr, Name, Param, Value};
 
 /// The part that a frame evaluates, or the expression itself where that is the next activation.
@@ -57,7 +57,9 @@ fn value_at<'a>(
     ensures { option_copied result ≡ value_at name.now e.now frame.now (option_copied before.entry) }
 {
     match (frame, e) {
-        (StackFrame::Bound(value), Expr::Let(bound, _, _, _)) if same_name(bound, name) => Some(value),
+        (StackFrame::Bound(value), Expr::Let(bound, _, _, _)) if same_name(bound, name) => Some(
+            value,
+        ),
         _ => before,
     }
 }

@@ -8,13 +8,13 @@ ghost use Rattle.plan_grammar.specs.Types as spec;
 ghost use Rattle.plan_grammar.specs.Inside.{ReadsTypes};
 ghost use Rattle.plan_grammar.specs.declared.fault.ParseFault.TheVariants.{TooDeep, NoMemory};
 
-use plan_sizes::Deep;
 use crate::ahead::Ahead;
 use crate::codes::code_of_key;
 use crate::fault::{ParseFault, Wanted};
 use plan_base::{Limit, Ty, Tys};
 use plan_items::{Boxed, Items};
 use plan_lexer::{Key, Symbol, Token, TokenKind};
+use plan_sizes::Deep;
 use std::alloc::Global;
 
 /// The deepest type.

@@ -6,14 +6,14 @@ ghost use Rattle.plan_base.specs.declared.tree.Expr.{out-Expr};
 ghost use Rattle.typing_rules.specs.TypingOrder as spec;
 ghost use Rattle.plan_types.specs.Checks.{Meets, Nests, below};
 
-use plan_copies::Copied;
 use crate::checker::Checker;
 use crate::names::{binding, is_exception};
 use crate::settle::{items_of, list_of, settled, shallow};
 use crate::state::{Scope, State};
 use plan_base::{Expr, Name, NoMemory, Param, Place, Ty};
-use typing_rules::TypeFault;
+use plan_copies::Copied;
 use std::alloc::Global;
+use typing_rules::TypeFault;
 
 /// An expression and a type as they stand.
 fn copies(alloc: Global, e: &Expr, ty: &Ty) -> Result<(Expr, Ty), NoMemory>

@@ -6,16 +6,16 @@ ghost use Rattle.typing_rules.specs.TypingOrder as spec;
 ghost use Rattle.typing_rules.specs.TypingNames as names;
 ghost use Rattle.plan_types.specs.Checks.{Meets, Nests, below};
 
-use plan_equality::Same;
-use plan_copies::Copied;
 use crate::checker::Checker;
 use crate::names::{earlier, fun_of};
 use crate::settle::{items_of, list_of, settled};
 use crate::state::{Scope, State};
 use plan_base::{Expr, Exprs, Name, NoMemory, Param, Place, Primitive, Program, Ty, Tys};
-use typing_rules::{TypeFault, place_of, prim_of, service_of};
+use plan_copies::Copied;
+use plan_equality::Same;
 use plan_items::{Boxed, Items};
 use std::alloc::Global;
+use typing_rules::{TypeFault, place_of, prim_of, service_of};
 
 /// The types of parameters.
 fn param_types(alloc: Global, params: &[Param]) -> Result<Tys, NoMemory>

@@ -9,9 +9,9 @@ ghost use Rattle.plan_types.specs.Checks.{Meets, Nests, below};
 use crate::settle::want_at;
 use crate::state::{Scope, State};
 use plan_base::{Clause, Clauses, Expr, Exprs, Name, NoMemory, Ty, Tys};
-use typing_rules::TypeFault;
 use plan_items::{Boxed, Items};
 use std::alloc::Global;
+use typing_rules::TypeFault;
 
 /// The function that checks expressions, and the depth to which it does.
 #[derive(Clone, Copy)]

@@ -6,15 +6,15 @@ ghost use Rattle.typing_rules.specs.TypingNames.{binds};
 ghost use Rattle.typing_rules.specs.TypingOrder as spec;
 ghost use Rattle.plan_types.specs.Checks.{Meets, Nests, below};
 
-use plan_copies::Copied;
 use crate::checker::Checker;
 use crate::names::any_unknown;
 use crate::settle::{part_in, parts_of, settled, shallow};
 use crate::state::{Scope, State};
 use plan_base::{Clauses, Expr, Exprs, Name, NoMemory, Param, Place, Ty};
-use typing_rules::TypeFault;
+use plan_copies::Copied;
 use plan_items::Boxed;
 use std::alloc::Global;
+use typing_rules::TypeFault;
 
 impl<
     F: Fn(

@@ -9,8 +9,8 @@ use crate::checker::Checker;
 use crate::settle::{is_joined, is_ordered, items_of, list_of, settled, shallow};
 use crate::state::{Scope, State};
 use plan_base::{Expr, Op, Place, Ty};
-use typing_rules::TypeFault;
 use std::alloc::Global;
+use typing_rules::TypeFault;
 
 impl<
     F: Fn(

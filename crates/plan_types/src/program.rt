@@ -6,16 +6,15 @@ ghost use Rattle.typing_rules.specs.TypingNames as names;
 ghost use Rattle.typing_rules.specs.TypingOrder as spec;
 ghost use Rattle.plan_types.specs.Checks.{Gives};
 
-use plan_copies::Copied;
 use crate::body::checked;
 use crate::names::{has_name, is_built_in};
 use crate::state::{Scope, State};
 use plan_base::{Expr, Fun, Funs, Name, Names, NoMemory, Param, Params, Place, Program, Svc, Ty};
-use plan_copies::{copy_names, copy_params, copy_svcs};
-use plan_sizes::code_size;
-use typing_rules::{TypeFault, prim_of};
+use plan_copies::{Copied, copy_names, copy_params, copy_svcs};
 use plan_items::Items;
+use plan_sizes::code_size;
 use std::alloc::Global;
+use typing_rules::{TypeFault, prim_of};
 
 /// The depth of expressions that a well-formed program keeps.
 const MAX_DEPTH: usize = 64;

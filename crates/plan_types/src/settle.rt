@@ -6,13 +6,13 @@ ghost use Rattle.typing_rules.specs.TypingOrder as spec;
 ghost use Rattle.typing_rules.specs.TypingNames as names;
 ghost use Rattle.plan_types.specs.Checks.{Meets};
 
-use plan_sizes::Deep;
-use plan_equality::Same;
-use plan_copies::Copied;
 use plan_base::{Expr, NoMemory, Place, Primitive, Ty, Tys};
-use typing_rules::TypeFault;
+use plan_copies::Copied;
+use plan_equality::Same;
 use plan_items::Boxed;
+use plan_sizes::Deep;
 use std::alloc::Global;
+use typing_rules::TypeFault;
 
 /// The refusal of an expression, which is let go.
 fn refused(_e: Expr, fault: TypeFault) -> Result<(Expr, Ty), TypeFault>

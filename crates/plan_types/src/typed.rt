@@ -10,10 +10,10 @@ ghost use Rattle.plan_types.specs.Kept.{IsChecked};
 
 use crate::program::annotated;
 use plan_base::{Draft, NoMemory, Program};
-use typing_rules::TypeFault;
 use plan_items::Shared;
 use std::alloc::Global;
 use std::marker::Model;
+use typing_rules::TypeFault;
 
 /// A program that is typed, which contracts see as that program.
 #[derive(Drop)]

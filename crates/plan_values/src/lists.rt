@@ -4,13 +4,12 @@ ghost use Rattle.plan_base.specs.declared.tree.Value.TheVariants as value;
 ghost use Rattle.value_rules.specs.Rules as rules;
 ghost use Rattle.plan_values.specs.Answers.{Answers, AnswersUnweighed};
 
-use plan_copies::Copied;
 use crate::PrimFault;
 use crate::raise::{bad_index, empty, too_large};
 use plan_base::{Bytes, NoMemory, Text, Ty, Value, Values};
-use plan_copies::copy_values;
-use plan_sizes::weight;
+use plan_copies::{Copied, copy_values};
 use plan_items::{Boxed, Items};
+use plan_sizes::weight;
 use std::alloc::{AllocError, Global};
 
 /// The value, or `TooLarge` where it weighs more than 16,384 bytes.

@@ -8,12 +8,12 @@ ghost use Rattle.typing_rules.specs.Typing.{HasType};
 ghost use Rattle.value_rules.specs.Typed.{OperatorTakes};
 ghost use Rattle.plan_values.specs.Answers.{Answers, IsFit};
 
-use plan_equality::Same;
 use crate::PrimFault;
 use crate::lists::{joined, put_first};
 use crate::numbers::{difference, product, quotient, remainder, sum};
 use crate::order::before;
 use plan_base::{Op, Value};
+use plan_equality::Same;
 use std::alloc::Global;
 
 /// The value or the exception of `a op b`, or `Unfit` where the operator doesn't take such operands: never where they have

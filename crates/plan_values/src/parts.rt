@@ -9,9 +9,9 @@ ghost use Rattle.typing_rules.specs.Typing.{HasType};
 ghost use Rattle.typing_rules.specs.TypingNames.{part_of};
 ghost use Rattle.plan_values.specs.Answers.{Answers, IsFit};
 
-use plan_copies::Copied;
 use crate::PrimFault;
 use plan_base::{Value, Values};
+use plan_copies::Copied;
 use std::alloc::Global;
 
 /// A copy of the part of a tuple with number `i`, from 1, or `Unfit` where `v` has no such part: never where its type has one.

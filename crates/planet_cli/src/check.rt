@@ -6,13 +6,12 @@ ghost use Rattle.typing_rules.specs.Typing.{Typed};
 ghost use Rattle.planet_cli.specs.Refusals.{IfStoppedRefused};
 ghost use Rattle.planet_cli.specs.Checks.{program_limit, program_refusal, program_output, sizes_text};
 
-use plan_sizes::Counted;
 use crate::command::{FileCommand, Stop};
 use crate::memory::stop_at;
 use crate::status::Refusal;
 use node_io::{Sink, put_all};
 use plan_base::Program;
-use plan_sizes::code_size;
+use plan_sizes::{Counted, code_size};
 use program_text::{TextFault, place_of, read_program};
 use std::alloc::{AllocError, Global};
 

@@ -6,8 +6,7 @@ ghost use Rattle.planet_cli.specs.Refusals.{IsOutputCause};
 
 use crate::replay::services_of;
 use crate::status::Cause;
-use grow_run::grow;
-use grow_run::ring;
+use grow_run::{grow, ring};
 use net_world::RunFault;
 use node_io::Sink;
 use std::alloc::Global;

@@ -7,10 +7,10 @@ use chunk_spelling::SpellFault;
 use chunk_types::Ill;
 use line_files::LineReason;
 use packet_frame::FrameFault;
-use typing_rules::TypeFault;
 use plan_grammar::ParseFault;
 use plan_lexer::LexFault;
 use program_text::TextFault;
+use typing_rules::TypeFault;
 
 fn text_memory(fault: &TextFault) -> bool
     ensures { result ≡ text_memory fault.now }

@@ -11,13 +11,13 @@ ghost use Rattle.program_text.specs.Texts.{byte_at, byte_of, placed, typed_of, p
 
 use crate::fault::TextFault;
 use plan_base::{Draft, NoMemory, Place, Places, Values};
-use typing_rules::TypeFault;
 use plan_grammar::ParseFault;
 use plan_items::Items;
 use plan_lexer::{LexFault, Tokens, lex};
 use plan_parser::{ValueFault, parse, parse_args};
 use plan_types::{Checked, annotate};
 use std::alloc::Global;
+use typing_rules::TypeFault;
 
 /// The byte at which a declaration or an expression begins.
 fn byte_at(decls: &Places, nodes: &Places, place: Place) -> u32

@@ -7,8 +7,6 @@ ghost use Rattle.resident_tables.specs.Layers.{over, IsOver, room_of};
 ghost use Rattle.resident_tables.specs.PartRows.{part_row};
 ghost use Rattle.resident_tables.specs.Tables.{row_of, IsPut, IsGot};
 
-use plan_equality::Same;
-use plan_copies::Copied;
 use crate::counts::{Counts, bytes_after};
 use crate::fault::TableFault;
 use crate::moves::{
@@ -20,6 +18,8 @@ use crate::parts::Parts;
 use item_keys::HasKey;
 use keyed_list::{KeyedList, Probe};
 use plan_base::{NoMemory, Text, Ty, Value};
+use plan_copies::Copied;
+use plan_equality::Same;
 use std::alloc::Global;
 use std::marker::Model;
 use table_rows::Row;

@@ -2,10 +2,10 @@ ghost use Rattle.std.specs.Prelude.{◌≡◌, ◌↔◌, Some, IfOk, IsTrue, Ma
 ghost use Rattle.plan_base.specs.declared.tree.Ty.{Ty as AType};
 ghost use Rattle.service_api.specs.Schemes as spec;
 
-use plan_equality::Same;
-use plan_copies::Copied;
 use crate::scheme::{Scheme, SchemeTy};
 use plan_base::{NoMemory, Svc, Ty};
+use plan_copies::Copied;
+use plan_equality::Same;
 use std::alloc::Global;
 
 /// What a type of the row stands for where `Any` is `a`.

@@ -3,10 +3,10 @@ ghost use Rattle.service_api.specs.declared.ctx.Ctx.{Ctx as ACtx};
 ghost use Rattle.service_meaning.specs.Answers as spec;
 ghost use Rattle.service_registry.specs.Meets.{Tells};
 
-use plan_copies::Copied;
 use crate::answers::{bad_index, refused};
 use crate::arguments::as_int;
 use plan_base::{NoMemory, Value};
+use plan_copies::Copied;
 use service_api::{Answer, Note};
 use service_meaning::Service;
 use std::alloc::Global;

@@ -3,9 +3,9 @@ ghost use Rattle.service_meaning.specs.Beginning.{present_without, opening_stand
 ghost use Rattle.service_registry.specs.Held.{standing};
 ghost use Rattle.service_registry.specs.Laws.{registry_good, registry_refuses};
 
+use crate::installed_packages::InstalledPackages;
 use crate::offered::offered;
 use crate::serving::served;
-use crate::installed_packages::InstalledPackages;
 use crate::types::type_of;
 use plan_base::{Name, NoMemory, Svc, Values};
 use resident_tables::{Overlay, Tables};

@@ -10,10 +10,10 @@ ghost use Rattle.service_registry.specs.Packages.{present_of};
 
 use crate::answers::refused;
 use crate::host::{deliver, print};
+use crate::installed_packages::InstalledPackages;
 use crate::net::{get_dist, get_neighbors, get_rb, get_source, next_hop, this_host, this_host_is};
 use crate::offered::offered;
 use crate::resident::{generate_key, get, put, remove};
-use crate::installed_packages::InstalledPackages;
 use crate::types::type_of;
 use plan_base::{NoMemory, Svc, Ty, Value};
 use resident_tables::{Overlay, Tables};

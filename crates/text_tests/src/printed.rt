@@ -1,4 +1,7 @@
-use plan_base::{Bytes, Expr, Fun, Funs, Name, Names, Op, Param, Params, Program, Svcs, Text, Ty, Tys, Value, Values};
+use plan_base::{
+    Bytes, Expr, Fun, Funs, Name, Names, Op, Param, Params, Program, Svcs, Text, Ty, Tys, Value,
+    Values,
+};
 use plan_items::Boxed;
 use plan_printer::{print_program, print_type, print_value};
 use std::alloc::Global;

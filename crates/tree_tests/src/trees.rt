@@ -1,10 +1,13 @@
-use plan_sizes::Counted;
-use plan_sizes::Deep;
-use plan_equality::Same;
+use plan_base::{
+    Bytes, Chunk, Clause, Dev, Draft, Exn, Expr, Family, Fun, Funs, Host, Limit, Name, Op, Packet,
+    Param, Params, Program, Svc, Text, Ty, Tys, Value, Values,
+};
 use plan_copies::Copied;
-use plan_base::{Bytes, Chunk, Clause, Dev, Draft, Exn, Expr, Family, Fun, Funs, Host, Limit, Name, Op, Packet, Param, Params, Program, Svc, Text, Ty, Tys, Value, Values};
-use plan_sizes::{chunk_nesting, chunk_weight, code_size, nesting, type_size, weight};
+use plan_equality::Same;
 use plan_items::{Boxed, Items, Shared};
+use plan_sizes::{
+    Counted, Deep, chunk_nesting, chunk_weight, code_size, nesting, type_size, weight,
+};
 use std::alloc::Global;
 use std::test::Fail;
 

@@ -1,9 +1,9 @@
 use plan_base::{Dev, Expr, Exprs, Fun, Funs, Host, Name, Op, Param, Params, Place, Program, Ty};
-use typing_rules::TypeFault;
 use plan_items::{Boxed, Items};
 use plan_types::refused;
 use std::alloc::Global;
 use std::test::Fail;
+use typing_rules::TypeFault;
 
 /// What the checking answers, without the types of a mismatch.
 #[derive(Clone, Copy, PartialEq)]

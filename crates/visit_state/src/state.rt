@@ -15,9 +15,9 @@ use crate::raised::{no_bound, no_route, no_service, not_neighbour, too_large};
 use crate::weighing::{Weighing, plain_weight};
 use chunk_types::{CheckedChunk, CheckedPacket};
 use plan_base::{Chunk, Dev, Family, Host, Name, NoMemory, Value};
-use plan_sizes::{nesting, weight};
 use plan_items::Items;
 use plan_meaning::{Outbox, Outcome, Stop, Visit};
+use plan_sizes::{nesting, weight};
 use remote_calls::{
     NoBound, Purse, SendFault, Way, default_route, neighbour_way, remote_way, send,
 };
