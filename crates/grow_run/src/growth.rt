@@ -14,9 +14,8 @@ ghost use Rattle.grow_run.specs.Events.{grown_history};
 ghost use Rattle.grow_run.specs.Pings as spec;
 
 use crate::events::next_event;
+use crate::{Summary, begin, put_summary, ring, totals};
 use bound_ledger::Ledger;
-use crate::begin;
-use crate::{Summary, put_summary, ring, totals};
 use net_world::World;
 use network_plan::WorldEvent;
 use plan_base::{Bytes, NoMemory};

@@ -1,18 +1,19 @@
 -- The opening of a serving node, and the whole of its serving.
-use Rattle.std.proofs.Common.{◌≡◌, ◌≤◌, ◌∷◌, ◌++◌, ℕ, take, inl, inr, IsTrue, List, [], Result, Ok, Err, codes, refl, sym, ap, subst, ◌∙◌, arith}
+use Rattle.std.proofs.Common.{◌≡◌, ◌≤◌, ◌⊎◌, ◌∷◌, ◌++◌, ℕ, take, inl, inr, IsTrue, List, [], Result, Ok, Err, IsErrOf, codes, refl, sym, ap, subst, ◌∙◌, arith}
 use Rattle.network_plan.specs.declared.serve.ServeConfig.{ServeConfig}
 use Rattle.node_files.specs.LogTexts.{head_text}
+use Rattle.node_io.specs.Causes.{HasRisen}
 use Rattle.node_io.specs.Clocks.{ClockState}
-use Rattle.node_io.specs.FileMaps.{ChangesOnly, untouched, begun, MayName}
+use Rattle.node_io.specs.FileMaps.{ChangesOnly, untouched, begun, MayName, Names}
 use Rattle.node_io.specs.FileStates.{FilesState, OnlyWrites, BeginsWriting, Adds, FailsAdding}
 use Rattle.node_io.specs.Links.{LinkState}
 use Rattle.node_io.specs.Sinks.{SinkState, Writes, FailsIn}
 use Rattle.node_io.proofs.FileWrites.{only_same, only_both}
 use Rattle.node_model.specs.State.{NodeState}
 use Rattle.service_api.specs.Services.{ServiceState}
-use Rattle.serve_model.specs.Runs.{opened, peers_of}
+use Rattle.serve_model.specs.Runs.{opened}
 use Rattle.node_serve.specs.Stays.{StandsFor}
-use Rattle.node_serve.specs.Desks.{Desk, desk, Serving, desk_of, with_clock, seen_at, OthersStay, OnlyServes, KeepsDesk}
+use Rattle.node_serve.specs.Desks.{Desk, desk, Serving, desk_of, with_clock, seen_at, OthersStay, OnlyServes, KeepsDesk, Faults}
 use Rattle.node_serve.specs.Served.{IsBound}
 use Rattle.node_serve.specs.Openings.{BindsNode, MayBindNode, MakesLog, BeginsLog, NoneUnbound, Opens}
 use Rattle.node_serve.specs.Serves.{Finishes, Serves}
@@ -254,3 +255,16 @@ serves_opened stands cfg node n server a b clock c result st u f = record {
   unbound = λ none. absurd (some_peers cfg (sym u.ready.bound ∙ sym f.keeps.bound ∙ none));
   runs = λ seen told. f.ends (seen_on a b u.only seen) told node a st (u.begun seen);
 }
+
+-- ---- what follows of it
+
+-- the log by its name
+pub names_log : {T E : Type 0} (cfg : ServeConfig) (old new : FilesState) (result : Result T E) → MakesLog cfg old new result → IsTrue old.observable → Names old.made new.made cfg.log result
+names_log cfg old new (Ok x) m seen = m.1 seen
+names_log cfg old new (Err e) m seen = m.0
+
+pub link_fault : {T : Type 0} (old new : Desk) (result : Result T ServeFault) → IsErrOf result LinkFault → Faults old new result → HasRisen old.link.faults new.link.faults
+link_fault {T = T} old new result is f = subst (Faults {T = T} old new) is f
+
+pub write_fault : {T : Type 0} (old new : Desk) (result : Result T ServeFault) → IsErrOf result WriteFault → Faults old new result → HasRisen old.files.write_faults new.files.write_faults ⊎ HasRisen old.out.faults new.out.faults
+write_fault {T = T} old new result is f = subst (Faults {T = T} old new) is f

@@ -1,5 +1,5 @@
 -- Turns: what is heard in them, and how they follow one another.
-use Rattle.std.proofs.Common.{◌≡◌, ℕ, ◌+◌, ◌<◌, ◌≤◌, ◌⊎◌, inl, inr, false, IsTrue, List, Option, Some, None, Result, Ok, Err, drop, refl, sym, ap, subst, ◌∙◌, arith}
+use Rattle.std.proofs.Common.{◌≡◌, ℕ, ◌+◌, ◌<◌, inr, false, IsTrue, List, Option, Some, None, Result, Ok, Err, drop, refl, sym, subst, ◌∙◌, arith}
 use Rattle.network_plan.specs.declared.serve.ServeConfig.{ServeConfig}
 use Rattle.service_api.specs.Services.{ServiceState}
 use Rattle.node_io.specs.Causes.{HasRisen}
@@ -8,19 +8,19 @@ use Rattle.node_io.specs.Links.{Heard, LinkState, Hears, next_heard}
 use Rattle.node_io.specs.declared.link.Got.{Got}
 use Rattle.node_io.specs.Sinks.{SinkState}
 use Rattle.node_io.proofs.FileWrites.{only_same}
-use Rattle.serve_model.specs.Runs.{Running, Action, hear, turn, turns, time_at, peers_of, release, then_do, holding, begin_turn, end_turn}
-use Rattle.serve_model.proofs.Going.{hear_grows, end_turn_grows, grows_then}
-use Rattle.node_serve.specs.Shown.{Seen, Shows, UsesOne, UsesUpTo}
+use Rattle.serve_model.specs.Runs.{Running, Action, hear, turn, turns, time_at, peers_of, release, then_do, holding}
+use Rattle.serve_model.proofs.Going.{hear_grows}
+use Rattle.node_serve.specs.Shown.{Seen, Shows, UsesOne}
 use Rattle.node_serve.specs.Stays.{StandsFor}
-use Rattle.node_serve.specs.Desks.{Desk, desk, Serving, desk_of, seen_at, IsSeen, KeepsDesk}
+use Rattle.node_serve.specs.Desks.{Desk, desk, Serving, desk_of, seen_at, KeepsDesk}
 use Rattle.node_serve.specs.Goes.{Goes, GoesTurn, GoesTurns}
 use Rattle.node_serve.specs.declared.server.Server.{Server}
 use Rattle.node_serve.specs.declared.fault.ServeFault.{ServeFault}
 use Rattle.node_serve.specs.declared.fault.ServeFault.TheVariants.{LinkFault}
 use Rattle.node_serve.proofs.Following.{reached_same, stopped_same, leaves_as, leaves_released}
 use Rattle.node_serve.proofs.Looping.{turns_up}
-use Rattle.node_serve.proofs.MakeLaws.{hear_stay, hear_as, stands_holding, shows_held, turns_none, turns_next, turn_as, time_next, time_none, used_more, used_next}
-use Rattle.node_serve.proofs.Joining.{others_same, keeps_same, keeps_both, seen_on, seen_back, faults_from, goes_same, goes_as, goes_then, goes_stopped, goes_next, goes_no_more}
+use Rattle.node_serve.proofs.MakeLaws.{hear_stay, hear_as, stands_holding, shows_held, turns_none, turns_next, turn_as, time_next, used_more, used_next}
+use Rattle.node_serve.proofs.Joining.{others_same, keeps_same, keeps_both, seen_on, faults_from, goes_same, goes_as, goes_next, goes_no_more}
 
 -- ---- what is heard
 

@@ -1,5 +1,5 @@
 -- Which run a serving node has made so far.
-use Rattle.std.specs.Prelude.{◌≡◌, ℕ, false, length}
+use Rattle.std.specs.Prelude.{◌≡◌, false, length}
 use Rattle.network_plan.specs.declared.event.Event.{Event}
 use Rattle.network_plan.specs.declared.serve.ServeConfig.{ServeConfig}
 use Rattle.service_api.specs.Services.{ServiceState}
