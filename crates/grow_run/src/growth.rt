@@ -40,7 +40,7 @@ impl<S: Services + Drop> Growth<S> {
     pub fn begin(alloc: Global, seed: u64, services: Items<S>) -> Result<Growth<S>, NoMemory>
         requires services { map S.stands services ≡ map opening_services grow.ring.hosts }
         ensures world { IfOk result (λ g. WorldStands S.stands g.world (opening grow.ring)) }
-        ensures begun { IfOk result (λ g. (g.words ≡ begun seed) × (g.summary ≡ summary_of [])) }
+        ensures fresh { IfOk result (λ g. (g.words ≡ begun seed) × (g.summary ≡ summary_of [])) }
         ensures ledger { IfOk result (λ g. Stands [] g.ledger) }
     {
         let topology = ring(alloc)?;
