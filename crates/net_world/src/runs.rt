@@ -36,26 +36,6 @@ pub enum RunFault {
     NoMemory,
 }
 
-impl From<Failed> for RunFault {
-    ghost use Rattle.net_world.specs.declared.runs.RunFault.TheVariants.{WriteFault};
-
-    ghost from_gives = { λ _ e. e ≡ WriteFault };
-
-    fn from(_failed: Failed) -> RunFault {
-        RunFault::WriteFault
-    }
-}
-
-impl From<NoMemory> for RunFault {
-    ghost use Rattle.net_world.specs.declared.runs.RunFault.TheVariants.{NoMemory};
-
-    ghost from_gives = { λ _ e. e ≡ NoMemory };
-
-    fn from(_refused: NoMemory) -> RunFault {
-        RunFault::NoMemory
-    }
-}
-
 /// Makes an event, counts its lines, and adds their text.
 fn make_event<S: Services>(
     alloc: Global,
