@@ -3,10 +3,11 @@
 //! Each law stands on a function without code, so that contracts of other crates can name it.
 #![tactic(auto)]
 
-ghost use Rattle.std.specs.Prelude.{◌≡◌, ◌↔◌, ℕ, List, Ok, Err, ◌≤◌, ◌<◌};
+ghost use Rattle.std.specs.Prelude.{◌≡◌, ◌≢◌, ◌↔◌, ℕ, List, Ok, Err, ◌≤◌, ◌<◌};
 ghost use Rattle.plan_base.specs.declared.tree.Draft.{Draft};
 ghost use Rattle.plan_lexer.specs.declared.token.Token.{Token};
 ghost use Rattle.plan_grammar.specs.declared.fault.ParseFault.{ParseFault};
+ghost use Rattle.plan_grammar.specs.declared.fault.ParseFault.TheVariants as fault;
 ghost use Rattle.plan_grammar.specs.declared.node.Node.{Node};
 ghost use Rattle.plan_grammar.specs.Ahead.{Front};
 ghost use Rattle.grammar_laws.specs.Grammar.{ExprAt};
@@ -49,6 +50,11 @@ pub fn one_answer()
 pub fn what_is_judged()
     ensures body { (f g : Front) (n : Node) → ExprAt 160 f n g → EndsExpr g → IsJudgedBy f n }
     ensures some { (f : Front) → IsSized f }
+{}
+
+/// No first refusal of a program is `NoMemory`.
+pub fn refusals_hold_no_memory()
+    ensures { (tokens : List Token) (end : ℕ) (e : ParseFault) → program_of tokens end ≡ Err e → e ≢ fault.NoMemory }
 {}
 
 /// What is read as an expression is the tree that is written, or is only said to be deeper than 64 where the written tree

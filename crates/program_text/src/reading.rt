@@ -129,8 +129,7 @@ pub fn read_args(alloc: Global, text: &[u8]) -> Result<Option<Values>, NoMemory>
 {
     match parse_args(alloc, text) {
         Ok(args) => Ok(Some(args)),
-        Err(ValueFault::Lex(LexFault::NoMemory)) | Err(ValueFault::Parse(ParseFault::NoMemory)) =>
-            Err(NoMemory),
+        Err(ValueFault::NoMemory) => Err(NoMemory),
         Err(_) => Ok(None),
     }
 }

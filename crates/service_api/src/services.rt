@@ -26,7 +26,7 @@ pub trait Services {
     /// limits; the context has at most 8 neighbours.
     ///
     /// Whatever it answers, the offer and the rows at `begin` stay, and the `begin` is still open. After
-    /// `NoMemory` no more is said of the rows, and the caller abandons.
+    /// `NoMemory` the rows are as before.
     fn call(
         &mut self,
         alloc: Global,
@@ -40,7 +40,8 @@ pub trait Services {
         ensures ok { IfOk result (λ a. Answers (stands self.old) svc.now args.now ctx.entry.now a (stands self.new)) }
         ensures offer { (stands self.new).offer ≡ (stands self.old).offer }
         ensures begun { (stands self.new).begun ≡ (stands self.old).begun }
-        ensures still { IsSome (stands self.new).begun };
+        ensures still { IsSome (stands self.new).begun }
+        ensures stays { OnErr result ((stands self.new).rows ≡ (stands self.old).rows) };
 
     /// Opens a `begin`. Condition: none is open. The rows are those of a table within its limits, each of the
     /// type at which it was kept, whatever it answers.

@@ -1,5 +1,5 @@
 ghost use Rattle.std.specs.Prelude.{◌≡◌};
-ghost use Rattle.service_meaning.specs.Beginning.{is_package, is_missing, present_without};
+ghost use Rattle.service_meaning.specs.Beginning.{is_package, is_missing, one_less, present_without};
 ghost use Rattle.service_meaning.specs.Offered.{is_there};
 ghost use Rattle.service_registry.specs.Packages.{present_of};
 
@@ -22,6 +22,17 @@ impl InstalledPackages {
             net: !is_missing(missing, PackageName::Net),
             resident: !is_missing(missing, PackageName::Resident),
             host: !is_missing(missing, PackageName::Host),
+        }
+    }
+
+    /// The same but for one package.
+    pub fn one_less(self, missing: PackageName) -> InstalledPackages
+        ensures { present_of result ≡ one_less (present_of self) missing }
+    {
+        InstalledPackages {
+            net: self.net && !is_package(PackageName::Net, missing),
+            resident: self.resident && !is_package(PackageName::Resident, missing),
+            host: self.host && !is_package(PackageName::Host, missing),
         }
     }
 

@@ -1,5 +1,5 @@
-ghost use Rattle.std.specs.Prelude.{◌≡◌};
-ghost use Rattle.service_meaning.specs.Beginning.{present_without, opening_standing};
+ghost use Rattle.std.specs.Prelude.{◌≡◌, None};
+ghost use Rattle.service_meaning.specs.Beginning.{one_less, present_without, opening_standing};
 ghost use Rattle.service_registry.specs.Held.{standing};
 ghost use Rattle.service_registry.specs.Laws.{registry_good, registry_refuses};
 
@@ -51,6 +51,25 @@ impl Registry {
             tables: Tables::new(alloc),
             changes: None,
             is_ready: false,
+        }
+    }
+
+    /// The same without that package: its services are then absent. Condition: no `begin` is open. Takes no memory.
+    pub fn without(self, missing: PackageName) -> Registry
+        requires { self.begun ≡ None }
+        ensures { result ≡ record self { there = one_less self.there missing } }
+    {
+        let Registry {
+            there,
+            tables,
+            changes,
+            is_ready,
+        } = self;
+        Registry {
+            there: there.one_less(missing),
+            tables,
+            changes,
+            is_ready,
         }
     }
 }

@@ -4,3 +4,4 @@ pub mod Works
 pub mod TypesWork
 pub mod ValuesWork
 pub mod Whole
+pub mod Own

@@ -1,11 +1,13 @@
 -- The first refusal of a value and of arguments, of their tokens and of a whole text.
-use Rattle.std.specs.Prelude.{ℕ, List, [], ◌∷◌, length, ◌⊎◌}
+use Rattle.std.specs.Prelude.{◌≢◌, ℕ, List, [], ◌∷◌, length, ◌⊎◌}
 use Rattle.read_laws.specs.Agenda.{FirstFault}
 use Rattle.plan_base.specs.declared.tree.Value.{Value}
 use Rattle.plan_lexer.specs.Scanning.{Toks, Refuses}
 use Rattle.plan_lexer.specs.declared.token.Token.{Token}
 use Rattle.plan_lexer.specs.declared.token.Symbol.TheVariants as symbols
+use Rattle.plan_lexer.specs.declared.fault.LexFault.TheVariants as lexing
 use Rattle.plan_grammar.specs.declared.fault.ParseFault.{ParseFault}
+use Rattle.plan_grammar.specs.declared.fault.ParseFault.TheVariants as parsing
 use Rattle.plan_parser.specs.declared.value_fault.ValueFault.{ValueFault}
 use Rattle.plan_parser.specs.declared.value_fault.ValueFault.TheVariants as faults
 use Rattle.value_grammar.specs.Grammar.{IsValue, AreArgs}
@@ -30,3 +32,9 @@ AreArgsOrRefused tokens end = ((vs : List Value) × AreArgs tokens end vs) ⊎ (
 pub data FirstTextRefusal (first : ParseFault → List Token → ℕ → Type 0) (text : List ℕ) : ValueFault → Type 0 where
   of_tokens : (e : _) → Refuses e 0 text → FirstTextRefusal first text (faults.Lex e)
   of_reading : (tokens : List Token) (e : ParseFault) → Toks 0 text tokens → first e tokens (length text) → FirstTextRefusal first text (faults.Parse e)
+
+-- a fault that is not `NoMemory`, and holds none
+abbrev pub HoldsNoMemory : ValueFault → Type 0
+HoldsNoMemory (faults.Lex e) = e ≢ lexing.NoMemory
+HoldsNoMemory (faults.Parse e) = e ≢ parsing.NoMemory
+HoldsNoMemory faults.NoMemory = ⊥

@@ -11,7 +11,7 @@ ghost use Rattle.value_grammar.specs.Grammar.{IsValue, AreArgs};
 ghost use Rattle.plan_grammar.specs.declared.fault.ParseFault.{ParseFault};
 ghost use Rattle.plan_parser.specs.declared.value_fault.ValueFault.{ValueFault};
 ghost use Rattle.plan_parser.specs.ReadTexts.{Fails};
-ghost use Rattle.value_grammar.specs.Refusals.{FirstValueRefusal, FirstArgsRefusal, IsValueOrRefused, AreArgsOrRefused, FirstTextRefusal};
+ghost use Rattle.value_grammar.specs.Refusals.{FirstValueRefusal, FirstArgsRefusal, IsValueOrRefused, AreArgsOrRefused, FirstTextRefusal, HoldsNoMemory};
 
 /// What is read as a value or as arguments is such by the grammar, and what is such by the grammar is read.
 pub fn what_is_read_is_written()
@@ -48,4 +48,10 @@ pub fn texts_are_refused_first()
     ensures args { (text : List ℕ) (e : ValueFault) → Fails args_of text e ↔ FirstTextRefusal FirstArgsRefusal text e }
     ensures one_value { (text : List ℕ) (d e : ValueFault) → FirstTextRefusal FirstValueRefusal text d → FirstTextRefusal FirstValueRefusal text e → d ≡ e }
     ensures one_args { (text : List ℕ) (d e : ValueFault) → FirstTextRefusal FirstArgsRefusal text d → FirstTextRefusal FirstArgsRefusal text e → d ≡ e }
+{}
+
+/// No first refusal of a value, or of arguments, is or holds `NoMemory`.
+pub fn refusals_hold_no_memory()
+    ensures values { (text : List ℕ) (e : ValueFault) → Fails value_of text e → HoldsNoMemory e }
+    ensures args { (text : List ℕ) (e : ValueFault) → Fails args_of text e → HoldsNoMemory e }
 {}
