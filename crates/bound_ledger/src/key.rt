@@ -4,7 +4,7 @@ ghost use Rattle.bound_ledger.specs.Keys.{key_of, family_of};
 use plan_base::{Family, Host};
 
 /// A family as the key of its row.
-#[derive(Debug, Clone, Copy, PartialEq, Eq, Hash)]
+#[derive(Clone, Copy, PartialEq, Eq, Hash)]
 pub struct FamilyKey {
     /// The number of the host at which the family was injected.
     pub host: u32,

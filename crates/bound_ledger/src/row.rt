@@ -2,7 +2,7 @@ ghost use Rattle.std.specs.Prelude.{◌≡◌, ◌+◌, ◌≤◌, ◌<◌, ◌^
 ghost use Rattle.bound_ledger.specs.Counts as spec;
 
 /// What a family was granted, what it paid, what it still has and what it left.
-#[derive(Debug, Clone, Copy, PartialEq, Eq)]
+#[derive(Clone, Copy, PartialEq, Eq)]
 pub struct Row {
     /// The bounds of its injections, and of its packets from outside.
     pub granted: u64,

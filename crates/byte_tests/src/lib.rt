@@ -1,15 +1,9 @@
-//! Bytes of chunks and frames, read, written and told.
+//! Bytes of chunks and frames, read and written: what no command of the program shows.
 #![tactic(auto)]
 
 #[cfg(test)]
 mod frames;
 #[cfg(test)]
-mod limits;
-#[cfg(test)]
 mod spelled;
 #[cfg(test)]
-mod told;
-#[cfg(test)]
 mod wire;
-#[cfg(test)]
-mod written;

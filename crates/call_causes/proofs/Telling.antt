@@ -1,6 +1,6 @@
 -- Notes that are written, and what they leave.
 use Rattle.std.proofs.Common.{◌≡◌, List, ℕ, ◌⊎◌, inl, inr, refl, subst}
-use Rattle.node_io.specs.Causes.{Rose}
+use Rattle.node_io.specs.Causes.{HasRisen}
 use Rattle.node_io.specs.Sinks.{SinkState, Writes, FailsIn}
 use Rattle.call_causes.specs.Causes.{Gives}
 use Rattle.call_causes.specs.Notes.{note_text, Notes, told, no_memory, failed, Pushed, written, cut}
@@ -18,13 +18,13 @@ pub notes_found : (found given : Cause) (a b : SinkState) → Pushed found a b g
 notes_found found given a b (written w) = told w
 notes_found found given a b (cut f) = failed found (inl refl) f
 
--- that of want of memory
+-- that of `NoMemory`
 pub notes_poor : (found given : Cause) (a b : SinkState) → Pushed NoMemory a b given → Notes found a b given
 notes_poor found given a b (written w) = no_memory w
 notes_poor found given a b (cut f) = failed NoMemory (inr refl) f
 
--- what was found is given, or want of memory, or a fault of writing where the notes failed
-pub notes_give : (found given : Cause) (a b : SinkState) → Notes found a b given → Gives found given (Rose a.faults b.faults)
+-- what was found is given, or `NoMemory`, or a fault of writing where the notes failed
+pub notes_give : (found given : Cause) (a b : SinkState) → Notes found a b given → Gives found given (HasRisen a.faults b.faults)
 notes_give found given a b (told w) = inl refl
 notes_give found given a b (no_memory w) = inr (inl refl)
 notes_give found given a b (failed cause is f) = inr (inr (refl, f.rose))

@@ -1,6 +1,6 @@
 -- Why a call of the product ended: the exit codes, and the counts of faults that causes tell of.
 use Rattle.std.specs.Prelude.{ℕ, ◌≡◌, ◌⊎◌}
-use Rattle.node_io.specs.Causes.{Rose}
+use Rattle.node_io.specs.Causes.{HasRisen}
 use Rattle.node_io.specs.Sinks.{SinkState}
 use Rattle.node_io.specs.Outsides.{Outside}
 use Rattle.call_causes.specs.declared.status.Cause.{Cause}
@@ -22,15 +22,15 @@ code_of (NodesFailed h s) = 8
 -- a fault of writing comes only where the count of the output, of the files or of the notes rose
 abbrev pub WriteRose : Outside → Outside → SinkState → SinkState → Type 0
 WriteRose old new notes_old notes_new =
-    Rose old.out.faults new.out.faults
-    ⊎ (Rose old.files.write_faults new.files.write_faults ⊎ Rose notes_old.faults notes_new.faults)
+    HasRisen old.out.faults new.out.faults
+    ⊎ (HasRisen old.files.write_faults new.files.write_faults ⊎ HasRisen notes_old.faults notes_new.faults)
 
 -- a fault comes only where its count rose in this call
 abbrev pub Explains : Cause → Outside → Outside → SinkState → SinkState → Type 0
-Explains ReadFault old new notes_old notes_new = Rose old.files.read_faults new.files.read_faults
+Explains ReadFault old new notes_old notes_new = HasRisen old.files.read_faults new.files.read_faults
 Explains WriteFault old new notes_old notes_new = WriteRose old new notes_old notes_new
-Explains LinkFault old new notes_old notes_new = Rose old.link.faults new.link.faults
-Explains SpawnFault old new notes_old notes_new = Rose old.children.faults new.children.faults
+Explains LinkFault old new notes_old notes_new = HasRisen old.link.faults new.link.faults
+Explains SpawnFault old new notes_old notes_new = HasRisen old.children.faults new.children.faults
 Explains Done old new notes_old notes_new = Unit {0}
 Explains Usage old new notes_old notes_new = Unit {0}
 Explains (Refused r) old new notes_old notes_new = Unit {0}
@@ -44,6 +44,6 @@ abbrev pub IfRefused : Cause → (Refusal → Type 0) → Type 0
 IfRefused (Refused r) P = P r
 IfRefused cause P = Unit {0}
 
--- the wanted cause is given, or want of memory, or a fault of writing where a note wasn't written
+-- the wanted cause is given, or `NoMemory`, or a fault of writing where a note wasn't written
 abbrev pub Gives : Cause → Cause → Type 0 → Type 0
 Gives wanted given unwritten = (given ≡ wanted) ⊎ ((given ≡ NoMemory) ⊎ ((given ≡ WriteFault) × unwritten))

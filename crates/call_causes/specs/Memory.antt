@@ -1,7 +1,7 @@
--- Refusals that are want of memory, or hold it.
+-- Refusals that are `NoMemory`, or hold it.
 use Rattle.std.specs.Prelude.{◌≡◌, Bool, true, false, if◌then◌else◌}
-use Rattle.plan_base.specs.declared.type_fault.TypeFault.{TypeFault}
-use Rattle.plan_base.specs.declared.type_fault.TypeFault.TheVariants as ill
+use Rattle.typing_rules.specs.declared.type_fault.TypeFault.{TypeFault}
+use Rattle.typing_rules.specs.declared.type_fault.TypeFault.TheVariants as ill
 use Rattle.plan_lexer.specs.declared.fault.LexFault.{LexFault}
 use Rattle.plan_lexer.specs.declared.fault.LexFault.TheVariants as lex
 use Rattle.plan_grammar.specs.declared.fault.ParseFault.{ParseFault}
@@ -61,7 +61,7 @@ frame_memory (framing.IllTyped i) = ill_memory i
 frame_memory framing.NoMemory = true
 frame_memory _ = false
 
--- whether a refusal is want of memory, or holds it
+-- whether a refusal is `NoMemory`, or holds it
 abbrev pub holds_memory : Refusal → Bool
 holds_memory (Line n reason) = reason_memory reason
 holds_memory (At byte fault) = text_memory fault
@@ -73,7 +73,7 @@ holds_memory TooLong = false
 abbrev pub IsOwn : Refusal → Type 0
 IsOwn r = holds_memory r ≡ false
 
--- the cause of a refusal: want of memory where it holds that
+-- the cause of a refusal: `NoMemory` where it holds that
 abbrev pub cause_at : Refusal → Cause
 cause_at r = if holds_memory r then NoMemory else Refused r
 

@@ -5,7 +5,7 @@ use lib.Chars.{codes}
 use Rattle.node_io.specs.Sinks.{SinkState, Writes, FailsIn}
 use Rattle.program_text.specs.declared.fault.TextFault.{TextFault}
 use Rattle.program_text.specs.Reasons as texts
-use Rattle.frame_text.specs.Reasons as frames
+use Rattle.packet_frame.specs.Reasons as frames
 use Rattle.call_causes.specs.declared.status.Cause.{Cause}
 use Rattle.call_causes.specs.declared.status.Cause.TheVariants.{Done, Usage, Refused, ReadFault, WriteFault, LinkFault, SpawnFault, NoMemory, NodesFailed}
 use Rattle.call_causes.specs.declared.status.Refusal.{Refusal}
@@ -54,7 +54,7 @@ note_text SpawnFault = codes "planet: spawn fault\n"
 note_text NoMemory = codes "planet: no memory\n"
 note_text (NodesFailed h s) = codes "planet: node @" ++ (decimal h.0 ++ (codes " failed with " ++ (decimal s ++ codes "\n")))
 
--- the note of what was found was written; or, where there was no memory for it, that of want of memory; or the notes failed in
+-- the note of what was found was written; or, where there was no memory for it, that of `NoMemory`; or the notes failed in
 -- one of these
 pub data Notes (found : Cause) (old new : SinkState) : Cause → Type 0 where
   told : Writes old new (note_text found) → Notes found old new found

@@ -6,10 +6,10 @@ use chunk_spelling::SpellFault;
 use chunk_types::Ill;
 use line_files::{LineFault, LineReason};
 use packet_frame::FrameFault;
-use plan_base::TypeFault;
 use plan_grammar::ParseFault;
 use plan_lexer::LexFault;
 use program_text::TextFault;
+use typing_rules::TypeFault;
 
 fn text_memory(fault: &TextFault) -> bool
     ensures { result ≡ text_memory fault.now }
@@ -43,7 +43,7 @@ fn frame_memory(fault: &FrameFault) -> bool
     }
 }
 
-// Whether a refusal is want of memory, or holds it.
+// Whether a refusal is `NoMemory`, or holds it.
 fn holds_memory(refusal: &Refusal) -> bool
     ensures { result ≡ holds_memory refusal.now }
 {
@@ -56,7 +56,7 @@ fn holds_memory(refusal: &Refusal) -> bool
     }
 }
 
-/// The cause of a refusal: one that is, or holds, want of memory is that.
+/// The cause of a refusal: one that is, or holds, `NoMemory` is that.
 pub fn cause_at(refusal: Refusal) -> Cause
     ensures { result ≡ cause_at refusal }
 {

@@ -17,21 +17,21 @@ use Rattle.plan_base.specs.declared.tree.Fun.{Fun}
 use Rattle.plan_base.specs.declared.tree.Program.{Program}
 use Rattle.plan_base.specs.Sizes.{type_depth, type_depth_level, expr_depth, program_nodes}
 use Rattle.plan_base.specs.WellFormed.{formed_type, formed_type_level, well_formed_type, well_formed_text, has_from_to, names_all_but_last, formed_expr, formed_expr_level, well_formed_expr, well_formed_svc, well_formed_fun, well_formed_program}
-use Rattle.plan_base.specs.Typing.{literal_type, HasTy, HaveTys, ClausesHaveTy}
-use Rattle.plan_base.specs.Typing as y
-use Rattle.plan_base.specs.TypingFills.{Fills}
-use Rattle.plan_base.specs.TypingOrder.{annotated}
+use Rattle.typing_rules.specs.Typing.{literal_type, HasTy, HaveTys, ClausesHaveTy}
+use Rattle.typing_rules.specs.Typing as y
+use Rattle.typing_rules.specs.TypingFills.{Fills}
+use Rattle.typing_rules.specs.TypingOrder.{annotated}
 use Rattle.plan_base.proofs.SizeLaws.{type_depth_out}
 use Rattle.plan_base.proofs.FormLaws.{formed_type_out, formed_expr_out}
 use Rattle.typing_laws.proofs.Programs.{annotated_complete, fills_itself, depths_kept}
 use Rattle.plan_types.specs.Kept.{IsChecked}
 use Rattle.plan_lexer.specs.declared.token.Key.TheVariants as key
-use Rattle.plan_printer.specs.Printed.{program_text}
+use Rattle.printed_forms.specs.Printed.{program_text}
 use Rattle.text_laws.specs.Proper.{AreBytes, base_key, IsProperType, AreProperTypes, IsReadableType, IsProperCatch, IsProper, AreProper, AreProperClauses, AllProper, IsProperSvc, IsProperParam, IsProperFun, IsProperProgram}
 use Rattle.text_laws.specs.Proper as p
 use Rattle.text_laws.proofs.ProgramTokens.{program_lexes}
-use Rattle.program_round_trip.proofs.Within.{within_limits}
-use Rattle.program_round_trip.proofs.Declarations.{program_reads}
+use Rattle.round_trip.proofs.Within.{within_limits}
+use Rattle.round_trip.proofs.Declarations.{program_reads}
 use Rattle.program_text.specs.Texts.{placed, typed_of, program_of, Says}
 use Rattle.program_text.proofs.Readings.{read_by}
 use Rattle.chunk_ranges.specs.Ranges.{catch_ranged, param_ranged, service_ranged}

@@ -12,21 +12,21 @@ use Rattle.plan_base.specs.declared.tree.Value.{Value, Value-F, out-Value, map-V
 use Rattle.plan_base.specs.declared.tree.Chunk.{Chunk, fold-Chunk}
 use Rattle.plan_base.specs.Sizes.{largest_by, type_depth, type_depth_level, value_depth}
 use Rattle.plan_base.specs.WellFormed.{formed_type, formed_value, formed_value_level, formed_chunk, well_formed_program, well_formed_chunk}
-use Rattle.plan_base.specs.Typing.{HasType, HaveTypes, AllHaveType, IsTypedChunk}
-use Rattle.plan_base.specs.Typing as y
+use Rattle.typing_rules.specs.Typing.{HasType, HaveTypes, AllHaveType, IsTypedChunk}
+use Rattle.typing_rules.specs.Typing as y
 use Rattle.plan_base.proofs.SizeLaws.{type_depth_out, largest_by-map}
 use Rattle.plan_base.proofs.FormLaws.{formed_value_out, formed_chunk_is}
 use Rattle.chunk_types.specs.Chunks.{IsCheckedChunk}
 use Rattle.plan_parser.specs.Values.{value_of}
 use Rattle.plan_parser.specs.ReadTexts.{Reads}
-use Rattle.plan_printer.specs.Printed.{value_text}
+use Rattle.printed_forms.specs.Printed.{value_text}
 use Rattle.text_laws.specs.Proper.{IsReadableType, IsProperValue, AreProperValues}
 use Rattle.text_laws.specs.Proper as p
 use Rattle.text_laws.proofs.Segments.{lexes_whole}
 use Rattle.text_laws.proofs.ValueTokens.{value_part}
-use Rattle.program_round_trip.specs.Readable.{IsReadable, AreOfType, AreReadable}
-use Rattle.program_round_trip.specs.Readable as re
-use Rattle.program_round_trip.proofs.ValuesRead.{value_again}
+use Rattle.round_trip.specs.Readable.{IsReadable, AreOfType, AreReadable}
+use Rattle.round_trip.specs.Readable as re
+use Rattle.round_trip.proofs.ValuesRead.{value_again}
 use Rattle.chunk_ranges.proofs.TestLaws.{between, int_fits, max_parts, fold_within}
 use Rattle.checked_texts.specs.Exact.{value_exact, value_exact_level}
 use Rattle.checked_texts.specs.ReadBack.{plain, plain_level, reach, reach_level, IsReadBack}

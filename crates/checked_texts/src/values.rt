@@ -3,7 +3,7 @@ ghost use Rattle.std.specs.List.{list_all};
 ghost use Rattle.plan_base.specs.declared.tree.Value.{Value as Tree};
 ghost use Rattle.plan_parser.specs.Values.{value_of};
 ghost use Rattle.plan_parser.specs.ReadTexts.{Reads};
-ghost use Rattle.plan_printer.specs.Printed.{value_text};
+ghost use Rattle.printed_forms.specs.Printed.{value_text};
 ghost use Rattle.checked_texts.specs.Exact.{value_exact};
 ghost use Rattle.checked_texts.specs.ReadBack.{IsReadBack};
 

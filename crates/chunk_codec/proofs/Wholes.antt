@@ -10,7 +10,7 @@ use Rattle.chunk_spelling.proofs.PartLaws.{Lawful}
 use Rattle.chunk_spelling.proofs.WholeLaws.{found_by, only_by, fault_by}
 use Rattle.chunk_codec.specs.Reading.{Fails}
 
--- what a call refuses is no want of memory only where the reading refuses it
+-- what a call refuses is not `NoMemory` only where the reading refuses it
 fails_is : {A : Type 0} (e : SpellFault) (r : Result A SpellFault) → Fails e r → (e ≡ NoMemory) ⊎ (r ≡ Err e)
 fails_is (Truncated _) r h = inr h
 fails_is (BadTag _) r h = inr h

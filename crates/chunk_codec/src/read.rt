@@ -20,7 +20,7 @@ use wire_bytes::Cursor;
 
 /// Reads a name, behind its length.
 ///
-/// Ok exactly where a front of what is left is its spelling; the cursor is then behind it. Otherwise the
+/// Ok exactly where a prefix of what is left is its spelling; the cursor is then behind it. Otherwise the
 /// answer is the first fault, with its place, and the cursor stays.
 pub fn get_name(alloc: Global, c: &mut Cursor<'_>) -> Result<Name, SpellFault>
     ensures found { IfOk result (λ x. SpelledAt name_part c.old x c.new) }
@@ -37,7 +37,7 @@ pub fn get_name(alloc: Global, c: &mut Cursor<'_>) -> Result<Name, SpellFault>
 
 /// Reads a type of depth at most 8.
 ///
-/// Ok exactly where a front of what is left is its spelling; the cursor is then behind it. Otherwise the
+/// Ok exactly where a prefix of what is left is its spelling; the cursor is then behind it. Otherwise the
 /// answer is the first fault, with its place, and the cursor stays.
 pub fn get_type(alloc: Global, c: &mut Cursor<'_>) -> Result<Ty, SpellFault>
     ensures found { IfOk result (λ x. SpelledAt a_whole_type c.old x c.new) }
@@ -54,7 +54,7 @@ pub fn get_type(alloc: Global, c: &mut Cursor<'_>) -> Result<Ty, SpellFault>
 
 /// Reads a value, with at most four chunks inside each other and lists and tuples to depth 8.
 ///
-/// Ok exactly where a front of what is left is its spelling; the cursor is then behind it. Otherwise the
+/// Ok exactly where a prefix of what is left is its spelling; the cursor is then behind it. Otherwise the
 /// answer is the first fault, with its place, and the cursor stays.
 pub fn get_value(alloc: Global, c: &mut Cursor<'_>) -> Result<Value, SpellFault>
     ensures found { IfOk result (λ x. SpelledAt a_whole_value c.old x c.new) }
@@ -71,7 +71,7 @@ pub fn get_value(alloc: Global, c: &mut Cursor<'_>) -> Result<Value, SpellFault>
 
 /// Reads a chunk, with at most three more inside each other in its arguments. With a tag it weighs at most 16,384 bytes.
 ///
-/// Ok exactly where a front of what is left is its spelling; the cursor is then behind it. Otherwise the
+/// Ok exactly where a prefix of what is left is its spelling; the cursor is then behind it. Otherwise the
 /// answer is the first fault, with its place, and the cursor stays.
 pub fn get_chunk(alloc: Global, c: &mut Cursor<'_>) -> Result<Chunk, SpellFault>
     ensures found { IfOk result (λ x. SpelledAt a_whole_chunk c.old x c.new) }
@@ -88,7 +88,7 @@ pub fn get_chunk(alloc: Global, c: &mut Cursor<'_>) -> Result<Chunk, SpellFault>
 
 /// Reads a program of at most 4,096 expressions and 16,000 bytes.
 ///
-/// Ok exactly where a front of what is left is its spelling; the cursor is then behind it. Otherwise the
+/// Ok exactly where a prefix of what is left is its spelling; the cursor is then behind it. Otherwise the
 /// answer is the first fault, with its place, and the cursor stays.
 pub fn get_program(alloc: Global, c: &mut Cursor<'_>) -> Result<Program, SpellFault>
     ensures found { IfOk result (λ x. SpelledAt program_part c.old x c.new) }

@@ -1,6 +1,6 @@
 ghost use Rattle.std.specs.Prelude.{IsTrue};
 ghost use Rattle.std.specs.List.{list_all};
-ghost use Rattle.plan_base.specs.Typing.{IsTypedChunk};
+ghost use Rattle.typing_rules.specs.Typing.{IsTypedChunk};
 ghost use Rattle.plan_base.specs.WellFormed.{IsWellFormedChunk};
 ghost use Rattle.plan_base.specs.Words.{is_name};
 ghost use Rattle.chunk_spelling.specs.Spelling.{a_whole_chunk};

@@ -6,7 +6,7 @@ use std::alloc::AllocError;
 use wire_bytes::Truncated;
 
 /// Why bytes were refused; a place is a byte number from 0.
-#[derive(Debug, Clone, Copy, PartialEq, Eq)]
+#[derive(Clone, Copy, PartialEq, Eq)]
 pub enum SpellFault {
     /// The field at this place isn't whole.
     Truncated(u32),

@@ -6,12 +6,13 @@ use Rattle.small_laws.proofs.Lists.{list_all-map}
 use Rattle.plan_base.specs.declared.tree.Ty.{Ty, Ty-F, out-Ty}
 use Rattle.plan_base.specs.declared.tree.Fun.{Fun}
 use Rattle.plan_base.specs.declared.tree.Program.{Program}
-use Rattle.plan_base.specs.declared.type_fault.TypeFault.{TypeFault}
+use Rattle.typing_rules.specs.declared.type_fault.TypeFault.{TypeFault}
 use Rattle.plan_base.specs.declared.tree.Value.{Value, Value-F, out-Value, roll-out-Value, map-Value, fold_out-Value, para-roll-Value}
 use Rattle.plan_base.specs.declared.tree.Chunk.{Chunk, out-Chunk, roll-out-Chunk, fold-Chunk, para-Chunk, para-roll-Chunk}
 use Rattle.plan_base.specs.Trees.{TyLayer, ValueLayer}
-use Rattle.plan_base.specs.TypingNames.{param_types}
-use Rattle.plan_base.specs.TypingOrder.{same_type, fun_of, annotated}
+use Rattle.typing_rules.specs.TypingNames.{param_types}
+use Rattle.plan_base.specs.SameTypes.{same_type}
+use Rattle.typing_rules.specs.TypingOrder.{fun_of, annotated}
 use Rattle.chunk_types.specs.declared.fault.Ill.{Ill}
 use Rattle.chunk_types.specs.declared.fault.Ill.TheVariants.{Count, Argument}
 use Rattle.chunk_types.specs.Chunks.{fit_all, fits_layer, fits, ill_from, ill_with, ill_call, ill_code, ill_level, sound_level, paired_right, is_small_chunk, sound, right, illness, is_right_chunk}

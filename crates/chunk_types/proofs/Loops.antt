@@ -3,7 +3,7 @@ use Rattle.std.proofs.Common.{◌≡◌, ◌≢◌, ℕ, zero, suc, ◌+◌, ◌
 use Rattle.plan_base.specs.declared.tree.Ty.{Ty}
 use Rattle.plan_base.specs.declared.tree.Value.{Value}
 use Rattle.plan_base.specs.declared.tree.Param.{Param}
-use Rattle.plan_base.specs.TypingNames.{param_types}
+use Rattle.typing_rules.specs.TypingNames.{param_types}
 use Rattle.chunk_types.specs.declared.fault.Ill.TheVariants.{Argument}
 use Rattle.chunk_types.specs.Chunks.{fit_all, fits, ill_from, right}
 

@@ -13,15 +13,16 @@ use Rattle.plan_base.specs.declared.tree.Fun.{Fun}
 use Rattle.plan_base.specs.declared.tree.Program.{Program}
 use Rattle.plan_base.specs.declared.tree.Value.{Value, Value-F, out-Value}
 use Rattle.plan_base.specs.declared.tree.Chunk.{Chunk}
-use Rattle.plan_base.specs.declared.type_fault.TypeFault.{TypeFault}
+use Rattle.typing_rules.specs.declared.type_fault.TypeFault.{TypeFault}
 use Rattle.plan_base.specs.Trees.{TyLayer, ValueLayer}
 use Rattle.plan_base.specs.Sizes.{largest_by, weight_level, weight, chunk_weight, nesting, chunk_nesting, value_depth, type_depth, program_nodes}
 use Rattle.plan_base.proofs.SizeLaws.{weight_out, chunk_weight_is, chunk_nesting_is}
 use Rattle.plan_base.specs.WellFormed.{formed_value_level, formed_value, formed_chunk, formed_type, has_from_to, well_formed_type, well_formed_expr, well_formed_svc, well_formed_fun, well_formed_program, well_formed_value, IsWellFormedValue, ValueHasTypes, well_formed_chunk, IsWellFormedChunk, ChunkHasTypes, typed_value_level, value_has_types, chunk_has_types, program_has_types}
 use Rattle.plan_base.proofs.FormLaws.{formed_value_out, formed_chunk_is, value_has_types_out, chunk_has_types_is}
-use Rattle.plan_base.specs.Typing.{Typed, HasType, unit, bool, int, char, str, blob, host, dev, list, tuple, chunk, HaveTypes, no_values, and_value, AllHaveType, no_items, and_item, IsTypedChunk, within}
-use Rattle.plan_base.specs.TypingNames.{place_of, param_types}
-use Rattle.plan_base.specs.TypingOrder.{same_type, fun_of, annotated}
+use Rattle.typing_rules.specs.Typing.{Typed, HasType, unit, bool, int, char, str, blob, host, dev, list, tuple, chunk, HaveTypes, no_values, and_value, AllHaveType, no_items, and_item, IsTypedChunk, within}
+use Rattle.typing_rules.specs.TypingNames.{place_of, param_types}
+use Rattle.plan_base.specs.SameTypes.{same_type}
+use Rattle.typing_rules.specs.TypingOrder.{fun_of, annotated}
 use Rattle.plan_base.proofs.SameTypes.{out_same, same_type_true, same_type_itself}
 use Rattle.typing_laws.proofs.Programs.{annotated_sound, annotated_complete, fills_itself, fills_full, depths_kept}
 use Rattle.plan_types.specs.Kept.{IsChecked}

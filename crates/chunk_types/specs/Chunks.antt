@@ -7,13 +7,14 @@ use Rattle.plan_base.specs.declared.tree.Fun.{Fun}
 use Rattle.plan_base.specs.declared.tree.Program.{Program}
 use Rattle.plan_base.specs.declared.tree.Value.{Value, Value-F, fold-Value, para-Value}
 use Rattle.plan_base.specs.declared.tree.Chunk.{Chunk, Chunk-F}
-use Rattle.plan_base.specs.declared.type_fault.TypeFault.{TypeFault}
+use Rattle.typing_rules.specs.declared.type_fault.TypeFault.{TypeFault}
 use Rattle.plan_base.specs.Trees.{TyLayer}
 use Rattle.plan_base.specs.Sizes.{chunk_weight, chunk_nesting}
 use Rattle.plan_base.specs.WellFormed.{IsWellFormedChunk, ChunkHasTypes}
-use Rattle.plan_base.specs.Typing.{IsTypedChunk}
-use Rattle.plan_base.specs.TypingNames.{param_types}
-use Rattle.plan_base.specs.TypingOrder.{same_type, fun_of, annotated}
+use Rattle.typing_rules.specs.Typing.{IsTypedChunk}
+use Rattle.typing_rules.specs.TypingNames.{param_types}
+use Rattle.plan_base.specs.SameTypes.{same_type}
+use Rattle.typing_rules.specs.TypingOrder.{fun_of, annotated}
 use Rattle.chunk_types.specs.declared.fault.Ill.{Ill}
 use Rattle.chunk_types.specs.declared.fault.Ill.TheVariants.{Code, Entry, Count, Argument}
 use Rattle.chunk_types.specs.declared.fault.ChunkFault.{ChunkFault}

@@ -1,7 +1,7 @@
 //! Packets whose chunk is typed.
 
 ghost use Rattle.std.specs.Prelude.{◌≡◌, ◌≤◌, true, None, Some};
-ghost use Rattle.plan_base.specs.Handlers.{is_handler, MayHandle};
+ghost use Rattle.typing_rules.specs.Handlers.{is_handler, MayHandle};
 ghost use Rattle.chunk_types.specs.Chunks.{IsCheckedChunk};
 
 use crate::typed_chunk::CheckedChunk;
@@ -10,7 +10,7 @@ use std::marker::Model;
 
 /// A packet whose chunk is typed and whose handler, if it has one, is a function of its code that may handle, which contracts
 /// see as that packet.
-#[derive(Debug, Drop)]
+#[derive(Drop)]
 pub struct CheckedPacket {
     family: Family,
     dest: Host,
@@ -24,7 +24,7 @@ impl Model for CheckedPacket {
     ghost use Rattle.std.specs.Prelude.{◌≤◌};
     ghost use Rattle.plan_base.specs.declared.tree.Packet.{Packet};
     ghost use Rattle.plan_base.specs.contracts.tree.Packet as whole;
-    ghost use Rattle.plan_base.specs.Handlers.{MayHandle};
+    ghost use Rattle.typing_rules.specs.Handlers.{MayHandle};
     ghost use Rattle.chunk_types.specs.Chunks.{IsCheckedChunk};
 
     ghost Value = { Packet };

@@ -1,10 +1,11 @@
 //! Why there is no typed chunk.
 
-use plan_base::{NoMemory, TypeFault};
+use plan_base::NoMemory;
 use std::alloc::AllocError;
+use typing_rules::TypeFault;
 
 /// Why a chunk isn't typed: the first refusal in the order of checking.
-#[derive(Debug, Drop)]
+#[derive(Drop)]
 pub enum Ill {
     /// Its code isn't typed: the first refusal there.
     Code(TypeFault),
@@ -18,7 +19,7 @@ pub enum Ill {
 }
 
 /// Why there is no typed chunk.
-#[derive(Debug, Drop)]
+#[derive(Drop)]
 pub enum ChunkFault {
     /// The chunk isn't typed.
     Ill(Ill),

@@ -2,13 +2,15 @@
 
 ghost use Rattle.std.specs.Prelude.{◌≡◌, IfOk, IsTrue, length};
 ghost use Rattle.std.specs.List.{list_all};
-ghost use Rattle.plan_base.specs.TypingNames.{param_types};
+ghost use Rattle.typing_rules.specs.TypingNames.{param_types};
 ghost use Rattle.plan_types.specs.Kept.{IsChecked};
 ghost use Rattle.chunk_types.specs.Chunks as spec;
 
 use crate::fault::Ill;
 use crate::shape::fits;
-use plan_base::{Chunk, Name, NoMemory, Param, Program, Ty, Value, chunk_nesting, chunk_weight};
+use plan_base::{Chunk, Name, NoMemory, Param, Program, Ty, Value};
+use plan_equality::Same;
+use plan_sizes::{chunk_nesting, chunk_weight};
 use plan_types::{Checked, fun_of, refused};
 use std::alloc::Global;
 

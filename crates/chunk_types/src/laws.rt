@@ -2,7 +2,7 @@ ghost use Rattle.std.specs.Prelude.{◌↔◌, IsTrue};
 ghost use Rattle.plan_base.specs.declared.tree.Ty.{Ty};
 ghost use Rattle.plan_base.specs.declared.tree.Value.{Value};
 ghost use Rattle.plan_base.specs.WellFormed.{IsWellFormedValue, ValueHasTypes};
-ghost use Rattle.plan_base.specs.Typing.{HasType};
+ghost use Rattle.typing_rules.specs.Typing.{HasType};
 ghost use Rattle.chunk_types.specs.Chunks.{fits, sound};
 
 /// A value has a type exactly where its shape has it and no chunk inside it is too large or ill.

@@ -5,6 +5,7 @@ ghost use Rattle.std.specs.List.{list_all};
 ghost use Rattle.chunk_types.specs.Chunks as spec;
 
 use plan_base::{Ty, Value};
+use plan_equality::Same;
 
 /// Whether the value's shape has the type; a chunk isn't looked into. Takes no memory.
 #[cycle(fits)]

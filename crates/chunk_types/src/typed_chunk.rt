@@ -5,19 +5,20 @@ ghost use Rattle.std.specs.List.{list_all};
 ghost use Rattle.plan_base.specs.declared.tree.Chunk.{Chunk as Packed};
 ghost use Rattle.plan_base.specs.Sizes.{chunk_weight};
 ghost use Rattle.plan_base.specs.WellFormed.{IsWellFormedChunk, ChunkHasTypes, well_formed_value, value_has_types};
-ghost use Rattle.plan_base.specs.Typing.{IsTypedChunk};
+ghost use Rattle.typing_rules.specs.Typing.{IsTypedChunk};
 ghost use Rattle.chunk_types.specs.Chunks as spec;
 ghost use Rattle.chunk_types.specs.Chunks.{IsCheckedChunk};
 
 use crate::fault::ChunkFault;
 use crate::ill::{ill_call, illness_by, is_small};
 use plan_base::{Chunk, Name, NoMemory, Values};
+use plan_copies::Copied;
 use plan_types::Checked;
 use std::alloc::Global;
 use std::marker::Model;
 
 /// A chunk that is typed, which contracts see as that chunk.
-#[derive(Debug, Drop)]
+#[derive(Drop)]
 pub struct CheckedChunk {
     chunk: Chunk,
 }

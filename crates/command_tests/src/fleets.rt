@@ -75,39 +75,6 @@ fn fleets_report_each_child_and_the_first_failed_one_decides(rt: HostRuntime) ->
     Ok(())
 }
 
-/// A file that is no fleet, and the note of its refusal.
-type Refused = (&'static [u8], &'static [u8]);
-
-static REFUSED: [Refused; 4] = [
-    (b"planet fleet 2\n", b"planet: line 1: BadHeader\n"),
-    (b"planet fleet 1\n", b"planet: line 2: BadWord\n"),
-    (
-        b"planet fleet 1\nnode 1 a.cfg 0\n",
-        b"planet: line 2: BadNumber\n",
-    ),
-    (
-        b"planet fleet 1\nask 1 a.ask 3\n",
-        b"planet: line 2: BadWord\n",
-    ),
-];
-
-fn refuses(rt: &impl Abort, alloc: Global, row: &Refused) -> Result<(), Fail> {
-    let end = End {
-        code: 2,
-        note: row.1,
-        ..NOTHING
-    };
-    ends(rt, alloc, &starts(row.0, &[]), end)
-}
-
-#[test]
-fn files_that_are_no_fleet_start_nothing(rt: HostRuntime) -> Result<(), Fail> {
-    for row in &REFUSED {
-        refuses(&rt, rt.alloc(), row)?;
-    }
-    Ok(())
-}
-
 /// A call that fails, the statuses of this fleet's children and of the next one's, and how many bytes are written before.
 type Failed = (u64, &'static [u8], usize);
 

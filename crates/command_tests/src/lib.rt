@@ -1,10 +1,12 @@
-//! The commands with a link, a clock and children, over the forms in memory, with each call of an object failing in turn.
+//! The commands over the forms in memory of what lies outside, with each call of an object failing in turn; and these forms.
 #![tactic(auto)]
 
 #[cfg(test)]
 mod calls;
 #[cfg(test)]
 mod fleets;
+#[cfg(test)]
+mod forms;
 #[cfg(test)]
 mod objects;
 #[cfg(test)]
@@ -15,3 +17,5 @@ mod requests;
 mod rows;
 #[cfg(test)]
 mod serving;
+#[cfg(test)]
+mod stops;

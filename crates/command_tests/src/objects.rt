@@ -57,7 +57,7 @@ fn text(alloc: Global, of: &str) -> Result<Text, NoMemory> {
     Ok(Text::of(Vec::from_slice(alloc, of.as_bytes())?))
 }
 
-/// The bytes that are written so. What isn't hex ends a test as want of memory does.
+/// The bytes that are written so. What isn't hex ends a test as `NoMemory` does.
 pub fn bytes(alloc: Global, hex: &str) -> Result<Bytes, NoMemory> {
     match decode(alloc, hex) {
         Ok(bytes) => Ok(Bytes::of(bytes)),

@@ -4,7 +4,7 @@ use crate::calls::{End, NOTHING, fails};
 use crate::fleets::{REPORTED, starts};
 use crate::objects::{Failing, NONE, Task};
 use crate::requests::{SENT, asks};
-use crate::rows::{FLEET, FRAME, LOG, PROGRAM, REQUEST, SHOWN, SIZES, TRACE};
+use crate::rows::{FLEET, FRAME, LOG, PROGRAM, REQUEST, RUN, SCHEDULE, SHOWN, SIZES, TRACE};
 use std::alloc::Global;
 use std::process::Abort;
 use std::test::Fail;
@@ -35,7 +35,8 @@ pub fn reads_fail(rt: &impl Abort, alloc: Global, task: &Task, whole: End<'_>) -
     Ok(())
 }
 
-fn reads(words: &'static [&'static str], bytes: &'static [u8]) -> Task {
+/// A command on `file.txt`.
+pub fn reads(words: &'static [&'static str], bytes: &'static [u8]) -> Task {
     Task {
         words,
         file: "file.txt",
@@ -69,6 +70,12 @@ fn each_call_of_the_reading_fails(rt: HostRuntime) -> Result<(), Fail> {
         alloc,
         &reads(&["replay", "file.txt"], LOG),
         writes(TRACE),
+    )?;
+    reads_fail(
+        &rt,
+        alloc,
+        &reads(&["replay", "file.txt"], SCHEDULE),
+        writes(RUN),
     )?;
     reads_fail(&rt, alloc, &asks(REQUEST), SENT)?;
     reads_fail(&rt, alloc, &starts(FLEET, &[0, 2]), REPORTED)

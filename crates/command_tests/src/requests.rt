@@ -79,39 +79,3 @@ fn each_push_of_the_output_fails(rt: HostRuntime) -> Result<(), Fail> {
     }
     Ok(())
 }
-
-/// A file that is no request, and the note of its refusal.
-type Refused = (&'static [u8], &'static [u8]);
-
-static REFUSED: [Refused; 4] = [
-    (b"planet inject 2\n", b"planet: line 1: BadHeader\n"),
-    (
-        b"planet inject 1\nto 7001\nfrom 7100\nbound 10\nentry g ()\nprogram\nfun f() : unit = ()\nend program\n",
-        b"planet: line 5: BadArgument\n",
-    ),
-    (
-        b"planet inject 1\nto 7001\nfrom 7100\nbound 10\nentry f ()\n",
-        b"planet: line 6: BadWord\n",
-    ),
-    (
-        b"planet inject 1\nto 7001\nfrom 0\n",
-        b"planet: line 3: BadNumber\n",
-    ),
-];
-
-fn refuses(rt: &impl Abort, alloc: Global, row: &Refused) -> Result<(), Fail> {
-    let end = End {
-        code: 2,
-        note: row.1,
-        ..NOTHING
-    };
-    ends(rt, alloc, &asks(row.0), end)
-}
-
-#[test]
-fn files_that_are_no_request_send_nothing(rt: HostRuntime) -> Result<(), Fail> {
-    for row in &REFUSED {
-        refuses(&rt, rt.alloc(), row)?;
-    }
-    Ok(())
-}

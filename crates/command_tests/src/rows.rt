@@ -107,6 +107,34 @@ pub const SENDER_TRACE: &[u8] = b"planet trace 1\n\
 2 send @1 %1 1.1\n\
 end\n";
 
+// The node that is pinged, the answer that it sends, its log and its trace.
+pub const ANSWERER: &[u8] = b"planet node 1\n\
+host 2\n\
+hosts 1 2\n\
+port 7003\n\
+control 7004\n\
+period 1000\n\
+log node.log\n\
+dev 1 1 7001\n";
+
+pub const ANSWER: &str =
+    "504c414e010100000001000000000000000100000001000000080c64656661756c74526f757465030a74686973486f737449730106010567657452420002057072696e7401040000020361636b00002b057072696e7401240007537563636573730470696e67020373726306046465737406002c312b0a74686973486f73744973012904646573743a380470696e670229037372632904646573742904646573742b056765745242000c64656661756c74526f7574653a380361636b0029037372632b056765745242000c64656661756c74526f7574650361636b00";
+
+pub const ANSWERER_LOG: &[u8] = b"planet log 1\n\
+host 2\n\
+hosts 1 2\n\
+dev 1 1\n\
+events\n\
+frame 1 504c414e010100000001000000000000000100000002000000090c64656661756c74526f757465030a74686973486f737449730106010567657452420002057072696e7401040000020361636b00002b057072696e7401240007537563636573730470696e67020373726306046465737406002c312b0a74686973486f73744973012904646573743a380470696e670229037372632904646573742904646573742b056765745242000c64656661756c74526f7574653a380361636b0029037372632b056765745242000c64656661756c74526f7574650470696e670216000000011600000002\n\
+take 1\n";
+
+pub const ANSWERER_TRACE: &[u8] = b"planet trace 1\n\
+1 arrive @2 %1\n\
+1 value @2 1.1 () evals 0 left 0\n\
+1 queue @2 %1 1.1 bound 8\n\
+2 send @2 %1 1.1\n\
+end\n";
+
 // What the first node logs of an ask of its owner, and its trace.
 pub const ASK_LOG: &[u8] = b"planet log 1\n\
 host 1\n\
@@ -144,4 +172,34 @@ pub const PART_TRACE: &[u8] = b"planet trace 1\n\
 1 inject @1 1.1 bound 5\n\
 1 port @1 7 (5, 1, 2, #\"00\")\n\
 1 value @1 1.1 () evals 0 left 5\n\
+end\n";
+
+// A schedule and its trace.
+pub const SCHEDULE: &[u8] = b"planet schedule 1\n\
+host 1\n\
+host 2\n\
+link 1 1 2 1\n\
+program hello\n\
+svc print : (string) -> unit\n\
+fun hi() : unit = print(\"hi\")\n\
+fun go() : unit = print(\"go\"); OnNeighbor(|hi|(), @2, 2, %1)\n\
+end program\n\
+events\n\
+inject 1 hello go 5 ()\n\
+send 1 1\n\
+deliver 1\n";
+
+pub const RUN: &[u8] = b"planet trace 1\n\
+1 inject @1 1.1 bound 5\n\
+1 print @1 \"go\"\n\
+1 value @1 1.1 () evals 0 left 3\n\
+1 queue @1 %1 1.1 bound 1\n\
+2 send @1 %1 1.1\n\
+2 wire 1\n\
+3 off 1\n\
+3 arrive @2 %1\n\
+3 print @2 \"hi\"\n\
+3 value @2 1.1 () evals 0 left 1\n\
+ledger\n\
+1.1 granted 5 hops 1 evals 0 live 0 left 4\n\
 end\n";

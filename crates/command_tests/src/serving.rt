@@ -1,11 +1,12 @@
-// A node that serves four turns, with each call of its objects failing in turn, and its log made again.
+// A node that serves, with each call of its objects failing in turn.
 
 use crate::calls::{End, NOTHING, ends, fails, front};
 use crate::objects::{Failing, NONE, Task};
 use crate::reads::{UNREAD, reads_fail};
 use crate::rows::{
-    ALONE, ASK, ASK_LOG, ASK_TRACE, FOR_HOST_1, LOG, NODE, PART, PART_LOG, PART_TRACE, PING,
-    SENDER, SENDER_LOG, SENDER_TRACE, SENT_ON, THROUGH_HOST_1, TRACE,
+    ALONE, ANSWER, ANSWERER, ANSWERER_LOG, ANSWERER_TRACE, ASK, ASK_LOG, ASK_TRACE, FOR_HOST_1,
+    LOG, NODE, PART, PART_LOG, PART_TRACE, PING, SENDER, SENDER_LOG, SENDER_TRACE, SENT_ON,
+    THROUGH_HOST_1, TRACE,
 };
 use std::alloc::Global;
 use std::process::Abort;
@@ -41,8 +42,8 @@ const SERVED: End<'static> = End {
 /// A configuration, what arrives in one turn, and how the node then ends.
 type Logged = (&'static [u8], &'static [(u32, &'static str)], End<'static>);
 
-// A ping to the neighbour, an ask of the owner, and a part that is delivered to a port.
-static LOGGED: [Logged; 3] = [
+// A ping to the neighbour, its answer by that one, an ask of the owner, and a part that is delivered to a port.
+static LOGGED: [Logged; 4] = [
     (
         SENDER,
         &[],
@@ -50,6 +51,16 @@ static LOGGED: [Logged; 3] = [
             out: SENDER_TRACE,
             sent: (1, PING),
             log: SENDER_LOG,
+            ..NOTHING
+        },
+    ),
+    (
+        ANSWERER,
+        &[(1, PING)],
+        End {
+            out: ANSWERER_TRACE,
+            sent: (1, ANSWER),
+            log: ANSWERER_LOG,
             ..NOTHING
         },
     ),
@@ -84,23 +95,6 @@ fn nodes_write_the_logs_of_their_turns(rt: HostRuntime) -> Result<(), Fail> {
         logs(&rt, rt.alloc(), row)?;
     }
     Ok(())
-}
-
-#[test]
-fn its_log_replays_to_its_lines(rt: HostRuntime) -> Result<(), Fail> {
-    let task = Task {
-        words: &["replay", "node.log"],
-        file: "node.log",
-        bytes: LOG,
-        arrivals: &[],
-        statuses: &[],
-    };
-    let end = End {
-        out: TRACE,
-        log: LOG,
-        ..NOTHING
-    };
-    ends(&rt, rt.alloc(), &task, end)
 }
 
 /// A call that fails, the places up to which the log and the trace are then written, and whether the frame was sent
@@ -210,36 +204,4 @@ fn behind_the_last_call_nothing_fails(rt: HostRuntime) -> Result<(), Fail> {
     };
     let again = End { log: LOG, ..UNREAD };
     fails(&rt, rt.alloc(), &serves(NODE), failing, SERVED, again)
-}
-
-/// A file that is no configuration, and the note of its refusal.
-type Refused = (&'static [u8], &'static [u8]);
-
-static REFUSED: [Refused; 3] = [
-    (b"planet node 2\n", b"planet: line 1: BadHeader\n"),
-    (
-        b"planet node 1\nhost 1\nhosts 2\n",
-        b"planet: line 3: BadArgument\n",
-    ),
-    (
-        b"planet node 1\nhost 1\nhosts 1\nport 0\n",
-        b"planet: line 4: BadNumber\n",
-    ),
-];
-
-fn refuses(rt: &impl Abort, alloc: Global, row: &Refused) -> Result<(), Fail> {
-    let end = End {
-        code: 2,
-        note: row.1,
-        ..NOTHING
-    };
-    ends(rt, alloc, &serves(row.0), end)
-}
-
-#[test]
-fn files_that_are_no_configuration_make_and_send_nothing(rt: HostRuntime) -> Result<(), Fail> {
-    for row in &REFUSED {
-        refuses(&rt, rt.alloc(), row)?;
-    }
-    Ok(())
 }

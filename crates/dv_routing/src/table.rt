@@ -10,14 +10,14 @@ use service_api::{Advert, AdvertRow, AdvertRows, Neighbours, RouteRow, RouteRows
 use std::alloc::{AllocError, Global};
 
 /// The least cost to a host that was heard on one device.
-#[derive(Debug, Clone, Copy)]
+#[derive(Clone, Copy)]
 struct Known {
     host: Host,
     least: Option<u16>,
 }
 
 /// A neighbour, its device, and what was heard there of each host of the network.
-#[derive(Debug, Drop)]
+#[derive(Drop)]
 struct Lane {
     host: Host,
     dev: Dev,
@@ -25,7 +25,7 @@ struct Lane {
 }
 
 /// The routes of a node. It stands for all adverts that it ever heard.
-#[derive(Debug, Drop)]
+#[derive(Drop)]
 pub struct Table {
     here: Host,
     hosts: Items<Host>,

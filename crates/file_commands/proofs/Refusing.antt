@@ -7,7 +7,7 @@ use Rattle.line_files.specs.declared.fault.LineFault.TheVariants as faults
 use Rattle.program_text.specs.declared.fault.TextFault.{TextFault}
 use Rattle.program_text.specs.declared.fault.TextFault.TheVariants as texts
 use Rattle.program_text.specs.Reasons.{fault_byte}
-use Rattle.frame_text.specs.Decoding.{frame_of}
+use Rattle.packet_frame.specs.Decoding.{frame_of}
 use Rattle.call_causes.specs.Memory.{holds_memory, cause_at, stop_of}
 use Rattle.call_causes.specs.declared.status.Refusal.{Refusal}
 use Rattle.call_causes.specs.declared.status.Refusal.TheVariants.{Line, At}

@@ -7,8 +7,8 @@ use Rattle.hex.specs.Hex.{decode_of, IsBytes}
 use Rattle.hex.proofs.HexLemmas.{decode_of-ok}
 use Rattle.packet_frame.specs.declared.fault.FrameFault.{FrameFault}
 use Rattle.packet_frame.specs.Typed.{FrameFirst}
-use Rattle.frame_text.specs.Decoding.{frame_of}
-use Rattle.frame_text.proofs.OneAnswer.{first_is}
+use Rattle.packet_frame.specs.Decoding.{frame_of}
+use Rattle.packet_frame.proofs.OneAnswer.{first_is}
 use Rattle.call_causes.specs.Memory.{cause_at}
 use Rattle.call_causes.specs.declared.status.Cause.{Cause}
 use Rattle.call_causes.specs.declared.status.Cause.TheVariants.{NoMemory}

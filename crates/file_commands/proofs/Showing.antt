@@ -9,8 +9,8 @@ use Rattle.packet_frame.specs.declared.frame.PlainFrame.{PlainFrame}
 use Rattle.packet_frame.specs.declared.fault.FrameFault.{FrameFault}
 use Rattle.packet_frame.specs.Typed.{Accepts}
 use Rattle.frame_text.specs.Frames.{frame_text}
-use Rattle.frame_text.specs.Decoding.{frame_of}
-use Rattle.frame_text.proofs.OneAnswer.{accepts_is, found_is}
+use Rattle.packet_frame.specs.Decoding.{frame_of}
+use Rattle.packet_frame.proofs.OneAnswer.{accepts_is, found_is}
 use Rattle.call_causes.specs.declared.status.Refusal.TheVariants.{TooLong}
 use Rattle.file_commands.specs.Said.{Said, nothing, outside, says, said_at, IsSaid}
 use Rattle.file_commands.specs.Shows.{frame_limit, without_feed, bytes_said, framed_said, decoded_said, frame_said, show_said, HoldsFrame}

@@ -6,7 +6,7 @@ use Rattle.packet_frame.specs.declared.frame.PlainFrame.{PlainFrame}
 use Rattle.packet_frame.specs.declared.fault.FrameFault.{FrameFault}
 use Rattle.packet_frame.specs.Typed.{Accepts}
 use Rattle.frame_text.specs.Frames.{frame_text}
-use Rattle.frame_text.specs.Decoding.{frame_of}
+use Rattle.packet_frame.specs.Decoding.{frame_of}
 use Rattle.node_io.specs.FileMaps.{FileMap, file_at}
 use Rattle.call_causes.specs.declared.status.Refusal.TheVariants.{Frame, BadHex}
 use Rattle.file_commands.specs.Said.{Said, nothing, outside, says, said_in}

@@ -1,6 +1,6 @@
 -- How a command takes a value of the files, and acts on it.
 use Rattle.std.specs.Prelude.{ℕ, ◌≡◌, IsTrue, List, Result, Ok, Err, MatchResult}
-use Rattle.node_io.specs.Causes.{Rose}
+use Rattle.node_io.specs.Causes.{HasRisen}
 use Rattle.node_io.specs.FileMaps.{FileMap, MayName}
 use Rattle.node_io.specs.FileStates.{FilesState, OnlyReads}
 use Rattle.call_causes.specs.Memory.{IsOwn}
@@ -8,7 +8,7 @@ use Rattle.call_causes.specs.declared.status.Cause.{Cause}
 use Rattle.call_causes.specs.declared.status.Cause.TheVariants.{Done, Usage, Refused, ReadFault, WriteFault, LinkFault, SpawnFault, NoMemory, NodesFailed}
 use Rattle.file_commands.specs.Said.{Said, outside, says}
 
--- why bytes that were read give no value: a refusal for a reason of their own, or want of memory
+-- why bytes that were read give no value: a refusal for a reason of their own, or `NoMemory`
 abbrev pub Refuses : {A : Type 0} → Said A → Cause → Type 0
 Refuses said (Refused r) = IsOwn r × (said ≡ outside r)
 Refuses said NoMemory = Unit {0}
@@ -28,7 +28,7 @@ Reads said (Err cause) = Refuses said cause
 -- why no value was taken of the files
 abbrev pub Untaken : {A : Type 0} → (FileMap → Said A) → FilesState → FilesState → Cause → Type 0
 Untaken said old new (Refused r) = IsOwn r × (IsTrue old.observable → said old.held ≡ outside r)
-Untaken said old new ReadFault = Rose old.read_faults new.read_faults
+Untaken said old new ReadFault = HasRisen old.read_faults new.read_faults
 Untaken said old new NoMemory = Unit {0}
 Untaken said old new Done = ⊥
 Untaken said old new Usage = ⊥

@@ -1,6 +1,6 @@
 ghost use Rattle.std.specs.Prelude.{◌≡◌, ◌≤◌, length, IfOk, MatchResult};
 ghost use Rattle.std.specs.String.{string_bytes};
-ghost use Rattle.plan_base.specs.Typing.{Typed};
+ghost use Rattle.typing_rules.specs.Typing.{Typed};
 ghost use Rattle.file_commands.specs.Said.{says};
 ghost use Rattle.file_commands.specs.Takes.{Refuses};
 ghost use Rattle.file_commands.specs.Checks.{program_limit, program_said, sizes_text};
@@ -8,7 +8,8 @@ ghost use Rattle.file_commands.specs.Checks.{program_limit, program_said, sizes_
 use crate::command::{FileCommand, print};
 use call_causes::{Cause, Refusal, cause_at};
 use node_io::Sink;
-use plan_base::{Program, code_size};
+use plan_base::Program;
+use plan_sizes::{Counted, code_size};
 use program_text::{place_of, read_program};
 use std::alloc::{AllocError, Global};
 

@@ -1,7 +1,7 @@
 ghost use Rattle.std.specs.Prelude.{◌≡◌, IfOk, MatchResult, Ok};
 ghost use Rattle.hex.specs.Hex.{decode_of, IsBytes};
 ghost use Rattle.packet_frame.specs.Typed.{plain_of};
-ghost use Rattle.frame_text.specs.Decoding.{frame_of};
+ghost use Rattle.packet_frame.specs.Decoding.{frame_of};
 ghost use Rattle.file_commands.specs.Said.{says};
 ghost use Rattle.file_commands.specs.Takes.{Refuses, Reads};
 ghost use Rattle.file_commands.specs.Shows.{frame_limit, without_feed, bytes_said, framed_said, frame_said};

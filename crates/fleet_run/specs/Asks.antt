@@ -7,7 +7,7 @@ use Rattle.network_plan.specs.Hosts.{dev_of}
 use Rattle.packet_frame.specs.declared.frame.PlainFrame.{PlainFrame}
 use Rattle.packet_frame.specs.Bytes.{frame_bytes}
 use Rattle.node_io.specs.declared.link.Peer.{Peer}
-use Rattle.node_io.specs.Causes.{Rose}
+use Rattle.node_io.specs.Causes.{HasRisen}
 use Rattle.node_io.specs.Links.{Bind, Heard, LinkState}
 use Rattle.node_io.specs.Sinks.{SinkState, Writes, FailsIn}
 use Rattle.fleet_run.specs.declared.fault.AskFault.{AskFault}
@@ -50,7 +50,7 @@ Sent a old new = IsTrue old.observable → new.sent ≡ old.sent ++ ask_sent a �
 -- what stands of the bind, the frame and the line
 abbrev pub AskResult : {T : Type 0} → AskFile → LinkState → LinkState → SinkState → SinkState → Result T AskFault → Type 0
 AskResult a old new out_old out_new (Ok x) = Bound a old new × Sent a old new × Writes out_old out_new (ask_line a)
-AskResult a old new out_old out_new (Err LinkFault) = Rose old.faults new.faults × MayBind a old new × (new.sent ≡ old.sent) × (out_new ≡ out_old)
+AskResult a old new out_old out_new (Err LinkFault) = HasRisen old.faults new.faults × MayBind a old new × (new.sent ≡ old.sent) × (out_new ≡ out_old)
 AskResult a old new out_old out_new (Err WriteFault) = Bound a old new × Sent a old new × FailsIn out_old out_new (ask_line a)
 AskResult a old new out_old out_new (Err NoMemory) = (new ≡ old) × (out_new ≡ out_old)
 
@@ -64,7 +64,7 @@ pub record Asks {T : Type 0} (a : AskFile) (old new : LinkState) (out_old out_ne
 -- the one bind and the one frame, or what stands of them where the link failed
 abbrev pub OneResult : {T E : Type 0} → Bind → Heard → LinkState → LinkState → Result T E → Type 0
 OneResult bind frame old new (Ok x) = (IsTrue old.observable → new.binds ≡ old.binds ++ bind ∷ []) × (IsTrue old.observable → new.sent ≡ old.sent ++ frame ∷ [])
-OneResult bind frame old new (Err e) = Rose old.faults new.faults × (IsTrue old.observable → (new.binds ≡ old.binds) ⊎ (new.binds ≡ old.binds ++ bind ∷ [])) × (new.sent ≡ old.sent)
+OneResult bind frame old new (Err e) = HasRisen old.faults new.faults × (IsTrue old.observable → (new.binds ≡ old.binds) ⊎ (new.binds ≡ old.binds ++ bind ∷ [])) × (new.sent ≡ old.sent)
 
 pub record SendsOne {T E : Type 0} (bind : Bind) (frame : Heard) (old new : LinkState) (result : Result T E) : Type 0 where
   pub observable : new.observable ≡ old.observable

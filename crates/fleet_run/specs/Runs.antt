@@ -1,7 +1,7 @@
 -- What stands after a fleet's run, and after each part of it.
 use Rattle.std.specs.Prelude.{ℕ, IsTrue, List, ◌≡◌, ◌++◌, ◌⊎◌, ◌≤◌, length, take, drop, Result, Ok, Err}
 use Rattle.network_plan.specs.declared.fleet.Kid.{Kid}
-use Rattle.node_io.specs.Causes.{Rose, one_more}
+use Rattle.node_io.specs.Causes.{HasRisen, one_more}
 use Rattle.node_io.specs.Sinks.{SinkState, Writes, FailsIn}
 use Rattle.node_io.specs.Spawners.{Words, SpawnerState, KeepsStatuses}
 use Rattle.node_io.specs.declared.spawner.Child.{Child}
@@ -25,7 +25,7 @@ pub record StartsPrefix (words : List Words) (old new : SpawnerState) : Type 0 w
 -- all were started, or a prefix of them
 abbrev pub StartResult : {T E : Type 0} → List Words → List Child → SpawnerState → SpawnerState → Result T E → Type 0
 StartResult words started old new (Ok x) = (length started ≡ length words) × Started words old new
-StartResult words started old new (Err e) = Rose old.faults new.faults × StartsPrefix words old new
+StartResult words started old new (Err e) = HasRisen old.faults new.faults × StartsPrefix words old new
 
 pub record StartsAll {T E : Type 0} (words : List Words) (started : List Child) (old new : SpawnerState) (result : Result T E) : Type 0 where
   pub kept : KeepsStatuses old new
@@ -37,13 +37,13 @@ pub record StartsAll {T E : Type 0} (words : List Words) (started : List Child) 
 pub record WaitsForAll (started : List Child) (old new : SpawnerState) : Type 0 where
   pub kept : KeepsStatuses old new
   pub starts : new.starts ≡ old.starts
-  pub waited : (base : List Child) → AreOpen base old.children started → (new.children ≡ base) ⊎ (Rose old.faults new.faults × LeavesOpen base new.children)
+  pub waited : (base : List Child) → AreOpen base old.children started → (new.children ≡ base) ⊎ (HasRisen old.faults new.faults × LeavesOpen base new.children)
 
 -- each was waited for, and its line written
 abbrev pub ReportResult : {T : Type 0} → List Kid → List ℕ → SpawnerState → SpawnerState → SinkState → SinkState → Result T FleetFault → Type 0
 ReportResult kids statuses old new out_old out_new (Ok x) = (length statuses ≡ length kids) × Writes out_old out_new (fleet_text kids statuses)
 ReportResult kids statuses old new out_old out_new (Err StartFault) = ⊥
-ReportResult kids statuses old new out_old out_new (Err WaitFault) = Rose old.faults new.faults × Writes out_old out_new (fleet_text kids statuses)
+ReportResult kids statuses old new out_old out_new (Err WaitFault) = HasRisen old.faults new.faults × Writes out_old out_new (fleet_text kids statuses)
 ReportResult kids statuses old new out_old out_new (Err WriteFault) = FailsIn out_old out_new (fleet_text kids statuses)
 ReportResult kids statuses old new out_old out_new (Err NoMemory) = Writes out_old out_new (fleet_text kids statuses)
 
@@ -67,12 +67,12 @@ FleetResult kids statuses old new out_old out_new (Ok end) =
     (length statuses ≡ length kids) × (end ≡ fleet_end kids statuses)
     × Started (fleet_starts kids) old new × (new.children ≡ old.children) × Writes out_old out_new (fleet_text kids statuses)
 FleetResult kids statuses old new out_old out_new (Err StartFault) =
-    Rose old.faults new.faults
+    HasRisen old.faults new.faults
     × StartsPrefix (fleet_starts kids) old new
-    × ((new.children ≡ old.children) ⊎ (Rose (one_more old.faults) new.faults × LeavesOpen old.children new.children))
+    × ((new.children ≡ old.children) ⊎ (HasRisen (one_more old.faults) new.faults × LeavesOpen old.children new.children))
     × (out_new ≡ out_old)
 FleetResult kids statuses old new out_old out_new (Err WaitFault) =
-    Rose old.faults new.faults
+    HasRisen old.faults new.faults
     × Started (fleet_starts kids) old new × LeavesOpen old.children new.children × Writes out_old out_new (fleet_text kids statuses)
 FleetResult kids statuses old new out_old out_new (Err WriteFault) =
     Started (fleet_starts kids) old new × LeavesOpen old.children new.children × FailsIn out_old out_new (fleet_text kids statuses)

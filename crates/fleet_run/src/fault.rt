@@ -1,5 +1,5 @@
 /// Why a request wasn't sent, or why its line wasn't written.
-#[derive(Debug, Clone, Copy, PartialEq, Eq)]
+#[derive(Clone, Copy, PartialEq, Eq)]
 pub enum AskFault {
     /// The link failed. No frame was sent.
     LinkFault,
@@ -10,7 +10,7 @@ pub enum AskFault {
 }
 
 /// Why a fleet ended early.
-#[derive(Debug, Clone, Copy, PartialEq, Eq)]
+#[derive(Clone, Copy, PartialEq, Eq)]
 pub enum FleetFault {
     /// A child wasn't started. Those started before were waited for, and no line was written.
     StartFault,

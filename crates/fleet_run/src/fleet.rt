@@ -39,7 +39,7 @@ fn prepare(alloc: Global, kids: &[Kid]) -> Result<Prepared, NoMemory>
 
 /// Starts the children of a fleet, in order, waits for each, in order, and writes `node @H status S` or `ask @H status S`
 /// for each. After a failed start those already started are waited for, without lines. A failed wait, a line that isn't
-/// written, and want of memory end the waiting.
+/// written, and `NoMemory` end the waiting.
 pub fn run_fleet<P: Spawner, K: Sink>(
     alloc: Global,
     fleet: &Fleet,

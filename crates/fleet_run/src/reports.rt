@@ -12,7 +12,7 @@ use plan_base::Host;
 use std::alloc::Global;
 
 /// How the children of a fleet ended.
-#[derive(Debug, Clone, Copy, PartialEq, Eq)]
+#[derive(Clone, Copy, PartialEq, Eq)]
 pub enum FleetEnd {
     /// All with status 0.
     Well,

@@ -4,8 +4,8 @@ use Rattle.std.specs.Fmt.{decimal}
 use Rattle.std.specs.List.{flat_map}
 use Rattle.plan_base.specs.declared.tree.Chunk.{Chunk}
 use Rattle.plan_base.specs.declared.tree.Packet.{Packet}
-use Rattle.plan_printer.specs.Pieces.{commas}
-use Rattle.plan_printer.specs.Printed.{value_text, program_text}
+use Rattle.printed_forms.specs.Pieces.{commas}
+use Rattle.printed_forms.specs.Printed.{value_text, program_text}
 use Rattle.service_api.specs.declared.advert.AdvertRow.{AdvertRow}
 use Rattle.packet_frame.specs.declared.frame.PlainFrame.{PlainFrame}
 

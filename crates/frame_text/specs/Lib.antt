@@ -1,3 +1,1 @@
 pub mod Frames
-pub mod Reasons
-pub mod Decoding

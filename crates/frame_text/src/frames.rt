@@ -2,8 +2,8 @@ ghost use Rattle.std.specs.Prelude.{◌≡◌, ◌++◌, [], codes, IfOk, OnOk, 
 ghost use Rattle.std.specs.Fmt.{decimal};
 ghost use Rattle.std.specs.String.{string_bytes};
 ghost use Rattle.std.specs.List.{flat_map};
-ghost use Rattle.plan_printer.specs.Pieces.{listed, commas};
-ghost use Rattle.plan_printer.specs.Printed.{value_text, program_text};
+ghost use Rattle.printed_forms.specs.Pieces.{listed, commas};
+ghost use Rattle.printed_forms.specs.Printed.{value_text, program_text};
 ghost use Rattle.packet_frame.specs.Typed.{plain_of};
 ghost use Rattle.packet_frame.specs.declared.frame.PlainFrame.{PlainFrame as Plain};
 ghost use Rattle.frame_text.specs.Frames.{chunk_text, packet_head as head_text, packet_line, row_line, frame_text};

@@ -1,6 +1,6 @@
 ghost use Rattle.std.specs.Prelude.{◌≡◌, ◌++◌, codes, IfOk, OnOk, OnErr};
 ghost use Rattle.std.specs.String.{string_bytes};
-ghost use Rattle.frame_text.specs.Reasons.{spelling_text, ill_text, reason_text};
+ghost use Rattle.packet_frame.specs.Reasons.{spelling_text, ill_text, reason_text};
 
 use chunk_spelling::SpellFault;
 use chunk_types::Ill;
@@ -37,7 +37,7 @@ fn ill_reason(alloc: Global, ill: &Ill) -> Result<String, AllocError>
     }
 }
 
-#[tactic(auto, unfolding(crate::specs::Reasons::reason_text))]
+#[tactic(auto, unfolding(packet_frame::specs::Reasons::reason_text))]
 fn reason_of(alloc: Global, fault: &FrameFault) -> Result<String, AllocError>
     ensures { IfOk result (λ text. string_bytes text ≡ reason_text fault.now) }
 {

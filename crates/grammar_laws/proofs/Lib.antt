@@ -13,3 +13,4 @@ pub mod Works
 pub mod TypesWork
 pub mod ExprsWork
 pub mod Ends
+pub mod Own

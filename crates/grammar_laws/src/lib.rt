@@ -4,9 +4,11 @@
 //! Each law stands on a function without code, so that contracts of other crates can name it.
 #![tactic(auto)]
 
-ghost use Rattle.std.specs.Prelude.{◌≡◌, ◌↔◌, ℕ, suc, Ok, Err};
+ghost use Rattle.std.specs.Prelude.{◌≡◌, ◌≢◌, ◌↔◌, ℕ, suc, List, Ok, Err};
 ghost use Rattle.plan_base.specs.declared.tree.Ty.{Ty};
+ghost use Rattle.read_laws.specs.Agenda.{FirstFault};
 ghost use Rattle.plan_grammar.specs.declared.fault.ParseFault.{ParseFault};
+ghost use Rattle.plan_grammar.specs.declared.fault.ParseFault.TheVariants as fault;
 ghost use Rattle.plan_grammar.specs.declared.node.Node.{Node};
 ghost use Rattle.plan_grammar.specs.declared.level.Level.TheVariants as levels;
 ghost use Rattle.plan_grammar.specs.Ahead.{Front};
@@ -14,7 +16,7 @@ ghost use Rattle.plan_grammar.specs.Types.{type_to};
 ghost use Rattle.plan_grammar.specs.Exprs.{expr_to};
 ghost use Rattle.grammar_laws.specs.Grammar.{TypeAt, ExprAt};
 ghost use Rattle.grammar_laws.specs.Follow.{EndsType, EndsExpr};
-ghost use Rattle.grammar_laws.specs.Agenda.{Item, a_type, whole, FirstRefusal};
+ghost use Rattle.grammar_laws.specs.Agenda.{Item, a_type, whole, step, FirstRefusal};
 ghost use Rattle.grammar_laws.specs.Answers.{IsAnswered};
 
 /// What is read as a type or an expression is one by the grammar.
@@ -46,4 +48,9 @@ pub fn refusals_are_first()
 pub fn one_answer()
     ensures some { (r : ℕ) (f : Front) → IsAnswered r f }
     ensures apart { (r : ℕ) (f g : Front) (n : Node) (e : ParseFault) → ExprAt r f n g → EndsExpr g → FirstRefusal e (whole r) f → ⊥ }
+{}
+
+/// No first refusal of an agenda is `NoMemory`.
+pub fn refusals_hold_no_memory()
+    ensures { (e : ParseFault) (items : List Item) (f : Front) → FirstFault step e items f → e ≢ fault.NoMemory }
 {}

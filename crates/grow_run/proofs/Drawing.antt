@@ -11,10 +11,10 @@ use Rattle.network_plan.specs.declared.event.WorldEvent.TheVariants.{Tick}
 use Rattle.world_model.specs.declared.lines.Wired.{Wired}
 use Rattle.world_model.specs.World.{WorldState}
 use Rattle.wire_numbers.specs.Numbers.{lowest, highest}
-use Rattle.grown_network.specs.Grow.{event_of, drawn, next_event}
-use Rattle.event_draws.specs.declared.choice.Choice.{Choice}
-use Rattle.event_draws.specs.declared.choice.Choice.TheVariants.{Deliver, Lose}
-use Rattle.event_draws.specs.Draws.{draw, choose_tick, choose_inject, choose_send, choose_by, choose}
+use Rattle.grow_run.specs.Grow.{event_of, drawn, next_event}
+use Rattle.grow_run.specs.declared.choice.Choice.{Choice}
+use Rattle.grow_run.specs.declared.choice.Choice.TheVariants.{Deliver, Lose}
+use Rattle.grow_run.specs.Draws.{draw, choose_tick, choose_inject, choose_send, choose_by, choose}
 use Rattle.grow_run.specs.Events.{choice_fits, drawn_event}
 
 by_number : (g : Lcg) (lowest highest : ℕ) (a b c d e : Bool)

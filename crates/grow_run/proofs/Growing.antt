@@ -7,15 +7,15 @@ use Rattle.plan_base.specs.declared.ids.Host.{Host}
 use Rattle.plan_base.specs.declared.tree.Chunk.{Chunk}
 use Rattle.plan_base.specs.declared.tree.Program.{Program}
 use Rattle.program_text.specs.Texts.{program_of}
-use Rattle.service_api.specs.Services.{Standing}
+use Rattle.service_api.specs.Services.{ServiceState}
 use Rattle.network_plan.specs.declared.event.WorldEvent.{WorldEvent}
 use Rattle.world_model.specs.World.{WorldState, happens, entries, world_after, history_of, opening}
 use Rattle.world_model.specs.Sound.{event_fits, EventsFit}
 use Rattle.run_ledger.specs.Stands.{Stands}
 use Rattle.run_ledger.proofs.Runs.{world_after-push, history_of-push, event_fits_ledger}
-use Rattle.grown_network.specs.Grow.{ring, next_event, grown, Grow}
-use Rattle.grown_network.specs.Summaries.{summary_of, grown_text, GrowText}
-use Rattle.grown_network.proofs.RingRules.{ring_keeps}
+use Rattle.grow_run.specs.Grow.{ring, next_event, grown, Grow}
+use Rattle.grow_run.specs.Summaries.{summary_of, grown_text, GrowText}
+use Rattle.grow_run.proofs.RingRules.{ring_keeps}
 use Rattle.net_world.specs.Stands.{WorldStands}
 use Rattle.net_world.specs.Running.{IsCountable}
 use Rattle.net_world.proofs.RunLaws.{opening_made}
@@ -28,7 +28,7 @@ abbrev start : WorldState
 start = opening ring
 
 -- some of n events were made, and the growth stands for what came of them
-pub record Grows {S : Type 0} (stands : S → Standing) (ping : Host → Host → Chunk) (n : ℕ) (first : Lcg) (made : ℕ) (g : Growth S) : Type 0 where
+pub record Grows {S : Type 0} (stands : S → ServiceState) (ping : Host → Host → Chunk) (n : ℕ) (first : Lcg) (made : ℕ) (g : Growth S) : Type 0 where
   pub events : List WorldEvent
   pub all : events ++ grown ping (n - made) g.words (world_after events (opening ring)) ≡ grown ping n first (opening ring)
   pub many : length events ≡ made
@@ -54,7 +54,7 @@ still_start : start ≡ world_after [] start
 unfolding world_after
 still_start = refl
 
-module _ {S : Type 0} (stands : S → Standing) (ping : Host → Host → Chunk) (n : ℕ) (first : Lcg) where
+module _ {S : Type 0} (stands : S → ServiceState) (ping : Host → Host → Chunk) (n : ℕ) (first : Lcg) where
   pub grows_none : (g : Growth S) → g.words ≡ first → WorldStands stands g.world (opening ring) → Stands [] g.ledger → g.summary ≡ summary_of [] → Grows stands ping n first 0 g
   grows_none g words world ledger summary = let all_left : n - 0 ≡ n = omega arith in let back = sym still_start in record {
     events = [];

@@ -4,11 +4,11 @@ use Rattle.rand_pcg.specs.Lcg.{Lcg}
 use Rattle.plan_base.specs.declared.ids.Host.{Host}
 use Rattle.plan_base.specs.declared.tree.Chunk.{Chunk}
 use Rattle.network_plan.specs.declared.event.WorldEvent.{WorldEvent}
-use Rattle.event_draws.specs.declared.choice.Choice.{Choice}
-use Rattle.event_draws.specs.declared.choice.Choice.TheVariants.{Send}
+use Rattle.grow_run.specs.declared.choice.Choice.{Choice}
+use Rattle.grow_run.specs.declared.choice.Choice.TheVariants.{Send}
 use Rattle.world_model.specs.World.{WorldState, history_of, opening}
 use Rattle.world_model.specs.declared.lines.Entry.{Entry}
-use Rattle.grown_network.specs.Grow.{event_of, drawn, ring, grown}
+use Rattle.grow_run.specs.Grow.{event_of, drawn, ring, grown}
 
 -- a device is at most 8
 abbrev pub choice_fits : Choice → Type 0

@@ -1,2 +1,5 @@
 pub mod Pings
 pub mod Events
+pub mod Draws
+pub mod Grow
+pub mod Summaries

@@ -5,7 +5,7 @@ use Rattle.plan_base.specs.declared.tree.Chunk.{Chunk}
 use Rattle.plan_base.specs.declared.tree.Program.{Program}
 use Rattle.plan_base.specs.declared.tree.Value.TheVariants as value
 use Rattle.program_text.specs.Texts.{program_of}
-use Rattle.grown_network.specs.Summaries.{GrowText}
+use Rattle.grow_run.specs.Summaries.{GrowText}
 use Rattle.node_io.specs.Sinks.{SinkState, Writes, FailsIn}
 use Rattle.net_world.specs.declared.runs.RunFault.{RunFault}
 use Rattle.net_world.specs.declared.runs.RunFault.TheVariants.{WriteFault, NoMemory}

@@ -1,13 +1,13 @@
 ghost use Rattle.std.specs.Prelude.{◌≡◌, ◌≤◌, IfOk};
 ghost use Rattle.world_model.specs.World.{WorldState};
 ghost use Rattle.world_model.specs.Sound.{event_fits};
-ghost use Rattle.grown_network.specs.Grow as grow;
+ghost use Rattle.grow_run.specs.Grow as grow;
 ghost use Rattle.net_world.specs.Stands.{WorldStands};
 ghost use Rattle.grow_run.specs.Pings as spec;
 ghost use Rattle.grow_run.specs.Events.{choice_fits, drawn_event};
 
 use crate::pings::ping;
-use event_draws::{Choice, choose};
+use crate::{Choice, choose};
 use net_world::World;
 use network_plan::WorldEvent;
 use plan_base::{Host, NoMemory};

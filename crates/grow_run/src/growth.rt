@@ -1,22 +1,21 @@
 ghost use Rattle.std.specs.Prelude.{◌≡◌, ◌≤◌, ◌<◌, ◌+◌, ◌-◌, ◌^◌, ◌++◌, [], ℕ, List, map, IfOk, OnOk};
 ghost use Rattle.plan_base.specs.declared.ids.Family.{Family};
-ghost use Rattle.event_draws.specs.Draws.{begun};
+ghost use Rattle.grow_run.specs.Draws.{begun};
 ghost use Rattle.world_model.specs.declared.lines.Entry.{Entry};
 ghost use Rattle.world_model.specs.World.{WorldState, happens, entries, opening, opening_services};
 ghost use Rattle.world_model.specs.Counts.{Balanced};
 ghost use Rattle.world_model.specs.Sound.{event_fits};
 ghost use Rattle.run_ledger.specs.Stands.{Stands};
-ghost use Rattle.grown_network.specs.Grow as grow;
-ghost use Rattle.grown_network.specs.Summaries.{summary_of, grown_text};
+ghost use Rattle.grow_run.specs.Grow as grow;
+ghost use Rattle.grow_run.specs.Summaries.{summary_of, grown_text};
 ghost use Rattle.net_world.specs.Stands.{WorldStands};
 ghost use Rattle.net_world.specs.Running.{IsCountable};
 ghost use Rattle.grow_run.specs.Events.{grown_history};
 ghost use Rattle.grow_run.specs.Pings as spec;
 
 use crate::events::next_event;
+use crate::{Summary, begin, put_summary, ring, totals};
 use bound_ledger::Ledger;
-use event_draws::begin;
-use grown_network::{Summary, put_summary, ring, totals};
 use net_world::World;
 use network_plan::WorldEvent;
 use plan_base::{Bytes, NoMemory};
@@ -41,7 +40,7 @@ impl<S: Services + Drop> Growth<S> {
     pub fn begin(alloc: Global, seed: u64, services: Items<S>) -> Result<Growth<S>, NoMemory>
         requires services { map S.stands services ≡ map opening_services grow.ring.hosts }
         ensures world { IfOk result (λ g. WorldStands S.stands g.world (opening grow.ring)) }
-        ensures begun { IfOk result (λ g. (g.words ≡ begun seed) × (g.summary ≡ summary_of [])) }
+        ensures fresh { IfOk result (λ g. (g.words ≡ begun seed) × (g.summary ≡ summary_of [])) }
         ensures ledger { IfOk result (λ g. Stands [] g.ledger) }
     {
         let topology = ring(alloc)?;

@@ -2,9 +2,22 @@
 //! comes, and the summary of it is written.
 #![tactic(auto)]
 
+mod choice;
+mod draws;
 mod events;
 mod growth;
+mod laws;
 mod pings;
 mod run;
+mod summary;
+mod sums;
+mod text;
+mod topology;
 
+pub use choice::Choice;
+pub use draws::{begin, choose};
 pub use run::grow;
+pub use summary::Summary;
+pub use sums::totals;
+pub use text::put_summary;
+pub use topology::ring;

@@ -1,6 +1,6 @@
 ghost use Rattle.std.specs.Prelude.{◌≡◌, ◌≤◌, map, IfOk};
 ghost use Rattle.world_model.specs.World.{opening_services};
-ghost use Rattle.grown_network.specs.Grow.{ring};
+ghost use Rattle.grow_run.specs.Grow.{ring};
 ghost use Rattle.grow_run.specs.Pings.{OfGrown, Grows};
 
 use crate::growth::Growth;

@@ -13,7 +13,7 @@ use std::marker::Model;
 ///
 /// Contracts see its items, and as `spare` for how many more there is room. Its order is that in which the keys
 /// were first put; an index beside the items finds a key in some log2 n comparisons.
-#[derive(Debug, Drop)]
+#[derive(Drop)]
 pub struct KeyedList<T: HasKey> {
     items: Vec<T>,
     /// The places of the items by rising keys.

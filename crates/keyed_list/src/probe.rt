@@ -1,7 +1,7 @@
 use item_keys::HasKey;
 
 /// A key to look for.
-#[derive(Debug, Clone, Copy)]
+#[derive(Clone, Copy)]
 pub struct Probe<'a> {
     /// The bytes of the name.
     pub name: &'a [u8],

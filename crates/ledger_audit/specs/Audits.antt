@@ -1,7 +1,7 @@
 -- What the audit of logs answers, and the counts of a family over them.
 use Rattle.std.specs.Prelude.{◌≡◌, ℕ, ◌+◌, List, [], ◌∷◌, ◌++◌, sum_by, Option, Some, None}
 use Rattle.plan_base.specs.declared.ids.Family.{Family}
-use Rattle.frame_text.specs.Decoding.{frame_of}
+use Rattle.packet_frame.specs.Decoding.{frame_of}
 use Rattle.network_plan.specs.declared.event.LogEvent.{LogEvent}
 use Rattle.node_model.specs.State.{NodeState}
 use Rattle.node_model.specs.Counts.{act_sum, act_granted, act_hops, act_evals, act_left, node_live, frame_came}

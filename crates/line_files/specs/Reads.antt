@@ -23,7 +23,7 @@ abbrev pub Reads : {X Y : Type 0} → (X → Y) → Result X LineReason → List
 Reads view (Ok x) rest read = read ≡ Ok (view x, rest)
 Reads view (Err e) rest read = read ≡ Err e
 
--- a reader that takes memory stopped for the reason that is read, or for want of memory
+-- a reader that takes memory stopped for the reason that is read, or by running out of memory
 abbrev pub Fails : {Y : Type 0} → Stop → Result Y LineReason → Type 0
 Fails stops.NoMemory read = Unit {0}
 Fails (stops.Reason r) read = read ≡ Err r

@@ -5,7 +5,7 @@ use program_text::TextFault;
 use std::alloc::AllocError;
 
 /// Why a line is outside a format.
-#[derive(Debug, Drop)]
+#[derive(Drop)]
 pub enum LineReason {
     /// The first line is not the header.
     BadHeader,
@@ -28,7 +28,7 @@ pub enum LineReason {
 }
 
 /// Why a file of lines has no value.
-#[derive(Debug, Drop)]
+#[derive(Drop)]
 pub enum LineFault {
     /// The first line outside the format, from 1, and the reason.
     Line(u32, LineReason),
@@ -47,7 +47,7 @@ impl From<AllocError> for LineFault {
 }
 
 /// Why the reading of a line stopped.
-#[derive(Debug, Drop)]
+#[derive(Drop)]
 pub enum Stop {
     /// The line is outside the format for this reason.
     Reason(LineReason),

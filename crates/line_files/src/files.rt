@@ -14,18 +14,18 @@ pub trait LineFile: Drop + Sized {
     // the format: what the line with a number adds, and what the file says where it ends in front of that line
     ghost format: { Format Self Self.Said };
 
-    /// Reads the line with this number, from 1. The fault is the line's reason, or want of memory.
+    /// Reads the line with this number, from 1. The fault is the line's reason, or running out of memory.
     fn line(&mut self, alloc: Global, number: u32, line: &[u8]) -> Result<(), LineFault>
         ensures { FileLeaves result self.new (format.step number line.now self.old) };
 
     /// What the file says that ends in front of the line with this number. The fault is that the file may not end there,
-    /// or want of memory.
+    /// or running out of memory.
     fn end(self, alloc: Global, number: u32) -> Result<Self::Said, LineFault>
         ensures { FileGives (λ s. s) result (format.finish number self) };
 }
 
 #[tactic(auto, using(crate::proofs::FileLaws::file_more, crate::proofs::FileLaws::file_stop, crate::proofs::FileLaws::file_done))]
-/// What a file says, or its first line outside the format with the reason, or want of memory. Condition: at most
+/// What a file says, or its first line outside the format with the reason, or running out of memory. Condition: at most
 /// 4,194,304 bytes.
 pub fn read_file<F: LineFile>(alloc: Global, begin: F, bytes: &[u8]) -> Result<F::Said, LineFault>
     requires { length bytes.now ≤ 4194304 }

@@ -13,13 +13,14 @@ use crate::fault::{LineReason, Stop};
 use crate::numbers::number;
 use crate::words::{Words, allow, is};
 use chunk_types::{CheckedChunk, ChunkFault, chunk_of};
-use plan_base::{Bytes, Chunk, Fun, Name, NameFault, Values, chunk_weight};
+use plan_base::{Bytes, Chunk, Fun, Name, NameFault, Values};
+use plan_sizes::chunk_weight;
 use plan_types::Checked;
 use program_text::{TextFault, read_args, read_program};
 use std::alloc::{AllocError, Global};
 
 /// A program whose lines are being read.
-#[derive(Debug, Drop)]
+#[derive(Drop)]
 pub struct OpenProgram {
     /// The number of the line that begins it.
     pub line: u32,

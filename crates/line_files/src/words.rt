@@ -57,7 +57,7 @@ pub fn allow(kept: bool, reason: LineReason) -> Result<(), LineReason>
 }
 
 /// The words of a line that are still to come.
-#[derive(Debug, Drop)]
+#[derive(Drop)]
 pub struct Words<'a> {
     rest: &'a [u8],
     more: bool,

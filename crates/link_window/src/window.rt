@@ -8,7 +8,7 @@ ghost use Rattle.link_window.specs.declared.window.Took.TheVariants.{Fresh as Fr
 const PLACES: u64 = 1024;
 
 /// What a frame bears under version 2: the moment at which its sender began, and its number on its device.
-#[derive(Debug, Clone, Copy, PartialEq, Eq)]
+#[derive(Clone, Copy, PartialEq, Eq)]
 pub struct Stamp {
     /// The moment at which the sender began.
     pub boot: u64,
@@ -17,7 +17,7 @@ pub struct Stamp {
 }
 
 /// The version of a node: that of the frames that it sends, and of those that it reads.
-#[derive(Debug, Clone, Copy, PartialEq, Eq)]
+#[derive(Clone, Copy, PartialEq, Eq)]
 pub enum Version {
     /// Frames bear no stamp.
     One,
@@ -26,7 +26,7 @@ pub enum Version {
 }
 
 /// What a window takes a stamp as.
-#[derive(Debug, Clone, Copy, PartialEq, Eq)]
+#[derive(Clone, Copy, PartialEq, Eq)]
 pub enum Took {
     /// It wasn't taken before, and is taken now.
     Fresh,

@@ -5,7 +5,7 @@ use Rattle.std.proofs.lemmas.List.{take_all, take-append-drop, length-take-le}
 use Rattle.std.proofs.Math.Seq.{take-append-add}
 use Rattle.plan_base.specs.declared.ids.Host.{Host}
 use Rattle.network_plan.specs.declared.event.LogEvent.{LogEvent}
-use Rattle.service_api.specs.Services.{Standing}
+use Rattle.service_api.specs.Services.{ServiceState}
 use Rattle.node_io.specs.Sinks.{SinkState, Writes, FailsIn}
 use Rattle.node_io.proofs.SinkLaws.{writes_none, writes_both, writes_as, fails_as, fails_more, fails_longer}
 use Rattle.log_replay.specs.Replays.{Stops}
@@ -51,7 +51,7 @@ next_played here s es i n d h number =
 
 -- ---- the loop
 
-pub none_stands : {S : Type 0} (stands : S → Standing) (n : Node S) (s : NodeState) → NodeStands stands n s → NodeStands stands n (node_after s [])
+pub none_stands : {S : Type 0} (stands : S → ServiceState) (n : Node S) (s : NodeState) → NodeStands stands n s → NodeStands stands n (node_after s [])
 unfolding node_after
 none_stands stands n s h = h
 
@@ -59,7 +59,7 @@ one_after : (s : NodeState) (e : LogEvent) → node_after s (e ∷ []) ≡ node_
 unfolding node_after
 one_after s e = refl
 
-pub next_stands : {S : Type 0} (stands : S → Standing) (n : Node S) (s : NodeState) (es : List LogEvent) (i : ℕ) (d e : LogEvent) → i < length es → e ≡ get_or es i d
+pub next_stands : {S : Type 0} (stands : S → ServiceState) (n : Node S) (s : NodeState) (es : List LogEvent) (i : ℕ) (d e : LogEvent) → i < length es → e ≡ get_or es i d
     → NodeStands stands n (node_by (node_after s (take i es)) e) → NodeStands stands n (node_after s (take (i + 1) es))
 next_stands stands n s es i d e h same x =
     let g = get_or es i d in

@@ -7,8 +7,8 @@ use Rattle.plan_base.specs.declared.tree.Chunk.{Chunk}
 use Rattle.plan_base.specs.Trees.{ValueLayer}
 use Rattle.plan_base.specs.WellFormed.{typed_value_level, program_has_types, value_has_types, chunk_has_types}
 use Rattle.plan_base.proofs.FormLaws.{value_has_types_out, chunk_has_types_is}
-use Rattle.plan_base.specs.Typing.{HasType, HaveTypes, AllHaveType, IsTypedChunk}
-use Rattle.plan_base.specs.Typing as y
+use Rattle.typing_rules.specs.Typing.{HasType, HaveTypes, AllHaveType, IsTypedChunk}
+use Rattle.typing_rules.specs.Typing as y
 use Rattle.plan_types.proofs.Whole.{program_whole}
 use Rattle.small_laws.proofs.Bools.{and_both}
 

@@ -18,8 +18,8 @@ use Rattle.plan_base.specs.Trees.{ValueLayer}
 use Rattle.plan_base.specs.Sizes.{weight, weight_level, chunk_weight, value_depth}
 use Rattle.plan_base.proofs.SizeLaws.{weight_out}
 use Rattle.plan_base.specs.WellFormed.{well_formed_text}
-use Rattle.plan_base.specs.Typing.{IsSmall, HasType}
-use Rattle.plan_base.specs.TypingNames.{of_list, takes, makes, kind_of, joining, listing, is_joined, is_joined_at}
+use Rattle.typing_rules.specs.Typing.{IsSmall, HasType}
+use Rattle.typing_rules.specs.TypingNames.{of_list, takes, makes, kind_of, joining, listing, is_joined, is_joined_at}
 use Rattle.value_rules.specs.Rules as rules
 use Rattle.value_rules.specs.Rules.{Given, gives, raises, unfit, limited, joined, put_first, binary, found, part, first_item, later_items, of_one, primitive, printed_int, printed_host, too_large}
 use Rattle.small_laws.proofs.Bools.{and_both, and_left}

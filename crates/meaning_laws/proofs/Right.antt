@@ -12,7 +12,7 @@ use Rattle.plan_base.specs.declared.tree.Svc.{Svc}
 use Rattle.plan_base.specs.declared.tree.Value.{Value}
 use Rattle.plan_base.specs.declared.tree.Chunk.{Chunk}
 use Rattle.plan_base.specs.Sizes.{weight, nesting}
-use Rattle.plan_base.specs.Typing.{IsSmall, HasType}
+use Rattle.typing_rules.specs.Typing.{IsSmall, HasType}
 use Rattle.value_rules.specs.Rules.{Given, gives, raises, unfit, too_large}
 use Rattle.service_api.specs.declared.answer.Note.{Note}
 use Rattle.service_api.specs.declared.answer.Answer.{Answer}

@@ -29,10 +29,10 @@ use Rattle.plan_base.specs.declared.tree.Chunk.{Chunk}
 use Rattle.plan_base.specs.Trees.{ExprLayer}
 use Rattle.plan_base.specs.Sizes.{weight, weight_level, chunk_weight, nesting, nesting_level, chunk_nesting, largest_by}
 use Rattle.plan_base.proofs.SizeLaws.{weight_out, nesting_out, chunk_weight_is, chunk_nesting_is}
-use Rattle.plan_base.specs.Typing.{IsSmall, literal_type, HasTy, literal, variable, empty, raising, tuple, part, of_items, primitive, serving, call, choice, binder, sequence, both, either, negation, calculation, join, comparison, order, prefix, handling, fold_left, fold_right, packing, evaluation, remote, neighbour, HaveTys, no_parts, and_part, ClausesHaveTy, no_clauses, and_clause, Typed, HasType, unit, bool, int, char, str, blob, host, dev, list, chunk, HaveTypes, no_values, and_value, AllHaveType, no_items, and_item, IsTypedChunk, within, IsShallow}
+use Rattle.typing_rules.specs.Typing.{IsSmall, literal_type, HasTy, literal, variable, empty, raising, tuple, part, of_items, primitive, serving, call, choice, binder, sequence, both, either, negation, calculation, join, comparison, order, prefix, handling, fold_left, fold_right, packing, evaluation, remote, neighbour, HaveTys, no_parts, and_part, ClausesHaveTy, no_clauses, and_clause, Typed, HasType, unit, bool, int, char, str, blob, host, dev, list, chunk, HaveTypes, no_values, and_value, AllHaveType, no_items, and_item, IsTypedChunk, within, IsShallow}
 use Rattle.plan_base.specs.WellFormed.{has_from_to, names_all_but_last, well_formed_type, formed_expr, formed_chunk, well_formed_program, IsWellFormedProgram, IsWellFormedExpr}
-use Rattle.plan_base.specs.Typing as typing
-use Rattle.plan_base.specs.TypingNames.{place_of, service_of, prim_of, binding, param_types, part_of, of_list, makes}
+use Rattle.typing_rules.specs.Typing as typing
+use Rattle.typing_rules.specs.TypingNames.{place_of, service_of, prim_of, binding, param_types, part_of, of_list, makes}
 use Rattle.value_rules.specs.Rules as rules
 use Rattle.service_api.specs.Services.{IsGoodChunk, AreGoodValues}
 use Rattle.plan_meaning.specs.State.{VisitState}

@@ -15,7 +15,7 @@ use Rattle.plan_base.specs.declared.tree.Program.{Program}
 use Rattle.plan_base.specs.declared.tree.Value.{Value}
 use Rattle.plan_base.specs.declared.tree.Chunk.{Chunk}
 use Rattle.plan_base.specs.Trees.{ExprLayer}
-use Rattle.plan_base.specs.TypingNames.{place_of, service_of, prim_of}
+use Rattle.typing_rules.specs.TypingNames.{place_of, service_of, prim_of}
 use Rattle.plan_base.specs.Sizes.{weight}
 use Rattle.value_rules.specs.Rules.{Given, gives, raises, unfit, too_large, binary, part, primitive}
 use Rattle.plan_meaning.specs.declared.stop.Stop.{Stop}

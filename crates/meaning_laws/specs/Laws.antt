@@ -4,7 +4,7 @@ use Rattle.plan_base.specs.declared.ids.Family.{Family}
 use Rattle.plan_base.specs.declared.tree.Chunk.{Chunk}
 use Rattle.plan_base.specs.declared.tree.Value.{Value}
 use Rattle.service_api.specs.declared.ctx.Ctx.{Ctx}
-use Rattle.service_api.specs.Services.{Standing}
+use Rattle.service_api.specs.Services.{ServiceState}
 use Rattle.plan_meaning.specs.declared.outcome.Outcome.TheVariants as outcome
 use Rattle.plan_meaning.specs.declared.outcome.Visit.{Visit}
 use Rattle.plan_meaning.specs.declared.stop.Stop.TheVariants as stop
@@ -79,18 +79,18 @@ IsLonger p s = (k : ℕ) → ¬ IsSpent (p s).after → p (more k s) ≡ step_mo
 -- ---- visits by their allowance
 
 -- what the evaluation of a chunk ends with, with so much work to spend
-abbrev pub with_allowance : ℕ → Chunk → Ctx → Family → Standing → After Value
+abbrev pub with_allowance : ℕ → Chunk → Ctx → Family → ServiceState → After Value
 with_allowance w k ctx family n = (visited meaning k (begun w ctx family n)).after
 
 -- with some allowance the visit ends by itself
-abbrev pub VisitEnds : Chunk → Ctx → Family → Standing → Type 0
+abbrev pub VisitEnds : Chunk → Ctx → Family → ServiceState → Type 0
 VisitEnds k ctx family n = (w : ℕ) × (¬ IsSpent (with_allowance w k ctx family n))
 
 -- any two allowances that suffice give the same: outcome, effects and work
-abbrev pub VisitsAlike : Chunk → Ctx → Family → Standing → Type 0
-VisitsAlike k ctx family n = (v w : ℕ) (q r : Visit) (m o : Standing) → IsVisit v k ctx family n q m → IsVisit w k ctx family n r o
+abbrev pub VisitsAlike : Chunk → Ctx → Family → ServiceState → Type 0
+VisitsAlike k ctx family n = (v w : ℕ) (q r : Visit) (m o : ServiceState) → IsVisit v k ctx family n q m → IsVisit w k ctx family n r o
     → q.outcome ≢ outcome.WorkSpent → r.outcome ≢ outcome.WorkSpent → (q ≡ r) × (m ≡ o)
 
 -- no allowance up to this one suffices
-abbrev pub NoneSuffices : ℕ → Chunk → Ctx → Family → Standing → Type 0
+abbrev pub NoneSuffices : ℕ → Chunk → Ctx → Family → ServiceState → Type 0
 NoneSuffices w k ctx family n = (v : ℕ) → v ≤ w → IsSpent (with_allowance v k ctx family n)

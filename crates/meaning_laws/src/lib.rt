@@ -9,12 +9,12 @@ ghost use Rattle.plan_base.specs.declared.tree.Param.{Param};
 ghost use Rattle.plan_base.specs.declared.tree.Fun.{Fun};
 ghost use Rattle.plan_base.specs.declared.tree.Ty.{Ty};
 ghost use Rattle.plan_base.specs.declared.tree.Value.{Value};
-ghost use Rattle.plan_base.specs.Typing.{Typed, HasTy, HasType, IsTypedChunk};
+ghost use Rattle.typing_rules.specs.Typing.{Typed, HasTy, HasType, IsTypedChunk};
 ghost use Rattle.plan_base.specs.WellFormed.{IsWellFormedProgram, IsWellFormedExpr, ProgramHasTypes, ValueHasTypes, ChunkHasTypes};
-ghost use Rattle.plan_base.specs.TypingNames.{place_of};
+ghost use Rattle.typing_rules.specs.TypingNames.{place_of};
 ghost use Rattle.plan_base.specs.declared.ids.Family.{Family};
 ghost use Rattle.service_api.specs.declared.ctx.Ctx.{Ctx};
-ghost use Rattle.service_api.specs.Services.{Standing, IsGoodValue, IsGoodChunk};
+ghost use Rattle.service_api.specs.Services.{ServiceState, IsGoodValue, IsGoodChunk};
 ghost use Rattle.plan_meaning.specs.declared.outcome.Outcome.TheVariants as outcome;
 ghost use Rattle.plan_meaning.specs.declared.outcome.Visit.{Visit};
 ghost use Rattle.plan_meaning.specs.Visit.{IsVisit};
@@ -77,8 +77,8 @@ pub fn endings()
 /// Visits with different allowances: any two that suffice give the same outcome, effects and work, and a visit's work is spent
 /// exactly where no allowance up to its own suffices.
 pub fn visits_by_allowance()
-    ensures alike { (k : Chunk) (ctx : Ctx) (family : Family) (n : Standing) → VisitsAlike k ctx family n }
-    ensures spent { (k : Chunk) (ctx : Ctx) (family : Family) (n : Standing) (w : ℕ) (r : Visit) (new : Standing) → IsVisit w k ctx family n r new → (r.outcome ≡ outcome.WorkSpent) ↔ NoneSuffices w k ctx family n }
+    ensures alike { (k : Chunk) (ctx : Ctx) (family : Family) (n : ServiceState) → VisitsAlike k ctx family n }
+    ensures spent { (k : Chunk) (ctx : Ctx) (family : Family) (n : ServiceState) (w : ℕ) (r : Visit) (new : ServiceState) → IsVisit w k ctx family n r new → (r.outcome ≡ outcome.WorkSpent) ↔ NoneSuffices w k ctx family n }
 {}
 
 /// No type of `[]` or `raise` is missing in a typed program, nor in the code of a chunk inside a typed value.

@@ -6,7 +6,7 @@ use Rattle.plan_base.specs.declared.ids.Host.{Host}
 use Rattle.plan_base.specs.declared.ids.Dev.{Dev}
 use Rattle.packet_frame.specs.declared.frame.PlainFrame.{PlainFrame}
 use Rattle.packet_frame.specs.Bytes.{frame_bytes}
-use Rattle.service_api.specs.Services.{Standing}
+use Rattle.service_api.specs.Services.{ServiceState}
 use Rattle.spelled_frame.specs.Spelled.{what_of}
 use Rattle.node_model.specs.declared.acts.Acts.{Acts}
 use Rattle.node_model.specs.State.{NodeState}
@@ -16,16 +16,16 @@ use Rattle.world_model.specs.declared.lines.Line.{Line}
 use Rattle.world_model.specs.declared.lines.Line.TheVariants.{Wire, Off, Lost, Nothing}
 use Rattle.world_model.specs.declared.lines.LinkEnd.{LinkEnd}
 use Rattle.world_model.specs.declared.lines.Wired.{Wired}
-use Rattle.world_model.specs.World.{WorldState, Happened, nothing, lines_at, place_of, step_at, step_place, steps, steps_at, far_end, wire_place, send_taken, send_at, send_over, send_place, sends, deliver_at, deliver_to, deliver_frame, deliver_place, delivers, lose_frame, lose_place, loses}
+use Rattle.world_model.specs.World.{WorldState, EventResult, nothing, lines_at, place_of, step_at, step_place, steps, steps_at, far_end, wire_place, send_taken, send_at, send_over, send_place, sends, deliver_at, deliver_to, deliver_frame, deliver_place, delivers, lose_frame, lose_place, loses}
 use Rattle.net_world.specs.declared.network.Network.{Network}
 use Rattle.net_world.specs.Stands.{AllStand, WorldStands, IsHappened, StepsAt}
 
-module _ {S : Type 0} (stands : S → Standing) where
+module _ {S : Type 0} (stands : S → ServiceState) where
   -- nothing happens
   nothing_happens : (n : Network S) (w : WorldState) (lines : List Line) → WorldStands stands n w → lines ≡ Nothing ∷ [] → IsHappened stands (nothing w) lines n
   nothing_happens n w lines h e = record { list = e; world = h }
 
-  as_event : (a b : Happened) (lines : List Line) (n : Network S) → a ≡ b → IsHappened stands b lines n → IsHappened stands a lines n
+  as_event : (a b : EventResult) (lines : List Line) (n : Network S) → a ≡ b → IsHappened stands b lines n → IsHappened stands a lines n
   as_event a b lines n e h = subst (λ x. IsHappened stands x lines n) (sym e) h
 
   -- the nodes, lent

@@ -3,7 +3,7 @@ use Rattle.std.proofs.Common.{◌≡◌, ℕ, zero, suc, ◌<◌, List, [], ◌�
 use Rattle.std.specs.Prelude.{map, slice_get, Some}
 use Rattle.std.proofs.lemmas.List.{map-append, length_push}
 use Rattle.std.proofs.lemmas.Option.{slice_get_within}
-use Rattle.service_api.specs.Services.{Standing}
+use Rattle.service_api.specs.Services.{ServiceState}
 use Rattle.network_plan.specs.Rules.{KeepsNetwork}
 use Rattle.network_plan.specs.declared.node.NodeConfig.{NodeConfig}
 use Rattle.network_plan.specs.declared.schedule.HostSpec.{HostSpec}
@@ -21,7 +21,7 @@ use Rattle.net_world.proofs.StandLaws.{one_more}
 pub begins : (t : Topology) (h : HostSpec) (config : NodeConfig) → KeepsNetwork t → config ≡ config_of t h → ConfigFits config
 begins t h config k e = subst ConfigFits (sym e) (config_fits t h k)
 
-module _ {S : Type 0} (stands : S → Standing) where
+module _ {S : Type 0} (stands : S → ServiceState) where
   -- the services of a host at the beginning rest
   pub rests : (own : S) (h : HostSpec) → stands own ≡ opening_services h → IsResting (stands own)
   rests own h e = subst IsResting (sym e) (record { closed = refl; waits = refl })
@@ -90,7 +90,7 @@ module _ {S : Type 0} (stands : S → Standing) where
           later = next.later ∙ ap (λ k. map opening_services (drop k t.hosts)) (sym count);
         }
 
-  all_taken : (hosts : List HostSpec) (k : ℕ) → ◌≡◌ {A = List Standing} [] (map opening_services (drop k hosts)) → take k hosts ≡ hosts
+  all_taken : (hosts : List HostSpec) (k : ℕ) → ◌≡◌ {A = List ServiceState} [] (map opening_services (drop k hosts)) → take k hosts ≡ hosts
   all_taken [] zero e = refl
   all_taken [] (suc k) e = refl
   all_taken (h ∷ hs) zero e = cc

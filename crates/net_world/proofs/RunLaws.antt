@@ -1,4 +1,4 @@
--- Runs of one event more, fronts of what they write, and what holds after each prefix.
+-- Runs of one event more, prefixes of what they write, and what holds after each prefix.
 use Rattle.std.proofs.Common.{◌≡◌, ℕ, ◌+◌, ◌<◌, ◌≤◌, List, [], ◌∷◌, ◌++◌, length, take, drop, get_or, refl, sym, ap, ◌∙◌, append_assoc, arith, subst}
 use Rattle.std.specs.Prelude.{Bool, min, codes, map, All}
 use Rattle.std.proofs.lemmas.List.Concat.{flat_map-append}
@@ -7,7 +7,7 @@ use Rattle.std.proofs.lemmas.List.Elements.{All-take, All-weaker}
 use Rattle.std.proofs.Math.Seq.{take-append-add, take-append_seam}
 use Rattle.std.proofs.lemmas.Grind.{take_at_read}
 use Rattle.plan_base.specs.declared.ids.Family.{Family}
-use Rattle.service_api.specs.Services.{Standing}
+use Rattle.service_api.specs.Services.{ServiceState}
 use Rattle.network_plan.specs.declared.event.WorldEvent.{WorldEvent}
 use Rattle.network_plan.specs.declared.event.WorldEvent.TheVariants.{Inject, Send, Deliver, Lose, Tick, Raw}
 use Rattle.network_plan.specs.declared.schedule.HostSpec.{HostSpec}
@@ -100,7 +100,7 @@ module _ (w : WorldState) (es : List WorldEvent) (i : ℕ) (e : WorldEvent) (wit
   history_next : history_of (take i es) w ++ entries (world_after (take i es) w) e ≡ history_of (take (i + 1) es) w
   history_next = sym (history_of-push (take i es) e w) ∙ ap (λ x. history_of x w) (sym next_events)
 
-  pub stands_next : {S : Type 0} (stands : S → Standing) (n : Network S) → WorldStands stands n (happens (world_after (take i es) w) e).world → WorldStands stands n (world_after (take (i + 1) es) w)
+  pub stands_next : {S : Type 0} (stands : S → ServiceState) (n : Network S) → WorldStands stands n (happens (world_after (take i es) w) e).world → WorldStands stands n (world_after (take (i + 1) es) w)
   stands_next stands n h = subst (WorldStands stands n) world_next h
 
   pub counts_next : (rows : List FamilyRow) → Stands (history_of (take i es) w ++ entries (world_after (take i es) w) e) rows → Stands (history_of (take (i + 1) es) w) rows
@@ -137,7 +137,7 @@ pub text_none : (frames : Bool) (w : WorldState) (es : List WorldEvent) → entr
 unfolding history_of entries_text
 text_none frames w es = refl
 
-pub stands_none : {S : Type 0} (stands : S → Standing) (n : Network S) (w : WorldState) (es : List WorldEvent) → WorldStands stands n w → WorldStands stands n (world_after (take 0 es) w)
+pub stands_none : {S : Type 0} (stands : S → ServiceState) (n : Network S) (w : WorldState) (es : List WorldEvent) → WorldStands stands n w → WorldStands stands n (world_after (take 0 es) w)
 unfolding world_after
 stands_none stands n w es h = h
 
@@ -170,7 +170,7 @@ pub events_fit : (s : Schedule) → KeepsRules s → EventsFit s.events
 events_fit s k = All-weaker (KeepsEvent s.topology.hosts) event_fits (event_keeps s.topology.hosts) s.events k.events
 
 -- the lines of the next event can be counted
-pub countable : {S : Type 0} (stands : S → Standing) (n : Network S) (s : Schedule) (i : ℕ) (e : WorldEvent) (rows : List FamilyRow) → i < length s.events → e ≡ get_or s.events i e → KeepsRules s
+pub countable : {S : Type 0} (stands : S → ServiceState) (n : Network S) (s : Schedule) (i : ℕ) (e : WorldEvent) (rows : List FamilyRow) → i < length s.events → e ≡ get_or s.events i e → KeepsRules s
     → WorldStands stands n (world_after (take i s.events) (opening s.topology)) → Stands (history_of (take i s.events) (opening s.topology)) rows → IsCountable stands n e rows
 countable stands n s i e rows within is k h c = record {
   state = world_after (take i s.events) (opening s.topology);

@@ -11,8 +11,8 @@ use Rattle.plan_base.specs.declared.ids.Dev.{Dev}
 use Rattle.plan_base.specs.declared.memory.NoMemory.{NoMemory}
 use Rattle.packet_frame.specs.declared.frame.PlainFrame.{PlainFrame}
 use Rattle.packet_frame.specs.Typed.{Accepts}
-use Rattle.frame_text.proofs.OneAnswer.{accepts_is}
-use Rattle.service_api.specs.Services.{Standing}
+use Rattle.packet_frame.proofs.OneAnswer.{accepts_is}
+use Rattle.service_api.specs.Services.{ServiceState}
 use Rattle.node_model.specs.declared.acts.Act.{Act}
 use Rattle.node_model.specs.declared.acts.Acts.{Acts}
 use Rattle.node_model.specs.State.{NodeState, is_host}
@@ -71,7 +71,7 @@ pub if_ok : {T E : Type 0} (P Q : T → Type 0) (r : Result T E) → ((x : T) �
 if_ok P Q (Ok x) f h = f x h
 if_ok P Q (Err e) f h = h
 
-module _ {S : Type 0} (stands : S → Standing) where
+module _ {S : Type 0} (stands : S → ServiceState) where
   -- the state at a place of a node
   record Found (n : Node S) (states : List NodeState) (at : ℕ) : Type 0 where
     state : NodeState

@@ -1,6 +1,6 @@
 -- What a network and its ledger must be for an event's lines to be counted.
 use Rattle.std.specs.Prelude.{List}
-use Rattle.service_api.specs.Services.{Standing}
+use Rattle.service_api.specs.Services.{ServiceState}
 use Rattle.network_plan.specs.declared.event.WorldEvent.{WorldEvent}
 use Rattle.bound_ledger.specs.Rows.{FamilyRow}
 use Rattle.run_ledger.specs.Counting.{LinesFit}
@@ -9,7 +9,7 @@ use Rattle.net_world.specs.declared.network.Network.{Network}
 use Rattle.net_world.specs.Stands.{WorldStands}
 
 -- the lines of an event can be counted, at a state for which the network stands
-pub record IsCountable {S : Type 0} (stands : S → Standing) (n : Network S) (e : WorldEvent) (rows : List FamilyRow) : Type 0 where
+pub record IsCountable {S : Type 0} (stands : S → ServiceState) (n : Network S) (e : WorldEvent) (rows : List FamilyRow) : Type 0 where
   pub state : WorldState
   pub is : WorldStands stands n state
   pub fits : LinesFit rows (happens state e).lines

@@ -1,23 +1,23 @@
 -- Which state of the definition a network stands for.
 use Rattle.std.specs.Prelude.{◌≡◌, List, [], ◌∷◌, slice_get, slice_set, Some, ℕ}
-use Rattle.service_api.specs.Services.{Standing}
+use Rattle.service_api.specs.Services.{ServiceState}
 use Rattle.node_model.specs.declared.acts.Acts.{Acts}
 use Rattle.node_model.specs.State.{NodeState}
 use Rattle.node_model.specs.Node.{Step}
 use Rattle.node_core.specs.declared.node.Node.{Node}
 use Rattle.node_core.specs.Stands.{NodeStands}
 use Rattle.world_model.specs.declared.lines.Line.{Line}
-use Rattle.world_model.specs.World.{WorldState, Happened}
+use Rattle.world_model.specs.World.{WorldState, EventResult}
 use Rattle.net_world.specs.declared.network.Network.{Network}
 
 -- each node stands for the state at its place
-abbrev pub AllStand : {S : Type 0} → (S → Standing) → List (Node S) → List NodeState → Type 0
+abbrev pub AllStand : {S : Type 0} → (S → ServiceState) → List (Node S) → List NodeState → Type 0
 AllStand stands [] [] = Unit {0}
 AllStand stands (n ∷ ns) (s ∷ ss) = NodeStands stands n s × AllStand stands ns ss
 AllStand stands _ _ = ⊥
 
 -- a network stands for a state: its nodes for the states of nodes; all else is equal
-pub record WorldStands {S : Type 0} (stands : S → Standing) (n : Network S) (w : WorldState) : Type 0 where
+pub record WorldStands {S : Type 0} (stands : S → ServiceState) (n : Network S) (w : WorldState) : Type 0 where
   pub nodes : AllStand stands n.nodes.items w.nodes
   pub links : n.links ≡ w.links
   pub wire : n.wire ≡ w.wire
@@ -25,12 +25,12 @@ pub record WorldStands {S : Type 0} (stands : S → Standing) (n : Network S) (w
   pub made : n.made ≡ w.made
 
 -- the lines of an event are those of its definition, and the network stands for the state after it
-pub record IsHappened {S : Type 0} (stands : S → Standing) (event : Happened) (lines : List Line) (new : Network S) : Type 0 where
+pub record IsHappened {S : Type 0} (stands : S → ServiceState) (event : EventResult) (lines : List Line) (new : Network S) : Type 0 where
   pub list : lines ≡ event.lines
   pub world : WorldStands stands new event.world
 
 -- the node at a place made a step, and no other changed
-pub record StepsAt {S : Type 0} (stands : S → Standing) (step : NodeState → Step) (old : List NodeState) (at : ℕ) (acts : Acts) (new : List (Node S)) : Type 0 where
+pub record StepsAt {S : Type 0} (stands : S → ServiceState) (step : NodeState → Step) (old : List NodeState) (at : ℕ) (acts : Acts) (new : List (Node S)) : Type 0 where
   pub node : NodeState
   pub there : slice_get old at ≡ Some node
   pub list : acts.list ≡ (step node).acts

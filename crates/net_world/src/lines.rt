@@ -3,7 +3,7 @@ ghost use Rattle.wire_bytes.specs.Fields.{IsBytes};
 ghost use Rattle.packet_frame.specs.Bytes.{frame_bytes};
 ghost use Rattle.packet_frame.specs.Typed.{plain_of};
 ghost use Rattle.packet_frame.specs.declared.fault.FrameFault.{FrameFault};
-ghost use Rattle.frame_text.specs.Decoding.{frame_of};
+ghost use Rattle.packet_frame.specs.Decoding.{frame_of};
 ghost use Rattle.world_model.specs.World as spec;
 ghost use Rattle.world_model.specs.declared.lines.Line.TheVariants as line;
 

@@ -28,32 +28,12 @@ use std::alloc::Global;
 const PIECE: usize = 8_192;
 
 /// Why a run ended early.
-#[derive(Debug, Clone, Copy, PartialEq, Eq)]
+#[derive(Clone, Copy, PartialEq, Eq)]
 pub enum RunFault {
     /// A push to the sink failed.
     WriteFault,
     /// Memory was refused.
     NoMemory,
-}
-
-impl From<Failed> for RunFault {
-    ghost use Rattle.net_world.specs.declared.runs.RunFault.TheVariants.{WriteFault};
-
-    ghost from_gives = { λ _ e. e ≡ WriteFault };
-
-    fn from(_failed: Failed) -> RunFault {
-        RunFault::WriteFault
-    }
-}
-
-impl From<NoMemory> for RunFault {
-    ghost use Rattle.net_world.specs.declared.runs.RunFault.TheVariants.{NoMemory};
-
-    ghost from_gives = { λ _ e. e ≡ NoMemory };
-
-    fn from(_refused: NoMemory) -> RunFault {
-        RunFault::NoMemory
-    }
 }
 
 /// Makes an event, counts its lines, and adds their text.
@@ -227,9 +207,9 @@ fn run_schedule<S: Services + Drop, K: Sink>(
 
 /// Runs a schedule and writes its trace and its ledger to `out`; no event's lines are kept. After each prefix of its
 /// events: each family is in balance, is bounded and granted; each frame's number went once, and each frame on the
-/// wire leads over its link; the network keeps what every network keeps; and the visits of the event behind it are
-/// never without a case, and would end by themselves; and where no bytes came from outside, the law of routes holds. `services`: one for each host, in the order of hosts.
-/// Condition: the schedule keeps its rules.
+/// wire leads over its link; the network keeps what every network keeps; the visits of the event behind it are never
+/// without a case, and would end by themselves; and where no bytes came from outside, the law of routes holds.
+/// `services`: one for each host, in the order of hosts. Condition: the schedule keeps its rules.
 pub fn run<S: Services + Drop, K: Sink>(
     alloc: Global,
     schedule: &Schedule,

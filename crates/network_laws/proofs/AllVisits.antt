@@ -9,7 +9,7 @@ use Rattle.plan_base.specs.declared.tree.Packet.{Packet}
 use Rattle.packet_frame.specs.declared.frame.PlainFrame.{PlainFrame}
 use Rattle.packet_frame.specs.declared.fault.FrameFault.{FrameFault}
 use Rattle.packet_frame.specs.Bytes.{frame_bytes}
-use Rattle.frame_text.specs.Decoding.{frame_of}
+use Rattle.packet_frame.specs.Decoding.{frame_of}
 use Rattle.service_api.specs.declared.advert.Advert.{Advert}
 use Rattle.service_api.specs.declared.answer.Note.{Note}
 use Rattle.service_api.specs.declared.router.Hop.{Hop}
@@ -34,7 +34,7 @@ use Rattle.world_model.specs.declared.lines.Line.{Line}
 use Rattle.world_model.specs.declared.lines.Line.TheVariants.{Forged, Wire, Off, Lost, Nothing}
 use Rattle.world_model.specs.declared.lines.LinkEnd.{LinkEnd}
 use Rattle.world_model.specs.declared.lines.Wired.{Wired}
-use Rattle.world_model.specs.World.{WorldState, Happened, nothing, lines_at, step_at, step_place, steps, forged, send_taken, send_at, send_over, send_place, sends, place_of, far_end, wire_place, deliver_at, deliver_to, deliver_frame, deliver_place, delivers, lose_frame, lose_place, loses, happens}
+use Rattle.world_model.specs.World.{WorldState, EventResult, nothing, lines_at, step_at, step_place, steps, forged, send_taken, send_at, send_over, send_place, sends, place_of, far_end, wire_place, deliver_at, deliver_to, deliver_frame, deliver_place, delivers, lose_frame, lose_place, loses, happens}
 use Rattle.world_model.specs.Counts.{line_sum}
 use Rattle.world_model.specs.Visits.{Visiting, one_visit, frame_visits, bytes_visits, chunk_visits, item_at, at_node, at_host, of_wired, delivered_visits, event_visits, act_ends, line_ends}
 use Rattle.network_laws.proofs.CountLaws.{line_sum-nil, line_sum-cons, line_sum-one, line_sum-append, line_sum-at}
@@ -170,7 +170,7 @@ take_none node d = take_from_none node d (slice_get node.queues d.0)
 -- ---- events
 
 -- an event whose lines have this many ends of visits
-abbrev Has : Happened → ℕ → Type 0
+abbrev Has : EventResult → ℕ → Type 0
 Has h n = line_sum line_ends h.lines ≡ n
 
 acts_end : (h : Host) (acts : List Act) → line_sum line_ends (lines_at h acts) ≡ act_sum act_ends acts
@@ -230,7 +230,7 @@ unfolding send_at
 send_at_has w h d at to None = nothing_has w
 send_at_has w h d at to (Some node) = send_taken_has w h d at to (take_step node d) (take_step node d).frame (take_none node d)
 
-choice_has : (t : Bool) (a b : Happened) (n : ℕ) → Has a n → Has b n → Has (cond t a b) n
+choice_has : (t : Bool) (a b : EventResult) (n : ℕ) → Has a n → Has b n → Has (cond t a b) n
 choice_has true a b n x y = x
 choice_has false a b n x y = y
 

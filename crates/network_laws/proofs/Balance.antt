@@ -8,7 +8,7 @@ use Rattle.plan_base.specs.declared.tree.Chunk.{Chunk}
 use Rattle.packet_frame.specs.declared.frame.PlainFrame.{PlainFrame}
 use Rattle.packet_frame.specs.declared.fault.FrameFault.{FrameFault}
 use Rattle.packet_frame.specs.Bytes.{frame_bytes}
-use Rattle.frame_text.specs.Decoding.{frame_of}
+use Rattle.packet_frame.specs.Decoding.{frame_of}
 use Rattle.network_plan.specs.declared.schedule.HostSpec.{HostSpec}
 use Rattle.network_plan.specs.declared.schedule.Topology.{Topology}
 use Rattle.network_plan.specs.declared.event.WorldEvent.{WorldEvent}
@@ -24,7 +24,7 @@ use Rattle.world_model.specs.declared.lines.Line.{Line}
 use Rattle.world_model.specs.declared.lines.Line.TheVariants.{Forged, Wire, Off, Lost, Nothing}
 use Rattle.world_model.specs.declared.lines.LinkEnd.{LinkEnd}
 use Rattle.world_model.specs.declared.lines.Wired.{Wired}
-use Rattle.world_model.specs.World.{WorldState, Happened, nothing, lines_at, step_at, step_place, steps, injects, ticks, forged, raws, send_taken, send_at, send_over, send_place, sends, place_of, far_end, wire_place, deliver_at, deliver_to, deliver_frame, deliver_place, delivers, lose_frame, lose_place, loses, acted, happens, entries, world_after, history_of, opening_node, opening}
+use Rattle.world_model.specs.World.{WorldState, EventResult, nothing, lines_at, step_at, step_place, steps, injects, ticks, forged, raws, send_taken, send_at, send_over, send_place, sends, place_of, far_end, wire_place, deliver_at, deliver_to, deliver_frame, deliver_place, delivers, lose_frame, lose_place, loses, acted, happens, entries, world_after, history_of, opening_node, opening}
 use Rattle.world_model.specs.Counts.{line_granted, line_hops, line_evals, line_left, line_sum, nodes_sum, wire_sum, live, Balanced, GrowsInBalance}
 use Rattle.network_laws.proofs.CountLaws.{line_sum-nil, line_sum-cons, line_sum-one, line_sum-append, line_sum-at, tally-nil, tally-append, tally-entries, nodes_sum-nil, nodes_sum-cons, nodes_sum-set, wire_sum-nil, wire_sum-push, wire_sum-remove}
 
@@ -48,7 +48,7 @@ module _ (f : Family) where
   }
 
   -- an event in balance: what came from outside the network's queues and wire is in its lines
-  record EventBalance (w : WorldState) (h : Happened) : Type 0 where
+  record EventBalance (w : WorldState) (h : EventResult) : Type 0 where
     law : line_sum (line_granted f) h.lines + live f w ≡ line_sum (line_hops f) h.lines + line_sum (line_evals f) h.lines + live f h.world + line_sum (line_left f) h.lines
 
   nothing_balances : (w : WorldState) → EventBalance w (nothing w)
@@ -155,7 +155,7 @@ module _ (f : Family) where
   send_at_balances w h d at to None e = nothing_balances w
   send_at_balances w h d at to (Some node) e = send_taken_balances w h d at to node (take_step node d) (take_step node d).frame e (take_balances f node d) refl
 
-  choice_balances : (t : Bool) (w : WorldState) (a b : Happened) → EventBalance w a → EventBalance w b → EventBalance w (cond t a b)
+  choice_balances : (t : Bool) (w : WorldState) (a b : EventResult) → EventBalance w a → EventBalance w b → EventBalance w (cond t a b)
   choice_balances true w a b x y = x
   choice_balances false w a b x y = y
 

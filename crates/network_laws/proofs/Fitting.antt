@@ -11,7 +11,7 @@ use Rattle.plan_base.specs.declared.ids.Dev.{Dev}
 use Rattle.plan_base.specs.declared.tree.Chunk.{Chunk}
 use Rattle.wire_bytes.specs.Fields.{IsBytes}
 use Rattle.packet_frame.specs.declared.frame.PlainFrame.{PlainFrame}
-use Rattle.frame_text.specs.Decoding.{frame_of}
+use Rattle.packet_frame.specs.Decoding.{frame_of}
 use Rattle.chunk_types.specs.Chunks.{IsCheckedChunk}
 use Rattle.network_plan.specs.declared.event.WorldEvent.{WorldEvent}
 use Rattle.network_plan.specs.declared.event.WorldEvent.TheVariants.{Inject, Send, Deliver, Lose, Tick, Raw}
@@ -23,7 +23,7 @@ use Rattle.node_laws.proofs.Staying.{Stays, inject_stays, frame_stays, arrive_st
 use Rattle.world_model.specs.declared.lines.Line.{Line}
 use Rattle.world_model.specs.declared.lines.LinkEnd.{LinkEnd}
 use Rattle.world_model.specs.declared.lines.Wired.{Wired}
-use Rattle.world_model.specs.World.{WorldState, Happened, nothing, step_at, step_place, steps, injects, ticks, forged, raws, send_taken, send_at, send_over, send_place, sends, place_of, far_end, wire_place, deliver_at, deliver_to, deliver_frame, deliver_place, delivers, lose_frame, lose_place, loses, acted, happens, world_after}
+use Rattle.world_model.specs.World.{WorldState, EventResult, nothing, step_at, step_place, steps, injects, ticks, forged, raws, send_taken, send_at, send_over, send_place, sends, place_of, far_end, wire_place, deliver_at, deliver_to, deliver_frame, deliver_place, delivers, lose_frame, lose_place, loses, acted, happens, world_after}
 use Rattle.world_model.specs.Sound.{WiredFits, Rise, DevicesFit, number_of, IsSound, event_fits, EventsFit}
 
 -- ---- lists
@@ -59,7 +59,7 @@ devices_stay old new s d = record {
 }
 
 -- the limits after an event, before it is counted
-record EventFits (w : WorldState) (h : Happened) : Type 0 where
+record EventFits (w : WorldState) (h : EventResult) : Type 0 where
   nodes : All NodeFits h.world.nodes
   devices : All DevicesFit h.world.nodes
   wire : All (WiredFits FrameKeeps h.world.«next») h.world.wire
@@ -143,7 +143,7 @@ send_at_fits w h d at to (Some node) n e s =
     let f = take_fits node d (node_of w.nodes at node e s.nodes) in
     send_taken_fits w h d at to node (take_step node d) (take_step node d).frame n e refl f.node (take_stays node d).node f.frame s
 
-room_cases : (t : Bool) (w : WorldState) (a : Happened) → (t ≡ true → EventFits w a) → IsSound w → EventFits w (cond t a (nothing w))
+room_cases : (t : Bool) (w : WorldState) (a : EventResult) → (t ≡ true → EventFits w a) → IsSound w → EventFits w (cond t a (nothing w))
 room_cases true w a h s = h refl
 room_cases false w a h s = nothing_fits w s
 

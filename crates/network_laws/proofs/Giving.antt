@@ -12,7 +12,7 @@ use Rattle.plan_base.specs.declared.tree.Chunk.{Chunk}
 use Rattle.packet_frame.specs.declared.frame.PlainFrame.{PlainFrame}
 use Rattle.packet_frame.specs.declared.fault.FrameFault.{FrameFault}
 use Rattle.packet_frame.specs.Bytes.{frame_bytes}
-use Rattle.frame_text.specs.Decoding.{frame_of}
+use Rattle.packet_frame.specs.Decoding.{frame_of}
 use Rattle.network_plan.specs.Hosts.{has_host}
 use Rattle.network_plan.specs.Rules.{HostsDiffer}
 use Rattle.network_plan.specs.declared.schedule.HostSpec.{HostSpec}
@@ -25,7 +25,7 @@ use Rattle.node_model.specs.Node.{Step, inject_step, frame_step, arrive_step, ti
 use Rattle.node_model.specs.Counts.{act_sum, queues_sum, frame_one, taken_sum}
 use Rattle.node_laws.proofs.CountLaws.{act_sum-nil, act_sum-cons, queues_sum-nil}
 use Rattle.node_laws.proofs.Fitting.{taken_in}
-use Rattle.frame_text.proofs.OneAnswer.{found_is}
+use Rattle.packet_frame.proofs.OneAnswer.{found_is}
 use Rattle.wire_bytes.specs.Fields.{IsBytes}
 use Rattle.node_model.specs.declared.acts.Act.{Act}
 use Rattle.node_laws.proofs.Giving.{may_give, only_limit, StepGives, inject_gives, frame_gives, arrive_gives, tick_gives, take_gives, came_one, inject_adds, frame_adds, arrive_adds, tick_adds, take_adds}
@@ -34,7 +34,7 @@ use Rattle.world_model.specs.declared.lines.Line.TheVariants.{At, Forged, Wire, 
 use Rattle.world_model.specs.declared.lines.LinkEnd.{LinkEnd}
 use Rattle.world_model.specs.declared.lines.Entry.{Entry}
 use Rattle.world_model.specs.declared.lines.Wired.{Wired}
-use Rattle.world_model.specs.World.{WorldState, Happened, nothing, lines_at, step_at, step_place, steps, forged, send_taken, send_at, send_over, send_place, sends, place_of, far_end, wire_place, deliver_at, deliver_to, deliver_frame, deliver_place, delivers, lose_frame, lose_place, loses, acted, happens, entries, world_after, history_of, opening_node, opening}
+use Rattle.world_model.specs.World.{WorldState, EventResult, nothing, lines_at, step_at, step_place, steps, forged, send_taken, send_at, send_over, send_place, sends, place_of, far_end, wire_place, deliver_at, deliver_to, deliver_frame, deliver_place, delivers, lose_frame, lose_place, loses, acted, happens, entries, world_after, history_of, opening_node, opening}
 use Rattle.world_model.specs.Counts.{line_sum, line_granted, line_injections, line_forged, granted, injections, forgeries, nodes_sum, packets, IsBounded, IsGranted}
 use Rattle.world_model.specs.Sound.{event_fits, EventsFit}
 use Rattle.network_laws.proofs.CountLaws.{line_sum-nil, line_sum-cons, line_sum-one, line_sum-append, line_sum-at, tally-nil, tally-append, tally-entries, nodes_sum-set, wire_sum-push, wire_sum-remove}
@@ -52,7 +52,7 @@ module _ (f : Family) where
       omega (arith, ap (may_give f) here)
 
   -- what an event grants: to an injection at most 65,535, and so to each packet from outside
-  record EventGives (w : WorldState) (h : Happened) : Type 0 where
+  record EventGives (w : WorldState) (h : EventResult) : Type 0 where
     once : line_sum (line_injections f) h.lines + may_give_all h.world.nodes ≤ may_give_all w.nodes
     limit : line_sum (line_granted f) h.lines ≤ 65535 * (line_sum (line_injections f) h.lines + line_sum (line_forged f) h.lines)
 
@@ -158,7 +158,7 @@ module _ (f : Family) where
   send_at_gives w h d at to None e = nothing_gives w
   send_at_gives w h d at to (Some node) e = send_taken_gives w h d at to node (take_step node d) (take_step node d).frame e (take_gives f node d)
 
-  choice_gives : (t : Bool) (w : WorldState) (a b : Happened) → EventGives w a → EventGives w b → EventGives w (cond t a b)
+  choice_gives : (t : Bool) (w : WorldState) (a b : EventResult) → EventGives w a → EventGives w b → EventGives w (cond t a b)
   choice_gives true w a b x y = x
   choice_gives false w a b x y = y
 
@@ -350,7 +350,7 @@ module _ (f : Family) where
   abbrev ungranted : List Line → ℕ
   ungranted lines = line_sum (line_injections f) lines + line_sum (line_forged f) lines
 
-  abbrev Leaves : WorldState → Happened → Type 0
+  abbrev Leaves : WorldState → EventResult → Type 0
   Leaves w h = ungranted h.lines ≡ 0 → packets f w ≡ 0 → packets f h.world ≡ 0
 
   node_none : (nodes : List NodeState) (at : ℕ) (node : NodeState) → slice_get nodes at ≡ Some node → nodes_sum (frame_one f) nodes ≡ 0 → queues_sum (frame_one f) node.queues ≡ 0
@@ -408,7 +408,7 @@ module _ (f : Family) where
   send_at_leaves w h d at to None e q = q
   send_at_leaves w h d at to (Some node) e q = send_taken_leaves w h d at to node (take_step node d) (take_step node d).frame e (take_adds f node d) q
 
-  choice_leaves : (t : Bool) (a b : Happened) → packets f a.world ≡ 0 → packets f b.world ≡ 0 → packets f (cond t a b).world ≡ 0
+  choice_leaves : (t : Bool) (a b : EventResult) → packets f a.world ≡ 0 → packets f b.world ≡ 0 → packets f (cond t a b).world ≡ 0
   choice_leaves true a b x y = x
   choice_leaves false a b x y = y
 

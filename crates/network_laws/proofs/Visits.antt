@@ -8,8 +8,8 @@ use Rattle.plan_base.specs.declared.tree.Packet.{Packet}
 use Rattle.wire_bytes.specs.Fields.{IsBytes}
 use Rattle.packet_frame.specs.declared.frame.PlainFrame.{PlainFrame}
 use Rattle.packet_frame.specs.declared.fault.FrameFault.{FrameFault}
-use Rattle.frame_text.specs.Decoding.{frame_of}
-use Rattle.frame_text.proofs.OneAnswer.{found_is}
+use Rattle.packet_frame.specs.Decoding.{frame_of}
+use Rattle.packet_frame.proofs.OneAnswer.{found_is}
 use Rattle.chunk_types.specs.Chunks.{IsCheckedChunk}
 use Rattle.service_api.specs.Services.{IsGood, IsGoodChunk, IsGoodNote, begun_now}
 use Rattle.plan_meaning.specs.Safe.{IsGoodSent, IsGoodState}

@@ -10,7 +10,7 @@ use Rattle.plan_base.specs.declared.ids.Dev.{Dev}
 use Rattle.packet_frame.specs.declared.frame.PlainFrame.{PlainFrame}
 use Rattle.packet_frame.specs.declared.fault.FrameFault.{FrameFault}
 use Rattle.packet_frame.specs.Bytes.{frame_bytes}
-use Rattle.frame_text.specs.Decoding.{frame_of}
+use Rattle.packet_frame.specs.Decoding.{frame_of}
 use Rattle.network_plan.specs.declared.schedule.Topology.{Topology}
 use Rattle.network_plan.specs.declared.event.WorldEvent.{WorldEvent}
 use Rattle.network_plan.specs.declared.event.WorldEvent.TheVariants.{Inject, Send, Deliver, Lose, Tick, Raw}
@@ -25,7 +25,7 @@ use Rattle.world_model.specs.declared.lines.Line.TheVariants.{At, Forged, Wire, 
 use Rattle.world_model.specs.declared.lines.LinkEnd.{LinkEnd}
 use Rattle.world_model.specs.declared.lines.Entry.{Entry}
 use Rattle.world_model.specs.declared.lines.Wired.{Wired}
-use Rattle.world_model.specs.World.{Cables, WorldState, Happened, nothing, lines_at, step_at, step_place, steps, forged, send_taken, send_at, send_over, send_place, sends, place_of, far_end, wire_place, deliver_at, deliver_to, deliver_frame, deliver_place, delivers, lose_frame, lose_place, loses, acted, happens, entry_at, entries, world_after, history_of, opening}
+use Rattle.world_model.specs.World.{Cables, WorldState, EventResult, nothing, lines_at, step_at, step_place, steps, forged, send_taken, send_at, send_over, send_place, sends, place_of, far_end, wire_place, deliver_at, deliver_to, deliver_frame, deliver_place, delivers, lose_frame, lose_place, loses, acted, happens, entry_at, entries, world_after, history_of, opening}
 use Rattle.world_model.specs.Counts.{line_sum}
 use Rattle.world_model.specs.Wires.{one_if, line_sent, line_off, times_sent, times_off, on_wire, IsOnce, WireLeads}
 use Rattle.network_laws.proofs.CountLaws.{line_sum-nil, line_sum-cons, line_sum-one, line_sum-append, line_sum-at, tally-nil, tally-append, tally-entries}
@@ -56,7 +56,7 @@ module _ (n : ℕ) where
   go_law next = grind (arith, nat_tests)
 
   -- an event: what it sends it may send, and what leaves the wire is in its lines
-  record Moves (w : WorldState) (h : Happened) : Type 0 where
+  record Moves (w : WorldState) (h : EventResult) : Type 0 where
     once : line_sum (line_sent n) h.lines + may_go h.world.«next» ≤ may_go w.«next»
     account : line_sum (line_sent n) h.lines + on_wire n w.wire ≡ line_sum (line_off n) h.lines + on_wire n h.world.wire
 
@@ -139,7 +139,7 @@ module _ (n : ℕ) where
   send_at_moves w h d at to None = nothing_moves w
   send_at_moves w h d at to (Some node) = send_taken_moves w h d at to (take_step node d) (take_step node d).frame
 
-  choice_moves : (t : Bool) (w : WorldState) (a b : Happened) → Moves w a → Moves w b → Moves w (cond t a b)
+  choice_moves : (t : Bool) (w : WorldState) (a b : EventResult) → Moves w a → Moves w b → Moves w (cond t a b)
   choice_moves true w a b x y = x
   choice_moves false w a b x y = y
 
@@ -249,7 +249,7 @@ module _ (n : ℕ) where
 -- ---- where frames lead
 
 -- the links stay, and each frame on the wire leads to the other end of its link
-record Leads (w : WorldState) (h : Happened) : Type 0 where
+record Leads (w : WorldState) (h : EventResult) : Type 0 where
   links : h.world.links ≡ w.links
   wire : WireLeads w.links h.world.wire
 
@@ -283,7 +283,7 @@ unfolding send_at
 send_at_leads w h d at to None e k = nothing_leads w k
 send_at_leads w h d at to (Some node) e k = send_taken_leads w h d at to (take_step node d) (take_step node d).frame e k
 
-choice_leads : (t : Bool) (w : WorldState) (a b : Happened) → Leads w a → Leads w b → Leads w (cond t a b)
+choice_leads : (t : Bool) (w : WorldState) (a b : EventResult) → Leads w a → Leads w b → Leads w (cond t a b)
 choice_leads true w a b x y = x
 choice_leads false w a b x y = y
 

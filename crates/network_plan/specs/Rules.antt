@@ -1,8 +1,9 @@
 -- What plans of networks keep.
-use Rattle.std.specs.Prelude.{◌≡◌, ◌≢◌, ℕ, ◌≤◌, ◌<◌, ◌^◌, true, false, List, [], ◌∷◌, length, get_or}
+use Rattle.std.specs.Prelude.{◌≡◌, ◌≢◌, ℕ, ◌+◌, ◌≤◌, ◌<◌, ◌^◌, true, false, List, [], ◌∷◌, length, get_or}
 use Rattle.std.specs.List.{All}
 use Rattle.plan_base.specs.declared.ids.Dev.{Dev}
 use Rattle.plan_base.specs.declared.tree.Chunk.{Chunk}
+use Rattle.plan_base.specs.Sizes.{chunk_weight}
 use Rattle.chunk_types.specs.Chunks.{IsCheckedChunk}
 use Rattle.service_api.specs.declared.package.PackageName.{PackageName}
 use Rattle.network_plan.specs.declared.schedule.HostSpec.{HostSpec}
@@ -67,8 +68,15 @@ KeepsEvent hosts (happens.Lose k) = k < 2 ^ 32
 KeepsEvent hosts (happens.Tick h) = has_host h hosts ≡ true
 KeepsEvent hosts (happens.Raw h d bytes) = (has_host h hosts ≡ true) × (d.0 ≤ 8) × MayArrive bytes
 
+-- the weights of all injected chunks as values, in sum
+abbrev pub weights : List WorldEvent → ℕ
+weights [] = 0
+weights (happens.Inject h chunk bound ∷ es) = 1 + chunk_weight chunk + weights es
+weights (_ ∷ es) = weights es
+
 -- a schedule within its limits
 pub record KeepsRules (s : Schedule) : Type 0 where
   pub network : KeepsNetwork s.topology
   pub few : length s.events ≤ 50000
   pub events : All (KeepsEvent s.topology.hosts) s.events
+  pub weight : weights s.events ≤ 16777216

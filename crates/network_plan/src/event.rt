@@ -6,7 +6,7 @@ use plan_items::Items;
 pub type WorldEvents = Items<WorldEvent>;
 
 /// What happens to a network at one moment.
-#[derive(Debug, Drop)]
+#[derive(Drop)]
 pub enum WorldEvent {
     /// A typed chunk is injected at a host with a bound of at most 65,535.
     Inject(Host, CheckedChunk, u32),
@@ -23,7 +23,7 @@ pub enum WorldEvent {
 }
 
 /// What happens to one node at one moment.
-#[derive(Debug, Drop)]
+#[derive(Drop)]
 pub enum Event {
     /// A typed chunk is injected with a bound of at most 65,535.
     Inject(CheckedChunk, u32),
@@ -41,7 +41,7 @@ pub enum Event {
 pub type LogEvents = Items<LogEvent>;
 
 /// One entry of a node's log.
-#[derive(Debug, Drop)]
+#[derive(Drop)]
 pub enum LogEvent {
     /// An event that the node took.
     Step(Event),

@@ -3,7 +3,7 @@ use plan_base::{Host, Text};
 use plan_items::Items;
 
 /// A request to inject a chunk at a serving node.
-#[derive(Debug, Drop)]
+#[derive(Drop)]
 pub struct AskFile {
     /// The port to which it is sent, not 0.
     pub to: u16,
@@ -16,7 +16,7 @@ pub struct AskFile {
 }
 
 /// Several nodes and requests that are started together.
-#[derive(Debug, Drop)]
+#[derive(Drop)]
 pub struct Fleet {
     /// What is started, in order, 1 to 64.
     pub children: Kids,
@@ -26,7 +26,7 @@ pub struct Fleet {
 pub type Kids = Items<Kid>;
 
 /// A child of a fleet.
-#[derive(Debug, Drop)]
+#[derive(Drop)]
 pub enum Kid {
     /// A node, with the file of its configuration and its number of turns, from 1 to 1,000,000.
     Node(Host, Text, u32),

@@ -7,7 +7,7 @@ use service_api::{Neighbours, Packages};
 pub type Hosts = Items<Host>;
 
 /// How a node begins.
-#[derive(Debug, Drop)]
+#[derive(Drop)]
 pub struct NodeConfig {
     /// Its own host.
     pub here: Host,
@@ -20,7 +20,7 @@ pub struct NodeConfig {
 }
 
 /// The log of a node: how it began, with serial number 1, and what happened to it.
-#[derive(Debug, Drop)]
+#[derive(Drop)]
 pub struct Log {
     /// How it began.
     pub node: NodeConfig,

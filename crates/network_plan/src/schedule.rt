@@ -4,7 +4,7 @@ use plan_items::Items;
 use service_api::Packages;
 
 /// A schedule: a network and what happens to it, one event after the other.
-#[derive(Debug, Drop)]
+#[derive(Drop)]
 pub struct Schedule {
     /// Whether the trace shows the frames that go onto the wire.
     pub frames: bool,
@@ -15,7 +15,7 @@ pub struct Schedule {
 }
 
 /// A network: hosts and the links between them.
-#[derive(Debug, Drop)]
+#[derive(Drop)]
 pub struct Topology {
     /// The hosts in the order of their lines, at most 32, all different.
     pub hosts: HostSpecs,
@@ -27,7 +27,7 @@ pub struct Topology {
 pub type HostSpecs = Items<HostSpec>;
 
 /// A host of a network.
-#[derive(Debug, Drop)]
+#[derive(Drop)]
 pub struct HostSpec {
     /// Its number.
     pub host: Host,

@@ -14,7 +14,7 @@ pub type Inject = (u32, u32, CheckedChunk);
 pub type Injects = Items<Inject>;
 
 /// How a node serves.
-#[derive(Debug, Drop)]
+#[derive(Drop)]
 pub struct ServeConfig {
     /// How the node begins, with serial number 1.
     pub node: NodeConfig,

@@ -11,11 +11,11 @@ use Rattle.packet_frame.specs.declared.frame.PlainFrame.{PlainFrame}
 use Rattle.packet_frame.specs.declared.fault.FrameFault.{FrameFault}
 use Rattle.packet_frame.specs.Forms.{IsPlain}
 use Rattle.packet_frame.specs.Typed.{plain_of, Accepts, FrameFirst}
-use Rattle.frame_text.specs.Decoding.{frame_of}
-use Rattle.frame_text.proofs.OneAnswer.{accepts_is, first_is}
+use Rattle.packet_frame.specs.Decoding.{frame_of}
+use Rattle.packet_frame.proofs.OneAnswer.{accepts_is, first_is}
 use Rattle.service_api.specs.declared.advert.Advert.{Advert}
 use Rattle.service_api.specs.Adverts.{AdvertFits}
-use Rattle.service_api.specs.Services.{Standing}
+use Rattle.service_api.specs.Services.{ServiceState}
 use Rattle.plan_base.specs.declared.memory.NoMemory.{NoMemory}
 use Rattle.dv_routing.specs.declared.table.Table.{Table}
 use Rattle.dv_routing.specs.Routing.{Routing, own_advert}
@@ -38,7 +38,7 @@ last_true n e = grind (arith, nat_tests)
 last_false : (n : ℕ) → n ≢ 18446744073709551615 → (n == 18446744073709551615) ≡ false
 last_false n e = grind (arith, nat_tests)
 
-module _ {S : Type 0} (stands : S → Standing) where
+module _ {S : Type 0} (stands : S → ServiceState) where
   -- a visit, and then the next serial number
   pub injected : (before : List Act) (s : NodeState) (p : Packet) (acts : Acts) (mid : Node S) (serial : ℕ) → serial ≡ mid.serial + 1
       → IsStep stands (visited before s p) acts mid → IsStep stands (visited before (next_serial s) p) acts (record mid { serial = serial })

@@ -6,7 +6,7 @@ use Rattle.plan_base.specs.declared.tree.Chunk.{Chunk}
 use Rattle.plan_base.specs.declared.tree.Packet.{Packet}
 use Rattle.packet_frame.specs.declared.frame.PlainFrame.{PlainFrame}
 use Rattle.service_api.specs.Routes.{default_route}
-use Rattle.service_api.specs.Services.{Standing}
+use Rattle.service_api.specs.Services.{ServiceState}
 use Rattle.dv_routing.specs.Stands.{Stands}
 use Rattle.node_model.specs.declared.acts.Acts.{Acts}
 use Rattle.node_model.specs.State.{NodeState, routing_of}
@@ -15,7 +15,7 @@ use Rattle.node_core.specs.declared.node.Node.{Node}
 
 -- a node stands for a state: its routes for the adverts heard, its queued bytes for the frames that they spell, its services for
 -- what they stand for; all else is equal
-pub record NodeStands {S : Type 0} (stands : S → Standing) (n : Node S) (s : NodeState) : Type 0 where
+pub record NodeStands {S : Type 0} (stands : S → ServiceState) (n : Node S) (s : NodeState) : Type 0 where
   pub here : n.here ≡ s.here
   pub routes : Stands (routing_of s) n.routes
   pub neighbours : n.neighbours ≡ s.neighbours
@@ -25,7 +25,7 @@ pub record NodeStands {S : Type 0} (stands : S → Standing) (n : Node S) (s : N
   pub time : n.time ≡ s.now
 
 -- the acts and the frame of a step are those of its definition, and the node stands for the state after it
-pub record IsStep {S : Type 0} (stands : S → Standing) (step : Step) (acts : Acts) (new : Node S) : Type 0 where
+pub record IsStep {S : Type 0} (stands : S → ServiceState) (step : Step) (acts : Acts) (new : Node S) : Type 0 where
   pub list : acts.list ≡ step.acts
   pub frame : acts.frame ≡ step.frame
   pub node : NodeStands stands new step.node

@@ -1,17 +1,17 @@
 -- A visit that was made, of which nothing stands yet.
 use Rattle.std.specs.Prelude.{◌≡◌, ◌+◌, ◌≤◌, Bool, true, false, if◌then◌else◌, List, None, ◌∷◌, ◌++◌, length, map, vec_len, vec_capacity, []}
 use Rattle.plan_base.specs.declared.tree.Packet.{Packet}
-use Rattle.service_api.specs.Services.{Standing, kept, abandoned}
+use Rattle.service_api.specs.Services.{ServiceState, kept, abandoned}
 use Rattle.plan_meaning.specs.declared.outcome.Outcome.{Outcome}
 use Rattle.plan_meaning.specs.declared.outcome.Outcome.TheVariants.{WorkSpent}
 use Rattle.plan_meaning.specs.declared.outcome.Visit.{Visit}
 use Rattle.node_model.specs.declared.acts.Act.{Act}
 use Rattle.node_model.specs.declared.acts.Act.TheVariants.{Noted, Ended}
 use Rattle.node_model.specs.Node.{visit_sends}
-use Rattle.node_core.specs.declared.resting.Turn.{Turn}
+use Rattle.node_core.specs.declared.idle_services.Turn.{Turn}
 
 -- no visit is open
-pub record IsResting (n : Standing) : Type 0 where
+pub record IsResting (n : ServiceState) : Type 0 where
   pub closed : n.begun ≡ None
   pub waits : n.ready ≡ false
 
@@ -21,7 +21,7 @@ is_spent WorkSpent = true
 is_spent _ = false
 
 -- the services once a visit is closed
-abbrev pub closed : Bool → Standing → Standing
+abbrev pub closed : Bool → ServiceState → ServiceState
 closed spent n = if spent then abandoned n else kept n
 
 -- the acts of a visit up to its end, its sends, and room for their acts

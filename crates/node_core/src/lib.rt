@@ -1,10 +1,10 @@
 //! A node: its queues, its routes, its services and its step, and the text of what it does.
 #![tactic(auto)]
 
-mod few;
+mod idle_services;
+mod neighbour_list;
 mod node;
 mod outgoing;
-mod resting;
 mod routes;
 mod sends;
 mod text;

@@ -11,13 +11,13 @@ ghost use Rattle.wire_bytes.specs.Fields.{IsBytes};
 ghost use Rattle.packet_frame.specs.Forms.{IsPlain};
 ghost use Rattle.packet_frame.specs.Typed.{plain_of};
 ghost use Rattle.packet_frame.specs.declared.fault.FrameFault.{FrameFault};
-ghost use Rattle.frame_text.specs.Decoding.{frame_of};
+ghost use Rattle.packet_frame.specs.Decoding.{frame_of};
 ghost use Rattle.node_core.specs.Turns.{IsResting};
 ghost use Rattle.node_core.specs.Stands.{NodeStands, IsStep, own_family, own_packet, asks_within};
 
-use crate::few::Few;
+use crate::idle_services::IdleServices;
+use crate::neighbour_list::NeighbourList;
 use crate::outgoing::{advert_sendings, packet_sending};
-use crate::resting::Resting;
 use crate::routes::Routes;
 use crate::sends::{send_all, send_one};
 use chunk_types::{CheckedChunk, CheckedPacket};
@@ -42,9 +42,9 @@ const DEVICES: usize = 9;
 #[derive(Drop)]
 pub struct Node<S: Services> {
     here: Host,
-    neighbours: Few<(Host, Dev)>,
+    neighbours: NeighbourList<(Host, Dev)>,
     routes: Routes,
-    services: Resting<S>,
+    services: IdleServices<S>,
     queues: Vec<Queue<SpelledFrame>>,
     serial: u64,
     time: u64,
@@ -188,9 +188,9 @@ impl<S: Services + Drop> Node<S> {
         let queues = open_queues(alloc)?;
         Ok(Node {
             here,
-            neighbours: Few::of(neighbours),
+            neighbours: NeighbourList::of(neighbours),
             routes,
-            services: Resting::of(services),
+            services: IdleServices::of(services),
             queues,
             serial,
             time: 0,

@@ -1,7 +1,7 @@
 ghost use Rattle.std.specs.Prelude.{◌≡◌, ◌++◌, codes, OnOk};
 ghost use Rattle.std.specs.Fmt.{decimal};
-ghost use Rattle.plan_printer.specs.Printed.{value_text};
-ghost use Rattle.frame_text.specs.Reasons.{reason_text};
+ghost use Rattle.printed_forms.specs.Printed.{value_text};
+ghost use Rattle.packet_frame.specs.Reasons.{reason_text};
 ghost use Rattle.node_model.specs.Texts as spec;
 
 use frame_text::put_reason;

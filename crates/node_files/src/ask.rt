@@ -17,7 +17,7 @@ use plan_types::Checked;
 use std::alloc::Global;
 
 /// The first word of a line of a request.
-#[derive(Debug, Clone, Copy, PartialEq, Eq)]
+#[derive(Clone, Copy, PartialEq, Eq)]
 pub enum AskWord {
     /// `to`
     To,
@@ -32,7 +32,7 @@ pub enum AskWord {
 }
 
 /// Which line of a request comes next.
-#[derive(Debug, Clone, Copy, PartialEq, Eq)]
+#[derive(Clone, Copy, PartialEq, Eq)]
 pub enum AskStage {
     /// The header.
     Header,
@@ -45,7 +45,7 @@ pub enum AskStage {
 }
 
 /// What the lines of a request have said so far.
-#[derive(Debug, Drop)]
+#[derive(Drop)]
 pub struct AskReading {
     /// Which line comes next.
     pub stage: AskStage,

@@ -19,7 +19,7 @@ use service_api::{Neighbours, Packages};
 use std::alloc::Global;
 
 /// The first word of a line in front of the devices.
-#[derive(Debug, Clone, Copy, PartialEq, Eq)]
+#[derive(Clone, Copy, PartialEq, Eq)]
 pub enum HeadWord {
     /// `host`
     Host,
@@ -36,7 +36,7 @@ pub enum HeadWord {
 }
 
 /// The first word of a line behind them.
-#[derive(Debug, Clone, Copy, PartialEq, Eq)]
+#[derive(Clone, Copy, PartialEq, Eq)]
 pub enum TailWord {
     /// `dev`
     Dev,
@@ -68,7 +68,7 @@ impl TailWord {
 }
 
 /// How far the lines behind the name of the log are.
-#[derive(Debug, Clone, Copy, PartialEq, Eq)]
+#[derive(Clone, Copy, PartialEq, Eq)]
 pub enum TailPart {
     /// At the devices.
     Devices,
@@ -94,7 +94,7 @@ impl TailPart {
 }
 
 /// Which line of a configuration comes next.
-#[derive(Debug, Clone, Copy, PartialEq, Eq)]
+#[derive(Clone, Copy, PartialEq, Eq)]
 pub enum ConfigStage {
     /// The header.
     Header,
@@ -107,7 +107,7 @@ pub enum ConfigStage {
 }
 
 /// What the lines of a configuration have said so far.
-#[derive(Debug, Drop)]
+#[derive(Drop)]
 pub struct ConfigReading {
     /// Which line comes next.
     pub stage: ConfigStage,

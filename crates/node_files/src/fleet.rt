@@ -16,7 +16,7 @@ use plan_items::Items;
 use std::alloc::Global;
 
 /// The first word of a child's line.
-#[derive(Debug, Clone, Copy, PartialEq, Eq)]
+#[derive(Clone, Copy, PartialEq, Eq)]
 pub enum KidWord {
     /// `node`
     Node,
@@ -73,7 +73,7 @@ fn kid(alloc: Global, word: KidWord, words: &mut Words<'_>) -> Result<Kid, Stop>
 }
 
 /// What the lines of a fleet have said so far.
-#[derive(Debug, Drop)]
+#[derive(Drop)]
 pub struct FleetReading {
     /// Whether the header was read.
     pub begun: bool,

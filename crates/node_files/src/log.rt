@@ -19,7 +19,7 @@ use service_api::{Neighbours, Packages};
 use std::alloc::Global;
 
 /// The first word of a line between the hosts and the entries.
-#[derive(Debug, Clone, Copy, PartialEq, Eq)]
+#[derive(Clone, Copy, PartialEq, Eq)]
 pub enum NodeWord {
     /// `dev`
     Dev,
@@ -57,7 +57,7 @@ impl NodeWord {
 }
 
 /// The first word of an entry.
-#[derive(Debug, Clone, Copy, PartialEq, Eq)]
+#[derive(Clone, Copy, PartialEq, Eq)]
 pub enum EntryWord {
     /// `inject`
     Inject,
@@ -97,7 +97,7 @@ impl EntryWord {
 }
 
 /// Which line of a log comes next.
-#[derive(Debug, Clone, Copy, PartialEq, Eq)]
+#[derive(Clone, Copy, PartialEq, Eq)]
 pub enum LogStage {
     /// The header.
     Header,
@@ -112,7 +112,7 @@ pub enum LogStage {
 }
 
 /// What the lines of a log have said so far.
-#[derive(Debug, Drop)]
+#[derive(Drop)]
 pub struct LogReading {
     /// Which line comes next.
     pub stage: LogStage,

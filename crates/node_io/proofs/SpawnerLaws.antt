@@ -1,7 +1,7 @@
 -- What every call of a spawner leaves.
 use Rattle.std.proofs.Common.{◌≡◌, ◌∙◌, ℕ, Bool, true, Result, Ok, Err, refl, arith}
 use Rattle.std.specs.Result.{is_err}
-use Rattle.node_io.specs.Causes.{Rose}
+use Rattle.node_io.specs.Causes.{HasRisen}
 use Rattle.node_io.specs.declared.spawner.Child.{Child}
 use Rattle.node_io.specs.Spawners.{SpawnerState, KeepsStatuses, WaitResult}
 
@@ -12,6 +12,6 @@ pub kept_both : (a b c : SpawnerState) → KeepsStatuses a b → KeepsStatuses b
 kept_both a b c u v = record { observable = v.observable ∙ u.observable; statuses = v.statuses ∙ u.statuses; later = omega (arith, u.later, v.later) }
 
 -- what a test of a waiting says of it
-pub wait_failed : {E : Type 0} (child : Child) (a b : SpawnerState) (r : Result ℕ E) (t : Bool) → t ≡ is_err r → t ≡ true → WaitResult child a b r → Rose a.faults b.faults
+pub wait_failed : {E : Type 0} (child : Child) (a b : SpawnerState) (r : Result ℕ E) (t : Bool) → t ≡ is_err r → t ≡ true → WaitResult child a b r → HasRisen a.faults b.faults
 wait_failed child a b (Ok s) t e f h = absurd (cc)
 wait_failed child a b (Err x) t e f h = h

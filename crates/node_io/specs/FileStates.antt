@@ -1,6 +1,6 @@
 -- Files: what they hold, what was asked of them, and what a reading does to them.
 use Rattle.std.specs.Prelude.{ℕ, Bool, IsTrue, true, false, List, [], ◌∷◌, ◌++◌, ◌≡◌, ◌<◌, ◌≤◌, ◌+◌, take, length, Result, Ok, Err, Some, OnOk, IsSomeAnd}
-use Rattle.node_io.specs.Causes.{Rose}
+use Rattle.node_io.specs.Causes.{HasRisen}
 use Rattle.node_io.specs.FileMaps.{FileMap, file_at, MayName, ChangesOnly, WritesMore}
 use Rattle.node_io.specs.declared.read.ReadError.{ReadError}
 use Rattle.node_io.specs.declared.read.ReadError.TheVariants.{Fault, TooLong, NoMemory}
@@ -31,7 +31,7 @@ pub record OnlyReads (old new : FilesState) : Type 0 where
 -- a reading is begun at the first byte of the file of this name; a failure begins none
 abbrev pub AtStart : {T E : Type 0} → List ℕ → FilesState → FilesState → Result T E → Type 0
 AtStart name old new (Ok x) = (new.reading ≡ true) × (IsTrue old.observable → file_at old.held name ≡ Some new.left)
-AtStart name old new (Err e) = (new.reading ≡ false) × Rose old.read_faults new.read_faults
+AtStart name old new (Err e) = (new.reading ≡ false) × HasRisen old.read_faults new.read_faults
 
 pub record BeginsReading {T E : Type 0} (name : List ℕ) (old new : FilesState) (result : Result T E) : Type 0 where
   pub only : OnlyReads old new
@@ -42,7 +42,7 @@ pub record BeginsReading {T E : Type 0} (name : List ℕ) (old new : FilesState)
 -- so many bytes were taken off the front of what is left, none only at the end
 abbrev pub TakesOff : {E : Type 0} → List ℕ → FilesState → FilesState → Result ℕ E → Type 0
 TakesOff buf old new (Ok n) = (n ≤ length buf) × (IsTrue old.observable → (old.left ≡ take n buf ++ new.left) × (n ≡ 0 → new.left ≡ []))
-TakesOff buf old new (Err e) = (new.left ≡ old.left) × Rose old.read_faults new.read_faults
+TakesOff buf old new (Err e) = (new.left ≡ old.left) × HasRisen old.read_faults new.read_faults
 
 pub record Pulls {E : Type 0} (buf : List ℕ) (old new : FilesState) (result : Result ℕ E) : Type 0 where
   pub only : OnlyReads old new
@@ -50,11 +50,11 @@ pub record Pulls {E : Type 0} (buf : List ℕ) (old new : FilesState) (result : 
   pub reading : new.reading ≡ old.reading
   pub took : TakesOff buf old new result
 
--- the bytes of the file of this name, at most so many; or that it has more, or that a fault came, or want of memory
+-- the bytes of the file of this name, at most so many; or that it has more, or that a fault came, or running out of memory
 abbrev pub Found : List ℕ → ℕ → FilesState → FilesState → Result (List ℕ) ReadError → Type 0
 Found name limit old new (Ok bytes) = (length bytes ≤ limit) × (IsTrue old.observable → file_at old.held name ≡ Some bytes)
 Found name limit old new (Err TooLong) = IsTrue old.observable → IsSomeAnd (file_at old.held name) (λ bytes. limit < length bytes)
-Found name limit old new (Err Fault) = Rose old.read_faults new.read_faults
+Found name limit old new (Err Fault) = HasRisen old.read_faults new.read_faults
 Found name limit old new (Err NoMemory) = Unit {0}
 
 -- one file was read, at most, and that is what was found
@@ -76,7 +76,7 @@ pub record OnlyWrites (old new : FilesState) : Type 0 where
 -- the file of this name is empty and is being written; a failure leaves the files as they were
 abbrev pub AtEmpty : {T E : Type 0} → List ℕ → FilesState → FilesState → Result T E → Type 0
 AtEmpty name old new (Ok x) = (new.writing ≡ true) × (IsTrue old.observable → (new.target ≡ name) × ChangesOnly old.held new.held name [])
-AtEmpty name old new (Err e) = (new.writing ≡ false) × (new.held ≡ old.held) × Rose old.write_faults new.write_faults
+AtEmpty name old new (Err e) = (new.writing ≡ false) × (new.held ≡ old.held) × HasRisen old.write_faults new.write_faults
 
 pub record BeginsWriting {T E : Type 0} (name : List ℕ) (old new : FilesState) (result : Result T E) : Type 0 where
   pub only : OnlyWrites old new
@@ -102,12 +102,12 @@ pub record AddsSome (old new : FilesState) (piece : List ℕ) (n : ℕ) : Type 0
 pub record FailsAdding (old new : FilesState) (bytes : List ℕ) : Type 0 where
   pub count : ℕ
   pub is : Adds old new (take count bytes)
-  pub rose : Rose old.write_faults new.write_faults
+  pub rose : HasRisen old.write_faults new.write_faults
 
 -- none were, since the files failed
 pub record AddsNone (old new : FilesState) : Type 0 where
   pub is : Adds old new []
-  pub rose : Rose old.write_faults new.write_faults
+  pub rose : HasRisen old.write_faults new.write_faults
 
 -- what a push did
 abbrev pub AddResult : {E : Type 0} → List ℕ → FilesState → FilesState → Result ℕ E → Type 0
@@ -125,7 +125,7 @@ PutsFile bytes old new (Err e) = FailsAdding old new bytes
 abbrev pub FillResult : ℕ → List ℕ → List ℕ → FilesState → FilesState → Result ℕ ReadError → Type 0
 FillResult most bytes more old new (Ok n) = (length more ≡ length bytes + n) × (n ≤ most)
     × (IsTrue old.observable → (bytes ++ old.left ≡ more ++ new.left) × (n ≡ 0 → new.left ≡ []))
-FillResult most bytes more old new (Err Fault) = Rose old.read_faults new.read_faults
+FillResult most bytes more old new (Err Fault) = HasRisen old.read_faults new.read_faults
 FillResult most bytes more old new (Err NoMemory) = Unit {0}
 FillResult most bytes more old new (Err TooLong) = ⊥
 
@@ -140,7 +140,7 @@ pub record Filled (most : ℕ) (bytes more : List ℕ) (old new : FilesState) (r
 abbrev pub RestResult : {T : Type 0} → ℕ → List ℕ → FilesState → FilesState → Result T ReadError → Type 0
 RestResult limit bytes old new (Ok x) = (length bytes ≤ limit) × (IsTrue old.observable → bytes ≡ old.left)
 RestResult limit bytes old new (Err TooLong) = IsTrue old.observable → limit < length old.left
-RestResult limit bytes old new (Err Fault) = Rose old.read_faults new.read_faults
+RestResult limit bytes old new (Err Fault) = HasRisen old.read_faults new.read_faults
 RestResult limit bytes old new (Err NoMemory) = Unit {0}
 
 pub record Rest {T : Type 0} (limit : ℕ) (bytes : List ℕ) (old new : FilesState) (result : Result T ReadError) : Type 0 where

@@ -2,7 +2,7 @@
 use Rattle.std.specs.Prelude.{ℕ, Bool, not, ◌||◌, if◌then◌else◌, List, [], ◌∷◌, ◌++◌, drop, take, length, ◌≡◌, ◌⊎◌, ◌<◌, ◌≤◌, ◌==◌, IsTrue, Option, Some, None, Result, Ok, Err}
 use Rattle.std.specs.List.{list_any}
 use Rattle.plan_base.specs.declared.ids.Dev.{Dev}
-use Rattle.node_io.specs.Causes.{Rose}
+use Rattle.node_io.specs.Causes.{HasRisen}
 use Rattle.node_io.specs.declared.link.Peer.{Peer}
 use Rattle.node_io.specs.declared.link.Arrival.{Arrival}
 use Rattle.node_io.specs.declared.link.Arrival.TheVariants.{Quiet, On}
@@ -59,7 +59,7 @@ pub record LinkState : Type 0 where
 -- these peers are bound; a bind that failed leaves none, and may have found no memory for its entry
 abbrev pub BindResult : {T E : Type 0} → Bind → LinkState → LinkState → Result T E → Type 0
 BindResult bind old new (Ok x) = (new.bound ≡ bind.1) × (IsTrue old.observable → new.binds ≡ old.binds ++ bind ∷ [])
-BindResult bind old new (Err e) = (new.bound ≡ []) × ((new.binds ≡ old.binds) ⊎ (new.binds ≡ old.binds ++ bind ∷ [])) × Rose old.faults new.faults
+BindResult bind old new (Err e) = (new.bound ≡ []) × ((new.binds ≡ old.binds) ⊎ (new.binds ≡ old.binds ++ bind ∷ [])) × HasRisen old.faults new.faults
 
 pub record Binds {T E : Type 0} (bind : Bind) (old new : LinkState) (result : Result T E) : Type 0 where
   pub observable : new.observable ≡ old.observable
@@ -72,7 +72,7 @@ pub record Binds {T E : Type 0} (bind : Bind) (old new : LinkState) (result : Re
 abbrev pub HearResult : List ℕ → LinkState → LinkState → Got → Type 0
 HearResult buf old new (Frame dev n) = IsTrue old.observable → (next_heard old.bound old.script ≡ Some (dev, take n buf)) × (new.script ≡ drop 1 old.script)
 HearResult buf old new Nothing = IsTrue old.observable → (next_heard old.bound old.script ≡ None) × (new.script ≡ drop 1 old.script)
-HearResult buf old new Failed = (new.script ≡ old.script) × Rose old.faults new.faults
+HearResult buf old new Failed = (new.script ≡ old.script) × HasRisen old.faults new.faults
 
 pub record Hears (buf : List ℕ) (old new : LinkState) (result : Got) : Type 0 where
   pub observable : new.observable ≡ old.observable
@@ -86,7 +86,7 @@ pub record Hears (buf : List ℕ) (old new : LinkState) (result : Got) : Type 0 
 -- a frame that was sent stands at the end of the frames sent; one that wasn't stands nowhere
 abbrev pub SendResult : {T E : Type 0} → Heard → LinkState → LinkState → Result T E → Type 0
 SendResult frame old new (Ok x) = IsTrue old.observable → new.sent ≡ old.sent ++ frame ∷ []
-SendResult frame old new (Err e) = (new.sent ≡ old.sent) × Rose old.faults new.faults
+SendResult frame old new (Err e) = (new.sent ≡ old.sent) × HasRisen old.faults new.faults
 
 pub record Sends {T E : Type 0} (frame : Heard) (old new : LinkState) (result : Result T E) : Type 0 where
   pub observable : new.observable ≡ old.observable

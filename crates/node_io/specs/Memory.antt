@@ -4,7 +4,7 @@ use Rattle.node_io.specs.Sinks.{SinkState}
 use Rattle.node_io.specs.FileStates.{FilesState}
 use Rattle.node_io.specs.Links.{LinkState}
 use Rattle.node_io.specs.Spawners.{SpawnerState}
-use Rattle.node_io.specs.Causes.{IsDue, Rose, one_more}
+use Rattle.node_io.specs.Causes.{IsDue, HasRisen, one_more}
 use Rattle.node_io.specs.declared.mem_sink.MemSink.{MemSink}
 use Rattle.node_io.specs.declared.mem_files.MemFiles.{MemFiles}
 use Rattle.node_io.specs.declared.mem_link.MemLink.{MemLink}
@@ -48,7 +48,7 @@ IsFull s piece = (s.room ≡ Some 0) × (0 < length piece)
 
 -- a growth of the sink was refused for memory
 abbrev pub LacksRoom : MemSink → MemSink → Type 0
-LacksRoom old new = Rose old.refused new.refused
+LacksRoom old new = HasRisen old.refused new.refused
 
 -- the sink counted one call more, and its list of failing calls is as before
 abbrev pub CountsPush : MemSink → MemSink → Type 0
@@ -60,7 +60,7 @@ IsDueCall f = IsDue f.fails (one_more f.calls)
 
 -- a growth of the files was refused for memory
 abbrev pub LacksMemory : MemFiles → MemFiles → Type 0
-LacksMemory old new = Rose old.refused new.refused
+LacksMemory old new = HasRisen old.refused new.refused
 
 -- the files counted one call more, and their list of failing calls is as before
 abbrev pub CountsCall : MemFiles → MemFiles → Type 0
@@ -72,7 +72,7 @@ IsDueAtLink l = IsDue l.fails (one_more l.calls)
 
 -- a growth of the link was refused for memory
 abbrev pub LinkLacksMemory : MemLink → MemLink → Type 0
-LinkLacksMemory old new = Rose old.refused new.refused
+LinkLacksMemory old new = HasRisen old.refused new.refused
 
 -- the link counted one call more, and its list of failing calls is as before
 abbrev pub CountsAtLink : MemLink → MemLink → Type 0
@@ -84,7 +84,7 @@ IsDueAtSpawner s = IsDue s.fails (one_more s.calls)
 
 -- a growth of the spawner was refused for memory
 abbrev pub SpawnerLacksMemory : MemSpawner → MemSpawner → Type 0
-SpawnerLacksMemory old new = Rose old.refused new.refused
+SpawnerLacksMemory old new = HasRisen old.refused new.refused
 
 -- no number is left for one more child
 abbrev pub HasAllChildren : MemSpawner → Type 0

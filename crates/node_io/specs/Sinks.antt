@@ -1,6 +1,6 @@
 -- An output: what it took, its faults, and what a writing does to it.
 use Rattle.std.specs.Prelude.{ℕ, Bool, IsTrue, List, [], ◌++◌, ◌≡◌, ◌<◌, ◌≤◌, take, length, Result, Ok, Err}
-use Rattle.node_io.specs.Causes.{Rose}
+use Rattle.node_io.specs.Causes.{HasRisen}
 
 -- an output, as contracts see it. What it took is known where it is observable
 pub record SinkState : Type 0 where
@@ -23,7 +23,7 @@ pub record WritesPrefix (old new : SinkState) (bytes : List ℕ) : Type 0 where
 pub record FailsIn (old new : SinkState) (bytes : List ℕ) : Type 0 where
   pub count : ℕ
   pub is : Writes old new (take count bytes)
-  pub rose : Rose old.faults new.faults
+  pub rose : HasRisen old.faults new.faults
 
 -- as many bytes of a piece were written as the number says, at least 1 of a nonempty one
 pub record WritesSome (old new : SinkState) (piece : List ℕ) (n : ℕ) : Type 0 where
@@ -34,7 +34,7 @@ pub record WritesSome (old new : SinkState) (piece : List ℕ) (n : ℕ) : Type 
 -- nothing was written, since the output failed
 pub record WritesNone (old new : SinkState) : Type 0 where
   pub is : Writes old new []
-  pub rose : Rose old.faults new.faults
+  pub rose : HasRisen old.faults new.faults
 
 -- what a push did
 abbrev pub Pushes : {E : Type 0} → List ℕ → SinkState → SinkState → Result ℕ E → Type 0

@@ -1,6 +1,6 @@
 -- Child processes, and what starts them.
 use Rattle.std.specs.Prelude.{ℕ, Bool, IsTrue, not, List, [], ◌∷◌, ◌++◌, ◌+◌, ◌≡◌, ◌⊎◌, ◌≤◌, ◌==◌, Some, slice_get, filter, Contains, Result, Ok, Err}
-use Rattle.node_io.specs.Causes.{Rose}
+use Rattle.node_io.specs.Causes.{HasRisen}
 use Rattle.node_io.specs.declared.spawner.Child.{Child}
 
 -- whether another child is meant
@@ -36,7 +36,7 @@ abbrev pub StartResult : {E : Type 0} → Words → SpawnerState → SpawnerStat
 StartResult words old new (Ok child) = (new.children ≡ old.children ++ child ∷ []) × IsFresh old.children child × Contains new.children child
     × (IsTrue old.observable → (new.starts ≡ old.starts ++ words ∷ []) × (child.0 ≡ old.started) × (new.started ≡ old.started + 1))
 StartResult words old new (Err e) = (new.children ≡ old.children) × (new.started ≡ old.started) × ((new.starts ≡ old.starts) ⊎ (new.starts ≡ old.starts ++ words ∷ []))
-    × Rose old.faults new.faults
+    × HasRisen old.faults new.faults
 
 pub record Starts {E : Type 0} (words : Words) (old new : SpawnerState) (result : Result Child E) : Type 0 where
   pub kept : KeepsStatuses old new
@@ -45,7 +45,7 @@ pub record Starts {E : Type 0} (words : Words) (old new : SpawnerState) (result 
 -- the status of a child that was waited for
 abbrev pub WaitResult : {E : Type 0} → Child → SpawnerState → SpawnerState → Result ℕ E → Type 0
 WaitResult child old new (Ok status) = IsTrue old.observable → slice_get old.statuses child.0 ≡ Some status
-WaitResult child old new (Err e) = Rose old.faults new.faults
+WaitResult child old new (Err e) = HasRisen old.faults new.faults
 
 pub record Waits {E : Type 0} (child : Child) (old new : SpawnerState) (result : Result ℕ E) : Type 0 where
   pub kept : KeepsStatuses old new

@@ -6,7 +6,7 @@ use std::alloc::{AllocError, Global};
 use std::marker::Model;
 
 /// The number of children that were started, with those not yet waited for. The next child gets that number.
-#[derive(Debug, Drop)]
+#[derive(Drop)]
 pub(crate) struct Children {
     started: u32,
     running: Vec<Child>,

@@ -19,7 +19,7 @@ pub trait Clock {
 
 /// A clock in memory, which answers a list in order, and after its end the last answer, or 0 where
 /// the list is empty.
-#[derive(Debug, Drop)]
+#[derive(Drop)]
 pub struct MemClock {
     answers: Moments,
     given: usize,

@@ -8,7 +8,7 @@ use std::alloc::{AllocError, Global};
 use std::marker::Model;
 
 /// Files by name in memory, which contracts see as a list of names with their bytes.
-#[derive(Debug, Drop)]
+#[derive(Drop)]
 pub struct FileList {
     all: Vec<(Text, Bytes)>,
 }

@@ -9,7 +9,7 @@ use plan_items::Items;
 pub const RECEIVED_MAX: usize = 16_513;
 
 /// What a receiving answers.
-#[derive(Debug, Clone, Copy, PartialEq, Eq)]
+#[derive(Clone, Copy, PartialEq, Eq)]
 pub enum Got {
     /// So many bytes came on this device.
     Frame(Dev, usize),
@@ -20,7 +20,7 @@ pub enum Got {
 }
 
 /// A neighbour of a link: the device that leads to it, and its port.
-#[derive(Debug, Clone, Copy, PartialEq, Eq)]
+#[derive(Clone, Copy, PartialEq, Eq)]
 pub struct Peer {
     /// The device. Device 0 is the control peer.
     pub dev: Dev,
@@ -32,7 +32,7 @@ pub struct Peer {
 pub type Peers = Items<Peer>;
 
 /// An entry of the script of a link in memory.
-#[derive(Debug, Drop)]
+#[derive(Drop)]
 pub enum Arrival {
     /// Nothing comes.
     Quiet,

@@ -12,7 +12,7 @@ use plan_base::{NoMemory, Text, Texts};
 use std::alloc::Global;
 
 /// Files in memory, which tell what they hold and which names were asked for and made.
-#[derive(Debug, Drop)]
+#[derive(Drop)]
 pub struct MemFiles {
     alloc: Global,
     files: FileList,

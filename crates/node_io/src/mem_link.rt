@@ -10,7 +10,7 @@ use plan_items::Items;
 use std::alloc::{AllocError, Global};
 
 /// A link in memory, whose arrivals are a script.
-#[derive(Debug, Drop)]
+#[derive(Drop)]
 pub struct MemLink {
     alloc: Global,
     script: Arrivals,

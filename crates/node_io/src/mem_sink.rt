@@ -8,7 +8,7 @@ use plan_base::{Bytes, NoMemory};
 use std::alloc::Global;
 
 /// A sink in memory, which keeps the bytes that it took.
-#[derive(Debug, Drop)]
+#[derive(Drop)]
 pub struct MemSink {
     taken: Bytes,
     fails: Calls,

@@ -12,7 +12,7 @@ use plan_items::Items;
 use std::alloc::{AllocError, Global};
 
 /// A spawner in memory: the k-th child started has the k-th status.
-#[derive(Debug, Drop)]
+#[derive(Drop)]
 pub struct MemSpawner {
     alloc: Global,
     statuses: Statuses,

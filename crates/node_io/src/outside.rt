@@ -5,7 +5,7 @@ ghost use Rattle.node_io.specs.FileStates.{FilesState, BeginsReading, Pulls, Beg
 use plan_items::Items;
 
 /// The answer of a call of the outside that failed. A count of faults rose in that call.
-#[derive(Debug, Clone, Copy, PartialEq, Eq)]
+#[derive(Clone, Copy, PartialEq, Eq)]
 pub struct Failed;
 
 /// The numbers, counted from 1, of the calls of a form in memory that are to fail.

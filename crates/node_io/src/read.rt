@@ -6,7 +6,7 @@ use plan_base::{Bytes, NoMemory};
 use std::alloc::{AllocError, Global};
 
 /// Why a file wasn't read whole.
-#[derive(Debug, Clone, Copy, PartialEq, Eq)]
+#[derive(Clone, Copy, PartialEq, Eq)]
 pub enum ReadError {
     /// A call of the files failed; the count of faults of reading rose.
     Fault,

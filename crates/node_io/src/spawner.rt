@@ -6,7 +6,7 @@ use plan_base::Texts;
 use plan_items::Items;
 
 /// A child process that was started.
-#[derive(Debug, Clone, Copy, PartialEq, Eq)]
+#[derive(Clone, Copy, PartialEq, Eq)]
 pub struct Child(pub u32);
 
 /// The exit statuses that the children of a spawner in memory give, in the order of their starts.

@@ -12,8 +12,8 @@ use Rattle.packet_frame.specs.declared.frame.PlainFrame.{PlainFrame}
 use Rattle.packet_frame.specs.declared.fault.FrameFault.{FrameFault}
 use Rattle.packet_frame.specs.Typed.{Accepts}
 use Rattle.packet_frame.proofs.Carried.{chunk_is_formed}
-use Rattle.frame_text.specs.Decoding.{frame_of}
-use Rattle.frame_text.proofs.OneAnswer.{found_is}
+use Rattle.packet_frame.specs.Decoding.{frame_of}
+use Rattle.packet_frame.proofs.OneAnswer.{found_is}
 use Rattle.chunk_types.specs.Chunks.{IsCheckedChunk}
 use Rattle.table_rows.specs.declared.row.Row.{Row}
 use Rattle.table_rows.specs.Rows.{row_size, rows_size, living, is_live}
@@ -22,7 +22,7 @@ use Rattle.service_api.specs.declared.router.Hop.{Hop}
 use Rattle.service_api.specs.declared.router.Hop.TheVariants.{To, NoService, NoRoute}
 use Rattle.service_api.specs.Adverts.{AdvertFits}
 use Rattle.service_api.specs.Routes.{hop}
-use Rattle.service_api.specs.Services.{Rows, Standing, IsGoodChunk, IsGoodValue, AreGoodRows, expired}
+use Rattle.service_api.specs.Services.{Rows, ServiceState, IsGoodChunk, IsGoodValue, AreGoodRows, expired}
 use Rattle.plan_meaning.specs.declared.sent.Sent.{Sent}
 use Rattle.plan_meaning.specs.Safe.{IsGoodSent, AreGoodPackets}
 use Rattle.plan_meaning.specs.Visit.{bounds}
@@ -86,7 +86,7 @@ living_good now r g = record {
   greatest = g.greatest;
 }
 
-expired_fits : (now : ℕ) (n : Standing) → ServicesFit n → ServicesFit (expired now n)
+expired_fits : (now : ℕ) (n : ServiceState) → ServicesFit n → ServicesFit (expired now n)
 expired_fits now n h = record { good = record { serve = h.good.serve; rows = living_good now n.rows h.good.rows }; closed = h.closed; waits = h.waits }
 
 -- ---- steps

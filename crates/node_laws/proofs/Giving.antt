@@ -11,7 +11,7 @@ use Rattle.plan_base.specs.declared.tree.Chunk.{Chunk}
 use Rattle.plan_base.specs.declared.tree.Packet.{Packet}
 use Rattle.packet_frame.specs.declared.frame.PlainFrame.{PlainFrame}
 use Rattle.packet_frame.specs.declared.fault.FrameFault.{FrameFault}
-use Rattle.frame_text.specs.Decoding.{frame_of}
+use Rattle.packet_frame.specs.Decoding.{frame_of}
 use Rattle.service_api.specs.declared.advert.Advert.{Advert}
 use Rattle.service_api.specs.declared.answer.Note.{Note}
 use Rattle.service_api.specs.declared.router.Hop.{Hop}

@@ -3,7 +3,7 @@ use Rattle.std.proofs.Common.{◌≡◌, ◌<◌, ◌≤◌, ◌^◌, ◌++◌, 
 use Rattle.std.specs.Prelude.{All, map, ◌==◌, ◌||◌}
 use Rattle.std.proofs.lemmas.List.Elements.{All-nil, All-cons, All-head, All-tail, All-append, All-take, All-drop}
 use Rattle.plan_base.specs.declared.ids.Host.{Host}
-use Rattle.service_api.specs.Services.{Standing}
+use Rattle.service_api.specs.Services.{ServiceState}
 use Rattle.network_plan.specs.Hosts.{has_host}
 use Rattle.network_plan.specs.declared.node.NodeConfig.{NodeConfig}
 use Rattle.network_plan.specs.declared.schedule.HostSpec.{HostSpec}
@@ -34,7 +34,7 @@ sorted_fit hosts n = record {
   numbers = sorted_all (λ h. h.0 < 2 ^ 32) [] hosts n.numbers (All-nil (λ h. h.0 < 2 ^ 32));
 }
 
-pub new_node_fits : (c : NodeConfig) (n : Standing) → c.here.0 < 2 ^ 32 → c.serial < 2 ^ 64 → ConfigFits c → ServicesFit n → NodeFits (new_node c n)
+pub new_node_fits : (c : NodeConfig) (n : ServiceState) → c.here.0 < 2 ^ 32 → c.serial < 2 ^ 64 → ConfigFits c → ServicesFit n → NodeFits (new_node c n)
 unfolding new_node
 new_node_fits c n h s k f = record {
   here = h;

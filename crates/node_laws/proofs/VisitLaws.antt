@@ -5,9 +5,9 @@ use Rattle.std.proofs.lemmas.List.Elements.{All-nil}
 use Rattle.plan_base.specs.declared.tree.Chunk.{Chunk}
 use Rattle.plan_base.specs.declared.tree.Packet.{Packet}
 use Rattle.plan_base.specs.declared.tree.Value.{Value}
-use Rattle.plan_base.specs.Typing.{IsTypedChunk, within}
+use Rattle.typing_rules.specs.Typing.{IsTypedChunk, within}
 use Rattle.plan_base.specs.WellFormed.{IsWellFormedChunk}
-use Rattle.service_api.specs.Services.{Standing, IsGood, IsGoodChunk, IsGoodNote, kept, abandoned, begun_now}
+use Rattle.service_api.specs.Services.{ServiceState, IsGood, IsGoodChunk, IsGoodNote, kept, abandoned, begun_now}
 use Rattle.plan_meaning.specs.declared.stop.Stop.TheVariants.{Raised, WorkSpent, Wrong, NoMemory}
 use Rattle.plan_meaning.specs.declared.outcome.Visit.{Visit}
 use Rattle.plan_meaning.specs.State.{VisitState}
@@ -85,21 +85,21 @@ pub has_case : (node : NodeState) (p : Packet) → IsGood node.services → leng
 has_case node p g n k = (ends node p g n k).case
 
 -- what a visit sends is good, and so are the services after it
-pub record VisitFits (v : Visit) (after : Standing) : Type 0 where
+pub record VisitFits (v : Visit) (after : ServiceState) : Type 0 where
   pub packets : AreGoodPackets v.outbox
   pub services : ServicesFit after
 
-kept_fits : (n : Standing) → IsGood n → ServicesFit (kept n)
+kept_fits : (n : ServiceState) → IsGood n → ServicesFit (kept n)
 kept_fits n g = record { good = record { serve = g.serve; rows = g.rows }; closed = refl; waits = refl }
 
 -- services without a visit are as they were where one is undone
-undone_fits : (n : Standing) → IsGood n → ServicesFit (abandoned (begun_now n))
+undone_fits : (n : ServiceState) → IsGood n → ServicesFit (abandoned (begun_now n))
 undone_fits n g = record { good = record { serve = g.serve; rows = g.rows }; closed = refl; waits = refl }
 
-spent_fits : (bound : ℕ) (n : Standing) → IsGood n → VisitFits (spent allowance bound) (abandoned (begun_now n))
+spent_fits : (bound : ℕ) (n : ServiceState) → IsGood n → VisitFits (spent allowance bound) (abandoned (begun_now n))
 spent_fits bound n g = record { packets = All-nil IsGoodSent; services = undone_fits n g }
 
-end_fits : (bound : ℕ) (n : Standing) (a : After Value) → IsGood n → IsGoodState (left_by a) → VisitFits (visit_end bound a) (services_end (begun_now n) a)
+end_fits : (bound : ℕ) (n : ServiceState) (a : After Value) → IsGood n → IsGoodState (left_by a) → VisitFits (visit_end bound a) (services_end (begun_now n) a)
 end_fits bound n (gave v s) o g = record { packets = g.outbox; services = kept_fits s.services g.services }
 end_fits bound n (stopped (Raised x) s) o g = record { packets = g.outbox; services = kept_fits s.services g.services }
 end_fits bound n (stopped WorkSpent s) o g = spent_fits bound n o

@@ -6,7 +6,7 @@ use Rattle.plan_base.specs.declared.tree.Chunk.{Chunk}
 use Rattle.plan_base.specs.declared.tree.Packet.{Packet}
 use Rattle.packet_frame.specs.declared.frame.PlainFrame.{PlainFrame}
 use Rattle.service_api.specs.Adverts.{AdvertFits}
-use Rattle.service_api.specs.Services.{Standing, IsGood, IsGoodChunk}
+use Rattle.service_api.specs.Services.{ServiceState, IsGood, IsGoodChunk}
 use Rattle.wire_bytes.specs.Fields.{IsBytes}
 use Rattle.chunk_types.specs.Chunks.{IsCheckedChunk}
 use Rattle.dv_routing.specs.Sorted.{HostsAscend, HostsDiffer}
@@ -32,7 +32,7 @@ pub record QueuesKeep (P : PlainFrame → Type 0) (queues : Queues) : Type 0 whe
   pub frames : All (λ queue. All P queue) queues
 
 -- services keep their laws, and no visit is open
-pub record ServicesFit (n : Standing) : Type 0 where
+pub record ServicesFit (n : ServiceState) : Type 0 where
   pub good : IsGood n
   pub closed : n.begun ≡ None
   pub waits : n.ready ≡ false

@@ -6,12 +6,12 @@ use Rattle.plan_base.specs.declared.tree.Chunk.{Chunk}
 use Rattle.plan_base.specs.declared.tree.Packet.{Packet}
 use Rattle.packet_frame.specs.declared.frame.PlainFrame.{PlainFrame}
 use Rattle.packet_frame.specs.declared.fault.FrameFault.{FrameFault}
-use Rattle.frame_text.specs.Decoding.{frame_of}
+use Rattle.packet_frame.specs.Decoding.{frame_of}
 use Rattle.service_api.specs.declared.advert.Advert.{Advert}
 use Rattle.service_api.specs.declared.router.Hop.{Hop}
 use Rattle.service_api.specs.declared.router.Hop.TheVariants.{To, NoService, NoRoute}
 use Rattle.service_api.specs.Routes.{hop, default_route}
-use Rattle.service_api.specs.Services.{Standing, begun_now, expired}
+use Rattle.service_api.specs.Services.{ServiceState, begun_now, expired}
 use Rattle.dv_routing.specs.Routing.{all_routes, own_advert}
 use Rattle.network_plan.specs.declared.event.Event.{Event}
 use Rattle.network_plan.specs.declared.event.Event.TheVariants as event
@@ -69,7 +69,7 @@ sends_queues queues (s ∷ ss) = sends_queues (send_queues queues s) ss
 abbrev pub with_queues : NodeState → Queues → NodeState
 with_queues node queues = record node { queues = queues }
 
-abbrev pub with_services : NodeState → Standing → NodeState
+abbrev pub with_services : NodeState → ServiceState → NodeState
 with_services node services = record node { services = services }
 
 -- ---- packets

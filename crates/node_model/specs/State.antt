@@ -4,7 +4,7 @@ use Rattle.plan_base.specs.declared.ids.Host.{Host}
 use Rattle.plan_base.specs.declared.ids.Dev.{Dev}
 use Rattle.packet_frame.specs.declared.frame.PlainFrame.{PlainFrame}
 use Rattle.service_api.specs.declared.advert.Advert.{Advert}
-use Rattle.service_api.specs.Services.{Standing}
+use Rattle.service_api.specs.Services.{ServiceState}
 use Rattle.network_plan.specs.declared.node.NodeConfig.{NodeConfig}
 use Rattle.dv_routing.specs.Routing.{Routing}
 use Rattle.dv_routing.specs.Sorted.{sorted_into}
@@ -28,7 +28,7 @@ pub record NodeState : Type 0 where
   pub hosts : List Host
   pub neighbours : Links
   pub heard : List (Dev × Advert)
-  pub services : Standing
+  pub services : ServiceState
   pub queues : Queues
   pub serial : ℕ
   pub now : ℕ
@@ -55,7 +55,7 @@ abbrev pub no_queues : Queues
 no_queues = replicate 9 []
 
 -- a node at the beginning: it has heard nothing, nothing is queued, and its time is 0
-unfoldable pub new_node : NodeConfig → Standing → NodeState
+unfoldable pub new_node : NodeConfig → ServiceState → NodeState
 new_node config services = record {
   here = config.here;
   hosts = sorted_into [] config.hosts;

@@ -5,8 +5,8 @@ use Rattle.std.specs.Fmt.{decimal}
 use Rattle.plan_base.specs.declared.ids.Host.{Host}
 use Rattle.plan_base.specs.declared.ids.Dev.{Dev}
 use Rattle.plan_base.specs.declared.ids.Family.{Family}
-use Rattle.plan_printer.specs.Printed.{value_text}
-use Rattle.frame_text.specs.Reasons.{reason_text as refusal_text}
+use Rattle.printed_forms.specs.Printed.{value_text}
+use Rattle.packet_frame.specs.Reasons.{reason_text as refusal_text}
 use Rattle.service_api.specs.declared.answer.Note.{Note}
 use Rattle.service_api.specs.declared.answer.Note.TheVariants.{Print, Port}
 use Rattle.plan_meaning.specs.declared.outcome.Outcome.{Outcome}

@@ -3,7 +3,7 @@ use Rattle.std.specs.Prelude.{◌≡◌, ◌≢◌, ℕ, ◌+◌, ◌<◌, All}
 use Rattle.plan_base.specs.declared.tree.Packet.{Packet}
 use Rattle.plan_base.specs.declared.tree.Value.{Value}
 use Rattle.service_api.specs.declared.ctx.Ctx.{Ctx}
-use Rattle.service_api.specs.Services.{Standing, begun_now, kept, abandoned}
+use Rattle.service_api.specs.Services.{ServiceState, begun_now, kept, abandoned}
 use Rattle.plan_meaning.specs.declared.stop.Stop.TheVariants as stop
 use Rattle.plan_meaning.specs.declared.outcome.Outcome.TheVariants as outcome
 use Rattle.plan_meaning.specs.declared.outcome.Visit.{Visit}
@@ -15,7 +15,7 @@ use Rattle.dv_routing.specs.Routing.{all_routes}
 use Rattle.node_model.specs.State.{NodeState, routing_of}
 
 -- how the evaluation of a packet's chunk ends in these surroundings, with these services
-unfoldable pub evaluated : Ctx → Standing → Packet → After Value
+unfoldable pub evaluated : Ctx → ServiceState → Packet → After Value
 evaluated ctx services p = (visited meaning p.chunk (begun allowance ctx p.family services)).after
 
 -- the value or exception of a visit with its effects; one whose work is spent has none. A typed chunk always has a case, so the
@@ -26,16 +26,16 @@ visit_end bound (stopped (stop.Raised x) s) = ended allowance (outcome.Raised x)
 visit_end bound (stopped _ s) = spent allowance bound
 
 -- the visit of a packet
-unfoldable pub visit_of : Ctx → Standing → Packet → Visit
+unfoldable pub visit_of : Ctx → ServiceState → Packet → Visit
 visit_of ctx services p = visit_end p.bound (evaluated ctx services p)
 
 -- the services afterwards: what a visit changed stands, but for one whose work is spent
-abbrev pub services_end : Standing → After Value → Standing
+abbrev pub services_end : ServiceState → After Value → ServiceState
 services_end begun (gave v s) = kept s.services
 services_end begun (stopped (stop.Raised x) s) = kept s.services
 services_end begun (stopped _ s) = abandoned begun
 
-unfoldable pub services_after : Ctx → Standing → Packet → Standing
+unfoldable pub services_after : Ctx → ServiceState → Packet → ServiceState
 services_after ctx services p = services_end services (evaluated ctx services p)
 
 -- what stands around the visit of a packet at a node: the packet's bound is the purse

@@ -6,7 +6,7 @@ use service_api::Note;
 use spelled_frame::{SpelledFrame, What};
 
 /// Why a packet was dropped.
-#[derive(Debug, Clone, Copy, PartialEq, Eq)]
+#[derive(Clone, Copy, PartialEq, Eq)]
 pub enum Reason {
     /// It had to go on, and its bound was 0.
     NoBound,
@@ -22,7 +22,7 @@ pub enum Reason {
 pub type ActList = Items<Act>;
 
 /// One thing that a node did.
-#[derive(Debug, Drop)]
+#[derive(Drop)]
 pub enum Act {
     /// It took in a chunk as a packet of this family with this bound.
     Injected(Family, u32),
@@ -59,7 +59,7 @@ pub enum Act {
 }
 
 /// What a step of a node gives.
-#[derive(Debug, Drop)]
+#[derive(Drop)]
 pub struct Acts {
     /// The acts in order.
     pub list: ActList,
@@ -71,7 +71,7 @@ pub struct Acts {
 pub type Sendings = Items<Sending>;
 
 /// A frame to be queued: on which device, and the act where it is queued or dropped.
-#[derive(Debug, Drop)]
+#[derive(Drop)]
 pub struct Sending {
     /// The device.
     pub dev: Dev,

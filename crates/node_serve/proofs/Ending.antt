@@ -81,7 +81,7 @@ module _ (cfg : ServeConfig) (old new : Desk) where
     script = script;
   }
 
-  -- a front of the log's first lines is one of every log
+  -- a prefix of the log's first lines is one of every log
   saves_more : (whole rest : List ℕ) → whole ≡ head_text cfg.node cfg.missing ++ rest → SavesFront old.files.held new.files.held cfg.log (head_text cfg.node cfg.missing) → SavesFront old.files.held new.files.held cfg.log whole
   saves_more whole rest e (untouched same) = untouched same
   saves_more whole rest e (begun count h) =
@@ -138,7 +138,7 @@ module _ (cfg : ServeConfig) (node : NodeState) (n : ℕ) (first : Desk) (mid la
         readable = subst (λ r. All IsReadable r.events) same a.shows.readable;
       }
 
-  -- a front of it
+  -- a prefix of it
   pub stopped : Stopped cfg (seen_at first) (seen_at (desk_of last)) (opened node) (turns cfg mid.link.script mid.clock.last mid.clock.answers n)
       → last.link.binds ≡ mid.link.binds → UsedUpTo n mid.link.script last.link.script → UsedUpTo n mid.clock.answers last.clock.answers
       → Begun cfg node n (with_clock first mid.clock) last

@@ -1,9 +1,9 @@
 -- How calls of a serving node join.
-use Rattle.std.proofs.Common.{◌≡◌, ◌≢◌, ℕ, ◌≤◌, ◌<◌, ◌+◌, ◌⊎◌, inl, inr, List, [], true, take, IsTrue, Result, Ok, Err, nat_le, refl, sym, ap, subst, ◌∙◌, arith}
+use Rattle.std.proofs.Common.{◌≡◌, ℕ, ◌≤◌, ◌<◌, ◌+◌, ◌⊎◌, inl, inr, List, [], true, take, IsTrue, Result, Ok, Err, nat_le, refl, sym, ap, subst, ◌∙◌, arith}
 use Rattle.network_plan.specs.declared.serve.ServeConfig.{ServeConfig}
 use Rattle.network_plan.specs.declared.event.Event.{Event}
 use Rattle.network_plan.specs.declared.event.Event.TheVariants.{Tick}
-use Rattle.service_api.specs.Services.{Standing}
+use Rattle.service_api.specs.Services.{ServiceState}
 use Rattle.node_model.specs.State.{NodeState}
 use Rattle.node_core.specs.declared.node.Node.{Node}
 use Rattle.node_core.specs.Stands.{NodeStands}
@@ -15,7 +15,7 @@ use Rattle.node_io.proofs.FileWrites.{only_same, only_both}
 use Rattle.serve_model.specs.Runs.{Running, Action, then_do, make, tick}
 use Rattle.serve_model.specs.Follow.{Grows}
 use Rattle.serve_model.proofs.Going.{make_grows}
-use Rattle.node_serve.specs.Standing.{StandsFor}
+use Rattle.node_serve.specs.Stays.{StandsFor}
 use Rattle.node_serve.specs.Steps.{Written, in_log, in_trace}
 use Rattle.node_serve.specs.Desks.{Desk, desk, seen_at, IsSeen, OthersStay, OnlyServes, KeepsDesk, Faults}
 use Rattle.node_serve.specs.Goes.{Goes, MakesStep}
@@ -23,7 +23,7 @@ use Rattle.node_serve.proofs.Following.{reached_same, leaves_then, leaves_as, st
 use Rattle.node_serve.proofs.MakeLaws.{made_reached, step_stopped, step_made, stands_marked}
 use Rattle.node_serve.proofs.Looping.{GoesUp, loop_stops}
 use Rattle.node_serve.specs.declared.server.Server.{Server}
-use Rattle.node_serve.specs.declared.steps.Stepped.{Stepped}
+use Rattle.node_serve.specs.declared.steps.StepOutcome.{StepOutcome}
 use Rattle.node_serve.specs.declared.steps.StepTexts.{StepTexts}
 use Rattle.node_serve.specs.declared.fault.ServeFault.{ServeFault}
 use Rattle.node_serve.specs.declared.fault.ServeFault.TheVariants.{LinkFault, WriteFault, NoMemory}
@@ -85,7 +85,7 @@ faults_from a b c (Err NoMemory) k f = tt
 
 -- ---- calls
 
-module _ {S T : Type 0} (stands : S → Standing) (cfg : ServeConfig) where
+module _ {S T : Type 0} (stands : S → ServiceState) (cfg : ServeConfig) where
   -- nothing was done
   pub goes_same : (act : Action) (server : Server S) (d : Desk) (x : T) → ((r : Running) → StandsFor stands server r → (refused : List ℕ) → act refused r ≡ r) → Goes {T = T} stands cfg act server server d d (Ok x)
   goes_same act server d x same = record {
@@ -103,7 +103,7 @@ module _ {S T : Type 0} (stands : S → Standing) (cfg : ServeConfig) where
     run = λ seen base r st sh. leaves_as (StandsFor stands after) cfg base (seen_at b) r f g result (same seen r st) (u.run seen base r st sh);
   }
 
-module _ {S T U : Type 0} (stands : S → Standing) (cfg : ServeConfig) where
+module _ {S T U : Type 0} (stands : S → ServiceState) (cfg : ServeConfig) where
   -- one after the other
   pub goes_then : (f g : Action) (first mid last : Server S) (a b c : Desk) (x : T) (result : Result U ServeFault) → Goes {T = T} stands cfg f first mid a b (Ok x) → Goes stands cfg g mid last b c result → Goes stands cfg (then_do f g) first last a c result
   goes_then f g first mid last a b c x result u v = record {
@@ -124,7 +124,7 @@ module _ {S T U : Type 0} (stands : S → Standing) (cfg : ServeConfig) where
 
 -- ---- loops
 
-module _ {S T U : Type 0} (stands : S → Standing) (cfg : ServeConfig) (A : ℕ → Action) (f : Action) (i : ℕ) (first mid last : Server S) (a b c : Desk)
+module _ {S T U : Type 0} (stands : S → ServiceState) (cfg : ServeConfig) (A : ℕ → Action) (f : Action) (i : ℕ) (first mid last : Server S) (a b c : Desk)
     (next : (r : Running) (refused : List ℕ) → then_do (A i) f refused r ≡ A (i + 1) refused r) where
   -- one more step
   pub goes_next : (x : T) (y : U) → Goes {T = T} stands cfg (A i) first mid a b (Ok x) → Goes {T = U} stands cfg f mid last b c (Ok y) → Goes {T = U} stands cfg (A (i + 1)) first last a c (Ok y)
@@ -145,21 +145,21 @@ pub no_link : LinkState
 no_link = record { observable = true; script = []; sent = []; binds = []; bound = []; faults = 0 }
 
 -- a step, with what it gave or without
-pub goes_made : {S T : Type 0} (stands : S → Standing) (cfg : ServeConfig) (e : Event) (first after : Server S) (a b : Desk) (made : Stepped) (x : T) → MakesStep stands cfg e first after a b (Ok made) → Goes {T = T} stands cfg (make e) first after a b (Ok x)
+pub goes_made : {S T : Type 0} (stands : S → ServiceState) (cfg : ServeConfig) (e : Event) (first after : Server S) (a b : Desk) (made : StepOutcome) (x : T) → MakesStep stands cfg e first after a b (Ok made) → Goes {T = T} stands cfg (make e) first after a b (Ok x)
 goes_made stands cfg e first after a b made x m = record {
   keeps = m.keeps;
   faults = tt;
   run = λ seen base r st sh. made_reached stands cfg base (seen_at b) r e made after (m.run seen base r st sh);
 }
 
-pub goes_unmade : {S T : Type 0} (stands : S → Standing) (cfg : ServeConfig) (e : Event) (first after : Server S) (a b : Desk) (fault : ServeFault) → MakesStep stands cfg e first after a b (Err fault) → Goes {T = T} stands cfg (make e) first after a b (Err fault)
+pub goes_unmade : {S T : Type 0} (stands : S → ServiceState) (cfg : ServeConfig) (e : Event) (first after : Server S) (a b : Desk) (fault : ServeFault) → MakesStep stands cfg e first after a b (Err fault) → Goes {T = T} stands cfg (make e) first after a b (Err fault)
 goes_unmade stands cfg e first after a b fault m = record { keeps = m.keeps; faults = m.faults; run = m.run }
 
--- no step was made, for want of memory
-pub unmade_same : {S : Type 0} (stands : S → Standing) (cfg : ServeConfig) (e : Event) (server after : Server S) (d : Desk) → MakesStep stands cfg e server after d d (Err NoMemory)
+-- no step was made, by running out of memory
+pub unmade_same : {S : Type 0} (stands : S → ServiceState) (cfg : ServeConfig) (e : Event) (server after : Server S) (d : Desk) → MakesStep stands cfg e server after d d (Err NoMemory)
 unmade_same stands cfg e server after d = record { keeps = keeps_same d; faults = tt; run = λ seen base r st sh. stopped_same cfg base (seen_at d) r (make e) (make_grows e) sh }
 
-module _ {S : Type 0} (stands : S → Standing) (cfg : ServeConfig) (e : Event) (server after : Server S) (fo fn : FilesState) (oo on : SinkState) (l : LinkState) (texts : StepTexts) (node : Node S) (n : ℕ) (line lines : List ℕ)
+module _ {S : Type 0} (stands : S → ServiceState) (cfg : ServeConfig) (e : Event) (server after : Server S) (fo fn : FilesState) (oo on : SinkState) (l : LinkState) (texts : StepTexts) (node : Node S) (n : ℕ) (line lines : List ℕ)
     (number : n ≡ server.steps + 1) (w : (s : NodeState) → NodeStands stands server.node s → Written stands cfg.node.here n s e texts node) (il : line ≡ texts.line) (im : lines ≡ texts.lines) where
   added_keeps : (bytes : List ℕ) → Adds fo fn bytes → on.observable ≡ oo.observable → oo.faults ≤ on.faults → KeepsDesk (desk fo oo l) (desk fn on l)
   added_keeps bytes a same later = record {
@@ -197,7 +197,7 @@ module _ {S : Type 0} (stands : S → Standing) (cfg : ServeConfig) (e : Event) 
   }
 
 -- a tick that was made, and marked in the server; and one that stopped
-pub goes_ticked : {S T : Type 0} (stands : S → Standing) (cfg : ServeConfig) (period now : ℕ) (server made after : Server S) (a b : Desk) (x : T)
+pub goes_ticked : {S T : Type 0} (stands : S → ServiceState) (cfg : ServeConfig) (period now : ℕ) (server made after : Server S) (a b : Desk) (x : T)
     → after.node ≡ made.node → after.last ≡ now → after.held ≡ made.held → after.steps ≡ made.steps
     → ((r : Running) → StandsFor stands server r → nat_le (r.last + period) now ≡ true) → Goes {T = T} stands cfg (make Tick) server made a b (Ok x) → Goes {T = T} stands cfg (tick period now) server after a b (Ok x)
 goes_ticked stands cfg period now server made after a b x n l h k over u = record {
@@ -208,7 +208,7 @@ goes_ticked stands cfg period now server made after a b x n l h k over u = recor
       tick_over (StandsFor stands made) (StandsFor stands after) cfg base (seen_at b) r period now (over r st) done (stands_marked stands made after done.done now done.stands_for n l h k);
 }
 
-pub goes_unticked : {S T : Type 0} (stands : S → Standing) (cfg : ServeConfig) (period now : ℕ) (server after : Server S) (a b : Desk) (fault : ServeFault)
+pub goes_unticked : {S T : Type 0} (stands : S → ServiceState) (cfg : ServeConfig) (period now : ℕ) (server after : Server S) (a b : Desk) (fault : ServeFault)
     → ((r : Running) → StandsFor stands server r → nat_le (r.last + period) now ≡ true) → Goes {T = T} stands cfg (make Tick) server after a b (Err fault) → Goes {T = T} stands cfg (tick period now) server after a b (Err fault)
 goes_unticked stands cfg period now server after a b fault over u = record {
   keeps = u.keeps;

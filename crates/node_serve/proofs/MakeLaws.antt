@@ -12,8 +12,8 @@ use Rattle.network_plan.specs.declared.event.Event.TheVariants.{Inject, Frame, T
 use Rattle.network_plan.specs.declared.event.LogEvent.{LogEvent}
 use Rattle.network_plan.specs.declared.event.LogEvent.TheVariants as entry
 use Rattle.network_plan.specs.declared.serve.ServeConfig.{ServeConfig}
-use Rattle.service_api.specs.Services.{Standing}
-use Rattle.node_io.specs.FileMaps.{FileMap, ChangesOnly, WritesMore}
+use Rattle.service_api.specs.Services.{ServiceState}
+use Rattle.node_io.specs.FileMaps.{ChangesOnly, WritesMore}
 use Rattle.node_serve.specs.Fronts.{AppendsFront, WritesFront}
 use Rattle.node_io.specs.declared.link.Peer.{Peer}
 use Rattle.node_io.specs.declared.link.Arrival.{Arrival}
@@ -30,20 +30,20 @@ use Rattle.node_io.proofs.Taking.{rest_next}
 use Rattle.node_serve.proofs.Showing.{shows_entry, fronts_log, fronts_lines, shows_sent}
 use Rattle.node_serve.proofs.Following.{reached_make, stopped_make, back_lost, send_lost, send_took, send_failed}
 use Rattle.node_serve.specs.declared.server.Server.{Server}
-use Rattle.node_serve.specs.declared.steps.Stepped.{Stepped}
-use Rattle.node_serve.specs.declared.steps.Stepped.TheVariants.{Lost, Took}
+use Rattle.node_serve.specs.declared.steps.StepOutcome.{StepOutcome}
+use Rattle.node_serve.specs.declared.steps.StepOutcome.TheVariants.{Lost, Took}
 use Rattle.node_serve.specs.declared.steps.StepTexts.{StepTexts}
 use Rattle.node_serve.specs.Steps.{was_lost, Written, WrittenFront, in_log, in_trace, sending}
-use Rattle.node_serve.specs.Standing.{StandsFor, Makes}
+use Rattle.node_serve.specs.Stays.{StandsFor, Makes}
 
-pub made_reached : {S : Type 0} (stands : S → Standing) (cfg : ServeConfig) (base seen : Seen) (r : Running) (e : Event) (made : Stepped) (server : Server S) → Makes stands cfg base seen r e made server → Reached (StandsFor stands server) cfg base seen r (make e)
+pub made_reached : {S : Type 0} (stands : S → ServiceState) (cfg : ServeConfig) (base seen : Seen) (r : Running) (e : Event) (made : StepOutcome) (server : Server S) → Makes stands cfg base seen r e made server → Reached (StandsFor stands server) cfg base seen r (make e)
 made_reached stands cfg base seen r e made server m = reached_make (StandsFor stands server) cfg base seen r e (was_lost made) m.stands_for m.shows
 
 -- the lines of a step with this number are those of the next entry
 lines_are : (here : Host) (n k : ℕ) (r : Running) (e : LogEvent) → n ≡ k + 1 → k ≡ length r.events → lines_text here (entries_at n (acts_of r.node e)) ≡ lines_text here (entries_at (length r.events + 1) (acts_of r.node e))
 lines_are here n k r e number steps = ap (λ m. lines_text here (entries_at m (acts_of r.node e))) (number ∙ ap (λ m. m + 1) steps)
 
-module _ {S : Type 0} (stands : S → Standing) (cfg : ServeConfig) (base old new : Seen) (r : Running) (e : Event) (n : ℕ) (texts : StepTexts) (server : Server S) (node : Node S)
+module _ {S : Type 0} (stands : S → ServiceState) (cfg : ServeConfig) (base old new : Seen) (r : Running) (e : Event) (n : ℕ) (texts : StepTexts) (server : Server S) (node : Node S)
     (st : StandsFor stands server r) (sh : Shows cfg base old r) (number : n ≡ server.steps + 1) (w : Written stands cfg.node.here n r.node e texts node) where
   pub step_stopped : (line lines : List ℕ) → line ≡ texts.line → lines ≡ texts.lines → WrittenFront old.files new.files old.target line old.taken new.taken lines → new.sent ≡ old.sent → Stopped cfg base new r (make e)
   step_stopped line lines l m (in_log front same) sent =
@@ -73,20 +73,20 @@ module _ {S : Type 0} (stands : S → Standing) (cfg : ServeConfig) (base old ne
 
 -- ---- parts of a server
 
-pub stands_marked : {S : Type 0} (stands : S → Standing) (server after : Server S) (r : Running) (t : ℕ) → StandsFor stands server r → after.node ≡ server.node → after.last ≡ t → after.held ≡ server.held → after.steps ≡ server.steps → StandsFor stands after (marked t r)
+pub stands_marked : {S : Type 0} (stands : S → ServiceState) (server after : Server S) (r : Running) (t : ℕ) → StandsFor stands server r → after.node ≡ server.node → after.last ≡ t → after.held ≡ server.held → after.steps ≡ server.steps → StandsFor stands after (marked t r)
 stands_marked stands server after r t st n l h k = record { node = subst (λ x. NodeStands stands x r.node) (sym n) st.node; last = l; held = h ∙ st.held; steps = k ∙ st.steps }
 
-pub stands_holding : {S : Type 0} (stands : S → Standing) (server after : Server S) (r : Running) (b : Bool) → StandsFor stands server r → after.node ≡ server.node → after.last ≡ server.last → after.held ≡ b → after.steps ≡ server.steps → StandsFor stands after (holding b r)
+pub stands_holding : {S : Type 0} (stands : S → ServiceState) (server after : Server S) (r : Running) (b : Bool) → StandsFor stands server r → after.node ≡ server.node → after.last ≡ server.last → after.held ≡ b → after.steps ≡ server.steps → StandsFor stands after (holding b r)
 stands_holding stands server after r b st n l h k = record { node = subst (λ x. NodeStands stands x r.node) (sym n) st.node; last = l ∙ st.last; held = h; steps = k ∙ st.steps }
 
 -- ---- what a step gave
 
 -- a refused taking for the node itself
-pub back_refused : {S : Type 0} (stands : S → Standing) (cfg : ServeConfig) (base seen : Seen) (r : Running) (server : Server S) → Makes stands cfg base seen r (Take (dev_of 0)) Lost server → Reached (StandsFor stands server) cfg base seen r take_back
+pub back_refused : {S : Type 0} (stands : S → ServiceState) (cfg : ServeConfig) (base seen : Seen) (r : Running) (server : Server S) → Makes stands cfg base seen r (Take (dev_of 0)) Lost server → Reached (StandsFor stands server) cfg base seen r take_back
 back_refused stands cfg base seen r server m = back_lost (StandsFor stands server) cfg base seen r m.stands_for m.shows
 
 -- a refused taking for a neighbour
-pub send_refused : {S : Type 0} (stands : S → Standing) (cfg : ServeConfig) (base seen : Seen) (r : Running) (d : Dev) (server after : Server S) → r.held ≡ false → Makes stands cfg base seen r (Take d) Lost server
+pub send_refused : {S : Type 0} (stands : S → ServiceState) (cfg : ServeConfig) (base seen : Seen) (r : Running) (d : Dev) (server after : Server S) → r.held ≡ false → Makes stands cfg base seen r (Take d) Lost server
     → after.node ≡ server.node → after.last ≡ server.last → after.held ≡ true → after.steps ≡ server.steps → Reached (StandsFor stands after) cfg base seen r (take_send d)
 send_refused stands cfg base seen r d server after h m n l k s = send_lost (StandsFor stands after) cfg base seen r d h (stands_holding stands server after (with_entry entry.Lost r) true m.stands_for n l k s) m.shows
 
@@ -94,7 +94,7 @@ sent_by : (d : Dev) (x : Option PlainFrame) (r : Running) → (send_taken d x r)
 sent_by d None r = sym (append-nil r.sent)
 sent_by d (Some x) r = refl
 
-stands_sent : {S : Type 0} (stands : S → Standing) (server : Server S) (d : Dev) (x : Option PlainFrame) (r : Running) → StandsFor stands server r → StandsFor stands server (send_taken d x r)
+stands_sent : {S : Type 0} (stands : S → ServiceState) (server : Server S) (d : Dev) (x : Option PlainFrame) (r : Running) → StandsFor stands server r → StandsFor stands server (send_taken d x r)
 stands_sent stands server d None r st = st
 stands_sent stands server d (Some x) r st = record { node = st.node; last = st.last; held = st.held; steps = st.steps }
 
@@ -109,7 +109,7 @@ shows_taken cfg base old new d None r h f t k s = record {
 shows_taken cfg base old new d (Some x) r h f t k s = shows_sent cfg base old new d x (frame_bytes x) r h refl f t k s
 
 -- a frame that was taken, and sent or not
-pub send_result : {S T E : Type 0} (stands : S → Standing) (cfg : ServeConfig) (base old new : Seen) (r : Running) (d : Dev) (x : Option PlainFrame) (server : Server S) (result : Result T E) → r.held ≡ false → Makes stands cfg base old r (Take d) (Took x) server
+pub send_result : {S T E : Type 0} (stands : S → ServiceState) (cfg : ServeConfig) (base old new : Seen) (r : Running) (d : Dev) (x : Option PlainFrame) (server : Server S) (result : Result T E) → r.held ≡ false → Makes stands cfg base old r (Take d) (Took x) server
     → MatchResult result (λ _. new.sent ≡ old.sent ++ sending d x) (λ _. new.sent ≡ old.sent) → new.files ≡ old.files → new.target ≡ old.target → new.taken ≡ old.taken → Leaves (StandsFor stands server) cfg base new r (take_send d) result
 send_result stands cfg base old new r d x server (Ok y) h m s f t k =
     let taken = with_entry (entry.Step (Take d)) r in
@@ -132,7 +132,7 @@ add_one n = omega arith
 if_is : {A : Type 0} (b c : Bool) (x y : A) → b ≡ c → (if b then x else y) ≡ (if c then x else y)
 if_is b c x y h = ap (λ d. if d then x else y) h
 
-pub over_is : {S : Type 0} (stands : S → Standing) (server : Server S) (r : Running) (period now : ℕ) (b : Bool) → StandsFor stands server r → b ≡ nat_le (server.last + period) now → nat_le (r.last + period) now ≡ b
+pub over_is : {S : Type 0} (stands : S → ServiceState) (server : Server S) (r : Running) (period now : ℕ) (b : Bool) → StandsFor stands server r → b ≡ nat_le (server.last + period) now → nat_le (r.last + period) now ≡ b
 over_is stands server r period now b st e = ap (λ k. nat_le (k + period) now) (sym st.last) ∙ sym e
 
 pub inject_stay : (turn : ℕ) (x : ℕ × ℕ × Chunk) (r : Running) → (x.0 == turn) ≡ false → (refused : List ℕ) → inject_one turn (Some x) refused r ≡ r
@@ -162,7 +162,7 @@ same_count None = refl
 same_count (Some queue) = refl
 
 -- the frames queued on a device
-pub count_is : {S : Type 0} (stands : S → Standing) (server : Server S) (r : Running) (d : Dev) (n : ℕ) → StandsFor stands server r → ((s : NodeState) → NodeStands stands server.node s → n ≡ queued_at (slice_get s.queues d.0)) → n ≡ queued_on r.node d
+pub count_is : {S : Type 0} (stands : S → ServiceState) (server : Server S) (r : Running) (d : Dev) (n : ℕ) → StandsFor stands server r → ((s : NodeState) → NodeStands stands server.node s → n ≡ queued_at (slice_get s.queues d.0)) → n ≡ queued_on r.node d
 count_is stands server r d n st h = h r.node st.node ∙ same_count (slice_get r.node.queues d.0)
 
 pub no_back : (r : Running) (n : ℕ) → n ≡ queued_on r.node (dev_of 0) → n ≡ 0 → (refused : List ℕ) → loop_back refused r ≡ r
@@ -210,7 +210,7 @@ pub shows_held : (cfg : ServeConfig) (base seen : Seen) (r : Running) → Shows 
 shows_held cfg base seen r s = record { log = s.log; target = s.target; out = s.out; sent = s.sent; readable = s.readable }
 
 -- what a step gave, by its case
-pub made_as : {S : Type 0} (stands : S → Standing) (cfg : ServeConfig) (base seen : Seen) (r : Running) (e : Event) (made now : Stepped) (server : Server S) → made ≡ now → Makes stands cfg base seen r e made server → Makes stands cfg base seen r e now server
+pub made_as : {S : Type 0} (stands : S → ServiceState) (cfg : ServeConfig) (base seen : Seen) (r : Running) (e : Event) (made now : StepOutcome) (server : Server S) → made ≡ now → Makes stands cfg base seen r e made server → Makes stands cfg base seen r e now server
 made_as stands cfg base seen r e made now server same m = subst (λ x. Makes stands cfg base seen r e x server) same m
 
 -- no frame was queued for the node itself

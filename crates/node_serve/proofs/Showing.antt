@@ -72,7 +72,7 @@ shows_entry cfg base old new e r h k log target out sent = record {
   readable = readable_more e r h.readable k;
 }
 
--- all of it is a front
+-- all of it is a prefix
 pub fronts_whole : (cfg : ServeConfig) (base seen : Seen) (r : Running) → Shows cfg base seen r → Fronts cfg base seen r
 fronts_whole cfg base seen r h = record {
   count = length (run_log cfg r);

@@ -1,18 +1,19 @@
 -- The opening of a serving node, and the whole of its serving.
-use Rattle.std.proofs.Common.{◌≡◌, ◌≤◌, ◌∷◌, ◌++◌, ℕ, take, inl, inr, IsTrue, List, [], Result, Ok, Err, codes, refl, sym, ap, subst, ◌∙◌, arith}
+use Rattle.std.proofs.Common.{◌≡◌, ◌≤◌, ◌⊎◌, ◌∷◌, ◌++◌, ℕ, take, inl, inr, IsTrue, List, [], Result, Ok, Err, IsErrOf, codes, refl, sym, ap, subst, ◌∙◌, arith}
 use Rattle.network_plan.specs.declared.serve.ServeConfig.{ServeConfig}
 use Rattle.node_files.specs.LogTexts.{head_text}
+use Rattle.node_io.specs.Causes.{HasRisen}
 use Rattle.node_io.specs.Clocks.{ClockState}
-use Rattle.node_io.specs.FileMaps.{ChangesOnly, untouched, begun, MayName}
+use Rattle.node_io.specs.FileMaps.{ChangesOnly, untouched, begun, MayName, Names}
 use Rattle.node_io.specs.FileStates.{FilesState, OnlyWrites, BeginsWriting, Adds, FailsAdding}
 use Rattle.node_io.specs.Links.{LinkState}
 use Rattle.node_io.specs.Sinks.{SinkState, Writes, FailsIn}
 use Rattle.node_io.proofs.FileWrites.{only_same, only_both}
 use Rattle.node_model.specs.State.{NodeState}
-use Rattle.service_api.specs.Services.{Standing}
-use Rattle.serve_model.specs.Runs.{opened, peers_of}
-use Rattle.node_serve.specs.Standing.{StandsFor}
-use Rattle.node_serve.specs.Desks.{Desk, desk, Serving, desk_of, with_clock, seen_at, OthersStay, OnlyServes, KeepsDesk}
+use Rattle.service_api.specs.Services.{ServiceState}
+use Rattle.serve_model.specs.Runs.{opened}
+use Rattle.node_serve.specs.Stays.{StandsFor}
+use Rattle.node_serve.specs.Desks.{Desk, desk, Serving, desk_of, with_clock, seen_at, OthersStay, OnlyServes, KeepsDesk, Faults}
 use Rattle.node_serve.specs.Served.{IsBound}
 use Rattle.node_serve.specs.Openings.{BindsNode, MayBindNode, MakesLog, BeginsLog, NoneUnbound, Opens}
 use Rattle.node_serve.specs.Serves.{Finishes, Serves}
@@ -61,7 +62,7 @@ module _ {T E : Type 0} (cfg : ServeConfig) (name : List ℕ) (old mid new : Fil
     did = (a.writing ∙ w.begun.0, λ seen. (a.target ∙ (w.begun.1 seen).0 ∙ named, subst (ChangesOnly old.held new.held cfg.log) is (log_has head a seen)));
   }
 
-  -- or a front of them
+  -- or a prefix of them
   pub log_cut : (head : List ℕ) → head ≡ head_text cfg.node cfg.missing → FailsAdding mid new head → BeginsLog {T = Unit {0}} cfg old new (Err WriteFault)
   log_cut head is f = record {
     only = only_both old mid new w.only f.is.only;
@@ -159,7 +160,7 @@ module _ (cfg : ServeConfig) (fs fs2 : FilesState) (o o2 : SinkState) (l l2 : Li
 
 -- ---- from the opening to the end
 
-module _ {S : Type 0} (stands : S → Standing) (cfg : ServeConfig) (n : ℕ) (server after : Server S) (a b : Serving) where
+module _ {S : Type 0} (stands : S → ServiceState) (cfg : ServeConfig) (n : ℕ) (server after : Server S) (a b : Serving) where
   -- turns that failed
   pub finish_stops : (fault : ServeFault) → GoesTurns {T = Unit {0}} stands cfg n server after a b (Err fault) → Finishes {T = Unit {0}} stands cfg n server a b (Err fault)
   finish_stops fault g = record {
@@ -239,7 +240,7 @@ bound_then cfg a b c (Ok y) h same = λ seen. same ∙ h seen
 bound_then cfg a b c (Err e) h same = λ seen. inr (same ∙ h seen)
 
 -- the node was opened, and served
-pub serves_opened : {S : Type 0} (stands : S → Standing) (cfg : ServeConfig) (node : NodeState) (n : ℕ) (server : Server S) (a b : Desk) (clock : ClockState) (c : Serving) (result : Result (Unit {0}) ServeFault) → StandsFor stands server (opened node)
+pub serves_opened : {S : Type 0} (stands : S → ServiceState) (cfg : ServeConfig) (node : NodeState) (n : ℕ) (server : Server S) (a b : Desk) (clock : ClockState) (c : Serving) (result : Result (Unit {0}) ServeFault) → StandsFor stands server (opened node)
     → Opens {T = Unit {0}} cfg a b (Ok tt) → Finishes stands cfg n server (with_clock b clock) c result → Serves cfg node n (with_clock a clock) c result
 serves_opened stands cfg node n server a b clock c result st u f = record {
   only = only_both a.files b.files c.files u.only.files f.keeps.only.files;
@@ -254,3 +255,16 @@ serves_opened stands cfg node n server a b clock c result st u f = record {
   unbound = λ none. absurd (some_peers cfg (sym u.ready.bound ∙ sym f.keeps.bound ∙ none));
   runs = λ seen told. f.ends (seen_on a b u.only seen) told node a st (u.begun seen);
 }
+
+-- ---- what follows of it
+
+-- the log by its name
+pub names_log : {T E : Type 0} (cfg : ServeConfig) (old new : FilesState) (result : Result T E) → MakesLog cfg old new result → IsTrue old.observable → Names old.made new.made cfg.log result
+names_log cfg old new (Ok x) m seen = m.1 seen
+names_log cfg old new (Err e) m seen = m.0
+
+pub link_fault : {T : Type 0} (old new : Desk) (result : Result T ServeFault) → IsErrOf result LinkFault → Faults old new result → HasRisen old.link.faults new.link.faults
+link_fault {T = T} old new result is f = subst (Faults {T = T} old new) is f
+
+pub write_fault : {T : Type 0} (old new : Desk) (result : Result T ServeFault) → IsErrOf result WriteFault → Faults old new result → HasRisen old.files.write_faults new.files.write_faults ⊎ HasRisen old.out.faults new.out.faults
+write_fault {T = T} old new result is f = subst (Faults {T = T} old new) is f

@@ -4,7 +4,7 @@ use Rattle.std.proofs.lemmas.Bool.{false≢true}
 use Rattle.plan_base.specs.declared.ids.Host.{Host}
 use Rattle.network_plan.specs.declared.event.Event.{Event}
 use Rattle.network_plan.specs.declared.event.LogEvent.TheVariants as entry
-use Rattle.service_api.specs.Services.{Standing}
+use Rattle.service_api.specs.Services.{ServiceState}
 use Rattle.node_files.specs.LogTexts.{entry_text}
 use Rattle.node_model.specs.declared.acts.Act.TheVariants.{NoMemory}
 use Rattle.node_model.specs.declared.acts.Acts.{Acts}
@@ -15,12 +15,12 @@ use Rattle.node_core.specs.Stands.{NodeStands, IsStep}
 use Rattle.serve_model.specs.Runs.{acts_of, node_by, entries_at}
 use Rattle.serve_model.specs.Texts.{lines_text}
 use Rattle.serve_model.specs.Follow.{entry_of}
-use Rattle.node_serve.specs.declared.steps.Stepped.TheVariants.{Lost, Took}
+use Rattle.node_serve.specs.declared.steps.StepOutcome.TheVariants.{Lost, Took}
 use Rattle.node_serve.specs.declared.steps.StepTexts.{StepTexts}
 use Rattle.node_serve.specs.Shown.{IsReadable}
 use Rattle.node_serve.specs.Steps.{was_lost, frame_of, Written}
 
-pub written_lost : {S : Type 0} (stands : S → Standing) (here : Host) (n : ℕ) (s : NodeState) (e : Event) (texts : StepTexts) (new : Node S) → NodeStands stands new s
+pub written_lost : {S : Type 0} (stands : S → ServiceState) (here : Host) (n : ℕ) (s : NodeState) (e : Event) (texts : StepTexts) (new : Node S) → NodeStands stands new s
     → texts.line ≡ entry_text entry.Lost → texts.lines ≡ lines_text here (entries_at n (NoMemory ∷ [])) → texts.made ≡ Lost → Written stands here n s e texts new
 written_lost stands here n s e texts new h line lines made = record {
   line = line ∙ ap (λ m. entry_text (entry_of (was_lost m) e)) (sym made);
@@ -30,7 +30,7 @@ written_lost stands here n s e texts new h line lines made = record {
   readable = subst (λ m. IsReadable (entry_of (was_lost m) e)) (sym made) (record { keeps = tt; spells = tt });
 }
 
-pub written_took : {S : Type 0} (stands : S → Standing) (here : Host) (n : ℕ) (s : NodeState) (x e : Event) (acts : Acts) (texts : StepTexts) (new : Node S) → x ≡ e → IsStep stands (node_step s x) acts new
+pub written_took : {S : Type 0} (stands : S → ServiceState) (here : Host) (n : ℕ) (s : NodeState) (x e : Event) (acts : Acts) (texts : StepTexts) (new : Node S) → x ≡ e → IsStep stands (node_step s x) acts new
     → texts.line ≡ entry_text (entry.Step x) → texts.lines ≡ lines_text here (entries_at n acts.list) → texts.made ≡ Took acts.frame → IsReadable (entry.Step x) → Written stands here n s e texts new
 written_took stands here n s x e acts texts new same h line lines made readable = record {
   line = line ∙ ap (λ y. entry_text (entry.Step y)) same ∙ ap (λ m. entry_text (entry_of (was_lost m) e)) (sym made);
@@ -42,12 +42,12 @@ written_took stands here n s x e acts texts new same h line lines made readable 
 
 -- ---- results
 
-pub lost_result : {S E : Type 0} (stands : S → Standing) (here : Host) (n : ℕ) (s : NodeState) (e : Event) (new : Node S) (result : Result StepTexts E) → NodeStands stands new s
+pub lost_result : {S E : Type 0} (stands : S → ServiceState) (here : Host) (n : ℕ) (s : NodeState) (e : Event) (new : Node S) (result : Result StepTexts E) → NodeStands stands new s
     → IfOk result (λ t. t.line ≡ entry_text entry.Lost) → IfOk result (λ t. t.lines ≡ lines_text here (entries_at n (NoMemory ∷ []))) → IfOk result (λ t. t.made ≡ Lost) → IfOk result (λ t. Written stands here n s e t new)
 lost_result stands here n s e new (Ok t) h line lines made = written_lost stands here n s e t new h line lines made
 lost_result stands here n s e new (Err x) h line lines made = tt
 
-pub took_result : {S E : Type 0} (stands : S → Standing) (here : Host) (n : ℕ) (s : NodeState) (x e : Event) (acts : Acts) (new : Node S) (result : Result StepTexts E) → x ≡ e → IsStep stands (node_step s x) acts new
+pub took_result : {S E : Type 0} (stands : S → ServiceState) (here : Host) (n : ℕ) (s : NodeState) (x e : Event) (acts : Acts) (new : Node S) (result : Result StepTexts E) → x ≡ e → IsStep stands (node_step s x) acts new
     → IfOk result (λ t. (t.line ≡ entry_text (entry.Step x)) × IsReadable (entry.Step x)) → IfOk result (λ t. t.lines ≡ lines_text here (entries_at n acts.list)) → IfOk result (λ t. t.made ≡ Took acts.frame) → IfOk result (λ t. Written stands here n s e t new)
 took_result stands here n s x e acts new (Ok t) same h line lines made = written_took stands here n s x e acts t new same h line.0 lines made line.1
 took_result stands here n s x e acts new (Err y) same h line lines made = tt

@@ -7,19 +7,19 @@ use Rattle.network_plan.specs.Hosts.{dev_of}
 use Rattle.network_plan.specs.declared.event.Event.TheVariants.{Take}
 use Rattle.network_plan.specs.declared.event.LogEvent.TheVariants.{Step}
 use Rattle.network_plan.specs.declared.serve.ServeConfig.{ServeConfig}
-use Rattle.service_api.specs.Services.{Standing}
+use Rattle.service_api.specs.Services.{ServiceState}
 use Rattle.node_io.specs.FileStates.{FilesState}
 use Rattle.node_io.specs.Links.{LinkState, Sends}
 use Rattle.node_io.specs.Sinks.{SinkState}
 use Rattle.node_io.proofs.FileWrites.{only_same}
 use Rattle.serve_model.specs.Runs.{with_entry, come_back, take_back, take_send}
-use Rattle.node_serve.specs.Standing.{StandsFor}
+use Rattle.node_serve.specs.Stays.{StandsFor}
 use Rattle.node_serve.specs.Steps.{sending, SendResult, SendsTaken}
 use Rattle.node_serve.specs.Desks.{Desk, desk, seen_at, KeepsDesk, Faults}
 use Rattle.node_serve.specs.Goes.{Goes, MakesStep}
 use Rattle.node_serve.specs.declared.server.Server.{Server}
-use Rattle.node_serve.specs.declared.steps.Stepped.{Stepped}
-use Rattle.node_serve.specs.declared.steps.Stepped.TheVariants.{Lost, Took}
+use Rattle.node_serve.specs.declared.steps.StepOutcome.{StepOutcome}
+use Rattle.node_serve.specs.declared.steps.StepOutcome.TheVariants.{Lost, Took}
 use Rattle.node_serve.specs.declared.fault.ServeFault.{ServeFault}
 use Rattle.node_serve.specs.declared.fault.ServeFault.TheVariants.{LinkFault, WriteFault, NoMemory}
 use Rattle.node_serve.proofs.Following.{held_is, back_took, stopped_back, send_stopped}
@@ -28,9 +28,9 @@ use Rattle.node_serve.proofs.Joining.{others_same, keeps_both, seen_on, faults_f
 
 -- ---- a frame to the node itself
 
-module _ {S : Type 0} (stands : S → Standing) (cfg : ServeConfig) (first mid : Server S) (a b : Desk) where
+module _ {S : Type 0} (stands : S → ServiceState) (cfg : ServeConfig) (first mid : Server S) (a b : Desk) where
   -- the taking was refused
-  pub back_lost : {T : Type 0} (made : Stepped) (x : T) → made ≡ Lost → MakesStep stands cfg (Take (dev_of 0)) first mid a b (Ok made) → Goes {T = T} stands cfg take_back first mid a b (Ok x)
+  pub back_lost : {T : Type 0} (made : StepOutcome) (x : T) → made ≡ Lost → MakesStep stands cfg (Take (dev_of 0)) first mid a b (Ok made) → Goes {T = T} stands cfg take_back first mid a b (Ok x)
   back_lost made x is m = record {
     keeps = m.keeps;
     faults = tt;
@@ -38,7 +38,7 @@ module _ {S : Type 0} (stands : S → Standing) (cfg : ServeConfig) (first mid :
   }
 
   -- the frame was taken, and comes back
-  pub back_comes : {T : Type 0} (made : Stepped) (x : Option PlainFrame) (last : Server S) (c : Desk) (result : Result T ServeFault) → made ≡ Took x → MakesStep stands cfg (Take (dev_of 0)) first mid a b (Ok made)
+  pub back_comes : {T : Type 0} (made : StepOutcome) (x : Option PlainFrame) (last : Server S) (c : Desk) (result : Result T ServeFault) → made ≡ Took x → MakesStep stands cfg (Take (dev_of 0)) first mid a b (Ok made)
       → Goes stands cfg (come_back x) mid last b c result → Goes stands cfg take_back first last a c result
   back_comes made x last c result is m u = record {
     keeps = keeps_both a b c m.keeps u.keeps;
@@ -105,13 +105,13 @@ module _ {T : Type 0} (d : Dev) (x : Option PlainFrame) (fs : FilesState) (o : S
   sent_so (Err WriteFault) seen s = absurd s
   sent_so (Err NoMemory) seen s = absurd s
 
-module _ {S : Type 0} (stands : S → Standing) (cfg : ServeConfig) (d : Dev) (first mid : Server S) where
+module _ {S : Type 0} (stands : S → ServiceState) (cfg : ServeConfig) (d : Dev) (first mid : Server S) where
   -- a taking was refused in this turn
   pub send_holds : {T : Type 0} (a : Desk) (x : T) → first.held ≡ true → Goes {T = T} stands cfg (take_send d) first first a a (Ok x)
   send_holds a x held = goes_same stands cfg (take_send d) first a x (λ r st. held_is d r (sym st.held ∙ held))
 
   -- the taking was refused
-  pub send_lost : {T : Type 0} (a b : Desk) (made : Stepped) (after : Server S) (x : T) → first.held ≡ false → made ≡ Lost → MakesStep stands cfg (Take d) first mid a b (Ok made)
+  pub send_lost : {T : Type 0} (a b : Desk) (made : StepOutcome) (after : Server S) (x : T) → first.held ≡ false → made ≡ Lost → MakesStep stands cfg (Take d) first mid a b (Ok made)
       → after.node ≡ mid.node → after.last ≡ mid.last → after.held ≡ true → after.steps ≡ mid.steps → Goes {T = T} stands cfg (take_send d) first after a b (Ok x)
   send_lost a b made after x free is m n l h k = record {
     keeps = m.keeps;
@@ -128,7 +128,7 @@ module _ {S : Type 0} (stands : S → Standing) (cfg : ServeConfig) (d : Dev) (f
   }
 
   -- the frame was taken, and sent or not
-  pub send_took : {T : Type 0} (a : Desk) (fs : FilesState) (o : SinkState) (old new : LinkState) (made : Stepped) (x : Option PlainFrame) (result : Result T ServeFault) → first.held ≡ false → made ≡ Took x
+  pub send_took : {T : Type 0} (a : Desk) (fs : FilesState) (o : SinkState) (old new : LinkState) (made : StepOutcome) (x : Option PlainFrame) (result : Result T ServeFault) → first.held ≡ false → made ≡ Took x
       → MakesStep stands cfg (Take d) first mid a (desk fs o old) (Ok made) → SendsTaken d x old new result → Goes stands cfg (take_send d) first mid a (desk fs o new) result
   send_took a fs o old new made x result free is m s = record {
     keeps = keeps_both a (desk fs o old) (desk fs o new) m.keeps (sent_keeps d x fs o old new result s);

@@ -1,30 +1,30 @@
 -- Turns: what is heard in them, and how they follow one another.
-use Rattle.std.proofs.Common.{◌≡◌, ℕ, ◌+◌, ◌<◌, ◌≤◌, ◌⊎◌, inl, inr, false, IsTrue, List, Option, Some, None, Result, Ok, Err, drop, refl, sym, ap, subst, ◌∙◌, arith}
+use Rattle.std.proofs.Common.{◌≡◌, ℕ, ◌+◌, ◌<◌, inr, false, IsTrue, List, Option, Some, None, Result, Ok, Err, drop, refl, sym, subst, ◌∙◌, arith}
 use Rattle.network_plan.specs.declared.serve.ServeConfig.{ServeConfig}
-use Rattle.service_api.specs.Services.{Standing}
-use Rattle.node_io.specs.Causes.{Rose}
+use Rattle.service_api.specs.Services.{ServiceState}
+use Rattle.node_io.specs.Causes.{HasRisen}
 use Rattle.node_io.specs.FileStates.{FilesState}
 use Rattle.node_io.specs.Links.{Heard, LinkState, Hears, next_heard}
 use Rattle.node_io.specs.declared.link.Got.{Got}
 use Rattle.node_io.specs.Sinks.{SinkState}
 use Rattle.node_io.proofs.FileWrites.{only_same}
-use Rattle.serve_model.specs.Runs.{Running, Action, hear, turn, turns, time_at, peers_of, release, then_do, holding, begin_turn, end_turn}
-use Rattle.serve_model.proofs.Going.{hear_grows, end_turn_grows, grows_then}
-use Rattle.node_serve.specs.Shown.{Seen, Shows, UsesOne, UsesUpTo}
-use Rattle.node_serve.specs.Standing.{StandsFor}
-use Rattle.node_serve.specs.Desks.{Desk, desk, Serving, desk_of, seen_at, IsSeen, KeepsDesk}
+use Rattle.serve_model.specs.Runs.{Running, Action, hear, turn, turns, time_at, peers_of, release, then_do, holding}
+use Rattle.serve_model.proofs.Going.{hear_grows}
+use Rattle.node_serve.specs.Shown.{Seen, Shows, UsesOne}
+use Rattle.node_serve.specs.Stays.{StandsFor}
+use Rattle.node_serve.specs.Desks.{Desk, desk, Serving, desk_of, seen_at, KeepsDesk}
 use Rattle.node_serve.specs.Goes.{Goes, GoesTurn, GoesTurns}
 use Rattle.node_serve.specs.declared.server.Server.{Server}
 use Rattle.node_serve.specs.declared.fault.ServeFault.{ServeFault}
 use Rattle.node_serve.specs.declared.fault.ServeFault.TheVariants.{LinkFault}
 use Rattle.node_serve.proofs.Following.{reached_same, stopped_same, leaves_as, leaves_released}
 use Rattle.node_serve.proofs.Looping.{turns_up}
-use Rattle.node_serve.proofs.MakeLaws.{hear_stay, hear_as, stands_holding, shows_held, turns_none, turns_next, turn_as, time_next, time_none, used_more, used_next}
-use Rattle.node_serve.proofs.Joining.{others_same, keeps_same, keeps_both, seen_on, seen_back, faults_from, goes_same, goes_as, goes_then, goes_stopped, goes_next, goes_no_more}
+use Rattle.node_serve.proofs.MakeLaws.{hear_stay, hear_as, stands_holding, shows_held, turns_none, turns_next, turn_as, time_next, used_more, used_next}
+use Rattle.node_serve.proofs.Joining.{others_same, keeps_same, keeps_both, seen_on, faults_from, goes_same, goes_as, goes_next, goes_no_more}
 
 -- ---- what is heard
 
-module _ {S : Type 0} (stands : S → Standing) (cfg : ServeConfig) (h : Option Heard) (first : Server S) (fs : FilesState) (o : SinkState) (old new : LinkState) (buf : List ℕ) (got : Got) (u : Hears buf old new got) where
+module _ {S : Type 0} (stands : S → ServiceState) (cfg : ServeConfig) (h : Option Heard) (first : Server S) (fs : FilesState) (o : SinkState) (old new : LinkState) (buf : List ℕ) (got : Got) (u : Hears buf old new got) where
   heard_keeps : KeepsDesk (desk fs o old) (desk fs o new)
   heard_keeps = record {
     only = record { files = only_same fs; out = refl; out_later = omega arith; link = u.observable; link_later = u.later };
@@ -58,7 +58,7 @@ module _ {S : Type 0} (stands : S → Standing) (cfg : ServeConfig) (h : Option 
   }
 
   -- the link failed
-  pub hears_fail : {T : Type 0} → Rose old.faults new.faults → Goes {T = T} stands cfg (hear h) first first (desk fs o old) (desk fs o new) (Err LinkFault)
+  pub hears_fail : {T : Type 0} → HasRisen old.faults new.faults → Goes {T = T} stands cfg (hear h) first first (desk fs o old) (desk fs o new) (Err LinkFault)
   hears_fail rose = record {
     keeps = heard_keeps;
     faults = rose;
@@ -73,7 +73,7 @@ used_one (Err e) old new h = inr h
 -- ---- the sendings of a turn
 
 -- sendings are let free again
-pub goes_released : {S T : Type 0} (stands : S → Standing) (cfg : ServeConfig) (act : Action) (server free after : Server S) (a b : Desk) (result : Result T ServeFault) → free.node ≡ server.node → free.last ≡ server.last → free.held ≡ false → free.steps ≡ server.steps
+pub goes_released : {S T : Type 0} (stands : S → ServiceState) (cfg : ServeConfig) (act : Action) (server free after : Server S) (a b : Desk) (result : Result T ServeFault) → free.node ≡ server.node → free.last ≡ server.last → free.held ≡ false → free.steps ≡ server.steps
     → Goes stands cfg act free after a b result → Goes stands cfg (then_do release act) server after a b result
 goes_released stands cfg act server free after a b result n l h k u = record {
   keeps = u.keeps;
@@ -84,7 +84,7 @@ goes_released stands cfg act server free after a b result n l h k u = record {
 
 -- ---- turns, one after the other
 
-module _ {S T : Type 0} (stands : S → Standing) (cfg : ServeConfig) (i : ℕ) (first mid last : Server S) (a b c : Serving) (result : Result T ServeFault)
+module _ {S T : Type 0} (stands : S → ServiceState) (cfg : ServeConfig) (i : ℕ) (first mid last : Server S) (a b c : Serving) (result : Result T ServeFault)
     (x : T) (g : GoesTurns {T = T} stands cfg i first mid a b (Ok x)) (u : GoesTurn stands cfg (i + 1) mid last b c result)
     (last_is : IsTrue a.clock.observable → b.clock.last ≡ time_at a.clock.last a.clock.answers i) where
   -- the turn by what a node was handed at first
@@ -108,7 +108,7 @@ module _ {S T : Type 0} (stands : S → Standing) (cfg : ServeConfig) (i : ℕ) 
   clock_kept = u.told.observable ∙ g.clock
 
 -- one more turn
-pub turns_more : {S T : Type 0} (stands : S → Standing) (cfg : ServeConfig) (i : ℕ) (first mid last : Server S) (a b c : Serving) (x y : T) (g : GoesTurns {T = T} stands cfg i first mid a b (Ok x)) (u : GoesTurn {T = T} stands cfg (i + 1) mid last b c (Ok y))
+pub turns_more : {S T : Type 0} (stands : S → ServiceState) (cfg : ServeConfig) (i : ℕ) (first mid last : Server S) (a b c : Serving) (x y : T) (g : GoesTurns {T = T} stands cfg i first mid a b (Ok x)) (u : GoesTurn {T = T} stands cfg (i + 1) mid last b c (Ok y))
     → (IsTrue a.clock.observable → b.clock.last ≡ time_at a.clock.last a.clock.answers i) → GoesTurns {T = T} stands cfg (i + 1) first last a c (Ok y)
 turns_more stands cfg i first mid last a b c x y g u last_is = record {
   keeps = keeps_both (desk_of a) (desk_of b) (desk_of c) g.keeps u.goes.keeps;
@@ -121,7 +121,7 @@ turns_more stands cfg i first mid last a b c x y g u last_is = record {
 }
 
 -- a turn that failed
-pub turns_stop : {S T : Type 0} (stands : S → Standing) (cfg : ServeConfig) (i n : ℕ) (first mid last : Server S) (a b c : Serving) (x : T) (fault : ServeFault) → i < n → (g : GoesTurns {T = T} stands cfg i first mid a b (Ok x)) (u : GoesTurn {T = T} stands cfg (i + 1) mid last b c (Err fault))
+pub turns_stop : {S T : Type 0} (stands : S → ServiceState) (cfg : ServeConfig) (i n : ℕ) (first mid last : Server S) (a b c : Serving) (x : T) (fault : ServeFault) → i < n → (g : GoesTurns {T = T} stands cfg i first mid a b (Ok x)) (u : GoesTurn {T = T} stands cfg (i + 1) mid last b c (Err fault))
     → (IsTrue a.clock.observable → b.clock.last ≡ time_at a.clock.last a.clock.answers i) → GoesTurns {T = T} stands cfg n first last a c (Err fault)
 turns_stop {T = T} stands cfg i n first mid last a b c x fault within g u last_is = record {
   keeps = keeps_both (desk_of a) (desk_of b) (desk_of c) g.keeps u.goes.keeps;
@@ -134,7 +134,7 @@ turns_stop {T = T} stands cfg i n first mid last a b c x fault within g u last_i
 }
 
 -- none yet
-pub turns_begin : {S T : Type 0} (stands : S → Standing) (cfg : ServeConfig) (server : Server S) (a : Serving) (x : T) → GoesTurns {T = T} stands cfg 0 server server a a (Ok x)
+pub turns_begin : {S T : Type 0} (stands : S → ServiceState) (cfg : ServeConfig) (server : Server S) (a : Serving) (x : T) → GoesTurns {T = T} stands cfg 0 server server a a (Ok x)
 turns_begin stands cfg server a x = record {
   keeps = keeps_same (desk_of a);
   faults = tt;

@@ -1,6 +1,6 @@
 -- What a serving node has under its hands, and what its calls leave of it.
 use Rattle.std.specs.Prelude.{◌≡◌, ◌≢◌, ℕ, ◌≤◌, ◌⊎◌, IsTrue, List, Result, Ok, Err}
-use Rattle.node_io.specs.Causes.{Rose}
+use Rattle.node_io.specs.Causes.{HasRisen}
 use Rattle.node_io.specs.Clocks.{ClockState}
 use Rattle.node_io.specs.FileMaps.{file_at}
 use Rattle.node_io.specs.FileStates.{FilesState, OnlyWrites}
@@ -68,6 +68,6 @@ pub record KeepsDesk (old new : Desk) : Type 0 where
 -- a fault comes only where its count rose
 abbrev pub Faults : {T : Type 0} → Desk → Desk → Result T ServeFault → Type 0
 Faults old new (Ok x) = Unit {0}
-Faults old new (Err LinkFault) = Rose old.link.faults new.link.faults
-Faults old new (Err WriteFault) = Rose old.files.write_faults new.files.write_faults ⊎ Rose old.out.faults new.out.faults
+Faults old new (Err LinkFault) = HasRisen old.link.faults new.link.faults
+Faults old new (Err WriteFault) = HasRisen old.files.write_faults new.files.write_faults ⊎ HasRisen old.out.faults new.out.faults
 Faults old new (Err NoMemory) = Unit {0}

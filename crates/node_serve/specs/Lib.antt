@@ -2,7 +2,7 @@ pub mod Fronts
 pub mod Shown
 pub mod Desks
 pub mod Steps
-pub mod Standing
+pub mod Stays
 pub mod Goes
 pub mod Served
 pub mod Openings

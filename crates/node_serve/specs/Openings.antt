@@ -1,12 +1,11 @@
 -- The opening of a serving node: the link is bound, and then the log and the trace are begun.
-use Rattle.std.specs.Prelude.{◌≡◌, ◌≤◌, IsTrue, true, List, [], ◌∷◌, ◌++◌, codes, Result, Ok, Err, MatchResult, OnOk}
+use Rattle.std.specs.Prelude.{◌≡◌, ◌≤◌, IsTrue, true, [], ◌∷◌, ◌++◌, Result, Ok, Err, MatchResult, OnOk}
 use Rattle.network_plan.specs.declared.serve.ServeConfig.{ServeConfig}
 use Rattle.node_files.specs.LogTexts.{head_text}
-use Rattle.node_io.specs.Causes.{Rose}
+use Rattle.node_io.specs.Causes.{HasRisen}
 use Rattle.node_io.specs.FileMaps.{ChangesOnly, SavesFront, MayName}
 use Rattle.node_io.specs.FileStates.{FilesState, OnlyWrites}
 use Rattle.node_io.specs.Links.{LinkState}
-use Rattle.node_io.specs.Sinks.{SinkState, Writes, FailsIn}
 use Rattle.serve_model.specs.Runs.{peers_of}
 use Rattle.node_serve.specs.Desks.{Desk, IsSeen, OthersStay, OnlyServes, Faults}
 use Rattle.node_serve.specs.Served.{IsBound, MayBind, Begins, EndsEarly}
@@ -18,7 +17,7 @@ use Rattle.node_serve.specs.declared.fault.ServeFault.TheVariants.{LinkFault, Wr
 -- the link has the peers of the node, or a bind that failed left none
 abbrev pub BindResult : {T : Type 0} → ServeConfig → LinkState → LinkState → Result T ServeFault → Type 0
 BindResult cfg old new (Ok x) = (new.bound ≡ peers_of cfg) × (IsTrue old.observable → IsBound cfg old new)
-BindResult cfg old new (Err LinkFault) = (new.bound ≡ []) × MayBind cfg old new × Rose old.faults new.faults
+BindResult cfg old new (Err LinkFault) = (new.bound ≡ []) × MayBind cfg old new × HasRisen old.faults new.faults
 BindResult cfg old new (Err WriteFault) = ⊥
 BindResult cfg old new (Err NoMemory) = new ≡ old
 
@@ -40,12 +39,12 @@ MayBindNode cfg old new (Err e) = IsTrue old.observable → MayBind cfg old new
 abbrev pub MakesLog : {T E : Type 0} → ServeConfig → FilesState → FilesState → Result T E → Type 0
 MakesLog cfg old new result = MayName old.made new.made cfg.log × (IsTrue old.observable → OnOk result (new.made ≡ old.made ++ cfg.log ∷ []))
 
--- the log has its first lines and is being written, or a front of them, or it wasn't made
+-- the log has its first lines and is being written, or a prefix of them, or it wasn't made
 abbrev pub LogResult : {T : Type 0} → ServeConfig → FilesState → FilesState → Result T ServeFault → Type 0
 LogResult cfg old new (Ok x) = (new.writing ≡ true)
     × (IsTrue old.observable → (new.target ≡ cfg.log) × ChangesOnly old.held new.held cfg.log (head_text cfg.node cfg.missing))
 LogResult cfg old new (Err LinkFault) = ⊥
-LogResult cfg old new (Err WriteFault) = Rose old.write_faults new.write_faults
+LogResult cfg old new (Err WriteFault) = HasRisen old.write_faults new.write_faults
     × (IsTrue old.observable → SavesFront old.held new.held cfg.log (head_text cfg.node cfg.missing))
 LogResult cfg old new (Err NoMemory) = new ≡ old
 

@@ -35,7 +35,7 @@ pub record Begins (cfg : ServeConfig) (old new : Desk) : Type 0 where
   pub binds : IsBound cfg old.link new.link
   pub script : new.link.script ≡ old.link.script
 
--- only fronts of the log's first lines and of the trace's first line were written
+-- only prefixes of the log's first lines and of the trace's first line were written
 pub record EndsEarly (cfg : ServeConfig) (old new : Desk) : Type 0 where
   pub log : SavesFront old.files.held new.files.held cfg.log (head_text cfg.node cfg.missing)
   pub out : AppendsFront old.out.taken new.out.taken (codes "planet trace 1\n")
@@ -55,12 +55,12 @@ pub record Served (cfg : ServeConfig) (node : NodeState) (turns : ℕ) (old new 
   pub answers : new.clock.answers ≡ drop turns old.clock.answers
   pub readable : All IsReadable (run_in cfg node turns old refused).events
 
--- a front of some frames was sent
+-- a prefix of some frames was sent
 pub record SendsFront (old new frames : List Heard) : Type 0 where
   pub count : ℕ
   pub is : new ≡ old ++ take count frames
 
--- a front of the run was made, with the steps refused that its log says; what stands outside are fronts of what the run makes
+-- a prefix of the run was made, with the steps refused that its log says; what stands outside are prefixes of what the run makes
 pub record Begun (cfg : ServeConfig) (node : NodeState) (turns : ℕ) (old new : Serving) : Type 0 where
   pub refused : List ℕ
   pub steps : ℕ
@@ -72,6 +72,6 @@ pub record Begun (cfg : ServeConfig) (node : NodeState) (turns : ℕ) (old new :
   pub script : UsedUpTo turns old.link.script new.link.script
   pub answers : UsedUpTo turns old.clock.answers new.clock.answers
 
--- the whole run, or a front of it where it failed
+-- the whole run, or a prefix of it where it failed
 abbrev pub Ends : {T E : Type 0} → ServeConfig → NodeState → ℕ → Serving → Serving → Result T E → Type 0
 Ends cfg node turns old new result = MatchResult result (λ _. Served cfg node turns old new) (λ _. Begun cfg node turns old new)

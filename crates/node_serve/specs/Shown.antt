@@ -39,7 +39,7 @@ pub record Shows (cfg : ServeConfig) (base seen : Seen) (r : Running) : Type 0 w
   pub sent : seen.sent ≡ base.sent ++ r.sent
   pub readable : All IsReadable r.events
 
--- the log and what was written are fronts of those of the run so far, and its frames were sent
+-- the log and what was written are prefixes of those of the run so far, and its frames were sent
 pub record Fronts (cfg : ServeConfig) (base seen : Seen) (r : Running) : Type 0 where
   pub count : ℕ
   pub log : ChangesOnly base.files seen.files cfg.log (take count (run_log cfg r))
@@ -54,7 +54,7 @@ pub record Reached (stands : Running → Type 0) (cfg : ServeConfig) (base seen 
   pub stands_for : stands done
   pub shows : Shows cfg base seen done
 
--- from r the run went on to a front of what this action does, and fronts of it stand outside
+-- from r the run went on to a prefix of what this action does, and prefixes of it stand outside
 pub record Stopped (cfg : ServeConfig) (base seen : Seen) (r : Running) (act : Action) : Type 0 where
   pub done : Running
   pub grows : Ext r done

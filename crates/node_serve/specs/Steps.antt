@@ -5,13 +5,13 @@ use Rattle.plan_base.specs.declared.ids.Dev.{Dev}
 use Rattle.packet_frame.specs.Bytes.{frame_bytes}
 use Rattle.node_io.specs.FileMaps.{FileMap, WritesMore}
 use Rattle.node_serve.specs.Fronts.{AppendsFront, WritesFront}
-use Rattle.node_io.specs.Causes.{Rose}
+use Rattle.node_io.specs.Causes.{HasRisen}
 use Rattle.node_io.specs.Sinks.{SinkState, Writes, FailsIn}
 use Rattle.node_io.specs.FileStates.{FilesState, Adds, FailsAdding}
 use Rattle.node_io.specs.Links.{Heard, LinkState}
 use Rattle.packet_frame.specs.declared.frame.PlainFrame.{PlainFrame}
 use Rattle.network_plan.specs.declared.event.Event.{Event}
-use Rattle.service_api.specs.Services.{Standing}
+use Rattle.service_api.specs.Services.{ServiceState}
 use Rattle.node_files.specs.LogTexts.{entry_text}
 use Rattle.node_model.specs.State.{NodeState}
 use Rattle.node_model.specs.Node.{node_step}
@@ -23,34 +23,34 @@ use Rattle.serve_model.specs.Texts.{lines_text}
 use Rattle.node_serve.specs.Shown.{IsReadable}
 use Rattle.node_serve.specs.declared.fault.ServeFault.{ServeFault}
 use Rattle.node_serve.specs.declared.fault.ServeFault.TheVariants.{LinkFault, WriteFault, NoMemory}
-use Rattle.node_serve.specs.declared.steps.Stepped.{Stepped}
-use Rattle.node_serve.specs.declared.steps.Stepped.TheVariants.{Lost, Took}
+use Rattle.node_serve.specs.declared.steps.StepOutcome.{StepOutcome}
+use Rattle.node_serve.specs.declared.steps.StepOutcome.TheVariants.{Lost, Took}
 use Rattle.node_serve.specs.declared.steps.StepTexts.{StepTexts}
 
 -- whether a step was refused
-abbrev pub was_lost : Stepped → Bool
+abbrev pub was_lost : StepOutcome → Bool
 was_lost Lost = true
 was_lost (Took frame) = false
 
 -- the frame that a step took
-abbrev pub frame_of : Stepped → Option PlainFrame
+abbrev pub frame_of : StepOutcome → Option PlainFrame
 frame_of Lost = None
 frame_of (Took frame) = frame
 
 -- a step with this number: its log line, its lines, the node afterwards, and the frame that it took
-pub record Written {S : Type 0} (stands : S → Standing) (here : Host) (number : ℕ) (s : NodeState) (e : Event) (texts : StepTexts) (new : Node S) : Type 0 where
+pub record Written {S : Type 0} (stands : S → ServiceState) (here : Host) (number : ℕ) (s : NodeState) (e : Event) (texts : StepTexts) (new : Node S) : Type 0 where
   pub line : texts.line ≡ entry_text (entry_of (was_lost texts.made) e)
   pub lines : texts.lines ≡ lines_text here (entries_at number (acts_of s (entry_of (was_lost texts.made) e)))
   pub node : NodeStands stands new (node_by s (entry_of (was_lost texts.made) e))
   pub frame : was_lost texts.made ≡ false → frame_of texts.made ≡ (node_step s e).frame
   pub readable : IsReadable (entry_of (was_lost texts.made) e)
 
--- a line of the log and its lines of the trace were written, or fronts of them, the log first
+-- a line of the log and its lines of the trace were written, or prefixes of them, the log first
 pub data WrittenFront (old new : FileMap) (target line taken grown lines : List ℕ) : Type 0 where
   in_log : WritesFront old new target line → grown ≡ taken → WrittenFront old new target line taken grown lines
   in_trace : WritesMore old new target line → AppendsFront taken grown lines → WrittenFront old new target line taken grown lines
 
--- a line of the log and its lines of the trace were written, or fronts of them, the log first
+-- a line of the log and its lines of the trace were written, or prefixes of them, the log first
 abbrev pub WritesStep : {T E : Type 0} → List ℕ → List ℕ → FilesState → FilesState → SinkState → SinkState → Result T E → Type 0
 WritesStep line lines files files_new out out_new (Ok x) = Adds files files_new line × Writes out out_new lines
 WritesStep line lines files files_new out out_new (Err e) =
@@ -64,7 +64,7 @@ sending d (Some x) = (d, frame_bytes x) ∷ []
 -- the frame that was taken was sent, or none where the link failed
 abbrev pub SendResult : {T : Type 0} → Dev → Option PlainFrame → LinkState → LinkState → Result T ServeFault → Type 0
 SendResult d frame old new (Ok x) = IsTrue old.observable → new.sent ≡ old.sent ++ sending d frame
-SendResult d frame old new (Err LinkFault) = (new.sent ≡ old.sent) × Rose old.faults new.faults
+SendResult d frame old new (Err LinkFault) = (new.sent ≡ old.sent) × HasRisen old.faults new.faults
 SendResult d frame old new (Err WriteFault) = ⊥
 SendResult d frame old new (Err NoMemory) = ⊥
 

@@ -10,7 +10,7 @@ ghost use Rattle.node_serve.specs.Goes.{Goes};
 
 use crate::fault::ServeFault;
 use crate::server::Server;
-use crate::steps::Stepped;
+use crate::steps::StepOutcome;
 use network_plan::{Event, ServeConfig};
 use node_core::are_bytes;
 use node_io::{Files, Sink};
@@ -65,8 +65,8 @@ impl<S: Services> Server<S> {
             (desk (F.state files.new) (K.state out.new) l) result }
     {
         match self.make(alloc, cfg, files, out, &Some(Event::Take(Dev(0)))) {
-            Ok(Stepped::Lost) => Ok(()),
-            Ok(Stepped::Took(frame)) => self.come_back(alloc, cfg, files, out, frame),
+            Ok(StepOutcome::Lost) => Ok(()),
+            Ok(StepOutcome::Took(frame)) => self.come_back(alloc, cfg, files, out, frame),
             Err(fault) => Err(fault),
         }
     }

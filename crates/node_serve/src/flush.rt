@@ -8,7 +8,7 @@ ghost use Rattle.node_serve.specs.Steps.{SendsTaken};
 
 use crate::fault::ServeFault;
 use crate::server::Server;
-use crate::steps::Stepped;
+use crate::steps::StepOutcome;
 use network_plan::{Event, ServeConfig};
 use node_io::{Files, Link, Sink};
 use plan_base::Dev;
@@ -75,11 +75,11 @@ impl<S: Services> Server<S> {
             return Ok(());
         }
         match self.make(alloc, cfg, files, out, &Some(Event::Take(dev))) {
-            Ok(Stepped::Lost) => {
+            Ok(StepOutcome::Lost) => {
                 self.held = true;
                 Ok(())
             }
-            Ok(Stepped::Took(frame)) => send_frame(link, dev, &frame),
+            Ok(StepOutcome::Took(frame)) => send_frame(link, dev, &frame),
             Err(fault) => Err(fault),
         }
     }

@@ -8,7 +8,7 @@ ghost use Rattle.node_serve.specs.Goes.{Goes, MakesStep};
 ghost use Rattle.node_serve.specs.Steps.{WritesStep};
 
 use crate::fault::ServeFault;
-use crate::steps::{Stepped, try_step};
+use crate::steps::{StepOutcome, try_step};
 use network_plan::{Event, ServeConfig};
 use node_core::Node;
 use node_io::{Failed, Files, Sink, put_all, put_file};
@@ -60,7 +60,7 @@ impl<S: Services> Server<S> {
         files: &mut F,
         out: &mut K,
         event: &Option<Event>,
-    ) -> Result<Stepped, ServeFault>
+    ) -> Result<StepOutcome, ServeFault>
         requires writing { IsTrue (F.state files.old).writing }
         requires event { IfSome event.now KeepsNodeEvent }
         ensures { (l : LinkState) (e : EventOf) → IfSome event.now (λ x. x ≡ e)

@@ -5,7 +5,7 @@ ghost use Rattle.node_model.specs.State.{new_node};
 ghost use Rattle.serve_model.specs.Runs.{opened, peers_of};
 ghost use Rattle.node_serve.specs.Desks.{serving};
 ghost use Rattle.node_serve.specs.Serves.{Finishes, Serves};
-ghost use Rattle.node_serve.specs.Standing.{StandsFor};
+ghost use Rattle.node_serve.specs.Stays.{StandsFor};
 
 use crate::fault::ServeFault;
 use crate::opening::{begin, room};
@@ -73,7 +73,7 @@ fn open<S: Services + Drop>(
 /// node ticks where its period is over, takes the injections of this turn, hears one frame, takes what it sent to itself, and
 /// sends what is queued for its neighbours. Each step writes its line of the log, and then its lines of the trace. A step that
 /// finds no memory is logged as lost, changes nothing, and doesn't end the run. Conditions: the configuration keeps its rules,
-/// and no `begin` of the services is open. Where it fails, what was written and sent are fronts of what the run writes and
+/// and no `begin` of the services is open. Where it fails, what was written and sent are prefixes of what the run writes and
 /// sends.
 pub fn serve<S: Services + Drop, L: Link, C: Clock, F: Files, K: Sink>(
     alloc: Global,
@@ -87,7 +87,7 @@ pub fn serve<S: Services + Drop, L: Link, C: Clock, F: Files, K: Sink>(
 ) -> Result<(), ServeFault>
     requires keeps { KeepsServe cfg.now }
     requires services { IsResting (S.stands services) }
-    // The run of the node, or a front of it; only the log is made and written, and a fault comes only where its count rose.
+    // The run of the node, or a prefix of it; only the log is made and written, and a fault comes only where its count rose.
     ensures { Serves cfg.now (new_node cfg.now.node (S.stands services)) turns
         (serving (F.state files.old) (K.state out.old) (L.state link.old) (C.state clock.old))
         (serving (F.state files.new) (K.state out.new) (L.state link.new) (C.state clock.new))

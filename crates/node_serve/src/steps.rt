@@ -10,7 +10,7 @@ ghost use Rattle.serve_model.specs.Runs.{entries_at};
 ghost use Rattle.serve_model.specs.Texts.{lines_text};
 ghost use Rattle.node_serve.specs.Shown.{IsReadable};
 ghost use Rattle.node_serve.specs.Steps.{Written};
-ghost use Rattle.node_serve.specs.declared.steps.Stepped.TheVariants as stepped;
+ghost use Rattle.node_serve.specs.declared.steps.StepOutcome.TheVariants as stepped;
 
 use log_replay::{lost_lines, step_lines};
 use network_plan::Event;
@@ -23,8 +23,8 @@ use spelled_frame::SpelledFrame;
 use std::alloc::Global;
 
 /// What became of a step.
-#[derive(Debug, Drop)]
-pub(crate) enum Stepped {
+#[derive(Drop)]
+pub(crate) enum StepOutcome {
     /// It found no memory, and nothing changed.
     Lost,
     /// It was made, and took this frame.
@@ -32,11 +32,11 @@ pub(crate) enum Stepped {
 }
 
 /// A step with its texts: its line of the log, and its lines of the trace.
-#[derive(Debug, Drop)]
+#[derive(Drop)]
 pub(crate) struct StepTexts {
     pub(crate) line: Bytes,
     pub(crate) lines: Bytes,
-    pub(crate) made: Stepped,
+    pub(crate) made: StepOutcome,
 }
 
 /// The line of the log of an event.
@@ -71,7 +71,7 @@ fn lost_texts(alloc: Global, number: u64, here: Host) -> Result<StepTexts, NoMem
     Ok(StepTexts {
         line,
         lines,
-        made: Stepped::Lost,
+        made: StepOutcome::Lost,
     })
 }
 
@@ -96,7 +96,7 @@ fn took_texts(
     Ok(StepTexts {
         line,
         lines,
-        made: Stepped::Took(frame),
+        made: StepOutcome::Took(frame),
     })
 }
 

@@ -1,5 +1,9 @@
-//! Steps of a node with their worked acts, printed as lines.
+//! Nodes, their logs and their tables: what no command of the program shows.
 #![tactic(auto)]
 
 #[cfg(test)]
+mod logs;
+#[cfg(test)]
 mod steps;
+#[cfg(test)]
+mod tables;

@@ -12,7 +12,7 @@ use Rattle.packet_frame.specs.declared.fault.FrameFault.{FrameFault}
 use Rattle.packet_frame.specs.declared.frame.PlainFrame.{PlainFrame}
 use Rattle.packet_frame.specs.declared.checked.Frame.{Frame}
 use Rattle.plan_base.specs.declared.name.Name.{Name}
-use Rattle.plan_base.specs.Handlers.{MayHandle}
+use Rattle.typing_rules.specs.Handlers.{MayHandle}
 use Rattle.packet_frame.specs.Forms.{IsPlain}
 use Rattle.packet_frame.specs.Frames.{SpellsFrame, SpellingFault}
 use Rattle.packet_frame.specs.Typed.{plain_of, CarriesTyped, CarriesHandler, CarriesNoHandler, Accepts, CarriesIll, FrameFirst, misspelled, ill_typed}

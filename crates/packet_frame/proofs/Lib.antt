@@ -8,3 +8,5 @@ pub mod WholeLaws
 pub mod StampedLaws
 pub mod Links
 pub mod StampedSizes
+pub mod OneAnswer
+pub mod Versions

@@ -7,3 +7,5 @@ pub mod Frames
 pub mod Reading
 pub mod Typed
 pub mod Stamped
+pub mod Decoding
+pub mod Reasons

@@ -1,6 +1,6 @@
-ghost use Rattle.plan_base.specs.Handlers.{is_handler as handles_by, MayHandle};
+ghost use Rattle.typing_rules.specs.Handlers.{is_handler as handles_by, MayHandle};
 ghost use Rattle.std.specs.Prelude.{◌≡◌, ◌⊎◌, ◌≤◌, true, None, Some, IfOk, IfErr, MatchResult};
-ghost use Rattle.plan_base.specs.Typing.{IsTypedChunk};
+ghost use Rattle.typing_rules.specs.Typing.{IsTypedChunk};
 ghost use Rattle.chunk_types.specs.Chunks.{illness};
 ghost use Rattle.chunk_types.specs.declared.fault.Ill.{Ill as Wrong};
 ghost use Rattle.chunk_spelling.specs.Spelling.{a_whole_chunk};
@@ -23,7 +23,7 @@ use service_api::Advert;
 use std::alloc::Global;
 
 /// A frame whose chunk is typed.
-#[derive(Debug, Drop)]
+#[derive(Drop)]
 pub enum Frame {
     /// A packet on its way.
     Packet(CheckedPacket),
@@ -34,7 +34,7 @@ pub enum Frame {
 }
 
 /// A frame whose chunk is typed, with its stamp.
-#[derive(Debug, Drop)]
+#[derive(Drop)]
 pub struct Stamped {
     /// Its stamp: there under version 2, and not under version 1.
     pub stamp: Option<Stamp>,

@@ -8,7 +8,7 @@ use std::alloc::AllocError;
 use wire_bytes::Truncated;
 
 /// Why bytes are no frame whose chunk is typed; a place is a byte number from 0.
-#[derive(Debug, Drop)]
+#[derive(Drop)]
 pub enum FrameFault {
     /// They are more than 16,512.
     TooLong,

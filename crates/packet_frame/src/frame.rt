@@ -3,7 +3,7 @@ use plan_base::{Chunk, Packet};
 use service_api::Advert;
 
 /// What a frame spells, its chunk not yet checked.
-#[derive(Debug, Drop)]
+#[derive(Drop)]
 pub enum PlainFrame {
     /// A packet on its way.
     Packet(Packet),
@@ -14,7 +14,7 @@ pub enum PlainFrame {
 }
 
 /// What a frame spells, with its stamp where it has one.
-#[derive(Debug, Drop)]
+#[derive(Drop)]
 pub struct PlainStamped {
     /// Its stamp: there under version 2, and not under version 1.
     pub stamp: Option<Stamp>,

@@ -16,7 +16,7 @@ pub use checked::{Frame, Stamped, get_frame, get_frame2};
 pub use chunk_types::CheckedPacket;
 pub use fault::FrameFault;
 pub use frame::{PlainFrame, PlainStamped};
-pub use laws::{frame_laws, stamped_laws};
+pub use laws::{frame_laws, reading_laws, stamped_laws, version_laws};
 pub use link::with_link;
 pub use link_window::{Stamp, Version};
 pub use put::{put_advert, put_ask, put_packet};

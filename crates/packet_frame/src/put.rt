@@ -11,7 +11,8 @@ ghost use Rattle.packet_frame.specs.declared.frame.PlainFrame.{PlainFrame as Pla
 use chunk_ranges::may_be_spelled;
 use chunk_types::{CheckedChunk, CheckedPacket};
 use chunk_writer::{put_chunk, put_name};
-use plan_base::{Bytes, Chunk, Family, Host, NoMemory, chunk_weight};
+use plan_base::{Bytes, Chunk, Family, Host, NoMemory};
+use plan_sizes::chunk_weight;
 use service_api::{Advert, AdvertRow};
 use std::alloc::Global;
 use wire_bytes::Out;

@@ -7,7 +7,7 @@ use Rattle.plan_base.specs.declared.tree.Ty.{Ty, Ty-F, out-Ty, roll-Ty, roll-out
 use Rattle.plan_base.specs.Trees.{TyLayer}
 use Rattle.plan_base.specs.Sizes.{type_depth, type_depth_level}
 use Rattle.plan_base.proofs.SizeLaws.{type_depth_out}
-use Rattle.plan_base.specs.TypingOrder.{same_all, same_layer, same_type}
+use Rattle.plan_base.specs.SameTypes.{same_all, same_layer, same_type}
 
 pub same_type_out : (t u : Ty) → same_type t u ≡ same_layer (map-Ty Ty (Ty → Bool) same_type (out-Ty t)) (out-Ty u)
 unfolding same_type

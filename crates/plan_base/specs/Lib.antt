@@ -3,8 +3,4 @@ pub mod Sizes
 pub mod Trees
 pub mod WellFormed
 pub mod Words
-pub mod Typing
-pub mod TypingNames
-pub mod TypingOrder
-pub mod TypingFills
-pub mod Handlers
+pub mod SameTypes

@@ -1,11 +1,11 @@
-ghost use Rattle.std.specs.Prelude.{◌≡◌, [], ◌∷◌, ◌++◌, ◌<◌, length, get_or, IfOk, OnOk, OnErr};
+ghost use Rattle.std.specs.Prelude.{◌≡◌, ◌↔◌, IsTrue, [], ◌∷◌, ◌++◌, ◌<◌, length, get_or, IfOk, OnOk, OnErr};
 
 use crate::NoMemory;
 use std::alloc::{AllocError, Global};
 use std::marker::Model;
 
 /// Bytes, which contracts see as a list of numbers below 256.
-#[derive(Debug, Drop)]
+#[derive(Drop)]
 pub struct Bytes {
     all: Vec<u8>,
 }
@@ -92,5 +92,12 @@ impl Bytes {
     {
         self.all.extend_from_slice(more)?;
         Ok(())
+    }
+
+    /// Whether the two have the same bytes. Takes no memory.
+    pub fn is(&self, other: &Bytes) -> bool
+        ensures { IsTrue result ↔ (self.now ≡ other.now) }
+    {
+        self.as_slice() == other.as_slice()
     }
 }

@@ -2,7 +2,7 @@ ghost use Rattle.std.specs.Prelude.{◌≡◌};
 ghost use Rattle.plan_base.specs.Limits.{word_of};
 
 /// What a limit counts or measures, one variant for each word that a refusal can name.
-#[derive(Debug, Clone, Copy, PartialEq, Eq)]
+#[derive(Clone, Copy, PartialEq, Eq)]
 pub enum Limit {
     /// Functions of a program, at most 64.
     Functions,

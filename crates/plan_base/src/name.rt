@@ -1,4 +1,4 @@
-ghost use Rattle.std.specs.Prelude.{◌≡◌, ◌↔◌, false, IfOk, OnOk};
+ghost use Rattle.std.specs.Prelude.{◌≡◌, ◌↔◌, false, IfOk, IsTrue, OnOk};
 ghost use Rattle.std.specs.List.{list_all, list_any};
 ghost use Rattle.std.specs.Str.{bytes_eq};
 ghost use Rattle.plan_base.specs.Words.{is_word_byte, is_word, is_reserved, is_name, IsName};
@@ -12,7 +12,7 @@ use thiserror::Error;
 /// A name: a word of 1 to 32 bytes that isn't reserved, which contracts see as the list of its bytes.
 ///
 /// A word begins with a letter; letters, digits and `_` may follow, all of them ASCII.
-#[derive(Debug, Drop)]
+#[derive(Drop)]
 pub struct Name {
     bytes: Vec<u8>,
 }
@@ -93,6 +93,14 @@ impl Name {
     {
         let bytes = Vec::from_slice(alloc, self.bytes.as_slice())?;
         Ok(Name { bytes })
+    }
+
+    /// Whether the two names are the same. Takes no memory.
+    pub fn is(&self, other: &Name) -> bool
+        ensures same { IsTrue result ↔ (self.now ≡ other.now) }
+        ensures tested { result ≡ bytes_eq self.now other.now }
+    {
+        self.as_slice() == other.as_slice()
     }
 }
 

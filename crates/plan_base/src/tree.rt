@@ -5,7 +5,7 @@ use plan_items::{Boxed, Items, Shared};
 pub type Tys = Items<Ty>;
 
 /// The type of a value or an expression.
-#[derive(Debug, Drop)]
+#[derive(Drop)]
 pub enum Ty {
     /// The type of `()`.
     Unit,
@@ -32,7 +32,7 @@ pub enum Ty {
 }
 
 /// An operator between two operands.
-#[derive(Debug, Clone, Copy, PartialEq, Eq)]
+#[derive(Clone, Copy, PartialEq, Eq)]
 pub enum Op {
     /// `+`
     Add,
@@ -70,7 +70,7 @@ pub type Clauses = Items<Clause>;
 
 /// An expression.
 #[cycle(expr)]
-#[derive(Debug, Drop)]
+#[derive(Drop)]
 pub enum Expr {
     /// `()`
     Unit,
@@ -132,7 +132,7 @@ pub enum Expr {
 
 /// A clause of a `try`: the exception that it catches, or none for `_`, and what it then gives.
 #[cycle(expr)]
-#[derive(Debug, Drop)]
+#[derive(Drop)]
 pub struct Clause {
     /// The exception's name, or none for `_`.
     pub name: Option<Name>,
@@ -144,7 +144,7 @@ pub struct Clause {
 pub type Svcs = Items<Svc>;
 
 /// A declared service.
-#[derive(Debug, Drop)]
+#[derive(Drop)]
 pub struct Svc {
     /// Its name.
     pub name: Name,
@@ -158,7 +158,7 @@ pub struct Svc {
 pub type Params = Items<Param>;
 
 /// A parameter of a function.
-#[derive(Debug, Drop)]
+#[derive(Drop)]
 pub struct Param {
     /// Its name.
     pub name: Name,
@@ -170,7 +170,7 @@ pub struct Param {
 pub type Funs = Items<Fun>;
 
 /// A function of a program.
-#[derive(Debug, Drop)]
+#[derive(Drop)]
 pub struct Fun {
     /// Its name.
     pub name: Name,
@@ -183,7 +183,7 @@ pub struct Fun {
 }
 
 /// A program: services, exceptions and functions, at most 64 of each and at least one function.
-#[derive(Debug, Drop)]
+#[derive(Drop)]
 pub struct Program {
     /// The declared services.
     pub svcs: Svcs,
@@ -197,7 +197,7 @@ pub struct Program {
 pub type Places = Items<u32>;
 
 /// A program as it was read, with the places of its declarations and expressions in the text.
-#[derive(Debug, Drop)]
+#[derive(Drop)]
 pub struct Draft {
     /// The program, in which types of `[]` and `raise` may be missing.
     pub program: Program,
@@ -212,7 +212,7 @@ pub type Values = Items<Value>;
 
 /// A value.
 #[cycle(value)]
-#[derive(Debug, Drop)]
+#[derive(Drop)]
 pub enum Value {
     /// `()`
     Unit,
@@ -240,7 +240,7 @@ pub enum Value {
 
 /// A chunk: code, the function at which its evaluation begins, and that function's arguments.
 #[cycle(value)]
-#[derive(Debug, Drop)]
+#[derive(Drop)]
 pub struct Chunk {
     /// The whole program, which copies of the chunk share.
     pub code: Shared<Program>,
@@ -251,11 +251,11 @@ pub struct Chunk {
 }
 
 /// An exception by its name.
-#[derive(Debug, Drop)]
+#[derive(Drop)]
 pub struct Exn(pub Name);
 
 /// A packet.
-#[derive(Debug, Drop)]
+#[derive(Drop)]
 pub struct Packet {
     /// The family that it belongs to.
     pub family: Family,
@@ -272,7 +272,7 @@ pub struct Packet {
 }
 
 /// A place in a draft: a declaration or an expression, by its number from 0.
-#[derive(Debug, Clone, Copy, PartialEq, Eq)]
+#[derive(Clone, Copy, PartialEq, Eq)]
 pub enum Place {
     /// A declaration.
     Decl(u32),

@@ -8,9 +8,9 @@ use Rattle.plan_base.specs.declared.tree.Exn.{Exn}
 use Rattle.plan_meaning.specs.declared.stop.Stop.TheVariants.{Raised}
 use Rattle.plan_meaning.specs.State.{VisitState}
 use Rattle.plan_meaning.specs.Run.{Step, gave, stopped, quiet}
-use Rattle.plan_eval.specs.declared.frame.Frame.{Frame}
-use Rattle.plan_eval.specs.declared.frame.Activation.{Activation}
-use Rattle.plan_eval.specs.declared.frame.Mode.TheVariants as mode
+use Rattle.plan_eval.specs.declared.stack_frame.StackFrame.{StackFrame}
+use Rattle.plan_eval.specs.declared.stack_frame.Activation.{Activation}
+use Rattle.plan_eval.specs.declared.stack_frame.Mode.TheVariants as mode
 use Rattle.plan_eval.specs.declared.next.Next.TheVariants as next
 use Rattle.plan_eval.specs.Stack.{Spot, deeper, resume, code_spot, start_of, spot_from, spot_in, ended_in, ended, all_ended, AreLinked, innermost_run, innermost, stands_for}
 use Rattle.plan_eval.specs.Nexts.{run_at, next_step}
@@ -27,7 +27,7 @@ runs_there code seen (Some at) = refl
 runs_there code seen None = refl
 
 -- a part is opened
-pub opened_on : (codes : List Program) (outer : List Activation) (code : Program) (a : Activation) (at : Spot) (f : Frame) (s : VisitState) → slice_get codes a.code ≡ Some code → spot_in codes a ≡ Some at
+pub opened_on : (codes : List Program) (outer : List Activation) (code : Program) (a : Activation) (at : Spot) (f : StackFrame) (s : VisitState) → slice_get codes a.code ≡ Some code → spot_in codes a ≡ Some at
     → all_ended codes outer (ended codes a (next_step code a.fun at (next.Open f) s)) ≡ stands_for codes (outer ++ (record a { frames = a.frames ++ f ∷ [] }) ∷ []) mode.Run s
 unfolding stands_for
 opened_on codes outer code a at f s is there =
@@ -57,7 +57,7 @@ grown [] ys i x is = absurd (none-some is)
 grown (y ∷ xs) ys zero x is = is
 grown (y ∷ xs) ys (suc i) x is = grown xs ys i x is
 
-from_code : (o : Option Program) (fun : ℕ) (args : List Value) (fs : List Frame) → IsSome (spot_from (code_spot o fun args) fs) → (code : Program) × (o ≡ Some code)
+from_code : (o : Option Program) (fun : ℕ) (args : List Value) (fs : List StackFrame) → IsSome (spot_from (code_spot o fun args) fs) → (code : Program) × (o ≡ Some code)
 from_code (Some code) fun args fs h = (code, refl)
 from_code None fun args fs h = absurd (false≢true h)
 

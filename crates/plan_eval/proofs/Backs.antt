@@ -13,10 +13,10 @@ use Rattle.plan_meaning.specs.declared.stop.Stop.TheVariants.{Raised, Wrong, Wor
 use Rattle.plan_meaning.specs.State.{VisitState}
 use Rattle.plan_meaning.specs.Run.{Step, gave, stopped, quiet, weighed}
 use Rattle.plan_meaning.specs.Meaning.{bound, value_of}
-use Rattle.plan_eval.specs.declared.frame.Frame.{Frame}
-use Rattle.plan_eval.specs.declared.frame.Frame.TheVariants as frame
-use Rattle.plan_eval.specs.declared.frame.Activation.{Activation}
-use Rattle.plan_eval.specs.declared.frame.Mode.TheVariants as mode
+use Rattle.plan_eval.specs.declared.stack_frame.StackFrame.{StackFrame}
+use Rattle.plan_eval.specs.declared.stack_frame.StackFrame.TheVariants as frame
+use Rattle.plan_eval.specs.declared.stack_frame.Activation.{Activation}
+use Rattle.plan_eval.specs.declared.stack_frame.Mode.TheVariants as mode
 use Rattle.plan_eval.specs.declared.rest.Rest.{Rest}
 use Rattle.plan_eval.specs.declared.rest.Flow.{Flow}
 use Rattle.plan_eval.specs.declared.rest.Flow.TheVariants as flow
@@ -55,10 +55,10 @@ advances_from codes code seen at p q (Err e) s h f = λ other. h.same ∙ f othe
 -- ---- what a frame waited for
 
 module _ (code : Program) (seen : ℕ) (at : Spot) (c : Step Value) (s : VisitState) where
-  pub resume_gave : (f : Frame) (v : Value) → c.after ≡ gave v s → Leads (resume code seen at f c) (resume code seen at f (quiet (gave v s)))
+  pub resume_gave : (f : StackFrame) (v : Value) → c.after ≡ gave v s → Leads (resume code seen at f c) (resume code seen at f (quiet (gave v s)))
   resume_gave f v h = resume_leads code seen at f _ _ (at_once c v s h)
 
-  pub resume_raised : (f : Frame) (x : Exn) → (Raised x ≢ NoMemory → c.after ≡ stopped (Raised x) s) → Leads (resume code seen at f c) (resume code seen at f (quiet (stopped (Raised x) s)))
+  pub resume_raised : (f : StackFrame) (x : Exn) → (Raised x ≢ NoMemory → c.after ≡ stopped (Raised x) s) → Leads (resume code seen at f c) (resume code seen at f (quiet (stopped (Raised x) s)))
   resume_raised f x h = resume_leads code seen at f _ _ (at_once_raised c (Raised x) s (h (λ (e : Raised x ≡ NoMemory). cc)))
 
   pub item_came : (left : List Value) (v : Value) → c.after ≡ gave v s → Leads (resume code seen at (frame.Items left) c) (fold_on code seen at v left s)
@@ -79,12 +79,12 @@ module _ (code : Program) (seen : ℕ) (at : Spot) (c : Step Value) (s : VisitSt
 
 -- ---- names
 
-pub here_name : (x : Name) (f : Fun) (args : List Value) (frames : List Frame) → IsSome (bound f.params args)
+pub here_name : (x : Name) (f : Fun) (args : List Value) (frames : List StackFrame) → IsSome (bound f.params args)
     → value_from x (argument_of x None f.params args) (Some f.body) frames ≡ value_of x (env_of f args frames)
 unfolding env_of
 here_name x f args frames h = name_at x f args frames (base_of (bound f.params args)) (some_base (bound f.params args) h)
 
-module _ (code : Program) (seen : ℕ) (s : VisitState) (e : Expr) (x : Name) (f : Fun) (args : List Value) (frames : List Frame) (form : out-Expr e ≡ Expr-F.Var x) (h : IsSome (bound f.params args)) where
+module _ (code : Program) (seen : ℕ) (s : VisitState) (e : Expr) (x : Name) (f : Fun) (args : List Value) (frames : List StackFrame) (form : out-Expr e ≡ Expr-F.Var x) (h : IsSome (bound f.params args)) where
   pub gives_here : (v : Value) → value_from x (argument_of x None f.params args) (Some f.body) frames ≡ Some v
       → Leads (begins code seen (record { expr = e; env = env_of f args frames }) s) (weighed v s)
   gives_here v is = gives_name code seen (env_of f args frames) s e x v form (sym (here_name x f args frames h) ∙ is)

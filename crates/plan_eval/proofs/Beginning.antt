@@ -13,8 +13,8 @@ use Rattle.plan_meaning.specs.declared.stop.Stop.TheVariants.{Raised, Wrong}
 use Rattle.plan_meaning.specs.State.{VisitState}
 use Rattle.plan_meaning.specs.Run.{Step, gave, stopped, pure, «next», spend, whole, weighed, ◌>>=◌}
 use Rattle.plan_meaning.specs.Meaning.{Env, meaning, node, opened, opened_at, value_of, tuple, call, packed, values, called, named}
-use Rattle.plan_eval.specs.declared.frame.Activation.{Activation}
-use Rattle.plan_eval.specs.declared.frame.Mode.TheVariants as mode
+use Rattle.plan_eval.specs.declared.stack_frame.Activation.{Activation}
+use Rattle.plan_eval.specs.declared.stack_frame.Mode.TheVariants as mode
 use Rattle.plan_eval.specs.Stack.{Spot, spot_in, ended, all_ended, innermost, stands_for}
 use Rattle.plan_eval.specs.Forms.{literal}
 use Rattle.plan_eval.specs.Leads.{Leads}

@@ -5,7 +5,7 @@ use Rattle.plan_base.specs.declared.prim.Primitive.{Primitive}
 use Rattle.plan_base.specs.declared.tree.Svc.{Svc}
 use Rattle.plan_base.specs.declared.tree.Program.{Program}
 use Rattle.plan_base.specs.declared.tree.Value.{Value}
-use Rattle.plan_base.specs.TypingNames.{place_of, service_of, prim_of}
+use Rattle.typing_rules.specs.TypingNames.{place_of, service_of, prim_of}
 use Rattle.value_rules.specs.Rules.{Given, gives, primitive}
 use Rattle.plan_meaning.specs.declared.stop.Stop.{Stop}
 use Rattle.plan_meaning.specs.declared.stop.Stop.TheVariants.{Raised, WorkSpent, Wrong, NoMemory}

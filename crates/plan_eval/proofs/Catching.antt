@@ -11,8 +11,8 @@ use Rattle.plan_meaning.specs.State.{VisitState}
 use Rattle.plan_meaning.specs.Run.{stopped, quiet}
 use Rattle.plan_meaning.specs.Meaning.{catches}
 use Rattle.visit_state.specs.Handlers.{handler}
-use Rattle.plan_eval.specs.declared.frame.Frame.{Frame}
-use Rattle.plan_eval.specs.declared.frame.Frame.TheVariants as frame
+use Rattle.plan_eval.specs.declared.stack_frame.StackFrame.{StackFrame}
+use Rattle.plan_eval.specs.declared.stack_frame.StackFrame.TheVariants as frame
 use Rattle.plan_eval.specs.declared.next.Next.TheVariants as next
 use Rattle.plan_eval.specs.Stack.{Spot, deeper, resume, first_from}
 use Rattle.plan_eval.specs.Leads.{Leads}
@@ -62,11 +62,11 @@ pub passes_part : (code : Program) (seen : ℕ) (at : Spot) (s : VisitState) (n 
 passes_part code seen at s n held x other = (raised_part code seen at s (out-Expr at.expr) other n held x).same
 
 -- a frame of another kind
-abbrev pub IsNoPart : Frame → Type 0
+abbrev pub IsNoPart : StackFrame → Type 0
 IsNoPart (frame.Part n held) = ⊥
 IsNoPart _ = Unit {0}
 
-pub passes_frame : (code : Program) (seen : ℕ) (at : Spot) (s : VisitState) (f : Frame) (x : Exn) → IsNoPart f
+pub passes_frame : (code : Program) (seen : ℕ) (at : Spot) (s : VisitState) (f : StackFrame) (x : Exn) → IsNoPart f
     → (resume code seen at f (quiet (stopped (Raised x) s))).after ≡ stopped (Raised x) s
 passes_frame code seen at s (frame.Part n held) x other = absurd other
 passes_frame code seen at s f x other = refl

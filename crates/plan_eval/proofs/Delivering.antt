@@ -10,13 +10,13 @@ use Rattle.plan_base.specs.declared.tree.Value.{Value}
 use Rattle.plan_base.specs.declared.tree.Value as value
 use Rattle.plan_base.specs.declared.tree.Chunk.{Chunk}
 use Rattle.plan_base.specs.Trees.{ExprLayer}
-use Rattle.plan_base.specs.TypingNames.{place_of}
+use Rattle.typing_rules.specs.TypingNames.{place_of}
 use Rattle.plan_meaning.specs.declared.stop.Stop.TheVariants.{Raised}
 use Rattle.plan_meaning.specs.State.{VisitState}
 use Rattle.plan_meaning.specs.Run.{Run, gave, stopped, quiet, raise, weighed, ◌>>=◌}
 use Rattle.plan_meaning.specs.Meaning.{Env, meaning, bound, entered, visited, handled, catches}
 use Rattle.visit_state.specs.Handlers.{handler}
-use Rattle.plan_eval.specs.declared.frame.Frame.TheVariants as frame
+use Rattle.plan_eval.specs.declared.stack_frame.StackFrame.TheVariants as frame
 use Rattle.plan_eval.specs.Stack.{Spot, behind, along, resumed, resume, first_from}
 use Rattle.plan_eval.specs.Leads.{Leads}
 use Rattle.plan_eval.specs.Nexts.{fold_on}

@@ -13,11 +13,11 @@ use Rattle.plan_meaning.specs.State.{VisitState}
 use Rattle.plan_meaning.specs.Run.{Step}
 use Rattle.plan_meaning.specs.Safe.{IsSafe}
 use Rattle.plan_meaning.specs.Meaning.{meaning, bound, entered}
-use Rattle.plan_eval.specs.declared.frame.Frame.{Frame}
-use Rattle.plan_eval.specs.declared.frame.Frame.TheVariants as frame
-use Rattle.plan_eval.specs.declared.frame.Activation.{Activation}
-use Rattle.plan_eval.specs.declared.frame.Mode.{Mode}
-use Rattle.plan_eval.specs.declared.frame.Mode.TheVariants as mode
+use Rattle.plan_eval.specs.declared.stack_frame.StackFrame.{StackFrame}
+use Rattle.plan_eval.specs.declared.stack_frame.StackFrame.TheVariants as frame
+use Rattle.plan_eval.specs.declared.stack_frame.Activation.{Activation}
+use Rattle.plan_eval.specs.declared.stack_frame.Mode.{Mode}
+use Rattle.plan_eval.specs.declared.stack_frame.Mode.TheVariants as mode
 use Rattle.plan_eval.specs.declared.here.Here.{Here}
 use Rattle.plan_eval.specs.Turns.{IsAt, IsPlaced, Stands, Turned}
 use Rattle.plan_eval.specs.declared.next.Next.TheVariants as next
@@ -50,16 +50,16 @@ grows_on a b c g h = record { more = g.more ++ h.more; grown = h.grown ∙ ap (�
 
 -- ---- a part
 
-pub deeper_here : (at : Spot) (f : Frame) (part : Expr) → part_or_self at.expr (part_number f) ≡ Some part → is_let f ≡ false → deeper at f ≡ Some (record { expr = part; env = at.env })
+pub deeper_here : (at : Spot) (f : StackFrame) (part : Expr) → part_or_self at.expr (part_number f) ≡ Some part → is_let f ≡ false → deeper at f ≡ Some (record { expr = part; env = at.env })
 unfolding deeper
 deeper_here at (frame.Bound v) part is other = absurd (false≢true (sym other))
 deeper_here at f part is other = ap (λ o. spot_of o at.env) is
 
-spot_some : (at : Spot) (f : Frame) (part : Expr) → part_or_self at.expr (part_number f) ≡ Some part → (inside : Spot) × (deeper at f ≡ Some inside)
+spot_some : (at : Spot) (f : StackFrame) (part : Expr) → part_or_self at.expr (part_number f) ≡ Some part → (inside : Spot) × (deeper at f ≡ Some inside)
 unfolding deeper
 spot_some at f part is = (record { expr = part; env = env_at at.expr at.env f }, ap (λ o. spot_of o (env_at at.expr at.env f)) is)
 
-module _ (code : Program) (seen : ℕ) (at : Spot) (f : Frame) (s : VisitState) where
+module _ (code : Program) (seen : ℕ) (at : Spot) (f : StackFrame) (s : VisitState) where
   -- a part that is not begun
   pub opened_paused : (codes : List Program) (part : Expr) → part_or_self at.expr (part_number f) ≡ Some part
       → Flows codes code seen at (next_step code seen at (next.Open f) s) (Ok (flow.Wait (record { frames = f ∷ []; activations = [] }))) s
@@ -82,7 +82,7 @@ some_is o x is = rw is refl
 pub binds_some : (ps : List Param) (vs : List Value) → length ps ≡ length vs → IsSome (bound ps vs)
 binds_some ps vs h = let b = binds_all ps vs h in some_is (bound ps vs) b.0 b.1
 
-module _ (code : Program) (fun : ℕ) (f : Fun) (args vs : List Value) (fs : List Frame) (s : VisitState) (has : slice_get code.funs fun ≡ Some f) (many : length f.params ≡ length args) (same : vs ≡ args) (none : fs ≡ []) where
+module _ (code : Program) (fun : ℕ) (f : Fun) (args vs : List Value) (fs : List StackFrame) (s : VisitState) (has : slice_get code.funs fun ≡ Some f) (many : length f.params ≡ length args) (same : vs ≡ args) (none : fs ≡ []) where
   pub body_leads : Leads (entered meaning code fun args s) (meaning code fun (env_of f vs fs) f.body s)
   body_leads = rw (same, none) (entered_on code fun args f (env_of f args []) s has (bound_env f args (binds_some f.params args many)))
 
@@ -105,7 +105,7 @@ module _ (code : Program) (fun : ℕ) (f : Fun) (args vs : List Value) (fs : Lis
 same_some : {A : Type 0} (o : Option A) (x y : A) → o ≡ Some x → o ≡ Some y → x ≡ y
 same_some o x y h k = some-same (sym h ∙ k)
 
-module _ (codes : List Program) (a : Activation) (code : Program) (f : Fun) (e : Expr) (h : IsAt codes a code f e) (linked : IsSome (spot_in codes a)) (vs : List Value) (fs : List Frame) (same : vs ≡ a.args) (those : fs ≡ a.frames) where
+module _ (codes : List Program) (a : Activation) (code : Program) (f : Fun) (e : Expr) (h : IsAt codes a code f e) (linked : IsSome (spot_in codes a)) (vs : List Value) (fs : List StackFrame) (same : vs ≡ a.args) (those : fs ≡ a.frames) where
   pub here_binds : IsSome (bound f.params vs)
   here_binds = let stands = stands_at codes a code f e h linked in rw same (some_is (bound f.params a.args) stands.0 stands.1)
 

@@ -11,10 +11,10 @@ use Rattle.plan_meaning.specs.declared.stop.Stop.TheVariants.{Raised, WorkSpent,
 use Rattle.plan_meaning.specs.State.{VisitState}
 use Rattle.plan_meaning.specs.Run.{Run, Step, gave, stopped, quiet, and_then, «next», rescued, otherwise, weighed}
 use Rattle.plan_meaning.specs.Meaning.{Env, meaning, handled}
-use Rattle.plan_eval.specs.declared.frame.Frame.{Frame}
-use Rattle.plan_eval.specs.declared.frame.Frame.TheVariants as frame
-use Rattle.plan_eval.specs.declared.frame.Activation.{Activation}
-use Rattle.plan_eval.specs.declared.frame.Mode.TheVariants as mode
+use Rattle.plan_eval.specs.declared.stack_frame.StackFrame.{StackFrame}
+use Rattle.plan_eval.specs.declared.stack_frame.StackFrame.TheVariants as frame
+use Rattle.plan_eval.specs.declared.stack_frame.Activation.{Activation}
+use Rattle.plan_eval.specs.declared.stack_frame.Mode.TheVariants as mode
 use Rattle.plan_eval.specs.Stack.{Spot, spot_of, deeper, part_or_self, part_number, expr_from, env_from, spot_from, resumed, resume, through, start_of, spot_in, ended_in, ended, all_ended, stands_for}
 use Rattle.plan_eval.specs.Turns.{entry, under}
 use Rattle.plan_eval.proofs.Stacks.{ended_push}
@@ -23,7 +23,7 @@ use Rattle.plan_eval.proofs.Entering.{ended_entry}
 
 -- ---- frames
 
-from_shorter : (o : Option Expr) (fs : List Frame) (f : Frame) → IsSome (expr_from o (fs ++ f ∷ [])) → IsSome (expr_from o fs)
+from_shorter : (o : Option Expr) (fs : List StackFrame) (f : StackFrame) → IsSome (expr_from o (fs ++ f ∷ [])) → IsSome (expr_from o fs)
 from_shorter (Some e) [] f h = refl
 from_shorter (Some e) (g ∷ fs) f h = from_shorter (part_or_self e (part_number g)) fs f h
 from_shorter None [] f h = absurd (false≢true h)
@@ -37,24 +37,24 @@ spot_made : (o : Option Expr) (env : Env) → IsSome o → IsSome (spot_of o env
 spot_made (Some e) env h = refl
 spot_made None env h = absurd (false≢true h)
 
-spot_shorter : (start : Option Spot) (fs : List Frame) (f : Frame) → IsSome (spot_from start (fs ++ f ∷ [])) → IsSome (spot_from start fs)
+spot_shorter : (start : Option Spot) (fs : List StackFrame) (f : StackFrame) → IsSome (spot_from start (fs ++ f ∷ [])) → IsSome (spot_from start fs)
 spot_shorter (Some at) fs f h =
     spot_made (expr_from (Some at.expr) fs) (env_from (Some at.expr) at.env fs)
     (from_shorter (Some at.expr) fs f (spot_is (expr_from (Some at.expr) (fs ++ f ∷ [])) (env_from (Some at.expr) at.env (fs ++ f ∷ [])) h))
 spot_shorter None fs f h = absurd (false≢true h)
 
 -- an activation that stands somewhere stands somewhere without its innermost frame
-pub spot_in_shorter : (codes : List Program) (a : Activation) (f : Frame) → IsSome (spot_in codes (under a f)) → IsSome (spot_in codes a)
+pub spot_in_shorter : (codes : List Program) (a : Activation) (f : StackFrame) → IsSome (spot_in codes (under a f)) → IsSome (spot_in codes a)
 unfolding spot_in start_of
 spot_in_shorter codes a f h = spot_shorter (start_of codes a) a.frames f h
 
 -- what an innermost frame is given
-pub given_frame : (codes : List Program) (outer : List Activation) (code : Program) (a : Activation) (at : Spot) (f : Frame) (v : Value) (s : VisitState)
+pub given_frame : (codes : List Program) (outer : List Activation) (code : Program) (a : Activation) (at : Spot) (f : StackFrame) (v : Value) (s : VisitState)
     → slice_get codes a.code ≡ Some code → spot_in codes a ≡ Some at
     → stands_for codes (outer ++ under a f ∷ []) (mode.Give v) s ≡ all_ended codes outer (ended codes a (resume code a.fun at f (quiet (gave v s))))
 given_frame codes outer code a at f v s is there = given_to codes outer (under a f) v s ∙ ap (all_ended codes outer) (ended_push codes code a at f (quiet (gave v s)) is there)
 
-pub raised_frame : (codes : List Program) (outer : List Activation) (code : Program) (a : Activation) (at : Spot) (f : Frame) (x : Exn) (s : VisitState)
+pub raised_frame : (codes : List Program) (outer : List Activation) (code : Program) (a : Activation) (at : Spot) (f : StackFrame) (x : Exn) (s : VisitState)
     → slice_get codes a.code ≡ Some code → spot_in codes a ≡ Some at
     → stands_for codes (outer ++ under a f ∷ []) (mode.Raise x) s ≡ all_ended codes outer (ended codes a (resume code a.fun at f (quiet (stopped (Raised x) s))))
 raised_frame codes outer code a at f x s is there = raised_in codes outer (under a f) x s ∙ ap (all_ended codes outer) (ended_push codes code a at f (quiet (stopped (Raised x) s)) is there)
@@ -99,7 +99,7 @@ module _ (code : Program) (seen : ℕ) (e : Stop) (s : VisitState) (final : IsFi
       (ap (λ r. (otherwise r (handled meaning code seen env ks)).after) is ∙ uncaught e s (handled meaning code seen env ks) final)
   resumed_stops l env n held p is = next_stops p _ e s is
 
-  resume_stops : (at : Spot) (f : Frame) (p : Step Value) → p.after ≡ stopped e s → (resume code seen at f p).after ≡ stopped e s
+  resume_stops : (at : Spot) (f : StackFrame) (p : Step Value) → p.after ≡ stopped e s → (resume code seen at f p).after ≡ stopped e s
   resume_stops at (frame.Part n held) p is = resumed_stops (out-Expr at.expr) at.env n held p is
   resume_stops at (frame.Last n) p is = next_stops p _ e s is
   resume_stops at (frame.Bound v) p is = next_stops p _ e s is
@@ -107,7 +107,7 @@ module _ (code : Program) (seen : ℕ) (e : Stop) (s : VisitState) (final : IsFi
   resume_stops at (frame.Items left) p is = next_stops p _ e s is
   resume_stops at frame.Chunk p is = next_stops p _ e s is
 
-  through_stops : (at : Option Spot) (fs : List Frame) (p : Step Value) → p.after ≡ stopped e s → (through code seen at fs p).after ≡ stopped e s
+  through_stops : (at : Option Spot) (fs : List StackFrame) (p : Step Value) → p.after ≡ stopped e s → (through code seen at fs p).after ≡ stopped e s
   through_stops at [] p is = is
   through_stops None (f ∷ fs) p is = is
   through_stops (Some at) (f ∷ fs) p is = resume_stops at f _ (through_stops (deeper at f) fs p is)
@@ -126,5 +126,5 @@ module _ (codes : List Program) (e : Stop) (s : VisitState) (final : IsFinal e) 
   all_stop (a ∷ outer) p is = ended_stops a _ (all_stop outer p is)
 
 -- an open expression for its own: where a call can't enter
-pub resume_final : (code : Program) (seen : ℕ) (e : Stop) (s : VisitState) → IsFinal e → (at : Spot) (f : Frame) (p : Step Value) → p.after ≡ stopped e s → (resume code seen at f p).after ≡ stopped e s
+pub resume_final : (code : Program) (seen : ℕ) (e : Stop) (s : VisitState) → IsFinal e → (at : Spot) (f : StackFrame) (p : Step Value) → p.after ≡ stopped e s → (resume code seen at f p).after ≡ stopped e s
 resume_final code seen e s final at f p is = resume_stops code seen e s final at f p is

@@ -4,14 +4,14 @@ use Rattle.plan_base.specs.declared.tree.Fun.{Fun}
 use Rattle.plan_base.specs.declared.tree.Program.{Program}
 use Rattle.plan_base.specs.declared.tree.Value.{Value}
 use Rattle.plan_base.specs.declared.tree.Chunk.{Chunk}
-use Rattle.plan_base.specs.TypingNames.{place_of}
+use Rattle.typing_rules.specs.TypingNames.{place_of}
 use Rattle.plan_meaning.specs.State.{VisitState}
 use Rattle.plan_meaning.specs.Run.{Step}
 use Rattle.plan_meaning.specs.Meaning.{Env, meaning, bound, entered}
-use Rattle.plan_eval.specs.declared.frame.Frame.{Frame}
-use Rattle.plan_eval.specs.declared.frame.Frame.TheVariants as frame
-use Rattle.plan_eval.specs.declared.frame.Activation.{Activation}
-use Rattle.plan_eval.specs.declared.frame.Mode.TheVariants as mode
+use Rattle.plan_eval.specs.declared.stack_frame.StackFrame.{StackFrame}
+use Rattle.plan_eval.specs.declared.stack_frame.StackFrame.TheVariants as frame
+use Rattle.plan_eval.specs.declared.stack_frame.Activation.{Activation}
+use Rattle.plan_eval.specs.declared.stack_frame.Mode.TheVariants as mode
 use Rattle.plan_eval.specs.declared.next.Next.TheVariants as next
 use Rattle.plan_eval.specs.Stack.{Spot, deeper, resume, start_of, spot_in, ended_in, ended, all_ended, AreLinked, innermost, stands_for}
 use Rattle.plan_eval.specs.Leads.{Leads}
@@ -51,7 +51,7 @@ on_top codes outer a at fun args code f env s is there binds =
     inside = ap (λ p. p s) (innermost_top codes (outer ++ a ∷ []) (entry at fun args)) ∙ rw (is, spot_in_entry codes at fun args code f env is there binds) refl
 
 -- a function is entered
-pub entered_stack : (codes : List Program) (outer : List Activation) (code : Program) (a : Activation) (at : Spot) (f : Frame) (fun : ℕ) (args : List Value) (g : Fun) (env : Env) (s : VisitState)
+pub entered_stack : (codes : List Program) (outer : List Activation) (code : Program) (a : Activation) (at : Spot) (f : StackFrame) (fun : ℕ) (args : List Value) (g : Fun) (env : Env) (s : VisitState)
     → slice_get codes a.code ≡ Some code → spot_in codes a ≡ Some at → slice_get code.funs fun ≡ Some g → bound g.params args ≡ Some env
     → Leads (all_ended codes outer (ended codes a (resume code a.fun at f (entered meaning code fun args s))))
     (stands_for codes ((outer ++ under a f ∷ []) ++ entry a.code fun args ∷ []) mode.Run s)

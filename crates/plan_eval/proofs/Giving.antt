@@ -7,13 +7,13 @@ use Rattle.plan_base.specs.declared.tree.Program.{Program}
 use Rattle.plan_base.specs.declared.tree.Value.{Value}
 use Rattle.plan_base.specs.Trees.{ExprLayer}
 use Rattle.plan_meaning.specs.declared.stop.Stop.{Stop}
-use Rattle.service_api.specs.Services.{Standing}
+use Rattle.service_api.specs.Services.{ServiceState}
 use Rattle.plan_meaning.specs.Meaning.{Env}
 use Rattle.plan_meaning.specs.State.{VisitState, Own, joined}
 use Rattle.plan_meaning.specs.Run.{gave, quiet, weighed}
 use Rattle.plan_meaning.specs.Safe.{IsSafe}
-use Rattle.plan_eval.specs.declared.frame.Frame.TheVariants as frame
-use Rattle.plan_eval.specs.declared.frame.Activation.{Activation}
+use Rattle.plan_eval.specs.declared.stack_frame.StackFrame.TheVariants as frame
+use Rattle.plan_eval.specs.declared.stack_frame.Activation.{Activation}
 use Rattle.plan_eval.specs.declared.next.Next.{Next}
 use Rattle.plan_eval.specs.Stack.{Spot, resume, spot_in}
 use Rattle.plan_eval.specs.Leads.{Leads}
@@ -80,7 +80,7 @@ safe_part codes a code g e n held v s here linked safe =
     let at = spot_at g a.frames stands.0 e in
     (at.env, (part_given code a.fun at s (out-Expr e) n held v).safe (safe code at here.program stands.2))
 
-module _ (code : Program) (seen : ℕ) (e : Expr) (n : ℕ) (held : List Value) (v : Value) (o : Own) (t : Standing)
+module _ (code : Program) (seen : ℕ) (e : Expr) (n : ℕ) (held : List Value) (v : Value) (o : Own) (t : ServiceState)
     (safe : (env : Env) × IsSafe (part_gave code seen (record { expr = e; env = env }) n held v (joined o t)).asks) where
   -- a call with all its arguments
   pub safe_call : (f : Name) (es : List Expr) → out-Expr e ≡ Expr-F.Call f es → drop (n + 1) es ≡ [] → IsSafe (call_of code seen f (held ++ v ∷ []) (joined o t)).asks

@@ -18,8 +18,8 @@ use Rattle.plan_meaning.specs.State.{VisitState}
 use Rattle.plan_meaning.specs.Run.{Step, gave, stopped, pure, «next», spend, weighed, is_too_large}
 use Rattle.plan_meaning.specs.Safe.{IsSafe}
 use Rattle.plan_meaning.specs.Meaning.{Env, meaning, bound, as_bool, value_of}
-use Rattle.plan_eval.specs.declared.frame.Frame.{Frame}
-use Rattle.plan_eval.specs.declared.frame.Frame.TheVariants as frame
+use Rattle.plan_eval.specs.declared.stack_frame.StackFrame.{StackFrame}
+use Rattle.plan_eval.specs.declared.stack_frame.StackFrame.TheVariants as frame
 use Rattle.plan_eval.specs.declared.next.Next.TheVariants as next
 use Rattle.plan_eval.specs.declared.rest.Flow.{Flow}
 use Rattle.plan_eval.specs.Forms.{HasParts}
@@ -36,7 +36,7 @@ use Rattle.plan_eval.proofs.Taking.{resume_asks}
 use Rattle.plan_eval.proofs.Backs.{flows_from, gives_here, resume_gave}
 
 -- a name's value, once it is weighed
-pub variable_gives : (codes : List Program) (code : Program) (seen : ℕ) (e : Expr) (x : Name) (f : Fun) (args : List Value) (frames : List Frame) (v : Value) (r : Result Flow Stop) (s t : VisitState)
+pub variable_gives : (codes : List Program) (code : Program) (seen : ℕ) (e : Expr) (x : Name) (f : Fun) (args : List Value) (frames : List StackFrame) (v : Value) (r : Result Flow Stop) (s t : VisitState)
     → out-Expr e ≡ Expr-F.Var x → IsSome (bound f.params args) → value_from x (argument_of x None f.params args) (Some f.body) frames ≡ Some v
     → Flows codes code seen (record { expr = e; env = env_of f args frames }) (weighed v s) r t
     → Flows codes code seen (record { expr = e; env = env_of f args frames }) (begins code seen (record { expr = e; env = env_of f args frames }) s) r t

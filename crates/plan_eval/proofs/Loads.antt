@@ -4,9 +4,9 @@ use Rattle.std.specs.Prelude.{IfOk}
 use Rattle.std.proofs.lemmas.List.Sums.{sum_by_push}
 use Rattle.plan_base.specs.declared.tree.Exn.{Exn}
 use Rattle.plan_base.specs.declared.tree.Value.{Value}
-use Rattle.plan_eval.specs.declared.frame.Frame.{Frame}
-use Rattle.plan_eval.specs.declared.frame.Activation.{Activation}
-use Rattle.plan_eval.specs.declared.frame.Mode.TheVariants as mode
+use Rattle.plan_eval.specs.declared.stack_frame.StackFrame.{StackFrame}
+use Rattle.plan_eval.specs.declared.stack_frame.Activation.{Activation}
+use Rattle.plan_eval.specs.declared.stack_frame.Mode.TheVariants as mode
 use Rattle.plan_eval.specs.Turns.{entry, under, frames_in, load}
 
 one_more : (outer : List Activation) (a : Activation) → frames_in (outer ++ a ∷ []) ≡ frames_in outer + length a.frames
@@ -15,7 +15,7 @@ one_more outer a = sum_by_push (λ (b : Activation). length b.frames) outer a
 longer : (outer : List Activation) (a : Activation) → length (outer ++ a ∷ []) ≡ length outer + 1
 longer outer a = length-append outer (a ∷ [])
 
-deeper_by_one : (a : Activation) (f : Frame) → length (under a f).frames ≡ length a.frames + 1
+deeper_by_one : (a : Activation) (f : StackFrame) → length (under a f).frames ≡ length a.frames + 1
 deeper_by_one a f = length-append a.frames (f ∷ [])
 
 -- what holds of an answer holds weakened
@@ -23,7 +23,7 @@ pub if_ok : {A E : Type 0} (r : Result A E) (P Q : A → Type 0) → ((x : A) �
 if_ok (Ok x) P Q f h = f x h
 if_ok (Err e) P Q f h = tt
 
-module _ (outer : List Activation) (a : Activation) (f : Frame) where
+module _ (outer : List Activation) (a : Activation) (f : StackFrame) where
   pub load_open : (work : ℕ) → load mode.Run (outer ++ under a f ∷ []) work ≤ load mode.Run (outer ++ a ∷ []) work + 3
   load_open work = omega (arith, one_more outer a, one_more outer (under a f), longer outer a, longer outer (under a f), deeper_by_one a f)
 

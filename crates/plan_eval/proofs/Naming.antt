@@ -15,9 +15,9 @@ use Rattle.plan_meaning.specs.declared.stop.Stop.TheVariants.{Wrong}
 use Rattle.plan_meaning.specs.State.{VisitState}
 use Rattle.plan_meaning.specs.Run.{Step, stopped}
 use Rattle.plan_meaning.specs.Meaning.{meaning, entered, Env, binds, value_if, value_of, bound, bound_behind}
-use Rattle.plan_eval.specs.declared.frame.Frame.{Frame}
-use Rattle.plan_eval.specs.declared.frame.Frame.TheVariants as frame
-use Rattle.plan_eval.specs.declared.frame.Activation.{Activation}
+use Rattle.plan_eval.specs.declared.stack_frame.StackFrame.{StackFrame}
+use Rattle.plan_eval.specs.declared.stack_frame.StackFrame.TheVariants as frame
+use Rattle.plan_eval.specs.declared.stack_frame.Activation.{Activation}
 use Rattle.plan_eval.specs.declared.next.Next.TheVariants as next
 use Rattle.plan_eval.specs.Leads.{Leads}
 use Rattle.plan_eval.specs.Nexts.{Enters, run_at, next_step}
@@ -43,12 +43,12 @@ inside_same : (x : Name) (l : ExprLayer) (env : Env) (v : Value) → value_of x 
 inside_same x (Expr-F.Let y t a b) env v = value_snoc x env y v
 inside_same x l env v = refl
 
-at_same : (x : Name) (e : Expr) (env : Env) (f : Frame) → value_of x (env_at e env f) ≡ value_at x e f (value_of x env)
+at_same : (x : Name) (e : Expr) (env : Env) (f : StackFrame) → value_of x (env_at e env f) ≡ value_at x e f (value_of x env)
 at_same x e env (frame.Bound v) = inside_same x (out-Expr e) env v
 at_same x e env f = refl
 
 -- what a name is bound to behind frames
-pub from_same : (x : Name) (o : Option Expr) (env : Env) (fs : List Frame) → value_of x (env_from o env fs) ≡ value_from x (value_of x env) o fs
+pub from_same : (x : Name) (o : Option Expr) (env : Env) (fs : List StackFrame) → value_of x (env_from o env fs) ≡ value_from x (value_of x env) o fs
 from_same x o env [] = refl
 from_same x None env (f ∷ fs) = refl
 from_same x (Some e) env (f ∷ fs) = from_same x (part_or_self e (part_number f)) (env_at e env f) fs ∙ ap (λ o. value_from x o (part_or_self e (part_number f)) fs) (at_same x e env f)
@@ -71,7 +71,7 @@ no_arguments x before [] = refl
 no_arguments x before (p ∷ ps) = refl
 
 -- a name where an activation stands
-pub name_at : (x : Name) (f : Fun) (args : List Value) (frames : List Frame) (base : Env) → bound f.params args ≡ Some base
+pub name_at : (x : Name) (f : Fun) (args : List Value) (frames : List StackFrame) (base : Env) → bound f.params args ≡ Some base
     → value_from x (argument_of x None f.params args) (Some f.body) frames ≡ value_of x (env_from (Some f.body) base frames)
 name_at x f args frames base h = ap (λ o. value_from x o (Some f.body) frames) (argument_bound x f.params args base h) ∙ sym (from_same x (Some f.body) base frames)
 
@@ -98,7 +98,7 @@ binds_no_other ps vs h = binds_none [] ps vs h
 
 -- ---- where an activation stands
 
-some_env : (f : Fun) (o : Option Env) (fs : List Frame) (e : Expr) → expr_from (Some f.body) fs ≡ Some e → IsSome (spot_from (body_spot f o) fs)
+some_env : (f : Fun) (o : Option Env) (fs : List StackFrame) (e : Expr) → expr_from (Some f.body) fs ≡ Some e → IsSome (spot_from (body_spot f o) fs)
     → (base : Env) × (o ≡ Some base) × (spot_from (body_spot f o) fs ≡ Some (spot_at f fs base e))
 some_env f (Some base) fs e is h = (base, refl, ap (λ x. spot_of x (env_from (Some f.body) base fs)) is)
 some_env f None fs e is h = absurd (false≢true h)
@@ -123,7 +123,7 @@ at_place codes a code f e P here h c at is there =
 
 -- ---- where it stands nowhere
 
-no_env : (f : Fun) (o : Option Env) (fs : List Frame) → expr_from (Some f.body) fs ≡ None → spot_from (body_spot f o) fs ≡ None
+no_env : (f : Fun) (o : Option Env) (fs : List StackFrame) → expr_from (Some f.body) fs ≡ None → spot_from (body_spot f o) fs ≡ None
 no_env f (Some base) fs is = ap (λ x. spot_of x (env_from (Some f.body) base fs)) is
 no_env f None fs is = refl
 
@@ -155,7 +155,7 @@ unfolding entered
 enters_other code fun args g s has other = rw (has, binds_no_other g.params args other) refl
 
 module _ (code : Program) (seen : ℕ) (at : Spot) (want : Step Value) (s : VisitState) where
-  pub no_part : (f : Frame) → part_or_self at.expr (part_number f) ≡ None → Leads want (next_step code seen at (next.Open f) s) → want.after ≡ stopped Wrong s
+  pub no_part : (f : StackFrame) → part_or_self at.expr (part_number f) ≡ None → Leads want (next_step code seen at (next.Open f) s) → want.after ≡ stopped Wrong s
   unfolding deeper
   no_part f none h = h.same ∙ resume_final code seen Wrong s tt at f _ (ap (λ o. (run_at code seen (spot_of o (env_at at.expr at.env f)) s).after) none)
 
@@ -168,6 +168,6 @@ module _ (code : Program) (seen : ℕ) (at : Spot) (want : Step Value) (s : Visi
   some_deep : (o : Option Expr) (env : Env) (e : Expr) → o ≡ Some e → IsSome (spot_of o env)
   some_deep o env e is = rw is refl
 
-  pub has_part : (f : Frame) (e : Expr) → part_or_self at.expr (part_number f) ≡ Some e → IsSome (deeper at f)
+  pub has_part : (f : StackFrame) (e : Expr) → part_or_self at.expr (part_number f) ≡ Some e → IsSome (deeper at f)
   unfolding deeper
   has_part f e is = some_deep (part_or_self at.expr (part_number f)) (env_at at.expr at.env f) e is

@@ -3,15 +3,15 @@ use Rattle.std.proofs.Common.{◌≡◌, ℕ, List, [], ◌∷◌, Some, Result,
 use Rattle.plan_base.specs.declared.tree.Exn.{Exn}
 use Rattle.plan_base.specs.declared.tree.Value.{Value}
 use Rattle.plan_base.specs.declared.tree.Chunk.{Chunk}
-use Rattle.plan_base.specs.TypingNames.{place_of}
+use Rattle.typing_rules.specs.TypingNames.{place_of}
 use Rattle.plan_base.specs.declared.tree.Program.{Program}
 use Rattle.plan_meaning.specs.declared.stop.Stop.TheVariants.{Raised, Wrong}
 use Rattle.plan_meaning.specs.State.{VisitState}
 use Rattle.plan_meaning.specs.Run.{Step, gave, stopped}
 use Rattle.plan_meaning.specs.Meaning.{meaning, visited}
-use Rattle.plan_eval.specs.declared.frame.Activation.{Activation}
-use Rattle.plan_eval.specs.declared.frame.Mode.{Mode}
-use Rattle.plan_eval.specs.declared.frame.Mode.TheVariants as mode
+use Rattle.plan_eval.specs.declared.stack_frame.Activation.{Activation}
+use Rattle.plan_eval.specs.declared.stack_frame.Mode.{Mode}
+use Rattle.plan_eval.specs.declared.stack_frame.Mode.TheVariants as mode
 use Rattle.visit_state.specs.Meets.{Meets}
 use Rattle.plan_meaning.specs.declared.stop.Stop.{Stop}
 use Rattle.plan_eval.specs.Leads.{Leads}

@@ -13,11 +13,11 @@ use Rattle.plan_meaning.specs.State.{VisitState}
 use Rattle.plan_meaning.specs.Run.{Step, gave, stopped, quiet, spend}
 use Rattle.plan_meaning.specs.Meaning.{Env, meaning}
 use Rattle.plan_meaning.specs.Safe.{IsSafe}
-use Rattle.plan_eval.specs.declared.frame.Frame.{Frame}
-use Rattle.plan_eval.specs.declared.frame.Frame.TheVariants as frame
-use Rattle.plan_eval.specs.declared.frame.Activation.{Activation}
-use Rattle.plan_eval.specs.declared.frame.Mode.{Mode}
-use Rattle.plan_eval.specs.declared.frame.Mode.TheVariants as mode
+use Rattle.plan_eval.specs.declared.stack_frame.StackFrame.{StackFrame}
+use Rattle.plan_eval.specs.declared.stack_frame.StackFrame.TheVariants as frame
+use Rattle.plan_eval.specs.declared.stack_frame.Activation.{Activation}
+use Rattle.plan_eval.specs.declared.stack_frame.Mode.{Mode}
+use Rattle.plan_eval.specs.declared.stack_frame.Mode.TheVariants as mode
 use Rattle.plan_eval.specs.declared.next.Next.{Next}
 use Rattle.plan_eval.specs.Leads.{Leads}
 use Rattle.plan_eval.specs.Nexts.{Decides, IsDone, begins}
@@ -37,7 +37,7 @@ module _ (code : Program) (seen : ℕ) where
   resumed_asks (Expr-F.Try a ks) env n held p h = h.0.0
   resumed_asks l env n held p h = h.0
 
-  pub resume_asks : (at : Spot) (f : Frame) (p : Step Value) → IsSafe (resume code seen at f p).asks → IsSafe p.asks
+  pub resume_asks : (at : Spot) (f : StackFrame) (p : Step Value) → IsSafe (resume code seen at f p).asks → IsSafe p.asks
   resume_asks at (frame.Part n held) p h = resumed_asks (out-Expr at.expr) at.env n held p h
   resume_asks at (frame.Last n) p h = h.0
   resume_asks at (frame.Bound v) p h = h.0
@@ -45,7 +45,7 @@ module _ (code : Program) (seen : ℕ) where
   resume_asks at (frame.Items left) p h = h.0
   resume_asks at frame.Chunk p h = h.0
 
-  through_asks : (at : Option Spot) (fs : List Frame) (p : Step Value) → IsSafe (through code seen at fs p).asks → IsSafe p.asks
+  through_asks : (at : Option Spot) (fs : List StackFrame) (p : Step Value) → IsSafe (through code seen at fs p).asks → IsSafe p.asks
   through_asks at [] p h = h
   through_asks None (f ∷ fs) p h = h
   through_asks (Some at) (f ∷ fs) p h = through_asks (deeper at f) fs p (resume_asks at f _ h)
@@ -91,7 +91,7 @@ module _ (codes : List Program) (outer : List Activation) (a : Activation) (deci
       turned_from whole (all_ended codes outer (ended codes a (want code.0 at.0))) (same code.0 at.0 code.1 at.1)
       (applied code.0 at.0 (want code.0 at.0) (record { program = code.1; spot = at.1; linked = linked }) done.0 done.1)
 
-  pub turn_given : (top : Activation) (f : Frame) (v : Value) (s : VisitState) → top ≡ under a f → AreLinked codes (outer ++ top ∷ [])
+  pub turn_given : (top : Activation) (f : StackFrame) (v : Value) (s : VisitState) → top ≡ under a f → AreLinked codes (outer ++ top ∷ [])
       → IsDecided (λ code at. resume code a.fun at f (quiet (gave v s))) → IsApplied → Turned (stands_for codes (outer ++ top ∷ []) (mode.Give v) s) r codes' outer' t'
   turn_given top f v s is linked decides applied =
       let below : AreLinked codes (outer ++ under a f ∷ []) = rw is at linked in
@@ -99,7 +99,7 @@ module _ (codes : List Program) (outer : List Activation) (a : Activation) (deci
       (taken (λ code at. resume code a.fun at f (quiet (gave v s))) _ (linked_outer codes outer (under a f) below) (spot_in_shorter codes a f (linked_top codes outer (under a f) below))
       (λ code at here there. given_frame codes outer code a at f v s here there) decides applied)
 
-  pub turn_raises : (top : Activation) (f : Frame) (x : Exn) (s : VisitState) → top ≡ under a f → AreLinked codes (outer ++ top ∷ [])
+  pub turn_raises : (top : Activation) (f : StackFrame) (x : Exn) (s : VisitState) → top ≡ under a f → AreLinked codes (outer ++ top ∷ [])
       → IsDecided (λ code at. resume code a.fun at f (quiet (stopped (Raised x) s))) → IsApplied → Turned (stands_for codes (outer ++ top ∷ []) (mode.Raise x) s) r codes' outer' t'
   turn_raises top f x s is linked decides applied =
       let below : AreLinked codes (outer ++ under a f ∷ []) = rw is at linked in
@@ -119,7 +119,7 @@ module _ (codes : List Program) (outer : List Activation) (a : Activation) (deci
 
 -- ---- what an activation may ask
 
-module _ (codes : List Program) (outer : List Activation) (top a : Activation) (f : Frame) (v : Value) (s : VisitState) (is : top ≡ under a f) (linked : AreLinked codes (outer ++ top ∷ [])) where
+module _ (codes : List Program) (outer : List Activation) (top a : Activation) (f : StackFrame) (v : Value) (s : VisitState) (is : top ≡ under a f) (linked : AreLinked codes (outer ++ top ∷ [])) where
   pub stands_below : IsSome (spot_in codes a)
   stands_below = spot_in_shorter codes a f (linked_top codes outer (under a f) (rw is at linked))
 

@@ -4,16 +4,16 @@ use Rattle.plan_base.specs.declared.tree.Exn.{Exn}
 use Rattle.plan_base.specs.declared.tree.Program.{Program}
 use Rattle.plan_base.specs.declared.tree.Value.{Value}
 use Rattle.plan_base.specs.declared.tree.Chunk.{Chunk}
-use Rattle.plan_base.specs.TypingNames.{place_of}
+use Rattle.typing_rules.specs.TypingNames.{place_of}
 use Rattle.plan_meaning.specs.declared.stop.Stop.{Stop}
 use Rattle.plan_meaning.specs.declared.stop.Stop.TheVariants.{Raised, Wrong, NoMemory}
 use Rattle.plan_meaning.specs.State.{VisitState}
 use Rattle.plan_meaning.specs.Run.{Step, gave, stopped, quiet, weighed}
 use Rattle.plan_meaning.specs.Meaning.{meaning, entered, visited}
-use Rattle.plan_eval.specs.declared.frame.Frame.{Frame}
-use Rattle.plan_eval.specs.declared.frame.Frame.TheVariants as frame
-use Rattle.plan_eval.specs.declared.frame.Activation.{Activation}
-use Rattle.plan_eval.specs.declared.frame.Mode.TheVariants as mode
+use Rattle.plan_eval.specs.declared.stack_frame.StackFrame.{StackFrame}
+use Rattle.plan_eval.specs.declared.stack_frame.StackFrame.TheVariants as frame
+use Rattle.plan_eval.specs.declared.stack_frame.Activation.{Activation}
+use Rattle.plan_eval.specs.declared.stack_frame.Mode.TheVariants as mode
 use Rattle.plan_eval.specs.declared.next.Next.TheVariants as next
 use Rattle.plan_eval.specs.Stack.{Spot, deeper, resume, spot_in, ended, all_ended, AreLinked, stands_for}
 use Rattle.plan_eval.specs.Leads.{Leads}
@@ -79,12 +79,12 @@ module _ (codes : List Program) (outer : List Activation) (code : Program) (a : 
   turn_stopped e s final h other = ends_so e s final (h other)
 
   -- a part is opened
-  pub turn_open : (f : Frame) (s : VisitState) → Leads want (next_step code a.fun at (next.Open f) s) → IsSome (deeper at f)
+  pub turn_open : (f : StackFrame) (s : VisitState) → Leads want (next_step code a.fun at (next.Open f) s) → IsSome (deeper at f)
       → Leads whole_of (stands_for codes (outer ++ under a f ∷ []) mode.Run s) × AreLinked codes (outer ++ under a f ∷ [])
   turn_open f s h deep = (rw (sym (opened_on codes outer code a at f s here.program here.spot)) (inside _ h), linked_push codes outer (under a f) here.linked (rw (spot_in_push codes a at f here.spot) deep))
 
   -- a function is entered
-  pub turn_enter : (f : Frame) (fun : ℕ) (args : List Value) (s : VisitState) → IsSome (deeper at f) → Leads want (resume code a.fun at f (entered meaning code fun args s)) → Enters code fun args
+  pub turn_enter : (f : StackFrame) (fun : ℕ) (args : List Value) (s : VisitState) → IsSome (deeper at f) → Leads want (resume code a.fun at f (entered meaning code fun args s)) → Enters code fun args
       → Leads whole_of (stands_for codes ((outer ++ under a f ∷ []) ++ entry a.code fun args ∷ []) mode.Run s) × AreLinked codes ((outer ++ under a f ∷ []) ++ entry a.code fun args ∷ [])
   turn_enter f fun args s deep h enters = (
     onward _ _ _ (inside _ h) (entered_stack codes outer code a at f fun args enters.function enters.env s here.program here.spot enters.has enters.binds),

@@ -7,13 +7,13 @@ use Rattle.plan_base.specs.declared.tree.Chunk.{Chunk}
 use Rattle.plan_base.specs.declared.tree.Value.{Value}
 use Rattle.plan_base.specs.declared.tree.Ty.{Ty}
 use Rattle.plan_base.specs.declared.tree.Fun.{Fun}
-use Rattle.plan_base.specs.TypingNames.{place_of}
-use Rattle.plan_base.specs.TypingOrder.{fun_of}
+use Rattle.typing_rules.specs.TypingNames.{place_of}
+use Rattle.typing_rules.specs.TypingOrder.{fun_of}
 use Rattle.small_laws.proofs.Options.{some-same}
-use Rattle.plan_base.specs.Typing.{IsTypedChunk, within}
+use Rattle.typing_rules.specs.Typing.{IsTypedChunk, within}
 use Rattle.chunk_types.specs.Chunks.{IsCheckedChunk}
 use Rattle.service_api.specs.declared.ctx.Ctx.{Ctx}
-use Rattle.service_api.specs.Services.{Standing, IsGood, IsGoodValue, IsGoodChunk, IsGoodNote, AreGoodRows}
+use Rattle.service_api.specs.Services.{ServiceState, IsGood, IsGoodValue, IsGoodChunk, IsGoodNote, AreGoodRows}
 use Rattle.service_api.specs.declared.answer.Note.{Note}
 use Rattle.service_api.specs.declared.answer.Note.TheVariants.{Print, Port}
 use Rattle.plan_meaning.specs.declared.stop.Stop.{Stop}
@@ -58,19 +58,19 @@ note_full (Print v) g = full_value g.1.typed
 note_full (Port p v) g = full_value g.1.typed
 
 -- what a visit hands out and leaves
-abbrev Fit : Ty → Visit → Standing → Type 0
+abbrev Fit : Ty → Visit → ServiceState → Type 0
 Fit t r new = IsGoodEnd t r.outcome × AreGoodNotes r.notes × All NoteHasTypes r.notes × AreGoodPackets r.outbox × AreGoodRows new.rows
 
-fit_at : (t : Ty) (r : Visit) (new : Standing) (q : Visit) (s : VisitState) → r ≡ record q { notes = s.notes; outbox = s.outbox } → new ≡ s.services → IsGoodEnd t q.outcome → IsGoodState s → Fit t r new
+fit_at : (t : Ty) (r : Visit) (new : ServiceState) (q : Visit) (s : VisitState) → r ≡ record q { notes = s.notes; outbox = s.outbox } → new ≡ s.services → IsGoodEnd t q.outcome → IsGoodState s → Fit t r new
 fit_at t r new q s e f h g =
     subst (λ (x : Visit). Fit t x new) (sym e)
-    (h, g.notes, (λ i d l. note_full _ (g.notes i d l)), g.outbox, subst (λ (n : Standing). AreGoodRows n.rows) (sym f) g.services.rows)
+    (h, g.notes, (λ i d l. note_full _ (g.notes i d l)), g.outbox, subst (λ (n : ServiceState). AreGoodRows n.rows) (sym f) g.services.rows)
 
 -- what was checked is good
 pub good_chunk : (k : Chunk) → IsCheckedChunk k → IsGoodChunk k
 good_chunk k h = record { typed = h.typed; formed = h.formed }
 
-module _ (k : Chunk) (ctx : Ctx) (family : Family) (old : Standing) where
+module _ (k : Chunk) (ctx : Ctx) (family : Family) (old : ServiceState) where
   abbrev pub start : VisitState
   start = begun allowance ctx family old
 
@@ -111,37 +111,37 @@ module _ (k : Chunk) (ctx : Ctx) (family : Family) (old : Standing) where
   visit_never : IsGoodChunk k → IsGood old → length ctx.neighbours ≤ 8 → (s : VisitState) → (visited meaning k start).after ≡ stopped Wrong s → ⊥
   visit_never t g n s e = never _ (visited meaning k start).after s e (right_at (entry_of t.typed) t g n).holds
 
-  ends_kept : (a : After Value) (r : Visit) (new : Standing) → total (left_by a) ≡ total start → Ends allowance ctx.purse a r new → r.evals + r.left + bounds r.outbox ≡ ctx.purse
+  ends_kept : (a : After Value) (r : Visit) (new : ServiceState) → total (left_by a) ≡ total start → Ends allowance ctx.purse a r new → r.evals + r.left + bounds r.outbox ≡ ctx.purse
   ends_kept (gave v s) r new b e = ap (λ (x : Visit). x.evals + x.left + bounds x.outbox) e.0 ∙ balance_of s ctx.purse b
   ends_kept (stopped (Raised x) s) r new b e = ap (λ (x : Visit). x.evals + x.left + bounds x.outbox) e.0 ∙ balance_of s ctx.purse b
   ends_kept (stopped WorkSpent s) r new b e = ap (λ (x : Visit). x.evals + x.left + bounds x.outbox) e.0 ∙ none_spent ctx.purse
   ends_kept (stopped Wrong s) r new b e = absurd e
   ends_kept (stopped NoMemory s) r new b e = absurd e
 
-  pub visit_keeps : (r : Visit) (new : Standing) → IsVisit allowance k ctx family old r new → r.evals + r.left + bounds r.outbox ≡ ctx.purse
+  pub visit_keeps : (r : Visit) (new : ServiceState) → IsVisit allowance k ctx family old r new → r.evals + r.left + bounds r.outbox ≡ ctx.purse
   unfolding IsVisit
   visit_keeps r new e = ends_kept (visited meaning k start).after r new (visit_balance k start) e
 
-  ends_fit : (t : Ty) (a : After Value) (r : Visit) (new : Standing) → Holds (IsGoodValue t) a → Ends allowance ctx.purse a r new → Fit t r new
+  ends_fit : (t : Ty) (a : After Value) (r : Visit) (new : ServiceState) → Holds (IsGoodValue t) a → Ends allowance ctx.purse a r new → Fit t r new
   ends_fit t (gave v s) r new h e = fit_at t r new (ended allowance (outcome.Value v) s) s e.0 e.1 (h.0, full_value h.0.typed) h.1
   ends_fit t (stopped (Raised x) s) r new h e = fit_at t r new (ended allowance (outcome.Raised x) s) s e.0 e.1 tt h.1
-  ends_fit t (stopped WorkSpent s) r new h e = subst (λ (x : Visit). Fit t x new) (sym e.0) (tt, no_notes, no_types, no_packets, subst (λ (n : Standing). AreGoodRows n.rows) (sym e.1) h.1.services.rows)
+  ends_fit t (stopped WorkSpent s) r new h e = subst (λ (x : Visit). Fit t x new) (sym e.0) (tt, no_notes, no_types, no_packets, subst (λ (n : ServiceState). AreGoodRows n.rows) (sym e.1) h.1.services.rows)
   ends_fit t (stopped Wrong s) r new h e = absurd e
   ends_fit t (stopped NoMemory s) r new h e = absurd e
 
   visit_fits_at : (e : Entry) (d : Fun) → fun_of k.code k.entry ≡ Some d → IsGoodChunk k → IsGood old → length ctx.neighbours ≤ 8
-      → (r : Visit) (new : Standing) → IsVisit allowance k ctx family old r new → Fit d.result r new
+      → (r : Visit) (new : ServiceState) → IsVisit allowance k ctx family old r new → Fit d.result r new
   unfolding IsVisit
   visit_fits_at e d f t g n r new i =
       let same : e.fun ≡ d = some-same (sym (ap (option_and_then (slice_get k.code.funs)) e.place ∙ e.got) ∙ f) in
       subst (λ (x : Fun). Fit x.result r new) same (ends_fit e.fun.result (visited meaning k start).after r new (right_at e t g n).holds i)
 
   pub visit_fits : (d : Fun) → fun_of k.code k.entry ≡ Some d → IsGoodChunk k → IsGood old → length ctx.neighbours ≤ 8
-      → (r : Visit) (new : Standing) → IsVisit allowance k ctx family old r new → Fit d.result r new
+      → (r : Visit) (new : ServiceState) → IsVisit allowance k ctx family old r new → Fit d.result r new
   visit_fits d f t g n r new i = visit_fits_at (entry_of t.typed) d f t g n r new i
 
   -- the same without a name for the function
-  pub visit_leaves : IsGoodChunk k → IsGood old → length ctx.neighbours ≤ 8 → (r : Visit) (new : Standing) → IsVisit allowance k ctx family old r new
+  pub visit_leaves : IsGoodChunk k → IsGood old → length ctx.neighbours ≤ 8 → (r : Visit) (new : ServiceState) → IsVisit allowance k ctx family old r new
       → AreGoodNotes r.notes × All NoteHasTypes r.notes × AreGoodPackets r.outbox × AreGoodRows new.rows
   unfolding IsVisit
   visit_leaves t g n r new i =
@@ -149,7 +149,7 @@ module _ (k : Chunk) (ctx : Ctx) (family : Family) (old : Standing) where
       let f = ends_fit e.fun.result (visited meaning k start).after r new (right_at e t g n).holds i in
       (f.1, f.2, f.3, f.4)
 
-module _ (k : Chunk) (ctx around : Ctx) (family : Family) (old : Standing) (o : Own) where
+module _ (k : Chunk) (ctx around : Ctx) (family : Family) (old : ServiceState) (o : Own) where
   -- a state that begins a visit
   abbrev pub Begins : Type 0
   Begins = (o ≡ record { ctx = around; family = family; work = 4000000; evals = 0; outbox = []; notes = [] }) × (around ≡ ctx)

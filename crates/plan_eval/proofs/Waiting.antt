@@ -10,9 +10,9 @@ use Rattle.plan_base.specs.declared.tree.Value.{Value}
 use Rattle.plan_meaning.specs.State.{VisitState}
 use Rattle.plan_meaning.specs.Run.{Step}
 use Rattle.plan_meaning.specs.Meaning.{Env, meaning, bound}
-use Rattle.plan_eval.specs.declared.frame.Frame.{Frame}
-use Rattle.plan_eval.specs.declared.frame.Activation.{Activation}
-use Rattle.plan_eval.specs.declared.frame.Mode.TheVariants as mode
+use Rattle.plan_eval.specs.declared.stack_frame.StackFrame.{StackFrame}
+use Rattle.plan_eval.specs.declared.stack_frame.Activation.{Activation}
+use Rattle.plan_eval.specs.declared.stack_frame.Mode.TheVariants as mode
 use Rattle.plan_eval.specs.declared.rest.Rest.{Rest}
 use Rattle.plan_eval.specs.Stack.{Spot, spot_of, deeper, part_or_self, part_number, env_at, expr_from, env_from, spot_from, resume, through, spot_in, ended, all_ended, AreLinked, innermost, innermost_run, stands_for}
 use Rattle.plan_eval.specs.Nexts.{run_at}
@@ -27,19 +27,19 @@ use Rattle.plan_eval.proofs.Entering.{spot_in_entry, ended_entry}
 
 -- ---- one frame deeper
 
-from_inside : (fs : List Frame) (inside : Spot) (o : Option Expr) (env : Env) → spot_of o env ≡ Some inside → spot_of (expr_from o fs) (env_from o env fs) ≡ spot_from (Some inside) fs
+from_inside : (fs : List StackFrame) (inside : Spot) (o : Option Expr) (env : Env) → spot_of o env ≡ Some inside → spot_of (expr_from o fs) (env_from o env fs) ≡ spot_from (Some inside) fs
 from_inside fs inside (Some e) env is = ap (λ x. spot_from (Some x) fs) (some-same is)
 from_inside fs inside None env is = absurd (none-some is)
 
-pub deeper_from : (at : Spot) (f : Frame) (inside : Spot) (fs : List Frame) → deeper at f ≡ Some inside → spot_from (Some at) (f ∷ fs) ≡ spot_from (Some inside) fs
+pub deeper_from : (at : Spot) (f : StackFrame) (inside : Spot) (fs : List StackFrame) → deeper at f ≡ Some inside → spot_from (Some at) (f ∷ fs) ≡ spot_from (Some inside) fs
 unfolding deeper
 deeper_from at f inside fs is = from_inside fs inside (part_or_self at.expr (part_number f)) (env_at at.expr at.env f) is
 
-some_inside : (fs : List Frame) (o : Option Expr) (env : Env) → IsSome (spot_of (expr_from o fs) (env_from o env fs)) → (inside : Spot) × (spot_of o env ≡ Some inside)
+some_inside : (fs : List StackFrame) (o : Option Expr) (env : Env) → IsSome (spot_of (expr_from o fs) (env_from o env fs)) → (inside : Spot) × (spot_of o env ≡ Some inside)
 some_inside fs (Some e) env h = (record { expr = e; env = env }, refl)
 some_inside fs None env h = absurd (false≢true (rw (nowhere fs) at h))
 
-pub deep_some : (at : Spot) (f : Frame) (fs : List Frame) → IsSome (spot_from (Some at) (f ∷ fs)) → (inside : Spot) × (deeper at f ≡ Some inside)
+pub deep_some : (at : Spot) (f : StackFrame) (fs : List StackFrame) → IsSome (spot_from (Some at) (f ∷ fs)) → (inside : Spot) × (deeper at f ≡ Some inside)
 unfolding deeper
 deep_some at f fs h = some_inside fs (part_or_self at.expr (part_number f)) (env_at at.expr at.env f) h
 
@@ -51,11 +51,11 @@ module _ (codes : List Program) (code : Program) (seen : ℕ) (at : Spot) where
   unfolding waits
   paused s = record { leads = itself _; stands = refl; linked = tt }
 
-  module _ (f : Frame) (inside : Spot) (deep : deeper at f ≡ Some inside) (r : Rest) (s : VisitState) where
+  module _ (f : StackFrame) (inside : Spot) (deep : deeper at f ≡ Some inside) (r : Rest) (s : VisitState) where
     waits_in : waits codes code seen at (record { frames = r.frames ++ f ∷ []; activations = r.activations }) s ≡ resume code seen at f (waits codes code seen inside r s)
     unfolding waits
     waits_in =
-        ap (λ (fs : List Frame). through code seen (Some at) fs (innermost_of codes code seen (spot_from (Some at) fs) (reverse r.activations) s)) (reverse-append r.frames (f ∷ []))
+        ap (λ (fs : List StackFrame). through code seen (Some at) fs (innermost_of codes code seen (spot_from (Some at) fs) (reverse r.activations) s)) (reverse-append r.frames (f ∷ []))
         ∙ ap (λ (o : Option Spot). resume code seen at f (through code seen (deeper at f) (reverse r.frames) (innermost_of codes code seen o (reverse r.activations) s))) (deeper_from at f inside (reverse r.frames) deep)
         ∙ ap (λ (o : Option Spot). resume code seen at f (through code seen o (reverse r.frames) (innermost_of codes code seen (spot_from (Some inside) (reverse r.frames)) (reverse r.activations) s))) deep
 
@@ -69,7 +69,7 @@ module _ (codes : List Program) (code : Program) (seen : ℕ) (at : Spot) where
     }
 
   -- activations below a frame
-  pub waits_below : (f : Frame) (r : Rest) (c : Step Value) (s : VisitState) → IsSome (deeper at f) → Above codes c r s
+  pub waits_below : (f : StackFrame) (r : Rest) (c : Step Value) (s : VisitState) → IsSome (deeper at f) → Above codes c r s
       → Waits codes code seen at (resume code seen at f c) (record { frames = r.frames ++ f ∷ []; activations = r.activations }) s
   unfolding waits deeper
   waits_below f r c s deep a = record {
@@ -81,21 +81,21 @@ module _ (codes : List Program) (code : Program) (seen : ℕ) (at : Spot) where
 -- ---- frames on top of an activation
 
 module _ (codes : List Program) (code : Program) where
-  pub ended_all : (fs : List Frame) (a : Activation) (at : Spot) (r : Step Value) → slice_get codes a.code ≡ Some code → spot_in codes a ≡ Some at → IsSome (spot_from (Some at) fs)
+  pub ended_all : (fs : List StackFrame) (a : Activation) (at : Spot) (r : Step Value) → slice_get codes a.code ≡ Some code → spot_in codes a ≡ Some at → IsSome (spot_from (Some at) fs)
       → ended codes (record a { frames = a.frames ++ fs }) r ≡ ended codes a (through code a.fun (Some at) fs r)
-  ended_all [] a at r is there h = ap (λ (fs : List Frame). ended codes (record a { frames = fs }) r) (append-nil a.frames)
+  ended_all [] a at r is there h = ap (λ (fs : List StackFrame). ended codes (record a { frames = fs }) r) (append-nil a.frames)
   ended_all (f ∷ fs) a at r is there h =
       let inside = deep_some at f fs h in
-      ap (λ (gs : List Frame). ended codes (record a { frames = gs }) r) (sym (append_assoc a.frames (f ∷ []) fs))
+      ap (λ (gs : List StackFrame). ended codes (record a { frames = gs }) r) (sym (append_assoc a.frames (f ∷ []) fs))
       ∙ ended_all fs (under a f) inside.0 r is (spot_in_push codes a at f there ∙ inside.1) (rw (deeper_from at f inside.0 fs inside.1) at h)
       ∙ ended_push codes code a at f (through code a.fun (Some inside.0) fs r) is there
       ∙ ap (λ (o : Option Spot). ended codes a (resume code a.fun at f (through code a.fun o fs r))) (sym inside.1)
 
-  pub spot_all : (fs : List Frame) (a : Activation) (at : Spot) → spot_in codes a ≡ Some at → IsSome (spot_from (Some at) fs) → spot_in codes (record a { frames = a.frames ++ fs }) ≡ spot_from (Some at) fs
-  spot_all [] a at there h = ap (λ (fs : List Frame). spot_in codes (record a { frames = fs })) (append-nil a.frames) ∙ there
+  pub spot_all : (fs : List StackFrame) (a : Activation) (at : Spot) → spot_in codes a ≡ Some at → IsSome (spot_from (Some at) fs) → spot_in codes (record a { frames = a.frames ++ fs }) ≡ spot_from (Some at) fs
+  spot_all [] a at there h = ap (λ (fs : List StackFrame). spot_in codes (record a { frames = fs })) (append-nil a.frames) ∙ there
   spot_all (f ∷ fs) a at there h =
       let inside = deep_some at f fs h in
-      ap (λ (gs : List Frame). spot_in codes (record a { frames = gs })) (sym (append_assoc a.frames (f ∷ []) fs))
+      ap (λ (gs : List StackFrame). spot_in codes (record a { frames = gs })) (sym (append_assoc a.frames (f ∷ []) fs))
       ∙ spot_all fs (under a f) inside.0 (spot_in_push codes a at f there ∙ inside.1) (rw (deeper_from at f inside.0 fs inside.1) at h)
       ∙ sym (deeper_from at f inside.0 fs inside.1)
 
@@ -109,7 +109,7 @@ innermost_append codes (x ∷ []) b more = refl
 innermost_append codes (x ∷ y ∷ xs) b more = innermost_append codes (y ∷ xs) b more
 
 -- what a stack with all that waits on top of it stands for
-module _ (codes : List Program) (outer : List Activation) (code : Program) (a : Activation) (at : Spot) (is : slice_get codes a.code ≡ Some code) (there : spot_in codes a ≡ Some at) (fs : List Frame) (h : IsSome (spot_from (Some at) fs)) where
+module _ (codes : List Program) (outer : List Activation) (code : Program) (a : Activation) (at : Spot) (is : slice_get codes a.code ≡ Some code) (there : spot_in codes a ≡ Some at) (fs : List StackFrame) (h : IsSome (spot_from (Some at) fs)) where
   pub shows : (acts : List Activation) (s : VisitState)
       → stands_for codes (outer ++ (record a { frames = a.frames ++ fs }) ∷ acts) mode.Run s
       ≡ all_ended codes outer (ended codes a (through code a.fun (Some at) fs (innermost_of codes code a.fun (spot_from (Some at) fs) acts s)))

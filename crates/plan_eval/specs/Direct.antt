@@ -11,10 +11,10 @@ use Rattle.plan_meaning.specs.declared.stop.Stop.TheVariants.{Raised, NoMemory}
 use Rattle.plan_meaning.specs.State.{VisitState}
 use Rattle.plan_meaning.specs.Run.{Run, Step, gave, stopped, weighed}
 use Rattle.plan_meaning.specs.Meaning.{Env, bound, meaning}
-use Rattle.plan_eval.specs.declared.frame.Frame.{Frame}
-use Rattle.plan_eval.specs.declared.frame.Frame.TheVariants as frame
-use Rattle.plan_eval.specs.declared.frame.Activation.{Activation}
-use Rattle.plan_eval.specs.declared.frame.Mode.TheVariants as mode
+use Rattle.plan_eval.specs.declared.stack_frame.StackFrame.{StackFrame}
+use Rattle.plan_eval.specs.declared.stack_frame.StackFrame.TheVariants as frame
+use Rattle.plan_eval.specs.declared.stack_frame.Activation.{Activation}
+use Rattle.plan_eval.specs.declared.stack_frame.Mode.TheVariants as mode
 use Rattle.plan_eval.specs.declared.here.Here.{Here}
 use Rattle.plan_eval.specs.declared.rest.Rest.{Rest}
 use Rattle.plan_eval.specs.declared.rest.Flow.{Flow}
@@ -33,7 +33,7 @@ base_of (Some base) = base
 base_of None = []
 
 -- the bindings that an expression sees
-unfoldable pub env_of : Fun → List Value → List Frame → Env
+unfoldable pub env_of : Fun → List Value → List StackFrame → Env
 env_of f args frames = env_from (Some f.body) (base_of (bound f.params args)) frames
 
 abbrev pub spot : Here → Expr → Spot
@@ -101,7 +101,7 @@ Advances codes code seen at want (Ok (turn.End f)) s = Flows codes code seen at 
 Advances codes code seen at want (Err e) s = e ≢ NoMemory → want.after ≡ stopped e s
 
 -- a frame that binds a name
-abbrev pub is_let : Frame → Bool
+abbrev pub is_let : StackFrame → Bool
 is_let (frame.Bound v) = true
 is_let _ = false
 

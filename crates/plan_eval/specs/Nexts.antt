@@ -9,13 +9,13 @@ use Rattle.plan_base.specs.declared.tree.Fun.{Fun}
 use Rattle.plan_base.specs.declared.tree.Program.{Program}
 use Rattle.plan_base.specs.declared.tree.Value.{Value}
 use Rattle.plan_base.specs.declared.tree.Chunk.{Chunk}
-use Rattle.service_api.specs.Services.{Standing}
+use Rattle.service_api.specs.Services.{ServiceState}
 use Rattle.plan_meaning.specs.declared.stop.Stop.{Stop}
 use Rattle.plan_meaning.specs.State.{VisitState, Own, joined}
 use Rattle.plan_meaning.specs.Run.{Run, Step, wrong, weighed, ◌>>=◌}
 use Rattle.plan_meaning.specs.Meaning.{Env, bound, entered, visited, meaning, opened_at, called, as_chunk, as_host, as_int, as_dev, send_remote, send_neighbour}
 use Rattle.plan_meaning.specs.Safe.{IsSafe}
-use Rattle.plan_eval.specs.declared.frame.Frame.TheVariants as frame
+use Rattle.plan_eval.specs.declared.stack_frame.StackFrame.TheVariants as frame
 use Rattle.plan_eval.specs.declared.next.Next.{Next}
 use Rattle.plan_eval.specs.declared.next.Next.TheVariants as next
 use Rattle.plan_eval.specs.Stack.{Spot, deeper, resume, behind, along}
@@ -73,13 +73,13 @@ module _ (code : Program) (seen : ℕ) where
 -- a send by a routing name of which all parts gave values is safe at some standing of the services
 abbrev pub RemoteIsSafe : Name → Value → Value → Value → Own → Type 0
 RemoteIsSafe r c w v o =
-    (k : Chunk) (host : Host) (i : ℤ) → as_chunk c ≡ Some k → as_host w ≡ Some host → as_int v ≡ Some i → (s : Standing) × IsSafe (send_remote k host i r (joined o s)).asks
+    (k : Chunk) (host : Host) (i : ℤ) → as_chunk c ≡ Some k → as_host w ≡ Some host → as_int v ≡ Some i → (s : ServiceState) × IsSafe (send_remote k host i r (joined o s)).asks
 
 -- the same of a send to a neighbour
 abbrev pub NeighbourIsSafe : Value → Value → Value → Value → Own → Type 0
 NeighbourIsSafe c w u v o =
     (k : Chunk) (host : Host) (i : ℤ) (dev : Dev) → as_chunk c ≡ Some k → as_host w ≡ Some host → as_int u ≡ Some i → as_dev v ≡ Some dev
-    → (s : Standing) × IsSafe (send_neighbour k host i dev (joined o s)).asks
+    → (s : ServiceState) × IsSafe (send_neighbour k host i dev (joined o s)).asks
 
 -- a function of that place takes so many arguments
 pub record Enters (code : Program) (fun : ℕ) (args : List Value) : Type 0 where

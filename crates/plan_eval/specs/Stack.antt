@@ -15,11 +15,11 @@ use Rattle.plan_meaning.specs.declared.stop.Stop.TheVariants.{Raised}
 use Rattle.plan_meaning.specs.State.{VisitState}
 use Rattle.plan_meaning.specs.Run.{Run, Step, gave, stopped, ◌>>=◌, ◌>>◌, and_then, rescued, quiet, pure, wrong, or_wrong, given, weighed}
 use Rattle.plan_meaning.specs.Meaning.{Env, catches, binds, bound, as_bool, as_int, as_host, as_dev, as_chunk, as_items, values_behind, called, left_along, right_along, pay_eval, visited, send_remote, send_neighbour, handled, meaning}
-use Rattle.plan_eval.specs.declared.frame.Frame.{Frame}
-use Rattle.plan_eval.specs.declared.frame.Frame.TheVariants as frame
-use Rattle.plan_eval.specs.declared.frame.Activation.{Activation}
-use Rattle.plan_eval.specs.declared.frame.Mode.{Mode}
-use Rattle.plan_eval.specs.declared.frame.Mode.TheVariants as mode
+use Rattle.plan_eval.specs.declared.stack_frame.StackFrame.{StackFrame}
+use Rattle.plan_eval.specs.declared.stack_frame.StackFrame.TheVariants as frame
+use Rattle.plan_eval.specs.declared.stack_frame.Activation.{Activation}
+use Rattle.plan_eval.specs.declared.stack_frame.Mode.{Mode}
+use Rattle.plan_eval.specs.declared.stack_frame.Mode.TheVariants as mode
 
 -- ---- the parts of an expression
 
@@ -46,7 +46,7 @@ parts_of _ = []
 
 -- the expression that a frame's evaluation is in: the part that it evaluates, or the expression itself where that is
 -- the next activation
-abbrev pub part_number : Frame → Option ℕ
+abbrev pub part_number : StackFrame → Option ℕ
 part_number (frame.Part n held) = Some n
 part_number (frame.Last n) = Some n
 part_number (frame.Bound v) = Some 1
@@ -61,7 +61,7 @@ abbrev pub inside_let : ExprLayer → Env → Value → Env
 inside_let (Expr-F.Let x t a b) env v = env ++ binds x v ∷ []
 inside_let _ env v = env
 
-abbrev pub env_at : Expr → Env → Frame → Env
+abbrev pub env_at : Expr → Env → StackFrame → Env
 env_at e env (frame.Bound v) = inside_let (out-Expr e) env v
 env_at e env _ = env
 
@@ -75,23 +75,23 @@ spot_of (Some e) env = Some (record { expr = e; env = env })
 spot_of None env = None
 
 -- one frame deeper
-unfoldable pub deeper : Spot → Frame → Option Spot
+unfoldable pub deeper : Spot → StackFrame → Option Spot
 deeper at f = spot_of (part_or_self at.expr (part_number f)) (env_at at.expr at.env f)
 
 -- the expression to which frames lead
-abbrev pub expr_from : Option Expr → List Frame → Option Expr
+abbrev pub expr_from : Option Expr → List StackFrame → Option Expr
 expr_from e [] = e
 expr_from None (f ∷ fs) = None
 expr_from (Some e) (f ∷ fs) = expr_from (part_or_self e (part_number f)) fs
 
 -- the bindings that it sees
-abbrev pub env_from : Option Expr → Env → List Frame → Env
+abbrev pub env_from : Option Expr → Env → List StackFrame → Env
 env_from e env [] = env
 env_from None env (f ∷ fs) = env
 env_from (Some e) env (f ∷ fs) = env_from (part_or_self e (part_number f)) (env_at e env f) fs
 
 -- where frames lead
-abbrev pub spot_from : Option Spot → List Frame → Option Spot
+abbrev pub spot_from : Option Spot → List StackFrame → Option Spot
 spot_from (Some at) fs = spot_of (expr_from (Some at.expr) fs) (env_from (Some at.expr) at.env fs)
 spot_from None fs = None
 
@@ -100,11 +100,11 @@ abbrev pub inside_value : Name → ExprLayer → Value → Option Value → Opti
 inside_value y (Expr-F.Let x t a b) v before = if bytes_eq x y then Some v else before
 inside_value y _ v before = before
 
-abbrev pub value_at : Name → Expr → Frame → Option Value → Option Value
+abbrev pub value_at : Name → Expr → StackFrame → Option Value → Option Value
 value_at y e (frame.Bound v) before = inside_value y (out-Expr e) v before
 value_at y e _ before = before
 
-abbrev pub value_from : Name → Option Value → Option Expr → List Frame → Option Value
+abbrev pub value_from : Name → Option Value → Option Expr → List StackFrame → Option Value
 value_from y before e [] = before
 value_from y before None (f ∷ fs) = before
 value_from y before (Some e) (f ∷ fs) = value_from y (value_at y e f before) (part_or_self e (part_number f)) fs
@@ -164,7 +164,7 @@ module _ (code : Program) (seen : ℕ) where
   resumed layer env n held r = and_then r (λ v. behind layer env n held v >>= weighed)
 
   -- an open expression goes on with what its frame waits for
-  abbrev pub resume : Spot → Frame → Step Value → Step Value
+  abbrev pub resume : Spot → StackFrame → Step Value → Step Value
   resume at (frame.Part n held) r = resumed (out-Expr at.expr) at.env n held r
   resume at (frame.Last n) r = and_then r weighed
   resume at (frame.Bound v) r = and_then r weighed
@@ -173,7 +173,7 @@ module _ (code : Program) (seen : ℕ) where
   resume at frame.Chunk r = and_then r (λ v. pure value.Unit >>= weighed)
 
   -- all open expressions of a body, the innermost first
-  abbrev pub through : Option Spot → List Frame → Step Value → Step Value
+  abbrev pub through : Option Spot → List StackFrame → Step Value → Step Value
   through at [] r = r
   through None (f ∷ fs) r = r
   through (Some at) (f ∷ fs) r = resume at f (through (deeper at f) fs r)

@@ -12,10 +12,10 @@ use Rattle.plan_meaning.specs.declared.stop.Stop.TheVariants.{NoMemory}
 use Rattle.plan_meaning.specs.State.{VisitState}
 use Rattle.plan_meaning.specs.Run.{Step, stopped}
 use Rattle.plan_meaning.specs.Meaning.{Env}
-use Rattle.plan_eval.specs.declared.frame.Frame.{Frame}
-use Rattle.plan_eval.specs.declared.frame.Activation.{Activation}
-use Rattle.plan_eval.specs.declared.frame.Mode.{Mode}
-use Rattle.plan_eval.specs.declared.frame.Mode.TheVariants as mode
+use Rattle.plan_eval.specs.declared.stack_frame.StackFrame.{StackFrame}
+use Rattle.plan_eval.specs.declared.stack_frame.Activation.{Activation}
+use Rattle.plan_eval.specs.declared.stack_frame.Mode.{Mode}
+use Rattle.plan_eval.specs.declared.stack_frame.Mode.TheVariants as mode
 use Rattle.plan_eval.specs.Leads.{Leads}
 use Rattle.plan_eval.specs.Stack.{Spot, deeper, expr_from, env_from, spot_in, AreLinked, stands_for}
 
@@ -26,7 +26,7 @@ pub record IsAt (codes : List Program) (a : Activation) (code : Program) (f : Fu
   pub expression : expr_from (Some f.body) a.frames ≡ Some e
 
 -- an expression under the bindings that frames make behind a body's own
-abbrev pub spot_at : Fun → List Frame → Env → Expr → Spot
+abbrev pub spot_at : Fun → List StackFrame → Env → Expr → Spot
 spot_at f frames base e = record { expr = e; env = env_from (Some f.body) base frames }
 
 -- an activation of a function that has taken no step
@@ -34,7 +34,7 @@ abbrev pub entry : ℕ → ℕ → List Value → Activation
 entry code fun args = record { code = code; fun = fun; args = args; frames = [] }
 
 -- an activation under one more frame
-abbrev pub under : Activation → Frame → Activation
+abbrev pub under : Activation → StackFrame → Activation
 under a f = record a { frames = a.frames ++ f ∷ [] }
 
 -- an activation that is off its stack, in a program and at a spot, with the others linked
@@ -50,10 +50,10 @@ pub record IsPlaced (old : List Program) (code : Program) (at : ℕ) (new : List
   pub there : slice_get new at ≡ Some code
 
 -- a frame that can be added at a spot
-abbrev pub WaitsFor : Spot → Frame → Type 0
+abbrev pub WaitsFor : Spot → StackFrame → Type 0
 WaitsFor at f = IsSome (deeper at f)
 
--- A turn leads from one stack to the next, or the visit ends so. Of want of memory nothing is said.
+-- A turn leads from one stack to the next, or the visit ends so. Of running out of memory nothing is said.
 abbrev pub Turned : Step Value → Result Mode Stop → List Program → List Activation → VisitState → Type 0
 Turned want (Ok how) codes activations s = Leads want (stands_for codes activations how s) × AreLinked codes activations
 Turned want (Err e) codes activations s = e ≢ NoMemory → want.after ≡ stopped e s

@@ -1,25 +1,27 @@
 //! What was decided, done on the stack.
 ghost use Rattle.std.specs.Prelude.{◌≡◌, ◌≢◌, ◌+◌, ◌≤◌, ◌∷◌, ◌++◌, [], ℕ, List, IfOk, OnOk, IsTrue, Some, slice_get};
 ghost use Rattle.plan_base.specs.declared.tree.Program.{Program as Code};
-ghost use Rattle.service_api.specs.Services.{Standing};
+ghost use Rattle.service_api.specs.Services.{ServiceState};
 ghost use Rattle.plan_meaning.specs.declared.stop.Stop.TheVariants as stops;
 ghost use Rattle.plan_meaning.specs.State.{VisitState, joined};
 ghost use Rattle.plan_meaning.specs.Run.{Step, stopped, weighed};
 ghost use Rattle.plan_meaning.specs.Meaning.{entered, meaning};
-ghost use Rattle.plan_eval.specs.declared.frame.Mode.TheVariants as mode;
+ghost use Rattle.plan_eval.specs.declared.stack_frame.Mode.TheVariants as mode;
 ghost use Rattle.plan_eval.specs.declared.next.Next.TheVariants as next;
 ghost use Rattle.plan_eval.specs.Leads.{Leads};
 ghost use Rattle.plan_eval.specs.Stack.{Spot, resume, ended, all_ended};
 ghost use Rattle.plan_eval.specs.Nexts.{CanDo, Decides, Enters, IsDone, next_step};
 ghost use Rattle.plan_eval.specs.Turns.{IsPlaced, Stands, Turned, WaitsFor, entry, load, under};
 
-use crate::frame::{Activation, Activations, Codes, Frame, Mode};
 use crate::next::Next;
 use crate::place::enters;
-use plan_base::{Chunk, NoMemory, Program, Value, Values, place_of};
+use crate::stack_frame::{Activation, Activations, Codes, Mode, StackFrame};
+use plan_base::{Chunk, NoMemory, Program, Value, Values};
+use plan_equality::Same;
 use plan_items::{Items, Shared};
 use plan_meaning::Stop;
 use std::alloc::Global;
+use typing_rules::place_of;
 use visit_state::State;
 
 /// An activation under one more frame, back on the stack, and a function of that program on top of it.
@@ -27,7 +29,7 @@ fn enter(
     alloc: Global,
     outer: &mut Activations,
     top: Activation,
-    frame: Frame,
+    frame: StackFrame,
     code: usize,
     fun: usize,
     args: Values,
@@ -48,7 +50,7 @@ fn enter(
 
 /// Opens a part, or enters a `let`.
 #[tactic(auto, using(crate::proofs::Loads::load_open))]
-fn open(outer: &mut Activations, top: Activation, frame: Frame) -> Result<Mode, Stop>
+fn open(outer: &mut Activations, top: Activation, frame: StackFrame) -> Result<Mode, Stop>
     ensures turned { (codes : List Code) (code : Code) (at : Spot) (want : Step Value) (s : VisitState) → Stands codes outer.old top code at
         → Leads want (next_step code top.fun at (next.Open frame) s) → CanDo code at (next.Open frame)
         → Turned (all_ended codes outer.old (ended codes top want)) result codes outer.new s }
@@ -66,7 +68,7 @@ fn enter_here(
     alloc: Global,
     outer: &mut Activations,
     top: Activation,
-    frame: Frame,
+    frame: StackFrame,
     fun: usize,
     args: Values,
 ) -> Result<Mode, Stop>
@@ -89,7 +91,7 @@ fn weigh(
     v: Value,
     state: &mut State,
 ) -> Result<Mode, Stop>
-    ensures turned { (codes : List Code) (code : Code) (at : Spot) (want : Step Value) (n : Standing) → Stands codes outer.old top code at
+    ensures turned { (codes : List Code) (code : Code) (at : Spot) (want : Step Value) (n : ServiceState) → Stands codes outer.old top code at
         → Leads want (weighed v (joined state.old n))
         → Turned (all_ended codes outer.old (ended codes top want)) result codes outer.new (joined state.new n) }
     ensures bounded { IfOk result (λ how. load how outer.new state.new.work ≤ load mode.Run (outer.old ++ top ∷ []) state.old.work + 3) }
@@ -149,7 +151,7 @@ fn visit_chunk(
         return Err(Stop::Wrong);
     }
     let number = place_program(codes, top.code, code)?;
-    enter(alloc, outer, top, Frame::Chunk, number, fun, args)?;
+    enter(alloc, outer, top, StackFrame::Chunk, number, fun, args)?;
     Ok(Mode::Run)
 }
 
@@ -181,7 +183,7 @@ fn go_on(
     next: Next,
     state: &mut State,
 ) -> Result<Mode, Stop>
-    ensures turned { (code : Code) (at : Spot) (want : Step Value) (n : Standing) → Stands codes.old outer.old top code at
+    ensures turned { (code : Code) (at : Spot) (want : Step Value) (n : ServiceState) → Stands codes.old outer.old top code at
         → Leads want (next_step code top.fun at next (joined state.old n)) → CanDo code at next
         → Turned (all_ended codes.old outer.old (ended codes.old top want)) result codes.new outer.new (joined state.new n) }
     ensures bounded { IfOk result (λ how. load how outer.new state.new.work ≤ load mode.Run (outer.old ++ top ∷ []) state.old.work + 3) }
@@ -189,8 +191,15 @@ fn go_on(
     match next {
         Next::Give(v) => weigh(alloc, outer, top, v, state),
         Next::Open(frame) => open(outer, top, frame),
-        Next::Call(fun, args) => enter_here(alloc, outer, top, Frame::Body, fun, args),
-        Next::Step(fun, args, left) => enter_here(alloc, outer, top, Frame::Items(left), fun, args),
+        Next::Call(fun, args) => enter_here(alloc, outer, top, StackFrame::Body, fun, args),
+        Next::Step(fun, args, left) => enter_here(
+            alloc,
+            outer,
+            top,
+            StackFrame::Items(left),
+            fun,
+            args,
+        ),
         Next::Visit(chunk) => visit_chunk(alloc, codes, outer, top, chunk),
     }
 }
@@ -204,7 +213,7 @@ pub fn apply(
     decided: Result<Next, Stop>,
     state: &mut State,
 ) -> Result<Mode, Stop>
-    ensures turned { (code : Code) (at : Spot) (want : Step Value) (n : Standing) → Stands codes.old outer.old top code at
+    ensures turned { (code : Code) (at : Spot) (want : Step Value) (n : ServiceState) → Stands codes.old outer.old top code at
         → Decides code top.fun at want decided (joined state.old n) → IsDone code at decided
         → Turned (all_ended codes.old outer.old (ended codes.old top want)) result codes.new outer.new (joined state.new n) }
     ensures bounded { IfOk result (λ how. load how outer.new state.new.work ≤ load mode.Run (outer.old ++ top ∷ []) state.old.work + 3) }

@@ -3,25 +3,25 @@ ghost use Rattle.std.specs.Prelude.{◌≡◌, ◌≢◌, ◌≤◌, ℕ, List, 
 ghost use Rattle.plan_base.specs.declared.tree.Fun.{Fun as AFun};
 ghost use Rattle.plan_base.specs.declared.tree.Program.{Program as Code};
 ghost use Rattle.plan_base.specs.declared.tree.Value.{Value as AValue};
-ghost use Rattle.service_api.specs.Services.{Standing};
+ghost use Rattle.service_api.specs.Services.{ServiceState};
 ghost use Rattle.plan_meaning.specs.State.{VisitState, joined};
 ghost use Rattle.plan_meaning.specs.Run.{Step, gave, stopped, quiet, weighed};
 ghost use Rattle.plan_meaning.specs.Meaning.{Env};
 ghost use Rattle.plan_meaning.specs.Safe.{IsSafe};
 ghost use Rattle.plan_eval.specs.Stack.{Spot, deeper, resume};
-ghost use Rattle.plan_eval.specs.declared.frame.Frame.TheVariants as frame;
+ghost use Rattle.plan_eval.specs.declared.stack_frame.StackFrame.TheVariants as frame;
 ghost use Rattle.plan_meaning.specs.declared.stop.Stop.TheVariants.{Raised};
 ghost use Rattle.plan_meaning.specs.declared.stop.Stop.TheVariants as stops;
 ghost use Rattle.plan_eval.specs.Nexts.{fold_on};
 ghost use Rattle.plan_eval.specs.Direct.{spot, Flows, Bodies, Enters, Advances, Goes, Lasts, Spends, Turns, is_let, IsMore};
 
 use crate::fold::item_gave;
-use crate::frame::Frame;
 use crate::given::frame_given;
 use crate::here::Here;
 use crate::next::Next;
 use crate::raise::frame_raised;
 use crate::rest::{Flow, above, inside};
+use crate::stack_frame::StackFrame;
 use crate::turn::Turn;
 use plan_base::{Exn, Expr, Value, Values};
 use plan_meaning::Stop;
@@ -30,18 +30,18 @@ use std::alloc::Global;
 use visit_state::{State, Weighing, too_large};
 
 /// Whether a frame binds a name.
-pub fn is_bound(frame: &Frame) -> bool
+pub fn is_bound(frame: &StackFrame) -> bool
     ensures { result ≡ is_let frame.now }
 {
     match frame {
-        Frame::Bound(_) => true,
+        StackFrame::Bound(_) => true,
         _ => false,
     }
 }
 
 /// Ends with a value, which is weighed first.
 pub fn give(alloc: Global, v: Value, state: &mut State) -> Result<Turn, Stop>
-    ensures advances { (codes : List Code) (code : Code) (seen : ℕ) (at : Spot) (n : Standing)
+    ensures advances { (codes : List Code) (code : Code) (seen : ℕ) (at : Spot) (n : ServiceState)
         → Advances codes code seen at (weighed v (joined state.old n)) result (joined state.new n) }
     ensures turns { Turns state.old.work result state.new.work }
 {
@@ -53,7 +53,7 @@ pub fn give(alloc: Global, v: Value, state: &mut State) -> Result<Turn, Stop>
 
 /// The value of the whole, which is weighed first.
 pub fn ended(alloc: Global, v: Value, state: &mut State) -> Result<Flow, Stop>
-    ensures flows { (codes : List Code) (code : Code) (seen : ℕ) (at : Spot) (n : Standing)
+    ensures flows { (codes : List Code) (code : Code) (seen : ℕ) (at : Spot) (n : ServiceState)
         → Flows codes code seen at (weighed v (joined state.old n)) result (joined state.new n) }
     ensures lasts { Lasts 3 state.old.work result state.new.work }
 {
@@ -71,14 +71,14 @@ pub fn last_back(
     flow: Result<Flow, Stop>,
     state: &mut State,
 ) -> Result<Flow, Stop>
-    ensures flows { (codes : List Code) (code : Code) (seen : ℕ) (at inner : Spot) (c : Step AValue) (m : Standing) → deeper at (frame.Last n) ≡ Some inner
+    ensures flows { (codes : List Code) (code : Code) (seen : ℕ) (at inner : Spot) (c : Step AValue) (m : ServiceState) → deeper at (frame.Last n) ≡ Some inner
         → Flows codes code seen inner c flow (joined state.old m)
         → Flows codes code seen at (resume code seen at (frame.Last n) c) result (joined state.new m) }
     ensures lasts { (depth old : ℕ) → Spends depth old flow state.old.work → Lasts 3 old result state.new.work }
 {
     match flow {
         Ok(Flow::Done(v)) => ended(alloc, v, state),
-        Ok(Flow::Wait(rest)) => Ok(inside(alloc, rest, Frame::Last(n))?),
+        Ok(Flow::Wait(rest)) => Ok(inside(alloc, rest, StackFrame::Last(n))?),
         Err(stop) => Err(stop),
     }
 }
@@ -91,20 +91,20 @@ pub fn called_back(alloc: Global, flow: Result<Flow, Stop>) -> Result<Turn, Stop
 {
     match flow {
         Ok(Flow::Done(v)) => Ok(Turn::More(Next::Give(v))),
-        Ok(Flow::Wait(rest)) => Ok(Turn::End(inside(alloc, rest, Frame::Body)?)),
+        Ok(Flow::Wait(rest)) => Ok(Turn::End(inside(alloc, rest, StackFrame::Body)?)),
         Err(stop) => Err(stop),
     }
 }
 
 /// A function that a call entered came so far.
 pub fn body_back(alloc: Global, flow: Result<Flow, Stop>, state: &mut State) -> Result<Flow, Stop>
-    ensures flows { (codes : List Code) (code : Code) (seen : ℕ) (at : Spot) (c : Step AValue) (m : Standing) → Enters codes c flow (joined state.old m)
+    ensures flows { (codes : List Code) (code : Code) (seen : ℕ) (at : Spot) (c : Step AValue) (m : ServiceState) → Enters codes c flow (joined state.old m)
         → Flows codes code seen at (resume code seen at frame.Body c) result (joined state.new m) }
     ensures lasts { (old : ℕ) → Goes old flow state.old.work → Lasts 3 old result state.new.work }
 {
     match flow {
         Ok(Flow::Done(v)) => ended(alloc, v, state),
-        Ok(Flow::Wait(rest)) => Ok(inside(alloc, rest, Frame::Body)?),
+        Ok(Flow::Wait(rest)) => Ok(inside(alloc, rest, StackFrame::Body)?),
         Err(stop) => Err(stop),
     }
 }
@@ -117,7 +117,7 @@ pub fn visited_back(alloc: Global, flow: Result<Flow, Stop>) -> Result<Turn, Sto
 {
     match flow {
         Ok(Flow::Done(_)) => Ok(Turn::More(Next::Give(Value::Unit))),
-        Ok(Flow::Wait(rest)) => Ok(Turn::End(inside(alloc, rest, Frame::Chunk)?)),
+        Ok(Flow::Wait(rest)) => Ok(Turn::End(inside(alloc, rest, StackFrame::Chunk)?)),
         Err(stop) => Err(stop),
     }
 }
@@ -150,7 +150,7 @@ pub fn stepped_back(
 {
     match flow {
         Ok(Flow::Done(v)) => item_back(alloc, here, e, left, v),
-        Ok(Flow::Wait(rest)) => Ok(Turn::End(inside(alloc, rest, Frame::Items(left))?)),
+        Ok(Flow::Wait(rest)) => Ok(Turn::End(inside(alloc, rest, StackFrame::Items(left))?)),
         Err(stop) => Err(stop),
     }
 }
@@ -160,7 +160,7 @@ fn value_back<S: Services>(
     alloc: Global,
     here: &Here<'_>,
     e: &Expr,
-    frame: Frame,
+    frame: StackFrame,
     v: Value,
     state: &mut State,
     svc: &mut S,
@@ -182,7 +182,7 @@ fn value_back<S: Services>(
 }
 
 /// A part raised an exception.
-fn exception_back(e: &Expr, frame: &Frame, x: Exn) -> Result<Turn, Stop>
+fn exception_back(e: &Expr, frame: &StackFrame, x: Exn) -> Result<Turn, Stop>
     ensures advances { (codes : List Code) (code : Code) (seen : ℕ) (env : Env) (s : VisitState)
         → Advances codes code seen (record { expr = e.now; env = env })
         (resume code seen (record { expr = e.now; env = env }) frame.now (quiet (stopped (Raised x) s))) result s }
@@ -197,7 +197,7 @@ fn exception_back(e: &Expr, frame: &Frame, x: Exn) -> Result<Turn, Stop>
 /// A part ended without a value.
 #[tactic(auto, using(crate::proofs::Ending::resume_final))]
 #[inline(never)]
-fn stop_back(e: &Expr, frame: &Frame, stop: Stop) -> Result<Turn, Stop>
+fn stop_back(e: &Expr, frame: &StackFrame, stop: Stop) -> Result<Turn, Stop>
     ensures advances { (codes : List Code) (code : Code) (seen : ℕ) (env : Env) (c : Step AValue) (s : VisitState)
         → (stop ≢ stops.NoMemory → c.after ≡ stopped stop s)
         → Advances codes code seen (record { expr = e.now; env = env }) (resume code seen (record { expr = e.now; env = env }) frame.now c) result s }
@@ -217,7 +217,7 @@ pub fn part_back<S: Services>(
     alloc: Global,
     here: &Here<'_>,
     e: &Expr,
-    frame: Frame,
+    frame: StackFrame,
     flow: Result<Flow, Stop>,
     state: &mut State,
     svc: &mut S,

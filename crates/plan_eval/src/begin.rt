@@ -5,20 +5,21 @@ ghost use Rattle.plan_meaning.specs.State.{VisitState, joined};
 ghost use Rattle.plan_meaning.specs.Meaning.{bound, value_of};
 ghost use Rattle.plan_meaning.specs.Safe.{IsSafe};
 ghost use Rattle.plan_base.specs.declared.tree.Program.{Program as AProgram};
-ghost use Rattle.service_api.specs.Services.{Standing};
+ghost use Rattle.service_api.specs.Services.{ServiceState};
 ghost use Rattle.plan_eval.specs.Direct.{spot, env_of, Flows, IsNumber, Lasts};
 ghost use Rattle.plan_eval.specs.Nexts.{Decides, Starts, begins};
 
 use crate::back::ended;
 use crate::call::called;
-use crate::frame::Frame;
 use crate::here::Here;
 use crate::kind::{Kind, kind_of};
 use crate::next::Next;
 use crate::place::argument_of;
 use crate::rest::Flow;
+use crate::stack_frame::StackFrame;
 use crate::walk::value_from;
 use plan_base::{Chunk, Exn, Expr, Name, Program, Value};
+use plan_copies::Copied;
 use plan_items::{Boxed, Items, Shared};
 use plan_meaning::Stop;
 use service_api::Services;
@@ -50,7 +51,7 @@ pub fn variable(
 ) -> Result<Flow, Stop>
     requires form { out-Expr e.now ≡ Expr-F.Var name.now }
     requires binds { IsSome (bound here.now.function.now.params here.now.args.now) }
-    ensures flows { (codes : List AProgram) (n : Standing) → Flows codes here.now.code.now here.now.fun (spot here.now e.now)
+    ensures flows { (codes : List AProgram) (n : ServiceState) → Flows codes here.now.code.now here.now.fun (spot here.now e.now)
         (begins here.now.code.now here.now.fun (spot here.now e.now) (joined state.old n)) result (joined state.new n) }
     ensures lasts { Lasts 3 state.old.work result state.new.work }
 {
@@ -70,7 +71,7 @@ pub fn number(
     state: &mut State,
 ) -> Result<Flow, Stop>
     requires form { out-Expr e.now ≡ Expr-F.Int n }
-    ensures flows { (codes : List AProgram) (m : Standing) → Flows codes here.now.code.now here.now.fun (spot here.now e.now)
+    ensures flows { (codes : List AProgram) (m : ServiceState) → Flows codes here.now.code.now here.now.fun (spot here.now e.now)
         (begins here.now.code.now here.now.fun (spot here.now e.now) (joined state.old m)) result (joined state.new m) }
     ensures lasts { Lasts 3 state.old.work result state.new.work }
 {
@@ -160,6 +161,6 @@ pub fn begin<S: Services>(
         ),
         Kind::Packs(name) => bare_chunk(alloc, here.code, name),
         Kind::Untyped => Err(Stop::Wrong),
-        Kind::Opens => Ok(Next::Open(Frame::Part(0, Items::new(alloc)))),
+        Kind::Opens => Ok(Next::Open(StackFrame::Part(0, Items::new(alloc)))),
     }
 }

@@ -6,11 +6,12 @@ ghost use Rattle.plan_eval.specs.Stack.{Spot};
 ghost use Rattle.plan_eval.specs.Nexts.{Decides, call_of};
 
 use crate::next::Next;
-use plan_base::{Name, Program, Values, prim_of, service_of};
+use plan_base::{Name, Program, Values};
 use plan_items::Shared;
 use plan_meaning::Stop;
 use service_api::Services;
 use std::alloc::Global;
+use typing_rules::{prim_of, service_of};
 use visit_state::{State, place_among, primitive, served};
 
 /// What a call does: a primitive and a declared service answer at once, and an earlier function is entered.

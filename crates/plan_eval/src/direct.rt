@@ -1,7 +1,7 @@
 //! Evaluation by recursion on the native stack, down to a depth; what is left there waits.
 ghost use Rattle.std.specs.Prelude.{◌≡◌, length, option_copied, IfOk, IsSome, Some, slice_get};
 ghost use Rattle.plan_base.specs.declared.tree.Expr.{Expr-F, out-Expr};
-ghost use Rattle.plan_eval.specs.declared.frame.Frame.TheVariants as frame;
+ghost use Rattle.plan_eval.specs.declared.stack_frame.StackFrame.TheVariants as frame;
 ghost use Rattle.plan_eval.specs.Stack.{part_or_self};
 ghost use Rattle.plan_meaning.specs.State.{joined};
 ghost use Rattle.plan_meaning.specs.Meaning.{entered, meaning, visited};
@@ -17,18 +17,19 @@ use crate::back::{
 };
 use crate::begin::{begin, leaf_number, number, variable};
 use crate::call::called;
-use crate::frame::{Codes, Frame};
 use crate::here::Here;
 use crate::next::Next;
 use crate::operand::{numbers, operands_back};
 use crate::rest::{Flow, inside, pause, pause_in};
+use crate::stack_frame::{Codes, StackFrame};
 use crate::turn::Turn;
 use crate::walk::part_or_self;
-use plan_base::{Chunk, Expr, Fun, Name, NoMemory, Op, Program, Values, place_of};
+use plan_base::{Chunk, Expr, Fun, Name, NoMemory, Op, Program, Values};
 use plan_items::{Items, Shared};
 use plan_meaning::Stop;
 use service_api::Services;
 use std::alloc::Global;
+use typing_rules::place_of;
 use visit_state::{State, as_bool};
 
 /// Evaluates an expression, down to a depth.
@@ -163,7 +164,7 @@ fn choice<S: Services>(
             Some(false) => last_part(alloc, codes, here, e, 2, b, depth, state, svc),
             None => Err(Stop::Wrong),
         },
-        Ok(Flow::Wait(rest)) => Ok(inside(alloc, rest, Frame::Part(0, Items::new(alloc)))?),
+        Ok(Flow::Wait(rest)) => Ok(inside(alloc, rest, StackFrame::Part(0, Items::new(alloc)))?),
         Err(stop) => Err(stop),
     }
 }
@@ -233,7 +234,7 @@ fn operation<S: Services>(
             let flow = evaluate(alloc, codes, here, b, depth, state, svc);
             operands_back(alloc, op, x, flow, state)
         }
-        Ok(Flow::Wait(rest)) => Ok(inside(alloc, rest, Frame::Part(0, Items::new(alloc)))?),
+        Ok(Flow::Wait(rest)) => Ok(inside(alloc, rest, StackFrame::Part(0, Items::new(alloc)))?),
         Err(stop) => Err(stop),
     }
 }
@@ -277,7 +278,11 @@ fn call<S: Services>(
     while let Some(x) = argument_at(es, args.len()) {
         match evaluate(alloc, codes, here, x, depth, state, svc) {
             Ok(Flow::Done(v)) => args.add(v)?,
-            Ok(Flow::Wait(rest)) => return Ok(inside(alloc, rest, Frame::Part(args.len(), args))?),
+            Ok(Flow::Wait(rest)) => return Ok(inside(
+                alloc,
+                rest,
+                StackFrame::Part(args.len(), args),
+            )?),
             Err(stop) => return Err(stop),
         }
     }
@@ -431,7 +436,7 @@ fn opened<S: Services>(
     codes: &mut Codes,
     here: &Here<'_>,
     e: &Expr,
-    frame: Frame,
+    frame: StackFrame,
     depth: u64,
     state: &mut State,
     svc: &mut S,

@@ -7,8 +7,8 @@ ghost use Rattle.plan_meaning.specs.Safe.{IsSafe};
 ghost use Rattle.plan_eval.specs.Nexts.{Continues, call_of};
 
 use crate::call::called;
-use crate::frame::Frame;
 use crate::next::Next;
+use crate::stack_frame::StackFrame;
 use plan_base::{Chunk, Expr, Exprs, Name, Program, Value, Values};
 use plan_items::{Boxed, Shared};
 use plan_meaning::Stop;
@@ -36,7 +36,7 @@ pub fn tuple_part(es: &Exprs, n: usize, held: Values, v: Value) -> Result<Next, 
     let mut parts = held;
     parts.add(v)?;
     match part_behind(es.as_slice(), n) {
-        Some(next) => Ok(Next::Open(Frame::Part(next, parts))),
+        Some(next) => Ok(Next::Open(StackFrame::Part(next, parts))),
         None => Ok(Next::Give(Value::Tuple(parts))),
     }
 }
@@ -58,7 +58,7 @@ pub fn chunk_part(
     let mut args = held;
     args.add(v)?;
     if let Some(next) = part_behind(es.as_slice(), n) {
-        return Ok(Next::Open(Frame::Part(next, args)));
+        return Ok(Next::Open(StackFrame::Part(next, args)));
     }
     let chunk = Chunk {
         code: code.share()?,
@@ -93,7 +93,7 @@ pub fn call_part<S: Services>(
     let mut args = held;
     args.add(v)?;
     if let Some(next) = part_behind(es.as_slice(), n) {
-        return Ok(Next::Open(Frame::Part(next, args)));
+        return Ok(Next::Open(StackFrame::Part(next, args)));
     }
     called(alloc, code, seen, f, args, state, svc)
 }

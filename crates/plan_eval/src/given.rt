@@ -9,13 +9,13 @@ ghost use Rattle.plan_eval.specs.Stack.{Spot, resume, spot_in};
 ghost use Rattle.plan_eval.specs.Nexts.{Decides, IsDone, part_gave};
 
 use crate::fold::{item_gave, left_part, right_part};
-use crate::frame::{Activation, Codes, Frame};
 use crate::gather::{call_part, chunk_part, tuple_part};
 use crate::next::Next;
 use crate::operand::{operand, selected};
 use crate::place::{can_do, place_in};
 use crate::pure::{both, choose, either, turn};
 use crate::send::{evaluated, neighbour_part, remote_part};
+use crate::stack_frame::{Activation, Codes, StackFrame};
 use plan_base::{Expr, Program, Value, Values};
 use plan_items::Shared;
 use plan_meaning::Stop;
@@ -50,8 +50,8 @@ fn after_part<S: Services>(
         Expr::Call(f, es) => call_part(alloc, code, seen, f, es, n, held, v, state, svc),
         Expr::ChunkOf(f, es) => chunk_part(alloc, code, f, es, n, held, v),
         Expr::If(_, _, _) => choose(&v),
-        Expr::Let(_, _, _, _) => Ok(Next::Open(Frame::Bound(v))),
-        Expr::Then(_, _) => Ok(Next::Open(Frame::Last(1))),
+        Expr::Let(_, _, _, _) => Ok(Next::Open(StackFrame::Bound(v))),
+        Expr::Then(_, _) => Ok(Next::Open(StackFrame::Last(1))),
         Expr::And(_, _) => both(&v),
         Expr::Or(_, _) => either(&v),
         Expr::Not(_) => turn(&v),
@@ -75,7 +75,7 @@ pub fn frame_given<S: Services>(
     code: &Shared<Program>,
     seen: usize,
     e: &Expr,
-    frame: Frame,
+    frame: StackFrame,
     v: Value,
     state: &mut State,
     svc: &mut S,
@@ -90,11 +90,11 @@ pub fn frame_given<S: Services>(
     ensures begun { (S.stands svc.new).begun ≡ (S.stands svc.old).begun }
 {
     match frame {
-        Frame::Part(n, held) => after_part(alloc, code, seen, e, n, held, v, state, svc),
-        Frame::Last(_) | Frame::Body => Ok(Next::Give(v)),
-        Frame::Bound(_) => Ok(Next::Give(v)),
-        Frame::Items(left) => item_gave(alloc, code, seen, e, v, left),
-        Frame::Chunk => Ok(Next::Give(Value::Unit)),
+        StackFrame::Part(n, held) => after_part(alloc, code, seen, e, n, held, v, state, svc),
+        StackFrame::Last(_) | StackFrame::Body => Ok(Next::Give(v)),
+        StackFrame::Bound(_) => Ok(Next::Give(v)),
+        StackFrame::Items(left) => item_gave(alloc, code, seen, e, v, left),
+        StackFrame::Chunk => Ok(Next::Give(Value::Unit)),
     }
 }
 
@@ -104,7 +104,7 @@ pub fn give_top<S: Services>(
     alloc: Global,
     codes: &Codes,
     top: &Activation,
-    frame: Frame,
+    frame: StackFrame,
     v: Value,
     state: &mut State,
     svc: &mut S,
@@ -124,18 +124,18 @@ pub fn give_top<S: Services>(
         return Err(Stop::Wrong);
     };
     match frame {
-        Frame::Part(n, held) => {
+        StackFrame::Part(n, held) => {
             let decided = after_part(
                 alloc, place.code, top.fun, place.expr, n, held, v, state, svc,
             );
             can_do(place, decided)
         }
-        Frame::Last(_) | Frame::Body => Ok(Next::Give(v)),
-        Frame::Bound(_) => Ok(Next::Give(v)),
-        Frame::Items(left) => {
+        StackFrame::Last(_) | StackFrame::Body => Ok(Next::Give(v)),
+        StackFrame::Bound(_) => Ok(Next::Give(v)),
+        StackFrame::Items(left) => {
             let decided = item_gave(alloc, place.code, top.fun, place.expr, v, left);
             can_do(place, decided)
         }
-        Frame::Chunk => Ok(Next::Give(Value::Unit)),
+        StackFrame::Chunk => Ok(Next::Give(Value::Unit)),
     }
 }

@@ -1,5 +1,5 @@
 //! Where an expression is evaluated.
-use crate::frame::Frame;
+use crate::stack_frame::StackFrame;
 use plan_base::{Fun, Program, Value};
 use plan_items::Shared;
 
@@ -17,5 +17,5 @@ pub struct Here<'a> {
     /// Its arguments.
     pub args: &'a [Value],
     /// The open expressions of the body that stand outside, the innermost last.
-    pub frames: &'a [Frame],
+    pub frames: &'a [StackFrame],
 }

@@ -5,6 +5,7 @@ ghost use Rattle.plan_base.specs.declared.tree.Expr.{Expr-F, out-Expr};
 ghost use Rattle.plan_eval.specs.Forms.{IsKind};
 
 use plan_base::{Expr, Exprs, Name, NoMemory, Ty, Value};
+use plan_copies::Copied;
 use plan_items::{Boxed, Items};
 use std::alloc::Global;
 

@@ -1,10 +1,10 @@
 //! The turns of a visit.
 ghost use Rattle.std.specs.Prelude.{◌≡◌, ◌<◌, ◌∷◌, ◌++◌, [], ℕ, List, IfOk, IsSome, Some, slice_get};
-ghost use Rattle.service_api.specs.Services.{Standing};
+ghost use Rattle.service_api.specs.Services.{ServiceState};
 ghost use Rattle.plan_meaning.specs.State.{joined};
 ghost use Rattle.plan_meaning.specs.Safe.{IsSafe};
 ghost use Rattle.visit_state.specs.Meets.{Meets};
-ghost use Rattle.plan_eval.specs.declared.frame.Mode.TheVariants as mode;
+ghost use Rattle.plan_eval.specs.declared.stack_frame.Mode.TheVariants as mode;
 ghost use Rattle.plan_base.specs.declared.tree.Program.{Program as Code};
 ghost use Rattle.plan_base.specs.declared.tree.Value.{Value as AValue};
 ghost use Rattle.plan_meaning.specs.State.{VisitState};
@@ -16,11 +16,11 @@ ghost use Rattle.plan_eval.specs.Turns.{Stands, Turned, load};
 
 use crate::apply::apply;
 use crate::direct::evaluate;
-use crate::frame::{Activation, Activations, Codes, Mode};
 use crate::given::give_top;
 use crate::here::Here;
 use crate::raise::raise_top;
 use crate::rest::{Flow, stacked};
+use crate::stack_frame::{Activation, Activations, Codes, Mode};
 use crate::walk::expr_from;
 use plan_base::{Exn, Value};
 use plan_meaning::Stop;
@@ -64,7 +64,7 @@ fn raise(
     state: &mut State,
 ) -> Result<Mode, Stop>
     requires linked { AreLinked codes.old (outer.old ++ top ∷ []) }
-    ensures turned { (n : Standing) → Turned (stands_for codes.old (outer.old ++ top ∷ []) (mode.Raise x) (joined state.old n)) result codes.new outer.new (joined state.new n) }
+    ensures turned { (n : ServiceState) → Turned (stands_for codes.old (outer.old ++ top ∷ []) (mode.Raise x) (joined state.old n)) result codes.new outer.new (joined state.new n) }
     ensures shrinks { IfOk result (λ how. load how outer.new state.new.work < load (mode.Raise x) (outer.old ++ top ∷ []) state.old.work) }
 {
     let mut below = top;

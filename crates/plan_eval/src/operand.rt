@@ -5,9 +5,9 @@ ghost use Rattle.plan_base.specs.declared.tree.Op.TheVariants as op;
 ghost use Rattle.plan_base.specs.declared.tree.Program.{Program};
 ghost use Rattle.plan_base.specs.declared.tree.Value.{Value};
 ghost use Rattle.plan_meaning.specs.State.{VisitState};
-ghost use Rattle.plan_eval.specs.declared.frame.Frame.TheVariants as frame;
+ghost use Rattle.plan_eval.specs.declared.stack_frame.StackFrame.TheVariants as frame;
 ghost use Rattle.plan_base.specs.declared.tree.Expr.{out-Expr};
-ghost use Rattle.service_api.specs.Services.{Standing};
+ghost use Rattle.service_api.specs.Services.{ServiceState};
 ghost use Rattle.plan_meaning.specs.State.{joined};
 ghost use Rattle.plan_meaning.specs.Run.{Step, gave, stopped, weighed};
 ghost use Rattle.plan_meaning.specs.Meaning.{Env, meaning};
@@ -19,9 +19,9 @@ ghost use Rattle.plan_eval.specs.Direct.{Flows, IsNumber, Lasts, Spends};
 ghost use Rattle.plan_eval.specs.Nexts.{Continues, begins, part_gave};
 
 use crate::back::ended;
-use crate::frame::Frame;
 use crate::next::Next;
 use crate::rest::{Flow, inside};
+use crate::stack_frame::StackFrame;
 use plan_base::{NoMemory, Op, Value, Values};
 use plan_items::Items;
 use plan_meaning::Stop;
@@ -29,12 +29,12 @@ use std::alloc::Global;
 use visit_state::{State, binary, cons, part};
 
 /// A frame for a second part, behind one value.
-pub fn behind_one(alloc: Global, n: usize, v: Value) -> Result<Frame, NoMemory>
+pub fn behind_one(alloc: Global, n: usize, v: Value) -> Result<StackFrame, NoMemory>
     ensures { IfOk result (λ f. f ≡ frame.Part n (v ∷ [])) }
 {
     let mut held = Items::new(alloc);
     held.add(v)?;
-    Ok(Frame::Part(n, held))
+    Ok(StackFrame::Part(n, held))
 }
 
 /// A list with one more item before it.
@@ -70,7 +70,7 @@ fn computed(alloc: Global, op: Op, x: Value, v: Value) -> Result<Value, Stop>
 
 /// Both operands gave values.
 fn operate(alloc: Global, op: Op, x: Value, v: Value, state: &mut State) -> Result<Flow, Stop>
-    ensures flows { (codes : List Program) (code : Program) (seen : ℕ) (e a b : Expr) (env : Env) (m : Standing) → out-Expr e ≡ Expr-F.Binary op a b
+    ensures flows { (codes : List Program) (code : Program) (seen : ℕ) (e a b : Expr) (env : Env) (m : ServiceState) → out-Expr e ≡ Expr-F.Binary op a b
         → Flows codes code seen (record { expr = e; env = env })
         (part_gave code seen (record { expr = e; env = env }) 1 (x ∷ []) v (joined state.old m)) result (joined state.new m) }
     ensures lasts { Lasts 3 state.old.work result state.new.work }
@@ -84,9 +84,9 @@ fn operate(alloc: Global, op: Op, x: Value, v: Value, state: &mut State) -> Resu
 /// Spends what an expression spends that gives a number at once, or says no.
 #[tactic(auto, using(crate::proofs::Hot::number_comes))]
 fn number_paid(state: &mut State) -> bool
-    ensures paid { IsTrue result → (code : Program) (seen : ℕ) (at : Spot) (n : ℤ) (m : Standing) → IsNumber code seen at n
+    ensures paid { IsTrue result → (code : Program) (seen : ℕ) (at : Spot) (n : ℤ) (m : ServiceState) → IsNumber code seen at n
         → (meaning code seen at.env at.expr (joined state.old m)).after ≡ gave (value.Int n) (joined state.new m) }
-    ensures unpaid { IsFalse result → (code : Program) (seen : ℕ) (at : Spot) (n : ℤ) (m : Standing) → IsNumber code seen at n
+    ensures unpaid { IsFalse result → (code : Program) (seen : ℕ) (at : Spot) (n : ℤ) (m : ServiceState) → IsNumber code seen at n
         → (meaning code seen at.env at.expr (joined state.old m)).after ≡ stopped stops.WorkSpent (joined state.new m) }
     ensures falls { state.new.work ≤ state.old.work }
 {
@@ -101,7 +101,7 @@ fn number_paid(state: &mut State) -> bool
 
 /// Both operands are numbers that are at hand.
 pub fn numbers(alloc: Global, op: Op, x: i64, y: i64, state: &mut State) -> Result<Flow, Stop>
-    ensures flows { (codes : List Program) (code : Program) (seen : ℕ) (e a b : Expr) (env : Env) (m : Standing) → out-Expr e ≡ Expr-F.Binary op a b
+    ensures flows { (codes : List Program) (code : Program) (seen : ℕ) (e a b : Expr) (env : Env) (m : ServiceState) → out-Expr e ≡ Expr-F.Binary op a b
         → IsNumber code seen (record { expr = a; env = env }) x → IsNumber code seen (record { expr = b; env = env }) y
         → Flows codes code seen (record { expr = e; env = env }) (begins code seen (record { expr = e; env = env }) (joined state.old m)) result (joined state.new m) }
     ensures lasts { Lasts 3 state.old.work result state.new.work }
@@ -123,7 +123,7 @@ pub fn operands_back(
     flow: Result<Flow, Stop>,
     state: &mut State,
 ) -> Result<Flow, Stop>
-    ensures flows { (codes : List Program) (code : Program) (seen : ℕ) (e a b : Expr) (env : Env) (inner : Spot) (c : Step Value) (m : Standing) → out-Expr e ≡ Expr-F.Binary op a b
+    ensures flows { (codes : List Program) (code : Program) (seen : ℕ) (e a b : Expr) (env : Env) (inner : Spot) (c : Step Value) (m : ServiceState) → out-Expr e ≡ Expr-F.Binary op a b
         → deeper (record { expr = e; env = env }) (frame.Part 1 (x ∷ [])) ≡ Some inner
         → Flows codes code seen inner c flow (joined state.old m)
         → Flows codes code seen (record { expr = e; env = env }) (resume code seen (record { expr = e; env = env }) (frame.Part 1 (x ∷ [])) c) result (joined state.new m) }

@@ -8,8 +8,8 @@ ghost use Rattle.plan_meaning.specs.Run.{Step, stopped};
 ghost use Rattle.plan_meaning.specs.Meaning.{Env, entered, meaning};
 ghost use Rattle.plan_eval.specs.Nexts.{Decides, Enters, IsDone};
 
-use crate::frame::{Activation, Codes};
 use crate::next::Next;
+use crate::stack_frame::{Activation, Codes};
 use crate::walk::{expr_from, part_or_self, same_name};
 use plan_base::{Expr, Fun, Name, Param, Program, Value, Values};
 use plan_items::Shared;

@@ -6,8 +6,8 @@ ghost use Rattle.plan_base.specs.declared.tree.Value.{Value};
 ghost use Rattle.plan_meaning.specs.State.{VisitState};
 ghost use Rattle.plan_eval.specs.Nexts.{Continues};
 
-use crate::frame::Frame;
 use crate::next::Next;
+use crate::stack_frame::StackFrame;
 use plan_base::Value;
 use plan_meaning::Stop;
 use visit_state::as_bool;
@@ -19,8 +19,8 @@ pub fn choose(v: &Value) -> Result<Next, Stop>
         → Continues code seen (Expr-F.If t a b) n held v.now s result s }
 {
     match as_bool(v) {
-        Some(true) => Ok(Next::Open(Frame::Last(1))),
-        Some(false) => Ok(Next::Open(Frame::Last(2))),
+        Some(true) => Ok(Next::Open(StackFrame::Last(1))),
+        Some(false) => Ok(Next::Open(StackFrame::Last(2))),
         None => Err(Stop::Wrong),
     }
 }
@@ -32,7 +32,7 @@ pub fn both(v: &Value) -> Result<Next, Stop>
         → Continues code seen (Expr-F.And a b) n held v.now s result s }
 {
     match as_bool(v) {
-        Some(true) => Ok(Next::Open(Frame::Last(1))),
+        Some(true) => Ok(Next::Open(StackFrame::Last(1))),
         Some(false) => Ok(Next::Give(Value::Bool(false))),
         None => Err(Stop::Wrong),
     }
@@ -46,7 +46,7 @@ pub fn either(v: &Value) -> Result<Next, Stop>
 {
     match as_bool(v) {
         Some(true) => Ok(Next::Give(Value::Bool(true))),
-        Some(false) => Ok(Next::Open(Frame::Last(1))),
+        Some(false) => Ok(Next::Open(StackFrame::Last(1))),
         None => Err(Stop::Wrong),
     }
 }

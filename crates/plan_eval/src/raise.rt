@@ -7,13 +7,13 @@ ghost use Rattle.plan_meaning.specs.declared.stop.Stop.TheVariants.{Raised};
 ghost use Rattle.plan_meaning.specs.State.{VisitState};
 ghost use Rattle.plan_meaning.specs.Run.{quiet, stopped};
 ghost use Rattle.plan_meaning.specs.Meaning.{Env};
-ghost use Rattle.plan_eval.specs.declared.frame.Frame.TheVariants as frame;
+ghost use Rattle.plan_eval.specs.declared.stack_frame.StackFrame.TheVariants as frame;
 ghost use Rattle.plan_eval.specs.Stack.{Spot, resume, spot_in, first_from};
 ghost use Rattle.plan_eval.specs.Nexts.{Decides, IsDone};
 
-use crate::frame::{Activation, Codes, Frame};
 use crate::next::Next;
 use crate::place::{can_do, place_in};
+use crate::stack_frame::{Activation, Codes, StackFrame};
 use plan_base::{Clause, Clauses, Exn, Expr};
 use plan_meaning::Stop;
 use visit_state::catches;
@@ -41,7 +41,7 @@ fn try_raised(clauses: &Clauses, x: Exn) -> Result<Next, Stop>
         (resume code seen (record { expr = e; env = env }) (frame.Part n held) (quiet (stopped (Raised x) s))) result s }
 {
     match body_for(clauses.as_slice(), &x) {
-        Some(number) => Ok(Next::Open(Frame::Last(number))),
+        Some(number) => Ok(Next::Open(StackFrame::Last(number))),
         None => Err(Stop::Raised(x)),
     }
 }
@@ -60,20 +60,20 @@ fn part_raised(e: &Expr, x: Exn) -> Result<Next, Stop>
 
 /// What an open expression does when what its frame waits for raised an exception.
 #[tactic(auto, using(crate::proofs::Catching::passes_frame))]
-pub fn frame_raised(e: &Expr, frame: &Frame, x: Exn) -> Result<Next, Stop>
+pub fn frame_raised(e: &Expr, frame: &StackFrame, x: Exn) -> Result<Next, Stop>
     ensures { (code : Program) (seen : ℕ) (env : Env) (s : VisitState) → Decides code seen (record { expr = e.now; env = env })
         (resume code seen (record { expr = e.now; env = env }) frame.now (quiet (stopped (Raised x) s))) result s }
 {
     match frame {
-        Frame::Part(_, _) => part_raised(e, x),
-        Frame::Last(_) | Frame::Body | Frame::Chunk => Err(Stop::Raised(x)),
-        Frame::Bound(_) | Frame::Items(_) => Err(Stop::Raised(x)),
+        StackFrame::Part(_, _) => part_raised(e, x),
+        StackFrame::Last(_) | StackFrame::Body | StackFrame::Chunk => Err(Stop::Raised(x)),
+        StackFrame::Bound(_) | StackFrame::Items(_) => Err(Stop::Raised(x)),
     }
 }
 
 /// What an activation does when an exception reaches its innermost frame, which is off it.
 #[tactic(auto, using(crate::proofs::Naming::at_place, crate::proofs::Catching::passes_frame))]
-pub fn raise_top(codes: &Codes, top: &Activation, frame: &Frame, x: Exn) -> Result<Next, Stop>
+pub fn raise_top(codes: &Codes, top: &Activation, frame: &StackFrame, x: Exn) -> Result<Next, Stop>
     ensures { (code : Program) (at : Spot) (s : VisitState) → slice_get codes.now top.now.code ≡ Some code → spot_in codes.now top.now ≡ Some at
         → Decides code top.now.fun at (resume code top.now.fun at frame.now (quiet (stopped (Raised x) s))) result s × IsDone code at result }
 {
@@ -81,11 +81,11 @@ pub fn raise_top(codes: &Codes, top: &Activation, frame: &Frame, x: Exn) -> Resu
         return Err(Stop::Wrong);
     };
     match frame {
-        Frame::Part(_, _) => {
+        StackFrame::Part(_, _) => {
             let decided = part_raised(place.expr, x);
             can_do(place, decided)
         }
-        Frame::Last(_) | Frame::Body | Frame::Chunk => Err(Stop::Raised(x)),
-        Frame::Bound(_) | Frame::Items(_) => Err(Stop::Raised(x)),
+        StackFrame::Last(_) | StackFrame::Body | StackFrame::Chunk => Err(Stop::Raised(x)),
+        StackFrame::Bound(_) | StackFrame::Items(_) => Err(Stop::Raised(x)),
     }
 }

@@ -2,7 +2,7 @@
 ghost use Rattle.std.specs.Prelude.{◌≡◌, ◌∷◌, ◌++◌, [], IfOk, reverse};
 ghost use Rattle.plan_eval.specs.declared.rest.Flow.TheVariants as flow;
 
-use crate::frame::{Activation, Activations, Frame, Frames};
+use crate::stack_frame::{Activation, Activations, StackFrame, StackFrames};
 use plan_base::{NoMemory, Value, Values};
 use plan_items::{Boxed, Items};
 use std::alloc::Global;
@@ -11,7 +11,7 @@ use std::alloc::Global;
 #[derive(Drop)]
 pub struct Rest {
     /// The open expressions of the body.
-    pub frames: Frames,
+    pub frames: StackFrames,
     /// The activations above it.
     pub activations: Activations,
 }
@@ -41,7 +41,7 @@ pub fn pause(alloc: Global) -> Result<Flow, NoMemory>
 /// An expression that stops before its one open part begins.
 #[cold]
 #[inline(never)]
-pub fn pause_in(alloc: Global, frame: Frame) -> Result<Flow, NoMemory>
+pub fn pause_in(alloc: Global, frame: StackFrame) -> Result<Flow, NoMemory>
     ensures { IfOk result (λ f. f ≡ flow.Wait (record { frames = frame ∷ []; activations = [] })) }
 {
     let mut frames = Items::new(alloc);
@@ -56,7 +56,7 @@ pub fn pause_in(alloc: Global, frame: Frame) -> Result<Flow, NoMemory>
 /// The same inside one more open expression.
 #[cold]
 #[inline(never)]
-pub fn inside(alloc: Global, rest: Boxed<Rest>, frame: Frame) -> Result<Flow, NoMemory>
+pub fn inside(alloc: Global, rest: Boxed<Rest>, frame: StackFrame) -> Result<Flow, NoMemory>
     ensures { IfOk result (λ f. f ≡ flow.Wait (record { frames = rest.frames ++ frame ∷ []; activations = rest.activations })) }
 {
     let Rest {
@@ -73,7 +73,7 @@ pub fn inside(alloc: Global, rest: Boxed<Rest>, frame: Frame) -> Result<Flow, No
 }
 
 /// Frames from the last one.
-fn last_first(frames: Frames) -> Frames
+fn last_first(frames: StackFrames) -> StackFrames
     ensures { result ≡ reverse frames }
 {
     let mut all = frames.into_vec();

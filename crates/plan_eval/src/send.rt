@@ -3,15 +3,15 @@ ghost use Rattle.std.specs.Prelude.{◌≡◌, ◌≤◌, ◌<◌, ◌∷◌, �
 ghost use Rattle.plan_base.specs.declared.tree.Expr.{Expr, Expr-F};
 ghost use Rattle.plan_base.specs.declared.tree.Program.{Program};
 ghost use Rattle.plan_base.specs.declared.tree.Value.{Value};
-ghost use Rattle.service_api.specs.Services.{Standing};
+ghost use Rattle.service_api.specs.Services.{ServiceState};
 ghost use Rattle.plan_meaning.specs.State.{joined};
 ghost use Rattle.plan_meaning.specs.Meaning as spec;
-ghost use Rattle.plan_eval.specs.declared.frame.Frame.TheVariants as frame;
+ghost use Rattle.plan_eval.specs.declared.stack_frame.StackFrame.TheVariants as frame;
 ghost use Rattle.plan_eval.specs.Nexts.{Continues, RemoteIsSafe, NeighbourIsSafe};
 
-use crate::frame::Frame;
 use crate::next::Next;
 use crate::operand::behind_one;
+use crate::stack_frame::StackFrame;
 use plan_base::{Chunk, Name, NoMemory, Value, Values};
 use plan_meaning::Stop;
 use std::alloc::Global;
@@ -32,7 +32,7 @@ fn chunk_of(v: Value) -> Option<Chunk>
 #[tactic(auto, using(crate::proofs::Deciding::chunk_paid, crate::proofs::Sending::chunk_unpaid, crate::proofs::Sending::no_chunk))]
 #[inline(never)]
 pub fn evaluated(alloc: Global, v: Value, state: &mut State) -> Result<Next, Stop>
-    ensures decides { (code : Program) (seen : ℕ) (a : Expr) (n : ℕ) (held : List Value) (s : Standing)
+    ensures decides { (code : Program) (seen : ℕ) (a : Expr) (n : ℕ) (held : List Value) (s : ServiceState)
         → Continues code seen (Expr-F.Eval a) n held v (joined state.old s) result (joined state.new s) }
     ensures falls { state.new.work ≤ state.old.work }
 {
@@ -44,12 +44,12 @@ pub fn evaluated(alloc: Global, v: Value, state: &mut State) -> Result<Next, Sto
 }
 
 /// Values with one more, as a frame for the next part.
-fn behind_more(n: usize, held: Values, v: Value) -> Result<Frame, NoMemory>
+fn behind_more(n: usize, held: Values, v: Value) -> Result<StackFrame, NoMemory>
     ensures { IfOk result (λ f. f ≡ frame.Part n (held ++ v ∷ [])) }
 {
     let mut all = held;
     all.add(v)?;
-    Ok(Frame::Part(n, all))
+    Ok(StackFrame::Part(n, all))
 }
 
 /// Takes the first of the values that wait. Condition: there is one.
@@ -72,7 +72,7 @@ fn send_remote(
     state: &mut State,
 ) -> Result<Next, Stop>
     requires safe { RemoteIsSafe r.now c w.now v.now state.old }
-    ensures decides { (code : Program) (seen : ℕ) (a h b : Expr) (n : ℕ) (held : List Value) (s : Standing)
+    ensures decides { (code : Program) (seen : ℕ) (a h b : Expr) (n : ℕ) (held : List Value) (s : ServiceState)
         → Continues code seen (Expr-F.OnRemote a h b r.now) n (c ∷ w.now ∷ held) v.now (joined state.old s) result (joined state.new s) }
     ensures falls { state.new.work ≤ state.old.work }
 {
@@ -100,7 +100,7 @@ pub fn remote_part(
     state: &mut State,
 ) -> Result<Next, Stop>
     requires safe { (c w : Value) (more : List Value) → held ≡ c ∷ w ∷ more → RemoteIsSafe r.now c w v state.old }
-    ensures decides { (code : Program) (seen : ℕ) (a h b : Expr) (n : ℕ) (s : Standing)
+    ensures decides { (code : Program) (seen : ℕ) (a h b : Expr) (n : ℕ) (s : ServiceState)
         → Continues code seen (Expr-F.OnRemote a h b r.now) n held v (joined state.old s) result (joined state.new s) }
     ensures falls { state.new.work ≤ state.old.work }
 {
@@ -140,7 +140,7 @@ fn send_neighbour(
     state: &mut State,
 ) -> Result<Next, Stop>
     requires safe { NeighbourIsSafe c w.now u.now v.now state.old }
-    ensures decides { (code : Program) (seen : ℕ) (a h b d : Expr) (n : ℕ) (held : List Value) (s : Standing)
+    ensures decides { (code : Program) (seen : ℕ) (a h b d : Expr) (n : ℕ) (held : List Value) (s : ServiceState)
         → Continues code seen (Expr-F.OnNeighbor a h b d) n (c ∷ w.now ∷ u.now ∷ held) v.now (joined state.old s) result (joined state.new s) }
     ensures falls { state.new.work ≤ state.old.work }
 {
@@ -170,7 +170,7 @@ pub fn neighbour_part(
     state: &mut State,
 ) -> Result<Next, Stop>
     requires safe { (c w u : Value) (more : List Value) → held ≡ c ∷ w ∷ u ∷ more → NeighbourIsSafe c w u v state.old }
-    ensures decides { (code : Program) (seen : ℕ) (a h b d : Expr) (n : ℕ) (s : Standing)
+    ensures decides { (code : Program) (seen : ℕ) (a h b d : Expr) (n : ℕ) (s : ServiceState)
         → Continues code seen (Expr-F.OnNeighbor a h b d) n held v (joined state.old s) result (joined state.new s) }
     ensures falls { state.new.work ≤ state.old.work }
 {

@@ -1,7 +1,7 @@
 //! The visit of a packet.
 ghost use Rattle.std.specs.Prelude.{◌≡◌, ◌↔◌, ◌+◌, ◌≤◌, ◌∷◌, [], length, All, IfOk, OnOk, IsSome, Some};
 ghost use Rattle.plan_base.specs.declared.tree.Fun.{Fun as AFun};
-ghost use Rattle.plan_base.specs.TypingOrder.{fun_of};
+ghost use Rattle.typing_rules.specs.TypingOrder.{fun_of};
 ghost use Rattle.service_api.specs.Services.{AreGoodRows, IsGoodChunk};
 ghost use Rattle.plan_meaning.specs.Visit.{IsVisit, IsGoodEnd, NoteHasTypes, allowance, bounds, spent};
 ghost use Rattle.plan_meaning.specs.declared.outcome.Outcome.TheVariants as outcome;
@@ -12,15 +12,17 @@ ghost use Rattle.meaning_laws.specs.Laws.{VisitEnds, VisitsAlike, NoneSuffices};
 ghost use Rattle.visit_state.specs.Meets.{Meets};
 ghost use Rattle.plan_eval.specs.Turns.{entry};
 
-use crate::frame::{Activation, Activations, Codes};
 use crate::machine::run;
 use crate::place::enters;
+use crate::stack_frame::{Activation, Activations, Codes};
 use chunk_types::CheckedPacket;
-use plan_base::{Chunk, Family, NoMemory, Value, copy_values, place_of};
+use plan_base::{Chunk, Family, NoMemory, Value};
+use plan_copies::copy_values;
 use plan_items::Items;
 use plan_meaning::{Outcome, Stop, Visit};
 use service_api::{Ctx, Services};
 use std::alloc::Global;
+use typing_rules::place_of;
 use visit_state::{ALLOWANCE, State};
 
 /// A visit that has no effect at all.

@@ -7,24 +7,24 @@ ghost use Rattle.plan_meaning.specs.Meaning.{value_of, bound};
 ghost use Rattle.plan_eval.specs.Stack as spec;
 ghost use Rattle.plan_eval.specs.Stack.{part_number, part_or_self, expr_from, value_from, value_at};
 
-use crate::frame::Frame;
 use crate::parts::part_of;
+use crate::stack_frame::StackFrame;
 use plan_base::{Expr, Name, Param, Value};
 
 /// The part that a frame evaluates, or the expression itself where that is the next activation.
-pub fn part_or_self<'a>(e: &'a Expr, frame: &Frame) -> Option<&'a Expr>
+pub fn part_or_self<'a>(e: &'a Expr, frame: &StackFrame) -> Option<&'a Expr>
     ensures { option_copied result ≡ part_or_self e.now (part_number frame.now) }
 {
     match frame {
-        Frame::Part(n, _) | Frame::Last(n) => part_of(e, *n),
-        Frame::Bound(_) => part_of(e, 1),
-        Frame::Body | Frame::Items(_) | Frame::Chunk => Some(e),
+        StackFrame::Part(n, _) | StackFrame::Last(n) => part_of(e, *n),
+        StackFrame::Bound(_) => part_of(e, 1),
+        StackFrame::Body | StackFrame::Items(_) | StackFrame::Chunk => Some(e),
     }
 }
 
 /// The expression to which frames lead from that one.
 #[tactic(auto, using(crate::proofs::Walking::nowhere))]
-pub fn expr_from<'a>(start: &'a Expr, frames: &[Frame]) -> Option<&'a Expr>
+pub fn expr_from<'a>(start: &'a Expr, frames: &[StackFrame]) -> Option<&'a Expr>
     ensures { option_copied result ≡ expr_from (Some start.now) frames.now }
 {
     let mut e = start;
@@ -51,13 +51,15 @@ pub fn same_name(a: &Name, b: &Name) -> bool
 fn value_at<'a>(
     name: &Name,
     e: &Expr,
-    frame: &'a Frame,
+    frame: &'a StackFrame,
     before: Option<&'a Value>,
 ) -> Option<&'a Value>
     ensures { option_copied result ≡ value_at name.now e.now frame.now (option_copied before.entry) }
 {
     match (frame, e) {
-        (Frame::Bound(value), Expr::Let(bound, _, _, _)) if same_name(bound, name) => Some(value),
+        (StackFrame::Bound(value), Expr::Let(bound, _, _, _)) if same_name(bound, name) => Some(
+            value,
+        ),
         _ => before,
     }
 }
@@ -68,7 +70,7 @@ pub fn value_from<'a>(
     name: &Name,
     before: Option<&'a Value>,
     start: &Expr,
-    frames: &'a [Frame],
+    frames: &'a [StackFrame],
 ) -> Option<&'a Value>
     ensures { option_copied result ≡ value_from name.now (option_copied before.entry) (Some start.now) frames.now }
 {

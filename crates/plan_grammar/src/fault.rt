@@ -6,7 +6,7 @@ use plan_lexer::{Key, Symbol};
 use std::alloc::AllocError;
 
 /// What must stand at a place.
-#[derive(Debug, Clone, Copy, PartialEq, Eq)]
+#[derive(Clone, Copy, PartialEq, Eq)]
 pub enum Wanted {
     /// A reserved word.
     Key(Key),
@@ -42,7 +42,7 @@ impl Wanted {
 }
 
 /// Why tokens are no program or no value. Each number is a place in the text, a byte number from 0.
-#[derive(Debug, Clone, Copy, PartialEq, Eq)]
+#[derive(Clone, Copy, PartialEq, Eq)]
 pub enum ParseFault {
     /// What must stand at this place and doesn't.
     Expected(Wanted, u32),

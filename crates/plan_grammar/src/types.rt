@@ -14,6 +14,7 @@ use crate::fault::{ParseFault, Wanted};
 use plan_base::{Limit, Ty, Tys};
 use plan_items::{Boxed, Items};
 use plan_lexer::{Key, Symbol, Token, TokenKind};
+use plan_sizes::Deep;
 use std::alloc::Global;
 
 /// The deepest type.

@@ -1,4 +1,4 @@
--- A token that is read is a front of the text that spells it.
+-- A token that is read is a prefix of the text that spells it.
 use Rattle.std.proofs.Common.{◌≡◌, ℕ, ◌+◌, ◌<◌, ◌≤◌, Bool, true, false, cond, List, [], ◌∷◌, ◌++◌, length, get_or, drop, take, Option, Some, None, Result, Ok, Err, pos, neg_ℤ, refl, sym, ap, ◌∙◌, subst, arith, append_assoc, length-append, IsTrue, nat_lt, ◌==◌, nat_eq}
 use Rattle.std.proofs.lemmas.Bool.Decides.{nat_tests}
 use Rattle.std.proofs.lemmas.List.{take-append-drop}
@@ -100,7 +100,7 @@ behind_sound at most text v e = behind_by at most text v (digits_len text == 0) 
 digits_front : (text : List ℕ) → 0 < digits_len text → IsDigits (take (digits_len text) text)
 digits_front text h = record { some = omega (arith, length-prefix_len is_ascii_digit text); all = all_front is_ascii_digit text }
 
--- a front of what stands behind a sign, with the sign
+-- a prefix of what stands behind a sign, with the sign
 behind_sign : (sign : ℕ) (text : List ℕ) (at n : ℕ) (k : TokenKind) → 0 < sign → get_or text 0 0 ≡ sign → n ≡ digits_len (drop 1 text)
     → Spells k (sign ∷ take (digits_len (drop 1 text)) (drop 1 text)) → IsFront text at k (at + 1 + n)
 behind_sign sign text at n k some is len spells =
@@ -261,7 +261,7 @@ some_digits [] h = absurd (false_true h)
     false_true e = cc
 some_digits (b ∷ more) h = some_front is_ascii_digit b more h
 
--- a token that is read is a front of the text that spells it
+-- a token that is read is a prefix of the text that spells it
 pub token_sound : (at : ℕ) (text : List ℕ) (k : TokenKind) (next : ℕ) → token_at at text ≡ Ok (k, next) → IsFront text at k next
 unfolding token_at
 token_sound at text k next e = by_first (k, next) (is_ascii_alphabetic (get_or text 0 0)) refl (is_ascii_digit (get_or text 0 0)) refl (get_or text 0 0 == 34) refl (get_or text 0 0 == 39) refl e

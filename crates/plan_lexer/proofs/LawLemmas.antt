@@ -17,7 +17,7 @@ use Rattle.plan_lexer.specs.declared.fault.LexFault.{LexFault}
 use Rattle.plan_lexer.specs.declared.fault.LexFault.TheVariants.{LongName, NumberTooLarge}
 use Rattle.plan_lexer.specs.declared.token.TokenKind.{TokenKind}
 
--- no longer front of the text has the form of a token
+-- no longer prefix of the text has the form of a token
 pub longest_read : (at : ℕ) (text : List ℕ) (k : TokenKind) (next : ℕ) → token_at at text ≡ Ok (k, next)
     → (longer rest : List ℕ) → text ≡ longer ++ rest → HasForm longer → at + length longer ≤ next
 longest_read at text k next e longer rest is form =

@@ -1,4 +1,4 @@
--- A reading takes every front of the text that has the form of a token.
+-- A reading takes every prefix of the text that has the form of a token.
 use Rattle.std.proofs.Common.{◌≡◌, ℕ, suc, ◌+◌, ◌<◌, ◌≤◌, Bool, true, false, cond, List, [], ◌∷◌, ◌++◌, length, get_or, take, Option, Some, None, Result, Ok, Err, pos, neg_ℤ, refl, sym, subst, arith, nat_lt, ◌==◌, inl, inr}
 use Rattle.std.proofs.lemmas.Bool.Decides.{nat_tests}
 use Rattle.std.specs.Char.{is_ascii_digit}

@@ -8,5 +8,4 @@ pub mod Tables
 pub mod WordTokens
 pub mod Scanning
 pub mod TokenForms
-pub mod PrintedForms
 pub mod TokenRules

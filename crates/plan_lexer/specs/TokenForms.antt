@@ -69,7 +69,7 @@ abbrev pub TakesAtLeast : ℕ → ℕ → Result (TokenKind × ℕ) LexFault →
 TakesAtLeast at len (Ok read) = at + len ≤ read.1
 TakesAtLeast at len (Err e) = (e ≡ LongName at) ⊎ (e ≡ NumberTooLarge at)
 
--- the token of a text at a place ends here: it is a front of the text that spells this kind
+-- the token of a text at a place ends here: it is a prefix of the text that spells this kind
 pub record IsFront (text : List ℕ) (at : ℕ) (k : TokenKind) (next : ℕ) : Type 0 where
   pub front : List ℕ
   pub rest : List ℕ

@@ -4,7 +4,7 @@ ghost use Rattle.std.specs.Char.{IsScalar};
 ghost use Rattle.std.specs.Str.{IsUtf8};
 ghost use Rattle.plan_lexer.specs.Scanning.{token_at, Toks, Refuses, IsAnswered};
 ghost use Rattle.plan_lexer.specs.TokenForms.{Spells, EndsBefore, HasForm, IsFront};
-ghost use Rattle.plan_lexer.specs.PrintedForms.{int_text, host_text, dev_text, part_text, char_text, string_text, blob_text};
+ghost use Rattle.printed_forms.specs.Literals.{int_text, host_text, dev_text, part_text, char_text, string_text, blob_text};
 ghost use Rattle.plan_lexer.specs.declared.fault.LexFault.{LexFault};
 ghost use Rattle.plan_lexer.specs.declared.fault.LexFault.TheVariants as fault;
 ghost use Rattle.plan_lexer.specs.declared.token.Token.{Token};
@@ -27,7 +27,7 @@ pub fn printed_tokens()
     ensures blob { (bytes : List ℕ) → ((i : ℕ) → get_or bytes i 0 < 256) → Spells (kind.Blob bytes) (blob_text bytes) }
 {}
 
-/// A token that is read is the longest front of the text that has the form of a token, and spells its kind.
+/// A token that is read is the longest prefix of the text that has the form of a token, and spells its kind.
 ///
 /// A text that begins with the form of a token is refused only for the length of a word or the size of a number.
 pub fn longest_tokens()

@@ -8,7 +8,7 @@ use crate::text::after;
 use crate::{LexFault, Token, TokenKind, Tokens};
 use std::alloc::{AllocError, Global};
 
-/// The tokens of a text of at most 65,536 bytes, from the left, each the longest front of what is left that is one.
+/// The tokens of a text of at most 65,536 bytes, from the left, each the longest prefix of what is left that is one.
 /// The first refusal decides. Takes time linear in the text.
 pub fn lex(alloc: Global, text: &[u8]) -> Result<Tokens, LexFault>
     requires { length text.now ≤ 65536 }

@@ -1,4 +1,4 @@
-//! The tokens of program texts: each is the longest front of what is left that is a token.
+//! The tokens of program texts: each is the longest prefix of what is left that is a token.
 #![tactic(auto)]
 
 mod fault;

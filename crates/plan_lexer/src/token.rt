@@ -2,7 +2,7 @@ use plan_base::{Bytes, Name, Text};
 use plan_items::Items;
 
 /// A reserved word.
-#[derive(Debug, Clone, Copy, PartialEq, Eq)]
+#[derive(Clone, Copy, PartialEq, Eq)]
 pub enum Key {
     /// `and`
     And,
@@ -75,7 +75,7 @@ pub enum Key {
 }
 
 /// A token that is no word, number, string, char or blob.
-#[derive(Debug, Clone, Copy, PartialEq, Eq)]
+#[derive(Clone, Copy, PartialEq, Eq)]
 pub enum Symbol {
     /// `(`
     ParenOpen,
@@ -126,7 +126,7 @@ pub enum Symbol {
 }
 
 /// What a token is, with what it stands for.
-#[derive(Debug, Drop)]
+#[derive(Drop)]
 pub enum TokenKind {
     /// A word that isn't reserved.
     Word(Name),
@@ -151,7 +151,7 @@ pub enum TokenKind {
 }
 
 /// A token with its place in the text.
-#[derive(Debug, Drop)]
+#[derive(Drop)]
 pub struct Token {
     /// What it is.
     pub kind: TokenKind,

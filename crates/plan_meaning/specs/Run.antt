@@ -9,7 +9,7 @@ use Rattle.value_rules.specs.Rules.{Given, gives, raises, unfit, too_large}
 use Rattle.service_api.specs.declared.answer.Note.{Note}
 use Rattle.service_api.specs.declared.answer.Answer.{Answer}
 use Rattle.service_api.specs.declared.answer.Answer.TheVariants.{Gives, Raises}
-use Rattle.service_api.specs.Services.{Served, Standing, served, called}
+use Rattle.service_api.specs.Services.{Served, ServiceState, served, called}
 use Rattle.plan_meaning.specs.declared.stop.Stop.{Stop}
 use Rattle.plan_meaning.specs.declared.stop.Stop.TheVariants.{Raised, WorkSpent, Wrong}
 use Rattle.plan_meaning.specs.State.{VisitState}

@@ -3,7 +3,7 @@ use Rattle.std.specs.Prelude.{ℕ, List}
 use Rattle.plan_base.specs.declared.ids.Family.{Family}
 use Rattle.service_api.specs.declared.answer.Note.{Note}
 use Rattle.service_api.specs.declared.ctx.Ctx.{Ctx}
-use Rattle.service_api.specs.Services.{Standing}
+use Rattle.service_api.specs.Services.{ServiceState}
 use Rattle.plan_meaning.specs.declared.sent.Sent.{Sent}
 
 -- The surroundings with the purse, the packet's family, the work left, the evals paid, the packets sent, the notes, and
@@ -15,7 +15,7 @@ pub record VisitState : Type 0 where
   pub evals : ℕ
   pub outbox : List Sent
   pub notes : List Note
-  pub services : Standing
+  pub services : ServiceState
 
 -- the same without the services
 pub record Own : Type 0 where
@@ -26,7 +26,7 @@ pub record Own : Type 0 where
   pub outbox : List Sent
   pub notes : List Note
 
-abbrev pub joined : Own → Standing → VisitState
+abbrev pub joined : Own → ServiceState → VisitState
 joined o n = record { ctx = o.ctx; family = o.family; work = o.work; evals = o.evals; outbox = o.outbox; notes = o.notes; services = n }
 
 abbrev pub own : VisitState → Own

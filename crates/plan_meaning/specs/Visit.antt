@@ -8,7 +8,7 @@ use Rattle.service_api.specs.declared.ctx.Ctx.{Ctx}
 use Rattle.plan_base.specs.WellFormed.{ValueHasTypes}
 use Rattle.service_api.specs.declared.answer.Note.{Note}
 use Rattle.service_api.specs.declared.answer.Note.TheVariants.{Print, Port}
-use Rattle.service_api.specs.Services.{Standing, IsGoodValue}
+use Rattle.service_api.specs.Services.{ServiceState, IsGoodValue}
 use Rattle.plan_meaning.specs.declared.sent.Sent.{Sent}
 use Rattle.plan_meaning.specs.declared.stop.Stop.{Stop}
 use Rattle.plan_meaning.specs.declared.stop.Stop.TheVariants as stop
@@ -24,7 +24,7 @@ abbrev pub allowance : ℕ
 allowance = 4000000
 
 -- the state in which a visit begins, with so much work to spend
-abbrev pub begun : ℕ → Ctx → Family → Standing → VisitState
+abbrev pub begun : ℕ → Ctx → Family → ServiceState → VisitState
 begun work ctx family services = record { ctx = ctx; family = family; work = work; evals = 0; outbox = []; notes = []; services = services }
 
 -- a visit that ended in a state
@@ -37,7 +37,7 @@ spent work bound = record { outcome = outcome.WorkSpent; evals = 0; left = bound
 
 -- A visit that began with so much work and that bound ends so, and leaves the services so. After `WorkSpent` the caller
 -- takes the rows back.
-abbrev pub Ends : ℕ → ℕ → After Value → Visit → Standing → Type 0
+abbrev pub Ends : ℕ → ℕ → After Value → Visit → ServiceState → Type 0
 Ends work bound (gave v s) r new = (r ≡ ended work (outcome.Value v) s) × (new ≡ s.services)
 Ends work bound (stopped (stop.Raised x) s) r new = (r ≡ ended work (outcome.Raised x) s) × (new ≡ s.services)
 Ends work bound (stopped stop.WorkSpent s) r new = (r ≡ spent work bound) × (new ≡ s.services)
@@ -45,7 +45,7 @@ Ends work bound (stopped _ s) r new = ⊥
 
 -- The visit of a chunk in surroundings whose purse is the packet's bound: the entry's body with the arguments bound, no
 -- evals, packets or notes, and the node's rows.
-unfoldable pub IsVisit : ℕ → Chunk → Ctx → Family → Standing → Visit → Standing → Type 0
+unfoldable pub IsVisit : ℕ → Chunk → Ctx → Family → ServiceState → Visit → ServiceState → Type 0
 IsVisit work k ctx family old r new = Ends work ctx.purse (visited meaning k (begun work ctx family old)).after r new
 
 -- the bounds of packets in sum

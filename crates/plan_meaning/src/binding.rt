@@ -2,7 +2,7 @@ use plan_base::{Name, Value};
 use plan_items::Items;
 
 /// A name with the value that it is bound to.
-#[derive(Debug, Drop)]
+#[derive(Drop)]
 pub struct Binding {
     /// The name.
     pub name: Name,

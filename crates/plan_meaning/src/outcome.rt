@@ -3,7 +3,7 @@ use plan_base::{Exn, Value};
 use service_api::Notes;
 
 /// How a visit ended.
-#[derive(Debug, Drop)]
+#[derive(Drop)]
 pub enum Outcome {
     /// With a value.
     Value(Value),
@@ -14,7 +14,7 @@ pub enum Outcome {
 }
 
 /// What a visit ended with and did.
-#[derive(Debug, Drop)]
+#[derive(Drop)]
 pub struct Visit {
     /// How it ended.
     pub outcome: Outcome,

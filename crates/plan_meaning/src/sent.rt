@@ -3,7 +3,7 @@ use plan_base::Dev;
 use plan_items::Items;
 
 /// A packet that a visit sends, with the device that it leaves by.
-#[derive(Debug, Drop)]
+#[derive(Drop)]
 pub struct Sent {
     /// The device.
     pub dev: Dev,

@@ -5,7 +5,7 @@ use plan_base::{Exn, NoMemory};
 use std::alloc::AllocError;
 
 /// Why an evaluation gave no value.
-#[derive(Debug, Drop)]
+#[derive(Drop)]
 pub enum Stop {
     /// An exception.
     Raised(Exn),

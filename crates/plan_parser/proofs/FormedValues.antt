@@ -16,7 +16,7 @@ use Rattle.plan_base.specs.Sizes.{largest_by, type_depth, type_depth_level, valu
 use Rattle.plan_base.specs.WellFormed.{formed_type, formed_type_level, formed_value, formed_value_level, formed_chunk, value_has_types, typed_value_level, chunk_has_types, well_formed_value, IsWellFormedValue, ValueHasTypes}
 use Rattle.plan_base.proofs.SizeLaws.{value_depth_out, nesting_out}
 use Rattle.plan_base.proofs.FormLaws.{formed_value_out, value_has_types_out}
-use Rattle.plan_base.specs.TypingOrder.{same_type}
+use Rattle.plan_base.specs.SameTypes.{same_type}
 use Rattle.plan_lexer.specs.declared.token.Token.{Token}
 use Rattle.plan_lexer.specs.declared.token.TokenKind.{TokenKind}
 use Rattle.plan_lexer.specs.declared.token.TokenKind.TheVariants as kinds

@@ -2,6 +2,7 @@
 use Rattle.std.specs.Prelude.{◌≡◌, ℕ, List, length, Result, Ok, Err}
 use Rattle.plan_lexer.specs.Scanning.{Toks, Refuses}
 use Rattle.plan_lexer.specs.declared.token.Token.{Token}
+use Rattle.plan_lexer.specs.declared.fault.LexFault.{LexFault}
 use Rattle.plan_lexer.specs.declared.fault.LexFault.TheVariants as lexing
 use Rattle.plan_grammar.specs.declared.fault.ParseFault.{ParseFault}
 use Rattle.plan_grammar.specs.declared.fault.ParseFault.TheVariants as parsing
@@ -14,10 +15,14 @@ pub record Reads {A : Type 0} (reading : List Token → ℕ → Result A ParseFa
   pub toks : Toks 0 text tokens
   pub read : reading tokens (length text) ≡ Ok a
 
--- memory was refused
-pub data IsNoMemory : ValueFault → Type 0 where
-  in_lexing : IsNoMemory (faults.Lex lexing.NoMemory)
-  in_parsing : IsNoMemory (faults.Parse parsing.NoMemory)
+-- a fault of the tokens or of their reading as one of the text; running out of memory is the same everywhere
+abbrev pub by_tokens : LexFault → ValueFault
+by_tokens lexing.NoMemory = faults.NoMemory
+by_tokens e = faults.Lex e
+
+abbrev pub by_reading : ParseFault → ValueFault
+by_reading parsing.NoMemory = faults.NoMemory
+by_reading e = faults.Parse e
 
 -- the text has no tokens, or tokens that don't read; each for its first refusal
 pub data Fails {A : Type 0} (reading : List Token → ℕ → Result A ParseFault) (text : List ℕ) : ValueFault → Type 0 where

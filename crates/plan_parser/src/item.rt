@@ -4,6 +4,7 @@ ghost use Rattle.plan_grammar.specs.Ahead.{Gives, Answers, next_kind};
 ghost use Rattle.plan_parser.specs.Values as spec;
 
 use plan_base::{Dev, Host, Ty, Value, Values};
+use plan_copies::Copied;
 use plan_grammar::{Ahead, ParseFault, Wanted};
 use plan_items::{Boxed, Items};
 use plan_lexer::{Key, Symbol, TokenKind};

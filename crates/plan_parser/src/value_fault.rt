@@ -1,33 +1,65 @@
+use plan_base::NoMemory;
 use plan_grammar::ParseFault;
 use plan_lexer::LexFault;
+use std::alloc::AllocError;
 
 /// Why a text is no value or no arguments.
-#[derive(Debug, Clone, Copy, PartialEq, Eq)]
+#[derive(Clone, Copy, PartialEq, Eq)]
 pub enum ValueFault {
     /// It has no list of tokens.
     Lex(LexFault),
     /// Its tokens are no value.
     Parse(ParseFault),
+    /// Memory was refused.
+    NoMemory,
+}
+
+impl From<AllocError> for ValueFault {
+    ghost use Rattle.std.specs.Prelude.{◌≡◌};
+    ghost use Rattle.plan_parser.specs.declared.value_fault.ValueFault.TheVariants as faults;
+
+    ghost from_gives = { λ _ e. e ≡ faults.NoMemory };
+
+    fn from(_refused: AllocError) -> ValueFault {
+        ValueFault::NoMemory
+    }
+}
+
+impl From<NoMemory> for ValueFault {
+    ghost use Rattle.std.specs.Prelude.{◌≡◌};
+    ghost use Rattle.plan_parser.specs.declared.value_fault.ValueFault.TheVariants as faults;
+
+    ghost from_gives = { λ _ e. e ≡ faults.NoMemory };
+
+    fn from(_refused: NoMemory) -> ValueFault {
+        ValueFault::NoMemory
+    }
 }
 
 impl From<LexFault> for ValueFault {
     ghost use Rattle.std.specs.Prelude.{◌≡◌};
-    ghost use Rattle.plan_parser.specs.declared.value_fault.ValueFault.TheVariants as faults;
+    ghost use Rattle.plan_parser.specs.ReadTexts.{by_tokens};
 
-    ghost from_gives = { λ why e. e ≡ faults.Lex why };
+    ghost from_gives = { λ why e. e ≡ by_tokens why };
 
     fn from(why: LexFault) -> ValueFault {
-        ValueFault::Lex(why)
+        match why {
+            LexFault::NoMemory => ValueFault::NoMemory,
+            other => ValueFault::Lex(other),
+        }
     }
 }
 
 impl From<ParseFault> for ValueFault {
     ghost use Rattle.std.specs.Prelude.{◌≡◌};
-    ghost use Rattle.plan_parser.specs.declared.value_fault.ValueFault.TheVariants as faults;
+    ghost use Rattle.plan_parser.specs.ReadTexts.{by_reading};
 
-    ghost from_gives = { λ why e. e ≡ faults.Parse why };
+    ghost from_gives = { λ why e. e ≡ by_reading why };
 
     fn from(why: ParseFault) -> ValueFault {
-        ValueFault::Parse(why)
+        match why {
+            ParseFault::NoMemory => ValueFault::NoMemory,
+            other => ValueFault::Parse(other),
+        }
     }
 }

@@ -6,7 +6,7 @@ ghost use Rattle.plan_grammar.specs.Ahead.{Gives, Answers};
 ghost use Rattle.plan_grammar.specs.Types.{more};
 ghost use Rattle.plan_parser.specs.Values as spec;
 ghost use Rattle.plan_parser.specs.Values.{value_of, args_of};
-ghost use Rattle.plan_parser.specs.ReadTexts.{Reads, Fails, IsNoMemory};
+ghost use Rattle.plan_parser.specs.ReadTexts.{Reads, Fails};
 
 use crate::item::{Item, begins_value};
 use crate::value_fault::ValueFault;
@@ -107,8 +107,8 @@ fn args_of(alloc: Global, tokens: &[Token], end: u32) -> Result<Values, ParseFau
 pub fn parse_value(alloc: Global, text: &[u8]) -> Result<Value, ValueFault>
     requires { length text.now ≤ 65536 }
     ensures found { IfOk result (Reads value_of text.now) }
-    ensures only { (v : Value) → Reads value_of text.now v → MatchResult result (λ w. w ≡ v) IsNoMemory }
-    ensures fault { IfErr result (λ e. IsNoMemory e ⊎ Fails value_of text.now e) }
+    ensures only { (v : Value) → Reads value_of text.now v → MatchResult result (λ w. w ≡ v) (λ e. e ≡ ValueFault.NoMemory) }
+    ensures fault { IfErr result (λ e. (e ≡ ValueFault.NoMemory) ⊎ Fails value_of text.now e) }
     ensures formed { IfOk result (λ v. IsWellFormedValue v) }
     ensures full { IfOk result (λ v. ValueHasTypes v) }
 {
@@ -121,8 +121,8 @@ pub fn parse_value(alloc: Global, text: &[u8]) -> Result<Value, ValueFault>
 pub fn parse_args(alloc: Global, text: &[u8]) -> Result<Values, ValueFault>
     requires { length text.now ≤ 65536 }
     ensures found { IfOk result (Reads args_of text.now) }
-    ensures only { (vs : List Value) → Reads args_of text.now vs → MatchResult result (λ ws. ws ≡ vs) IsNoMemory }
-    ensures fault { IfErr result (λ e. IsNoMemory e ⊎ Fails args_of text.now e) }
+    ensures only { (vs : List Value) → Reads args_of text.now vs → MatchResult result (λ ws. ws ≡ vs) (λ e. e ≡ ValueFault.NoMemory) }
+    ensures fault { IfErr result (λ e. (e ≡ ValueFault.NoMemory) ⊎ Fails args_of text.now e) }
     ensures formed { IfOk result (λ vs. IsTrue (list_all well_formed_value vs)) }
     ensures full { IfOk result (λ vs. IsTrue (list_all value_has_types vs)) }
     ensures few { IfOk result (λ vs. length vs ≤ 8) }

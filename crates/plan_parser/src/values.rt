@@ -9,9 +9,11 @@ ghost use Rattle.plan_parser.specs.InsideValues.{ReadsValues};
 
 use crate::item::{Item, begins_value, list_of, literal_at, tuple_of, typed};
 use plan_base::{Limit, Ty, Value, Values};
+use plan_equality::Same;
 use plan_grammar::{Ahead, ParseFault, Wanted, opens, type_to};
 use plan_items::Items;
 use plan_lexer::Symbol;
+use plan_sizes::Deep;
 use std::alloc::Global;
 
 /// The lists and tuples that may stand inside each other.

@@ -2,12 +2,12 @@
 use Rattle.std.proofs.Common.{◌≡◌, ◌≢◌, ◌∙◌, sym, refl, subst}
 use Rattle.std.specs.Prelude.{Result, Ok, Err, IsErrAnd, MatchResult}
 use Rattle.plan_base.specs.declared.tree.Program.{Program}
-use Rattle.plan_base.specs.declared.type_fault.TypeFault.{TypeFault}
-use Rattle.plan_base.specs.declared.type_fault.TypeFault.TheVariants.{NoMemory}
+use Rattle.typing_rules.specs.declared.type_fault.TypeFault.{TypeFault}
+use Rattle.typing_rules.specs.declared.type_fault.TypeFault.TheVariants.{NoMemory}
 use Rattle.plan_base.specs.WellFormed.{IsWellFormedProgram, ProgramHasTypes}
-use Rattle.plan_base.specs.Typing.{Typed}
-use Rattle.plan_base.specs.TypingFills.{Fills}
-use Rattle.plan_base.specs.TypingOrder.{annotated}
+use Rattle.typing_rules.specs.Typing.{Typed}
+use Rattle.typing_rules.specs.TypingFills.{Fills}
+use Rattle.typing_rules.specs.TypingOrder.{annotated}
 use Rattle.plan_types.specs.Checks.{Gives}
 use Rattle.plan_types.specs.Kept.{IsChecked}
 use Rattle.plan_types.proofs.Formed.{filled_formed}

@@ -27,11 +27,11 @@ use Rattle.plan_base.specs.Sizes.{largest_by, type_depth_level, type_depth, expr
 use Rattle.plan_base.proofs.SizeLaws.{largest_by-map, type_depth_out, expr_depth_out, expr_nodes_out}
 use Rattle.plan_base.specs.WellFormed.{has_from_to, formed_type_level, formed_type, well_formed_type, well_formed_option_type, names_all_but_last, formed_expr_level, formed_expr, well_formed_expr, well_formed_svc, well_formed_fun, well_formed_program, IsWellFormedProgram}
 use Rattle.plan_base.proofs.FormLaws.{formed_type_out, formed_expr_out}
-use Rattle.plan_base.specs.Typing.{Ctx, literal_type, IsShallow}
-use Rattle.plan_base.specs.TypingNames.{service_of, place_of, binds, binding, param_types, of_list, takes, makes, part_of}
-use Rattle.plan_base.specs.TypingOrder.{items_of_layer, items_of, parts_of_layer, parts_of, want_at, fun_of, earlier}
-use Rattle.plan_base.specs.TypingFills.{Suits, Becomes, PartsBecome, ClausesBecome, FunFills, Fills}
-use Rattle.plan_base.specs.TypingFills.{Becomes as B, PartsBecome as P, ClausesBecome as C}
+use Rattle.typing_rules.specs.Typing.{Ctx, literal_type, IsShallow}
+use Rattle.typing_rules.specs.TypingNames.{service_of, place_of, binds, binding, param_types, of_list, takes, makes, part_of}
+use Rattle.typing_rules.specs.TypingOrder.{items_of_layer, items_of, parts_of_layer, parts_of, want_at, fun_of, earlier}
+use Rattle.typing_rules.specs.TypingFills.{Suits, Becomes, PartsBecome, ClausesBecome, FunFills, Fills}
+use Rattle.typing_rules.specs.TypingFills.{Becomes as B, PartsBecome as P, ClausesBecome as C}
 use Rattle.typing_laws.proofs.Layers.{and_then_some}
 
 -- ---- types

@@ -5,10 +5,10 @@ use Rattle.std.specs.declared.alloc.Global.{Global}
 use denote.Ref.{Bor, MutBor}
 use Rattle.plan_base.specs.declared.tree.Ty.{Ty}
 use Rattle.plan_base.specs.declared.tree.Expr.{Expr}
-use Rattle.plan_base.specs.declared.type_fault.TypeFault.{TypeFault}
-use Rattle.plan_base.specs.declared.type_fault.TypeFault.TheVariants.{NoMemory}
-use Rattle.plan_base.specs.Typing.{Ctx}
-use Rattle.plan_base.specs.TypingOrder.{Checking, Found, checked}
+use Rattle.typing_rules.specs.declared.type_fault.TypeFault.{TypeFault}
+use Rattle.typing_rules.specs.declared.type_fault.TypeFault.TheVariants.{NoMemory}
+use Rattle.typing_rules.specs.Typing.{Ctx}
+use Rattle.typing_rules.specs.TypingOrder.{Checking, Found, checked}
 use Rattle.plan_types.specs.declared.state.Scope.{Scope}
 use Rattle.plan_types.specs.declared.state.State.{State}
 

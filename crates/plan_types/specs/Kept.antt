@@ -1,7 +1,7 @@
 -- What a program that was checked keeps.
 use Rattle.plan_base.specs.declared.tree.Program.{Program}
 use Rattle.plan_base.specs.WellFormed.{IsWellFormedProgram, ProgramHasTypes}
-use Rattle.plan_base.specs.Typing.{Typed}
+use Rattle.typing_rules.specs.Typing.{Typed}
 
 -- it is typed and well formed, and no type is missing in it
 pub record IsChecked (code : Program) : Type 0 where

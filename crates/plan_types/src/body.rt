@@ -3,15 +3,17 @@
 ghost use Rattle.std.specs.Prelude.{◌≡◌, ℕ, Some, IfOk, option_and_then};
 ghost use Rattle.std.specs.Option.{option_copied};
 ghost use Rattle.plan_base.specs.declared.tree.Expr.{out-Expr};
-ghost use Rattle.plan_base.specs.TypingOrder as spec;
+ghost use Rattle.typing_rules.specs.TypingOrder as spec;
 ghost use Rattle.plan_types.specs.Checks.{Meets, Nests, below};
 
 use crate::checker::Checker;
 use crate::names::{binding, is_exception};
 use crate::settle::{items_of, list_of, settled, shallow};
 use crate::state::{Scope, State};
-use plan_base::{Expr, Name, NoMemory, Param, Place, Ty, TypeFault};
+use plan_base::{Expr, Name, NoMemory, Param, Place, Ty};
+use plan_copies::Copied;
 use std::alloc::Global;
+use typing_rules::TypeFault;
 
 /// An expression and a type as they stand.
 fn copies(alloc: Global, e: &Expr, ty: &Ty) -> Result<(Expr, Ty), NoMemory>
@@ -36,7 +38,7 @@ fn literal(
 }
 
 /// A name that was bound.
-#[tactic(auto, unfolding(plan_base::specs::TypingOrder::variable))]
+#[tactic(auto, unfolding(typing_rules::specs::TypingOrder::variable))]
 fn variable(
     alloc: Global,
     ctx: &[Param],
@@ -85,7 +87,7 @@ fn filled(alloc: Global, item: Ty) -> Result<(Expr, Ty), NoMemory>
 }
 
 /// An empty list.
-#[tactic(auto, unfolding(plan_base::specs::TypingOrder::empty))]
+#[tactic(auto, unfolding(typing_rules::specs::TypingOrder::empty))]
 fn empty(
     alloc: Global,
     at: u32,
@@ -116,7 +118,7 @@ fn raised(alloc: Global, name: &Name, ty: &Ty) -> Result<(Expr, Ty), NoMemory>
 }
 
 /// An exception raised.
-#[tactic(auto, unfolding(plan_base::specs::TypingOrder::raising))]
+#[tactic(auto, unfolding(typing_rules::specs::TypingOrder::raising))]
 fn raising(
     alloc: Global,
     scope: &Scope<'_>,
@@ -234,7 +236,7 @@ impl<
     }
 
     /// An expression takes the next number, and its parts the numbers after it.
-    #[tactic(auto, unfolding(plan_base::specs::TypingOrder::expression))]
+    #[tactic(auto, unfolding(typing_rules::specs::TypingOrder::expression))]
     fn expression(
         &self,
         scope: &Scope<'_>,

@@ -2,20 +2,20 @@
 
 ghost use Rattle.std.specs.Prelude.{◌≡◌, IfOk};
 ghost use Rattle.std.specs.Option.{option_copied};
-ghost use Rattle.plan_base.specs.TypingOrder as spec;
-ghost use Rattle.plan_base.specs.TypingNames as names;
+ghost use Rattle.typing_rules.specs.TypingOrder as spec;
+ghost use Rattle.typing_rules.specs.TypingNames as names;
 ghost use Rattle.plan_types.specs.Checks.{Meets, Nests, below};
 
 use crate::checker::Checker;
 use crate::names::{earlier, fun_of};
 use crate::settle::{items_of, list_of, settled};
 use crate::state::{Scope, State};
-use plan_base::{
-    Expr, Exprs, Name, NoMemory, Param, Place, Primitive, Program, Ty, TypeFault, Tys, place_of,
-    prim_of, service_of,
-};
+use plan_base::{Expr, Exprs, Name, NoMemory, Param, Place, Primitive, Program, Ty, Tys};
+use plan_copies::Copied;
+use plan_equality::Same;
 use plan_items::{Boxed, Items};
 use std::alloc::Global;
+use typing_rules::{TypeFault, place_of, prim_of, service_of};
 
 /// The types of parameters.
 fn param_types(alloc: Global, params: &[Param]) -> Result<Tys, NoMemory>
@@ -106,7 +106,7 @@ impl<
     ) -> Result<(Expr, Ty), TypeFault>,
 > Checker<F> {
     /// Arguments, each with the type that is wanted of it.
-    #[tactic(auto, unfolding(plan_base::specs::TypingOrder::arguments))]
+    #[tactic(auto, unfolding(typing_rules::specs::TypingOrder::arguments))]
     fn arguments(
         &self,
         scope: &Scope<'_>,
@@ -127,7 +127,7 @@ impl<
     }
 
     /// A call by its parameters' types and its result's.
-    #[tactic(auto, unfolding(plan_base::specs::TypingOrder::applied))]
+    #[tactic(auto, unfolding(typing_rules::specs::TypingOrder::applied))]
     fn applied(
         &self,
         scope: &Scope<'_>,
@@ -150,7 +150,7 @@ impl<
     }
 
     /// A primitive that takes one list of any type.
-    #[tactic(auto, unfolding(plan_base::specs::TypingOrder::of_items))]
+    #[tactic(auto, unfolding(typing_rules::specs::TypingOrder::of_items))]
     fn of_items(
         &self,
         scope: &Scope<'_>,
@@ -178,7 +178,7 @@ impl<
     }
 
     /// A primitive.
-    #[tactic(auto, unfolding(plan_base::specs::TypingOrder::primitive))]
+    #[tactic(auto, unfolding(typing_rules::specs::TypingOrder::primitive))]
     fn primitive(
         &self,
         scope: &Scope<'_>,
@@ -200,7 +200,7 @@ impl<
     }
 
     /// A function of the program, which must be an earlier one.
-    #[tactic(auto, unfolding(plan_base::specs::TypingOrder::function))]
+    #[tactic(auto, unfolding(typing_rules::specs::TypingOrder::function))]
     fn function(
         &self,
         scope: &Scope<'_>,
@@ -223,7 +223,7 @@ impl<
     }
 
     /// A call of a primitive, a service or a function.
-    #[tactic(auto, unfolding(plan_base::specs::TypingOrder::call))]
+    #[tactic(auto, unfolding(typing_rules::specs::TypingOrder::call))]
     pub fn call(
         &self,
         scope: &Scope<'_>,
@@ -247,7 +247,7 @@ impl<
     }
 
     /// The types of an earlier function with two parameters, and the type that it gives.
-    #[tactic(auto, unfolding(plan_base::specs::TypingOrder::folding))]
+    #[tactic(auto, unfolding(typing_rules::specs::TypingOrder::folding))]
     fn folding(
         &self,
         scope: &Scope<'_>,
@@ -288,7 +288,7 @@ impl<
     }
 
     /// `foldl`.
-    #[tactic(auto, unfolding(plan_base::specs::TypingOrder::fold_left))]
+    #[tactic(auto, unfolding(typing_rules::specs::TypingOrder::fold_left))]
     pub fn fold_left(
         &self,
         scope: &Scope<'_>,
@@ -316,7 +316,7 @@ impl<
     }
 
     /// `foldr`.
-    #[tactic(auto, unfolding(plan_base::specs::TypingOrder::fold_right))]
+    #[tactic(auto, unfolding(typing_rules::specs::TypingOrder::fold_right))]
     pub fn fold_right(
         &self,
         scope: &Scope<'_>,
@@ -344,7 +344,7 @@ impl<
     }
 
     /// A chunk literal, whose entry is any function of the program.
-    #[tactic(auto, unfolding(plan_base::specs::TypingOrder::packing))]
+    #[tactic(auto, unfolding(typing_rules::specs::TypingOrder::packing))]
     pub fn packing(
         &self,
         scope: &Scope<'_>,

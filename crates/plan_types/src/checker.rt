@@ -3,14 +3,15 @@
 
 ghost use Rattle.std.specs.Prelude.{◌≡◌, ◌++◌, ◌∷◌, [], ◌≤◌, length, Some};
 ghost use Rattle.std.specs.Option.{option_copied};
-ghost use Rattle.plan_base.specs.TypingOrder as spec;
+ghost use Rattle.typing_rules.specs.TypingOrder as spec;
 ghost use Rattle.plan_types.specs.Checks.{Meets, Nests, below};
 
 use crate::settle::want_at;
 use crate::state::{Scope, State};
-use plan_base::{Clause, Clauses, Expr, Exprs, Name, NoMemory, Ty, TypeFault, Tys};
+use plan_base::{Clause, Clauses, Expr, Exprs, Name, NoMemory, Ty, Tys};
 use plan_items::{Boxed, Items};
 use std::alloc::Global;
+use typing_rules::TypeFault;
 
 /// The function that checks expressions, and the depth to which it does.
 #[derive(Clone, Copy)]
@@ -46,7 +47,7 @@ impl<
     }
 
     /// An expression of which a type is wanted.
-    #[tactic(auto, unfolding(plan_base::specs::TypingOrder::wanting))]
+    #[tactic(auto, unfolding(typing_rules::specs::TypingOrder::wanting))]
     pub fn wanting(
         &self,
         scope: &Scope<'_>,
@@ -95,7 +96,7 @@ impl<
     }
 
     /// Parts from the left.
-    #[tactic(auto, unfolding(plan_base::specs::TypingOrder::parts_from))]
+    #[tactic(auto, unfolding(typing_rules::specs::TypingOrder::parts_from))]
     pub fn parts(
         &self,
         scope: &Scope<'_>,
@@ -119,7 +120,7 @@ impl<
     }
 
     /// Clauses from the first, each with the wanted type.
-    #[tactic(auto, unfolding(plan_base::specs::TypingOrder::clauses_from))]
+    #[tactic(auto, unfolding(typing_rules::specs::TypingOrder::clauses_from))]
     pub fn clauses(
         &self,
         scope: &Scope<'_>,

@@ -2,17 +2,19 @@
 
 ghost use Rattle.std.specs.Prelude.{◌≡◌, ◌++◌, ◌∷◌, [], IfOk};
 ghost use Rattle.std.specs.Option.{option_copied};
-ghost use Rattle.plan_base.specs.TypingNames.{binds};
-ghost use Rattle.plan_base.specs.TypingOrder as spec;
+ghost use Rattle.typing_rules.specs.TypingNames.{binds};
+ghost use Rattle.typing_rules.specs.TypingOrder as spec;
 ghost use Rattle.plan_types.specs.Checks.{Meets, Nests, below};
 
 use crate::checker::Checker;
 use crate::names::any_unknown;
 use crate::settle::{part_in, parts_of, settled, shallow};
 use crate::state::{Scope, State};
-use plan_base::{Clauses, Expr, Exprs, Name, NoMemory, Param, Place, Ty, TypeFault};
+use plan_base::{Clauses, Expr, Exprs, Name, NoMemory, Param, Place, Ty};
+use plan_copies::Copied;
 use plan_items::Boxed;
 use std::alloc::Global;
+use typing_rules::TypeFault;
 
 impl<
     F: Fn(
@@ -25,7 +27,7 @@ impl<
     ) -> Result<(Expr, Ty), TypeFault>,
 > Checker<F> {
     /// A tuple.
-    #[tactic(auto, unfolding(plan_base::specs::TypingOrder::tuple))]
+    #[tactic(auto, unfolding(typing_rules::specs::TypingOrder::tuple))]
     pub fn tuple(
         &self,
         scope: &Scope<'_>,
@@ -50,7 +52,7 @@ impl<
     }
 
     /// A part of a tuple.
-    #[tactic(auto, unfolding(plan_base::specs::TypingOrder::part))]
+    #[tactic(auto, unfolding(typing_rules::specs::TypingOrder::part))]
     pub fn part(
         &self,
         scope: &Scope<'_>,
@@ -80,7 +82,7 @@ impl<
     }
 
     /// `if`.
-    #[tactic(auto, unfolding(plan_base::specs::TypingOrder::choice))]
+    #[tactic(auto, unfolding(typing_rules::specs::TypingOrder::choice))]
     pub fn choice(
         &self,
         scope: &Scope<'_>,
@@ -101,7 +103,7 @@ impl<
     }
 
     /// A binding.
-    #[tactic(auto, unfolding(plan_base::specs::TypingOrder::binder))]
+    #[tactic(auto, unfolding(typing_rules::specs::TypingOrder::binder))]
     pub fn binder(
         &self,
         scope: &Scope<'_>,
@@ -147,7 +149,7 @@ impl<
     }
 
     /// `a; b`.
-    #[tactic(auto, unfolding(plan_base::specs::TypingOrder::sequence))]
+    #[tactic(auto, unfolding(typing_rules::specs::TypingOrder::sequence))]
     pub fn sequence(
         &self,
         scope: &Scope<'_>,
@@ -166,7 +168,7 @@ impl<
     }
 
     /// `and`.
-    #[tactic(auto, unfolding(plan_base::specs::TypingOrder::both))]
+    #[tactic(auto, unfolding(typing_rules::specs::TypingOrder::both))]
     pub fn both(
         &self,
         scope: &Scope<'_>,
@@ -193,7 +195,7 @@ impl<
     }
 
     /// `or`.
-    #[tactic(auto, unfolding(plan_base::specs::TypingOrder::either))]
+    #[tactic(auto, unfolding(typing_rules::specs::TypingOrder::either))]
     pub fn either(
         &self,
         scope: &Scope<'_>,
@@ -220,7 +222,7 @@ impl<
     }
 
     /// `not`.
-    #[tactic(auto, unfolding(plan_base::specs::TypingOrder::negation))]
+    #[tactic(auto, unfolding(typing_rules::specs::TypingOrder::negation))]
     pub fn negation(
         &self,
         scope: &Scope<'_>,
@@ -238,7 +240,7 @@ impl<
     }
 
     /// `try`.
-    #[tactic(auto, unfolding(plan_base::specs::TypingOrder::handling))]
+    #[tactic(auto, unfolding(typing_rules::specs::TypingOrder::handling))]
     pub fn handling(
         &self,
         scope: &Scope<'_>,
@@ -261,7 +263,7 @@ impl<
     }
 
     /// `eval`.
-    #[tactic(auto, unfolding(plan_base::specs::TypingOrder::evaluation))]
+    #[tactic(auto, unfolding(typing_rules::specs::TypingOrder::evaluation))]
     pub fn evaluation(
         &self,
         scope: &Scope<'_>,
@@ -286,7 +288,7 @@ impl<
     }
 
     /// `OnRemote`.
-    #[tactic(auto, unfolding(plan_base::specs::TypingOrder::remote))]
+    #[tactic(auto, unfolding(typing_rules::specs::TypingOrder::remote))]
     pub fn remote(
         &self,
         scope: &Scope<'_>,
@@ -310,7 +312,7 @@ impl<
     }
 
     /// `OnNeighbor`.
-    #[tactic(auto, unfolding(plan_base::specs::TypingOrder::neighbour))]
+    #[tactic(auto, unfolding(typing_rules::specs::TypingOrder::neighbour))]
     pub fn neighbour(
         &self,
         scope: &Scope<'_>,

@@ -2,7 +2,7 @@
 
 ghost use Rattle.std.specs.Prelude.{◌≡◌, Some};
 ghost use Rattle.plan_base.specs.declared.tree.Ty as ty;
-ghost use Rattle.plan_base.specs.Handlers as spec;
+ghost use Rattle.typing_rules.specs.Handlers as spec;
 
 use crate::names::fun_of;
 use plan_base::{Fun, Name, Param, Program, Ty};
@@ -35,7 +35,7 @@ fn handles(d: &Fun) -> bool
 }
 
 /// Whether a program has a function of that name with one parameter of type string and result unit.
-#[tactic(auto, unfolding(plan_base::specs::Handlers::is_handler))]
+#[tactic(auto, unfolding(typing_rules::specs::Handlers::is_handler))]
 pub fn is_handler(code: &Program, name: &Name) -> bool
     ensures { result ≡ spec.is_handler code.now name.now }
 {

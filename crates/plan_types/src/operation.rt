@@ -2,14 +2,15 @@
 
 ghost use Rattle.std.specs.Prelude.{◌≡◌};
 ghost use Rattle.std.specs.Option.{option_copied};
-ghost use Rattle.plan_base.specs.TypingOrder as spec;
+ghost use Rattle.typing_rules.specs.TypingOrder as spec;
 ghost use Rattle.plan_types.specs.Checks.{Meets, Nests, below};
 
 use crate::checker::Checker;
 use crate::settle::{is_joined, is_ordered, items_of, list_of, settled, shallow};
 use crate::state::{Scope, State};
-use plan_base::{Expr, Op, Place, Ty, TypeFault};
+use plan_base::{Expr, Op, Place, Ty};
 use std::alloc::Global;
+use typing_rules::TypeFault;
 
 impl<
     F: Fn(
@@ -22,7 +23,7 @@ impl<
     ) -> Result<(Expr, Ty), TypeFault>,
 > Checker<F> {
     /// Two numbers and an operator that gives a number.
-    #[tactic(auto, unfolding(plan_base::specs::TypingOrder::calculation))]
+    #[tactic(auto, unfolding(typing_rules::specs::TypingOrder::calculation))]
     fn calculation(
         &self,
         scope: &Scope<'_>,
@@ -50,7 +51,7 @@ impl<
     }
 
     /// `^`.
-    #[tactic(auto, unfolding(plan_base::specs::TypingOrder::join))]
+    #[tactic(auto, unfolding(typing_rules::specs::TypingOrder::join))]
     fn join(
         &self,
         scope: &Scope<'_>,
@@ -81,7 +82,7 @@ impl<
     }
 
     /// `=` and `<>`.
-    #[tactic(auto, unfolding(plan_base::specs::TypingOrder::comparison))]
+    #[tactic(auto, unfolding(typing_rules::specs::TypingOrder::comparison))]
     fn comparison(
         &self,
         scope: &Scope<'_>,
@@ -109,7 +110,7 @@ impl<
     }
 
     /// `<` and its like.
-    #[tactic(auto, unfolding(plan_base::specs::TypingOrder::order))]
+    #[tactic(auto, unfolding(typing_rules::specs::TypingOrder::order))]
     fn order(
         &self,
         scope: &Scope<'_>,
@@ -140,7 +141,7 @@ impl<
     }
 
     /// `::`.
-    #[tactic(auto, unfolding(plan_base::specs::TypingOrder::prefix))]
+    #[tactic(auto, unfolding(typing_rules::specs::TypingOrder::prefix))]
     fn prefix(
         &self,
         scope: &Scope<'_>,
@@ -169,7 +170,7 @@ impl<
     }
 
     /// An operator between two operands.
-    #[tactic(auto, unfolding(plan_base::specs::TypingOrder::operation))]
+    #[tactic(auto, unfolding(typing_rules::specs::TypingOrder::operation))]
     pub fn operation(
         &self,
         scope: &Scope<'_>,

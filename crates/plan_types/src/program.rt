@@ -1,20 +1,20 @@
 //! The checking of a whole program: its declarations, its bodies, and its size.
 
 ghost use Rattle.std.specs.Prelude.{◌≡◌, ◌++◌, [], Some, map, IfOk};
-ghost use Rattle.plan_base.specs.Typing.{param_names};
-ghost use Rattle.plan_base.specs.TypingNames as names;
-ghost use Rattle.plan_base.specs.TypingOrder as spec;
+ghost use Rattle.typing_rules.specs.Typing.{param_names};
+ghost use Rattle.typing_rules.specs.TypingNames as names;
+ghost use Rattle.typing_rules.specs.TypingOrder as spec;
 ghost use Rattle.plan_types.specs.Checks.{Gives};
 
 use crate::body::checked;
 use crate::names::{has_name, is_built_in};
 use crate::state::{Scope, State};
-use plan_base::{
-    Expr, Fun, Funs, Name, Names, NoMemory, Param, Params, Place, Program, Svc, Ty, TypeFault,
-    code_size, copy_names, copy_params, copy_svcs, prim_of,
-};
+use plan_base::{Expr, Fun, Funs, Name, Names, NoMemory, Param, Params, Place, Program, Svc, Ty};
+use plan_copies::{Copied, copy_names, copy_params, copy_svcs};
 use plan_items::Items;
+use plan_sizes::code_size;
 use std::alloc::Global;
+use typing_rules::{TypeFault, prim_of};
 
 /// The depth of expressions that a well-formed program keeps.
 const MAX_DEPTH: usize = 64;
@@ -29,7 +29,7 @@ fn is_prim(name: &Name) -> bool
 }
 
 /// Services, each with a new name that no primitive has; the number of the declaration after them.
-#[tactic(auto, unfolding(plan_base::specs::TypingOrder::services_from))]
+#[tactic(auto, unfolding(typing_rules::specs::TypingOrder::services_from))]
 fn services(alloc: Global, mut all: &[Svc], at: u32) -> Result<u32, TypeFault>
     ensures { Gives (spec.services_from [] all.entry.now at) result }
 {
@@ -57,7 +57,7 @@ fn is_taken(taken: &[Name], name: &Name) -> bool
 }
 
 /// Exceptions, each with a new name that no built-in one has.
-#[tactic(auto, unfolding(plan_base::specs::TypingOrder::exceptions_from))]
+#[tactic(auto, unfolding(typing_rules::specs::TypingOrder::exceptions_from))]
 fn exceptions(alloc: Global, mut all: &[Name], at: u32) -> Result<u32, TypeFault>
     ensures { Gives (spec.exceptions_from names.built_in all.entry.now at) result }
 {
@@ -102,7 +102,7 @@ fn svc_names(alloc: Global, svcs: &[Svc]) -> Result<Names, NoMemory>
 
 /// Functions, each with a new name that no primitive and no service has, and with parameters of
 /// different names.
-#[tactic(auto, unfolding(plan_base::specs::TypingOrder::functions_from))]
+#[tactic(auto, unfolding(typing_rules::specs::TypingOrder::functions_from))]
 fn functions(alloc: Global, before: Names, mut all: &[Fun], at: u32) -> Result<u32, TypeFault>
     ensures { Gives (spec.functions_from before all.entry.now at) result }
 {
@@ -123,7 +123,7 @@ fn functions(alloc: Global, before: Names, mut all: &[Fun], at: u32) -> Result<u
 }
 
 /// All declarations, in the order of the tree; their number.
-#[tactic(auto, unfolding(plan_base::specs::TypingOrder::declarations))]
+#[tactic(auto, unfolding(typing_rules::specs::TypingOrder::declarations))]
 fn declarations(alloc: Global, code: &Program) -> Result<u32, TypeFault>
     ensures { Gives (spec.declarations code.now) result }
 {
@@ -182,7 +182,7 @@ fn with_body(alloc: Global, d: &Fun, body: Expr) -> Result<Fun, NoMemory>
 }
 
 /// The functions with the types of their bodies filled in, and the number of expressions.
-#[tactic(auto, unfolding(plan_base::specs::TypingOrder::bodies_from))]
+#[tactic(auto, unfolding(typing_rules::specs::TypingOrder::bodies_from))]
 fn bodies(alloc: Global, code: &Program, mut all: &[Fun]) -> Result<(Funs, u32), TypeFault>
     ensures { Gives (spec.bodies_from code.now [] all.entry.now 0) result }
 {
@@ -198,7 +198,7 @@ fn bodies(alloc: Global, code: &Program, mut all: &[Fun]) -> Result<(Funs, u32),
 }
 
 /// The program, unless its code is too large.
-#[tactic(auto, unfolding(plan_base::specs::TypingOrder::sized))]
+#[tactic(auto, unfolding(typing_rules::specs::TypingOrder::sized))]
 fn sized(code: Program) -> Result<Program, TypeFault>
     ensures { result ≡ spec.sized code }
 {
@@ -210,7 +210,7 @@ fn sized(code: Program) -> Result<Program, TypeFault>
 }
 
 /// The program with its types filled in, or the first refusal in the order of checking.
-#[tactic(auto, unfolding(plan_base::specs::TypingOrder::annotated))]
+#[tactic(auto, unfolding(typing_rules::specs::TypingOrder::annotated))]
 pub fn annotated(alloc: Global, code: &Program) -> Result<Program, TypeFault>
     ensures { Gives (spec.annotated code.now) result }
 {

@@ -2,13 +2,17 @@
 
 ghost use Rattle.std.specs.Prelude.{◌≡◌, ◌≢◌, Some, None, Err, option_and_then, length};
 ghost use Rattle.std.specs.Option.{option_copied};
-ghost use Rattle.plan_base.specs.TypingOrder as spec;
-ghost use Rattle.plan_base.specs.TypingNames as names;
+ghost use Rattle.typing_rules.specs.TypingOrder as spec;
+ghost use Rattle.typing_rules.specs.TypingNames as names;
 ghost use Rattle.plan_types.specs.Checks.{Meets};
 
-use plan_base::{Expr, NoMemory, Place, Primitive, Ty, TypeFault, Tys};
+use plan_base::{Expr, NoMemory, Place, Primitive, Ty, Tys};
+use plan_copies::Copied;
+use plan_equality::Same;
 use plan_items::Boxed;
+use plan_sizes::Deep;
 use std::alloc::Global;
+use typing_rules::TypeFault;
 
 /// The refusal of an expression, which is let go.
 fn refused(_e: Expr, fault: TypeFault) -> Result<(Expr, Ty), TypeFault>
@@ -28,7 +32,7 @@ fn mismatch(alloc: Global, at: u32, wanted: &Ty, ty: Ty) -> TypeFault
 }
 
 /// The answer for an expression of that type, unless another type is wanted.
-#[tactic(auto, unfolding(plan_base::specs::TypingOrder::settled))]
+#[tactic(auto, unfolding(typing_rules::specs::TypingOrder::settled))]
 pub fn settled(
     alloc: Global,
     at: u32,
@@ -52,7 +56,7 @@ pub fn settled(
 }
 
 /// The same for a type that may be too deep.
-#[tactic(auto, unfolding(plan_base::specs::TypingOrder::shallow))]
+#[tactic(auto, unfolding(typing_rules::specs::TypingOrder::shallow))]
 pub fn shallow(
     alloc: Global,
     at: u32,

@@ -3,19 +3,20 @@
 ghost use Rattle.std.specs.Prelude.{◌≡◌, ◌≢◌, Ok, Err, IsTrue, is_ok, IfOk, IfErr, MatchOption, MatchResult};
 ghost use Rattle.plan_base.specs.declared.tree.Program.{Program as Code};
 ghost use Rattle.plan_base.specs.WellFormed.{IsWellFormedProgram, ProgramHasTypes};
-ghost use Rattle.plan_base.specs.Typing.{Typed};
-ghost use Rattle.plan_base.specs.TypingFills.{Fills};
-ghost use Rattle.plan_base.specs.TypingOrder.{annotated as answer};
+ghost use Rattle.typing_rules.specs.Typing.{Typed};
+ghost use Rattle.typing_rules.specs.TypingFills.{Fills};
+ghost use Rattle.typing_rules.specs.TypingOrder.{annotated as answer};
 ghost use Rattle.plan_types.specs.Kept.{IsChecked};
 
 use crate::program::annotated;
-use plan_base::{Draft, NoMemory, Program, TypeFault};
+use plan_base::{Draft, NoMemory, Program};
 use plan_items::Shared;
 use std::alloc::Global;
 use std::marker::Model;
+use typing_rules::TypeFault;
 
 /// A program that is typed, which contracts see as that program.
-#[derive(Debug, Drop)]
+#[derive(Drop)]
 pub struct Checked {
     program: Shared<Program>,
 }

@@ -5,8 +5,8 @@ use Rattle.plan_base.specs.declared.tree.Op.{Op}
 use Rattle.plan_base.specs.declared.tree.Ty.{Ty}
 use Rattle.plan_base.specs.declared.tree.Ty as ty
 use Rattle.plan_base.specs.declared.tree.Value.{Value}
-use Rattle.plan_base.specs.Typing.{HasType, HaveTypes}
-use Rattle.plan_base.specs.TypingNames.{part_of}
+use Rattle.typing_rules.specs.Typing.{HasType, HaveTypes}
+use Rattle.typing_rules.specs.TypingNames.{part_of}
 use Rattle.value_rules.specs.Rules as rules
 use Rattle.value_rules.specs.Rules.{Given}
 use Rattle.value_rules.specs.Typed.{OperatorTakes, PrimitiveTakes, Fits}

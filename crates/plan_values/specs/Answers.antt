@@ -3,12 +3,12 @@ use Rattle.std.specs.Prelude.{◌≡◌, Result, Ok, Err}
 use Rattle.plan_base.specs.declared.tree.Exn.{Exn}
 use Rattle.plan_base.specs.declared.tree.Ty.{Ty}
 use Rattle.plan_base.specs.declared.tree.Value.{Value}
-use Rattle.plan_base.specs.Typing.{HasType}
+use Rattle.typing_rules.specs.Typing.{HasType}
 use Rattle.value_rules.specs.Rules.{Given, gives, raises, unfit, limited}
 use Rattle.plan_values.specs.declared.fault.PrimFault.{PrimFault}
 use Rattle.plan_values.specs.declared.fault.PrimFault.TheVariants as fault
 
--- the value or the exception of the rules, or `Unfit` where they have neither; of want of memory nothing is said
+-- the value or the exception of the rules, or `Unfit` where they have neither; of running out of memory nothing is said
 abbrev pub Answers : Given → Result Value PrimFault → Type 0
 Answers want (Ok v) = want ≡ gives v
 Answers want (Err (fault.Raises x)) = want ≡ raises x
@@ -22,13 +22,13 @@ AnswersUnweighed want (Err (fault.Raises x)) = want ≡ raises x
 AnswersUnweighed want (Err fault.Unfit) = want ≡ unfit
 AnswersUnweighed want (Err fault.NoMemory) = Unit {0}
 
--- the exception, or want of memory
+-- the exception, or running out of memory
 abbrev pub RaisesOnly : Exn → PrimFault → Type 0
 RaisesOnly x (fault.Raises y) = y ≡ x
 RaisesOnly x fault.Unfit = ⊥
 RaisesOnly x fault.NoMemory = Unit {0}
 
--- a value of the type, an exception, or want of memory
+-- a value of the type, an exception, or running out of memory
 abbrev pub IsFit : Ty → Result Value PrimFault → Type 0
 IsFit t (Ok v) = HasType v t
 IsFit t (Err (fault.Raises x)) = Unit {0}

@@ -2,7 +2,7 @@ use plan_base::{Exn, NoMemory};
 use std::alloc::AllocError;
 
 /// Why an operator, a primitive or a part gave no value.
-#[derive(Debug, Drop)]
+#[derive(Drop)]
 pub enum PrimFault {
     /// It raises that exception.
     Raises(Exn),

@@ -6,8 +6,10 @@ ghost use Rattle.plan_values.specs.Answers.{Answers, AnswersUnweighed};
 
 use crate::PrimFault;
 use crate::raise::{bad_index, empty, too_large};
-use plan_base::{Bytes, NoMemory, Text, Ty, Value, Values, copy_values, weight};
+use plan_base::{Bytes, NoMemory, Text, Ty, Value, Values};
+use plan_copies::{Copied, copy_values};
 use plan_items::{Boxed, Items};
+use plan_sizes::weight;
 use std::alloc::{AllocError, Global};
 
 /// The value, or `TooLarge` where it weighs more than 16,384 bytes.

@@ -4,7 +4,7 @@ ghost use Rattle.plan_base.specs.declared.tree.Value.{out-Value};
 ghost use Rattle.value_rules.specs.Rules as rules;
 ghost use Rattle.value_rules.specs.Same.{same_value};
 ghost use Rattle.plan_base.specs.declared.tree.Ty.{Ty as AType};
-ghost use Rattle.plan_base.specs.Typing.{HasType};
+ghost use Rattle.typing_rules.specs.Typing.{HasType};
 ghost use Rattle.value_rules.specs.Typed.{OperatorTakes};
 ghost use Rattle.plan_values.specs.Answers.{Answers, IsFit};
 
@@ -13,6 +13,7 @@ use crate::lists::{joined, put_first};
 use crate::numbers::{difference, product, quotient, remainder, sum};
 use crate::order::before;
 use plan_base::{Op, Value};
+use plan_equality::Same;
 use std::alloc::Global;
 
 /// The value or the exception of `a op b`, or `Unfit` where the operator doesn't take such operands: never where they have

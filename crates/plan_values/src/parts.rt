@@ -5,12 +5,13 @@ ghost use Rattle.plan_base.specs.declared.tree.Value.TheOpen.{Value-F as layer};
 ghost use Rattle.value_rules.specs.Rules as rules;
 ghost use Rattle.plan_base.specs.declared.tree.Ty.{Ty as AType};
 ghost use Rattle.plan_base.specs.declared.tree.Ty as ty;
-ghost use Rattle.plan_base.specs.Typing.{HasType};
-ghost use Rattle.plan_base.specs.TypingNames.{part_of};
+ghost use Rattle.typing_rules.specs.Typing.{HasType};
+ghost use Rattle.typing_rules.specs.TypingNames.{part_of};
 ghost use Rattle.plan_values.specs.Answers.{Answers, IsFit};
 
 use crate::PrimFault;
 use plan_base::{Value, Values};
+use plan_copies::Copied;
 use std::alloc::Global;
 
 /// A copy of the part of a tuple with number `i`, from 1, or `Unfit` where `v` has no such part: never where its type has one.

@@ -4,7 +4,7 @@ ghost use Rattle.plan_base.specs.declared.tree.Value.{out-Value};
 ghost use Rattle.plan_base.specs.declared.tree.Value.TheVariants as value;
 ghost use Rattle.value_rules.specs.Rules as rules;
 ghost use Rattle.plan_base.specs.declared.tree.Ty.{Ty as AType};
-ghost use Rattle.plan_base.specs.Typing.{HaveTypes};
+ghost use Rattle.typing_rules.specs.Typing.{HaveTypes};
 ghost use Rattle.value_rules.specs.Typed.{PrimitiveTakes};
 ghost use Rattle.plan_values.specs.Answers.{Answers, IsFit};
 

@@ -4,7 +4,7 @@ use Rattle.std.proofs.Math.Seq.{take-length}
 use Rattle.network_plan.specs.declared.fleet.AskFile.{AskFile}
 use Rattle.network_plan.specs.declared.fleet.Fleet.{Fleet}
 use Rattle.network_plan.specs.declared.serve.ServeConfig.{ServeConfig}
-use Rattle.node_io.specs.Causes.{Rose}
+use Rattle.node_io.specs.Causes.{HasRisen}
 use Rattle.node_io.specs.Outsides.{Outside}
 use Rattle.node_io.specs.Sinks.{SinkState, Writes, WritesPrefix, FailsIn}
 use Rattle.node_io.proofs.SinkLaws.{prefix_none, prefix_all}
@@ -37,7 +37,7 @@ pub record Acting (o : Outcome) (Quiet : Type 0) (old new : SinkState) (c : Caus
   pub accepted : IsAccepted o
   pub done : c ≡ Done → WritesOut o old new
   pub begun : BeginsOut o old new
-  pub complete : IsWhole o → ¬ (Rose old.faults new.faults) → Quiet → (c ≡ Done) ⊎ (c ≡ NoMemory)
+  pub complete : IsWhole o → ¬ (HasRisen old.faults new.faults) → Quiet → (c ≡ Done) ⊎ (c ≡ NoMemory)
 
 -- a text that was printed
 pub printing : (text : List ℕ) (c : Cause) (Quiet : Type 0) (a b : SinkState) → Prints text c a b → Acting (whole text) Quiet a b c
@@ -60,7 +60,7 @@ printing text (NodesFailed h s) Q a b p = elim p [ ]
 
 -- a request that was sent
 asking_so : (a : AskFile) (result : Result (Unit {0}) AskFault) (old new : Wire) → Asks a old.link new.link old.out new.out result
-    → Acting (whole (ask_line a)) (¬ (Rose old.link.faults new.link.faults)) old.out new.out (ask_cause result)
+    → Acting (whole (ask_line a)) (¬ (HasRisen old.link.faults new.link.faults)) old.out new.out (ask_cause result)
 asking_so a (Ok x) old new p = record { unrefused = tt; asked = λ e. cc; accepted = tt; done = λ e. p.did.2; begun = prefix_all old.out new.out (ask_line a) p.did.2; complete = λ w f q. inl refl }
 asking_so a (Err asks.LinkFault) old new p = record {
   unrefused = tt;
@@ -87,8 +87,8 @@ asking_so a (Err asks.NoMemory) old new p = record {
   complete = λ w f q. inr refl;
 }
 
-pub asking : (a : AskFile) (c : Cause) (old new : Wire) → AsksAs a c old new → Acting (whole (ask_line a)) (¬ (Rose old.link.faults new.link.faults)) old.out new.out c
-asking a c old new p = subst (Acting (whole (ask_line a)) (¬ (Rose old.link.faults new.link.faults)) old.out new.out) (sym p.is) (asking_so a p.result old new p.asks)
+pub asking : (a : AskFile) (c : Cause) (old new : Wire) → AsksAs a c old new → Acting (whole (ask_line a)) (¬ (HasRisen old.link.faults new.link.faults)) old.out new.out c
+asking a c old new p = subst (Acting (whole (ask_line a)) (¬ (HasRisen old.link.faults new.link.faults)) old.out new.out) (sym p.is) (asking_so a p.result old new p.asks)
 
 -- what is defined apart
 apart : (Q : Type 0) (a b : SinkState) (c : Cause) → IfRefused c (λ r. ⊥) → c ≢ Usage → Acting runs Q a b c

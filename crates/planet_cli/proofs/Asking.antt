@@ -1,7 +1,7 @@
 -- The laws of `inject` and of `grow`.
 use Rattle.std.proofs.Common.{◌≡◌, ◌⊎◌, inl, inr, ℕ, IsTrue, List, Option, Some, Result, Ok, Err, refl, sym, ap, ◌∙◌, subst}
 use Rattle.network_plan.specs.declared.fleet.AskFile.{AskFile}
-use Rattle.node_io.specs.Causes.{Rose}
+use Rattle.node_io.specs.Causes.{HasRisen}
 use Rattle.node_io.specs.Outsides.{Outside}
 use Rattle.node_io.specs.Sinks.{SinkState, Writes}
 use Rattle.fleet_run.specs.Asks.{Asks, ask_line, Bound, Sent}
@@ -71,7 +71,7 @@ module _ (file : List ℕ) (cause : Cause) (old new : Outside) (n m : SinkState)
 
 -- ---- networks that grow
 
-grown_so : (seed k : ℕ) (c : Cause) (a b : SinkState) → GrowsAs seed k c a b → (c ≡ Done) ⊎ ((c ≡ NoMemory) ⊎ ((c ≡ WriteFault) × Rose a.faults b.faults))
+grown_so : (seed k : ℕ) (c : Cause) (a b : SinkState) → GrowsAs seed k c a b → (c ≡ Done) ⊎ ((c ≡ NoMemory) ⊎ ((c ≡ WriteFault) × HasRisen a.faults b.faults))
 grown_so seed k Done a b p = inl refl
 grown_so seed k NoMemory a b p = inr (inl refl)
 grown_so seed k WriteFault a b p = inr (inr (refl, p.is.rose))
@@ -83,9 +83,9 @@ grown_so seed k SpawnFault a b p = elim p [ ]
 grown_so seed k (NodesFailed h s) a b p = elim p [ ]
 
 module _ (seed k : ℕ) (cause : Cause) (old new : Outside) (n m : SinkState) (call : Calls (Some (grow seed k)) cause old new n m) where
-  -- it is done, but for want of memory and faults of writing
-  pub grow_is_whole : ¬ (Rose old.out.faults new.out.faults) → ¬ (Rose n.faults m.faults) → (cause ≡ Done) ⊎ (cause ≡ NoMemory)
-  grow_is_whole f l = well call.found cause (Rose n.faults m.faults) (given (Some (grow seed k)) cause old new n m call) l
+  -- it is done, but for `NoMemory` and faults of writing
+  pub grow_is_whole : ¬ (HasRisen old.out.faults new.out.faults) → ¬ (HasRisen n.faults m.faults) → (cause ≡ Done) ⊎ (cause ≡ NoMemory)
+  grow_is_whole f l = well call.found cause (HasRisen n.faults m.faults) (given (Some (grow seed k)) cause old new n m call) l
       (elim (grown_so seed k call.found old.out new.out call.does.1) [ inl e ↦ inl e | inr other ↦ elim other [ inl e ↦ inr e | inr w ↦ absurd (f w.1) ] ])
 
   pub grow_writes : cause ≡ Done → OfGrown seed k (Writes old.out new.out)

@@ -1,6 +1,6 @@
 -- Causes that some commands don't end with, after the note too.
 use Rattle.std.proofs.Common.{◌≡◌, ◌≢◌, ℕ, List, Option, Some, None, Result, Ok, Err, sym, ◌∙◌, ap, subst}
-use Rattle.node_io.specs.Causes.{Rose}
+use Rattle.node_io.specs.Causes.{HasRisen}
 use Rattle.node_io.specs.FileMaps.{FileMap}
 use Rattle.node_io.specs.FileStates.{FilesState}
 use Rattle.node_io.specs.Outsides.{Outside}
@@ -160,10 +160,10 @@ none_failed (NodesFailed h s) u = u
 
 module _ (q : Option Request) (cause : Cause) (old new : Outside) (n m : SinkState) (call : Calls q cause old new n m) where
   link_so : Unlinked call.found → Unlinked cause
-  link_so h = carried call.found cause (Rose n.faults m.faults) (given q cause old new n m call) Unlinked tt tt h
+  link_so h = carried call.found cause (HasRisen n.faults m.faults) (given q cause old new n m call) Unlinked tt tt h
 
   start_so : Unstarted call.found → Unstarted cause
-  start_so h = carried call.found cause (Rose n.faults m.faults) (given q cause old new n m call) Unstarted tt tt h
+  start_so h = carried call.found cause (HasRisen n.faults m.faults) (given q cause old new n m call) Unstarted tt tt h
 
   pub unlinked : UnlessLinked q (cause ≢ LinkFault)
   unlinked = unless_linked q (Unlinked call.found) (cause ≢ LinkFault) (λ h e. subst Unlinked e (link_so h)) (kinds call.found old new q call.does).0

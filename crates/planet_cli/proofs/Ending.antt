@@ -1,6 +1,6 @@
 -- How each command ends, by what its file makes of the call.
 use Rattle.std.proofs.Common.{◌≡◌, ◌≢◌, ◌⊎◌, inl, inr, ℕ, IsTrue, List, Option, Some, None, refl, sym, ap, ◌∙◌, subst}
-use Rattle.node_io.specs.Causes.{Rose}
+use Rattle.node_io.specs.Causes.{HasRisen}
 use Rattle.node_io.specs.FileMaps.{FileMap}
 use Rattle.node_io.specs.FileStates.{FilesState}
 use Rattle.node_io.specs.Outsides.{Outside}
@@ -37,7 +37,7 @@ pub record Ending (o : Outcome) (seen poor Quiet : Type 0) (old new : SinkState)
   pub accepted : seen → c ≡ Done → IsAccepted o
   pub done : seen → c ≡ Done → WritesOut o old new
   pub begun : seen → BeginsOut o old new
-  pub complete : seen → IsWhole o → ¬ poor → ¬ (Rose old.faults new.faults) → Quiet → (c ≡ Done) ⊎ (c ≡ NoMemory)
+  pub complete : seen → IsWhole o → ¬ poor → ¬ (HasRisen old.faults new.faults) → Quiet → (c ≡ Done) ⊎ (c ≡ NoMemory)
 
 -- nothing was written
 pub none_begun : (o : Outcome) (s : SinkState) → BeginsOut o s s
@@ -55,7 +55,7 @@ module _ {A : Type 0} (made : A → Outcome) (never : (v : A) (r : Refusal) → 
 
   module _ (said : FileMap → Said A) (files read : FilesState) (Quiet : Type 0) (old new : SinkState) where
     acted : (v : A) (c : Cause) → (IsTrue files.observable → said files.held ≡ says v) → Acting (made v) Quiet old new c
-        → Ending (outcome_by made (said files.held)) (IsTrue files.observable) (Rose files.read_faults read.read_faults) Quiet old new c
+        → Ending (outcome_by made (said files.held)) (IsTrue files.observable) (HasRisen files.read_faults read.read_faults) Quiet old new c
     acted v c own a = record {
       usage = λ e. absurd (a.asked e);
       refusal = none c a.unrefused;
@@ -81,7 +81,7 @@ module _ {A : Type 0} (made : A → Outcome) (never : (v : A) (r : Refusal) → 
         none (NodesFailed host s) h = tt
 
     untaken : (c : Cause) → Untaken said files read c → new ≡ old
-        → Ending (outcome_by made (said files.held)) (IsTrue files.observable) (Rose files.read_faults read.read_faults) Quiet old new c
+        → Ending (outcome_by made (said files.held)) (IsTrue files.observable) (HasRisen files.read_faults read.read_faults) Quiet old new c
     untaken (Refused r) u same = record {
       usage = λ e. absurd (cc);
       refusal = (u.0, (λ seen. ap (outcome_by made) (u.1 seen), same));
@@ -120,8 +120,8 @@ module _ {A : Type 0} (made : A → Outcome) (never : (v : A) (r : Refusal) → 
 
 abbrev EndsBy : Option Request → Outside → Outside → Cause → Type 0
 EndsBy request old new c =
-    Ending (outcome_of request old.files.held) (IsTrue old.files.observable) (Rose old.files.read_faults new.files.read_faults)
-    (WhereInjected request (¬ (Rose old.link.faults new.link.faults))) old.out new.out c
+    Ending (outcome_of request old.files.held) (IsTrue old.files.observable) (HasRisen old.files.read_faults new.files.read_faults)
+    (WhereInjected request (¬ (HasRisen old.link.faults new.link.faults))) old.out new.out c
 
 no_whole : (text : List ℕ) (r : Refusal) → whole text ≢ refused r
 no_whole text r e = cc
@@ -130,13 +130,13 @@ no_runs : (r : Refusal) → runs ≢ refused r
 no_runs r e = cc
 
 pub prints_end : (said : FileMap → Said (List ℕ)) (files read : FilesState) (a b : SinkState) (c : Cause) → Took said Prints files read c a b
-    → Ending (outcome_by whole (said files.held)) (IsTrue files.observable) (Rose files.read_faults read.read_faults) (Unit {0}) a b c
+    → Ending (outcome_by whole (said files.held)) (IsTrue files.observable) (HasRisen files.read_faults read.read_faults) (Unit {0}) a b c
 prints_end said files read a b c (took text own p) = acted whole no_whole said files read (Unit {0}) a b text c own (printing text c (Unit {0}) a b p)
 prints_end said files read a b c (left u same) = untaken whole no_whole said files read (Unit {0}) a b c u same
 
 ask_ends : (file : List ℕ) (c : Cause) (old new : Outside) → Took (ask_said file) AsksAs old.files new.files c (wire_in old) (wire_in new) → EndsBy (Some (inject file)) old new c
-ask_ends file c old new (took a own p) = acted (λ x. whole (ask_line x)) (λ x r. no_whole (ask_line x) r) (ask_said file) old.files new.files (¬ (Rose old.link.faults new.link.faults)) old.out new.out a c own (asking a c (wire_in old) (wire_in new) p)
-ask_ends file c old new (left u same) = untaken (λ x. whole (ask_line x)) (λ x r. no_whole (ask_line x) r) (ask_said file) old.files new.files (¬ (Rose old.link.faults new.link.faults)) old.out new.out c u (ap (λ w. w.out) same)
+ask_ends file c old new (took a own p) = acted (λ x. whole (ask_line x)) (λ x r. no_whole (ask_line x) r) (ask_said file) old.files new.files (¬ (HasRisen old.link.faults new.link.faults)) old.out new.out a c own (asking a c (wire_in old) (wire_in new) p)
+ask_ends file c old new (left u same) = untaken (λ x. whole (ask_line x)) (λ x r. no_whole (ask_line x) r) (ask_said file) old.files new.files (¬ (HasRisen old.link.faults new.link.faults)) old.out new.out c u (ap (λ w. w.out) same)
 
 fleet_ends : (file : List ℕ) (c : Cause) (old new : Outside) → Took (fleet_said file) RunsAs old.files new.files c (shop_in old) (shop_in new) → EndsBy (Some (fleet file)) old new c
 fleet_ends file c old new (took f own p) = acted (λ x. runs) (λ x r. no_runs r) (fleet_said file) old.files new.files (Unit {0}) old.out new.out f c own (running (Unit {0}) f c (shop_in old) (shop_in new) p)
@@ -191,4 +191,4 @@ ends (Some (show file)) c old new d = prints_end (show_said file) old.files new.
 ends (Some (inject file)) c old new d = ask_ends file c old new (view (ask_said file) AsksAs file old.files new.files c (wire_in old) (wire_in new) d.1)
 ends (Some (fleet file)) c old new d = fleet_ends file c old new (view (fleet_said file) RunsAs file old.files new.files c (shop_in old) (shop_in new) d.1)
 ends (Some (node file turns)) c old new d = node_ends file turns c old new d.1.read (view (config_said file) (ServesAs turns) file old.files d.1.read c (record (serving_in old) { files = d.1.read }) (serving_in new) d.1.did)
-ends (Some (grow seed n)) c old new d = apart_ends (IsTrue old.files.observable) (Rose old.files.read_faults new.files.read_faults) (Unit {0}) old.out new.out c (growing (Unit {0}) seed n c old.out new.out d.1)
+ends (Some (grow seed n)) c old new d = apart_ends (IsTrue old.files.observable) (HasRisen old.files.read_faults new.files.read_faults) (Unit {0}) old.out new.out c (growing (Unit {0}) seed n c old.out new.out d.1)

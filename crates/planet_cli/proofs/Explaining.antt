@@ -3,7 +3,7 @@ use Rattle.std.proofs.Common.{◌≡◌, ◌⊎◌, inl, inr, ℕ, List, Option,
 use Rattle.network_plan.specs.declared.fleet.AskFile.{AskFile}
 use Rattle.network_plan.specs.declared.fleet.Fleet.{Fleet}
 use Rattle.network_plan.specs.declared.serve.ServeConfig.{ServeConfig}
-use Rattle.node_io.specs.Causes.{Rose}
+use Rattle.node_io.specs.Causes.{HasRisen}
 use Rattle.node_io.specs.FileMaps.{FileMap}
 use Rattle.node_io.specs.FileStates.{FilesState}
 use Rattle.node_io.specs.Outsides.{Outside}
@@ -80,7 +80,7 @@ module _ (old new : Outside) (n m : SinkState) where
       → Serves cfg (own_node cfg) turns (record (serving_in old) { files = read }) (serving_in new) result → Explains (serve_cause result) old new n m
   served cfg turns read (Ok x) same p = tt
   served cfg turns read (Err serves.LinkFault) same p = p.faults
-  served cfg turns read (Err serves.WriteFault) same p = elim p.faults [ inl rose ↦ inr (inl (subst (λ k. Rose k new.files.write_faults) same rose)) | inr rose ↦ inl rose ]
+  served cfg turns read (Err serves.WriteFault) same p = elim p.faults [ inl rose ↦ inr (inl (subst (λ k. HasRisen k new.files.write_faults) same rose)) | inr rose ↦ inl rose ]
   served cfg turns read (Err serves.NoMemory) same p = tt
 
   -- where nothing was taken
@@ -134,14 +134,14 @@ module _ (old new : Outside) (n m : SinkState) where
 
 -- fault by fault
 module _ (q : Option Request) (old new : Outside) (n m : SinkState) where
-  pub read_rose : Calls q ReadFault old new n m → Rose old.files.read_faults new.files.read_faults
+  pub read_rose : Calls q ReadFault old new n m → HasRisen old.files.read_faults new.files.read_faults
   read_rose call = call_explains old new n m q ReadFault call
 
   pub write_rose : Calls q WriteFault old new n m → WriteRose old new n m
   write_rose call = call_explains old new n m q WriteFault call
 
-  pub link_rose : Calls q LinkFault old new n m → Rose old.link.faults new.link.faults
+  pub link_rose : Calls q LinkFault old new n m → HasRisen old.link.faults new.link.faults
   link_rose call = call_explains old new n m q LinkFault call
 
-  pub spawn_rose : Calls q SpawnFault old new n m → Rose old.children.faults new.children.faults
+  pub spawn_rose : Calls q SpawnFault old new n m → HasRisen old.children.faults new.children.faults
   spawn_rose call = call_explains old new n m q SpawnFault call

@@ -4,7 +4,7 @@ use Rattle.std.proofs.Math.Seq.{take-length}
 use Rattle.std.proofs.lemmas.List.{append-nil}
 use Rattle.network_plan.specs.declared.fleet.Fleet.{Fleet}
 use Rattle.network_plan.specs.declared.fleet.Kid.{Kid}
-use Rattle.node_io.specs.Causes.{Rose}
+use Rattle.node_io.specs.Causes.{HasRisen}
 use Rattle.node_io.specs.FileMaps.{FileMap}
 use Rattle.node_io.specs.FileStates.{FilesState}
 use Rattle.node_io.specs.Outsides.{Outside}
@@ -102,7 +102,7 @@ none_ran (says f) old new e = (
 -- ---- where no fault came
 
 ended_or_poor : (f : Fleet) (result : Result FleetEnd FleetFault) (old new : Shop) → RunsFleet f.children old.children new.children old.out new.out result
-    → ¬ (Rose old.children.faults new.children.faults) → ¬ (Rose old.out.faults new.out.faults) → IsEnded (fleet_cause result) ⊎ (fleet_cause result ≡ NoMemory)
+    → ¬ (HasRisen old.children.faults new.children.faults) → ¬ (HasRisen old.out.faults new.out.faults) → IsEnded (fleet_cause result) ⊎ (fleet_cause result ≡ NoMemory)
 ended_or_poor f (Ok Well) old new p k o = inl tt
 ended_or_poor f (Ok (Failed host s)) old new p k o = inl tt
 ended_or_poor f (Err fleets.StartFault) old new p k o = absurd (k p.did.0)
@@ -111,7 +111,7 @@ ended_or_poor f (Err fleets.WriteFault) old new p k o = absurd (o p.did.2.rose)
 ended_or_poor f (Err fleets.NoMemory) old new p k o = inr refl
 
 pub unread : {A : Type 0} (said : FileMap → Said A) (old new : FilesState) (c : Cause) (v : A) → Untaken said old new c → (IsTrue old.observable → said old.held ≡ says v) → IsTrue old.observable
-    → ¬ (Rose old.read_faults new.read_faults) → c ≡ NoMemory
+    → ¬ (HasRisen old.read_faults new.read_faults) → c ≡ NoMemory
 unread said old new (Refused r) v u is seen p = let e : outside r ≡ says v = sym (u.1 seen) ∙ is seen in absurd (cc)
 unread said old new ReadFault v u is seen p = absurd (p u)
 unread said old new NoMemory v u is seen p = refl
@@ -128,12 +128,12 @@ module _ (file : List ℕ) (cause : Cause) (old new : Outside) (n m : SinkState)
   fleet_view : Took (fleet_said file) RunsAs old.files new.files call.found (shop_in old) (shop_in new)
   fleet_view = view (fleet_said file) RunsAs file old.files new.files call.found (shop_in old) (shop_in new) call.does.1
 
-  gives : Gives call.found cause (Rose n.faults m.faults)
+  gives : Gives call.found cause (HasRisen n.faults m.faults)
   gives = given (Some (fleet file)) cause old new n m call
 
   -- what holds of how the fleet ended holds of what the call gives
   ended : (P : FleetEnd → Type 0) → IfEnded call.found P → IfEnded cause P
-  ended P h = carried call.found cause (Rose n.faults m.faults) gives (λ c. IfEnded c P) tt tt h
+  ended P h = carried call.found cause (HasRisen n.faults m.faults) gives (λ c. IfEnded c P) tt tt h
 
   ends_by : (P : FleetEnd → Type 0) (c : Cause) → Took (fleet_said file) RunsAs old.files new.files c (shop_in old) (shop_in new)
       → ((f : Fleet) (end : FleetEnd) → (IsTrue old.files.observable → fleet_said file old.files.held ≡ says f) → RunsFleet f.children old.children new.children old.out new.out (Ok end) → P end) → IfEnded c P
@@ -171,12 +171,12 @@ module _ (file : List ℕ) (cause : Cause) (old new : Outside) (n m : SinkState)
   fleet_fronts seen told = at_most call.found fleet_view seen told
 
   complete_so : (c : Cause) → Took (fleet_said file) RunsAs old.files new.files c (shop_in old) (shop_in new) → (f : Fleet) → IsTrue old.files.observable → fleet_said file old.files.held ≡ says f
-      → ¬ (Rose old.files.read_faults new.files.read_faults) → ¬ (Rose old.children.faults new.children.faults) → ¬ (Rose old.out.faults new.out.faults) → IsEnded c ⊎ (c ≡ NoMemory)
+      → ¬ (HasRisen old.files.read_faults new.files.read_faults) → ¬ (HasRisen old.children.faults new.children.faults) → ¬ (HasRisen old.out.faults new.out.faults) → IsEnded c ⊎ (c ≡ NoMemory)
   complete_so c (took g own p) f seen e r k o = subst (λ x. IsEnded x ⊎ (x ≡ NoMemory)) (sym p.is) (ended_or_poor g p.result (shop_in old) (shop_in new) p.runs k o)
   complete_so c (left u same) f seen e r k o = inr (unread (fleet_said file) old.files new.files c f u (λ s. e) seen r)
 
-  pub fleet_is_complete : IsTrue old.files.observable → (f : Fleet) → fleet_said file old.files.held ≡ says f → ¬ (Rose old.files.read_faults new.files.read_faults)
-      → ¬ (Rose old.children.faults new.children.faults) → ¬ (Rose old.out.faults new.out.faults) → ¬ (Rose n.faults m.faults) → IsEnded cause ⊎ (cause ≡ NoMemory)
+  pub fleet_is_complete : IsTrue old.files.observable → (f : Fleet) → fleet_said file old.files.held ≡ says f → ¬ (HasRisen old.files.read_faults new.files.read_faults)
+      → ¬ (HasRisen old.children.faults new.children.faults) → ¬ (HasRisen old.out.faults new.out.faults) → ¬ (HasRisen n.faults m.faults) → IsEnded cause ⊎ (cause ≡ NoMemory)
   fleet_is_complete seen f e r k o written = elim gives [
     | inl same ↦ subst (λ x. IsEnded x ⊎ (x ≡ NoMemory)) (sym same) (complete_so call.found fleet_view f seen e r k o)
     | inr other ↦ elim other [ inl poor ↦ inr poor | inr w ↦ absurd (written w.1) ]

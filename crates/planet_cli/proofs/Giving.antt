@@ -1,6 +1,6 @@
 -- From what a call found to what it gives, with its note.
 use Rattle.std.proofs.Common.{◌≡◌, ◌≢◌, ◌⊎◌, inl, inr, ℕ, IsTrue, List, Option, Some, None, refl, sym, ap, ◌∙◌, subst}
-use Rattle.node_io.specs.Causes.{Rose}
+use Rattle.node_io.specs.Causes.{HasRisen}
 use Rattle.node_io.specs.FileMaps.{FileMap}
 use Rattle.node_io.specs.Outsides.{Outside}
 use Rattle.node_io.specs.Sinks.{SinkState, Writes, FailsIn}
@@ -26,7 +26,7 @@ use Rattle.planet_cli.specs.Laws.{WhereInjected}
 use Rattle.planet_cli.proofs.Ending.{ends}
 
 module _ (found given : Cause) (X : Type 0) (gives : Gives found given X) where
-  -- a fact of the cause that holds of want of memory and of a fault of writing
+  -- a fact of the cause that holds of `NoMemory` and of a fault of writing
   pub carried : (P : Cause → Type 0) → P NoMemory → P WriteFault → P found → P given
   carried P m w h = elim gives [
     | inl same ↦ subst P (sym same) h
@@ -37,7 +37,7 @@ module _ (found given : Cause) (X : Type 0) (gives : Gives found given X) where
   pub found_so : (c : Cause) → NoMemory ≢ c → WriteFault ≢ c → given ≡ c → found ≡ c
   found_so c m w e = carried (λ g. g ≡ c → found ≡ c) (λ n. absurd (m n)) (λ n. absurd (w n)) (λ n. n) e
 
-  -- where no note failed, what was found is given, or want of memory
+  -- where no note failed, what was found is given, or `NoMemory`
   pub unfailed : (wanted : Cause) → (found ≡ wanted) ⊎ (found ≡ NoMemory) → Gives wanted given X
   unfailed wanted h = elim gives [
     | inl same ↦ elim h [ inl e ↦ inl (same ∙ e) | inr n ↦ inr (inl (same ∙ n)) ]
@@ -83,14 +83,14 @@ asked_none (Some (node file turns)) files e = absurd (made_asked (λ c. runs) (c
 asked_none (Some (grow seed k)) files e = absurd (cc)
 
 module _ (q : Option Request) (cause : Cause) (old new : Outside) (n m : SinkState) (call : Calls q cause old new n m) where
-  pub given : Gives call.found cause (Rose n.faults m.faults)
+  pub given : Gives call.found cause (HasRisen n.faults m.faults)
   given = notes_give call.found cause n m call.notes
 
   pub usage_asks : cause ≡ Usage → q ≡ None
-  usage_asks e = asked_none q old.files.held ((ends q call.found old new call.does).usage (found_so call.found cause (Rose n.faults m.faults) given Usage (λ x. cc) (λ x. cc) e))
+  usage_asks e = asked_none q old.files.held ((ends q call.found old new call.does).usage (found_so call.found cause (HasRisen n.faults m.faults) given Usage (λ x. cc) (λ x. cc) e))
 
   refusal : IfRefused cause (λ r. IsOwn r × ((IsTrue old.files.observable → outcome_of q old.files.held ≡ refused r) × (new.out ≡ old.out)))
-  refusal = carried call.found cause (Rose n.faults m.faults) given
+  refusal = carried call.found cause (HasRisen n.faults m.faults) given
       (λ c. IfRefused c (λ r. IsOwn r × ((IsTrue old.files.observable → outcome_of q old.files.held ≡ refused r) × (new.out ≡ old.out)))) tt tt (ends q call.found old new call.does).refusal
 
   pub is_refused : IsTrue old.files.observable → IfRefused cause (λ r. outcome_of q old.files.held ≡ refused r)
@@ -102,12 +102,12 @@ module _ (q : Option Request) (cause : Cause) (old new : Outside) (n m : SinkSta
   pub is_silent : IfRefused cause (λ r. new.out ≡ old.out)
   is_silent = of_refusal cause (λ r h. h.1.1) refusal
 
-  pub is_told : IsTrue old.files.observable → (r : Refusal) → outcome_of q old.files.held ≡ refused r → ¬ (Rose old.files.read_faults new.files.read_faults)
-      → Gives (Refused r) cause (Rose n.faults m.faults)
-  is_told seen r e p = unfailed call.found cause (Rose n.faults m.faults) given (Refused r) ((ends q call.found old new call.does).told seen r e p)
+  pub is_told : IsTrue old.files.observable → (r : Refusal) → outcome_of q old.files.held ≡ refused r → ¬ (HasRisen old.files.read_faults new.files.read_faults)
+      → Gives (Refused r) cause (HasRisen n.faults m.faults)
+  is_told seen r e p = unfailed call.found cause (HasRisen n.faults m.faults) given (Refused r) ((ends q call.found old new call.does).told seen r e p)
 
   pub done_found : cause ≡ Done → call.found ≡ Done
-  done_found e = found_so call.found cause (Rose n.faults m.faults) given Done (λ x. cc) (λ x. cc) e
+  done_found e = found_so call.found cause (HasRisen n.faults m.faults) given Done (λ x. cc) (λ x. cc) e
 
   pub is_accepted : IsTrue old.files.observable → cause ≡ Done → IsAccepted (outcome_of q old.files.held)
   is_accepted seen e = (ends q call.found old new call.does).accepted seen (done_found e)
@@ -118,14 +118,14 @@ module _ (q : Option Request) (cause : Cause) (old new : Outside) (n m : SinkSta
   pub is_begun : IsTrue old.files.observable → BeginsOut (outcome_of q old.files.held) old.out new.out
   is_begun seen = (ends q call.found old new call.does).begun seen
 
-  pub is_complete : IsTrue old.files.observable → IsWhole (outcome_of q old.files.held) → ¬ (Rose old.files.read_faults new.files.read_faults) → ¬ (Rose old.out.faults new.out.faults)
-      → ¬ (Rose n.faults m.faults) → WhereInjected q (¬ (Rose old.link.faults new.link.faults)) → (cause ≡ Done) ⊎ (cause ≡ NoMemory)
-  is_complete seen w p f k l = well call.found cause (Rose n.faults m.faults) given k ((ends q call.found old new call.does).complete seen w p f l)
+  pub is_complete : IsTrue old.files.observable → IsWhole (outcome_of q old.files.held) → ¬ (HasRisen old.files.read_faults new.files.read_faults) → ¬ (HasRisen old.out.faults new.out.faults)
+      → ¬ (HasRisen n.faults m.faults) → WhereInjected q (¬ (HasRisen old.link.faults new.link.faults)) → (cause ≡ Done) ⊎ (cause ≡ NoMemory)
+  is_complete seen w p f k l = well call.found cause (HasRisen n.faults m.faults) given k ((ends q call.found old new call.does).complete seen w p f l)
 
-  -- the note of the cause was written, or the notes failed in the note of what was found or of want of memory
+  -- the note of the cause was written, or the notes failed in the note of what was found or of `NoMemory`
   pub is_noted : Writes n m (note_text cause) ⊎ ((cause ≡ WriteFault) × ((note : Cause) × FailsIn n m (note_text note)))
   is_noted = noted call.found cause n m call.notes
 
 -- words that are no command
-pub usage_given : (cause : Cause) (old new : Outside) (n m : SinkState) → Calls None cause old new n m → Gives Usage cause (Rose n.faults m.faults)
-usage_given cause old new n m call = subst (λ f. Gives f cause (Rose n.faults m.faults)) call.does.0 (given None cause old new n m call)
+pub usage_given : (cause : Cause) (old new : Outside) (n m : SinkState) → Calls None cause old new n m → Gives Usage cause (HasRisen n.faults m.faults)
+usage_given cause old new n m call = subst (λ f. Gives f cause (HasRisen n.faults m.faults)) call.does.0 (given None cause old new n m call)

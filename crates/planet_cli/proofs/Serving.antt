@@ -3,7 +3,7 @@ use Rattle.std.proofs.Common.{◌≡◌, ◌⊎◌, inl, inr, ℕ, IsTrue, List,
 use Rattle.std.proofs.lemmas.List.{append-nil}
 use Rattle.network_plan.specs.declared.fleet.AskFile.{AskFile}
 use Rattle.network_plan.specs.declared.serve.ServeConfig.{ServeConfig}
-use Rattle.node_io.specs.Causes.{Rose}
+use Rattle.node_io.specs.Causes.{HasRisen}
 use Rattle.node_io.specs.FileMaps.{FileMap, ChangesOnly, SavesFront, untouched}
 use Rattle.node_io.specs.FileStates.{FilesState}
 use Rattle.node_io.specs.Outsides.{Outside}
@@ -95,7 +95,7 @@ served_well old new cfg turns (Err faults.WriteFault) e h = absurd (cc)
 served_well old new cfg turns (Err faults.NoMemory) e h = absurd (cc)
 
 done_or_poor : (cfg : ServeConfig) (turns : ℕ) (old new : Serving) (result : Result (Unit {0}) ServeFault) → Serves cfg (own_node cfg) turns old new result
-    → ¬ (Rose old.files.write_faults new.files.write_faults) → ¬ (Rose old.link.faults new.link.faults) → ¬ (Rose old.out.faults new.out.faults) → (serve_cause result ≡ Done) ⊎ (serve_cause result ≡ NoMemory)
+    → ¬ (HasRisen old.files.write_faults new.files.write_faults) → ¬ (HasRisen old.link.faults new.link.faults) → ¬ (HasRisen old.out.faults new.out.faults) → (serve_cause result ≡ Done) ⊎ (serve_cause result ≡ NoMemory)
 done_or_poor cfg turns old new (Ok x) p w l o = inl refl
 done_or_poor cfg turns old new (Err faults.LinkFault) p w l o = absurd (l p.faults)
 done_or_poor cfg turns old new (Err faults.WriteFault) p w l o = elim p.faults [ inl rose ↦ absurd (w rose) | inr rose ↦ absurd (o rose) ]
@@ -141,19 +141,19 @@ module _ (file : List ℕ) (turns : ℕ) (cause : Cause) (old new : Outside) (n 
     node_fronts = at_most call.found node_view
 
   complete_so : (c : Cause) (cfg : ServeConfig) → Took (config_said file) (ServesAs turns) old.files call.does.1.read c (record (serving_in old) { files = call.does.1.read }) (serving_in new)
-      → IsTrue old.files.observable → config_said file old.files.held ≡ says cfg → ¬ (Rose old.files.read_faults new.files.read_faults) → ¬ (Rose old.files.write_faults new.files.write_faults)
-      → ¬ (Rose old.link.faults new.link.faults) → ¬ (Rose old.out.faults new.out.faults) → (c ≡ Done) ⊎ (c ≡ NoMemory)
+      → IsTrue old.files.observable → config_said file old.files.held ≡ says cfg → ¬ (HasRisen old.files.read_faults new.files.read_faults) → ¬ (HasRisen old.files.write_faults new.files.write_faults)
+      → ¬ (HasRisen old.link.faults new.link.faults) → ¬ (HasRisen old.out.faults new.out.faults) → (c ≡ Done) ⊎ (c ≡ NoMemory)
   complete_so c cfg (took own_cfg own p) seen e r w l o =
       subst (λ x. (x ≡ Done) ⊎ (x ≡ NoMemory)) (sym p.is)
       (done_or_poor own_cfg turns (record (serving_in old) { files = call.does.1.read }) (serving_in new) p.result p.serves
-      (λ rose. w (subst (λ k. Rose k new.files.write_faults) call.does.1.did.takes.only.write_faults rose)) l o)
+      (λ rose. w (subst (λ k. HasRisen k new.files.write_faults) call.does.1.did.takes.only.write_faults rose)) l o)
   complete_so c cfg (left u same) seen e r w l o =
-      inr (unread (config_said file) old.files call.does.1.read c cfg u (λ s. e) seen (λ rose. r (subst (λ f. Rose old.files.read_faults f.read_faults) (sym (ap (λ x. x.files) same)) rose)))
+      inr (unread (config_said file) old.files call.does.1.read c cfg u (λ s. e) seen (λ rose. r (subst (λ f. HasRisen old.files.read_faults f.read_faults) (sym (ap (λ x. x.files) same)) rose)))
 
-  pub node_is_complete : IsTrue old.files.observable → (cfg : ServeConfig) → config_said file old.files.held ≡ says cfg → ¬ (Rose old.files.read_faults new.files.read_faults)
-      → ¬ (Rose old.files.write_faults new.files.write_faults) → ¬ (Rose old.link.faults new.link.faults) → ¬ (Rose old.out.faults new.out.faults) → ¬ (Rose n.faults m.faults)
+  pub node_is_complete : IsTrue old.files.observable → (cfg : ServeConfig) → config_said file old.files.held ≡ says cfg → ¬ (HasRisen old.files.read_faults new.files.read_faults)
+      → ¬ (HasRisen old.files.write_faults new.files.write_faults) → ¬ (HasRisen old.link.faults new.link.faults) → ¬ (HasRisen old.out.faults new.out.faults) → ¬ (HasRisen n.faults m.faults)
       → (cause ≡ Done) ⊎ (cause ≡ NoMemory)
-  node_is_complete seen cfg e r w l o k = well call.found cause (Rose n.faults m.faults) (given (Some (node file turns)) cause old new n m call) k (complete_so call.found cfg node_view seen e r w l o)
+  node_is_complete seen cfg e r w l o k = well call.found cause (HasRisen n.faults m.faults) (given (Some (node file turns)) cause old new n m call) k (complete_so call.found cfg node_view seen e r w l o)
 
 -- ---- files that aren't taken
 

@@ -1,6 +1,6 @@
 //! What follows from a call of any words.
 ghost use Rattle.std.specs.Prelude.{◌≡◌, ◌⊎◌, IsTrue, Option, None};
-ghost use Rattle.node_io.specs.Causes.{Rose};
+ghost use Rattle.node_io.specs.Causes.{HasRisen};
 ghost use Rattle.node_io.specs.Outsides.{Outside};
 ghost use Rattle.node_io.specs.Sinks.{SinkState, Writes, FailsIn};
 ghost use Rattle.call_causes.specs.Causes.{IfRefused, Gives};
@@ -27,7 +27,7 @@ pub fn usage()
 pub fn usage_always()
     ensures { (cause : Why) (old new : Outside) (n m : SinkState)
         → Calls None cause old new n m
-        → Gives Cause.Usage cause (Rose n.faults m.faults) }
+        → Gives Cause.Usage cause (HasRisen n.faults m.faults) }
 {}
 
 /// A refusal is what the file says.
@@ -45,11 +45,11 @@ pub fn refused_always()
         → IsTrue old.files.observable
         → (r : Reason)
         → outcome_of q old.files.held ≡ refused r
-        → ¬ (Rose old.files.read_faults new.files.read_faults)
-        → Gives (Cause.Refused r) cause (Rose n.faults m.faults) }
+        → ¬ (HasRisen old.files.read_faults new.files.read_faults)
+        → Gives (Cause.Refused r) cause (HasRisen n.faults m.faults) }
 {}
 
-/// No refusal is, or holds, want of memory.
+/// No refusal is, or holds, `NoMemory`.
 pub fn own()
     ensures { (q : Option Request) (cause : Why) (old new : Outside) (n m : SinkState)
         → Calls q cause old new n m
@@ -95,10 +95,10 @@ pub fn complete()
         → Calls q cause old new n m
         → IsTrue old.files.observable
         → IsWhole (outcome_of q old.files.held)
-        → ¬ (Rose old.files.read_faults new.files.read_faults)
-        → ¬ (Rose old.out.faults new.out.faults)
-        → ¬ (Rose n.faults m.faults)
-        → WhereInjected q (¬ (Rose old.link.faults new.link.faults))
+        → ¬ (HasRisen old.files.read_faults new.files.read_faults)
+        → ¬ (HasRisen old.out.faults new.out.faults)
+        → ¬ (HasRisen n.faults m.faults)
+        → WhereInjected q (¬ (HasRisen old.link.faults new.link.faults))
         → (cause ≡ Cause.Done) ⊎ (cause ≡ Cause.NoMemory) }
 {}
 

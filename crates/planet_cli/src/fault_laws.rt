@@ -1,6 +1,6 @@
 //! When a call ends for a fault, and which commands end for which.
 ghost use Rattle.std.specs.Prelude.{◌≢◌, Option};
-ghost use Rattle.node_io.specs.Causes.{Rose};
+ghost use Rattle.node_io.specs.Causes.{HasRisen};
 ghost use Rattle.node_io.specs.Outsides.{Outside};
 ghost use Rattle.node_io.specs.Sinks.{SinkState};
 ghost use Rattle.call_causes.specs.Causes.{WriteRose};
@@ -15,7 +15,7 @@ use call_causes::Cause;
 pub fn read_fault()
     ensures { (q : Option Request) (old new : Outside) (n m : SinkState)
         → Calls q Cause.ReadFault old new n m
-        → Rose old.files.read_faults new.files.read_faults }
+        → HasRisen old.files.read_faults new.files.read_faults }
 {}
 
 /// A fault of writing comes only where the count of the output, of the files or of the notes rose.
@@ -29,14 +29,14 @@ pub fn write_fault()
 pub fn link_fault()
     ensures { (q : Option Request) (old new : Outside) (n m : SinkState)
         → Calls q Cause.LinkFault old new n m
-        → Rose old.link.faults new.link.faults }
+        → HasRisen old.link.faults new.link.faults }
 {}
 
 /// A fault of children comes only where their count rose.
 pub fn spawn_fault()
     ensures { (q : Option Request) (old new : Outside) (n m : SinkState)
         → Calls q Cause.SpawnFault old new n m
-        → Rose old.children.faults new.children.faults }
+        → HasRisen old.children.faults new.children.faults }
 {}
 
 /// Only the commands with a link end so.

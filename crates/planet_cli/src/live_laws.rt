@@ -3,7 +3,7 @@ ghost use Rattle.std.specs.Prelude.{◌≡◌, ◌⊎◌, IsTrue, List, ℕ, Som
 ghost use Rattle.network_plan.specs.declared.fleet.AskFile.{AskFile as Ask};
 ghost use Rattle.network_plan.specs.declared.fleet.Fleet.{Fleet};
 ghost use Rattle.network_plan.specs.declared.serve.ServeConfig.{ServeConfig as Config};
-ghost use Rattle.node_io.specs.Causes.{Rose};
+ghost use Rattle.node_io.specs.Causes.{HasRisen};
 ghost use Rattle.node_io.specs.Outsides.{Outside};
 ghost use Rattle.node_io.specs.Sinks.{SinkState, Writes};
 ghost use Rattle.fleet_run.specs.Asks.{ask_line, Bound, Sent};
@@ -107,10 +107,10 @@ pub fn fleet_complete()
         → IsTrue old.files.observable
         → (f : Fleet)
         → fleet_said file old.files.held ≡ says f
-        → ¬ (Rose old.files.read_faults new.files.read_faults)
-        → ¬ (Rose old.children.faults new.children.faults)
-        → ¬ (Rose old.out.faults new.out.faults)
-        → ¬ (Rose n.faults m.faults)
+        → ¬ (HasRisen old.files.read_faults new.files.read_faults)
+        → ¬ (HasRisen old.children.faults new.children.faults)
+        → ¬ (HasRisen old.out.faults new.out.faults)
+        → ¬ (HasRisen n.faults m.faults)
         → IsEnded cause ⊎ (cause ≡ Cause.NoMemory) }
 {}
 
@@ -142,10 +142,10 @@ pub fn node_complete()
         → IsTrue old.files.observable
         → (cfg : Config)
         → config_said file old.files.held ≡ says cfg
-        → ¬ (Rose old.files.read_faults new.files.read_faults)
-        → ¬ (Rose old.files.write_faults new.files.write_faults)
-        → ¬ (Rose old.link.faults new.link.faults)
-        → ¬ (Rose old.out.faults new.out.faults)
-        → ¬ (Rose n.faults m.faults)
+        → ¬ (HasRisen old.files.read_faults new.files.read_faults)
+        → ¬ (HasRisen old.files.write_faults new.files.write_faults)
+        → ¬ (HasRisen old.link.faults new.link.faults)
+        → ¬ (HasRisen old.out.faults new.out.faults)
+        → ¬ (HasRisen n.faults m.faults)
         → (cause ≡ Cause.Done) ⊎ (cause ≡ Cause.NoMemory) }
 {}

@@ -6,7 +6,7 @@ ghost use Rattle.network_plan.specs.declared.node.Log.{Log};
 ghost use Rattle.packet_frame.specs.declared.frame.PlainFrame.{PlainFrame};
 ghost use Rattle.frame_text.specs.Frames.{frame_text};
 ghost use Rattle.program_text.specs.Texts.{program_of};
-ghost use Rattle.node_io.specs.Causes.{Rose};
+ghost use Rattle.node_io.specs.Causes.{HasRisen};
 ghost use Rattle.node_io.specs.FileMaps.{FileMap, file_at};
 ghost use Rattle.node_io.specs.FileStates.{FilesState};
 ghost use Rattle.node_io.specs.Outsides.{Outside};
@@ -96,8 +96,8 @@ pub fn shown()
 pub fn grown_whole()
     ensures { (seed k : ℕ) (cause : Why) (old new : Outside) (n m : SinkState)
         → Calls (Some (grow seed k)) cause old new n m
-        → ¬ (Rose old.out.faults new.out.faults)
-        → ¬ (Rose n.faults m.faults)
+        → ¬ (HasRisen old.out.faults new.out.faults)
+        → ¬ (HasRisen n.faults m.faults)
         → (cause ≡ Cause.Done) ⊎ (cause ≡ Cause.NoMemory) }
 {}
 

@@ -14,7 +14,7 @@ use Rattle.service_api.specs.declared.router.Hop.{Hop}
 use Rattle.service_api.specs.declared.router.Hop.TheVariants.{To, NoService, NoRoute}
 use Rattle.service_api.specs.declared.ctx.Ctx.{Ctx}
 use Rattle.service_api.specs.Routes.{hop}
-use Rattle.service_api.specs.Services.{Standing, begun_now}
+use Rattle.service_api.specs.Services.{ServiceState, begun_now}
 use Rattle.dv_routing.specs.Routing.{all_routes, own_advert}
 use Rattle.plan_meaning.specs.declared.sent.Sent.{Sent}
 use Rattle.plan_meaning.specs.declared.stop.Stop.TheVariants as stop
@@ -43,19 +43,19 @@ all_append P (x ∷ xs) ys h k = (h.0, all_append P xs ys h.1 k)
 module _ (a : Allowed) (closed : IsClosed a) where
   -- ---- visits
 
-  pub record VisitKnown (v : Visit) (services : Standing) : Type 0 where
+  pub record VisitKnown (v : Visit) (services : ServiceState) : Type 0 where
     pub sends : AllByRecursion (λ (x : Sent). a.chunk x.packet.chunk) v.outbox
     pub notes : AllByRecursion a.note v.notes
     pub offer : services.offer ≡ a.offer
 
-  end_known : (bound : ℕ) (old : Standing) (r : After Value) → old.offer ≡ a.offer → EndsGood a (λ (v : Value). Unit {0}) r → VisitKnown (visit_end bound r) (services_end old r)
+  end_known : (bound : ℕ) (old : ServiceState) (r : After Value) → old.offer ≡ a.offer → EndsGood a (λ (v : Value). Unit {0}) r → VisitKnown (visit_end bound r) (services_end old r)
   end_known bound old (gave v s) o e = record { sends = e.0.sends; notes = e.0.notes; offer = e.0.offer }
   end_known bound old (stopped (stop.Raised x) s) o e = record { sends = e.sends; notes = e.notes; offer = e.offer }
   end_known bound old (stopped stop.WorkSpent s) o e = record { sends = tt; notes = tt; offer = o }
   end_known bound old (stopped stop.Wrong s) o e = record { sends = tt; notes = tt; offer = o }
   end_known bound old (stopped stop.NoMemory s) o e = record { sends = tt; notes = tt; offer = o }
 
-  pub visit_known : (ctx : Ctx) (services : Standing) (p : Packet) → services.offer ≡ a.offer → a.chunk p.chunk → VisitKnown (visit_of ctx services p) (services_after ctx services p)
+  pub visit_known : (ctx : Ctx) (services : ServiceState) (p : Packet) → services.offer ≡ a.offer → a.chunk p.chunk → VisitKnown (visit_of ctx services p) (services_after ctx services p)
   unfolding visit_of services_after evaluated
   visit_known ctx services p o k = end_known p.bound services (evaluated ctx services p) o (closed p.chunk k (begun allowance ctx p.family services) (record { offer = o; sends = tt; notes = tt }))
 
@@ -85,7 +85,7 @@ module _ (a : Allowed) (closed : IsClosed a) where
   notes_known [] h = tt
   notes_known (n ∷ ns) h = (h.0, notes_known ns h.1)
 
-  visit_acts_known : (queues : Queues) (p : Packet) (v : Visit) (n : Standing) → VisitKnown v n → AllByRecursion (ActKnown a) (visit_acts queues p v)
+  visit_acts_known : (queues : Queues) (p : Packet) (v : Visit) (n : ServiceState) → VisitKnown v n → AllByRecursion (ActKnown a) (visit_acts queues p v)
   unfolding visit_acts visit_sends
   visit_acts_known queues p v n h = all_append (ActKnown a) (map Noted v.notes) (Ended p.family v.outcome v.evals v.left ∷ sends_acts queues (map packet_sending v.outbox)) (notes_known v.notes h.notes) (tt, sends_acts_known queues v.outbox)
 

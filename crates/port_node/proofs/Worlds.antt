@@ -16,7 +16,7 @@ use Rattle.world_model.specs.declared.lines.Line.{Line}
 use Rattle.world_model.specs.declared.lines.Line.TheVariants.{At, Wire, Off, Lost, Nothing}
 use Rattle.world_model.specs.declared.lines.LinkEnd.{LinkEnd}
 use Rattle.world_model.specs.declared.lines.Wired.{Wired}
-use Rattle.world_model.specs.World.{WorldState, Happened, nothing, lines_at, steps_at, step_at, step_place, steps, place_of, far_end, send_taken, send_at, send_over, send_place, sends, without_frame, wire_place, deliver_at, deliver_to, deliver_frame, deliver_place, delivers, lose_frame, lose_place, loses, acted, happens}
+use Rattle.world_model.specs.World.{WorldState, EventResult, nothing, lines_at, steps_at, step_at, step_place, steps, place_of, far_end, send_taken, send_at, send_over, send_place, sends, without_frame, wire_place, deliver_at, deliver_to, deliver_frame, deliver_place, delivers, lose_frame, lose_place, loses, acted, happens}
 use Rattle.port_visits.specs.Only.{Allowed}
 use Rattle.port_node.specs.Known.{IsClosed, FrameKnown, NodeKnown, ActKnown, TakenKnown, StepKnown, WorldKnown, LineKnown, EventKnown, ComesKnown}
 use Rattle.port_node.proofs.Nodes.{all_append, inject_known, frame_known, take_known, tick_known}

@@ -14,7 +14,7 @@ use Rattle.node_model.specs.Fits.{QueuesKeep}
 use Rattle.world_model.specs.declared.lines.Line.{Line}
 use Rattle.world_model.specs.declared.lines.Line.TheVariants.{At}
 use Rattle.world_model.specs.declared.lines.Wired.{Wired}
-use Rattle.world_model.specs.World.{WorldState, Happened}
+use Rattle.world_model.specs.World.{WorldState, EventResult}
 use Rattle.port_visits.specs.Only.{Allowed, Good}
 use Rattle.port_visits.specs.Visits.{VisitIsGood}
 
@@ -59,7 +59,7 @@ LineKnown a (At h act) = ActKnown a act
 LineKnown a _ = Unit {0}
 
 -- an event leaves such a network, and notes what is allowed
-pub record EventKnown (a : Allowed) (e : Happened) : Type 0 where
+pub record EventKnown (a : Allowed) (e : EventResult) : Type 0 where
   pub world : WorldKnown a e.world
   pub lines : AllByRecursion (LineKnown a) e.lines
 

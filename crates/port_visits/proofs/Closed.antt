@@ -5,7 +5,7 @@ use Rattle.plan_base.specs.declared.ids.Host.{Host}
 use Rattle.plan_base.specs.declared.tree.Expr.TheVariants as expr
 use Rattle.plan_base.specs.declared.tree.Value.{Value}
 use Rattle.plan_base.specs.declared.tree.Value.TheVariants as value
-use Rattle.plan_base.specs.TypingNames.{prim_of}
+use Rattle.typing_rules.specs.TypingNames.{prim_of}
 use Rattle.service_api.specs.Services.{Offer}
 use Rattle.plan_meaning.specs.Meaning.{Env, binds, bound, run_to}
 use Rattle.plan_meaning.specs.State.{VisitState}

@@ -6,3 +6,5 @@ pub mod HeadsAre
 pub mod ProgramsAre
 pub mod HeadsWork
 pub mod ProgramsWork
+pub mod WrittenNodes
+pub mod WrittenTrees

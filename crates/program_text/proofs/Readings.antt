@@ -12,7 +12,7 @@ use Rattle.plan_grammar.specs.declared.fault.ParseFault.{ParseFault}
 use Rattle.plan_grammar.specs.declared.fault.ParseFault.TheVariants as parsing
 use Rattle.plan_parser.specs.Programs as parsed
 use Rattle.plan_parser.specs.Values.{args_of}
-use Rattle.plan_parser.specs.ReadTexts.{Reads, IsNoMemory, in_lexing, in_parsing, Fails, no_tokens, no_value}
+use Rattle.plan_parser.specs.ReadTexts.{Reads, Fails, no_tokens, no_value}
 use Rattle.plan_parser.specs.declared.value_fault.ValueFault.{ValueFault}
 use Rattle.plan_parser.specs.declared.value_fault.ValueFault.TheVariants as faults
 use Rattle.program_text.specs.declared.fault.TextFault.{TextFault}
@@ -48,11 +48,10 @@ unfolding args_of_text
 no_value_args text ts e t r = ap (args_in (length text)) (has_tokens text ts t) ∙ ap args_by r
 
 -- a text that is refused for another reason than memory is no arguments
-pub none_by : (text : List ℕ) (e : ValueFault) → e ≢ faults.Lex lexing.NoMemory → e ≢ faults.Parse parsing.NoMemory → IsNoMemory e ⊎ Fails args_of text e → args_of_text text ≡ None
-none_by text _ l p (inl in_lexing) = absurd (l refl)
-none_by text _ l p (inl in_parsing) = absurd (p refl)
-none_by text _ l p (inr (no_tokens e r)) = no_tokens_args text e r
-none_by text _ l p (inr (no_value ts e t r)) = no_value_args text ts e t r
+pub none_by : (text : List ℕ) (e : ValueFault) → e ≢ faults.NoMemory → (e ≡ faults.NoMemory) ⊎ Fails args_of text e → args_of_text text ≡ None
+none_by text _ n (inl m) = absurd (n m)
+none_by text _ n (inr (no_tokens e r)) = no_tokens_args text e r
+none_by text _ n (inr (no_value ts e t r)) = no_value_args text ts e t r
 
 -- ---- the answers of the calls
 

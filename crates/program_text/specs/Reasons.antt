@@ -3,8 +3,8 @@ use Rattle.std.specs.Prelude.{ℕ, List, [], ◌∷◌, ◌++◌}
 use lib.Chars.{codes}
 use Rattle.plan_base.specs.declared.limit.Limit.{Limit}
 use Rattle.plan_base.specs.declared.tree.Ty.{Ty}
-use Rattle.plan_base.specs.declared.type_fault.TypeFault.{TypeFault}
-use Rattle.plan_base.specs.declared.type_fault.TypeFault.TheVariants as ill
+use Rattle.typing_rules.specs.declared.type_fault.TypeFault.{TypeFault}
+use Rattle.typing_rules.specs.declared.type_fault.TypeFault.TheVariants as ill
 use Rattle.plan_lexer.specs.declared.fault.LexFault.{LexFault}
 use Rattle.plan_lexer.specs.declared.fault.LexFault.TheVariants as lex
 use Rattle.plan_grammar.specs.declared.fault.ParseFault.{ParseFault}
@@ -13,7 +13,7 @@ use Rattle.plan_grammar.specs.Wants.{wanted_text}
 use Rattle.program_text.specs.declared.fault.TextFault.{TextFault}
 use Rattle.program_text.specs.declared.fault.TextFault.TheVariants as fault
 use Rattle.plan_base.specs.Limits.{word_of}
-use Rattle.plan_printer.specs.Printed.{type_text}
+use Rattle.printed_forms.specs.Printed.{type_text}
 
 abbrev pub lex_reason : LexFault → List ℕ
 lex_reason (lex.BadChar at) = codes "BadChar"
@@ -60,7 +60,7 @@ type_reason (ill.TypeTooDeep p) = codes "TypeTooDeep"
 type_reason ill.CodeTooLarge = codes "CodeTooLarge"
 type_reason ill.NoMemory = []
 
--- the name of a refusal and its `what`; want of memory has none
+-- the name of a refusal and its `what`; running out of memory has none
 abbrev pub reason_text : TextFault → List ℕ
 reason_text (fault.Lex f) = lex_reason f
 reason_text (fault.Parse f) = parse_reason f

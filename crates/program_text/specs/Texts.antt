@@ -1,15 +1,15 @@
 -- What a text says: a typed program, or arguments, or the first refusal.
 use Rattle.std.specs.Prelude.{◌≡◌, ℕ, List, length, get_or, Option, Some, None, Result, Ok, Err}
-use Rattle.plan_base.specs.declared.type_fault.TypeFault.{TypeFault}
-use Rattle.plan_base.specs.declared.type_fault.TypeFault.TheVariants as ill
+use Rattle.typing_rules.specs.declared.type_fault.TypeFault.{TypeFault}
+use Rattle.typing_rules.specs.declared.type_fault.TypeFault.TheVariants as ill
 use Rattle.plan_base.specs.declared.tree.Draft.{Draft}
 use Rattle.plan_base.specs.declared.tree.Place.{Place}
 use Rattle.plan_base.specs.declared.tree.Place.TheVariants.{Decl, Node}
 use Rattle.plan_base.specs.declared.tree.Program.{Program}
 use Rattle.plan_base.specs.declared.tree.Value.{Value}
-use Rattle.plan_base.specs.Typing.{Typed}
-use Rattle.plan_base.specs.TypingFills.{Fills}
-use Rattle.plan_base.specs.TypingOrder.{annotated}
+use Rattle.typing_rules.specs.Typing.{Typed}
+use Rattle.typing_rules.specs.TypingFills.{Fills}
+use Rattle.typing_rules.specs.TypingOrder.{annotated}
 use Rattle.plan_lexer.specs.Scanning.{Toks}
 use Rattle.plan_lexer.specs.declared.fault.LexFault.{LexFault}
 use Rattle.plan_lexer.specs.declared.token.Token.{Token}

@@ -1,10 +1,11 @@
-use plan_base::{NoMemory, TypeFault};
+use plan_base::NoMemory;
 use plan_grammar::ParseFault;
 use plan_lexer::LexFault;
 use std::alloc::AllocError;
+use typing_rules::TypeFault;
 
 /// Why a text is no typed program: the first refusal.
-#[derive(Debug, Drop)]
+#[derive(Drop)]
 pub enum TextFault {
     /// It has no list of tokens.
     Lex(LexFault),

@@ -1,7 +1,7 @@
 ghost use Rattle.std.specs.Prelude.{◌≡◌, ◌≤◌, ◌⊎◌, List, length, Ok, Err, IfOk, IfErr, MatchResult};
-ghost use Rattle.plan_base.specs.Typing.{Typed};
-ghost use Rattle.plan_base.specs.TypingFills.{Fills};
-ghost use Rattle.plan_base.specs.TypingOrder.{annotated};
+ghost use Rattle.typing_rules.specs.Typing.{Typed};
+ghost use Rattle.typing_rules.specs.TypingFills.{Fills};
+ghost use Rattle.typing_rules.specs.TypingOrder.{annotated};
 ghost use Rattle.plan_base.specs.WellFormed.{IsWellFormedProgram};
 ghost use Rattle.plan_base.specs.declared.tree.Program.{Program};
 ghost use Rattle.plan_lexer.specs.Scanning.{Toks};
@@ -10,13 +10,14 @@ ghost use Rattle.plan_parser.specs.Programs as parsed;
 ghost use Rattle.program_text.specs.Texts.{byte_at, byte_of, placed, typed_of, program_of, IsProgram, Says, args_of_text};
 
 use crate::fault::TextFault;
-use plan_base::{Draft, NoMemory, Place, Places, TypeFault, Values};
+use plan_base::{Draft, NoMemory, Place, Places, Values};
 use plan_grammar::ParseFault;
 use plan_items::Items;
 use plan_lexer::{LexFault, Tokens, lex};
 use plan_parser::{ValueFault, parse, parse_args};
 use plan_types::{Checked, annotate};
 use std::alloc::Global;
+use typing_rules::TypeFault;
 
 /// The byte at which a declaration or an expression begins.
 fn byte_at(decls: &Places, nodes: &Places, place: Place) -> u32
@@ -128,8 +129,7 @@ pub fn read_args(alloc: Global, text: &[u8]) -> Result<Option<Values>, NoMemory>
 {
     match parse_args(alloc, text) {
         Ok(args) => Ok(Some(args)),
-        Err(ValueFault::Lex(LexFault::NoMemory)) | Err(ValueFault::Parse(ParseFault::NoMemory)) =>
-            Err(NoMemory),
+        Err(ValueFault::NoMemory) => Err(NoMemory),
         Err(_) => Ok(None),
     }
 }

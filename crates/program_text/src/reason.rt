@@ -2,11 +2,12 @@ ghost use Rattle.std.specs.Prelude.{◌≡◌, ◌++◌, OnOk, OnErr};
 ghost use Rattle.program_text.specs.Reasons.{lex_reason, lex_byte, parse_reason, parse_byte, mismatch_text, type_reason, reason_text, fault_byte};
 
 use crate::fault::TextFault;
-use plan_base::{Bytes, NoMemory, Ty, TypeFault};
+use plan_base::{Bytes, NoMemory, Ty};
 use plan_grammar::ParseFault;
 use plan_lexer::LexFault;
 use plan_printer::print_type;
 use std::alloc::Global;
+use typing_rules::TypeFault;
 
 fn lex_reason(fault: &LexFault) -> &'static [u8]
     ensures { result.now ≡ lex_reason fault.now }

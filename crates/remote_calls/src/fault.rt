@@ -4,11 +4,11 @@ ghost use Rattle.remote_calls.specs.declared.fault.SendFault.{SendFault as Fault
 use plan_base::NoMemory;
 
 /// The refusal of a bound that a purse doesn't pay.
-#[derive(Debug, Clone, Copy, PartialEq, Eq)]
+#[derive(Clone, Copy, PartialEq, Eq)]
 pub struct NoBound;
 
 /// Why a chunk isn't sent: what comes first, in this order.
-#[derive(Debug, Clone, Copy, PartialEq, Eq)]
+#[derive(Clone, Copy, PartialEq, Eq)]
 pub enum SendFault {
     /// The bound is below 1 or more than the purse holds.
     NoBound,

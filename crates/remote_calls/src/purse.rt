@@ -5,7 +5,7 @@ use crate::fault::NoBound;
 use std::marker::Model;
 
 /// The hops and evals that may still be paid, at most 65,535, which contracts see as that number.
-#[derive(Debug, Drop)]
+#[derive(Drop)]
 pub struct Purse {
     holds: u32,
 }

@@ -13,7 +13,7 @@ use plan_base::{Dev, Host, Name};
 use service_api::{Ctx, Hop};
 
 /// What a send pays, and the device that its packet leaves by.
-#[derive(Debug, Clone, Copy)]
+#[derive(Clone, Copy)]
 pub struct Way {
     /// The device.
     pub dev: Dev,

@@ -5,7 +5,7 @@ ghost use Rattle.resident_tables.specs.Counted.{within, counts_less, counts_put,
 use table_rows::Row;
 
 /// How many rows there are, and how many bytes they take.
-#[derive(Debug, Clone, Copy, PartialEq, Eq)]
+#[derive(Clone, Copy, PartialEq, Eq)]
 pub struct Counts {
     /// The number of rows.
     pub rows: usize,

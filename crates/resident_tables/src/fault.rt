@@ -1,5 +1,5 @@
 /// Why a table didn't do what it was asked.
-#[derive(Debug, Clone, Copy, PartialEq, Eq)]
+#[derive(Clone, Copy, PartialEq, Eq)]
 pub enum TableFault {
     /// More than 1,024 rows or 1,048,576 bytes would result.
     TableFull,

@@ -2,7 +2,7 @@ use item_keys::HasKey;
 use plan_base::Text;
 
 /// The key of a row that was removed.
-#[derive(Debug, Drop)]
+#[derive(Drop)]
 pub struct Gone {
     /// The row's name.
     pub name: Text,

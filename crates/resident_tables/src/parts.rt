@@ -3,7 +3,9 @@ ghost use Rattle.table_rows.specs.Rows.{row_size};
 ghost use Rattle.resident_tables.specs.PartRows.{part_row};
 
 use item_keys::HasKey;
-use plan_base::{NoMemory, Text, Ty, Value, type_size, weight};
+use plan_base::{NoMemory, Text, Ty, Value};
+use plan_copies::Copied;
+use plan_sizes::{type_size, weight};
 use std::alloc::Global;
 use table_rows::Row;
 

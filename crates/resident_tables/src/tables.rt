@@ -18,6 +18,8 @@ use crate::parts::Parts;
 use item_keys::HasKey;
 use keyed_list::{KeyedList, Probe};
 use plan_base::{NoMemory, Text, Ty, Value};
+use plan_copies::Copied;
+use plan_equality::Same;
 use std::alloc::Global;
 use std::marker::Model;
 use table_rows::Row;

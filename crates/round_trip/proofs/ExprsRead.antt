@@ -16,7 +16,7 @@ use Rattle.plan_lexer.specs.declared.token.TokenKind.TheVariants as kind
 use Rattle.plan_grammar.specs.declared.joint.Joint.TheVariants as joints
 use Rattle.plan_grammar.specs.Ahead.{Front, behind, place, is_symbol_kind}
 use Rattle.plan_grammar.specs.Exprs.{parens, parens_behind, key_form, symbol_form, expr_to}
-use Rattle.plan_printer.specs.Pieces.{listed}
+use Rattle.printed_forms.specs.Pieces.{listed}
 use Rattle.text_laws.specs.PrintedTokens.{Kinds, mark, op_kinds, type_kinds, clause_kinds, expr_kinds}
 use Rattle.text_laws.specs.Proper.{IsProperOption, IsProper, AreProper, AreProperClauses}
 use Rattle.text_laws.specs.Proper.{IsProper as P, AreProper as M, AreProperClauses as K}

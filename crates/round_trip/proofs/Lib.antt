@@ -7,3 +7,7 @@ pub mod Applied
 pub mod Words
 pub mod Tries
 pub mod ExprsRead
+pub mod Within
+pub mod HeadsRead
+pub mod Declarations
+pub mod ValuesRead

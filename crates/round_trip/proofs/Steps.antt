@@ -14,7 +14,7 @@ use Rattle.plan_grammar.specs.declared.fault.Wanted.{Wanted}
 use Rattle.plan_grammar.specs.Codes.{key_code, symbol_code}
 use Rattle.plan_grammar.specs.Ahead.{Front, Reader, ◌>>=◌, behind, kind_in, next_kind, is_symbol_kind, is_symbol, is_key_kind, is_key, need_symbol, need_key, name_kind, name_at}
 use Rattle.plan_grammar.specs.Types.{opens, more}
-use Rattle.plan_printer.specs.Pieces.{listed}
+use Rattle.printed_forms.specs.Pieces.{listed}
 use Rattle.text_laws.specs.Lexes.{kinds_of}
 use Rattle.round_trip.specs.Reads.{kinds_at, Took, first_kind}
 use Rattle.text_laws.specs.PrintedTokens.{Kinds, mark}

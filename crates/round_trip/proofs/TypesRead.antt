@@ -20,7 +20,7 @@ use Rattle.plan_grammar.specs.declared.fault.Wanted.TheVariants as wanted
 use Rattle.plan_grammar.specs.Ahead.{Front, Reader, behind, place, is_symbol, is_symbol_kind, is_key_kind}
 use Rattle.plan_grammar.specs.Begins.{simple_type, kind_type, begins_type}
 use Rattle.plan_grammar.specs.Types.{named, after_lists, is_list_word, list_words, behind_lists, lists_of, judged, tuple_type, group_type, base_type, whole_type, type_to}
-use Rattle.plan_printer.specs.Pieces.{listed}
+use Rattle.printed_forms.specs.Pieces.{listed}
 use Rattle.text_laws.specs.Lexes.{kinds_of}
 use Rattle.text_laws.specs.PrintedTokens.{Kinds, mark, word, type_kinds_level, type_kinds}
 use Rattle.text_laws.specs.Proper.{base_key, IsProperType, AreProperTypes}

@@ -12,7 +12,7 @@ use Rattle.bound_ledger.proofs.RowLaws.{same_is}
 use Rattle.packet_frame.specs.declared.frame.PlainFrame.{PlainFrame}
 use Rattle.packet_frame.specs.declared.fault.FrameFault.{FrameFault}
 use Rattle.packet_frame.specs.Bytes.{frame_bytes}
-use Rattle.frame_text.specs.Decoding.{frame_of}
+use Rattle.packet_frame.specs.Decoding.{frame_of}
 use Rattle.network_plan.specs.declared.event.WorldEvent.{WorldEvent}
 use Rattle.network_plan.specs.declared.event.WorldEvent.TheVariants.{Inject, Send, Deliver, Lose, Tick, Raw}
 use Rattle.spelled_frame.specs.Spelled.{what_of}
@@ -29,7 +29,7 @@ use Rattle.world_model.specs.declared.lines.Line.TheVariants.{At, Forged, Wire, 
 use Rattle.world_model.specs.declared.lines.LinkEnd.{LinkEnd}
 use Rattle.world_model.specs.declared.lines.Entry.{Entry}
 use Rattle.world_model.specs.declared.lines.Wired.{Wired}
-use Rattle.world_model.specs.World.{WorldState, Happened, nothing, lines_at, step_at, step_place, steps, forged, send_taken, send_at, send_over, send_place, sends, place_of, far_end, wire_place, deliver_at, deliver_to, deliver_frame, deliver_place, delivers, lose_frame, lose_place, loses, acted, happens, entries, history_of}
+use Rattle.world_model.specs.World.{WorldState, EventResult, nothing, lines_at, step_at, step_place, steps, forged, send_taken, send_at, send_over, send_place, sends, place_of, far_end, wire_place, deliver_at, deliver_to, deliver_frame, deliver_place, delivers, lose_frame, lose_place, loses, acted, happens, entries, history_of}
 use Rattle.world_model.specs.Counts.{line_sum, line_forged, tally}
 use Rattle.world_model.specs.Sound.{event_fits, EventsFit}
 use Rattle.network_laws.proofs.CountLaws.{line_sum-nil, line_sum-cons, line_sum-one, line_sum-append, line_sum-at, tally-nil, tally-cons, tally-append, tally-entries}
@@ -149,7 +149,7 @@ inject_one h node chunk bound b = inject_cases (node.serial == 18446744073709551
 
 -- ---- events
 
-abbrev GrantsOnce : Happened → Type 0
+abbrev GrantsOnce : EventResult → Type 0
 GrantsOnce x = line_sum line_grants x.lines ≤ 1
 
 nothing_once : (w : WorldState) → GrantsOnce (nothing w)
@@ -182,7 +182,7 @@ forged_once h (Ok (PlainFrame.Advert a)) = omega (arith, line_sum-nil line_grant
 forged_once h (Ok (PlainFrame.Ask bound chunk)) = omega (arith, line_sum-nil line_grants)
 forged_once h (Err e) = omega (arith, line_sum-nil line_grants)
 
-choice_once : (t : Bool) (a b : Happened) → GrantsOnce a → GrantsOnce b → GrantsOnce (cond t a b)
+choice_once : (t : Bool) (a b : EventResult) → GrantsOnce a → GrantsOnce b → GrantsOnce (cond t a b)
 choice_once true a b x y = x
 choice_once false a b x y = y
 

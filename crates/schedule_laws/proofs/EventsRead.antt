@@ -23,7 +23,7 @@ use Rattle.network_plan.specs.declared.event.WorldEvent.{WorldEvent}
 use Rattle.network_plan.specs.declared.event.WorldEvent.TheVariants as happens
 use Rattle.network_plan.specs.declared.schedule.HostSpec.{HostSpec}
 use Rattle.network_plan.specs.Hosts.{has_host}
-use Rattle.network_plan.specs.Rules.{KeepsEvent, KeepsInjection, MayArrive}
+use Rattle.network_plan.specs.Rules.{KeepsEvent, KeepsInjection, MayArrive, weights}
 use Rattle.line_files.specs.declared.fault.LineReason.{LineReason}
 use Rattle.line_files.specs.declared.fault.LineReason.TheVariants.{UnknownProgram, TooMany, BadArgument}
 use Rattle.line_files.specs.Lines.{words, spaced}
@@ -38,7 +38,7 @@ use Rattle.schedule_text.specs.declared.reading.Reading.{Reading}
 use Rattle.schedule_text.specs.declared.reading.Stage.TheVariants as stages
 use Rattle.schedule_text.specs.Parts.{is_called, program_at}
 use Rattle.schedule_text.specs.Schedules.{with_event, injected_at, inject_line, send_line, frame_at, deliver_line, lose_line, tick_line, raw_line, event_rest, event_line, staying, step, file_after, schedule_format}
-use Rattle.schedule_laws.specs.Written.{NamedText, Written, event_words, IsWritten, EventIsWritten, weights}
+use Rattle.schedule_laws.specs.Written.{NamedText, Written, event_words, IsWritten, EventIsWritten}
 use Rattle.schedule_laws.proofs.WordLaws.{Free, words_are, words_rest, number_free, name_free, hex_free}
 use Rattle.schedule_laws.proofs.ReadSteps.{then_ok, allowed_ok, below_ok, within_ok, number_ok, host_ok, device_ok, Leads, leads-nil, leads-cons}
 use Rattle.schedule_laws.proofs.NetworkRead.{file_at}

@@ -10,7 +10,7 @@ use Rattle.network_plan.specs.declared.schedule.HostSpec.{HostSpec}
 use Rattle.network_plan.specs.declared.schedule.Schedule.{Schedule}
 use Rattle.network_plan.specs.declared.event.WorldEvent.{WorldEvent}
 use Rattle.network_plan.specs.Hosts.{Cable, has_host}
-use Rattle.network_plan.specs.Rules.{KeepsLink, KeepsEvent}
+use Rattle.network_plan.specs.Rules.{KeepsLink, KeepsEvent, weights}
 use Rattle.line_files.specs.Lines.{spaced}
 use Rattle.line_files.specs.Files.{read_on}
 use Rattle.line_files.proofs.Again.{without}
@@ -18,7 +18,7 @@ use Rattle.schedule_text.specs.declared.reading.Reading.{Reading}
 use Rattle.schedule_text.specs.declared.reading.Stage.TheVariants as stages
 use Rattle.schedule_text.specs.Answers.{Says}
 use Rattle.schedule_text.specs.Schedules.{frames_line, network_rest, network_line, step, schedule_format, nothing_read, schedule_of}
-use Rattle.schedule_laws.specs.Written.{NamedText, Written, host_words, link_words, event_words, program_lines, frames_lines, schedule_lines, schedule_text, IsTextLine, IsNamedText, EventIsWritten, weights, IsSchedule}
+use Rattle.schedule_laws.specs.Written.{NamedText, Written, host_words, link_words, event_words, program_lines, frames_lines, schedule_lines, schedule_text, IsTextLine, IsNamedText, EventIsWritten, IsSchedule}
 use Rattle.schedule_laws.proofs.WordLaws.{Free, free-append, spread_lines, line_is, name_free}
 use Rattle.schedule_laws.proofs.ReadSteps.{Leads, leads-nil, leads-cons, leads-one, leads-append}
 use Rattle.schedule_laws.proofs.NetworkRead.{file_at, network_step_ok, host_words_free, hosts_read, link_words_free, links_read}
@@ -130,7 +130,7 @@ module _ (ps : List NamedText) (by : Chunk → Written) (s : Schedule) (is : IsS
   events_begin number = network_step_ok (codes "events") [] carried carried stages.Events number (refl, tt) refl refl
 
   events_lead : Leads (map (λ e. spaced (event_words by e)) s.events) (file_at stages.Events carried) (file_at stages.Events whole)
-  events_lead = events_read ps by s.events [] carried 0 (record { programs = refl; small = small }) is.rules.few is.rules.events is.injected (omega (arith, is.weight))
+  events_lead = events_read ps by s.events [] carried 0 (record { programs = refl; small = small }) is.rules.few is.rules.events is.injected (omega (arith, is.rules.weight))
 
 abbrev nothing_shown : Reading
 nothing_shown = record { frames = false; hosts = []; links = []; programs = []; events = []; weight = 0 }

@@ -10,7 +10,6 @@ use Rattle.plan_base.specs.Words.{is_name}
 use Rattle.plan_base.specs.declared.tree.Chunk.{Chunk}
 use Rattle.plan_base.specs.declared.tree.Fun.{Fun}
 use Rattle.plan_base.specs.declared.tree.Program.{Program}
-use Rattle.plan_base.specs.Sizes.{chunk_weight}
 use Rattle.program_text.specs.Texts.{args_of_text}
 use Rattle.service_api.specs.declared.package.PackageName.{PackageName}
 use Rattle.service_api.specs.declared.package.PackageName.TheVariants as packages
@@ -121,12 +120,6 @@ abbrev pub EventIsWritten : List NamedText → (Chunk → Written) → WorldEven
 EventIsWritten programs by (happens.Inject h chunk bound) = (is_name (by chunk).program ≡ true) × IsWritten programs (by chunk) chunk
 EventIsWritten programs by _ = Unit {0}
 
--- the weights of all injected chunks as values, in sum
-abbrev pub weights : List WorldEvent → ℕ
-weights [] = 0
-weights (happens.Inject h chunk bound ∷ es) = 1 + chunk_weight chunk + weights es
-weights (_ ∷ es) = weights es
-
 -- a schedule within its limits, whose programs and arguments are written
 pub record IsSchedule (ps : List NamedText) (by : Chunk → Written) (s : Schedule) : Type 0 where
   pub rules : KeepsRules s
@@ -134,4 +127,3 @@ pub record IsSchedule (ps : List NamedText) (by : Chunk → Written) (s : Schedu
   pub programs : All IsNamedText ps
   pub differ : NamesDiffer ps
   pub injected : All (EventIsWritten ps by) s.events
-  pub weight : weights s.events ≤ 16777216

@@ -19,7 +19,7 @@ use Rattle.network_plan.specs.declared.schedule.Topology.{Topology}
 use Rattle.network_plan.specs.declared.event.WorldEvent.{WorldEvent}
 use Rattle.network_plan.specs.declared.event.WorldEvent.TheVariants as happens
 use Rattle.network_plan.specs.Hosts.{Cable, host_of, dev_of, has_host, has_link}
-use Rattle.network_plan.specs.Rules.{IsLinkDevice, PackagesDiffer, KeepsLink, KeepsNetwork, KeepsInjection, MayArrive, KeepsEvent, KeepsRules}
+use Rattle.network_plan.specs.Rules.{IsLinkDevice, PackagesDiffer, KeepsLink, KeepsNetwork, KeepsInjection, MayArrive, KeepsEvent, weights, KeepsRules}
 use Rattle.line_files.specs.declared.fault.LineReason.{LineReason}
 use Rattle.line_files.specs.declared.fault.LineReason.TheVariants.{BadHeader, BadWord, UnknownHost, UnknownProgram, TwiceNamed, TooMany, BadArgument}
 use Rattle.line_files.specs.declared.fault.LineFault.{LineFault}
@@ -106,11 +106,21 @@ named_is programs ws all =
 abbrev network_of : Reading → Topology
 network_of s = record { hosts = s.hosts; links = s.links }
 
+-- the weights in sum, which are within the limit
+abbrev IsWeight : List WorldEvent → ℕ → Type 0
+IsWeight es n = (weights es ≡ n) × (n ≤ 16777216)
+
+weights_push : (es : List WorldEvent) (e : WorldEvent) → weights (es ++ e ∷ []) ≡ weights es + weights (e ∷ [])
+weights_push [] e = omega arith
+weights_push (happens.Inject h c n ∷ es) e = let k = weights_push es e in omega (arith, k)
+weights_push (_ ∷ es) e = weights_push es e
+
 record Keeps (s : Reading) : Type 0 where
   network : KeepsNetwork (network_of s)
   programs : All IsNamed s.programs
   few : length s.events ≤ 50000
   events : All (KeepsEvent s.hosts) s.events
+  weight : IsWeight s.events s.weight
 
 add_host : (s : Reading) (n : ℕ) (missing : List PackageName) → Keeps s → length s.hosts < 32 → n < 2 ^ 32 → has_host (host_of n) s.hosts ≡ false → PackagesDiffer missing → Keeps (record s { hosts = s.hosts ++ host_spec n missing ∷ [] })
 add_host s n missing k room small new lacks = record {
@@ -125,6 +135,7 @@ add_host s n missing k room small new lacks = record {
   programs = k.programs;
   few = k.few;
   events = All-weaker (KeepsEvent s.hosts) (KeepsEvent (s.hosts ++ host_spec n missing ∷ [])) (event_stays s.hosts (host_spec n missing)) s.events k.events;
+  weight = k.weight;
 }
 
 host_line_keeps : (ws : List (List ℕ)) (s : Reading) → Keeps s → IfRead Keeps (host_line ws s)
@@ -150,6 +161,7 @@ add_link s l k h from to = record {
   programs = k.programs;
   few = k.few;
   events = k.events;
+  weight = k.weight;
 }
 
 link_line_keeps : (ws : List (List ℕ)) (s : Reading) → Keeps s → IfRead Keeps (link_line ws s)
@@ -172,7 +184,7 @@ link_line_keeps ws s k =
 
 -- what was read says that frames are shown
 shown_keeps : (s : Reading) → Keeps s → Keeps (record s { frames = true })
-shown_keeps s k = record { network = k.network; programs = k.programs; few = k.few; events = k.events }
+shown_keeps s k = record { network = k.network; programs = k.programs; few = k.few; events = k.events; weight = k.weight }
 
 frames_keeps : (ws : List (List ℕ)) (s : Reading) → Keeps s → IfRead Keeps (frames_line ws s)
 unfolding frames_line
@@ -190,6 +202,7 @@ close_keeps begun s k =
       programs = All-push IsNamed s.programs (named begun.name program) k.programs (kept.program_is begun.source.text program hp);
       few = k.few;
       events = k.events;
+      weight = k.weight;
     }))
 
 abbrev KeepsNext : Stage × Reading → Type 0
@@ -212,13 +225,19 @@ network_keeps number ws s k =
 
 -- ---- events
 
-add_event : (s : Reading) (e : WorldEvent) (weight : ℕ) → Keeps s → length s.events < 50000 → KeepsEvent s.hosts e → Keeps (record (with_event s e) { weight = weight })
-add_event s e weight k room h = record {
+add_event : (s : Reading) (e : WorldEvent) (weight : ℕ) → Keeps s → length s.events < 50000 → KeepsEvent s.hosts e → weight ≡ s.weight + weights (e ∷ []) → weight ≤ 16777216
+    → Keeps (record (with_event s e) { weight = weight })
+add_event s e weight k room h sum light = record {
   network = k.network;
   programs = k.programs;
   few = omega (arith, length-append s.events (e ∷ []), room);
   events = All-push (KeepsEvent s.hosts) s.events e k.events h;
+  weight = (let p = weights_push s.events e in let w = k.weight.0 in omega (arith, p, w, sum), light);
 }
+
+-- one that injects nothing
+add_light : (s : Reading) (e : WorldEvent) → Keeps s → length s.events < 50000 → KeepsEvent s.hosts e → weights (e ∷ []) ≡ 0 → Keeps (record (with_event s e) { weight = s.weight })
+add_light s e k room h none = add_event s e s.weight k room h (omega (arith, none)) k.weight.1
 
 abbrev IsInjected : List HostSpec → Host × Chunk × ℕ → Type 0
 IsInjected hosts i = (has_host i.0 hosts ≡ true) × KeepsInjection i.1 i.2
@@ -236,7 +255,8 @@ unfolding inject_line
 inject_keeps ws s k room =
     then_keeps Keeps (injected_at s ws) _ (λ i hi.
     then_keeps Keeps (weighed s.weight i.1) _ (λ total ht.
-    done_keeps Keeps _ (add_event s (happens.Inject i.0 i.1 i.2) total k room (injected_is ws s k i hi))))
+    let w = kept.weighed_is s.weight i.1 total ht in
+    done_keeps Keeps _ (add_event s (happens.Inject i.0 i.1 i.2) total k room (injected_is ws s k i hi) (let e = w.0 in omega (arith, e)) w.1)))
 
 send_keeps : (ws : List (List ℕ)) (s : Reading) → Keeps s → length s.events < 50000 → IfRead Keeps (send_line ws s)
 unfolding send_line
@@ -244,7 +264,7 @@ send_keeps ws s k room =
     then_keeps Keeps (host_at s.hosts ws) _ (λ h hh.
     then_keeps Keeps (device_at h.1) _ (λ d hd.
     then_keeps Keeps (end_at d.1) _ (λ u hu.
-    done_keeps Keeps _ (add_event s (happens.Send h.0 d.0) s.weight k room (host_is s.hosts ws h hh, any_device_is h.1 d hd)))))
+    done_keeps Keeps _ (add_light s (happens.Send h.0 d.0) k room (host_is s.hosts ws h hh, any_device_is h.1 d hd) refl))))
 
 abbrev IsFrame : ℕ → Type 0
 IsFrame n = n < 2 ^ 32
@@ -258,18 +278,18 @@ frame_is ws =
 
 deliver_keeps : (ws : List (List ℕ)) (s : Reading) → Keeps s → length s.events < 50000 → IfRead Keeps (deliver_line ws s)
 unfolding deliver_line
-deliver_keeps ws s k room = then_keeps Keeps (frame_at ws) _ (λ n hn. done_keeps Keeps _ (add_event s (happens.Deliver n) s.weight k room (frame_is ws n hn)))
+deliver_keeps ws s k room = then_keeps Keeps (frame_at ws) _ (λ n hn. done_keeps Keeps _ (add_light s (happens.Deliver n) k room (frame_is ws n hn) refl))
 
 lose_keeps : (ws : List (List ℕ)) (s : Reading) → Keeps s → length s.events < 50000 → IfRead Keeps (lose_line ws s)
 unfolding lose_line
-lose_keeps ws s k room = then_keeps Keeps (frame_at ws) _ (λ n hn. done_keeps Keeps _ (add_event s (happens.Lose n) s.weight k room (frame_is ws n hn)))
+lose_keeps ws s k room = then_keeps Keeps (frame_at ws) _ (λ n hn. done_keeps Keeps _ (add_light s (happens.Lose n) k room (frame_is ws n hn) refl))
 
 tick_keeps : (ws : List (List ℕ)) (s : Reading) → Keeps s → length s.events < 50000 → IfRead Keeps (tick_line ws s)
 unfolding tick_line
 tick_keeps ws s k room =
     then_keeps Keeps (host_at s.hosts ws) _ (λ h hh.
     then_keeps Keeps (end_at h.1) _ (λ u hu.
-    done_keeps Keeps _ (add_event s (happens.Tick h.0) s.weight k room (host_is s.hosts ws h hh))))
+    done_keeps Keeps _ (add_light s (happens.Tick h.0) k room (host_is s.hosts ws h hh) refl)))
 
 arrives : (bytes : List ℕ) → AreSized 1 16513 bytes → MayArrive bytes
 arrives bytes a = record { some = a.from; few = a.to; are_bytes = a.are_bytes }
@@ -281,7 +301,7 @@ raw_keeps ws s k room =
     then_keeps Keeps (device_at h.1) _ (λ d hd.
     then_keeps Keeps (hex_at 1 16513 d.1) _ (λ bytes hb.
     then_keeps Keeps (end_at bytes.1) _ (λ u hu.
-    done_keeps Keeps _ (add_event s (happens.Raw h.0 d.0 bytes.0) s.weight k room (host_is s.hosts ws h hh, any_device_is h.1 d hd, arrives bytes.0 (hex_is 1 16513 d.1 bytes hb)))))))
+    done_keeps Keeps _ (add_light s (happens.Raw h.0 d.0 bytes.0) k room (host_is s.hosts ws h hh, any_device_is h.1 d hd, arrives bytes.0 (hex_is 1 16513 d.1 bytes hb)) refl)))))
 
 event_rest_keeps : (kind : EventWord) (ws : List (List ℕ)) (s : Reading) → Keeps s → length s.events < 50000 → IfRead Keeps (event_rest kind ws s)
 unfolding event_rest
@@ -327,7 +347,7 @@ line_keeps : (number : ℕ) (line : List ℕ) (f : ScheduleFile) → KeepsFile f
 line_keeps number line f k = after_keeps (step number line f.stage f.reading) (step_keeps number line f.stage f.reading k)
 
 whole_keeps : (s : Reading) → Keeps s → KeepsRules (schedule_of_reading s)
-whole_keeps s k = record { network = k.network; few = k.few; events = k.events }
+whole_keeps s k = record { network = k.network; few = k.few; events = k.events; weight = (let e = k.weight.0 in let l = k.weight.1 in omega (arith, e, l)) }
 
 finish_keeps : (number : ℕ) (stage : Stage) (s : Reading) → Keeps s → IfStep KeepsRules (finish number stage s)
 finish_keeps number stages.Header s k y e = absurd cc
@@ -348,6 +368,7 @@ nothing_keeps = record {
   programs = All-nil IsNamed;
   few = omega arith;
   events = All-nil (KeepsEvent []);
+  weight = (refl, omega arith);
 }
 
 -- a file's schedule keeps the rules

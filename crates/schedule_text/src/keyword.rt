@@ -4,7 +4,7 @@ ghost use Rattle.schedule_text.specs.Schedules.{network_word, event_word};
 use line_files::is;
 
 /// The first word of a line of the network.
-#[derive(Debug, Clone, Copy, PartialEq, Eq)]
+#[derive(Clone, Copy, PartialEq, Eq)]
 pub enum NetworkWord {
     /// `frames`
     Frames,
@@ -19,7 +19,7 @@ pub enum NetworkWord {
 }
 
 /// The first word of an event.
-#[derive(Debug, Clone, Copy, PartialEq, Eq)]
+#[derive(Clone, Copy, PartialEq, Eq)]
 pub enum EventWord {
     /// `inject`
     Inject,

@@ -5,7 +5,7 @@ use plan_items::Items;
 use plan_types::Checked;
 
 /// A typed program of a file, with the name that the file gives it.
-#[derive(Debug, Drop)]
+#[derive(Drop)]
 pub struct NamedProgram {
     /// Its name.
     pub name: Name,
@@ -17,7 +17,7 @@ pub struct NamedProgram {
 pub type NamedPrograms = Items<NamedProgram>;
 
 /// What the lines read so far have said.
-#[derive(Debug, Drop)]
+#[derive(Drop)]
 pub struct Reading {
     /// Whether the trace shows frames.
     pub frames: bool,
@@ -34,7 +34,7 @@ pub struct Reading {
 }
 
 /// A program whose lines are being read.
-#[derive(Debug, Drop)]
+#[derive(Drop)]
 pub struct BegunProgram {
     /// Its name.
     pub name: Name,
@@ -43,7 +43,7 @@ pub struct BegunProgram {
 }
 
 /// Which lines may come next.
-#[derive(Debug, Drop)]
+#[derive(Drop)]
 pub enum Stage {
     /// The header.
     Header,
@@ -56,7 +56,7 @@ pub enum Stage {
 }
 
 /// A schedule that is being read.
-#[derive(Debug, Drop)]
+#[derive(Drop)]
 pub struct ScheduleFile {
     /// Which lines may come next.
     pub stage: Stage,

@@ -12,7 +12,7 @@ pub fn lines_again()
         → (node_run cfg node script last answers n refused).entries ≡ played 0 node (node_run cfg node script last answers n refused).events }
 {}
 
-/// More turns only go on from fewer: log, lines and frames sent are fronts.
+/// More turns only go on from fewer: log, lines and frames sent are prefixes.
 pub fn goes_on()
     ensures { (cfg : ServeConfig) (script : List Arrival) (last : ℕ) (answers : List ℕ) (refused : List ℕ) (r : Running) (n more : ℕ)
         → Ext (turns cfg script last answers n refused r) (turns cfg script last answers (n + more) refused r) }

@@ -7,7 +7,7 @@ use Rattle.small_laws.proofs.Options.{none-some, some-same}
 use Rattle.plan_base.specs.declared.tree.Ty.{Ty}
 use Rattle.plan_base.specs.declared.tree.Ty.TheVariants as type
 use Rattle.plan_base.specs.declared.tree.Svc.{Svc}
-use Rattle.plan_base.specs.TypingOrder.{same_type}
+use Rattle.plan_base.specs.SameTypes.{same_type}
 use Rattle.plan_base.proofs.SameTypes.{same_type_true, same_type_of}
 use Rattle.service_api.specs.declared.scheme.SchemeTy.{SchemeTy}
 use Rattle.service_api.specs.declared.scheme.SchemeTy.TheVariants.{Any, Is}

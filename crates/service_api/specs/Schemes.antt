@@ -7,7 +7,7 @@ use Rattle.plan_base.specs.declared.tree.Svc.{Svc}
 use Rattle.service_api.specs.declared.scheme.SchemeTy.{SchemeTy}
 use Rattle.service_api.specs.declared.scheme.SchemeTy.TheVariants.{Any, Is}
 use Rattle.service_api.specs.declared.scheme.Scheme.{Scheme}
-use Rattle.plan_base.specs.TypingOrder.{same_type}
+use Rattle.plan_base.specs.SameTypes.{same_type}
 
 -- what a type of the row stands for where `Any` is a
 abbrev pub stands_for : Ty → SchemeTy → Ty

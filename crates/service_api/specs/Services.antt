@@ -16,7 +16,7 @@ use Rattle.service_api.specs.declared.answer.Answer.TheVariants.{Gives, Raises}
 use Rattle.service_api.specs.declared.ctx.Ctx.{Ctx}
 use Rattle.service_api.specs.declared.scheme.Scheme.{Scheme}
 use Rattle.service_api.specs.Schemes.{is_instance_of}
-use Rattle.plan_base.specs.Typing.{HasType, IsSmall, IsTypedChunk}
+use Rattle.typing_rules.specs.Typing.{HasType, IsSmall, IsTypedChunk}
 use Rattle.plan_base.specs.WellFormed.{IsWellFormedValue, IsWellFormedChunk}
 
 -- ---- the state: a table's rows and its next key
@@ -41,7 +41,7 @@ pub record Offer : Type 0 where
 
 -- what a value of `Services` stands for. `begun` is the state at the open `begin`, and `ready` says whether
 -- `ready` was answered since the last `call`
-pub record Standing : Type 0 where
+pub record ServiceState : Type 0 where
   pub offer : Offer
   pub rows : Rows
   pub begun : Option Rows
@@ -50,34 +50,34 @@ pub record Standing : Type 0 where
 -- ---- what the calls do
 
 -- what a call at this standing answers
-abbrev pub served : Standing → Svc → List Value → Ctx → Served
+abbrev pub served : ServiceState → Svc → List Value → Ctx → Served
 served n svc args ctx = n.offer.serve svc args ctx n.rows
 
 -- the standing after a call that left these rows
-abbrev pub called : Rows → Standing → Standing
+abbrev pub called : Rows → ServiceState → ServiceState
 called rows n = record n { rows = rows; ready = false }
 
-abbrev pub Answers : Standing → Svc → List Value → Ctx → Answer → Standing → Type 0
+abbrev pub Answers : ServiceState → Svc → List Value → Ctx → Answer → ServiceState → Type 0
 Answers old svc args ctx a new = ((served old svc args ctx).answer ≡ a) × (new ≡ called (served old svc args ctx).rows old)
 
-abbrev pub begun_now : Standing → Standing
+abbrev pub begun_now : ServiceState → ServiceState
 begun_now n = record n { begun = Some n.rows; ready = false }
 
-abbrev pub made_ready : Standing → Standing
+abbrev pub made_ready : ServiceState → ServiceState
 made_ready n = record n { ready = true }
 
-abbrev pub kept : Standing → Standing
+abbrev pub kept : ServiceState → ServiceState
 kept n = record n { begun = None; ready = false }
 
 abbrev pub rows_at : Option Rows → Rows → Rows
 rows_at (Some rows) now = rows
 rows_at None now = now
 
-abbrev pub abandoned : Standing → Standing
+abbrev pub abandoned : ServiceState → ServiceState
 abandoned n = record n { rows = rows_at n.begun n.rows; begun = None; ready = false }
 
 -- the rows that are there at a tick stay
-abbrev pub expired : ℕ → Standing → Standing
+abbrev pub expired : ℕ → ServiceState → ServiceState
 expired now n = record n { rows = record n.rows { rows = living now n.rows.rows } }
 
 -- ---- the laws
@@ -153,6 +153,6 @@ RefusesOthers offer = (svc : Svc) (args : List Value) (ctx : Ctx) (rows : Rows) 
     → offer.serve svc args ctx rows ≡ refused rows
 
 -- what a visit may rely on
-pub record IsGood (n : Standing) : Type 0 where
+pub record IsGood (n : ServiceState) : Type 0 where
   pub serve : IsGoodServe n.offer.serve
   pub rows : AreGoodRows n.rows

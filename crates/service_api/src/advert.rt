@@ -2,7 +2,7 @@ use plan_base::Host;
 use plan_items::Items;
 
 /// A host, and the cost of a route to it.
-#[derive(Debug, Clone, Copy, PartialEq, Eq)]
+#[derive(Clone, Copy, PartialEq, Eq)]
 pub struct AdvertRow {
     /// The host.
     pub host: Host,
@@ -14,7 +14,7 @@ pub struct AdvertRow {
 pub type AdvertRows = Items<AdvertRow>;
 
 /// The routes that a node tells its neighbours.
-#[derive(Debug, Drop)]
+#[derive(Drop)]
 pub struct Advert {
     /// The node.
     pub host: Host,

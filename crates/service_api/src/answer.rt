@@ -2,7 +2,7 @@ use plan_base::{Exn, Value};
 use plan_items::Items;
 
 /// What a service tells the node's owner.
-#[derive(Debug, Drop)]
+#[derive(Drop)]
 pub enum Note {
     /// A value that was printed.
     Print(Value),
@@ -14,7 +14,7 @@ pub enum Note {
 pub type Notes = Items<Note>;
 
 /// The answer of a service.
-#[derive(Debug, Drop)]
+#[derive(Drop)]
 pub enum Answer {
     /// A value, and a note where the service made one.
     Gives(Value, Option<Note>),

@@ -9,7 +9,7 @@ use std::alloc::Global;
 pub type Neighbours = Items<(Host, Dev)>;
 
 /// What stands around a visit. It doesn't change within one, but for the purse.
-#[derive(Debug, Drop)]
+#[derive(Drop)]
 pub struct Ctx {
     /// The host of the node.
     pub here: Host,

@@ -1,7 +1,7 @@
 use plan_items::Items;
 
 /// A package of services.
-#[derive(Debug, Clone, Copy, PartialEq, Eq)]
+#[derive(Clone, Copy, PartialEq, Eq)]
 pub enum PackageName {
     /// What a node knows of itself and of the network.
     Net,

@@ -8,7 +8,7 @@ use std::alloc::Global;
 use std::marker::Model;
 
 /// A route to a host.
-#[derive(Debug, Clone, Copy)]
+#[derive(Clone, Copy)]
 pub struct RouteRow {
     /// The host.
     pub host: Host,
@@ -24,7 +24,7 @@ pub struct RouteRow {
 pub type RouteRows = Items<RouteRow>;
 
 /// Where a packet goes next.
-#[derive(Debug, Clone, Copy)]
+#[derive(Clone, Copy)]
 pub enum Hop {
     /// To this neighbour over this device.
     To(Host, Dev),
@@ -35,7 +35,7 @@ pub enum Hop {
 }
 
 /// The routes of a node by host, which contracts see as a list.
-#[derive(Debug, Drop)]
+#[derive(Drop)]
 pub struct Router {
     rows: RouteRows,
 }

@@ -2,7 +2,7 @@ use plan_base::Ty;
 use plan_items::Items;
 
 /// A type in a service's row.
-#[derive(Debug, Drop)]
+#[derive(Drop)]
 pub enum SchemeTy {
     /// Any type, the same at each place of the row.
     Any,
@@ -14,7 +14,7 @@ pub enum SchemeTy {
 pub type SchemeTys = Items<SchemeTy>;
 
 /// The type of a service.
-#[derive(Debug, Drop)]
+#[derive(Drop)]
 pub struct Scheme {
     /// The types of its arguments.
     pub params: SchemeTys,

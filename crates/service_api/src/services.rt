@@ -1,5 +1,5 @@
 ghost use Rattle.std.specs.Prelude.{◌≡◌, ◌≤◌, length, IfOk, OnOk, OnErr, IsSome, IsTrue, None};
-ghost use Rattle.service_api.specs.Services.{Standing, Answers, AreGoodRows, AreGoodValues, begun_now, made_ready, kept, abandoned, expired, IsGoodServe, RefusesOthers};
+ghost use Rattle.service_api.specs.Services.{ServiceState, Answers, AreGoodRows, AreGoodValues, begun_now, made_ready, kept, abandoned, expired, IsGoodServe, RefusesOthers};
 
 use crate::answer::Answer;
 use crate::ctx::Ctx;
@@ -16,7 +16,7 @@ use std::alloc::Global;
 /// declaration of a name that isn't offered, or that is no instance of the type of its name, means `NoService` and
 /// leaves the rows (`refuses`).
 pub trait Services {
-    ghost stands: { Self → Standing };
+    ghost stands: { Self → ServiceState };
 
     /// The type of the service of that name, and `None` where there is none.
     fn scheme(&self, alloc: Global, name: &Name) -> Result<Option<Scheme>, NoMemory>
@@ -26,7 +26,7 @@ pub trait Services {
     /// limits; the context has at most 8 neighbours.
     ///
     /// Whatever it answers, the offer and the rows at `begin` stay, and the `begin` is still open. After
-    /// `NoMemory` no more is said of the rows, and the caller abandons.
+    /// `NoMemory` the rows are as before.
     fn call(
         &mut self,
         alloc: Global,
@@ -40,7 +40,8 @@ pub trait Services {
         ensures ok { IfOk result (λ a. Answers (stands self.old) svc.now args.now ctx.entry.now a (stands self.new)) }
         ensures offer { (stands self.new).offer ≡ (stands self.old).offer }
         ensures begun { (stands self.new).begun ≡ (stands self.old).begun }
-        ensures still { IsSome (stands self.new).begun };
+        ensures still { IsSome (stands self.new).begun }
+        ensures stays { OnErr result ((stands self.new).rows ≡ (stands self.old).rows) };
 
     /// Opens a `begin`. Condition: none is open. The rows are those of a table within its limits, each of the
     /// type at which it was kept, whatever it answers.

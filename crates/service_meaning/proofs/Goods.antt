@@ -28,7 +28,7 @@ use Rattle.service_api.specs.Services.{Rows, Served, IsGoodServe, IsGoodServed, 
 use Rattle.service_api.proofs.InstanceLaws.{found_is}
 use Rattle.service_meaning.specs.declared.service.Service.{Service}
 use Rattle.service_meaning.specs.declared.service.Service.TheVariants as service
-use Rattle.service_meaning.specs.Offered.{Present, offered, name_of, type_of, hop_type}
+use Rattle.service_meaning.specs.Offered.{InstalledPackages, offered, name_of, type_of, hop_type}
 use Rattle.service_meaning.specs.Answers.{given, noted, raised, without_arguments, of_one, of_two, of_four, of_host, of_int, of_text, key_of, cost_in, distance, hop_answer, put_answer, kept, got_answer, key_answer, delivered, serve_as, no_route, table_full, not_found, expiry_after}
 use Rattle.service_meaning.specs.Serving.{serve_at, serve_offered, serve}
 use Rattle.service_meaning.proofs.Refusals.{offered_is}
@@ -199,10 +199,10 @@ at_good s (Some a) svc args ctx rows f n gr ga near =
     as_good s a svc args ctx rows n i.result gr (params_good a (type_of s).params svc.params args i.params ga) near
 at_good s None svc args ctx rows f n gr ga near = refused_good svc rows gr
 
-offered_good : (p : Present) (o : Option Service) (svc : Svc) (args : List Value) (ctx : Ctx) (rows : Rows) → offered p svc.name ≡ o → AreGoodRows rows → AreGoodValues svc.params args → length ctx.neighbours ≤ 8 → IsGoodServed svc (serve_offered o svc args ctx rows)
+offered_good : (p : InstalledPackages) (o : Option Service) (svc : Svc) (args : List Value) (ctx : Ctx) (rows : Rows) → offered p svc.name ≡ o → AreGoodRows rows → AreGoodValues svc.params args → length ctx.neighbours ≤ 8 → IsGoodServed svc (serve_offered o svc args ctx rows)
 offered_good p (Some s) svc args ctx rows e gr ga near = at_good s (instance (type_of s) svc) svc args ctx rows refl (offered_is p svc.name s e) gr ga near
 offered_good p None svc args ctx rows e gr ga near = refused_good svc rows gr
 
-pub serve_good : (p : Present) → IsGoodServe (serve p)
+pub serve_good : (p : InstalledPackages) → IsGoodServe (serve p)
 unfolding serve
 serve_good p svc args ctx rows gr ga near = offered_good p (offered p svc.name) svc args ctx rows refl gr ga near

@@ -15,7 +15,7 @@ use Rattle.plan_base.specs.Sizes.{weight, nesting, weight_level, nesting_level, 
 use Rattle.plan_base.specs.WellFormed.{formed_value, formed_value_level, formed_chunk, formed_type, formed_type_level}
 use Rattle.plan_base.proofs.SizeLaws.{weight_out, nesting_out, value_depth_out, type_size_out, type_depth_out}
 use Rattle.plan_base.proofs.FormLaws.{formed_value_out, formed_type_out}
-use Rattle.plan_base.specs.Typing.{HasType, AllHaveType, tuple, list, no_values, and_value, no_items, and_item}
+use Rattle.typing_rules.specs.Typing.{HasType, AllHaveType, tuple, list, no_values, and_value, no_items, and_item}
 use Rattle.service_api.specs.Services.{IsGoodValue}
 use Rattle.service_meaning.specs.Offered.{hop_type}
 use Rattle.service_meaning.specs.Answers.{hop_value}

@@ -12,7 +12,7 @@ use Rattle.plan_base.specs.Sizes.{weight, nesting, weight_level, nesting_level, 
 use Rattle.plan_base.specs.WellFormed.{formed_value, formed_value_level, formed_chunk, well_formed_value}
 use Rattle.plan_base.proofs.SizeLaws.{weight_out, nesting_out, value_depth_out}
 use Rattle.plan_base.proofs.FormLaws.{formed_value_out}
-use Rattle.plan_base.specs.Typing.{HasType, unit, bool, int, host, dev}
+use Rattle.typing_rules.specs.Typing.{HasType, unit, bool, int, host, dev}
 use Rattle.service_api.specs.Services.{IsGoodValue}
 
 -- the sizes of a value by its level

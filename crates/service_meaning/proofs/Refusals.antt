@@ -10,7 +10,7 @@ use Rattle.service_api.specs.declared.ctx.Ctx.{Ctx}
 use Rattle.service_api.specs.Schemes.{instance, is_instance_of}
 use Rattle.service_api.specs.Services.{Rows, RefusesOthers, refused}
 use Rattle.service_meaning.specs.declared.service.Service.{Service}
-use Rattle.service_meaning.specs.Offered.{Present, name_of, named, all_services, if_there, is_there, package_of, offered, type_of, type_offered}
+use Rattle.service_meaning.specs.Offered.{InstalledPackages, name_of, named, all_services, if_there, is_there, package_of, offered, type_of, type_offered}
 use Rattle.service_meaning.specs.Serving.{serve_at, serve_offered, serve, offer}
 
 refused_at : (t : Option Ty) (s : Service) (args : List Value) (ctx : Ctx) (rows : Rows) → is_some t ≡ false → serve_at t s args ctx rows ≡ refused rows
@@ -21,7 +21,7 @@ refused_offered : (o : Option Service) (svc : Svc) (args : List Value) (ctx : Ct
 refused_offered None svc args ctx rows e = refl
 refused_offered (Some s) svc args ctx rows e = refused_at (instance (type_of s) svc) s args ctx rows e
 
-pub refuses : (p : Present) → RefusesOthers (offer p)
+pub refuses : (p : InstalledPackages) → RefusesOthers (offer p)
 unfolding serve
 refuses p svc args ctx rows e = refused_offered (offered p svc.name) svc args ctx rows e
 
@@ -39,9 +39,9 @@ if_some : (b : Bool) (x s : Service) → (if b then Some x else None) ≡ Some s
 if_some true x s f = f
 if_some false x s f = absurd (none-some f)
 
-there_is : (p : Present) (o : Option Service) (s : Service) → if_there p o ≡ Some s → o ≡ Some s
+there_is : (p : InstalledPackages) (o : Option Service) (s : Service) → if_there p o ≡ Some s → o ≡ Some s
 there_is p None s e = e
 there_is p (Some x) s e = if_some (is_there p (package_of x)) x s e
 
-pub offered_is : (p : Present) (name : List ℕ) (s : Service) → offered p name ≡ Some s → name ≡ name_of s
+pub offered_is : (p : InstalledPackages) (name : List ℕ) (s : Service) → offered p name ≡ Some s → name ≡ name_of s
 offered_is p name s e = named_is name s all_services (there_is p (named all_services name) s e)

@@ -11,7 +11,7 @@ use Rattle.std.proofs.lemmas.List.Sums.{sum_by-cons}
 use Rattle.small_laws.proofs.Options.{none-some, some-same}
 use Rattle.plan_base.specs.declared.tree.Ty.{Ty}
 use Rattle.plan_base.specs.declared.tree.Value.{Value}
-use Rattle.plan_base.specs.TypingOrder.{same_type}
+use Rattle.plan_base.specs.SameTypes.{same_type}
 use Rattle.plan_base.proofs.SameTypes.{same_type_true}
 use Rattle.item_keys.specs.Keys.{Key, same_key}
 use Rattle.table_rows.specs.declared.row.Row.{Row}

@@ -72,27 +72,27 @@ named [] name = None
 named (s ∷ ss) name = if bytes_eq (name_of s) name then Some s else named ss name
 
 -- the packages that are there
-pub record Present : Type 0 where
+pub record InstalledPackages : Type 0 where
   pub net : Bool
   pub resident : Bool
   pub host : Bool
 
-abbrev pub is_there : Present → PackageName → Bool
+abbrev pub is_there : InstalledPackages → PackageName → Bool
 is_there p Net = p.net
 is_there p Resident = p.resident
 is_there p Host = p.host
 
-abbrev pub if_there : Present → Option Service → Option Service
+abbrev pub if_there : InstalledPackages → Option Service → Option Service
 if_there p (Some s) = if is_there p (package_of s) then Some s else None
 if_there p None = None
 
 -- the service of the name, where its package is there
-abbrev pub offered : Present → List ℕ → Option Service
+abbrev pub offered : InstalledPackages → List ℕ → Option Service
 offered p name = if_there p (named all_services name)
 
 abbrev pub type_offered : Option Service → Option Scheme
 type_offered (Some s) = Some (type_of s)
 type_offered None = None
 
-abbrev pub scheme_of : Present → List ℕ → Option Scheme
+abbrev pub scheme_of : InstalledPackages → List ℕ → Option Scheme
 scheme_of p name = type_offered (offered p name)

@@ -8,7 +8,7 @@ use Rattle.service_api.specs.declared.ctx.Ctx.{Ctx}
 use Rattle.service_api.specs.Schemes.{instance}
 use Rattle.service_api.specs.Services.{Rows, Served, Offer, refused}
 use Rattle.service_meaning.specs.declared.service.Service.{Service}
-use Rattle.service_meaning.specs.Offered.{Present, offered, scheme_of, type_of}
+use Rattle.service_meaning.specs.Offered.{InstalledPackages, offered, scheme_of, type_of}
 use Rattle.service_meaning.specs.Answers.{serve_as}
 
 abbrev pub serve_at : Option Ty → Service → List Value → Ctx → Rows → Served
@@ -20,8 +20,8 @@ serve_offered (Some s) svc args ctx rows = serve_at (instance (type_of s) svc) s
 serve_offered None svc args ctx rows = refused rows
 
 -- what a call means where these packages are there
-unfoldable pub serve : Present → Svc → List Value → Ctx → Rows → Served
+unfoldable pub serve : InstalledPackages → Svc → List Value → Ctx → Rows → Served
 serve p svc args ctx rows = serve_offered (offered p svc.name) svc args ctx rows
 
-abbrev pub offer : Present → Offer
+abbrev pub offer : InstalledPackages → Offer
 offer p = record { scheme = scheme_of p; serve = serve p }

@@ -1,15 +1,15 @@
 ghost use Rattle.service_api.specs.Services.{IsGoodServe, RefusesOthers};
-ghost use Rattle.service_meaning.specs.Offered.{Present};
+ghost use Rattle.service_meaning.specs.Offered.{InstalledPackages};
 ghost use Rattle.service_meaning.specs.Serving.{serve, offer};
 
 /// Whichever packages are there: from good rows, good arguments and at most 8 neighbours each service gives a good
 /// value of its declared type and a good note or raises one of its exceptions, and leaves good rows.
 pub fn answers_are_good()
-    ensures { (p : Present) → IsGoodServe (serve p) }
+    ensures { (p : InstalledPackages) → IsGoodServe (serve p) }
 {}
 
 /// Whichever packages are there: a declaration of a name that isn't offered, or that is no instance of the type of
 /// its name, is `NoService`, and the rows stay.
 pub fn others_are_refused()
-    ensures { (p : Present) → RefusesOthers (offer p) }
+    ensures { (p : InstalledPackages) → RefusesOthers (offer p) }
 {}

@@ -1,5 +1,5 @@
 /// A service of the packages.
-#[derive(Debug, Clone, Copy, PartialEq, Eq)]
+#[derive(Clone, Copy, PartialEq, Eq)]
 pub enum Service {
     /// This host.
     ThisHost,

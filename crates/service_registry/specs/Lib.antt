@@ -1,5 +1,5 @@
 pub mod Held
-pub mod There
+pub mod Packages
 pub mod Laws
 pub mod Meets
 pub mod Arguments

@@ -6,6 +6,7 @@ ghost use Rattle.service_registry.specs.Meets.{Tells};
 use crate::answers::{bad_index, refused};
 use crate::arguments::as_int;
 use plan_base::{NoMemory, Value};
+use plan_copies::Copied;
 use service_api::{Answer, Note};
 use service_meaning::Service;
 use std::alloc::Global;

@@ -4,12 +4,12 @@
 mod answers;
 mod arguments;
 mod host;
+mod installed_packages;
 mod net;
 mod offered;
 mod registry;
 mod resident;
 mod serving;
-mod there;
 mod types;
 
 pub use registry::Registry;

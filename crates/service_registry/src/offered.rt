@@ -1,8 +1,8 @@
 ghost use Rattle.std.specs.Prelude.{◌≡◌};
 ghost use Rattle.service_meaning.specs.Offered as spec;
-ghost use Rattle.service_registry.specs.There.{present_of};
+ghost use Rattle.service_registry.specs.Packages.{present_of};
 
-use crate::there::There;
+use crate::installed_packages::InstalledPackages;
 use plan_base::Name;
 use service_api::PackageName;
 use service_meaning::Service;
@@ -81,7 +81,7 @@ fn named(name: &Name) -> Option<Service>
 }
 
 /// The service of the name, where its package is there.
-pub fn offered(there: There, name: &Name) -> Option<Service>
+pub fn offered(there: InstalledPackages, name: &Name) -> Option<Service>
     ensures { result ≡ spec.offered (present_of there) name.now }
 {
     match named(name) {

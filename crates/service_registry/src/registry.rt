@@ -1,11 +1,11 @@
-ghost use Rattle.std.specs.Prelude.{◌≡◌};
-ghost use Rattle.service_meaning.specs.Beginning.{present_without, opening_standing};
+ghost use Rattle.std.specs.Prelude.{◌≡◌, None};
+ghost use Rattle.service_meaning.specs.Beginning.{one_less, present_without, opening_standing};
 ghost use Rattle.service_registry.specs.Held.{standing};
 ghost use Rattle.service_registry.specs.Laws.{registry_good, registry_refuses};
 
+use crate::installed_packages::InstalledPackages;
 use crate::offered::offered;
 use crate::serving::served;
-use crate::there::There;
 use crate::types::type_of;
 use plan_base::{Name, NoMemory, Svc, Values};
 use resident_tables::{Overlay, Tables};
@@ -18,7 +18,7 @@ use std::marker::Model;
 /// The changes of a visit stand in a layer over the table, so that nothing is copied when a `begin` is opened.
 #[derive(Drop)]
 pub struct Registry {
-    there: There,
+    there: InstalledPackages,
     tables: Tables,
     /// The changes since `begin`, while one is open.
     changes: Option<Overlay>,
@@ -34,7 +34,7 @@ impl Model for Registry {
 
     ghost coded = { held_code };
 
-    ghost use Rattle.service_registry.specs.There.{present_of};
+    ghost use Rattle.service_registry.specs.Packages.{present_of};
 
     ghost view = { λ r. held (present_of r.there) r.tables r.changes r.is_ready };
 
@@ -47,10 +47,29 @@ impl Registry {
         ensures { standing result ≡ opening_standing (present_without missing.now) }
     {
         Registry {
-            there: There::without(missing),
+            there: InstalledPackages::without(missing),
             tables: Tables::new(alloc),
             changes: None,
             is_ready: false,
+        }
+    }
+
+    /// The same without that package: its services are then absent. Condition: no `begin` is open. Takes no memory.
+    pub fn without(self, missing: PackageName) -> Registry
+        requires { self.begun ≡ None }
+        ensures { result ≡ record self { there = one_less self.there missing } }
+    {
+        let Registry {
+            there,
+            tables,
+            changes,
+            is_ready,
+        } = self;
+        Registry {
+            there: there.one_less(missing),
+            tables,
+            changes,
+            is_ready,
         }
     }
 }

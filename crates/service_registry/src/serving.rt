@@ -6,14 +6,14 @@ ghost use Rattle.service_meaning.specs.Offered as offered;
 ghost use Rattle.service_meaning.specs.Serving.{serve, serve_at};
 ghost use Rattle.service_registry.specs.Held.{rows_over};
 ghost use Rattle.service_registry.specs.Meets.{Meets};
-ghost use Rattle.service_registry.specs.There.{present_of};
+ghost use Rattle.service_registry.specs.Packages.{present_of};
 
 use crate::answers::refused;
 use crate::host::{deliver, print};
+use crate::installed_packages::InstalledPackages;
 use crate::net::{get_dist, get_neighbors, get_rb, get_source, next_hop, this_host, this_host_is};
 use crate::offered::offered;
 use crate::resident::{generate_key, get, put, remove};
-use crate::there::There;
 use crate::types::type_of;
 use plan_base::{NoMemory, Svc, Ty, Value};
 use resident_tables::{Overlay, Tables};
@@ -86,7 +86,7 @@ fn served_at(
 #[tactic(auto, unfolding(service_meaning::specs::Serving::serve))]
 pub fn served(
     alloc: Global,
-    there: There,
+    there: InstalledPackages,
     base: &Tables,
     changes: &mut Overlay,
     svc: &Svc,

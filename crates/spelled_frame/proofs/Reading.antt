@@ -2,7 +2,7 @@
 use Rattle.std.proofs.Common.{◌≡◌, ℕ, List, refl, sym, ◌∙◌, ap, subst}
 use Rattle.packet_frame.specs.declared.frame.PlainFrame.{PlainFrame}
 use Rattle.packet_frame.specs.Typed.{Accepts}
-use Rattle.frame_text.proofs.OneAnswer.{accepts_is}
+use Rattle.packet_frame.proofs.OneAnswer.{accepts_is}
 use Rattle.spelled_frame.specs.declared.spelled.What.{What}
 use Rattle.spelled_frame.specs.Spelled.{frame_or, frame_in, what_of, IsOnItsWay, IsSpelled}
 

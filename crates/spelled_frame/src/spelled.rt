@@ -12,7 +12,7 @@ use std::alloc::Global;
 use std::marker::Model;
 
 /// What a frame on its way holds.
-#[derive(Debug, Clone, Copy, PartialEq, Eq)]
+#[derive(Clone, Copy, PartialEq, Eq)]
 pub enum What {
     /// A packet of this family with this bound.
     Packet(Family, u32),
@@ -22,7 +22,7 @@ pub enum What {
 
 /// A packet with a typed chunk or an advert, kept as the bytes of its frame, which contracts see as that frame. What it holds
 /// stands beside the bytes.
-#[derive(Debug, Drop)]
+#[derive(Drop)]
 pub struct SpelledFrame {
     bytes: Bytes,
     what: What,

@@ -6,7 +6,7 @@ use Rattle.item_keys.specs.Keys.{Key, found, put, without}
 use Rattle.plan_base.specs.declared.tree.Ty.{Ty}
 use Rattle.plan_base.specs.declared.tree.Value.{Value}
 use Rattle.plan_base.specs.Sizes.{type_size, weight}
-use Rattle.plan_base.specs.TypingOrder.{same_type}
+use Rattle.plan_base.specs.SameTypes.{same_type}
 use Rattle.table_rows.specs.declared.row.Row.{Row}
 
 abbrev pub row_key : Row → Key

@@ -2,11 +2,13 @@ ghost use Rattle.std.specs.Prelude.{◌≡◌, ◌+◌, length, min, IfOk};
 ghost use Rattle.table_rows.specs.Rows.{row_key, row_size, is_live};
 
 use item_keys::HasKey;
-use plan_base::{NoMemory, Text, Ty, Value, type_size, weight};
+use plan_base::{NoMemory, Text, Ty, Value};
+use plan_copies::Copied;
+use plan_sizes::{type_size, weight};
 use std::alloc::Global;
 
 /// A value that a table keeps under a name and a number, with the type at which it was kept.
-#[derive(Debug, Drop)]
+#[derive(Drop)]
 pub struct Row {
     /// The name.
     pub name: Text,

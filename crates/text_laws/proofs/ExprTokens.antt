@@ -6,13 +6,13 @@ use Rattle.plan_base.specs.declared.name.Name.{Name}
 use Rattle.plan_base.specs.declared.tree.Ty.{Ty}
 use Rattle.plan_base.specs.declared.tree.Expr.{Expr, Expr-F, out-Expr, map-Expr, fold_out-Expr}
 use Rattle.plan_base.specs.declared.tree.Clause.{Clause, fold-Clause, fold_out-Clause}
-use Rattle.plan_lexer.specs.PrintedForms.{part_text}
+use Rattle.printed_forms.specs.Literals.{part_text}
 use Rattle.plan_lexer.specs.Tables.{key_text, symbol_text}
 use Rattle.plan_lexer.specs.declared.token.Key.TheVariants as keys
 use Rattle.plan_lexer.specs.declared.token.Symbol.TheVariants as symbols
 use Rattle.plan_lexer.specs.declared.token.TokenKind.TheVariants as kind
-use Rattle.plan_printer.specs.Pieces.{listed, commas}
-use Rattle.plan_printer.specs.Printed.{nil_text, raise_text, op_text, catch_text, expr_text_level, expr_text, clause_text}
+use Rattle.printed_forms.specs.Pieces.{listed, commas}
+use Rattle.printed_forms.specs.Printed.{nil_text, raise_text, op_text, catch_text, expr_text_level, expr_text, clause_text}
 use Rattle.plan_printer.proofs.PrintLaws.{listed-map, listed_same, expr_text_out}
 use Rattle.text_laws.specs.PrintedTokens.{Kinds, mark, word, nil_kinds, raise_kinds, catch_kinds, expr_kinds_level, clause_kinds_level, expr_kinds, clause_kinds}
 use Rattle.text_laws.specs.Proper.{IsProperOption, IsProperCatch, IsProper, AreProper, AreProperClauses}

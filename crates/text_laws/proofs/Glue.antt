@@ -11,7 +11,7 @@ use Rattle.plan_base.specs.declared.tree.Op.{Op}
 use Rattle.plan_base.specs.declared.tree.Op.TheVariants as op
 use Rattle.plan_lexer.specs.Tables.{key_text, symbol_text, symbol_at}
 use Rattle.plan_lexer.specs.TokenForms.{IsDigits, Spells, name, key, int, negative, host, dev, part, char, string, blob, symbol, EndsBefore}
-use Rattle.plan_lexer.specs.PrintedForms.{int_text, host_text, dev_text, part_text, char_text, string_text, blob_text}
+use Rattle.printed_forms.specs.Literals.{int_text, host_text, dev_text, part_text, char_text, string_text, blob_text}
 use Rattle.plan_lexer.specs.declared.token.Key.{Key}
 use Rattle.plan_lexer.specs.declared.token.Key.TheVariants as keys
 use Rattle.plan_lexer.specs.declared.token.Symbol.{Symbol}
@@ -22,8 +22,8 @@ use Rattle.plan_lexer.proofs.PrintLemmas.{spells_int, spells_host, spells_dev, s
 use Rattle.plan_lexer.proofs.SpellLemmas.{is_name_word, digits_first}
 use Rattle.plan_lexer.proofs.TableLemmas.{is_word-key}
 use Rattle.plan_base.proofs.WordLaws.{is_word_none, is_word_cons}
-use Rattle.plan_printer.specs.Pieces.{scalar_text}
-use Rattle.plan_printer.specs.Printed.{bool_text, op_text}
+use Rattle.printed_forms.specs.Pieces.{scalar_text}
+use Rattle.printed_forms.specs.Printed.{bool_text, op_text}
 use Rattle.text_laws.specs.PrintedTokens.{word, mark, bool_kinds, op_kinds}
 use Rattle.text_laws.proofs.Segments.{begins, calm, anything, is_solid, Part, ◌>>◌, token_part, open_part, blank_part, line_part}
 

@@ -2,7 +2,7 @@
 use Rattle.std.proofs.Common.{◌≡◌, ℕ, ◌<◌, Bool, List, [], ◌∷◌, ◌++◌, length, refl, sym, ap, ◌∙◌, arith, append_assoc}
 use Rattle.std.specs.List.{flat_map}
 use Rattle.plan_lexer.specs.declared.token.TokenKind.{TokenKind}
-use Rattle.plan_printer.specs.Pieces.{listed}
+use Rattle.printed_forms.specs.Pieces.{listed}
 use Rattle.text_laws.specs.Lexes.{Lexes}
 use Rattle.text_laws.proofs.Segments.{begins, calm, anything, Part, ◌>>◌}
 use Rattle.text_laws.proofs.Glue.{is_text}

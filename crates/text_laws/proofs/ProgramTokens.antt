@@ -13,8 +13,8 @@ use Rattle.plan_lexer.specs.Tables.{key_text, symbol_text}
 use Rattle.plan_lexer.specs.declared.token.Key.TheVariants as keys
 use Rattle.plan_lexer.specs.declared.token.Symbol.TheVariants as symbols
 use Rattle.plan_lexer.specs.declared.token.TokenKind.TheVariants as kind
-use Rattle.plan_printer.specs.Pieces.{listed, commas}
-use Rattle.plan_printer.specs.Printed.{type_text, svc_text, exn_text, param_text, fun_text, program_text}
+use Rattle.printed_forms.specs.Pieces.{listed, commas}
+use Rattle.printed_forms.specs.Printed.{type_text, svc_text, exn_text, param_text, fun_text, program_text}
 use Rattle.text_laws.specs.Lexes.{Lexes}
 use Rattle.text_laws.specs.PrintedTokens.{mark, word, type_kinds, svc_kinds, exn_kinds, param_kinds, fun_kinds, program_kinds}
 use Rattle.text_laws.specs.Proper.{AllProper, IsReadableType, IsProperSvc, IsProperParam, IsProperFun, IsProperProgram}

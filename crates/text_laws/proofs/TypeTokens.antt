@@ -6,7 +6,7 @@ use Rattle.plan_lexer.specs.Tables.{key_text, symbol_text}
 use Rattle.plan_lexer.specs.declared.token.Key.{Key}
 use Rattle.plan_lexer.specs.declared.token.Key.TheVariants as keys
 use Rattle.plan_lexer.specs.declared.token.Symbol.TheVariants as symbols
-use Rattle.plan_printer.specs.Printed.{type_text_level, type_text, empty_text}
+use Rattle.printed_forms.specs.Printed.{type_text_level, type_text, empty_text}
 use Rattle.plan_printer.proofs.PrintLaws.{listed-map, type_text_out}
 use Rattle.text_laws.specs.PrintedTokens.{Kinds, mark, word, type_kinds_level, type_kinds, empty_kinds}
 use Rattle.text_laws.specs.Proper.{base_key, IsProperType, AreProperTypes}

@@ -5,8 +5,8 @@ use Rattle.plan_base.specs.declared.tree.Ty.{Ty}
 use Rattle.plan_base.specs.declared.tree.Value.{Value, Value-F, out-Value, map-Value, fold_out-Value}
 use Rattle.plan_base.specs.declared.tree.Chunk.{Chunk, fold-Chunk}
 use Rattle.plan_lexer.specs.declared.token.Symbol.TheVariants as symbols
-use Rattle.plan_printer.specs.Pieces.{listed}
-use Rattle.plan_printer.specs.Printed.{values_text, chunk_text, value_text_level, value_text}
+use Rattle.printed_forms.specs.Pieces.{listed}
+use Rattle.printed_forms.specs.Printed.{values_text, chunk_text, value_text_level, value_text}
 use Rattle.plan_printer.proofs.PrintLaws.{listed-map}
 use Rattle.plan_printer.proofs.ValueLaws.{value_text_out}
 use Rattle.text_laws.specs.PrintedTokens.{Kinds, mark, values_kinds, value_kinds_level, value_kinds}

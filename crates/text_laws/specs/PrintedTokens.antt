@@ -18,7 +18,7 @@ use Rattle.plan_lexer.specs.declared.token.Symbol.{Symbol}
 use Rattle.plan_lexer.specs.declared.token.Symbol.TheVariants as symbol
 use Rattle.plan_lexer.specs.declared.token.TokenKind.{TokenKind}
 use Rattle.plan_lexer.specs.declared.token.TokenKind.TheVariants as kind
-use Rattle.plan_printer.specs.Pieces.{listed}
+use Rattle.printed_forms.specs.Pieces.{listed}
 
 abbrev pub Kinds : Type 0
 Kinds = List TokenKind

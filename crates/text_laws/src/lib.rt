@@ -6,7 +6,7 @@
 ghost use Rattle.plan_base.specs.declared.tree.Ty.{Ty};
 ghost use Rattle.plan_base.specs.declared.tree.Value.{Value};
 ghost use Rattle.plan_base.specs.declared.tree.Program.{Program};
-ghost use Rattle.plan_printer.specs.Printed.{type_text, value_text, program_text};
+ghost use Rattle.printed_forms.specs.Printed.{type_text, value_text, program_text};
 ghost use Rattle.text_laws.specs.Lexes.{Lexes};
 ghost use Rattle.text_laws.specs.Proper.{IsProperType, IsProperValue, IsProperProgram};
 ghost use Rattle.text_laws.specs.PrintedTokens.{type_kinds, value_kinds, program_kinds};

@@ -1,13 +1,13 @@
-//! Texts of programs and values, read and printed.
+//! Texts of programs and values, read, printed, copied and sent: what no command of the program shows.
 #![tactic(auto)]
 
 #[cfg(test)]
-mod arguments;
+mod copies;
 #[cfg(test)]
-mod drafts;
+mod nestings;
 #[cfg(test)]
 mod printed;
 #[cfg(test)]
-mod round_trips;
-#[cfg(test)]
 mod tokens;
+#[cfg(test)]
+mod values;

@@ -1,7 +1,8 @@
-use plan_lexer::{LexFault, TokenKind, lex};
+// Tokens, each with what it stands for and its places.
+
+use plan_lexer::{TokenKind, lex};
 use std::alloc::Global;
 use std::fmt::Write;
-use std::process::Abort;
 use std::test::Fail;
 
 /// Bytes as text, or `?` where they are none.
@@ -40,16 +41,13 @@ fn shown(alloc: Global, text: &[u8]) -> Result<String, Fail> {
     Ok(out)
 }
 
+/// Whether a text has these tokens.
+fn is_read(alloc: Global, text: &[u8], tokens: &str) -> Result<bool, Fail> {
+    Ok(shown(alloc, text)?.as_str() == tokens)
+}
+
 /// A text and its tokens.
 type Read = (&'static [u8], &'static str);
-
-fn all_read(rt: &impl Abort, alloc: Global, table: &[Read]) -> Result<(), Fail> {
-    for (text, tokens) in table {
-        let read = shown(alloc, text)?;
-        assert_eq!(rt; read.as_str(), *tokens);
-    }
-    Ok(())
-}
 
 /// Nothing, words and numbers.
 static WORDS_AND_NUMBERS: [Read; 14] = [
@@ -132,10 +130,27 @@ static SYMBOLS_AND_COMMENTS: [Read; 13] = [
 ];
 
 #[test]
-fn each_kind_is_read_up_to_its_limits(rt: HostRuntime) -> Result<(), Fail> {
-    all_read(&rt, rt.alloc(), &WORDS_AND_NUMBERS)?;
-    all_read(&rt, rt.alloc(), &TEXTS)?;
-    all_read(&rt, rt.alloc(), &SYMBOLS_AND_COMMENTS)
+fn words_and_numbers_are_read(rt: HostRuntime) -> Result<(), Fail> {
+    for (text, tokens) in &WORDS_AND_NUMBERS {
+        assert!(rt; is_read(rt.alloc(), text, tokens)?);
+    }
+    Ok(())
+}
+
+#[test]
+fn strings_chars_and_blobs_are_read(rt: HostRuntime) -> Result<(), Fail> {
+    for (text, tokens) in &TEXTS {
+        assert!(rt; is_read(rt.alloc(), text, tokens)?);
+    }
+    Ok(())
+}
+
+#[test]
+fn symbols_and_comments_are_read(rt: HostRuntime) -> Result<(), Fail> {
+    for (text, tokens) in &SYMBOLS_AND_COMMENTS {
+        assert!(rt; is_read(rt.alloc(), text, tokens)?);
+    }
+    Ok(())
 }
 
 /// What stands before, so many times in front, so many times behind, and behind all; the beginning of its tokens, what
@@ -185,131 +200,18 @@ static LONG: [Long; 11] = [
     ("", "(*", "*)", "a", "word a 1200-1201;", "", ""),
 ];
 
+/// Whether a long text has its tokens.
+fn is_long_read(alloc: Global, long: &Long) -> Result<bool, Fail> {
+    let (front, part, other, back, begin, same, end) = *long;
+    let text = filled(alloc, front, part, other, back)?;
+    let tokens = filled(alloc, begin, same, "", end)?;
+    is_read(alloc, text.as_bytes(), tokens.as_str())
+}
+
 #[test]
 fn each_kind_is_read_at_a_length_of_hundreds(rt: HostRuntime) -> Result<(), Fail> {
-    for (front, part, other, back, begin, same, end) in &LONG {
-        let text = filled(rt.alloc(), front, part, other, back)?;
-        let tokens = filled(rt.alloc(), begin, same, "", end)?;
-        assert_eq!(rt;
-            shown(rt.alloc(), text.as_bytes())?.as_str(),
-            tokens.as_str()
-        );
+    for long in &LONG {
+        assert!(rt; is_long_read(rt.alloc(), long)?);
     }
-    Ok(())
-}
-
-/// A text and its refusal.
-type Refused = (&'static [u8], LexFault);
-
-fn all_refused(rt: &impl Abort, alloc: Global, table: &[Refused]) {
-    for (text, fault) in table {
-        assert!(rt; text.len() <= 65536);
-        assert_eq!(rt; lex(alloc, text).err(), Some(*fault));
-    }
-}
-
-/// Bytes that begin nothing, numbers and words.
-static WRONG_BYTES_AND_NUMBERS: [Refused; 19] = [
-    (b"a $", LexFault::BadChar(2)),
-    (b"\x00", LexFault::BadChar(0)),
-    (b"\x0c", LexFault::BadChar(0)),
-    (b"\xc3\xa9", LexFault::BadChar(0)),
-    (b"~", LexFault::BadChar(0)),
-    (b" ~x", LexFault::BadChar(1)),
-    (b"@", LexFault::BadChar(0)),
-    (b"%a", LexFault::BadChar(0)),
-    (b"#", LexFault::BadChar(0)),
-    (b"# 1", LexFault::BadChar(0)),
-    (b"!", LexFault::BadChar(0)),
-    (b"9223372036854775808", LexFault::NumberTooLarge(0)),
-    (b" ~9223372036854775809", LexFault::NumberTooLarge(1)),
-    (
-        b"99999999999999999999999999999999999999",
-        LexFault::NumberTooLarge(0),
-    ),
-    (b"@4294967296", LexFault::NumberTooLarge(0)),
-    (b"a %4294967296", LexFault::NumberTooLarge(2)),
-    (b"#0", LexFault::NumberTooLarge(0)),
-    (b"#9", LexFault::NumberTooLarge(0)),
-    (
-        b"a abcdefghijklmnopqrstuvwxyz0123456 $",
-        LexFault::LongName(2),
-    ),
-];
-
-/// Strings.
-static WRONG_STRINGS: [Refused; 19] = [
-    (b"\"", LexFault::OpenString(0)),
-    (b" \"ab", LexFault::OpenString(1)),
-    (b"\"ab\ncd\"", LexFault::OpenString(0)),
-    (b"\"a\tb\"", LexFault::BadChar(2)),
-    (b"\"a\x7fb\"", LexFault::BadChar(2)),
-    (b"\"\\q\"", LexFault::BadChar(1)),
-    (b"\"\\\n\"", LexFault::BadChar(1)),
-    (b"\"a\\", LexFault::BadChar(2)),
-    (b"\"\\x80\"", LexFault::BadChar(1)),
-    (b"\"\\xff\"", LexFault::BadChar(1)),
-    (b"\"\\x4\"", LexFault::BadChar(1)),
-    (b"\"\\X41\"", LexFault::BadChar(1)),
-    (b"\"\x80\"", LexFault::BadChar(1)),
-    (b"\"\xc0\x80\"", LexFault::BadChar(1)),
-    (b"\"\xc3\"", LexFault::BadChar(1)),
-    (b"\"a\xe2\x82\"", LexFault::BadChar(2)),
-    (b"\"\xed\xa0\x80\"", LexFault::BadChar(1)),
-    (b"\"\xf4\x90\x80\x80\"", LexFault::BadChar(1)),
-    (b"\"\xf8\x90\x80\x80\x80\"", LexFault::BadChar(1)),
-];
-
-/// Chars, blobs and comments.
-static OTHER_WRONG_TEXTS: [Refused; 8] = [
-    (b" ''", LexFault::BadChar(1)),
-    (b"'ab'", LexFault::BadChar(0)),
-    (b"'\n'", LexFault::BadChar(0)),
-    (b"#\"0\"", LexFault::BadChar(3)),
-    (b"#\"0g\"", LexFault::BadChar(3)),
-    (b" #\"00", LexFault::OpenString(1)),
-    (b"#\"0\n", LexFault::OpenString(0)),
-    (b"a (* (* *)", LexFault::OpenComment(2)),
-];
-
-#[test]
-fn each_refusal_comes_at_its_place(rt: HostRuntime) {
-    all_refused(&rt, rt.alloc(), &WRONG_BYTES_AND_NUMBERS);
-    all_refused(&rt, rt.alloc(), &WRONG_STRINGS);
-    all_refused(&rt, rt.alloc(), &OTHER_WRONG_TEXTS);
-}
-
-#[test]
-fn the_first_refusal_decides(rt: HostRuntime) -> Result<(), Fail> {
-    assert_eq!(rt; lex(rt.alloc(), b"$ \"").err(), Some(LexFault::BadChar(0)));
-    assert_eq!(rt;
-        lex(rt.alloc(), b"(*)").err(),
-        Some(LexFault::OpenComment(0))
-    );
-    assert_eq!(rt; lex(rt.alloc(), b"\"\\q").err(), Some(LexFault::BadChar(1)));
-    Ok(())
-}
-
-#[test]
-fn the_longest_texts_are_read(rt: HostRuntime) -> Result<(), Fail> {
-    let mut text = Vec::with_capacity(rt.alloc(), 65536)?;
-    text.push(b'"')?;
-    for _ in 0..65534u32 {
-        text.push(b'a')?;
-    }
-    text.push(b'"')?;
-    assert!(rt; text.len() <= 65536);
-    let tokens = lex(rt.alloc(), text.as_slice())?;
-    assert_eq!(rt; tokens.len(), 1);
-    let mut text = Vec::with_capacity(rt.alloc(), 65536)?;
-    for _ in 0..32768u32 {
-        text.push(b'(')?;
-        text.push(b'*')?;
-    }
-    assert!(rt; text.len() <= 65536);
-    assert_eq!(rt;
-        lex(rt.alloc(), text.as_slice()).err(),
-        Some(LexFault::OpenComment(0))
-    );
     Ok(())
 }

@@ -3,3 +3,4 @@ pub mod Quotes
 pub mod Blobs
 pub mod Nested
 pub mod Own
+pub mod Strays

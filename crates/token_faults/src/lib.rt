@@ -10,6 +10,7 @@ ghost use Rattle.plan_lexer.specs.declared.fault.LexFault.{LexFault};
 ghost use Rattle.plan_lexer.specs.declared.fault.LexFault.TheVariants as fault;
 ghost use Rattle.token_faults.specs.Faulty.{StringFault, CharFault, BlobFault};
 ghost use Rattle.token_faults.specs.Comments.{EndsAt, Unclosed};
+ghost use Rattle.token_faults.specs.Strays.{IsStray, StrayFault};
 
 /// What a `"` begins is refused exactly where the line ends inside the string, at the quote, or where no item stands.
 pub fn strings_are_refused()
@@ -34,7 +35,13 @@ pub fn comments_are_passed()
     ensures refused { (at : ℕ) (text : List ℕ) (e : LexFault) → (move_at at (40 ∷ 42 ∷ text) ≡ Err e) ↔ Unclosed e at (40 ∷ 42 ∷ text) }
 {}
 
-/// No first refusal of tokens is want of memory.
+/// What begins with no blank, comment or quote is refused exactly where it begins with a word of more than 32 bytes, with a
+/// number out of range, or with nothing that has the form of a token, at its first byte.
+pub fn strays_are_refused()
+    ensures { (at : ℕ) (text : List ℕ) (e : LexFault) → IsStray text → (move_at at text ≡ Err e) ↔ StrayFault e at text }
+{}
+
+/// No first refusal of tokens is `NoMemory`.
 pub fn refusals_hold_no_memory()
     ensures { (e : LexFault) (at : ℕ) (text : List ℕ) → Refuses e at text → e ≢ fault.NoMemory }
 {}

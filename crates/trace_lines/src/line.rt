@@ -5,7 +5,7 @@ use plan_base::{Bytes, Dev, Family, Host};
 use plan_items::Items;
 
 /// What a device gave.
-#[derive(Debug, Clone, Copy, PartialEq, Eq)]
+#[derive(Clone, Copy, PartialEq, Eq)]
 pub enum What {
     /// A packet of this family.
     Packet(Family),
@@ -14,7 +14,7 @@ pub enum What {
 }
 
 /// Why a packet was dropped.
-#[derive(Debug, Clone, Copy, PartialEq, Eq)]
+#[derive(Clone, Copy, PartialEq, Eq)]
 pub enum Reason {
     /// Its bound is 0.
     NoBound,
@@ -144,7 +144,7 @@ pub struct Entry {
 }
 
 /// A row of a ledger.
-#[derive(Debug, Clone, Copy, PartialEq, Eq)]
+#[derive(Clone, Copy, PartialEq, Eq)]
 pub struct Row {
     /// The family.
     pub family: Family,

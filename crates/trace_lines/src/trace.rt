@@ -8,7 +8,7 @@ use plan_items::Items;
 use std::alloc::{AllocError, Global};
 
 /// Why bytes are no trace.
-#[derive(Debug, Clone, Copy, PartialEq, Eq)]
+#[derive(Clone, Copy, PartialEq, Eq)]
 pub enum TraceFault {
     /// The first line that is no line of a trace there, from 1.
     BadLine(u64),

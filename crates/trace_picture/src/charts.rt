@@ -13,7 +13,7 @@ use trace_lines::{TraceFault, read_trace};
 pub const MOST_BYTES: usize = 16_777_216;
 
 /// Why bytes have no chart.
-#[derive(Debug, Clone, Copy, PartialEq, Eq)]
+#[derive(Clone, Copy, PartialEq, Eq)]
 pub enum ChartFault {
     /// The first line that is no line of a trace there, from 1.
     BadLine(u64),

@@ -12,7 +12,7 @@ use std::alloc::{AllocError, Global};
 use trace_lines::{Entry, Line, Row, Trace};
 
 /// Why a trace isn't drawn.
-#[derive(Debug, Clone, Copy, PartialEq, Eq)]
+#[derive(Clone, Copy, PartialEq, Eq)]
 pub enum DrawFault {
     /// It names more than [`crate::MOST_HOSTS`] hosts.
     TooManyHosts,

@@ -5,11 +5,11 @@ use Rattle.plan_base.specs.declared.tree.Expr.{Expr, out-Expr}
 use Rattle.plan_base.specs.declared.tree.Expr.TheVariants as v
 use Rattle.plan_base.specs.declared.tree.Clause.{Clause}
 use Rattle.plan_base.specs.declared.tree.Program.{Program}
-use Rattle.plan_base.specs.Typing.{Ctx, literal_type, HasTy, HaveTys, ClausesHaveTy}
-use Rattle.plan_base.specs.Typing.{HasTy as T, HaveTys as M, ClausesHaveTy as K}
-use Rattle.plan_base.specs.TypingNames.{param_types, may_catch}
-use Rattle.plan_base.specs.TypingFills.{Becomes, PartsBecome, ClausesBecome}
-use Rattle.plan_base.specs.TypingFills.{Becomes as B, PartsBecome as P, ClausesBecome as C}
+use Rattle.typing_rules.specs.Typing.{Ctx, literal_type, HasTy, HaveTys, ClausesHaveTy}
+use Rattle.typing_rules.specs.Typing.{HasTy as T, HaveTys as M, ClausesHaveTy as K}
+use Rattle.typing_rules.specs.TypingNames.{param_types, may_catch}
+use Rattle.typing_rules.specs.TypingFills.{Becomes, PartsBecome, ClausesBecome}
+use Rattle.typing_rules.specs.TypingFills.{Becomes as B, PartsBecome as P, ClausesBecome as C}
 use Rattle.typing_laws.proofs.Heads.{SameHeads, known_there, service_there, earlier_there, any_there, catch_there}
 
 module _ (code whole : Program) (same : SameHeads code whole) (seen : ℕ) where

@@ -11,9 +11,9 @@ use Rattle.plan_base.specs.declared.tree.Program.{Program}
 use Rattle.plan_base.specs.Trees.{ExprLayer}
 use Rattle.plan_base.specs.WellFormed.{typed_expr_level, has_types}
 use Rattle.plan_base.proofs.FormLaws.{has_types_out}
-use Rattle.plan_base.specs.Typing.{Ctx}
-use Rattle.plan_base.specs.TypingFills.{Becomes, PartsBecome, ClausesBecome}
-use Rattle.plan_base.specs.TypingFills.{Becomes as B, PartsBecome as P, ClausesBecome as C}
+use Rattle.typing_rules.specs.Typing.{Ctx}
+use Rattle.typing_rules.specs.TypingFills.{Becomes, PartsBecome, ClausesBecome}
+use Rattle.typing_rules.specs.TypingFills.{Becomes as B, PartsBecome as P, ClausesBecome as C}
 use Rattle.typing_laws.proofs.Itself.{level_is}
 
 level_full : (d : Expr) (l : ExprLayer) → out-Expr d ≡ l → has_types d ≡ true → typed_expr_level has_types (λ c. has_types c.body) l ≡ true

@@ -7,9 +7,9 @@ use Rattle.plan_base.specs.declared.name.Name.{Name}
 use Rattle.plan_base.specs.declared.tree.Svc.{Svc}
 use Rattle.plan_base.specs.declared.tree.Fun.{Fun}
 use Rattle.plan_base.specs.declared.tree.Program.{Program}
-use Rattle.plan_base.specs.TypingNames.{place_of, service_of, is_exception, may_catch, built_in, are_new, are_callable}
-use Rattle.plan_base.specs.Typing.{HasOwnNames, param_names}
-use Rattle.plan_base.specs.TypingOrder.{earlier, fun_of}
+use Rattle.typing_rules.specs.TypingNames.{place_of, service_of, is_exception, may_catch, built_in, are_new, are_callable}
+use Rattle.typing_rules.specs.Typing.{HasOwnNames, param_names}
+use Rattle.typing_rules.specs.TypingOrder.{earlier, fun_of}
 use Rattle.typing_laws.proofs.Layers.{and_then_some}
 
 -- functions that differ in their bodies alone

@@ -10,11 +10,11 @@ use Rattle.plan_base.specs.declared.tree.Expr.TheVariants as v
 use Rattle.plan_base.specs.declared.tree.Clause.{Clause}
 use Rattle.plan_base.specs.declared.tree.Program.{Program}
 use Rattle.plan_base.specs.Trees.{ExprLayer}
-use Rattle.plan_base.specs.Typing.{Ctx, HasTy, HaveTys, ClausesHaveTy}
-use Rattle.plan_base.specs.Typing.{HasTy as T, HaveTys as M, ClausesHaveTy as K}
-use Rattle.plan_base.specs.TypingOrder.{items_of_layer, items_of, parts_of_layer, parts_of, want_at}
-use Rattle.plan_base.specs.TypingFills.{Suits, Becomes, PartsBecome, ClausesBecome}
-use Rattle.plan_base.specs.TypingFills.{Becomes as B, PartsBecome as P, ClausesBecome as C}
+use Rattle.typing_rules.specs.Typing.{Ctx, HasTy, HaveTys, ClausesHaveTy}
+use Rattle.typing_rules.specs.Typing.{HasTy as T, HaveTys as M, ClausesHaveTy as K}
+use Rattle.typing_rules.specs.TypingOrder.{items_of_layer, items_of, parts_of_layer, parts_of, want_at}
+use Rattle.typing_rules.specs.TypingFills.{Suits, Becomes, PartsBecome, ClausesBecome}
+use Rattle.typing_rules.specs.TypingFills.{Becomes as B, PartsBecome as P, ClausesBecome as C}
 use Rattle.typing_laws.proofs.Right.{wanted_suits}
 
 -- an expression is made of its level

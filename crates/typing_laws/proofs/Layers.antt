@@ -6,8 +6,8 @@ use Rattle.plan_base.specs.declared.tree.Ty.{Ty, Ty-F, out-Ty, roll-Ty, roll-out
 use Rattle.plan_base.specs.declared.tree.Ty as ty
 use Rattle.plan_base.specs.declared.tree.Ty.TheVariants as made
 use Rattle.plan_base.specs.Trees.{TyLayer}
-use Rattle.plan_base.specs.TypingNames.{of_list, part_of}
-use Rattle.plan_base.specs.TypingOrder.{items_of_layer, items_of, part_in_layer, part_in, given_of}
+use Rattle.typing_rules.specs.TypingNames.{of_list, part_of}
+use Rattle.typing_rules.specs.TypingOrder.{items_of_layer, items_of, part_in_layer, part_in, given_of}
 
 pub is_list : (t u : Ty) → out-Ty t ≡ Ty-F.List u → t ≡ ty.List u
 is_list t u h = sym (roll-out-Ty t) ∙ (ap roll-Ty h ∙ made.rolls-List u)

@@ -10,14 +10,14 @@ use Rattle.plan_base.specs.declared.tree.Svc.{Svc}
 use Rattle.plan_base.specs.declared.tree.Fun.{Fun}
 use Rattle.plan_base.specs.declared.tree.Program.{Program}
 use Rattle.plan_base.specs.declared.tree.Place.TheVariants as place
-use Rattle.plan_base.specs.declared.type_fault.TypeFault.{TypeFault}
-use Rattle.plan_base.specs.declared.type_fault.TypeFault.TheVariants as fault
+use Rattle.typing_rules.specs.declared.type_fault.TypeFault.{TypeFault}
+use Rattle.typing_rules.specs.declared.type_fault.TypeFault.TheVariants as fault
 use Rattle.plan_base.specs.Sizes.{code_size, expr_depth, program_nodes}
 use Rattle.plan_base.specs.WellFormed.{has_from_to, formed_expr, well_formed_type, well_formed_expr, well_formed_svc, well_formed_fun, well_formed_program, has_types, program_has_types, IsWellFormedProgram, ProgramHasTypes}
-use Rattle.plan_base.specs.Typing.{HasTy, HasOwnNames, Typed, param_names}
-use Rattle.plan_base.specs.TypingNames.{has_name, is_prim, built_in, are_new, are_callable}
-use Rattle.plan_base.specs.TypingOrder.{next, then_by, checked, bodies_from, services_from, exceptions_from, functions_from, declarations, sized, annotated}
-use Rattle.plan_base.specs.TypingFills.{Becomes, FunFills, Fills}
+use Rattle.typing_rules.specs.Typing.{HasTy, HasOwnNames, Typed, param_names}
+use Rattle.typing_rules.specs.TypingNames.{has_name, is_prim, built_in, are_new, are_callable}
+use Rattle.typing_rules.specs.TypingOrder.{next, then_by, checked, bodies_from, services_from, exceptions_from, functions_from, declarations, sized, annotated}
+use Rattle.typing_rules.specs.TypingFills.{Becomes, FunFills, Fills}
 use Rattle.typing_laws.proofs.Steps.{Holds, Yields, then_yields, pure_yields}
 use Rattle.typing_laws.proofs.Heads.{AlikeFuns, no_funs, and_fun, SameHeads, heads_back, names_there, alike_length}
 use Rattle.typing_laws.proofs.Right.{Right, checked_right, becomes_suits, map_holds}

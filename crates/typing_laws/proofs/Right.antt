@@ -17,19 +17,20 @@ use Rattle.plan_base.specs.declared.tree.Svc.{Svc}
 use Rattle.plan_base.specs.declared.tree.Param.{Param}
 use Rattle.plan_base.specs.declared.tree.Fun.{Fun}
 use Rattle.plan_base.specs.declared.tree.Program.{Program}
-use Rattle.plan_base.specs.declared.type_fault.TypeFault.{TypeFault}
-use Rattle.plan_base.specs.declared.type_fault.TypeFault.TheVariants as fault
+use Rattle.typing_rules.specs.declared.type_fault.TypeFault.{TypeFault}
+use Rattle.typing_rules.specs.declared.type_fault.TypeFault.TheVariants as fault
 use Rattle.plan_base.specs.declared.tree.Place.TheVariants as place
 use Rattle.plan_base.specs.Trees.{ExprLayer}
 use Rattle.plan_base.specs.Sizes.{type_depth}
-use Rattle.plan_base.specs.Typing.{Ctx, literal_type, IsShallow}
-use Rattle.plan_base.specs.TypingNames.{service_of, binds, binding, param_types, prim_of, takes, makes, is_exception, may_catch, OpKind, arithmetic, joining, equality, ordering, listing, kind_of, is_joined, is_ordered}
-use Rattle.plan_base.specs.TypingOrder.{Checking, Found, pure, refuse, after, ◌>>=◌, or_refuse, same_type, items_of, parts_of, part_in, want_at, given_of, pair_of, fun_of, earlier, not_earlier, settled, shallow}
-use Rattle.plan_base.specs.TypingOrder as order
-use Rattle.plan_base.specs.TypingFills.{Suits, Becomes, PartsBecome, ClausesBecome}
-use Rattle.plan_base.specs.TypingFills.{Becomes as B}
-use Rattle.plan_base.specs.TypingFills.{PartsBecome as P}
-use Rattle.plan_base.specs.TypingFills.{ClausesBecome as C}
+use Rattle.typing_rules.specs.Typing.{Ctx, literal_type, IsShallow}
+use Rattle.typing_rules.specs.TypingNames.{service_of, binds, binding, param_types, prim_of, takes, makes, is_exception, may_catch, OpKind, arithmetic, joining, equality, ordering, listing, kind_of, is_joined, is_ordered}
+use Rattle.plan_base.specs.SameTypes.{same_type}
+use Rattle.typing_rules.specs.TypingOrder.{Checking, Found, pure, refuse, after, ◌>>=◌, or_refuse, items_of, parts_of, part_in, want_at, given_of, pair_of, fun_of, earlier, not_earlier, settled, shallow}
+use Rattle.typing_rules.specs.TypingOrder as order
+use Rattle.typing_rules.specs.TypingFills.{Suits, Becomes, PartsBecome, ClausesBecome}
+use Rattle.typing_rules.specs.TypingFills.{Becomes as B}
+use Rattle.typing_rules.specs.TypingFills.{PartsBecome as P}
+use Rattle.typing_rules.specs.TypingFills.{ClausesBecome as C}
 use Rattle.plan_base.proofs.SameTypes.{same_type_true}
 use Rattle.typing_laws.proofs.Steps.{Holds, Yields, then_yields, pure_yields, if_yields, known_yields}
 use Rattle.typing_laws.proofs.Layers.{part_tuple, given_list, items_list, and_then_some}

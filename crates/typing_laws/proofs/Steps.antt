@@ -1,8 +1,8 @@
 -- What holds of each answer of a part of the checking.
 use Rattle.std.proofs.Common.{◌≡◌, ℕ, refl, Bool, true, false, Option, Some, None}
 use Rattle.std.specs.Prelude.{Result, Ok, Err, if◌then◌else◌}
-use Rattle.plan_base.specs.declared.type_fault.TypeFault.{TypeFault}
-use Rattle.plan_base.specs.TypingOrder.{Checking, pure, refuse, after, ◌>>=◌, or_refuse}
+use Rattle.typing_rules.specs.declared.type_fault.TypeFault.{TypeFault}
+use Rattle.typing_rules.specs.TypingOrder.{Checking, pure, refuse, after, ◌>>=◌, or_refuse}
 
 -- what an answer must be, where there is one
 abbrev pub Holds : {A : Type 0} → (A → Type 0) → Result (A × ℕ) TypeFault → Type 0

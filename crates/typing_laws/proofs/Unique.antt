@@ -1,13 +1,13 @@
 -- An expression has at most one type.
 use Rattle.std.proofs.Common.{◌≡◌, ◌∙◌, sym, ap, ℕ, arith, None}
 use Rattle.std.specs.Prelude.{Result, Ok, Err}
-use Rattle.plan_base.specs.declared.type_fault.TypeFault.{TypeFault}
-use Rattle.plan_base.specs.TypingOrder.{Found}
+use Rattle.typing_rules.specs.declared.type_fault.TypeFault.{TypeFault}
+use Rattle.typing_rules.specs.TypingOrder.{Found}
 use Rattle.plan_base.specs.declared.tree.Ty.{Ty}
 use Rattle.plan_base.specs.declared.tree.Expr.{Expr}
 use Rattle.plan_base.specs.declared.tree.Program.{Program}
 use Rattle.plan_base.specs.Sizes.{expr_depth}
-use Rattle.plan_base.specs.Typing.{Ctx, HasTy}
+use Rattle.typing_rules.specs.Typing.{Ctx, HasTy}
 use Rattle.typing_laws.proofs.Reaches.{checked_reaches}
 use Rattle.typing_laws.proofs.Itself.{itself}
 

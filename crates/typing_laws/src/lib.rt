@@ -8,9 +8,9 @@ ghost use Rattle.plan_base.specs.declared.tree.Ty.{Ty};
 ghost use Rattle.plan_base.specs.declared.tree.Expr.{Expr};
 ghost use Rattle.plan_base.specs.declared.tree.Program.{Program};
 ghost use Rattle.plan_base.specs.WellFormed.{IsWellFormedProgram, ProgramHasTypes};
-ghost use Rattle.plan_base.specs.Typing.{Ctx, HasTy, Typed};
-ghost use Rattle.plan_base.specs.TypingFills.{Fills};
-ghost use Rattle.plan_base.specs.TypingOrder.{annotated};
+ghost use Rattle.typing_rules.specs.Typing.{Ctx, HasTy, Typed};
+ghost use Rattle.typing_rules.specs.TypingFills.{Fills};
+ghost use Rattle.typing_rules.specs.TypingOrder.{annotated};
 
 /// The checking of a well-formed draft answers a program exactly where that program is typed and fills
 /// the draft in.

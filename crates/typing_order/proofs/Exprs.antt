@@ -4,13 +4,13 @@ use Rattle.std.specs.Prelude.{Result, Ok, Err, ◌↔◌}
 use Rattle.plan_base.specs.declared.tree.Ty.{Ty}
 use Rattle.plan_base.specs.declared.tree.Expr.{Expr, Expr-F, out-Expr}
 use Rattle.plan_base.specs.declared.tree.Program.{Program}
-use Rattle.plan_base.specs.declared.type_fault.TypeFault.{TypeFault}
+use Rattle.typing_rules.specs.declared.type_fault.TypeFault.{TypeFault}
 use Rattle.plan_base.specs.Trees.{ExprLayer}
 use Rattle.plan_base.specs.Sizes.{expr_depth, expr_depth_level, clause_depth, expr_nodes}
-use Rattle.plan_base.specs.Typing.{Ctx}
-use Rattle.plan_base.specs.TypingOrder.{Found, checked}
-use Rattle.plan_base.specs.TypingOrder as order
-use Rattle.plan_base.specs.TypingFills.{Becomes}
+use Rattle.typing_rules.specs.Typing.{Ctx}
+use Rattle.typing_rules.specs.TypingOrder.{Found, checked}
+use Rattle.typing_rules.specs.TypingOrder as order
+use Rattle.typing_rules.specs.TypingFills.{Becomes}
 use Rattle.plan_base.proofs.SizeLaws.{expr_depth_out, expr_nodes_out}
 use Rattle.typing_laws.proofs.Steps.{Holds}
 use Rattle.typing_laws.proofs.Right.{Right, checked_right}

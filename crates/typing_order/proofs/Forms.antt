@@ -13,13 +13,14 @@ use Rattle.plan_base.specs.declared.tree.Clause.{Clause}
 use Rattle.plan_base.specs.declared.tree.Svc.{Svc}
 use Rattle.plan_base.specs.declared.tree.Program.{Program}
 use Rattle.plan_base.specs.declared.tree.Place.TheVariants as place
-use Rattle.plan_base.specs.declared.type_fault.TypeFault.TheVariants as fault
+use Rattle.typing_rules.specs.declared.type_fault.TypeFault.TheVariants as fault
 use Rattle.plan_base.specs.Trees.{ExprLayer}
 use Rattle.plan_base.specs.Sizes.{expr_depth, expr_depth_level, clause_depth, expr_nodes, expr_nodes_level, clause_nodes}
-use Rattle.plan_base.specs.Typing.{Ctx}
-use Rattle.plan_base.specs.TypingNames.{service_of, binds, binding, param_types, prim_of, takes, makes, is_exception, may_catch, OpKind, arithmetic, joining, equality, ordering, listing, kind_of, is_joined, is_ordered}
-use Rattle.plan_base.specs.TypingOrder.{Checking, Found, pure, refuse, ◌>>=◌, or_refuse, same_type, items_of, parts_of, part_in, given_of, fun_of, earlier, not_earlier, settled}
-use Rattle.plan_base.specs.TypingOrder as order
+use Rattle.typing_rules.specs.Typing.{Ctx}
+use Rattle.typing_rules.specs.TypingNames.{service_of, binds, binding, param_types, prim_of, takes, makes, is_exception, may_catch, OpKind, arithmetic, joining, equality, ordering, listing, kind_of, is_joined, is_ordered}
+use Rattle.plan_base.specs.SameTypes.{same_type}
+use Rattle.typing_rules.specs.TypingOrder.{Checking, Found, pure, refuse, ◌>>=◌, or_refuse, items_of, parts_of, part_in, given_of, fun_of, earlier, not_earlier, settled}
+use Rattle.typing_rules.specs.TypingOrder as order
 use Rattle.typing_order.specs.Judgements.{Judgement, kept, test, same, part, there, none_earlier, suits, shallow, parts, typed, arguments, clauses, behind}
 use Rattle.typing_order.specs.Judgements as spec
 use Rattle.typing_order.proofs.Named.{earlier_is, named_is, none_is}

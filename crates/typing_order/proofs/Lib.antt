@@ -4,3 +4,6 @@ pub mod Exprs
 pub mod Named
 pub mod Names
 pub mod Programs
+pub mod Own
+pub mod ChunkFirsts
+pub mod ChunkOwn

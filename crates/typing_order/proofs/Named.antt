@@ -10,9 +10,9 @@ use Rattle.std.proofs.lemmas.Option.{slice_get_past}
 use Rattle.plan_base.specs.declared.name.Name.{Name}
 use Rattle.plan_base.specs.declared.tree.Program.{Program}
 use Rattle.plan_base.specs.declared.tree.Place.TheVariants.{Node}
-use Rattle.plan_base.specs.declared.type_fault.TypeFault.TheVariants.{UnknownName, NotEarlier}
-use Rattle.plan_base.specs.TypingNames.{place_of}
-use Rattle.plan_base.specs.TypingOrder.{fun_of, earlier, not_earlier}
+use Rattle.typing_rules.specs.declared.type_fault.TypeFault.TheVariants.{UnknownName, NotEarlier}
+use Rattle.typing_rules.specs.TypingNames.{place_of}
+use Rattle.typing_rules.specs.TypingOrder.{fun_of, earlier, not_earlier}
 use Rattle.typing_order.specs.Judgements.{named, stands_earlier, none_earlier}
 
 at_front : {X : Type 0} (n : ℕ) (xs : List X) (k : ℕ) → k < length (take n xs) → slice_get xs k ≡ slice_get (take n xs) k

@@ -6,11 +6,11 @@ use Rattle.plan_base.specs.declared.tree.Svc.{Svc}
 use Rattle.plan_base.specs.declared.tree.Fun.{Fun}
 use Rattle.plan_base.specs.declared.tree.Program.{Program}
 use Rattle.plan_base.specs.declared.tree.Place.TheVariants as place
-use Rattle.plan_base.specs.declared.type_fault.TypeFault.{TypeFault}
-use Rattle.plan_base.specs.declared.type_fault.TypeFault.TheVariants as fault
-use Rattle.plan_base.specs.Typing.{param_names}
-use Rattle.plan_base.specs.TypingNames.{has_name, is_prim, built_in, are_new}
-use Rattle.plan_base.specs.TypingOrder.{next, then_by, services_from, exceptions_from, functions_from}
+use Rattle.typing_rules.specs.declared.type_fault.TypeFault.{TypeFault}
+use Rattle.typing_rules.specs.declared.type_fault.TypeFault.TheVariants as fault
+use Rattle.typing_rules.specs.Typing.{param_names}
+use Rattle.typing_rules.specs.TypingNames.{has_name, is_prim, built_in, are_new}
+use Rattle.typing_rules.specs.TypingOrder.{next, then_by, services_from, exceptions_from, functions_from}
 use Rattle.typing_order.specs.Judgements.{behind}
 use Rattle.typing_order.specs.Conditions.{Condition, of_service, of_exception, of_function, svc_names, fun_names, Keeps, Blames, for_service, for_exception, for_function, numbered, FirstUnkept, here, later}
 

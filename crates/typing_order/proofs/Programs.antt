@@ -8,14 +8,14 @@ use Rattle.std.proofs.lemmas.Bool.{leb-true, le-leb}
 use Rattle.plan_base.specs.declared.tree.Expr.{Expr}
 use Rattle.plan_base.specs.declared.tree.Fun.{Fun}
 use Rattle.plan_base.specs.declared.tree.Program.{Program}
-use Rattle.plan_base.specs.declared.type_fault.TypeFault.{TypeFault}
-use Rattle.plan_base.specs.declared.type_fault.TypeFault.TheVariants as fault
+use Rattle.typing_rules.specs.declared.type_fault.TypeFault.{TypeFault}
+use Rattle.typing_rules.specs.declared.type_fault.TypeFault.TheVariants as fault
 use Rattle.plan_base.specs.Sizes.{code_size, expr_depth, expr_nodes}
 use Rattle.plan_base.specs.WellFormed.{IsWellFormedProgram}
-use Rattle.plan_base.specs.Typing.{Typed}
-use Rattle.plan_base.specs.TypingNames.{built_in}
-use Rattle.plan_base.specs.TypingOrder.{Found, after, checked, bodies_from, then_by, services_from, exceptions_from, functions_from, declarations, sized, annotated}
-use Rattle.plan_base.specs.TypingFills.{Becomes, FunFills, Fills}
+use Rattle.typing_rules.specs.Typing.{Typed}
+use Rattle.typing_rules.specs.TypingNames.{built_in}
+use Rattle.typing_rules.specs.TypingOrder.{Found, after, checked, bodies_from, then_by, services_from, exceptions_from, functions_from, declarations, sized, annotated}
+use Rattle.typing_rules.specs.TypingFills.{Becomes, FunFills, Fills}
 use Rattle.typing_laws.proofs.Right.{becomes_suits}
 use Rattle.typing_laws.proofs.Programs.{annotated_sound, annotated_complete, depths_kept}
 use Rattle.typing_order.specs.Judgements.{behind, Refused}

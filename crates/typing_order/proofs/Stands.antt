@@ -10,13 +10,14 @@ use Rattle.plan_base.specs.declared.tree.Clause.{Clause}
 use Rattle.plan_base.specs.declared.tree.Fun.{Fun}
 use Rattle.plan_base.specs.declared.tree.Program.{Program}
 use Rattle.plan_base.specs.declared.tree.Place.TheVariants as place
-use Rattle.plan_base.specs.declared.type_fault.TypeFault.{TypeFault}
-use Rattle.plan_base.specs.declared.type_fault.TypeFault.TheVariants as fault
+use Rattle.typing_rules.specs.declared.type_fault.TypeFault.{TypeFault}
+use Rattle.typing_rules.specs.declared.type_fault.TypeFault.TheVariants as fault
 use Rattle.plan_base.specs.Sizes.{type_depth, expr_nodes, clause_nodes}
-use Rattle.plan_base.specs.Typing.{Ctx}
-use Rattle.plan_base.specs.TypingOrder.{Checking, Found, pure, refuse, after, ◌>>=◌, or_refuse, same_type, want_at, pair_of, earlier, not_earlier, settled}
-use Rattle.plan_base.specs.TypingOrder as order
-use Rattle.plan_base.specs.TypingFills.{Becomes}
+use Rattle.typing_rules.specs.Typing.{Ctx}
+use Rattle.plan_base.specs.SameTypes.{same_type}
+use Rattle.typing_rules.specs.TypingOrder.{Checking, Found, pure, refuse, after, ◌>>=◌, or_refuse, want_at, pair_of, earlier, not_earlier, settled}
+use Rattle.typing_rules.specs.TypingOrder as order
+use Rattle.typing_rules.specs.TypingFills.{Becomes}
 use Rattle.plan_base.proofs.SameTypes.{same_type_true, same_type_of}
 use Rattle.typing_order.specs.Judgements.{Judgement, kept, test, same, part, there, stands_earlier, none_earlier, suits, shallow, parts, typed, arguments, clauses, behind, FirstFailing, fails, differ, refuses, passes, agree, becomes, Refused}
 use Rattle.typing_order.proofs.Named.{earlier_is, none_is}

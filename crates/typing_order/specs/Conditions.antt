@@ -7,12 +7,12 @@ use Rattle.plan_base.specs.declared.tree.Expr.{Expr}
 use Rattle.plan_base.specs.declared.tree.Fun.{Fun}
 use Rattle.plan_base.specs.declared.tree.Program.{Program}
 use Rattle.plan_base.specs.declared.tree.Place.TheVariants.{Decl}
-use Rattle.plan_base.specs.declared.type_fault.TypeFault.{TypeFault}
-use Rattle.plan_base.specs.declared.type_fault.TypeFault.TheVariants.{TwiceNamed, CodeTooLarge}
+use Rattle.typing_rules.specs.declared.type_fault.TypeFault.{TypeFault}
+use Rattle.typing_rules.specs.declared.type_fault.TypeFault.TheVariants.{TwiceNamed, CodeTooLarge}
 use Rattle.plan_base.specs.Sizes.{code_size, expr_nodes}
-use Rattle.plan_base.specs.Typing.{Typed, param_names}
-use Rattle.plan_base.specs.TypingNames.{has_name, is_prim, built_in, are_new}
-use Rattle.plan_base.specs.TypingFills.{Becomes, Fills}
+use Rattle.typing_rules.specs.Typing.{Typed, param_names}
+use Rattle.typing_rules.specs.TypingNames.{has_name, is_prim, built_in, are_new}
+use Rattle.typing_rules.specs.TypingFills.{Becomes, Fills}
 use Rattle.typing_order.specs.Judgements.{behind, Refused}
 
 -- the names of a service, an exception and a function by their numbers, the body of a function, and the size of the code

@@ -13,14 +13,14 @@ use Rattle.plan_base.specs.declared.tree.Svc.{Svc}
 use Rattle.plan_base.specs.declared.tree.Fun.{Fun}
 use Rattle.plan_base.specs.declared.tree.Program.{Program}
 use Rattle.plan_base.specs.declared.tree.Place.TheVariants.{Node}
-use Rattle.plan_base.specs.declared.type_fault.TypeFault.{TypeFault}
-use Rattle.plan_base.specs.declared.type_fault.TypeFault.TheVariants.{UnknownName, NotEarlier, Mismatch, Arity, NeedsType, WrongShape, TypeTooDeep}
+use Rattle.typing_rules.specs.declared.type_fault.TypeFault.{TypeFault}
+use Rattle.typing_rules.specs.declared.type_fault.TypeFault.TheVariants.{UnknownName, NotEarlier, Mismatch, Arity, NeedsType, WrongShape, TypeTooDeep}
 use Rattle.plan_base.specs.Trees.{ExprLayer}
 use Rattle.plan_base.specs.Sizes.{type_depth, expr_nodes}
-use Rattle.plan_base.specs.Typing.{Ctx}
-use Rattle.plan_base.specs.TypingNames.{service_of, binds, binding, param_types, prim_of, takes, makes, is_exception, may_catch, OpKind, arithmetic, joining, equality, ordering, listing, kind_of, is_joined, is_ordered}
-use Rattle.plan_base.specs.TypingOrder.{items_of, parts_of, part_in, want_at, given_of, pair_of}
-use Rattle.plan_base.specs.TypingFills.{Becomes}
+use Rattle.typing_rules.specs.Typing.{Ctx}
+use Rattle.typing_rules.specs.TypingNames.{service_of, binds, binding, param_types, prim_of, takes, makes, is_exception, may_catch, OpKind, arithmetic, joining, equality, ordering, listing, kind_of, is_joined, is_ordered}
+use Rattle.typing_rules.specs.TypingOrder.{items_of, parts_of, part_in, want_at, given_of, pair_of}
+use Rattle.typing_rules.specs.TypingFills.{Becomes}
 
 -- Conditions in order: a test, with what is told where it fails; two types that must be the same, with what is told; and
 -- a part under its bindings, of which a type may be wanted, where what is judged next depends on the type that it has.

@@ -1,2 +1,4 @@
 pub mod Judgements
 pub mod Conditions
+pub mod ChunkConditions
+pub mod Memory

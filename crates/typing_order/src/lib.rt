@@ -4,18 +4,27 @@
 //! Each law stands on a function without code, so that contracts of other crates can name it.
 #![tactic(auto)]
 
-ghost use Rattle.std.specs.Prelude.{◌≡◌, ◌≤◌, ◌↔◌, ℕ, Option, Err};
+ghost use Rattle.std.specs.Prelude.{◌≡◌, ◌≢◌, ◌≤◌, ◌↔◌, ℕ, Option, Err, Some, IsTrue};
 ghost use Rattle.plan_base.specs.declared.tree.Expr.{Expr};
 ghost use Rattle.plan_base.specs.declared.tree.Program.{Program};
 ghost use Rattle.plan_base.specs.declared.tree.Ty.{Ty};
-ghost use Rattle.plan_base.specs.declared.type_fault.TypeFault.{TypeFault};
+ghost use Rattle.typing_rules.specs.declared.type_fault.TypeFault.{TypeFault};
+ghost use Rattle.typing_rules.specs.declared.type_fault.TypeFault.TheVariants as fault;
 ghost use Rattle.plan_base.specs.Sizes.{expr_depth};
-ghost use Rattle.plan_base.specs.WellFormed.{IsWellFormedProgram};
-ghost use Rattle.plan_base.specs.Typing.{Ctx, Typed};
-ghost use Rattle.plan_base.specs.TypingOrder.{checked, annotated};
-ghost use Rattle.plan_base.specs.TypingFills.{Becomes, Fills};
+ghost use Rattle.plan_base.specs.WellFormed.{IsWellFormedProgram, IsWellFormedChunk, ChunkHasTypes, well_formed_value, value_has_types};
+ghost use Rattle.typing_rules.specs.Typing.{Ctx, Typed};
+ghost use Rattle.typing_rules.specs.TypingOrder.{checked, annotated};
+ghost use Rattle.typing_rules.specs.TypingFills.{Becomes, Fills};
 ghost use Rattle.typing_order.specs.Judgements.{Refused, IsTypedOrRefused as IsExprTypedOrRefused};
 ghost use Rattle.typing_order.specs.Conditions.{FirstRefusal, IsTypedOrRefused};
+ghost use Rattle.std.specs.List.{list_all};
+ghost use Rattle.plan_base.specs.declared.tree.Chunk.{Chunk};
+ghost use Rattle.chunk_types.specs.declared.fault.Ill.{Ill};
+ghost use Rattle.chunk_types.specs.declared.fault.ChunkFault.{ChunkFault};
+ghost use Rattle.chunk_types.specs.declared.fault.ChunkFault.TheVariants as fault;
+ghost use Rattle.chunk_types.specs.Chunks.{illness, refusal_of};
+ghost use Rattle.typing_order.specs.ChunkConditions.{conditions, call_conditions, FirstFailing};
+ghost use Rattle.typing_order.specs.Memory.{IllHoldsNoMemory, HoldsNoMemory};
 
 /// The checking of an expression, to any depth that it keeps, refuses exactly for the first of its conditions that isn't
 /// kept. An expression is typed or has a first refusal, and not both, and it has at most one.
@@ -34,4 +43,27 @@ pub fn programs_fail_first()
     ensures some { (p : Program) → IsWellFormedProgram p → IsTypedOrRefused p }
     ensures apart { (p q : Program) (f : TypeFault) → IsWellFormedProgram p → Fills p q → Typed q → FirstRefusal p f → ⊥ }
     ensures one { (p : Program) (f g : TypeFault) → FirstRefusal p f → FirstRefusal p g → f ≡ g }
+{}
+
+/// No first refusal of a program is `NoMemory`.
+pub fn refusals_hold_no_memory()
+    ensures { (p : Program) (f : TypeFault) → annotated p ≡ Err f → f ≢ fault.NoMemory }
+{}
+
+/// What comes first that is wrong with a chunk, its own size aside, is what is told for the first condition that it doesn't
+/// keep: its code, its entry, the number of its arguments, and each of them.
+pub fn first_failing_is_answered()
+    ensures { (c : Chunk) (i : Ill) → IsWellFormedChunk c → ChunkHasTypes c → (illness c ≡ Some i) ↔ FirstFailing c (fault.Ill i) (conditions c) }
+{}
+
+/// What comes first that forbids a chunk with that code, entry and arguments, the code aside, is what is told for the first
+/// condition that it doesn't keep: its entry, the number of its arguments, each of them, and its size.
+pub fn first_failing_call_is_answered()
+    ensures { (c : Chunk) (f : ChunkFault) → IsTrue (list_all well_formed_value c.args) → IsTrue (list_all value_has_types c.args) → (refusal_of c ≡ Some f) ↔ FirstFailing c f (call_conditions c) }
+{}
+
+/// What comes first that is wrong with a chunk, or with a call, is never running out of memory, and holds none.
+pub fn chunk_refusals_hold_no_memory()
+    ensures chunks { (c : Chunk) (i : Ill) → illness c ≡ Some i → IllHoldsNoMemory i }
+    ensures calls { (c : Chunk) (f : ChunkFault) → refusal_of c ≡ Some f → HoldsNoMemory f }
 {}

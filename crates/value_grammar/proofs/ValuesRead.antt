@@ -8,7 +8,7 @@ use Rattle.plan_base.specs.declared.tree.Ty.TheVariants as ty
 use Rattle.plan_base.specs.declared.tree.Value.{Value}
 use Rattle.plan_base.specs.declared.tree.Value.TheVariants as v
 use Rattle.plan_base.specs.Sizes.{type_depth}
-use Rattle.plan_base.specs.TypingOrder.{same_type}
+use Rattle.plan_base.specs.SameTypes.{same_type}
 use Rattle.plan_base.proofs.SameTypes.{same_type_true}
 use Rattle.plan_lexer.specs.declared.token.Token.{Token}
 use Rattle.plan_lexer.specs.declared.token.TokenKind.{TokenKind}

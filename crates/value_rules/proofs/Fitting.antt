@@ -9,8 +9,8 @@ use Rattle.plan_base.specs.declared.tree.Ty.TheVariants as ty
 use Rattle.plan_base.specs.declared.tree.Value.{Value, Value-F, out-Value}
 use Rattle.plan_base.specs.declared.tree.Value.TheVariants as value
 use Rattle.plan_base.specs.Trees.{ValueLayer}
-use Rattle.plan_base.specs.Typing.{HasType, bool, int, str, blob, list, HaveTypes, no_values, and_value, AllHaveType, and_item}
-use Rattle.plan_base.specs.TypingNames.{OpKind, of_list, takes, makes, kind_of, arithmetic, joining, equality, ordering, listing, is_joined, is_joined_at, is_ordered, is_ordered_at, part_of}
+use Rattle.typing_rules.specs.Typing.{HasType, bool, int, str, blob, list, HaveTypes, no_values, and_value, AllHaveType, and_item}
+use Rattle.typing_rules.specs.TypingNames.{OpKind, of_list, takes, makes, kind_of, arithmetic, joining, equality, ordering, listing, is_joined, is_joined_at, is_ordered, is_ordered_at, part_of}
 use Rattle.value_rules.specs.Rules as rules
 use Rattle.value_rules.specs.Rules.{Given, gives, raises, unfit, bounded, divided, remainder, computed, numbers, before, answered, limited, joined, put_first, binary, found, part, first_item, later_items, blob_part, of_one, of_three, primitive, too_large}
 use Rattle.value_rules.specs.Same.{same_value}

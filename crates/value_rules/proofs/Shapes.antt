@@ -7,7 +7,7 @@ use Rattle.plan_base.specs.declared.tree.Ty.TheVariants as ty
 use Rattle.plan_base.specs.declared.tree.Value.{Value, Value-F, out-Value}
 use Rattle.plan_base.specs.declared.tree.Chunk.{Chunk}
 use Rattle.plan_base.specs.Trees.{ValueLayer}
-use Rattle.plan_base.specs.Typing.{HasType, unit, bool, int, char, str, blob, host, dev, list, tuple, chunk, HaveTypes, AllHaveType, IsTypedChunk}
+use Rattle.typing_rules.specs.Typing.{HasType, unit, bool, int, char, str, blob, host, dev, list, tuple, chunk, HaveTypes, AllHaveType, IsTypedChunk}
 
 abbrev pub Shape : Ty-F Ty → ValueLayer → Type 0
 Shape Ty-F.Unit l = l ≡ Value-F.Unit

@@ -4,8 +4,8 @@ use Rattle.plan_base.specs.declared.prim.Primitive.{Primitive}
 use Rattle.plan_base.specs.declared.tree.Op.{Op}
 use Rattle.plan_base.specs.declared.tree.Ty.{Ty}
 use Rattle.plan_base.specs.declared.tree.Ty as ty
-use Rattle.plan_base.specs.Typing.{HasType}
-use Rattle.plan_base.specs.TypingNames.{OpKind, arithmetic, joining, equality, ordering, listing, kind_of, is_joined, is_ordered, of_list, takes, makes}
+use Rattle.typing_rules.specs.Typing.{HasType}
+use Rattle.typing_rules.specs.TypingNames.{OpKind, arithmetic, joining, equality, ordering, listing, kind_of, is_joined, is_ordered, of_list, takes, makes}
 use Rattle.value_rules.specs.Rules.{Given, gives, raises, unfit}
 
 abbrev pub KindTakes : OpKind → Ty → Ty → Ty → Type 0

@@ -9,7 +9,7 @@ use Rattle.service_api.specs.declared.ctx.Ctx.{Ctx}
 use Rattle.service_api.specs.declared.router.Hop.{Hop}
 use Rattle.service_api.specs.declared.router.Hop.TheVariants.{To, NoService, NoRoute}
 use Rattle.service_api.specs.Routes.{hop, default_route}
-use Rattle.service_api.specs.Services.{Standing, IsGoodChunk}
+use Rattle.service_api.specs.Services.{ServiceState, IsGoodChunk}
 use Rattle.plan_meaning.specs.declared.stop.Stop.{Stop}
 use Rattle.plan_meaning.specs.declared.stop.Stop.TheVariants.{NoMemory}
 use Rattle.plan_meaning.specs.State.{VisitState, Own, joined}
@@ -73,17 +73,17 @@ module _ (k : Chunk) (host : Host) (n : ℤ) where
       led : (x : Hop) → hop o.ctx.router route o.ctx.here host ≡ x → hop ctx.router route ctx.here host ≡ x
       led x h = subst (λ (y : Ctx). hop y.router route y.here host ≡ x) (sym same_ctx) h
 
-      pub remote_good : (w : Way) → Found w → (t : Standing) × IsSafe (send_remote k host n route (joined o t)).asks → IsGoodChunk k
+      pub remote_good : (w : Way) → Found w → (t : ServiceState) × IsSafe (send_remote k host n route (joined o t)).asks → IsGoodChunk k
       remote_good w found h =
           subst (λ (r : Step (Unit {0})). IsSafe r.asks) (remote_is (joined o h.0) found.2.0 w.dev (is_paid_here true found.0) (leads_here _ found.2.1)) h.1
 
-      pub remote_meets : (t : Standing) (w : Way) (copied : Name) (r : Result (Unit {0}) Stop) (new : VisitState) → Found w → copied ≡ route
+      pub remote_meets : (t : ServiceState) (w : Way) (copied : Name) (r : Result (Unit {0}) Stop) (new : VisitState) → Found w → copied ≡ route
           → Meets (sent w.dev k host w.bound copied (joined o t)) r new → Meets (send_remote k host n route (joined o t)) r new
       remote_meets t w copied r new found is h =
           subst (λ (q : Step (Unit {0})). Meets q r new) (sym (remote_is (joined o t) found.2.0 w.dev (is_paid_here true found.0) (leads_here _ found.2.1)))
           (subst (λ x. Meets (sent w.dev k host (bound_of n) x (joined o t)) r new) is (subst (λ b. Meets (sent w.dev k host b copied (joined o t)) r new) (found.1 ∙ ap bound_of same_bound) h))
 
-      pub remote_refused : (t : Standing) (r : Result Way SendFault) (f : SendFault) (e : Stop) → r ≡ Err f
+      pub remote_refused : (t : ServiceState) (r : Result Way SendFault) (f : SendFault) (e : Stop) → r ≡ Err f
           → ((via : Host) (dev : Dev) → IsTrue (is_paid m purse) → hop ctx.router route ctx.here host ≡ To via dev → IsOk r)
           → ((r ≡ Err fault.NoBound) ↔ (is_paid m purse ≡ false))
           → ((r ≡ Err fault.NoService) ↔ (IsTrue (is_paid m purse) × (hop ctx.router route ctx.here host ≡ NoService)))
@@ -126,18 +126,18 @@ module _ (k : Chunk) (host : Host) (n : ℤ) where
       was_near : (b : Bool) → leads o.ctx dev host ≡ b → leads ctx dev host ≡ b
       was_near b h = subst (λ (y : Ctx). leads y dev host ≡ b) (sym same_ctx) h
 
-      pub neighbour_good : (w : Way) → FoundNear w → (t : Standing) × IsSafe (send_neighbour k host n dev (joined o t)).asks → IsGoodChunk k
+      pub neighbour_good : (w : Way) → FoundNear w → (t : ServiceState) × IsSafe (send_neighbour k host n dev (joined o t)).asks → IsGoodChunk k
       neighbour_good w found h =
           subst (λ (r : Step (Unit {0})). IsSafe r.asks) (neighbour_is (joined o h.0) (pays true found.0) (is_near true found.3)) h.1
 
-      pub neighbour_meets : (t : Standing) (w : Way) (route : Name) (r : Result (Unit {0}) Stop) (new : VisitState) → FoundNear w → route ≡ default_route
+      pub neighbour_meets : (t : ServiceState) (w : Way) (route : Name) (r : Result (Unit {0}) Stop) (new : VisitState) → FoundNear w → route ≡ default_route
           → Meets (sent w.dev k host w.bound route (joined o t)) r new → Meets (send_neighbour k host n dev (joined o t)) r new
       neighbour_meets t w route r new found is h =
           subst (λ (q : Step (Unit {0})). Meets q r new) (sym (neighbour_is (joined o t) (pays true found.0) (is_near true found.3)))
           (subst (λ x. Meets (sent dev k host (bound_of n) x (joined o t)) r new) is
           (subst (λ b. Meets (sent dev k host b route (joined o t)) r new) (found.1 ∙ ap bound_of same_bound) (subst (λ d. Meets (sent d k host w.bound route (joined o t)) r new) found.2 h)))
 
-      pub neighbour_refused : (t : Standing) (r : Result Way SendFault) (f : SendFault) (e : Stop) → r ≡ Err f
+      pub neighbour_refused : (t : ServiceState) (r : Result Way SendFault) (f : SendFault) (e : Stop) → r ≡ Err f
           → (IsTrue (is_paid m purse) → IsTrue (leads ctx dev host) → IsOk r)
           → ((r ≡ Err fault.NoBound) ↔ (is_paid m purse ≡ false))
           → ((r ≡ Err fault.NotNeighbor) ↔ (IsTrue (is_paid m purse) × (leads ctx dev host ≡ false)))

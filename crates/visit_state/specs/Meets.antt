@@ -14,7 +14,7 @@ use Rattle.visit_state.specs.declared.weighing.Weighing.TheVariants.{Paid, Spent
 use Rattle.plan_meaning.specs.Meaning.{no_bound, no_route, not_neighbour}
 use Rattle.plan_meaning.specs.Run.{gave, stopped, Step}
 
--- the value and the state, or the stop and the state; of want of memory nothing is said
+-- the value and the state, or the stop and the state; of running out of memory nothing is said
 abbrev pub Meets : {A : Type 0} → Step A → Result A Stop → VisitState → Type 0
 Meets want (Ok a) new = want.after ≡ gave a new
 Meets want (Err e) new = e ≢ NoMemory → want.after ≡ stopped e new
@@ -41,7 +41,7 @@ MeetsUnweighed want (Err Wrong) = want ≡ unfit
 MeetsUnweighed want (Err NoMemory) = Unit {0}
 MeetsUnweighed want (Err _) = ⊥
 
--- the exception, or want of memory
+-- the exception, or running out of memory
 abbrev pub RaisesOnly : Exn → Stop → Type 0
 RaisesOnly x e = e ≢ NoMemory → e ≡ Raised x
 

@@ -1,6 +1,6 @@
 ghost use Rattle.std.specs.Prelude.{◌≡◌, option_copied, take};
 ghost use Rattle.std.specs.Str.{bytes_eq};
-ghost use Rattle.plan_base.specs.TypingNames as names;
+ghost use Rattle.typing_rules.specs.TypingNames as names;
 ghost use Rattle.plan_meaning.specs.Meaning as spec;
 ghost use Rattle.visit_state.specs.Handlers as handlers;
 

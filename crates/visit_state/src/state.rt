@@ -3,7 +3,7 @@ ghost use Rattle.plan_meaning.specs.declared.stop.Stop.TheVariants.{WorkSpent};
 ghost use Rattle.plan_meaning.specs.Run.{gave, stopped};
 ghost use Rattle.plan_base.specs.Sizes.{weight, nesting};
 ghost use Rattle.plan_base.specs.declared.tree.Value.{Value};
-ghost use Rattle.service_api.specs.Services.{Standing, IsGoodChunk};
+ghost use Rattle.service_api.specs.Services.{ServiceState, IsGoodChunk};
 ghost use Rattle.plan_meaning.specs.Safe.{IsSafe};
 ghost use Rattle.plan_meaning.specs.State.{Own, joined};
 ghost use Rattle.plan_meaning.specs.Run as run;
@@ -14,9 +14,10 @@ ghost use Rattle.visit_state.specs.Meets.{Meets, StopsBy, Weighs};
 use crate::raised::{no_bound, no_route, no_service, not_neighbour, too_large};
 use crate::weighing::{Weighing, plain_weight};
 use chunk_types::{CheckedChunk, CheckedPacket};
-use plan_base::{Chunk, Dev, Family, Host, Name, NoMemory, Value, nesting, weight};
+use plan_base::{Chunk, Dev, Family, Host, Name, NoMemory, Value};
 use plan_items::Items;
 use plan_meaning::{Outbox, Outcome, Stop, Visit};
+use plan_sizes::{nesting, weight};
 use remote_calls::{
     NoBound, Purse, SendFault, Way, default_route, neighbour_way, remote_way, send,
 };
@@ -92,7 +93,7 @@ impl State {
 
     /// The visit that ended in this state.
     pub fn ended(self, outcome: Outcome) -> Visit
-        ensures { (s : Standing) → result ≡ ended allowance outcome (joined self s) }
+        ensures { (s : ServiceState) → result ≡ ended allowance outcome (joined self s) }
     {
         let State {
             ctx,
@@ -123,8 +124,8 @@ impl State {
     /// Spends work where there is as much, or says no.
     #[tactic(auto, unfolding(plan_meaning::specs::Run::spend))]
     pub fn pays(&mut self, n: u64) -> bool
-        ensures paid { IsTrue result → (s : Standing) → (run.spend n (joined self.old s)).after ≡ gave tt (joined self.new s) }
-        ensures unpaid { IsFalse result → (s : Standing) → (run.spend n (joined self.old s)).after ≡ stopped WorkSpent (joined self.new s) }
+        ensures paid { IsTrue result → (s : ServiceState) → (run.spend n (joined self.old s)).after ≡ gave tt (joined self.new s) }
+        ensures unpaid { IsFalse result → (s : ServiceState) → (run.spend n (joined self.old s)).after ≡ stopped WorkSpent (joined self.new s) }
         ensures spends { IsTrue result → self.new.work + n ≡ self.old.work }
         ensures falls { self.new.work ≤ self.old.work }
     {
@@ -138,7 +139,7 @@ impl State {
     /// Spends the weight of a value with that nesting, unless it passes the limits.
     #[tactic(auto, unfolding(plan_meaning::specs::Run::weighed, plan_meaning::specs::Run::is_too_large))]
     pub fn weighs_as(&mut self, size: u64, deep: u32) -> Weighing
-        ensures weighs { (v : Value) (s : Standing) → size ≡ min (weight v) 18446744073709551615 → deep ≡ min (nesting v) 4294967295
+        ensures weighs { (v : Value) (s : ServiceState) → size ≡ min (weight v) 18446744073709551615 → deep ≡ min (nesting v) 4294967295
             → Weighs (run.weighed v (joined self.old s)) v result (joined self.new s) }
         ensures falls { self.new.work ≤ self.old.work }
     {
@@ -154,7 +155,7 @@ impl State {
 
     /// Spends the weight of a value, unless it passes the limits.
     pub fn weighs(&mut self, v: &Value) -> Weighing
-        ensures weighs { (s : Standing) → Weighs (run.weighed v.now (joined self.old s)) v.now result (joined self.new s) }
+        ensures weighs { (s : ServiceState) → Weighs (run.weighed v.now (joined self.old s)) v.now result (joined self.new s) }
         ensures falls { self.new.work ≤ self.old.work }
     {
         match plain_weight(v) {
@@ -165,7 +166,7 @@ impl State {
 
     /// Refuses a value over the limits, and spends the weight of another.
     pub fn weighed(&mut self, alloc: Global, v: Value) -> Result<Value, Stop>
-        ensures meets { (s : Standing) → Meets (run.weighed v (joined self.old s)) result (joined self.new s) }
+        ensures meets { (s : ServiceState) → Meets (run.weighed v (joined self.old s)) result (joined self.new s) }
         ensures falls { self.new.work ≤ self.old.work }
     {
         match self.weighs(&v) {
@@ -178,7 +179,7 @@ impl State {
     /// Pays for an eval.
     #[tactic(auto, unfolding(plan_meaning::specs::Meaning::pay_eval), using(crate::proofs::Paying::eval_is_paid, crate::proofs::Paying::eval_is_unpaid))]
     pub fn pay_eval(&mut self, alloc: Global) -> Result<(), Stop>
-        ensures meets { (s : Standing) → Meets (spec.pay_eval (joined self.old s)) result (joined self.new s) }
+        ensures meets { (s : ServiceState) → Meets (spec.pay_eval (joined self.old s)) result (joined self.new s) }
         ensures falls { self.new.work ≤ self.old.work }
     {
         let mut purse = Purse::of(self.ctx.purse);
@@ -197,7 +198,7 @@ impl State {
     fn sent(&mut self, way: Way, chunk: Chunk, host: Host, route: Name) -> Result<(), Stop>
         requires good { IsGoodChunk chunk }
         requires paid { way.bound ≤ self.old.ctx.purse }
-        ensures meets { (s : Standing) → Meets (spec.sent way.dev chunk host way.bound route (joined self.old s)) result (joined self.new s) }
+        ensures meets { (s : ServiceState) → Meets (spec.sent way.dev chunk host way.bound route (joined self.old s)) result (joined self.new s) }
         ensures falls { self.new.work ≤ self.old.work }
     {
         let chunk = CheckedChunk::of(chunk);
@@ -217,8 +218,8 @@ impl State {
         n: i64,
         route: &Name,
     ) -> Result<(), Stop>
-        requires safe { (s : Standing) × IsSafe (spec.send_remote chunk host n route.now (joined self.old s)).asks }
-        ensures meets { (s : Standing) → Meets (spec.send_remote chunk host n route.now (joined self.old s)) result (joined self.new s) }
+        requires safe { (s : ServiceState) × IsSafe (spec.send_remote chunk host n route.now (joined self.old s)).asks }
+        ensures meets { (s : ServiceState) → Meets (spec.send_remote chunk host n route.now (joined self.old s)) result (joined self.new s) }
         ensures falls { self.new.work ≤ self.old.work }
     {
         let purse = Purse::of(self.ctx.purse);
@@ -237,8 +238,8 @@ impl State {
         n: i64,
         dev: Dev,
     ) -> Result<(), Stop>
-        requires safe { (s : Standing) × IsSafe (spec.send_neighbour chunk host n dev (joined self.old s)).asks }
-        ensures meets { (s : Standing) → Meets (spec.send_neighbour chunk host n dev (joined self.old s)) result (joined self.new s) }
+        requires safe { (s : ServiceState) × IsSafe (spec.send_neighbour chunk host n dev (joined self.old s)).asks }
+        ensures meets { (s : ServiceState) → Meets (spec.send_neighbour chunk host n dev (joined self.old s)) result (joined self.new s) }
         ensures falls { self.new.work ≤ self.old.work }
     {
         let purse = Purse::of(self.ctx.purse);

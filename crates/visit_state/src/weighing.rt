@@ -3,10 +3,11 @@ ghost use Rattle.std.specs.Prelude.{◌≡◌, min, IfSome};
 ghost use Rattle.std.specs.List.{sum_by};
 ghost use Rattle.plan_base.specs.Sizes.{largest_by, weight, nesting};
 
-use plan_base::{Value, type_size};
+use plan_base::Value;
+use plan_sizes::type_size;
 
 /// What came of weighing a value.
-#[derive(Debug, Clone, Copy)]
+#[derive(Clone, Copy)]
 pub enum Weighing {
     /// Its weight was spent.
     Paid,

@@ -5,13 +5,13 @@ ghost use Rattle.wire_bytes.specs.Fields.{Reads, bytes_at, number_at, int_at, Is
 use std::marker::Model;
 
 /// The place of a field that isn't whole, in bytes from 0.
-#[derive(Debug, Clone, Copy, PartialEq, Eq)]
+#[derive(Clone, Copy, PartialEq, Eq)]
 pub struct Truncated(pub u32);
 
 /// Reads fields from the left of some bytes, which contracts see as a place and the bytes from there on.
 ///
 /// After a refusal the cursor is where it was. No call takes memory.
-#[derive(Debug, Drop)]
+#[derive(Drop)]
 pub struct Cursor<'a> {
     rest: &'a [u8],
     at: u32,

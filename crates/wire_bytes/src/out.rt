@@ -5,7 +5,7 @@ use std::alloc::{AllocError, Global};
 use std::marker::Model;
 
 /// Bytes put one after another into room that was taken before, which contracts see as the bytes and the room left.
-#[derive(Debug, Drop)]
+#[derive(Drop)]
 pub struct Out {
     bytes: Vec<u8>,
 }

@@ -6,8 +6,8 @@ use Rattle.plan_base.specs.declared.tree.Chunk.{Chunk}
 use Rattle.packet_frame.specs.declared.frame.PlainFrame.{PlainFrame}
 use Rattle.packet_frame.specs.declared.fault.FrameFault.{FrameFault}
 use Rattle.packet_frame.specs.Bytes.{frame_bytes}
-use Rattle.frame_text.specs.Decoding.{frame_of}
-use Rattle.service_api.specs.Services.{Standing}
+use Rattle.packet_frame.specs.Decoding.{frame_of}
+use Rattle.service_api.specs.Services.{ServiceState}
 use Rattle.service_meaning.specs.Beginning.{opening_standing, present_without}
 use Rattle.network_plan.specs.Hosts.{Cable}
 use Rattle.network_plan.specs.declared.node.NodeConfig.{NodeConfig}
@@ -38,14 +38,14 @@ pub record WorldState : Type 0 where
   pub made : ℕ
 
 -- what an event gives: its lines, and the network afterwards
-pub record Happened : Type 0 where
+pub record EventResult : Type 0 where
   pub lines : List Line
   pub world : WorldState
 
-abbrev pub happened : List Line → WorldState → Happened
+abbrev pub happened : List Line → WorldState → EventResult
 happened lines w = record { lines = lines; world = w }
 
-abbrev pub nothing : WorldState → Happened
+abbrev pub nothing : WorldState → EventResult
 nothing w = happened (Nothing ∷ []) w
 
 -- the place of a host's node
@@ -88,27 +88,27 @@ unfoldable pub lines_at : Host → List Act → List Line
 lines_at h acts = map (At h) acts
 
 -- a step of the node at a place that moves nothing on the wire, after some lines
-abbrev pub steps_at : WorldState → Host → ℕ → List Line → Step → Happened
+abbrev pub steps_at : WorldState → Host → ℕ → List Line → Step → EventResult
 steps_at w h at before step = happened (before ++ lines_at h step.acts) (with_node w at step.node)
 
 -- a step of a host's node; `nothing` where there is none
-unfoldable pub step_at : WorldState → Host → List Line → (NodeState → Step) → ℕ → Option NodeState → Happened
+unfoldable pub step_at : WorldState → Host → List Line → (NodeState → Step) → ℕ → Option NodeState → EventResult
 step_at w h before step at None = nothing w
 step_at w h before step at (Some node) = steps_at w h at before (step node)
 
-unfoldable pub step_place : WorldState → Host → List Line → (NodeState → Step) → Option ℕ → Happened
+unfoldable pub step_place : WorldState → Host → List Line → (NodeState → Step) → Option ℕ → EventResult
 step_place w h before step None = nothing w
 step_place w h before step (Some at) = step_at w h before step at (slice_get w.nodes at)
 
-unfoldable pub steps : WorldState → Host → List Line → (NodeState → Step) → Happened
+unfoldable pub steps : WorldState → Host → List Line → (NodeState → Step) → EventResult
 steps w h before step = step_place w h before step (place_of w.nodes h)
 
 -- ---- injections, ticks, and frames from outside
 
-abbrev pub injects : WorldState → Host → Chunk → ℕ → Happened
+abbrev pub injects : WorldState → Host → Chunk → ℕ → EventResult
 injects w h chunk bound = steps w h [] (λ node. inject_step [] node chunk bound)
 
-abbrev pub ticks : WorldState → Host → Happened
+abbrev pub ticks : WorldState → Host → EventResult
 ticks w h = steps w h [] tick_step
 
 -- bytes from outside that are accepted as a packet grant its bound
@@ -116,13 +116,13 @@ abbrev pub forged : Host → Result PlainFrame FrameFault → List Line
 forged h (Ok (PlainFrame.Packet p)) = Forged h p.family p.bound ∷ []
 forged h _ = []
 
-abbrev pub raws : WorldState → Host → Dev → List ℕ → Happened
+abbrev pub raws : WorldState → Host → Dev → List ℕ → EventResult
 raws w h d bytes = steps w h (forged h (frame_of bytes)) (λ node. arrive_step node d bytes)
 
 -- ---- sends
 
 -- the frame that the node took goes onto the wire under the next number
-unfoldable pub send_taken : WorldState → Host → Dev → ℕ → LinkEnd → Step → Option PlainFrame → Happened
+unfoldable pub send_taken : WorldState → Host → Dev → ℕ → LinkEnd → Step → Option PlainFrame → EventResult
 send_taken w h d at to step None = nothing w
 send_taken w h d at to step (Some x) = happened (lines_at h step.acts ++ Wire w.«next» (frame_bytes x) ∷ [])
     (record {
@@ -133,19 +133,19 @@ send_taken w h d at to step (Some x) = happened (lines_at h step.acts ++ Wire w.
       made = w.made;
     })
 
-unfoldable pub send_at : WorldState → Host → Dev → ℕ → LinkEnd → Option NodeState → Happened
+unfoldable pub send_at : WorldState → Host → Dev → ℕ → LinkEnd → Option NodeState → EventResult
 send_at w h d at to None = nothing w
 send_at w h d at to (Some node) = send_taken w h d at to (take_step node d) (take_step node d).frame
 
-unfoldable pub send_over : WorldState → Host → Dev → ℕ → Option LinkEnd → Happened
+unfoldable pub send_over : WorldState → Host → Dev → ℕ → Option LinkEnd → EventResult
 send_over w h d at None = nothing w
 send_over w h d at (Some to) = if nat_lt (length w.wire) 4096 then send_at w h d at to (slice_get w.nodes at) else nothing w
 
-unfoldable pub send_place : WorldState → Host → Dev → Option ℕ → Happened
+unfoldable pub send_place : WorldState → Host → Dev → Option ℕ → EventResult
 send_place w h d None = nothing w
 send_place w h d (Some at) = send_over w h d at (far_end w.links h d)
 
-unfoldable pub sends : WorldState → Host → Dev → Happened
+unfoldable pub sends : WorldState → Host → Dev → EventResult
 sends w h d = send_place w h d (place_of w.nodes h)
 
 -- ---- deliveries and losses
@@ -158,39 +158,39 @@ abbrev pub wire_place : List Wired → ℕ → Option ℕ
 wire_place wire number = position (λ x. x.number == number) wire
 
 -- the frame arrives at the node at this place
-unfoldable pub deliver_at : WorldState → ℕ → Wired → ℕ → Option NodeState → Happened
+unfoldable pub deliver_at : WorldState → ℕ → Wired → ℕ → Option NodeState → EventResult
 deliver_at w place x at None = nothing w
 deliver_at w place x at (Some node) = steps_at (without_frame w place) x.to.host at (Off x.number ∷ []) (frame_step node x.to.dev x.frame)
 
-unfoldable pub deliver_to : WorldState → ℕ → Wired → Option ℕ → Happened
+unfoldable pub deliver_to : WorldState → ℕ → Wired → Option ℕ → EventResult
 deliver_to w place x None = nothing w
 deliver_to w place x (Some at) = deliver_at w place x at (slice_get w.nodes at)
 
-unfoldable pub deliver_frame : WorldState → ℕ → Option Wired → Happened
+unfoldable pub deliver_frame : WorldState → ℕ → Option Wired → EventResult
 deliver_frame w place None = nothing w
 deliver_frame w place (Some x) = deliver_to w place x (place_of w.nodes x.to.host)
 
-unfoldable pub deliver_place : WorldState → Option ℕ → Happened
+unfoldable pub deliver_place : WorldState → Option ℕ → EventResult
 deliver_place w None = nothing w
 deliver_place w (Some place) = deliver_frame w place (slice_get w.wire place)
 
-unfoldable pub delivers : WorldState → ℕ → Happened
+unfoldable pub delivers : WorldState → ℕ → EventResult
 delivers w number = deliver_place w (wire_place w.wire number)
 
-unfoldable pub lose_frame : WorldState → ℕ → Option Wired → Happened
+unfoldable pub lose_frame : WorldState → ℕ → Option Wired → EventResult
 lose_frame w place None = nothing w
 lose_frame w place (Some x) = happened (Off x.number ∷ Lost (what_of x.frame) ∷ []) (without_frame w place)
 
-unfoldable pub lose_place : WorldState → Option ℕ → Happened
+unfoldable pub lose_place : WorldState → Option ℕ → EventResult
 lose_place w None = nothing w
 lose_place w (Some place) = lose_frame w place (slice_get w.wire place)
 
-unfoldable pub loses : WorldState → ℕ → Happened
+unfoldable pub loses : WorldState → ℕ → EventResult
 loses w number = lose_place w (wire_place w.wire number)
 
 -- ---- events and runs
 
-abbrev pub acted : WorldState → WorldEvent → Happened
+abbrev pub acted : WorldState → WorldEvent → EventResult
 acted w (Inject h chunk bound) = injects w h chunk bound
 acted w (Send h d) = sends w h d
 acted w (Deliver number) = delivers w number
@@ -203,7 +203,7 @@ abbrev pub counted : WorldState → WorldState
 counted w = record w { made = w.made + 1 }
 
 -- one event; one that names nothing gives the line `nothing` and changes nothing
-abbrev pub happens : WorldState → WorldEvent → Happened
+abbrev pub happens : WorldState → WorldEvent → EventResult
 happens w e = happened (acted w e).lines (counted (acted w e).world)
 
 abbrev pub entry_at : ℕ → Line → Entry
@@ -236,7 +236,7 @@ neighbours_to links h zero = []
 neighbours_to links h (suc n) = neighbours_to links h n ++ neighbour_at (record { 0 = n + 1 }) (peer_of links h (record { 0 = n + 1 }))
 
 -- the services of a node at the beginning: those of the packages that it doesn't lack
-abbrev pub opening_services : HostSpec → Standing
+abbrev pub opening_services : HostSpec → ServiceState
 opening_services spec = opening_standing (present_without spec.missing)
 
 -- how the node of a host begins: its next serial number is 1

@@ -7,7 +7,7 @@ use spelled_frame::SpelledFrame;
 pub type Lines = Items<Line>;
 
 /// One line of a trace.
-#[derive(Debug, Drop)]
+#[derive(Drop)]
 pub enum Line {
     /// A host did this.
     At(Host, Act),
@@ -27,7 +27,7 @@ pub enum Line {
 pub type Entries = Items<Entry>;
 
 /// A line with the number of its event, from 1.
-#[derive(Debug, Drop)]
+#[derive(Drop)]
 pub struct Entry {
     /// The number of the event.
     pub event: u32,
@@ -36,7 +36,7 @@ pub struct Entry {
 }
 
 /// One end of a link.
-#[derive(Debug, Clone, Copy, PartialEq, Eq)]
+#[derive(Clone, Copy, PartialEq, Eq)]
 pub struct LinkEnd {
     /// The host.
     pub host: Host,
@@ -48,7 +48,7 @@ pub struct LinkEnd {
 pub type Wire = Items<Wired>;
 
 /// A frame on the wire.
-#[derive(Debug, Drop)]
+#[derive(Drop)]
 pub struct Wired {
     /// Its number, from 1 in the order of sending.
     pub number: u32,

@@ -27,7 +27,7 @@ use Rattle.node_laws.proofs.Staying.{Stays as NodeStays, inject_stays, frame_sta
 use Rattle.world_model.specs.declared.lines.Line.TheVariants.{At, Wire, Off, Lost, Nothing}
 use Rattle.world_model.specs.declared.lines.LinkEnd.{LinkEnd}
 use Rattle.world_model.specs.declared.lines.Wired.{Wired}
-use Rattle.world_model.specs.World.{Cables, WorldState, Happened, nothing, lines_at, step_at, step_place, steps, place_of, far_end, send_taken, send_at, send_over, send_place, sends, wire_place, deliver_at, deliver_to, deliver_frame, deliver_place, delivers, lose_frame, lose_place, loses, acted, happens}
+use Rattle.world_model.specs.World.{Cables, WorldState, EventResult, nothing, lines_at, step_at, step_place, steps, place_of, far_end, send_taken, send_at, send_over, send_place, sends, wire_place, deliver_at, deliver_to, deliver_frame, deliver_place, delivers, lose_frame, lose_place, loses, acted, happens}
 use Rattle.world_model.specs.Wires.{WireLeads}
 use Rattle.world_routes.specs.Roads.{routing_in, NotRaw}
 use Rattle.world_routes.specs.Routes.{FrameHasWay, IsRoutedAct, IsRouted}
@@ -36,7 +36,7 @@ use Rattle.world_routes.proofs.Steps.{IsDefault, StepKeeps, inject_keeps, tick_k
 use Rattle.world_routes.proofs.Holding.{WorldHolds, wire_way}
 
 -- what an event keeps
-pub record EventKeeps (w : WorldState) (h : Happened) : Type 0 where
+pub record EventKeeps (w : WorldState) (h : EventResult) : Type 0 where
   pub links : h.world.links ≡ w.links
   pub goes : Goes (wiring w.links) (cut w) (cut h.world)
   pub hosts : All (λ node. HostsHold (routing_of node)) h.world.nodes
@@ -144,7 +144,7 @@ unfolding send_at take_step
 send_at_keeps w h d at to None leads place get k = nothing_keeps w k
 send_at_keeps w h d at to (Some node) leads place get k = send_first_keeps w h d at to node (slice_get node.queues d.0) leads place get refl k
 
-room_cases : (t : Bool) (w : WorldState) (a : Happened) → EventKeeps w a → WorldHolds w → EventKeeps w (cond t a (nothing w))
+room_cases : (t : Bool) (w : WorldState) (a : EventResult) → EventKeeps w a → WorldHolds w → EventKeeps w (cond t a (nothing w))
 room_cases true w a x k = x
 room_cases false w a x k = nothing_keeps w k
 

@@ -4,3 +4,5 @@ pub mod Holding
 pub mod Events
 pub mod Openings
 pub mod Reaching
+pub mod Leading
+pub mod Moving

@@ -28,9 +28,9 @@ use Rattle.dv_routing.specs.Routing.{Routing, all_routes, own_advert}
 use Rattle.dv_routing.proofs.Best.{contains_later}
 use Rattle.dv_routing.proofs.Costs.{same_host}
 use Rattle.route_laws.specs.Network.{Wiring, Frame, Told, Network, IsAt, with_node, queued, Moves, Tells, Hears, Goes, Stays, Then}
-use Rattle.led_sends.specs.Led.{IsLed}
-use Rattle.led_sends.proofs.Leading.{visit_led}
-use Rattle.led_sends.proofs.Moving.{led_moves}
+use Rattle.world_routes.specs.Led.{IsLed}
+use Rattle.world_routes.proofs.Leading.{visit_led}
+use Rattle.world_routes.proofs.Moving.{led_moves}
 use Rattle.node_model.specs.declared.acts.Act.{Act}
 use Rattle.node_model.specs.declared.acts.Act.TheVariants.{Injected, Arrived, Noted, Ended, Misplaced, Heard, Ticked, SerialsSpent}
 use Rattle.node_model.specs.declared.acts.Sending.{Sending}

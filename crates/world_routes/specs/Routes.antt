@@ -18,7 +18,7 @@ use Rattle.node_model.specs.declared.acts.Reason.TheVariants as reason
 use Rattle.node_model.specs.State.{NodeState}
 use Rattle.world_model.specs.declared.lines.Line.{Line}
 use Rattle.world_model.specs.declared.lines.Line.TheVariants.{At}
-use Rattle.world_model.specs.World.{WorldState, Happened, peer_of, opening, world_after, history_of}
+use Rattle.world_model.specs.World.{WorldState, EventResult, peer_of, opening, world_after, history_of}
 use Rattle.world_routes.specs.Roads.{routing_in, route_at, cost_at, IsReached, NotRaw, IsHop}
 
 -- a network that came about from a beginning within the rules, by events that bring no bytes from outside
@@ -76,7 +76,7 @@ IsRouted _ = Unit {0}
 -- ---- events and runs
 
 -- an event keeps what holds of routes, raises no cost, and drops no packet for want of a route
-pub record KeepsRoutes (w : WorldState) (h : Happened) : Type 0 where
+pub record KeepsRoutes (w : WorldState) (h : EventResult) : Type 0 where
   pub holds : RoutesHold h.world
   pub rises : NoneRises w.nodes h.world.nodes
   pub routed : All IsRouted h.lines

@@ -1,4 +1,4 @@
-ghost use Rattle.std.specs.Prelude.{◌≡◌, ℕ, ◌≤◌, List, Some, All};
+ghost use Rattle.std.specs.Prelude.{◌≡◌, ℕ, ◌≤◌, List, Some, All, [], slice_get};
 ghost use Rattle.plan_base.specs.declared.ids.Host.{Host};
 ghost use Rattle.network_plan.specs.Rules.{KeepsNetwork};
 ghost use Rattle.network_plan.specs.declared.schedule.Topology.{Topology};
@@ -6,6 +6,14 @@ ghost use Rattle.network_plan.specs.declared.event.WorldEvent.{WorldEvent};
 ghost use Rattle.world_model.specs.World.{WorldState, happens, opening};
 ghost use Rattle.world_routes.specs.Roads.{cost_at, IsDist, NotRaw, Way, Journey};
 ghost use Rattle.world_routes.specs.Routes.{Reached, RoutesHold, KeepsRoutes, RunKeepsRoutes};
+ghost use Rattle.plan_base.specs.declared.tree.Chunk.{Chunk};
+ghost use Rattle.plan_meaning.specs.declared.sent.Sent.{Sent};
+ghost use Rattle.plan_meaning.specs.State.{VisitState};
+ghost use Rattle.plan_meaning.specs.Meaning.{meaning, visited};
+ghost use Rattle.meaning_laws.specs.Laws.{left_by};
+ghost use Rattle.dv_routing.specs.Routing.{all_routes};
+ghost use Rattle.route_laws.specs.Network.{Wiring, Frame, Parcel, Node, Network, IsAt, with_node, queued, Moves};
+ghost use Rattle.world_routes.specs.Led.{IsLed, IsLedIn};
 
 /// A beginning within the rules is reached.
 pub fn openings_are_reached()
@@ -47,4 +55,16 @@ pub fn ways_are_short()
 /// by frame, it comes over the links to hosts of lower and lower cost.
 pub fn journeys_are_short()
     ensures { (x : Host) (w : WorldState) (n : Host) (k c : ℕ) → Reached w → cost_at w.nodes n x ≡ Some c → Journey x w n k → k ≤ c }
+{}
+
+/// What a visit sends is led by its surroundings, however it ends.
+pub fn visits_are_led()
+    ensures { (k : Chunk) (s : VisitState) → s.outbox ≡ [] → All (IsLedIn s.ctx) (left_by (visited meaning k s).after).outbox }
+{}
+
+/// A send that is led by a node's routes and neighbours and is queued there is a move.
+pub fn led_sends_move()
+    ensures { (far : Wiring) (w : Network) (at : ℕ) (node : Node) (s : Sent) (queue : List Frame) → IsAt w at node
+        → IsLed node.routing.here node.routing.neighbours (all_routes node.routing) s → slice_get node.queues s.dev.0 ≡ Some queue
+        → Moves far w (with_node w at (queued node s.dev queue (Parcel s.packet.dest))) }
 {}

@@ -5,6 +5,6 @@
 mod laws;
 
 pub use laws::{
-    costs_are_distances, events_keep_routes, events_reach, journeys_are_short,
-    openings_are_reached, routes_hold, runs_keep_routes, ways_are_short,
+    costs_are_distances, events_keep_routes, events_reach, journeys_are_short, led_sends_move,
+    openings_are_reached, routes_hold, runs_keep_routes, visits_are_led, ways_are_short,
 };

@@ -1,6 +1,6 @@
 use Rattle.std.proofs.Common.{◌≡◌, drop}
 use Rattle.std.specs.List.{list_all}
-use Rattle.plan_base.specs.TypingNames.{param_types}
+use Rattle.typing_rules.specs.TypingNames.{param_types}
 use Rattle.chunk_types.specs.Chunks.{ill_from, right, sound}
 use Rattle.chunk_types.proofs.ill.+illness.Given as goal
 

@@ -1,4 +1,4 @@
-use Rattle.frame_text.proofs.OneAnswer.{accepts_is}
+use Rattle.packet_frame.proofs.OneAnswer.{accepts_is}
 use Rattle.file_commands.proofs.ShowLemmas.{frame_refused}
 use Rattle.file_commands.proofs.show.framed.Goals as goal
 

@@ -1,6 +1,6 @@
 use Rattle.std.proofs.Common.{◌≡◌, ◌∙◌, ◌+◌, ◌<◌, ℕ, IsTrue, Some, length, take, drop, get_or, slice_get, refl, sym, ap, subst, arith, rules}
 use Rattle.std.proofs.lemmas.List.{length_push}
-use Rattle.node_io.specs.Causes.{Rose}
+use Rattle.node_io.specs.Causes.{HasRisen}
 use Rattle.node_io.specs.declared.spawner.Child.{Child}
 use Rattle.node_io.proofs.SpawnerLaws.{kept_same, kept_both}
 use Rattle.node_io.specs.Sinks.{Writes}
@@ -43,7 +43,7 @@ returns-in_default g c =
     let mid = s c.loop-i.spawn in
     let new = s c.wait.new.self in
     let inside : i < length c.args.started.now = omega (arith, c.loop-i-test.true, c.requires.each) in
-    let rose : Rose mid.faults new.faults = c.in_default.ensures.waits.status in
+    let rose : HasRisen mid.faults new.faults = c.in_default.ensures.waits.status in
     record {
       kept = kept_both old mid new l.kept c.wait.ensures.waits.kept;
       starts = c.wait.ensures.waits.starts ∙ l.starts;

@@ -1,5 +1,5 @@
 use Rattle.std.proofs.Common.{◌∙◌, ◌+◌, inr, drop, get_or, refl, arith}
-use Rattle.node_io.specs.Causes.{Rose}
+use Rattle.node_io.specs.Causes.{HasRisen}
 use Rattle.node_io.specs.declared.spawner.Child.{Child}
 use Rattle.node_io.proofs.SpawnerLaws.{kept_both, wait_failed}
 use Rattle.fleet_run.proofs.ChildLaws.{next_is_open, next_waited, leaves}
@@ -20,7 +20,7 @@ returns-then-is_err g c =
     let l = c.loop-child.invariant in
     let mid = s c.loop-child.spawn in
     let new = s c.wait.new.self in
-    let rose : Rose mid.faults new.faults = wait_failed (get_or c.args.started.now i none) mid new c.wait.result c.is_err.result c.is_err.ensures.value c.if-is_err.true c.wait.ensures.waits.status in
+    let rose : HasRisen mid.faults new.faults = wait_failed (get_or c.args.started.now i none) mid new c.wait.result c.is_err.result c.is_err.ensures.value c.if-is_err.true c.wait.ensures.waits.status in
     record {
       kept = kept_both (s c.args.spawn.now) mid new l.kept c.wait.ensures.waits.kept;
       starts = c.wait.ensures.waits.starts ∙ l.starts;

@@ -1,5 +1,5 @@
 use Rattle.std.proofs.Common.{◌≡◌, ◌∙◌}
-use Rattle.grown_network.specs.Grow as grow
+use Rattle.grow_run.specs.Grow as grow
 use Rattle.net_world.proofs.StandLaws.{if_ok}
 use Rattle.grow_run.specs.Pings.{ping}
 use Rattle.grow_run.proofs.Drawing.{ticks_first, draws_then}

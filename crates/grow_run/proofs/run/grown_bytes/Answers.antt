@@ -2,8 +2,8 @@ use Rattle.std.proofs.Common.{◌≡◌, ◌∙◌, ap, subst}
 use Rattle.world_model.specs.World.{opening, world_after, history_of}
 use Rattle.network_laws.proofs.Balance.{opening_balances}
 use Rattle.run_ledger.specs.Stands.{Stands}
-use Rattle.grown_network.specs.Grow.{ring, grown, Grow}
-use Rattle.grown_network.specs.Summaries.{summary_of, grown_text}
+use Rattle.grow_run.specs.Grow.{ring, grown, Grow}
+use Rattle.grow_run.specs.Summaries.{summary_of, grown_text}
 use Rattle.net_world.proofs.StandLaws.{if_ok}
 use Rattle.grow_run.specs.Pings.{ping, OfGrown}
 use Rattle.grow_run.proofs.Growing.{output_is}
@@ -15,7 +15,7 @@ returns g c =
     let es = Grow (ping code) c.args.seed c.args.events in
     let h = history_of es (opening ring) in
     let w = world_after es (opening ring) in
-    let same = ap (λ words. history_of (grown (ping code) c.args.events words (opening ring)) (opening ring)) c.in_ok-growth.ensures.begun.0 in
+    let same = ap (λ words. history_of (grown (ping code) c.args.events words (opening ring)) (opening ring)) c.in_ok-growth.ensures.fresh.0 in
     if_ok (λ text. text ≡ grown_text c.args.seed c.args.events h w) (λ text. OfGrown c.args.seed c.args.events (λ whole. text ≡ whole)) c.text.result
     (λ text is. record { code = code; reads = c.in_ok-code.ensures; is = is ∙ output_is c.args.seed c.args.events code })
     (c.text.ensures h w (subst (λ x. Stands x c.grow.new.self.ledger) same c.in_ok-grow.ensures.ledger) (c.in_ok-grow.ensures.summary ∙ ap summary_of same) (λ f. opening_balances f ring es))

@@ -1,5 +1,5 @@
 use Rattle.std.proofs.Common.{◌≡◌, Some, refl}
-use Rattle.plan_base.specs.TypingNames.{place_of}
+use Rattle.typing_rules.specs.TypingNames.{place_of}
 use Rattle.plan_eval.proofs.Turning.{turn_visit, no_entry}
 use Rattle.plan_eval.proofs.apply.visit_chunk.Goals as goal
 

@@ -1,7 +1,7 @@
 use Rattle.std.proofs.Common.{◌≡◌, List, Some, None, take, refl, sym, ap, ◌∙◌}
 use Rattle.plan_base.specs.declared.tree.Program.{Program}
 use Rattle.plan_base.specs.declared.tree.Svc.{Svc}
-use Rattle.plan_base.specs.TypingNames.{place_of, service_of, prim_of}
+use Rattle.typing_rules.specs.TypingNames.{place_of, service_of, prim_of}
 use Rattle.plan_meaning.specs.State.{joined}
 use Rattle.plan_eval.proofs.Calling.{calls_function}
 use Rattle.plan_eval.proofs.call.called.Goals as goal

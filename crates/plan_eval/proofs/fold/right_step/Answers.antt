@@ -1,5 +1,5 @@
 use Rattle.std.proofs.Common.{◌≡◌, Some, None, take}
-use Rattle.plan_base.specs.TypingNames.{place_of}
+use Rattle.typing_rules.specs.TypingNames.{place_of}
 use Rattle.plan_eval.proofs.Deciding.{fold_right_step}
 use Rattle.plan_eval.proofs.Gathering.{no_right_step}
 use Rattle.plan_eval.proofs.fold.right_step.Goals as goal

@@ -1,6 +1,6 @@
 use Rattle.std.proofs.Common.{◌≡◌}
 use Rattle.plan_meaning.specs.State.{joined}
-use Rattle.plan_eval.specs.declared.frame.Mode.TheVariants as mode
+use Rattle.plan_eval.specs.declared.stack_frame.Mode.TheVariants as mode
 use Rattle.plan_eval.specs.Leads.{Leads}
 use Rattle.plan_eval.specs.Stack.{AreLinked, stands_for}
 use Rattle.plan_eval.specs.Turns.{load}

@@ -1,6 +1,6 @@
 use Rattle.std.proofs.Common.{◌≡◌, ◌∷◌, [], Ok}
 use Rattle.plan_meaning.specs.State.{joined}
-use Rattle.plan_eval.specs.declared.frame.Frame.TheVariants as frame
+use Rattle.plan_eval.specs.declared.stack_frame.StackFrame.TheVariants as frame
 use Rattle.plan_eval.specs.declared.rest.Flow.TheVariants as flow
 use Rattle.plan_eval.proofs.Leading.{itself}
 use Rattle.plan_eval.proofs.Waiting.{waits_inside}

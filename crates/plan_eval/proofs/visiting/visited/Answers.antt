@@ -1,5 +1,5 @@
 use Rattle.std.proofs.Common.{◌≡◌, Some, None, refl, ◌∙◌}
-use Rattle.plan_base.specs.TypingNames.{place_of}
+use Rattle.typing_rules.specs.TypingNames.{place_of}
 use Rattle.plan_meaning.specs.State.{joined}
 use Rattle.plan_eval.proofs.Delivering.{visited_on}
 use Rattle.plan_eval.proofs.Turning.{visited_nowhere}

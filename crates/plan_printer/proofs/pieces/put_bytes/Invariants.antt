@@ -1,6 +1,6 @@
 use Rattle.std.proofs.Common.{◌≡◌, ◌++◌, drop}
 use Rattle.std.specs.List.{flat_map}
-use Rattle.plan_lexer.specs.PrintedForms.{byte_text}
+use Rattle.printed_forms.specs.Literals.{byte_text}
 use Rattle.plan_printer.proofs.pieces.put_bytes.Given as goal
 
 abbrev pub invariant-loop-byte : goal.invariant-loop-byte

@@ -1,7 +1,7 @@
 use Rattle.std.proofs.Common.{◌≡◌, ◌++◌, [], drop}
 use Rattle.std.specs.Prelude.{codes}
-use Rattle.plan_printer.specs.Pieces.{listed}
-use Rattle.plan_printer.specs.Printed.{expr_text, clause_text}
+use Rattle.printed_forms.specs.Pieces.{listed}
+use Rattle.printed_forms.specs.Printed.{expr_text, clause_text}
 use Rattle.plan_printer.proofs.programs.+put_expr.Given as goal
 
 abbrev pub invariant-put_exprs-loop-e : goal.invariant-put_exprs-loop-e

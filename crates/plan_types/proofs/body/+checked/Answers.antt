@@ -1,6 +1,6 @@
 use Rattle.std.proofs.Common.{◌≡◌, ℕ, ◌-◌, ap, refl, arith, suc}
 use Rattle.std.specs.Option.{option_copied}
-use Rattle.plan_base.specs.TypingOrder.{checked}
+use Rattle.typing_rules.specs.TypingOrder.{checked}
 use Rattle.plan_types.proofs.Loops.{deeper}
 use Rattle.plan_types.proofs.body.+checked.Goals as goal
 

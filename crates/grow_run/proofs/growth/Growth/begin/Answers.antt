@@ -4,7 +4,7 @@ use Rattle.network_plan.specs.Rules.{KeepsNetwork}
 use Rattle.world_model.specs.World.{opening, opening_services}
 use Rattle.run_ledger.specs.Stands.{Stands}
 use Rattle.run_ledger.proofs.LineLaws.{nothing_stands}
-use Rattle.grown_network.proofs.RingRules.{ring_keeps}
+use Rattle.grow_run.proofs.RingRules.{ring_keeps}
 use Rattle.net_world.specs.Stands.{WorldStands}
 use Rattle.grow_run.proofs.growth.Growth.begin.Goals as goal
 

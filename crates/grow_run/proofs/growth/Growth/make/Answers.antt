@@ -1,7 +1,7 @@
 use Rattle.std.proofs.Common.{◌∙◌, ◌+◌, ◌++◌, refl, sym, ap, subst}
 use Rattle.run_ledger.specs.Counting.{LinesFit}
 use Rattle.run_ledger.specs.Stands.{Stands}
-use Rattle.grown_network.specs.Summaries.{summary_of}
+use Rattle.grow_run.specs.Summaries.{summary_of}
 use Rattle.net_world.proofs.RunLaws.{entries_are}
 use Rattle.grow_run.proofs.growth.Growth.make.Goals as goal
 

@@ -1,6 +1,6 @@
 use Rattle.std.proofs.Common.{◌++◌, ◌∙◌, ap}
-use Rattle.grown_network.specs.Summaries.{summary_text}
-use Rattle.grown_network.proofs.Summing.{summary_is}
+use Rattle.grow_run.specs.Summaries.{summary_text}
+use Rattle.grow_run.proofs.Summing.{summary_is}
 use Rattle.grow_run.proofs.growth.Growth.text.Goals as goal
 
 pub returns : goal.returns

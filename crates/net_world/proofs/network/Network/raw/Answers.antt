@@ -1,5 +1,5 @@
 use Rattle.std.proofs.Common.{◌∙◌, ◌++◌, ap, refl}
-use Rattle.frame_text.specs.Decoding.{frame_of}
+use Rattle.packet_frame.specs.Decoding.{frame_of}
 use Rattle.world_model.specs.World.{forged}
 use Rattle.node_model.specs.Node.{arrive_step}
 use Rattle.world_model.specs.World.{lines_at}

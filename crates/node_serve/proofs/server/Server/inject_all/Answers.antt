@@ -1,4 +1,4 @@
-use Rattle.std.proofs.Common.{sym, ap, subst, arith, length, Some, IsTrue, get_or, ◌∙◌, ◌≤◌, ◌<◌}
+use Rattle.std.proofs.Common.{sym, ap, subst, length, Some, IsTrue, get_or, ◌∙◌, ◌≤◌, ◌<◌}
 use Rattle.std.proofs.lemmas.Option.{slice_get-get_or}
 use Rattle.std.proofs.lemmas.List.Elements.{All-get_or}
 use Rattle.network_plan.specs.NodeRules.{KeepsInject}

@@ -1,4 +1,4 @@
-use Rattle.std.proofs.Common.{◌≡◌, ◌+◌, IsTrue, refl, sym, ap, subst, ◌∙◌, arith}
+use Rattle.std.proofs.Common.{◌≡◌, IsTrue, refl, sym, ap, subst, ◌∙◌, arith}
 use Rattle.serve_model.specs.Runs.{take_send, repeat_send}
 use Rattle.node_serve.proofs.MakeLaws.{repeat_none, repeat_next}
 use Rattle.node_serve.specs.Desks.{desk}

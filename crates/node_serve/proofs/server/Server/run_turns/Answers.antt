@@ -1,4 +1,4 @@
-use Rattle.std.proofs.Common.{◌≡◌, ◌+◌, IsTrue, Ok, sym, subst, ◌∙◌, arith}
+use Rattle.std.proofs.Common.{◌≡◌, IsTrue, Ok, sym, subst, ◌∙◌, arith}
 use Rattle.node_serve.specs.Desks.{serving}
 use Rattle.node_serve.specs.Goes.{GoesTurns}
 use Rattle.node_serve.proofs.MakeLaws.{time_none}

@@ -1,4 +1,3 @@
-use Rattle.node_serve.specs.Desks.{desk}
 use Rattle.node_serve.proofs.Joining.{goes_made, goes_unmade}
 use Rattle.node_serve.proofs.server.Server.step.Goals as goal
 

@@ -3,7 +3,7 @@ use Rattle.plan_base.specs.declared.tree.Value.{Value}
 use Rattle.resident_tables.specs.Layers.{Layer}
 use Rattle.service_api.specs.Services.{AreGoodValues}
 use Rattle.service_registry.specs.Held.{rows_over, IsOpen, IsKept}
-use Rattle.service_registry.specs.There.{present_of}
+use Rattle.service_registry.specs.Packages.{present_of}
 use Rattle.service_registry.proofs.Kept.{meets_good}
 use Rattle.service_registry.proofs.registry.RegistryServices.call.Goals as goal
 

@@ -1,0 +1,9 @@
+pub mod Saying
+pub mod Judging
+pub mod Pieces
+pub mod Keys
+pub mod Gathering
+pub mod Holdings
+pub mod Entries
+pub mod Arguments
+pub mod Shares

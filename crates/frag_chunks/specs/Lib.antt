@@ -1,0 +1,5 @@
+pub mod Parts
+pub mod Gathers
+pub mod Messages
+pub mod Saying
+pub mod Places

@@ -1,0 +1,21 @@
+ghost use Rattle.std.specs.Prelude.{◌≡◌, ◌<◌, ◌⊎◌, ℕ, ℤ, List, [], length, Some, None, false};
+ghost use Rattle.service_api.specs.declared.answer.Note.{Note};
+ghost use Rattle.frag_chunks.specs.declared.gather.Held.TheVariants as held;
+ghost use Rattle.frag_chunks.specs.Parts.{parts_in};
+ghost use Rattle.frag_chunks.specs.Gathers.{gathered, holding_of};
+ghost use Rattle.frag_chunks.specs.Messages.{OfMessage, AllCame, NoneCame, was_given, IsKept, IsFull, held_after, missing_of};
+
+/// A key whose notes are parts of one message is held whole, with exactly that message, once each part came, and is
+/// missing some until then; it isn't kept only where no note of it came, or where 64 other keys are kept.
+pub fn messages_are_gathered()
+    ensures whole { (port : ℕ) (k : ℤ) (bytes : List ℕ) (notes : List Note)
+        → OfMessage port k bytes notes → IsKept port k notes → AllCame port k bytes notes
+        → held_after port k notes ≡ Some (held.Whole k bytes) }
+    ensures missing { (port : ℕ) (k : ℤ) (bytes : List ℕ) (notes : List Note)
+        → OfMessage port k bytes notes → IsKept port k notes
+        → (i : ℕ) → i < parts_in (length bytes) → was_given port k notes i ≡ false
+        → held_after port k notes ≡ Some (missing_of port k bytes notes) }
+    ensures room { (port : ℕ) (k : ℤ) (bytes : List ℕ) (notes : List Note)
+        → OfMessage port k bytes notes → holding_of k (gathered port notes []) ≡ None
+        → IsFull port notes ⊎ NoneCame port k notes }
+{}

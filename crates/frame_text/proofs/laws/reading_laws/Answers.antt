@@ -1,5 +1,0 @@
-use Rattle.frame_text.proofs.OneAnswer.{accepts_is, found_is, first_is}
-use Rattle.frame_text.proofs.laws.reading_laws.Goals as goal
-
-pub returns : goal.returns
-returns c = record { frame = accepts_is; only = found_is; refusal = first_is }

@@ -1,5 +1,0 @@
-use Rattle.frame_text.proofs.Versions.{accepted_by, found_by, refused_by_two}
-use Rattle.frame_text.proofs.laws.version_laws.Goals as goal
-
-pub returns : goal.returns
-returns c = record { frame = accepted_by; only = found_by; refusal = refused_by_two }

@@ -1,0 +1,22 @@
+ghost use Rattle.std.specs.Prelude.{◌≡◌, ℕ, List};
+ghost use Rattle.plan_base.specs.declared.ids.Family.{Family};
+ghost use Rattle.bound_ledger.specs.Rows.{FamilyRow, OneEach};
+ghost use Rattle.world_model.specs.declared.lines.Entry.{Entry};
+ghost use Rattle.world_model.specs.World.{WorldState};
+ghost use Rattle.world_model.specs.Counts.{Balanced};
+ghost use Rattle.run_ledger.specs.Stands.{Stands};
+ghost use Rattle.network_plan.specs.Rules.{KeepsNetwork};
+ghost use Rattle.grow_run.specs.Grow.{ring};
+ghost use Rattle.grow_run.specs.Summaries.{summary_of, row_sums, summary_text, grown_text};
+
+/// The summary with the sums of rows that stand for a history is that of the history.
+pub fn summaries_are_counts()
+    ensures { (seed n : ℕ) (h : List Entry) (w : WorldState) (rows : List FamilyRow) → OneEach rows
+        → Stands h rows → ((f : Family) → Balanced f h w)
+        → summary_text seed n (summary_of h) (row_sums rows) ≡ grown_text seed n h w }
+{}
+
+/// The ring keeps the rules of a network.
+pub fn ring_keeps()
+    ensures { KeepsNetwork ring }
+{}

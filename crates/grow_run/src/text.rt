@@ -1,0 +1,77 @@
+ghost use Rattle.std.specs.Prelude.{◌≡◌, ◌++◌, OnOk};
+ghost use Rattle.std.specs.Fmt.{decimal};
+ghost use Rattle.grow_run.specs.Summaries as spec;
+
+use crate::summary::Summary;
+use bound_ledger::Row;
+use node_core::put_number;
+use plan_base::{Bytes, NoMemory};
+
+/// A word and a number.
+fn put_count(out: &mut Bytes, word: &[u8], n: u64) -> Result<(), NoMemory>
+    ensures { OnOk result (out.new ≡ out.old ++ (word.now ++ decimal n)) }
+{
+    out.add_all(word)?;
+    put_number(out, n)?;
+    Ok(())
+}
+
+fn put_asked(out: &mut Bytes, seed: u64, events: u64) -> Result<(), NoMemory>
+    ensures { OnOk result (out.new ≡ out.old ++ spec.asked_text seed events) }
+{
+    put_count(out, b"planet grow ", seed)?;
+    put_count(out, b" ", events)?;
+    out.add_all(b"\n")?;
+    Ok(())
+}
+
+fn put_size(out: &mut Bytes, events: u64) -> Result<(), NoMemory>
+    ensures { OnOk result (out.new ≡ out.old ++ spec.size_text events) }
+{
+    put_count(out, b"hosts 8 links 8 events ", events)?;
+    out.add_all(b"\n")?;
+    Ok(())
+}
+
+fn put_happened(out: &mut Bytes, summary: Summary) -> Result<(), NoMemory>
+    ensures { OnOk result (out.new ≡ out.old ++ spec.happened_text summary) }
+{
+    put_count(out, b"lines ", summary.lines)?;
+    put_count(out, b"\nvisits ", summary.visits)?;
+    put_count(out, b" drops ", summary.drops)?;
+    put_count(out, b" lost ", summary.lost)?;
+    out.add_all(b"\n")?;
+    Ok(())
+}
+
+fn put_sums(out: &mut Bytes, sums: Row) -> Result<(), NoMemory>
+    ensures { OnOk result (out.new ≡ out.old ++ spec.sums_text sums) }
+{
+    put_count(out, b"granted ", sums.granted)?;
+    put_count(out, b" hops ", sums.hops)?;
+    put_count(out, b" evals ", sums.evals)?;
+    put_count(out, b" live ", sums.live)?;
+    put_count(out, b" left ", sums.left)?;
+    out.add_all(b"\n")?;
+    Ok(())
+}
+
+/// Appends the summary of a network that grew by itself: what was asked, what happened, and the sums over
+/// all families.
+#[tactic(auto, unfolding(crate::specs::Summaries::summary_text))]
+pub fn put_summary(
+    out: &mut Bytes,
+    seed: u64,
+    events: u64,
+    summary: Summary,
+    sums: Row,
+) -> Result<(), NoMemory>
+    ensures { OnOk result (out.new ≡ out.old ++ spec.summary_text seed events summary sums) }
+{
+    put_asked(out, seed, events)?;
+    put_size(out, events)?;
+    put_happened(out, summary)?;
+    put_sums(out, sums)?;
+    out.add_all(b"end\n")?;
+    Ok(())
+}

@@ -1,2 +1,0 @@
-pub mod RingRules
-pub mod Summing

@@ -1,7 +1,0 @@
-use Rattle.std.proofs.Common.{refl}
-use Rattle.grown_network.specs.Summaries.{summary_of, row_sums}
-use Rattle.grown_network.proofs.Summing.{summary_is}
-use Rattle.grown_network.proofs.laws.summaries_are_counts.Goals as goal
-
-pub returns : goal.returns
-returns c = λ seed n h w rows d s law. summary_is seed n h w rows (summary_of h) (row_sums rows) d s law refl refl

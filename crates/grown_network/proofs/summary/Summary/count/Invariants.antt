@@ -1,8 +1,0 @@
-use Rattle.std.proofs.Common.{◌≡◌, ◌++◌, ℕ, List, take, map}
-use Rattle.world_model.specs.declared.lines.Entry.{Entry}
-use Rattle.world_model.specs.World.{entry_at}
-use Rattle.grown_network.specs.Summaries.{summary_of}
-use Rattle.grown_network.proofs.summary.Summary.count.Given as goal
-
-abbrev pub invariant-loop-line : goal.invariant-loop-line
-invariant-loop-line l = (h : List Entry) (n : ℕ) → l.initial.self ≡ summary_of h → l.self ≡ summary_of (h ++ map (entry_at n) (take l.line-index l.lines))

@@ -1,2 +1,0 @@
-pub mod Grow
-pub mod Summaries

@@ -1,0 +1,475 @@
+ghost use Rattle.std.specs.Prelude.{◌≡◌, ◌↔◌, IsTrue};
+ghost use Rattle.plan_base.specs.SameTypes as spec;
+
+use crate::equal::Same;
+use plan_base::{Chunk, Clause, Exn, Expr, Fun, Name, Param, Program, Svc, Ty, Value};
+
+impl Same for Ty {
+    /// Whether the two types are the same. Takes no memory.
+    fn is(&self, other: &Ty) -> bool
+        ensures same { IsTrue result ↔ (self.now ≡ other.now) }
+        ensures tested { result ≡ spec.same_type self.now other.now }
+    {
+        same_type(self, other)
+    }
+}
+
+#[cycle(same_type)]
+#[tactic(auto, using(plan_base::specs::Trees::trees))]
+fn same_type(a: &Ty, b: &Ty) -> bool
+    ensures { IsTrue result ↔ (a.now ≡ b.now) }
+{
+    match a {
+        Ty::Unit => matches!(b, Ty::Unit),
+        Ty::Bool => matches!(b, Ty::Bool),
+        Ty::Int => matches!(b, Ty::Int),
+        Ty::Char => matches!(b, Ty::Char),
+        Ty::Str => matches!(b, Ty::Str),
+        Ty::Blob => matches!(b, Ty::Blob),
+        Ty::Host => matches!(b, Ty::Host),
+        Ty::Dev => matches!(b, Ty::Dev),
+        Ty::Chunk => matches!(b, Ty::Chunk),
+        Ty::List(item) => match b {
+            Ty::List(other) => same_type(item.get(), other.get()),
+            _ => false,
+        },
+        Ty::Tuple(parts) => match b {
+            Ty::Tuple(others) => same_types(parts.as_slice(), others.as_slice()),
+            _ => false,
+        },
+    }
+}
+
+#[cycle(same_type)]
+fn same_types(a: &[Ty], b: &[Ty]) -> bool
+    ensures { IsTrue result ↔ (a.now ≡ b.now) }
+{
+    if a.len() != b.len() {
+        return false;
+    }
+    for i in 0..a.len() {
+        if !same_type(&a[i], &b[i]) {
+            return false;
+        }
+    }
+    true
+}
+
+#[tactic(auto, using(plan_base::specs::Trees::trees))]
+fn same_option_type(a: &Option<Ty>, b: &Option<Ty>) -> bool
+    ensures { IsTrue result ↔ (a.now ≡ b.now) }
+{
+    match a {
+        Some(t) => match b {
+            Some(u) => t.is(u),
+            None => false,
+        },
+        None => b.is_none(),
+    }
+}
+
+fn same_option_name(a: &Option<Name>, b: &Option<Name>) -> bool
+    ensures { IsTrue result ↔ (a.now ≡ b.now) }
+{
+    match a {
+        Some(x) => match b {
+            Some(y) => x.is(y),
+            None => false,
+        },
+        None => b.is_none(),
+    }
+}
+
+fn same_names(a: &[Name], b: &[Name]) -> bool
+    ensures { IsTrue result ↔ (a.now ≡ b.now) }
+{
+    if a.len() != b.len() {
+        return false;
+    }
+    for i in 0..a.len() {
+        if !a[i].is(&b[i]) {
+            return false;
+        }
+    }
+    true
+}
+
+impl Same for Expr {
+    /// Whether the two expressions are the same. Takes no memory.
+    fn is(&self, other: &Expr) -> bool
+        ensures { IsTrue result ↔ (self.now ≡ other.now) }
+    {
+        same_expr(self, other)
+    }
+}
+
+#[cycle(same_expr)]
+#[tactic(auto, using(plan_base::specs::Trees::trees))]
+fn same_expr(e: &Expr, other: &Expr) -> bool
+    ensures { IsTrue result ↔ (e.now ≡ other.now) }
+{
+    match e {
+        Expr::Unit => matches!(other, Expr::Unit),
+        Expr::Bool(x) => match other {
+            Expr::Bool(y) => *x == *y,
+            _ => false,
+        },
+        Expr::Int(x) => match other {
+            Expr::Int(y) => *x == *y,
+            _ => false,
+        },
+        Expr::Char(x) => match other {
+            Expr::Char(y) => *x == *y,
+            _ => false,
+        },
+        Expr::Str(x) => match other {
+            Expr::Str(y) => x.is(y),
+            _ => false,
+        },
+        Expr::Blob(x) => match other {
+            Expr::Blob(y) => x.is(y),
+            _ => false,
+        },
+        Expr::Host(x) => match other {
+            Expr::Host(y) => x.0 == y.0,
+            _ => false,
+        },
+        Expr::Dev(x) => match other {
+            Expr::Dev(y) => x.0 == y.0,
+            _ => false,
+        },
+        Expr::Nil(t) => match other {
+            Expr::Nil(t2) => same_option_type(t, t2),
+            _ => false,
+        },
+        Expr::Var(x) => match other {
+            Expr::Var(y) => x.is(y),
+            _ => false,
+        },
+        Expr::Tuple(es) => match other {
+            Expr::Tuple(others) => same_exprs(es.as_slice(), others.as_slice()),
+            _ => false,
+        },
+        Expr::Call(f, es) => match other {
+            Expr::Call(g, others) => f.is(g) && same_exprs(es.as_slice(), others.as_slice()),
+            _ => false,
+        },
+        Expr::If(c, a, b) => match other {
+            Expr::If(c2, a2, b2) => same_expr(c.get(), c2.get())
+                && same_expr(a.get(), a2.get())
+                && same_expr(b.get(), b2.get()),
+            _ => false,
+        },
+        Expr::Let(x, t, a, b) => match other {
+            Expr::Let(y, t2, a2, b2) => x.is(y)
+                && t.is(t2)
+                && same_expr(a.get(), a2.get())
+                && same_expr(b.get(), b2.get()),
+            _ => false,
+        },
+        Expr::Then(a, b) => match other {
+            Expr::Then(a2, b2) => same_expr(a.get(), a2.get()) && same_expr(b.get(), b2.get()),
+            _ => false,
+        },
+        Expr::And(a, b) => match other {
+            Expr::And(a2, b2) => same_expr(a.get(), a2.get()) && same_expr(b.get(), b2.get()),
+            _ => false,
+        },
+        Expr::Or(a, b) => match other {
+            Expr::Or(a2, b2) => same_expr(a.get(), a2.get()) && same_expr(b.get(), b2.get()),
+            _ => false,
+        },
+        Expr::Not(a) => match other {
+            Expr::Not(a2) => same_expr(a.get(), a2.get()),
+            _ => false,
+        },
+        Expr::Binary(op, a, b) => match other {
+            Expr::Binary(op2, a2, b2) => *op == *op2
+                && same_expr(a.get(), a2.get())
+                && same_expr(b.get(), b2.get()),
+            _ => false,
+        },
+        Expr::Part(i, a) => match other {
+            Expr::Part(j, a2) => *i == *j && same_expr(a.get(), a2.get()),
+            _ => false,
+        },
+        Expr::Raise(x, t) => match other {
+            Expr::Raise(y, t2) => x.is(y) && same_option_type(t, t2),
+            _ => false,
+        },
+        Expr::Try(a, cs) => match other {
+            Expr::Try(a2, cs2) => same_expr(a.get(), a2.get())
+                && same_clauses(cs.as_slice(), cs2.as_slice()),
+            _ => false,
+        },
+        Expr::Foldl(f, a, l) => match other {
+            Expr::Foldl(g, a2, l2) => f.is(g)
+                && same_expr(a.get(), a2.get())
+                && same_expr(l.get(), l2.get()),
+            _ => false,
+        },
+        Expr::Foldr(f, a, l) => match other {
+            Expr::Foldr(g, a2, l2) => f.is(g)
+                && same_expr(a.get(), a2.get())
+                && same_expr(l.get(), l2.get()),
+            _ => false,
+        },
+        Expr::ChunkOf(f, es) => match other {
+            Expr::ChunkOf(g, others) => f.is(g) && same_exprs(es.as_slice(), others.as_slice()),
+            _ => false,
+        },
+        Expr::Eval(c) => match other {
+            Expr::Eval(c2) => same_expr(c.get(), c2.get()),
+            _ => false,
+        },
+        Expr::OnRemote(c, h, n, r) => match other {
+            Expr::OnRemote(c2, h2, n2, r2) => same_expr(c.get(), c2.get())
+                && same_expr(h.get(), h2.get())
+                && same_expr(n.get(), n2.get())
+                && r.is(r2),
+            _ => false,
+        },
+        Expr::OnNeighbor(c, h, n, d) => match other {
+            Expr::OnNeighbor(c2, h2, n2, d2) => same_expr(c.get(), c2.get())
+                && same_expr(h.get(), h2.get())
+                && same_expr(n.get(), n2.get())
+                && same_expr(d.get(), d2.get()),
+            _ => false,
+        },
+    }
+}
+
+#[cycle(same_expr)]
+fn same_exprs(a: &[Expr], b: &[Expr]) -> bool
+    ensures { IsTrue result ↔ (a.now ≡ b.now) }
+{
+    if a.len() != b.len() {
+        return false;
+    }
+    for i in 0..a.len() {
+        if !same_expr(&a[i], &b[i]) {
+            return false;
+        }
+    }
+    true
+}
+
+#[cycle(same_expr)]
+fn same_clauses(a: &[Clause], b: &[Clause]) -> bool
+    ensures { IsTrue result ↔ (a.now ≡ b.now) }
+{
+    if a.len() != b.len() {
+        return false;
+    }
+    for i in 0..a.len() {
+        if !same_clause(&a[i], &b[i]) {
+            return false;
+        }
+    }
+    true
+}
+
+#[cycle(same_expr)]
+#[tactic(auto, using(plan_base::specs::Trees::trees))]
+fn same_clause(a: &Clause, b: &Clause) -> bool
+    ensures { IsTrue result ↔ (a.now ≡ b.now) }
+{
+    same_option_name(&a.name, &b.name) && same_expr(&a.body, &b.body)
+}
+
+impl Same for Clause {
+    /// Whether the two clauses are the same. Takes no memory.
+    fn is(&self, other: &Clause) -> bool
+        ensures { IsTrue result ↔ (self.now ≡ other.now) }
+    {
+        same_clause(self, other)
+    }
+}
+
+impl Same for Svc {
+    /// Whether the two declarations are the same. Takes no memory.
+    fn is(&self, other: &Svc) -> bool
+        ensures { IsTrue result ↔ (self.now ≡ other.now) }
+    {
+        self.name.is(&other.name)
+            && same_types(self.params.as_slice(), other.params.as_slice())
+            && self.result.is(&other.result)
+    }
+}
+
+fn same_svcs(a: &[Svc], b: &[Svc]) -> bool
+    ensures { IsTrue result ↔ (a.now ≡ b.now) }
+{
+    if a.len() != b.len() {
+        return false;
+    }
+    for i in 0..a.len() {
+        if !a[i].is(&b[i]) {
+            return false;
+        }
+    }
+    true
+}
+
+impl Same for Param {
+    /// Whether the two parameters are the same. Takes no memory.
+    fn is(&self, other: &Param) -> bool
+        ensures { IsTrue result ↔ (self.now ≡ other.now) }
+    {
+        self.name.is(&other.name) && self.ty.is(&other.ty)
+    }
+}
+
+fn same_params(a: &[Param], b: &[Param]) -> bool
+    ensures { IsTrue result ↔ (a.now ≡ b.now) }
+{
+    if a.len() != b.len() {
+        return false;
+    }
+    for i in 0..a.len() {
+        if !a[i].is(&b[i]) {
+            return false;
+        }
+    }
+    true
+}
+
+impl Same for Fun {
+    /// Whether the two functions are the same. Takes no memory.
+    fn is(&self, other: &Fun) -> bool
+        ensures { IsTrue result ↔ (self.now ≡ other.now) }
+    {
+        self.name.is(&other.name)
+            && same_params(self.params.as_slice(), other.params.as_slice())
+            && self.result.is(&other.result)
+            && self.body.is(&other.body)
+    }
+}
+
+fn same_funs(a: &[Fun], b: &[Fun]) -> bool
+    ensures { IsTrue result ↔ (a.now ≡ b.now) }
+{
+    if a.len() != b.len() {
+        return false;
+    }
+    for i in 0..a.len() {
+        if !a[i].is(&b[i]) {
+            return false;
+        }
+    }
+    true
+}
+
+impl Same for Program {
+    /// Whether the two programs are the same. Takes no memory.
+    fn is(&self, other: &Program) -> bool
+        ensures { IsTrue result ↔ (self.now ≡ other.now) }
+    {
+        same_svcs(self.svcs.as_slice(), other.svcs.as_slice())
+            && same_names(self.exns.as_slice(), other.exns.as_slice())
+            && same_funs(self.funs.as_slice(), other.funs.as_slice())
+    }
+}
+
+impl Same for Value {
+    /// Whether the two values are the same. Takes no memory.
+    fn is(&self, other: &Value) -> bool
+        ensures { IsTrue result ↔ (self.now ≡ other.now) }
+    {
+        same_value(self, other)
+    }
+}
+
+#[cycle(same_value)]
+#[tactic(auto, using(plan_base::specs::Trees::trees))]
+fn same_value(v: &Value, other: &Value) -> bool
+    ensures { IsTrue result ↔ (v.now ≡ other.now) }
+{
+    match v {
+        Value::Unit => matches!(other, Value::Unit),
+        Value::Bool(x) => match other {
+            Value::Bool(y) => *x == *y,
+            _ => false,
+        },
+        Value::Int(x) => match other {
+            Value::Int(y) => *x == *y,
+            _ => false,
+        },
+        Value::Char(x) => match other {
+            Value::Char(y) => *x == *y,
+            _ => false,
+        },
+        Value::Str(x) => match other {
+            Value::Str(y) => x.is(y),
+            _ => false,
+        },
+        Value::Blob(x) => match other {
+            Value::Blob(y) => x.is(y),
+            _ => false,
+        },
+        Value::Host(x) => match other {
+            Value::Host(y) => x.0 == y.0,
+            _ => false,
+        },
+        Value::Dev(x) => match other {
+            Value::Dev(y) => x.0 == y.0,
+            _ => false,
+        },
+        Value::Chunk(c) => match other {
+            Value::Chunk(c2) => same_chunk(c.get(), c2.get()),
+            _ => false,
+        },
+        Value::List(t, vs) => match other {
+            Value::List(t2, vs2) => t.get().is(t2.get())
+                && same_values(vs.as_slice(), vs2.as_slice()),
+            _ => false,
+        },
+        Value::Tuple(vs) => match other {
+            Value::Tuple(vs2) => same_values(vs.as_slice(), vs2.as_slice()),
+            _ => false,
+        },
+    }
+}
+
+#[cycle(same_value)]
+fn same_values(a: &[Value], b: &[Value]) -> bool
+    ensures { IsTrue result ↔ (a.now ≡ b.now) }
+{
+    if a.len() != b.len() {
+        return false;
+    }
+    for i in 0..a.len() {
+        if !same_value(&a[i], &b[i]) {
+            return false;
+        }
+    }
+    true
+}
+
+#[cycle(same_value)]
+#[tactic(auto, using(plan_base::specs::Trees::trees))]
+fn same_chunk(a: &Chunk, b: &Chunk) -> bool
+    ensures { IsTrue result ↔ (a.now ≡ b.now) }
+{
+    a.code.get().is(b.code.get())
+        && a.entry.is(&b.entry)
+        && same_values(a.args.as_slice(), b.args.as_slice())
+}
+
+impl Same for Chunk {
+    /// Whether the two chunks are the same. Takes no memory.
+    fn is(&self, other: &Chunk) -> bool
+        ensures { IsTrue result ↔ (self.now ≡ other.now) }
+    {
+        same_chunk(self, other)
+    }
+}
+
+impl Same for Exn {
+    /// Whether the two exceptions are the same. Takes no memory.
+    fn is(&self, other: &Exn) -> bool
+        ensures { IsTrue result ↔ (self.now ≡ other.now) }
+    {
+        self.0.is(&other.0)
+    }
+}

@@ -1,0 +1,2 @@
+//! The printed forms of literals, types, values and programs: definitions alone.
+#![tactic(auto)]

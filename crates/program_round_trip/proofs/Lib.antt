@@ -1,4 +1,0 @@
-pub mod Within
-pub mod HeadsRead
-pub mod Declarations
-pub mod ValuesRead

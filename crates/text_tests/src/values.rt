@@ -1,0 +1,260 @@
+// Values and arguments as they are read, and why texts are none.
+
+use plan_base::{Limit, Ty, Value};
+use plan_grammar::{ParseFault, Wanted};
+use plan_lexer::{LexFault, Symbol};
+use plan_parser::{ValueFault, parse_args, parse_value};
+use program_text::read_args;
+use std::alloc::Global;
+use std::test::Fail;
+
+/// A text, and the refusal of its tokens.
+type Token = (&'static str, LexFault);
+
+/// A text, and the refusal of what its tokens are.
+type Row = (&'static str, ParseFault);
+
+// Texts of which no token can be read.
+static TOKENS: [Token; 6] = [
+    ("$", LexFault::BadChar(0)),
+    ("'\\q'", LexFault::BadChar(0)),
+    ("(*", LexFault::OpenComment(0)),
+    ("\"a", LexFault::OpenString(0)),
+    ("9223372036854775808", LexFault::NumberTooLarge(0)),
+    ("abcdefghijklmnopqrstuvwxyz0123456", LexFault::LongName(0)),
+];
+
+static VALUES: [Row; 19] = [
+    ("", ParseFault::Expected(Wanted::AValue, 0)),
+    (
+        "(]",
+        ParseFault::Expected(Wanted::Symbol(Symbol::ParenClose), 1),
+    ),
+    (
+        "(1 2",
+        ParseFault::Expected(Wanted::Symbol(Symbol::Comma), 3),
+    ),
+    (
+        "(1, 2 3",
+        ParseFault::Expected(Wanted::Symbol(Symbol::ParenClose), 6),
+    ),
+    ("(1,]", ParseFault::Expected(Wanted::AValue, 3)),
+    (
+        "(1,1,1,1,1,1,1,1,)",
+        ParseFault::Expected(Wanted::AValue, 17),
+    ),
+    (
+        "[1 2",
+        ParseFault::Expected(Wanted::Symbol(Symbol::BracketClose), 3),
+    ),
+    ("[1,]", ParseFault::Expected(Wanted::AValue, 3)),
+    (
+        "[:int 1",
+        ParseFault::Expected(Wanted::Symbol(Symbol::BracketClose), 6),
+    ),
+    ("[:1", ParseFault::Expected(Wanted::AType, 2)),
+    (
+        "[:(int",
+        ParseFault::Expected(Wanted::Symbol(Symbol::ParenClose), 6),
+    ),
+    ("[:(int*)", ParseFault::Expected(Wanted::AType, 7)),
+    ("[[[[[[[(1, 2)]]]]]]]", ParseFault::TooDeep(7)),
+    (
+        "(1)",
+        ParseFault::Expected(Wanted::Symbol(Symbol::Comma), 2),
+    ),
+    ("[]", ParseFault::Expected(Wanted::AValue, 1)),
+    ("[1, true]", ParseFault::Expected(Wanted::AValue, 4)),
+    ("<chunk f 3>", ParseFault::Expected(Wanted::AValue, 0)),
+    ("[[[[[[[[1]]]]]]]]", ParseFault::TooDeep(7)),
+    ("1 2", ParseFault::Expected(Wanted::AValue, 2)),
+];
+
+static ARGUMENTS: [Row; 16] = [
+    (
+        "1",
+        ParseFault::Expected(Wanted::Symbol(Symbol::ParenOpen), 0),
+    ),
+    (
+        "(]",
+        ParseFault::Expected(Wanted::Symbol(Symbol::ParenClose), 1),
+    ),
+    (
+        "((1 2",
+        ParseFault::Expected(Wanted::Symbol(Symbol::Comma), 4),
+    ),
+    (
+        "([1 2",
+        ParseFault::Expected(Wanted::Symbol(Symbol::BracketClose), 4),
+    ),
+    ("([:1", ParseFault::Expected(Wanted::AType, 3)),
+    ("(1) 2", ParseFault::Expected(Wanted::AValue, 4)),
+    (
+        "(1,1,1,1,1,1,1,1,)",
+        ParseFault::Expected(Wanted::AValue, 17),
+    ),
+    (
+        "(1,1,1,1,1,1,1,1,1",
+        ParseFault::TooMany(Limit::Arguments, 17),
+    ),
+    ("((1,1,1,1,1,1,1,1,1", ParseFault::TooMany(Limit::Parts, 18)),
+    (
+        "",
+        ParseFault::Expected(Wanted::Symbol(Symbol::ParenOpen), 0),
+    ),
+    (
+        "(",
+        ParseFault::Expected(Wanted::Symbol(Symbol::ParenClose), 1),
+    ),
+    (
+        "(1 2)",
+        ParseFault::Expected(Wanted::Symbol(Symbol::ParenClose), 3),
+    ),
+    ("(1, )", ParseFault::Expected(Wanted::AValue, 4)),
+    ("([1, true])", ParseFault::Expected(Wanted::AValue, 5)),
+    (
+        "(1,2,3,4,5,6,7,8,9)",
+        ParseFault::TooMany(Limit::Arguments, 17),
+    ),
+    ("([[[[[[[[1]]]]]]]])", ParseFault::TooDeep(8)),
+];
+
+/// What stands before, a part that stands so many times, what stands behind, and the refusal.
+type Long = (&'static [u8], &'static [u8], u32, &'static [u8], ParseFault);
+
+// Each limit of a value's text, one past it.
+static LONG_VALUES: [Long; 3] = [
+    (
+        b"[1",
+        b",1",
+        63,
+        b"]",
+        ParseFault::TooMany(Limit::Items, 127),
+    ),
+    (b"(1", b",1", 8, b")", ParseFault::TooMany(Limit::Parts, 17)),
+    (b"[:int", b" list", 7, b"]", ParseFault::TooDeep(0)),
+];
+
+// Each kind of value.
+static KINDS: [&str; 12] = [
+    "()", "true", "false", "~1", "'a'", "\"a\"", "#\"00\"", "@1", "%1", "[1]", "[:int]", "(1, 2)",
+];
+
+fn value_fault(alloc: Global, text: &[u8]) -> Option<ValueFault> {
+    if text.len() > 65_536 {
+        return None;
+    }
+    parse_value(alloc, text).err()
+}
+
+fn arguments_fault(alloc: Global, text: &[u8]) -> Option<ValueFault> {
+    if text.len() > 65_536 {
+        return None;
+    }
+    parse_args(alloc, text).err()
+}
+
+fn is_no_value(alloc: Global, text: &str, fault: ValueFault) -> bool {
+    value_fault(alloc, text.as_bytes()) == Some(fault)
+}
+
+fn are_no_arguments(alloc: Global, text: &str, fault: ValueFault) -> bool {
+    arguments_fault(alloc, text.as_bytes()) == Some(fault)
+}
+
+#[test]
+fn each_refusal_of_a_value(rt: HostRuntime) {
+    for (text, fault) in &TOKENS {
+        assert!(rt; is_no_value(rt.alloc(), text, ValueFault::Lex(*fault)));
+    }
+    for (text, fault) in &VALUES {
+        assert!(rt; is_no_value(rt.alloc(), text, ValueFault::Parse(*fault)));
+    }
+}
+
+#[test]
+fn each_refusal_of_arguments(rt: HostRuntime) {
+    for (text, fault) in &TOKENS {
+        assert!(rt; are_no_arguments(rt.alloc(), text, ValueFault::Lex(*fault)));
+    }
+    for (text, fault) in &ARGUMENTS {
+        assert!(rt; are_no_arguments(rt.alloc(), text, ValueFault::Parse(*fault)));
+    }
+    let open = ValueFault::Lex(LexFault::OpenString(1));
+    assert!(rt; are_no_arguments(rt.alloc(), "(\"a)", open));
+}
+
+// Whether a text that begins so, and goes on with a part so many times, is refused so.
+fn is_too_long(alloc: Global, long: &Long) -> Result<bool, Fail> {
+    let (front, part, times, back, fault) = *long;
+    let mut text = Vec::from_slice(alloc, front)?;
+    for _ in 0..times {
+        text.extend_from_slice(part)?;
+    }
+    text.extend_from_slice(back)?;
+    Ok(value_fault(alloc, text.as_slice()) == Some(ValueFault::Parse(fault)))
+}
+
+#[test]
+fn values_have_limits(rt: HostRuntime) -> Result<(), Fail> {
+    for long in &LONG_VALUES {
+        assert!(rt; is_too_long(rt.alloc(), long)?);
+    }
+    Ok(())
+}
+
+fn is_a_value(alloc: Global, text: &str) -> bool {
+    text.len() <= 65_536 && parse_value(alloc, text.as_bytes()).is_ok()
+}
+
+#[test]
+fn each_kind_of_value_is_read(rt: HostRuntime) {
+    for text in &KINDS {
+        assert!(rt; is_a_value(rt.alloc(), text));
+    }
+}
+
+fn is_a_tuple(alloc: Global, text: &[u8]) -> bool {
+    text.len() <= 65_536 && matches!(parse_value(alloc, text), Ok(Value::Tuple(_)))
+}
+
+fn is_a_list_of_ints(alloc: Global, text: &[u8]) -> bool {
+    text.len() <= 65_536 && matches!(parse_value(alloc, text), Ok(Value::List(Ty::Int, _)))
+}
+
+#[test]
+fn values_are_what_they_say(rt: HostRuntime) {
+    assert!(rt; is_a_tuple(rt.alloc(), b"(1, [:int])"));
+    assert!(rt; is_a_list_of_ints(rt.alloc(), b"[1, 2]"));
+}
+
+// How many arguments a text of few bytes is, or none.
+fn count(alloc: Global, text: &[u8]) -> Result<Option<usize>, Fail> {
+    if text.len() > 100 {
+        return Ok(None);
+    }
+    match read_args(alloc, text)? {
+        Some(args) => Ok(Some(args.len())),
+        None => Ok(None),
+    }
+}
+
+fn has_so_many(alloc: Global, text: &[u8], wanted: Option<usize>) -> Result<bool, Fail> {
+    Ok(count(alloc, text)? == wanted)
+}
+
+static COUNTS: [(&[u8], Option<usize>); 5] = [
+    (b"()", Some(0)),
+    (b"(5, [1, 2])", Some(2)),
+    (b"(1, \"a\") (* two *)", Some(2)),
+    (b"(5", None),
+    (b"(\"a)", None),
+];
+
+#[test]
+fn arguments_are_values_in_brackets(rt: HostRuntime) -> Result<(), Fail> {
+    for (text, wanted) in &COUNTS {
+        assert!(rt; has_so_many(rt.alloc(), text, *wanted)?);
+    }
+    Ok(())
+}

@@ -1,0 +1,8 @@
+//! When programs, values and chunks are typed: the rules, the order in which they are checked, and the names that they look up.
+#![tactic(auto)]
+
+mod names;
+mod type_fault;
+
+pub use names::{place_of, prim_of, service_of};
+pub use type_fault::TypeFault;

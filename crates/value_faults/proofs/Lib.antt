@@ -1,4 +1,0 @@
-pub mod Works
-pub mod TypesWork
-pub mod ValuesWork
-pub mod Whole
