@@ -1,5 +1,5 @@
 use live_io::{HostClock, HostSpawner, UdpLink};
-use node_io::{Clock, Failed, Got, Link, Peer, Peers, RECEIVED_MAX, Spawner};
+use node_io::{Clock, Got, Link, Peer, Peers, RECEIVED_MAX, Spawner};
 use plan_base::{Bytes, Dev, Text, Texts};
 use std::alloc::{AllocError, Global};
 use std::net::{Ipv4Addr, UdpSocket};
@@ -48,10 +48,10 @@ fn a_link_hears_itself_over_loopback(rt: HostRuntime) -> Result<(), Fail> {
     let mut buf = [0u8; RECEIVED_MAX];
     assert!(rt; link.bind(port, &peers).is_ok());
     assert!(rt; link.bind(port, &peers).is_ok(), "again");
-    assert_eq!(rt; link.recv(&mut buf), Got::Nothing);
+    assert!(rt; link.recv(&mut buf) == Got::Nothing);
     assert!(rt; link.send(dev, b"").is_ok());
     assert!(rt; link.send(dev, b"frame").is_ok());
-    assert_eq!(rt; first(&mut link, &mut buf), Got::Frame(dev, 5));
+    assert!(rt; first(&mut link, &mut buf) == Got::Frame(dev, 5));
     assert_eq!(rt; &buf[..5], b"frame".as_slice());
     Ok(())
 }
@@ -67,7 +67,7 @@ fn a_long_datagram_is_cut(rt: HostRuntime) -> Result<(), Fail> {
     let mut buf = [0u8; RECEIVED_MAX];
     assert!(rt; link.bind(port, &peers).is_ok());
     assert!(rt; link.send(dev, long.as_slice()).is_ok());
-    assert_eq!(rt; first(&mut link, &mut buf), Got::Frame(dev, RECEIVED_MAX));
+    assert!(rt; first(&mut link, &mut buf) == Got::Frame(dev, RECEIVED_MAX));
     Ok(())
 }
 
@@ -88,8 +88,8 @@ fn a_child_has_its_status(rt: HostRuntime) -> Result<(), Fail> {
     words.add(text(alloc, b"exit 2")?)?;
     let mut spawn = HostSpawner::new(alloc, &rt, text(alloc, b"sh")?);
     let child = spawn.start(&words).ok().ok_or("start")?;
-    assert_eq!(rt; spawn.wait(child), Ok(2));
+    assert!(rt; matches!(spawn.wait(child), Ok(2)));
     let mut missing = HostSpawner::new(alloc, &rt, text(alloc, b"/nowhere/planet")?);
-    assert_eq!(rt; missing.start(&words).err(), Some(Failed));
+    assert!(rt; missing.start(&words).is_err());
     Ok(())
 }

@@ -15,9 +15,15 @@ use std::test::Fail;
 
 // The entry `f` of a function without parameters that gives unit.
 fn chunk(alloc: Global) -> Result<CheckedChunk, Fail> {
-    let program = read_program(alloc, b"fun f() : unit = ()\n")?;
+    let program = read_program(alloc, b"fun f() : unit = ()\n")
+        .ok()
+        .ok_or("program")?;
     let entry = Name::read(alloc, b"f")?;
-    Ok(chunk_of(alloc, &program, &entry, Items::new(alloc))?)
+    Ok(
+        chunk_of(alloc, &program, &entry, Items::new(alloc))
+            .ok()
+            .ok_or("chunk")?,
+    )
 }
 
 // Host 1 of the network of hosts 3, 1 and 2, with host 2 on device 1.

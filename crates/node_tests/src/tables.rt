@@ -17,29 +17,35 @@ fn list_of(alloc: Global, item: Ty) -> Result<Ty, NoMemory> {
 fn list_of_one(alloc: Global) -> Result<Value, NoMemory> {
     let mut items = Items::new(alloc);
     items.add(Value::Int(1))?;
-    Ok(Value::List(Ty::Int, items))
+    Ok(Value::List(Boxed::new(alloc, Ty::Int)?, items))
 }
 
 // The list `[1]` under a key, at `int list`, until tick 2.
 fn table(alloc: Global) -> Result<Tables, Fail> {
     let mut tables = Tables::new(alloc);
     let ints = list_of(alloc, Ty::Int)?;
-    tables.put(alloc, &name(alloc)?, 1, &ints, &list_of_one(alloc)?, 2)?;
+    tables
+        .put(alloc, &name(alloc)?, 1, &ints, &list_of_one(alloc)?, 2)
+        .ok()
+        .ok_or("put")?;
     Ok(tables)
 }
 
 fn overlay(alloc: Global, base: &Tables) -> Result<Overlay, Fail> {
     let mut overlay = Overlay::new(alloc, 1);
     let ints = list_of(alloc, Ty::Int)?;
-    overlay.put(
-        alloc,
-        base,
-        &name(alloc)?,
-        1,
-        &ints,
-        &list_of_one(alloc)?,
-        2,
-    )?;
+    overlay
+        .put(
+            alloc,
+            base,
+            &name(alloc)?,
+            1,
+            &ints,
+            &list_of_one(alloc)?,
+            2,
+        )
+        .ok()
+        .ok_or("change")?;
     Ok(overlay)
 }
 
@@ -89,7 +95,10 @@ fn numbers(alloc: Global, rows: &[(i64, u64)]) -> Result<Tables, Fail> {
     let name = name(alloc)?;
     let mut tables = Tables::new(alloc);
     for (key, expiry) in rows {
-        tables.put(alloc, &name, *key, &Ty::Int, &Value::Int(*key), *expiry)?;
+        tables
+            .put(alloc, &name, *key, &Ty::Int, &Value::Int(*key), *expiry)
+            .ok()
+            .ok_or("put")?;
     }
     Ok(tables)
 }
@@ -98,9 +107,18 @@ fn numbers(alloc: Global, rows: &[(i64, u64)]) -> Result<Tables, Fail> {
 fn puts_anew(alloc: Global, tables: &Tables) -> Result<Overlay, Fail> {
     let name = name(alloc)?;
     let mut overlay = Overlay::new(alloc, tables.next_key());
-    overlay.remove(alloc, tables, &name, 1)?;
-    overlay.put(alloc, tables, &name, 2, &Ty::Int, &Value::Int(9), 1)?;
-    overlay.put(alloc, tables, &name, 1, &Ty::Int, &Value::Int(9), 1)?;
+    overlay
+        .remove(alloc, tables, &name, 1)
+        .ok()
+        .ok_or("change")?;
+    overlay
+        .put(alloc, tables, &name, 2, &Ty::Int, &Value::Int(9), 1)
+        .ok()
+        .ok_or("change")?;
+    overlay
+        .put(alloc, tables, &name, 1, &Ty::Int, &Value::Int(9), 1)
+        .ok()
+        .ok_or("change")?;
     Ok(overlay)
 }
 

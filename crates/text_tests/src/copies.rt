@@ -14,16 +14,20 @@ fn is_copied(alloc: Global, text: &[u8]) -> Result<bool, Fail> {
     if text.len() > 65_536 {
         return Ok(false);
     }
-    let program = read_program(alloc, text)?;
+    let Ok(program) = read_program(alloc, text) else {
+        return Ok(false);
+    };
     Ok(program.program().copy(alloc)?.is(program.program()))
 }
 
-fn differ(alloc: Global, one: &[u8], other: &[u8]) -> Result<bool, Fail> {
+fn differ(alloc: Global, one: &[u8], other: &[u8]) -> bool {
     if one.len() > 65_536 || other.len() > 65_536 {
-        return Ok(false);
+        return false;
     }
-    let one = read_program(alloc, one)?;
-    Ok(!one.program().is(read_program(alloc, other)?.program()))
+    match (read_program(alloc, one), read_program(alloc, other)) {
+        (Ok(one), Ok(other)) => !one.program().is(other.program()),
+        _ => false,
+    }
 }
 
 const COMPARES: &[u8] = b"fun f(x : int list) : bool = x = []";
@@ -39,7 +43,7 @@ fn programs_equal_their_copies_and_no_others(rt: HostRuntime) -> Result<(), Fail
     assert!(rt; is_copied(rt.alloc(), COMPARES)?);
     assert!(rt; is_copied(rt.alloc(), SENDS)?);
     assert!(rt; is_copied(rt.alloc(), DECLARES)?);
-    assert!(rt; differ(rt.alloc(), COMPARES, SENDS)?);
+    assert!(rt; differ(rt.alloc(), COMPARES, SENDS));
     Ok(())
 }
 

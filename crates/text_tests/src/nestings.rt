@@ -42,9 +42,9 @@ fn printed(alloc: Global, program: &Checked) -> Result<Bytes, Fail> {
 }
 
 // The entry `f` without arguments.
-fn chunk(alloc: Global, program: &Checked) -> Result<CheckedChunk, Fail> {
-    let entry = Name::read(alloc, b"f")?;
-    Ok(chunk_of(alloc, program, &entry, Items::new(alloc))?)
+fn chunk(alloc: Global, program: &Checked) -> Option<CheckedChunk> {
+    let entry = Name::read(alloc, b"f").ok()?;
+    chunk_of(alloc, program, &entry, Items::new(alloc)).ok()
 }
 
 // Whether a text is a program.
@@ -58,7 +58,10 @@ fn arrives(alloc: Global, bytes: &[u8]) -> bool {
 
 // Whether a program that is sent arrives.
 fn is_sent(alloc: Global, program: &Checked) -> Result<bool, Fail> {
-    let bytes = put_ask(alloc, 5, &chunk(alloc, program)?)?;
+    let Some(chunk) = chunk(alloc, program) else {
+        return Ok(false);
+    };
+    let bytes = put_ask(alloc, 5, &chunk)?;
     Ok(arrives(alloc, bytes.as_slice()))
 }
 
@@ -67,7 +70,9 @@ fn passes(alloc: Global, text: &[u8]) -> Result<bool, Fail> {
     if text.len() > 65_536 {
         return Ok(false);
     }
-    let program = read_program(alloc, text)?;
+    let Ok(program) = read_program(alloc, text) else {
+        return Ok(false);
+    };
     Ok(is_read(alloc, printed(alloc, &program)?.as_slice()) && is_sent(alloc, &program)?)
 }
 

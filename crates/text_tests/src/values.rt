@@ -219,7 +219,13 @@ fn is_a_tuple(alloc: Global, text: &[u8]) -> bool {
 }
 
 fn is_a_list_of_ints(alloc: Global, text: &[u8]) -> bool {
-    text.len() <= 65_536 && matches!(parse_value(alloc, text), Ok(Value::List(Ty::Int, _)))
+    if text.len() > 65_536 {
+        return false;
+    }
+    match parse_value(alloc, text) {
+        Ok(Value::List(item, _)) => matches!(item.get(), Ty::Int),
+        _ => false,
+    }
 }
 
 #[test]
