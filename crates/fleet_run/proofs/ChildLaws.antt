@@ -5,7 +5,7 @@ use Rattle.std.proofs.lemmas.Bool.{eq-eqb}
 use Rattle.std.proofs.lemmas.List.{drop_more, drop_all, take_more}
 use Rattle.std.proofs.lemmas.List.Elements.{Contains-append_left, Contains-append_right, Contains-append_cases, Contains-push_cases, filter-append}
 use Rattle.node_io.specs.declared.spawner.Child.{Child}
-use Rattle.node_io.specs.Children.{is_other, IsFresh, Words}
+use Rattle.node_io.specs.Spawners.{is_other, IsFresh, Words}
 use Rattle.fleet_run.specs.Children.{AreApart, AreOpen, AreNumbered, LeavesOpen}
 
 none_in : (c : Child) → Contains [] c → ⊥

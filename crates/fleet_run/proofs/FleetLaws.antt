@@ -1,5 +1,5 @@
 -- The lines of a fleet, its statuses, and its end.
-use Rattle.std.proofs.Common.{◌≡◌, ◌≢◌, ℕ, Bool, false, OnOk, Result, Ok, Err, zero, suc, ◌+◌, ◌<◌, ◌≤◌, ◌==◌, if◌then◌else◌, List, [], ◌∷◌, ◌++◌, length, take, drop, get_or, Some, slice_get, refl, sym, ◌∙◌, ap, arith, append-nil, append_assoc}
+use Rattle.std.proofs.Common.{◌≡◌, ◌≢◌, ℕ, Bool, true, false, IsTrue, ◌⊎◌, inl, inr, OnOk, Result, Ok, Err, zero, suc, ◌+◌, ◌<◌, ◌≤◌, ◌==◌, if◌then◌else◌, List, [], ◌∷◌, ◌++◌, length, take, drop, get_or, Some, slice_get, refl, sym, ◌∙◌, ap, arith, append-nil, append_assoc}
 use Rattle.std.proofs.lemmas.List.{length_push, length-drop, take_more, drop_more, drop_all, get_or-drop}
 use Rattle.std.proofs.lemmas.Option.{slice_get_within, get_or_from_slice_get}
 use Rattle.std.proofs.Math.Seq.{take-append-add}
@@ -8,9 +8,12 @@ use Rattle.std.proofs.lemmas.Bool.{eq-eqb}
 use Rattle.std.specs.Result.{is_err}
 use Rattle.plan_base.specs.declared.ids.Host.{Host}
 use Rattle.network_plan.specs.declared.fleet.Kid.{Kid}
-use Rattle.node_io.specs.Pieces.{AppendsFront}
-use Rattle.node_io.proofs.Fronts.{front_all, front_longer}
-use Rattle.fleet_run.specs.Fleets.{kid_line, kid_host, fleet_text, fleet_end, Writes}
+use Rattle.node_io.specs.Spawners.{Words, SpawnerState}
+use Rattle.fleet_run.specs.Runs.{StartsPrefix}
+use Rattle.fleet_run.proofs.ChildLaws.{starts_next}
+use Rattle.node_io.specs.Sinks.{SinkState, Writes, FailsIn, Puts}
+use Rattle.node_io.proofs.SinkLaws.{writes_none, writes_both, writes_as, fails_more, fails_as}
+use Rattle.fleet_run.specs.Fleets.{kid_line, kid_host, fleet_text, fleet_end}
 use Rattle.fleet_run.specs.declared.fault.FleetFault.{FleetFault}
 use Rattle.fleet_run.specs.declared.fault.FleetFault.TheVariants.{StartFault, WaitFault, WriteFault, NoMemory}
 use Rattle.fleet_run.specs.declared.reports.FleetEnd.{FleetEnd}
@@ -31,17 +34,6 @@ text_more (kid ∷ kids) [] s d h = ap (λ l. kid_line kid s ++ l) (text_none ki
 text_more (kid ∷ kids) (t ∷ ss) s d h =
     ap (λ l. kid_line kid t ++ l) (text_more kids ss s d (omega (arith, h))) ∙ sym (append_assoc (kid_line kid t) (fleet_text kids ss) (kid_line (get_or kids (length ss) d) s))
 
--- what the lines of the first statuses leave of those of more
-text_split : (kids : List Kid) (given : List ℕ) (n : ℕ) → (rest : List ℕ) × (fleet_text kids given ≡ fleet_text kids (take n given) ++ rest)
-unfolding fleet_text
-text_split [] given n = ([], refl)
-text_split (kid ∷ kids) [] zero = ([], refl)
-text_split (kid ∷ kids) [] (suc n) = ([], refl)
-text_split (kid ∷ kids) (s ∷ given) zero = (kid_line kid s ++ fleet_text kids given, refl)
-text_split (kid ∷ kids) (s ∷ given) (suc n) =
-    let more = text_split kids given n in
-    (more.0, ap (λ l. kid_line kid s ++ l) more.1 ∙ sym (append_assoc (kid_line kid s) (fleet_text kids (take n given)) more.0))
-
 -- statuses past the children give no lines
 pub text_enough : (kids : List Kid) (given : List ℕ) → fleet_text kids (take (length kids) given) ≡ fleet_text kids given
 unfolding fleet_text
@@ -49,43 +41,21 @@ text_enough [] given = refl
 text_enough (kid ∷ kids) [] = refl
 text_enough (kid ∷ kids) (s ∷ given) = ap (λ l. kid_line kid s ++ l) (text_enough kids given)
 
--- ---- fronts
-
--- a prefix of the lines of the first statuses is one of the lines of all
-pub front_of_given : (kids : List Kid) (given : List ℕ) (n : ℕ) (old new : List ℕ) → AppendsFront old new (fleet_text kids (take n given)) → AppendsFront old new (fleet_text kids given)
-front_of_given kids given n old new f =
-    let split = text_split kids given n in
-    let more = front_longer f.count (fleet_text kids (take n given)) split.0 in
-    record { count = more.0; is = f.is ∙ ap (λ l. old ++ l) (more.1 ∙ ap (take more.0) (sym split.1)) }
-
--- every answer leaves a front of the lines
-pub front_written : (fault : FleetFault) (old new text : List ℕ) → Writes {T = Unit {0}} (Err fault) old new text → AppendsFront old new text
-front_written StartFault old new text w = record { count = 0; is = w ∙ sym (append-nil old) }
-front_written WaitFault old new text w = front_all old new text w
-front_written WriteFault old new text w = w
-front_written NoMemory old new text w = front_all old new text w
-
 -- ---- one line more
 
-module _ (kids : List Kid) (ss more : List ℕ) (s i : ℕ) (kid : Kid) (piece old mid new : List ℕ) (count : length ss ≡ i) (inside : i < length kids) (is : kid ≡ get_or kids i kid)
-    (line : piece ≡ kid_line kid s) (grown : more ≡ ss ++ s ∷ []) (before : mid ≡ old ++ fleet_text kids ss) where
-  text_next : fleet_text kids more ≡ fleet_text kids ss ++ piece
+module _ (kids : List Kid) (ss more : List ℕ) (s i : ℕ) (kid : Kid) (piece : List ℕ) (count : length ss ≡ i) (inside : i < length kids) (is : kid ≡ get_or kids i kid)
+    (line : piece ≡ kid_line kid s) (grown : more ≡ ss ++ s ∷ []) (a b c : SinkState) (before : Writes a b (fleet_text kids ss)) where
+  text_next : fleet_text kids ss ++ piece ≡ fleet_text kids more
   text_next =
       let room : length ss < length kids = omega (arith, count, inside) in
-      ap (fleet_text kids) grown ∙ text_more kids ss s kid room ∙ ap (λ n. fleet_text kids ss ++ kid_line (get_or kids n kid) s) count ∙ ap (λ k. fleet_text kids ss ++ kid_line k s) (sym is)
-      ∙ ap (λ l. fleet_text kids ss ++ l) (sym line)
+      sym (ap (fleet_text kids) grown ∙ text_more kids ss s kid room ∙ ap (λ n. fleet_text kids ss ++ kid_line (get_or kids n kid) s) count ∙ ap (λ k. fleet_text kids ss ++ kid_line k s) (sym is)
+      ∙ ap (λ l. fleet_text kids ss ++ l) (sym line))
 
-  pub lines_next : new ≡ mid ++ piece → new ≡ old ++ fleet_text kids more
-  lines_next e = e ∙ ap (λ l. l ++ piece) before ∙ append_assoc old (fleet_text kids ss) piece ∙ ap (λ l. old ++ l) (sym text_next)
+  pub lines_next : Writes b c piece → Writes a c (fleet_text kids more)
+  lines_next w = writes_as a c (fleet_text kids ss ++ piece) (fleet_text kids more) text_next (writes_both a b c (fleet_text kids ss) piece before w)
 
-  pub front_next : AppendsFront mid new piece → AppendsFront old new (fleet_text kids more)
-  front_next f =
-      let first = fleet_text kids ss in
-      record {
-        count = length first + f.count;
-        is = f.is ∙ ap (λ l. l ++ take f.count piece) before ∙ append_assoc old first (take f.count piece)
-            ∙ ap (λ l. old ++ l) (sym (ap (take (length first + f.count)) text_next ∙ take-append-add first piece f.count));
-      }
+  pub lines_fail : FailsIn b c piece → FailsIn a c (fleet_text kids more)
+  lines_fail f = fails_as a c (fleet_text kids ss ++ piece) (fleet_text kids more) text_next (fails_more a b c (fleet_text kids ss) piece before f)
 
 -- ---- statuses
 
@@ -147,6 +117,21 @@ end_given kids given ss end all e w = w ∙ ap (fleet_end kids) (e ∙ ap (λ n.
 
 -- ---- results
 
-pub ok_of : {T E : Type 0} (r : Result T E) (X : Type 0) (b : Bool) → b ≡ is_err r → b ≡ false → OnOk r X → X
-ok_of (Ok x) X b e f h = h
-ok_of (Err y) X b e f h = absurd (cc)
+-- what a test of a writing says of it
+pub put_ok : {T E : Type 0} (bytes : List ℕ) (a b : SinkState) (r : Result T E) (t : Bool) → t ≡ is_err r → t ≡ false → Puts bytes a b r → Writes a b bytes
+put_ok bytes a b (Ok x) t e f h = h
+put_ok bytes a b (Err y) t e f h = absurd (cc)
+
+pub put_failed : {T E : Type 0} (bytes : List ℕ) (a b : SinkState) (r : Result T E) (t : Bool) → t ≡ is_err r → t ≡ true → Puts bytes a b r → FailsIn a b bytes
+put_failed bytes a b (Ok x) t e f h = absurd (cc)
+put_failed bytes a b (Err y) t e f h = h
+
+-- no statuses, no lines
+pub no_lines : (kids : List Kid) (s : SinkState) → Writes s s (fleet_text kids [])
+no_lines kids s = writes_as s s [] (fleet_text kids []) (sym (text_none kids)) (writes_none s)
+
+-- a start that failed: none more was asked, or one
+pub starts_cut : (old mid new : SpawnerState) (all : List Words) (i : ℕ) (w : Words) → i < length all → w ≡ get_or all i w
+    → (IsTrue old.observable → mid.starts ≡ old.starts ++ take i all) → (new.starts ≡ mid.starts) ⊎ (new.starts ≡ mid.starts ++ w ∷ []) → StartsPrefix all old new
+starts_cut old mid new all i w h is before (inl e) = record { count = i; is = λ t. e ∙ before t }
+starts_cut old mid new all i w h is before (inr e) = record { count = i + 1; is = λ t. starts_next old.starts mid.starts new.starts all i w h is (before t) e }

@@ -1,7 +1,7 @@
 -- Children that were started and are waited for.
 use Rattle.std.specs.Prelude.{ℕ, ◌≡◌, ◌+◌, List, [], ◌∷◌, ◌++◌}
 use Rattle.node_io.specs.declared.spawner.Child.{Child}
-use Rattle.node_io.specs.Children.{IsFresh}
+use Rattle.node_io.specs.Spawners.{IsFresh}
 
 -- each child is apart from these and from those started behind it
 abbrev pub AreApart : List Child → List Child → Type 0

@@ -5,12 +5,7 @@ use lib.Chars.{codes}
 use Rattle.plan_base.specs.declared.ids.Host.{Host}
 use Rattle.network_plan.specs.declared.fleet.Kid.{Kid}
 use Rattle.network_plan.specs.declared.fleet.Kid.TheVariants.{Node, Ask}
-use Rattle.node_io.specs.declared.spawner.Child.{Child}
-use Rattle.node_io.specs.Children.{Words}
-use Rattle.node_io.specs.Pieces.{AppendsFront}
-use Rattle.fleet_run.specs.Children.{LeavesOpen}
-use Rattle.fleet_run.specs.declared.fault.FleetFault.{FleetFault}
-use Rattle.fleet_run.specs.declared.fault.FleetFault.TheVariants.{StartFault, WaitFault, WriteFault, NoMemory}
+use Rattle.node_io.specs.Spawners.{Words}
 use Rattle.fleet_run.specs.declared.reports.FleetEnd.{FleetEnd}
 use Rattle.fleet_run.specs.declared.reports.FleetEnd.TheVariants.{Well, Failed}
 
@@ -47,43 +42,3 @@ unfoldable pub fleet_end : List Kid → List ℕ → FleetEnd
 fleet_end [] statuses = Well
 fleet_end (kid ∷ kids) [] = Well
 fleet_end (kid ∷ kids) (status ∷ statuses) = if status == 0 then fleet_end kids statuses else Failed (kid_host kid) status
-
--- ---- what stands after each answer
-
--- a prefix of these starts was asked
-pub record StartsFront (old new all : List Words) : Type 0 where
-  pub count : ℕ
-  pub is : new ≡ old ++ take count all
-
--- the starts asked: all, or a prefix of them after a failed start; where memory was refused, all or none
-abbrev pub Asks : {T : Type 0} → Result T FleetFault → List Words → List Words → List Words → Type 0
-Asks (Ok x) old new all = new ≡ old ++ all
-Asks (Err StartFault) old new all = StartsFront old new all
-Asks (Err WaitFault) old new all = new ≡ old ++ all
-Asks (Err WriteFault) old new all = new ≡ old ++ all
-Asks (Err NoMemory) old new all = (new ≡ old) ⊎ (new ≡ old ++ all)
-
--- the open children: those that were open before, where all were waited for. After a failed start too, but for a second fault
-abbrev pub Waits : {T : Type 0} → Result T FleetFault → List Child → List Child → Type 0 → Type 0
-Waits (Ok x) old new again = new ≡ old
-Waits (Err StartFault) old new again = (new ≡ old) ⊎ (again × LeavesOpen old new)
-Waits (Err WaitFault) old new again = LeavesOpen old new
-Waits (Err WriteFault) old new again = LeavesOpen old new
-Waits (Err NoMemory) old new again = LeavesOpen old new
-
--- the output: these lines, none after a failed start, and a prefix of them where the output failed
-abbrev pub Writes : {T : Type 0} → Result T FleetFault → List ℕ → List ℕ → List ℕ → Type 0
-Writes (Ok x) old new text = new ≡ old ++ text
-Writes (Err StartFault) old new text = new ≡ old
-Writes (Err WaitFault) old new text = new ≡ old ++ text
-Writes (Err WriteFault) old new text = AppendsFront old new text
-Writes (Err NoMemory) old new text = new ≡ old ++ text
-
--- statuses of the first children, in order: each has its line where the output tells; they are the given ones where the spawner tells;
--- and a fleet that ended has one of each child, and ended by them
-pub record Reports (kids : List Kid) (result : Result FleetEnd FleetFault) (output : Bool) (old new : List ℕ) (spawner : Bool) (given : List ℕ) : Type 0 where
-  pub statuses : List ℕ
-  pub few : length statuses ≤ length kids
-  pub lines : IsTrue output → Writes result old new (fleet_text kids statuses)
-  pub given_so : IsTrue spawner → statuses ≡ take (length statuses) given
-  pub ended : IfOk result (λ end. (length statuses ≡ length kids) × (end ≡ fleet_end kids statuses))

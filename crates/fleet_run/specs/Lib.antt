@@ -1,3 +1,4 @@
 pub mod Asks
 pub mod Children
 pub mod Fleets
+pub mod Runs

@@ -1,10 +1,9 @@
-ghost use Rattle.std.specs.Prelude.{◌≡◌, ◌≢◌, ◌≤◌, ◌++◌, ◌∷◌, ◌⊎◌, [], IsTrue, IfOk, IsErrOf, Ok, Err, length};
+ghost use Rattle.std.specs.Prelude.{◌≡◌, IfOk};
 ghost use Rattle.std.specs.String.{string_bytes};
 ghost use Rattle.network_plan.specs.Hosts.{dev_of};
 ghost use Rattle.network_plan.specs.NodeRules.{KeepsAsk};
-ghost use Rattle.node_io.specs.Causes.{HasCause, HasRisen};
-ghost use Rattle.node_io.specs.Links.{HasPeer, Sends, Binds};
-ghost use Rattle.fleet_run.specs.Asks.{ask_frame, ask_peers, asked_line, ask_line, BindsAsk, SendsAsk, WritesAsk};
+ghost use Rattle.node_io.specs.Links.{HasPeer};
+ghost use Rattle.fleet_run.specs.Asks.{ask_frame, ask_peers, asked_line, ask_line, SendsOne, Asks};
 
 use crate::fault::AskFault;
 use network_plan::AskFile;
@@ -57,12 +56,12 @@ fn prepare(alloc: Global, ask: &AskFile) -> Result<Prepared, NoMemory>
 // Binds a port with its peers and sends one frame on device 0, which is among them.
 fn send_one<L: Link>(link: &mut L, port: u16, peers: &Peers, frame: &[u8]) -> Result<(), Failed>
     requires { HasPeer peers.now (dev_of 0) }
-    ensures binds { IsTrue L.tells → Binds (L.binds link.old) (L.binds link.new) (port, peers.now) result }
-    ensures sent { IsTrue L.tells → Sends (L.sent link.old) (L.sent link.new) (dev_of 0, frame.now) result }
-    ensures script { IsTrue L.tells → L.script link.new ≡ L.script link.old }
-    ensures cause { HasCause (L.faults link.old) (L.faults link.new) result }
+    ensures { SendsOne (port, peers.now) (dev_of 0, frame.now)
+        (L.state link.old) (L.state link.new) result }
 {
-    link.bind(port, peers)?;
+    let Ok(()) = link.bind(port, peers) else {
+        return Err(Failed);
+    };
     link.send(Dev(0), frame)
 }
 
@@ -76,24 +75,15 @@ pub fn inject<L: Link, K: Sink>(
     out: &mut K,
 ) -> Result<(), AskFault>
     requires { KeepsAsk ask.now }
-    ensures binds { IsTrue L.tells → BindsAsk result (L.binds link.old) (L.binds link.new) ask.now }
-    ensures sent { IsTrue L.tells → SendsAsk result (L.sent link.old) (L.sent link.new) ask.now }
-    ensures line { IsTrue K.tells → WritesAsk result (K.taken out.old) (K.taken out.new) ask.now }
-    ensures script { IsTrue L.tells → L.script link.new ≡ L.script link.old }
-    ensures link_fault { IsErrOf result AskFault.LinkFault → HasRisen (L.faults link.old) (L.faults link.new) }
-    ensures write_fault { IsErrOf result AskFault.WriteFault → HasRisen (K.faults out.old) (K.faults out.new) }
-    ensures complete { ¬ (HasRisen (L.faults link.old) (L.faults link.new))
-        → ¬ (HasRisen (K.faults out.old) (K.faults out.new))
-        → (result ≡ Ok tt) ⊎ (result ≡ Err AskFault.NoMemory) }
-    ensures link_later { L.faults link.old ≤ L.faults link.new }
-    ensures later { K.faults out.old ≤ K.faults out.new }
+    ensures { Asks ask.now (L.state link.old) (L.state link.new)
+        (K.state out.old) (K.state out.new) result }
 {
     let Ok(made) = prepare(alloc, ask) else {
         return Err(AskFault::NoMemory);
     };
-    if send_one(link, ask.from, &made.peers, made.frame.as_slice()).is_err() {
+    let Ok(()) = send_one(link, ask.from, &made.peers, made.frame.as_slice()) else {
         return Err(AskFault::LinkFault);
-    }
+    };
     match put_all(out, made.line.as_bytes()) {
         Ok(()) => Ok(()),
         Err(_) => Err(AskFault::WriteFault),

@@ -1,7 +1,6 @@
-ghost use Rattle.std.specs.Prelude.{◌≡◌, ◌++◌, ◌≤◌, ◌⊎◌, Ok, Err, IsTrue, IsOk, IsErrOf, IfOk, OnOk, [], drop, length, vec_capacity};
-ghost use Rattle.node_io.specs.Causes.{HasRisen, one_more};
-ghost use Rattle.node_io.specs.Pieces.{AppendsFront};
-ghost use Rattle.fleet_run.specs.Fleets.{fleet_starts, fleet_text, fleet_end, Asks, Waits, Reports};
+ghost use Rattle.std.specs.Prelude.{◌≡◌, IfOk, [], length, vec_capacity};
+ghost use Rattle.fleet_run.specs.Fleets.{fleet_starts};
+ghost use Rattle.fleet_run.specs.Runs.{RunsFleet};
 
 use crate::fault::FleetFault;
 use crate::reports::{FleetEnd, end_of, report_all};
@@ -24,7 +23,9 @@ struct Prepared {
 fn prepare(alloc: Global, kids: &[Kid]) -> Result<Prepared, NoMemory>
     ensures starts { IfOk result (λ made. made.starts ≡ fleet_starts kids.now) }
     ensures none { IfOk result (λ made. (made.started.items ≡ []) × (made.statuses.items ≡ [])) }
-    ensures room { IfOk result (λ made. (vec_capacity made.started ≡ length kids.now) × (vec_capacity made.statuses ≡ length kids.now)) }
+    ensures room { IfOk result
+        (λ made. (vec_capacity made.started ≡ length kids.now)
+        × (vec_capacity made.statuses ≡ length kids.now)) }
 {
     let starts = starts_of(alloc, kids)?;
     let started = Vec::with_capacity(alloc, kids.len())?;
@@ -45,27 +46,8 @@ pub fn run_fleet<P: Spawner, K: Sink>(
     spawn: &mut P,
     out: &mut K,
 ) -> Result<FleetEnd, FleetFault>
-    ensures starts { IsTrue P.tells → Asks result (P.starts spawn.old) (P.starts spawn.new) (fleet_starts fleet.now.children) }
-    ensures waited { Waits result (P.children spawn.old) (P.children spawn.new) (HasRisen (one_more (P.faults spawn.old)) (P.faults spawn.new)) }
-    ensures reports { Reports fleet.now.children result K.tells (K.taken out.old) (K.taken out.new) P.tells (drop (P.started spawn.old) (P.statuses spawn.old)) }
-    // Where both tell: the lines of the statuses that the spawner gives, and a prefix of them after every answer.
-    ensures whole { IsTrue P.tells
-        → IsTrue K.tells
-        → OnOk result (K.taken out.new ≡ K.taken out.old ++ fleet_text fleet.now.children (drop (P.started spawn.old) (P.statuses spawn.old))) }
-    ensures front { IsTrue P.tells
-        → IsTrue K.tells
-        → AppendsFront (K.taken out.old) (K.taken out.new) (fleet_text fleet.now.children (drop (P.started spawn.old) (P.statuses spawn.old))) }
-    ensures ended { IsTrue P.tells
-        → IfOk result (λ end. end ≡ fleet_end fleet.now.children (drop (P.started spawn.old) (P.statuses spawn.old))) }
-    ensures statuses { IsTrue P.tells → P.statuses spawn.new ≡ P.statuses spawn.old }
-    ensures start_fault { IsErrOf result FleetFault.StartFault → HasRisen (P.faults spawn.old) (P.faults spawn.new) }
-    ensures wait_fault { IsErrOf result FleetFault.WaitFault → HasRisen (P.faults spawn.old) (P.faults spawn.new) }
-    ensures write_fault { IsErrOf result FleetFault.WriteFault → HasRisen (K.faults out.old) (K.faults out.new) }
-    ensures complete { ¬ (HasRisen (P.faults spawn.old) (P.faults spawn.new))
-        → ¬ (HasRisen (K.faults out.old) (K.faults out.new))
-        → IsOk result ⊎ IsErrOf result FleetFault.NoMemory }
-    ensures spawn_later { P.faults spawn.old ≤ P.faults spawn.new }
-    ensures later { K.faults out.old ≤ K.faults out.new }
+    ensures { RunsFleet fleet.now.children (P.state spawn.old) (P.state spawn.new)
+        (K.state out.old) (K.state out.new) result }
 {
     let kids = fleet.children.as_slice();
     let Ok(mut made) = prepare(alloc, kids) else {

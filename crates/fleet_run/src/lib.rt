@@ -5,6 +5,7 @@
 mod ask;
 mod fault;
 mod fleet;
+mod laws;
 mod reports;
 mod starts;
 mod words;
@@ -12,4 +13,5 @@ mod words;
 pub use ask::inject;
 pub use fault::{AskFault, FleetFault};
 pub use fleet::run_fleet;
+pub use laws::{ends_by_its_statuses, lines_are_a_prefix};
 pub use reports::FleetEnd;

@@ -1,8 +1,8 @@
-ghost use Rattle.std.specs.Prelude.{◌≡◌, ◌≢◌, ◌++◌, ◌≤◌, List, ℕ, [], Err, IsTrue, IsErrOf, OnOk, MatchResult, length, take, drop, vec_capacity};
-ghost use Rattle.node_io.specs.Causes.{HasRisen};
+ghost use Rattle.std.specs.Prelude.{◌≡◌, ◌≤◌, [], List, length, vec_capacity};
 ghost use Rattle.node_io.specs.declared.spawner.Child.{Child as Open};
-ghost use Rattle.fleet_run.specs.Children.{AreOpen, AreNumbered, LeavesOpen};
-ghost use Rattle.fleet_run.specs.Fleets.{fleet_text, fleet_end, Writes};
+ghost use Rattle.fleet_run.specs.Children.{AreOpen};
+ghost use Rattle.fleet_run.specs.Fleets.{fleet_end};
+ghost use Rattle.fleet_run.specs.Runs.{ReportsEach};
 
 use crate::fault::FleetFault;
 use crate::words::{kid_host, kid_line};
@@ -31,26 +31,11 @@ pub fn report_all<P: Spawner, K: Sink>(
     statuses: &mut Vec<u8>,
 ) -> Result<(), FleetFault>
     requires each { length started.now ≡ length kids.now }
-    requires open { (base : List Open) × AreOpen base (P.children spawn.old) started.now }
+    requires open { (base : List Open) × AreOpen base (P.state spawn.old).children started.now }
     requires none { statuses.old.items ≡ [] }
     requires room { length kids.now ≤ vec_capacity statuses.old }
-    ensures no_start { result ≢ Err FleetFault.StartFault }
-    ensures waited { (base : List Open)
-        → AreOpen base (P.children spawn.old) started.now
-        → MatchResult result (λ _. P.children spawn.new ≡ base) (λ _. LeavesOpen base (P.children spawn.new)) }
-    ensures all { OnOk result (length statuses.new.items ≡ length kids.now) }
-    ensures few { length statuses.new.items ≤ length kids.now }
-    ensures lines { IsTrue K.tells → Writes result (K.taken out.old) (K.taken out.new) (fleet_text kids.now statuses.new.items) }
-    ensures given { IsTrue P.tells
-        → (n : ℕ)
-        → AreNumbered n started.now
-        → statuses.new.items ≡ take (length statuses.new.items) (drop n (P.statuses spawn.old)) }
-    ensures kept { IsTrue P.tells
-        → (P.statuses spawn.new ≡ P.statuses spawn.old) × (P.starts spawn.new ≡ P.starts spawn.old) }
-    ensures wait_fault { IsErrOf result FleetFault.WaitFault → HasRisen (P.faults spawn.old) (P.faults spawn.new) }
-    ensures write_fault { IsErrOf result FleetFault.WriteFault → HasRisen (K.faults out.old) (K.faults out.new) }
-    ensures spawn_later { P.faults spawn.old ≤ P.faults spawn.new }
-    ensures later { K.faults out.old ≤ K.faults out.new }
+    ensures { ReportsEach kids.now started.now statuses.new.items
+        (P.state spawn.old) (P.state spawn.new) (K.state out.old) (K.state out.new) result }
 {
     for (i, kid) in kids.iter().enumerate() {
         let Ok(status) = spawn.wait(started[i]) else {

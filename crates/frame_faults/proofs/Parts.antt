@@ -21,7 +21,7 @@ use Rattle.chunk_spelling.specs.Steps.{past, step}
 use Rattle.chunk_spelling.specs.Spelling.{FirstFaultAt}
 
 -- what is read, or refused for a reason of the bytes' own
-pub Own : {A : Type 0} → Result A SpellFault → Type 0
+unfoldable pub Own : {A : Type 0} → Result A SpellFault → Type 0
 Own (Ok a) = Unit {0}
 Own (Err e) = e ≢ NoMemory
 

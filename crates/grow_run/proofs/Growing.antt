@@ -19,7 +19,8 @@ use Rattle.grow_run.proofs.RingRules.{ring_keeps}
 use Rattle.net_world.specs.Stands.{WorldStands}
 use Rattle.net_world.specs.Running.{IsCountable}
 use Rattle.net_world.proofs.RunLaws.{opening_made}
-use Rattle.grow_run.specs.Pings.{ping_text, ping as ping_of, output_with, grow_output}
+use Rattle.grow_run.specs.Pings.{ping as ping_of, OfGrown}
+use Rattle.node_io.specs.Sinks.{SinkState, Writes, FailsIn}
 use Rattle.grow_run.specs.declared.growth.Growth.{Growth}
 
 -- a network before its first event
@@ -112,7 +113,13 @@ module _ {S : Type 0} (stands : S → ServiceState) (ping : Host → Host → Ch
   grown_summary made g grows done = grows.summary ∙ ap (λ es. summary_of (history_of es (opening ring))) (all_made made g grows done)
 
 -- what is written of a network whose pings have the program that was read
-pub output_is : (seed n : ℕ) (code : Program) → program_of ping_text ≡ Ok code
-    → grown_text seed n (history_of (Grow (ping_of code) seed n) (opening ring)) (world_after (Grow (ping_of code) seed n) (opening ring)) ≡ grow_output seed n
-unfolding grow_output GrowText
-output_is seed n code reads = ap (output_with seed n) (sym reads)
+pub output_is : (seed n : ℕ) (code : Program) → grown_text seed n (history_of (Grow (ping_of code) seed n) (opening ring)) (world_after (Grow (ping_of code) seed n) (opening ring)) ≡ GrowText (ping_of code) seed n
+unfolding GrowText
+output_is seed n code = refl
+
+-- the summary that was made was written, or a prefix of it
+pub grown_written : (seed n : ℕ) (text slice : List ℕ) (a b : SinkState) → OfGrown seed n (λ whole. text ≡ whole) → slice ≡ text → Writes a b slice → OfGrown seed n (Writes a b)
+grown_written seed n text slice a b g e w = record { code = g.code; reads = g.reads; is = subst (Writes a b) (e ∙ g.is) w }
+
+pub grown_cut : (seed n : ℕ) (text slice : List ℕ) (a b : SinkState) → OfGrown seed n (λ whole. text ≡ whole) → slice ≡ text → FailsIn a b slice → OfGrown seed n (FailsIn a b)
+grown_cut seed n text slice a b g e f = record { code = g.code; reads = g.reads; is = subst (FailsIn a b) (e ∙ g.is) f }

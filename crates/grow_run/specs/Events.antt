@@ -1,13 +1,14 @@
--- Which choices are events, and what is drawn for the next event.
-use Rattle.std.specs.Prelude.{◌≤◌}
+-- Which choices are events, what is drawn for the next event, and what happened after some of them.
+use Rattle.std.specs.Prelude.{ℕ, ◌≤◌, List}
 use Rattle.rand_pcg.specs.Lcg.{Lcg}
 use Rattle.plan_base.specs.declared.ids.Host.{Host}
 use Rattle.plan_base.specs.declared.tree.Chunk.{Chunk}
 use Rattle.network_plan.specs.declared.event.WorldEvent.{WorldEvent}
 use Rattle.grow_run.specs.declared.choice.Choice.{Choice}
 use Rattle.grow_run.specs.declared.choice.Choice.TheVariants.{Send}
-use Rattle.world_model.specs.World.{WorldState}
-use Rattle.grow_run.specs.Grow.{event_of, drawn}
+use Rattle.world_model.specs.World.{WorldState, history_of, opening}
+use Rattle.world_model.specs.declared.lines.Entry.{Entry}
+use Rattle.grow_run.specs.Grow.{event_of, drawn, ring, grown}
 
 -- a device is at most 8
 abbrev pub choice_fits : Choice → Type 0
@@ -17,3 +18,7 @@ choice_fits _ = Unit {0}
 -- the event that is drawn for a network, and the generator after it
 abbrev pub drawn_event : (Host → Host → Chunk) → Lcg → WorldState → WorldEvent × Lcg
 drawn_event ping g w = (event_of ping (drawn g w).0, (drawn g w).1)
+
+-- the history of the ring after so many events that a generator draws
+abbrev pub grown_history : (Host → Host → Chunk) → ℕ → Lcg → List Entry
+grown_history ping n words = history_of (grown ping n words (opening ring)) (opening ring)

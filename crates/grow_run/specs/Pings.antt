@@ -1,12 +1,14 @@
 -- The ping that a growing network injects, and what is written of such a network.
-use Rattle.std.specs.Prelude.{ℕ, List, [], ◌∷◌, Result, Ok, Err, codes}
+use Rattle.std.specs.Prelude.{ℕ, ◌≡◌, List, [], ◌∷◌, Result, Ok, Err, codes}
 use Rattle.plan_base.specs.declared.ids.Host.{Host}
 use Rattle.plan_base.specs.declared.tree.Chunk.{Chunk}
 use Rattle.plan_base.specs.declared.tree.Program.{Program}
 use Rattle.plan_base.specs.declared.tree.Value.TheVariants as value
-use Rattle.program_text.specs.declared.fault.TextFault.{TextFault}
 use Rattle.program_text.specs.Texts.{program_of}
 use Rattle.grow_run.specs.Summaries.{GrowText}
+use Rattle.node_io.specs.Sinks.{SinkState, Writes, FailsIn}
+use Rattle.net_world.specs.declared.runs.RunFault.{RunFault}
+use Rattle.net_world.specs.declared.runs.RunFault.TheVariants.{WriteFault, NoMemory}
 
 -- the program of a ping: it goes to a host, and from there an answer comes back and prints
 unfoldable pub ping_text : List ℕ
@@ -16,11 +18,14 @@ ping_text = codes "svc thisHostIs : (host) -> bool\nsvc getRB : () -> int\nsvc p
 abbrev pub ping : Program → Host → Host → Chunk
 ping code from to = record { code = code; entry = codes "ping"; args = value.Host from ∷ value.Host to ∷ [] }
 
--- the summary of the network of a seed after n events, where pings have this program
-abbrev pub output_with : ℕ → ℕ → Result Program TextFault → List ℕ
-output_with seed n (Ok code) = GrowText (ping code) seed n
-output_with seed n (Err fault) = []
+-- the text of the ping is a program, and a fact holds of the summary of the network of a seed after n events with such pings
+pub record OfGrown (seed n : ℕ) (Is : List ℕ → Type 0) : Type 0 where
+  pub code : Program
+  pub reads : program_of ping_text ≡ Ok code
+  pub is : Is (GrowText (ping code) seed n)
 
--- what is written of the network of a seed after n events
-unfoldable pub grow_output : ℕ → ℕ → List ℕ
-grow_output seed n = output_with seed n (program_of ping_text)
+-- the summary was written, or a prefix of it where the output failed; nothing, where memory was refused
+abbrev pub Grows : {T : Type 0} → ℕ → ℕ → SinkState → SinkState → Result T RunFault → Type 0
+Grows seed n old new (Ok x) = OfGrown seed n (Writes old new)
+Grows seed n old new (Err WriteFault) = OfGrown seed n (FailsIn old new)
+Grows seed n old new (Err NoMemory) = new ≡ old

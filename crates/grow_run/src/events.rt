@@ -47,7 +47,8 @@ fn drawn_event<S: Services>(
     world: &World<S>,
     words: &mut Lcg64Xsh32,
 ) -> Result<WorldEvent, NoMemory>
-    ensures event { (w : WorldState) → WorldStands S.stands world.now w → IfOk result (λ e. (e, words.new) ≡ drawn_event (spec.ping code.now) words.old w) }
+    ensures event { (w : WorldState) → WorldStands S.stands world.now w
+        → IfOk result (λ e. (e, words.new) ≡ drawn_event (spec.ping code.now) words.old w) }
     ensures fits { IfOk result event_fits }
 {
     let choice = choose(words, world.lowest(), world.highest());
@@ -61,7 +62,8 @@ pub fn next_event<S: Services>(
     world: &World<S>,
     words: &mut Lcg64Xsh32,
 ) -> Result<WorldEvent, NoMemory>
-    ensures event { (w : WorldState) → WorldStands S.stands world.now w → IfOk result (λ e. (e, words.new) ≡ grow.next_event (spec.ping code.now) words.old w) }
+    ensures event { (w : WorldState) → WorldStands S.stands world.now w
+        → IfOk result (λ e. (e, words.new) ≡ grow.next_event (spec.ping code.now) words.old w) }
     ensures fits { IfOk result event_fits }
 {
     let made = world.made();

@@ -2,7 +2,7 @@ ghost use Rattle.std.specs.Prelude.{◌≡◌, ◌≤◌, ◌<◌, ◌+◌, ◌-
 ghost use Rattle.plan_base.specs.declared.ids.Family.{Family};
 ghost use Rattle.grow_run.specs.Draws.{begun};
 ghost use Rattle.world_model.specs.declared.lines.Entry.{Entry};
-ghost use Rattle.world_model.specs.World.{WorldState, happens, entries, history_of, opening, opening_services};
+ghost use Rattle.world_model.specs.World.{WorldState, happens, entries, opening, opening_services};
 ghost use Rattle.world_model.specs.Counts.{Balanced};
 ghost use Rattle.world_model.specs.Sound.{event_fits};
 ghost use Rattle.run_ledger.specs.Stands.{Stands};
@@ -10,6 +10,7 @@ ghost use Rattle.grow_run.specs.Grow as grow;
 ghost use Rattle.grow_run.specs.Summaries.{summary_of, grown_text};
 ghost use Rattle.net_world.specs.Stands.{WorldStands};
 ghost use Rattle.net_world.specs.Running.{IsCountable};
+ghost use Rattle.grow_run.specs.Events.{grown_history};
 ghost use Rattle.grow_run.specs.Pings as spec;
 
 use crate::events::next_event;
@@ -39,9 +40,8 @@ impl<S: Services + Drop> Growth<S> {
     pub fn begin(alloc: Global, seed: u64, services: Items<S>) -> Result<Growth<S>, NoMemory>
         requires services { map S.stands services ≡ map opening_services grow.ring.hosts }
         ensures world { IfOk result (λ g. WorldStands S.stands g.world (opening grow.ring)) }
-        ensures words { IfOk result (λ g. g.words ≡ begun seed) }
+        ensures fresh { IfOk result (λ g. (g.words ≡ begun seed) × (g.summary ≡ summary_of [])) }
         ensures ledger { IfOk result (λ g. Stands [] g.ledger) }
-        ensures summary { IfOk result (λ g. g.summary ≡ summary_of []) }
     {
         let topology = ring(alloc)?;
         let world = World::new(alloc, &topology, services)?;
@@ -61,11 +61,15 @@ impl<S: Services> Growth<S> {
         requires fits { event_fits event.now }
         requires few { self.old.world.made < 2 ^ 32 - 2 }
         requires counts { IsCountable S.stands self.old.world event.now self.old.ledger }
-        ensures world { (w : WorldState) → WorldStands S.stands self.old.world w → OnOk result (WorldStands S.stands self.new.world (happens w event.now).world) }
-        ensures words { self.new.words ≡ self.old.words }
-        ensures ledger { (w : WorldState) (h : List Entry) → WorldStands S.stands self.old.world w → Stands h self.old.ledger → OnOk result (Stands (h ++ entries w event.now) self.new.ledger) }
-        ensures summary { (w : WorldState) (h : List Entry) → WorldStands S.stands self.old.world w → self.old.summary ≡ summary_of h → OnOk result (self.new.summary ≡ summary_of (h ++ entries w event.now)) }
-        ensures made { OnOk result (self.new.world.made ≡ self.old.world.made + 1) }
+        ensures world { (w : WorldState) → WorldStands S.stands self.old.world w
+            → OnOk result (WorldStands S.stands self.new.world (happens w event.now).world) }
+        ensures counts { (w : WorldState) (h : List Entry) → WorldStands S.stands self.old.world w
+            → Stands h self.old.ledger
+            → self.old.summary ≡ summary_of h
+            → OnOk result (Stands (h ++ entries w event.now) self.new.ledger
+            × (self.new.summary ≡ summary_of (h ++ entries w event.now))) }
+        ensures made { (self.new.words ≡ self.old.words)
+            × OnOk result (self.new.world.made ≡ self.old.world.made + 1) }
     {
         let lines = self.world.step(alloc, event)?;
         count_lines(&mut self.ledger, lines.as_slice())?;
@@ -79,8 +83,10 @@ impl<S: Services> Growth<S> {
         requires world { WorldStands S.stands self.old.world (opening grow.ring) }
         requires ledger { Stands [] self.old.ledger }
         requires summary { self.old.summary ≡ summary_of [] }
-        ensures ledger { OnOk result (Stands (history_of (grow.grown (spec.ping code.now) events self.old.words (opening grow.ring)) (opening grow.ring)) self.new.ledger) }
-        ensures summary { OnOk result (self.new.summary ≡ summary_of (history_of (grow.grown (spec.ping code.now) events self.old.words (opening grow.ring)) (opening grow.ring))) }
+        ensures ledger { OnOk result
+            (Stands (grown_history (spec.ping code.now) events self.old.words) self.new.ledger) }
+        ensures summary { OnOk result (self.new.summary
+            ≡ summary_of (grown_history (spec.ping code.now) events self.old.words)) }
     {
         for _made in 0..events {
             let event = next_event(alloc, code, &self.world, &mut self.words)?;
@@ -91,7 +97,10 @@ impl<S: Services> Growth<S> {
 
     /// The summary of the network of a seed after this many events.
     pub fn text(&self, alloc: Global, seed: u64, events: u32) -> Result<Bytes, NoMemory>
-        ensures { (h : List Entry) (w : WorldState) → Stands h self.now.ledger → self.now.summary ≡ summary_of h → ((f : Family) → Balanced f h w) → IfOk result (λ text. text ≡ grown_text seed events h w) }
+        ensures { (h : List Entry) (w : WorldState) → Stands h self.now.ledger
+            → self.now.summary ≡ summary_of h
+            → ((f : Family) → Balanced f h w)
+            → IfOk result (λ text. text ≡ grown_text seed events h w) }
     {
         let sums = totals(&self.ledger);
         let mut text = Bytes::new(alloc);

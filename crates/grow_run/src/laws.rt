@@ -11,7 +11,9 @@ ghost use Rattle.grow_run.specs.Summaries.{summary_of, row_sums, summary_text, g
 
 /// The summary with the sums of rows that stand for a history is that of the history.
 pub fn summaries_are_counts()
-    ensures { (seed n : ℕ) (h : List Entry) (w : WorldState) (rows : List FamilyRow) → OneEach rows → Stands h rows → ((f : Family) → Balanced f h w) → summary_text seed n (summary_of h) (row_sums rows) ≡ grown_text seed n h w }
+    ensures { (seed n : ℕ) (h : List Entry) (w : WorldState) (rows : List FamilyRow) → OneEach rows
+        → Stands h rows → ((f : Family) → Balanced f h w)
+        → summary_text seed n (summary_of h) (row_sums rows) ≡ grown_text seed n h w }
 {}
 
 /// The ring keeps the rules of a network.

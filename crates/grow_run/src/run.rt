@@ -1,9 +1,7 @@
-ghost use Rattle.std.specs.Prelude.{◌≡◌, ◌≤◌, ◌++◌, map, IsTrue, IfOk, OnOk, IsErrOf};
-ghost use Rattle.node_io.specs.Causes.{HasRisen};
-ghost use Rattle.node_io.specs.Pieces.{AppendsFront};
+ghost use Rattle.std.specs.Prelude.{◌≡◌, ◌≤◌, map, IfOk};
 ghost use Rattle.world_model.specs.World.{opening_services};
 ghost use Rattle.grow_run.specs.Grow.{ring};
-ghost use Rattle.grow_run.specs.Pings as spec;
+ghost use Rattle.grow_run.specs.Pings.{OfGrown, Grows};
 
 use crate::growth::Growth;
 use crate::pings::ping_program;
@@ -23,7 +21,7 @@ fn grown_bytes<S: Services + Drop>(
 ) -> Result<Bytes, NoMemory>
     requires few { events ≤ 50000 }
     requires services { map S.stands services ≡ map opening_services ring.hosts }
-    ensures { IfOk result (λ text. text ≡ spec.grow_output seed events) }
+    ensures { IfOk result (λ text. OfGrown seed events (λ whole. text ≡ whole)) }
 {
     let code = ping_program(alloc)?;
     let mut growth = Growth::begin(alloc, seed, services)?;
@@ -31,6 +29,7 @@ fn grown_bytes<S: Services + Drop>(
     growth.text(alloc, seed, events)
 }
 
+#[tactic(auto, using(crate::proofs::Growing::grown_written, crate::proofs::Growing::grown_cut))]
 /// Writes the summary of the network of a seed after this many events to `out`. Neither its events nor its lines are
 /// kept. `services`: one for each host, in the order of hosts. Condition: the events are at most 50,000.
 pub fn grow<S: Services + Drop, K: Sink>(
@@ -42,12 +41,13 @@ pub fn grow<S: Services + Drop, K: Sink>(
 ) -> Result<(), RunFault>
     requires few { events ≤ 50000 }
     requires services { map S.stands services ≡ map opening_services ring.hosts }
-    ensures whole { IsTrue K.tells → OnOk result (K.taken out.new ≡ K.taken out.old ++ spec.grow_output seed events) }
-    ensures front { IsTrue K.tells → AppendsFront (K.taken out.old) (K.taken out.new) (spec.grow_output seed events) }
-    ensures write { IsErrOf result RunFault.WriteFault → HasRisen (K.faults out.old) (K.faults out.new) }
-    ensures later { K.faults out.old ≤ K.faults out.new }
+    ensures { Grows seed events (K.state out.old) (K.state out.new) result }
 {
-    let text = grown_bytes(alloc, seed, events, services)?;
-    put_all(out, text.as_slice())?;
-    Ok(())
+    let Ok(text) = grown_bytes(alloc, seed, events, services) else {
+        return Err(RunFault::NoMemory);
+    };
+    match put_all(out, text.as_slice()) {
+        Ok(()) => Ok(()),
+        Err(_) => Err(RunFault::WriteFault),
+    }
 }

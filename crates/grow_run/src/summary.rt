@@ -75,7 +75,8 @@ impl Summary {
 
     /// Counts the lines of an event.
     pub fn count(&mut self, lines: &[Line])
-        ensures { (h : List Entry) (n : ℕ) → self.old ≡ spec.summary_of h → self.new ≡ spec.summary_of (h ++ map (entry_at n) lines.now) }
+        ensures { (h : List Entry) (n : ℕ) → self.old ≡ spec.summary_of h
+            → self.new ≡ spec.summary_of (h ++ map (entry_at n) lines.now) }
     {
         for line in lines {
             *self = self.with_line(line);

@@ -28,11 +28,7 @@ fn milliseconds<R: System>(system: &R) -> Option<u64> {
 }
 
 impl<R: System> Clock for HostClock<'_, R> {
-    ghost tells = { false };
-
-    ghost answers = { λ _. [] };
-
-    ghost last = { λ c. c.last };
+    ghost state = { λ c. record { observable = false; answers = []; last = c.last } };
 
     fn now(&mut self) -> u64 {
         if let Some(now) = milliseconds(self.system) {

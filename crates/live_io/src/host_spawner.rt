@@ -1,5 +1,5 @@
 ghost use Rattle.std.specs.Prelude.{◌≡◌, ◌++◌, ◌∷◌, [], false, filter, IfSome, MatchOption};
-ghost use Rattle.node_io.specs.Children.{is_other, IsFresh};
+ghost use Rattle.node_io.specs.Spawners.{is_other, IsFresh};
 
 use node_io::{Child, Failed, Spawner, raise};
 use plan_base::{Text, Texts};
@@ -114,17 +114,7 @@ impl<R: Processes> HostSpawner<'_, R> {
 }
 
 impl<R: Processes> Spawner for HostSpawner<'_, R> {
-    ghost faults = { λ s. s.faults };
-
-    ghost children = { λ s. s.children.items };
-
-    ghost tells = { false };
-
-    ghost statuses = { λ _. [] };
-
-    ghost started = { λ _. 0 };
-
-    ghost starts = { λ _. [] };
+    ghost state = { λ s. record { observable = false; statuses = []; started = 0; starts = []; children = s.children.items; faults = s.faults } };
 
     fn start(&mut self, words: &Texts) -> Result<Child, Failed> {
         match self.start_next(words) {

@@ -75,17 +75,7 @@ fn is_quiet(error: &io::Error) -> bool {
 }
 
 impl<R: Net> Link for UdpLink<'_, R> {
-    ghost faults = { λ l. l.faults };
-
-    ghost bound = { λ l. l.peers };
-
-    ghost tells = { false };
-
-    ghost script = { λ _. [] };
-
-    ghost sent = { λ _. [] };
-
-    ghost binds = { λ _. [] };
+    ghost state = { λ l. record { observable = false; script = []; sent = []; binds = []; bound = l.peers; faults = l.faults } };
 
     fn bind(&mut self, port: u16, peers: &Peers) -> Result<(), Failed> {
         // The port is free again before it is bound again.

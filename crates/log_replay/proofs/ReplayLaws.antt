@@ -6,8 +6,11 @@ use Rattle.std.proofs.Math.Seq.{take-append-add}
 use Rattle.plan_base.specs.declared.ids.Host.{Host}
 use Rattle.network_plan.specs.declared.event.LogEvent.{LogEvent}
 use Rattle.service_api.specs.Services.{ServiceState}
-use Rattle.node_io.specs.Pieces.{AppendsFront}
-use Rattle.node_io.proofs.Fronts.{front_longer}
+use Rattle.node_io.specs.Sinks.{SinkState, Writes, FailsIn}
+use Rattle.node_io.proofs.SinkLaws.{writes_none, writes_both, writes_as, fails_as, fails_more, fails_longer}
+use Rattle.log_replay.specs.Replays.{Stops}
+use Rattle.log_replay.proofs.Printing.{stops_as, stops_more, stops_longer}
+use Rattle.log_replay.specs.declared.fault.ReplayFault.{ReplayFault}
 use Rattle.node_model.specs.State.{NodeState}
 use Rattle.node_core.specs.declared.node.Node.{Node}
 use Rattle.node_core.specs.Stands.{NodeStands}
@@ -63,66 +66,52 @@ next_stands stands n s es i d e h same x =
     let after : node_after s (take (i + 1) es) ≡ node_by (node_after s (take i es)) g = ap (node_after s) (take_at_read es i d h).1 ∙ after_more s (take i es) (g ∷ []) ∙ one_after (node_after s (take i es)) g in
     subst (NodeStands stands n) (sym after) (subst (λ y. NodeStands stands n (node_by (node_after s (take i es)) y)) same x)
 
-module _ (here : Host) (s : NodeState) (es : List LogEvent) (i n : ℕ) (d e : LogEvent) (old mid new : List ℕ) (h : i < length es) (same : e ≡ get_or es i d) (number : n ≡ i + 1)
-    (before : mid ≡ old ++ lines_text here (played 0 s (take i es))) where
-  pub next_written : new ≡ mid ++ lines_text here (entries_at n (acts_of (node_after s (take i es)) e)) → new ≡ old ++ lines_text here (played 0 s (take (i + 1) es))
-  next_written x =
-      let first = lines_text here (played 0 s (take i es)) in
-      let lines = lines_text here (entries_at n (acts_of (node_after s (take i es)) (get_or es i d))) in
-      x ∙ ap (λ y. mid ++ lines_text here (entries_at n (acts_of (node_after s (take i es)) y))) same ∙ ap (λ l. l ++ lines) before ∙ append_assoc old first lines
-      ∙ ap (λ l. old ++ l) (sym (next_played here s es i n d h number))
+module _ (here : Host) (s : NodeState) (es : List LogEvent) (i n : ℕ) (d e : LogEvent) (a b c : SinkState) (h : i < length es) (same : e ≡ get_or es i d) (number : n ≡ i + 1)
+    (before : Writes a b (lines_text here (played 0 s (take i es)))) where
+  first : List ℕ
+  first = lines_text here (played 0 s (take i es))
 
-  pub next_front : AppendsFront mid new (lines_text here (entries_at n (acts_of (node_after s (take i es)) e))) → AppendsFront old new (lines_text here (played 0 s es))
-  next_front x =
-      let first = lines_text here (played 0 s (take i es)) in
-      let lines = lines_text here (entries_at n (acts_of (node_after s (take i es)) (get_or es i d))) in
+  lines : List ℕ
+  lines = lines_text here (entries_at n (acts_of (node_after s (take i es)) e))
+
+  next_is : first ++ lines ≡ lines_text here (played 0 s (take (i + 1) es))
+  unfolding first lines
+  next_is = ap (λ y. lines_text here (played 0 s (take i es)) ++ lines_text here (entries_at n (acts_of (node_after s (take i es)) y))) same ∙ sym (next_played here s es i n d h number)
+
+  pub next_written : Writes b c (lines_text here (entries_at n (acts_of (node_after s (take i es)) e))) → Writes a c (lines_text here (played 0 s (take (i + 1) es)))
+  unfolding first lines
+  next_written w = writes_as a c (first ++ lines) (lines_text here (played 0 s (take (i + 1) es))) next_is (writes_both a b c first lines before w)
+
+  pub next_stopped : (fault : ReplayFault) → Stops fault (lines_text here (entries_at n (acts_of (node_after s (take i es)) e))) b c → Stops fault (lines_text here (played 0 s es)) a c
+  unfolding first lines
+  next_stopped fault p =
       let upto = take (i + 1) es in
       let rest = lines_text here (played (length upto) (node_after s upto) (drop (i + 1) es)) in
-      let whole : lines_text here (played 0 s es) ≡ (first ++ lines) ++ rest = ap (λ l. lines_text here (played 0 s l)) (sym (take-append-drop (i + 1) es)) ∙ more_played here s upto (drop (i + 1) es) ∙ ap (λ l. l ++ rest) (next_played here s es i n d h number) in
-      let more = front_longer (length first + x.count) (first ++ lines) rest in
-      record {
-        count = more.0;
-        is = x.is ∙ ap (λ y. mid ++ take x.count (lines_text here (entries_at n (acts_of (node_after s (take i es)) y)))) same ∙ ap (λ l. l ++ take x.count lines) before ∙ append_assoc old first (take x.count lines)
-            ∙ ap (λ l. old ++ l) (sym (take-append-add first lines x.count) ∙ more.1 ∙ ap (take more.0) (sym whole));
-      }
+      let whole : (first ++ lines) ++ rest ≡ lines_text here (played 0 s es) =
+      ap (λ l. l ++ rest) next_is ∙ sym (ap (λ l. lines_text here (played 0 s l)) (sym (take-append-drop (i + 1) es)) ∙ more_played here s upto (drop (i + 1) es)) in
+      stops_as fault a c ((first ++ lines) ++ rest) (lines_text here (played 0 s es)) whole (stops_longer fault a c (first ++ lines) rest (stops_more fault a b c first lines before p))
 
-pub all_written : (here : Host) (s : NodeState) (es : List LogEvent) (i : ℕ) (old new : List ℕ) → length es ≤ i → new ≡ old ++ lines_text here (played 0 s (take i es)) → new ≡ old ++ lines_text here (played 0 s es)
-all_written here s es i old new h x = x ∙ ap (λ l. old ++ lines_text here (played 0 s l)) (take_all i es h)
+pub all_written : (here : Host) (s : NodeState) (es : List LogEvent) (i : ℕ) (a b : SinkState) → length es ≤ i → Writes a b (lines_text here (played 0 s (take i es))) → Writes a b (lines_text here (played 0 s es))
+all_written here s es i a b h w = writes_as a b (lines_text here (played 0 s (take i es))) (lines_text here (played 0 s es)) (ap (λ l. lines_text here (played 0 s l)) (take_all i es h)) w
 
--- ---- fronts
+-- ---- the whole trace
 
--- a prefix of a later part
-front_behind : (old mid new first lines rest : List ℕ) → mid ≡ old ++ first → AppendsFront mid new lines → AppendsFront old new (first ++ (lines ++ rest))
-front_behind old mid new first lines rest h x =
-    let more = front_longer x.count lines rest in
-    record { count = length first + more.0; is = x.is ∙ ap (λ l. l ++ take x.count lines) h ∙ append_assoc old first (take x.count lines) ∙ ap (λ l. old ++ (first ++ l)) more.1 ∙ ap (λ l. old ++ l) (sym (take-append-add first (lines ++ rest) more.0)) }
+whole_is : (here : Host) (es : List Entry) → (codes "planet trace 1\n" ++ lines_text here es) ++ codes "end\n" ≡ whole_trace here es
+unfolding whole_trace begun_trace
+whole_is here es = refl
 
-module _ (here : Host) (es : List Entry) (old new : List ℕ) where
-  whole_is : whole_trace here es ≡ codes "planet trace 1\n" ++ (lines_text here es ++ codes "end\n")
-  unfolding whole_trace begun_trace
-  whole_is = append_assoc (codes "planet trace 1\n") (lines_text here es) (codes "end\n")
+pub trace_begun : (here : Host) (es : List Entry) (a b : SinkState) → FailsIn a b (codes "planet trace 1\n") → FailsIn a b (whole_trace here es)
+trace_begun here es a b f = fails_as a b _ (whole_trace here es) (whole_is here es) (fails_longer a b (codes "planet trace 1\n" ++ lines_text here es) (codes "end\n") (fails_longer a b (codes "planet trace 1\n") (lines_text here es) f))
 
-  pub header_front : AppendsFront old new (codes "planet trace 1\n") → AppendsFront old new (whole_trace here es)
-  header_front x = subst (AppendsFront old new) (sym whole_is) (front_behind old old new [] (codes "planet trace 1\n") (lines_text here es ++ codes "end\n") (sym (append-nil old)) x)
+module _ (here : Host) (es : List Entry) (a b c d : SinkState) (begun : Writes a b (codes "planet trace 1\n")) where
+  pub trace_stopped : (fault : ReplayFault) → Stops fault (lines_text here es) b c → Stops fault (whole_trace here es) a c
+  trace_stopped fault p = stops_as fault a c _ (whole_trace here es) (whole_is here es) (stops_longer fault a c (codes "planet trace 1\n" ++ lines_text here es) (codes "end\n") (stops_more fault a b c (codes "planet trace 1\n") (lines_text here es) begun p))
 
-  pub lines_front : (mid : List ℕ) → mid ≡ old ++ codes "planet trace 1\n" → AppendsFront mid new (lines_text here es) → AppendsFront old new (whole_trace here es)
-  lines_front mid h x = subst (AppendsFront old new) (sym whole_is) (front_behind old mid new (codes "planet trace 1\n") (lines_text here es) (codes "end\n") h x)
+  pub trace_cut : Writes b c (lines_text here es) → FailsIn c d (codes "end\n") → FailsIn a d (whole_trace here es)
+  trace_cut w f = fails_as a d _ (whole_trace here es) (whole_is here es) (fails_more a c d (codes "planet trace 1\n" ++ lines_text here es) (codes "end\n") (writes_both a b c (codes "planet trace 1\n") (lines_text here es) begun w) f)
 
-  pub whole_written : (mid last : List ℕ) → mid ≡ old ++ codes "planet trace 1\n" → last ≡ mid ++ lines_text here es → new ≡ last ++ codes "end\n" → new ≡ old ++ whole_trace here es
-  whole_written mid last h k l =
-      let header = codes "planet trace 1\n" in
-      let lines = lines_text here es in
-      l ∙ ap (λ x. x ++ codes "end\n") (k ∙ ap (λ x. x ++ lines) h ∙ append_assoc old header lines) ∙ append_assoc old (header ++ lines) (codes "end\n") ∙ ap (λ x. old ++ x) (append_assoc header lines (codes "end\n") ∙ sym whole_is)
+  pub trace_written : Writes b c (lines_text here es) → Writes c d (codes "end\n") → Writes a d (whole_trace here es)
+  trace_written w v = writes_as a d _ (whole_trace here es) (whole_is here es) (writes_both a c d (codes "planet trace 1\n" ++ lines_text here es) (codes "end\n") (writes_both a b c (codes "planet trace 1\n") (lines_text here es) begun w) v)
 
-  pub end_front : (mid last : List ℕ) → mid ≡ old ++ codes "planet trace 1\n" → last ≡ mid ++ lines_text here es → AppendsFront last new (codes "end\n") → AppendsFront old new (whole_trace here es)
-  end_front mid last h k x =
-      let header = codes "planet trace 1\n" in
-      let lines = lines_text here es in
-      let before : last ≡ old ++ (header ++ lines) = k ∙ ap (λ y. y ++ lines) h ∙ append_assoc old header lines in
-      subst (AppendsFront old new) (ap (λ l. (header ++ lines) ++ l) (append-nil (codes "end\n")) ∙ append_assoc header lines (codes "end\n") ∙ sym whole_is) (front_behind old last new (header ++ lines) (codes "end\n") [] before x)
-
--- ---- results
-
-pub on_ok : {T E : Type 0} (r : Result T E) (X : Type 0) → X → OnOk r X
-on_ok (Ok t) X x = x
-on_ok (Err e) X x = tt
+pub none_written : (here : Host) (s : NodeState) (a : SinkState) → Writes a a (lines_text here (played 0 s []))
+none_written here s a = writes_as a a [] (lines_text here (played 0 s [])) (sym (none_played here s)) (writes_none a)

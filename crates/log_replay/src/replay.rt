@@ -1,8 +1,7 @@
-ghost use Rattle.std.specs.Prelude.{◌≡◌, ◌++◌, ◌≤◌, ◌<◌, ◌^◌, length, IsTrue, IfOk, OnOk, IsErrOf};
+ghost use Rattle.std.specs.Prelude.{◌≡◌, ◌≤◌, ◌<◌, ◌^◌, length, IfOk, OnOk};
 ghost use Rattle.std.specs.List.{All};
 ghost use Rattle.network_plan.specs.NodeRules.{KeepsEntry, KeepsLog, KeepsNode, KeepsNodeEvent};
-ghost use Rattle.node_io.specs.Causes.{HasRisen};
-ghost use Rattle.node_io.specs.Pieces.{AppendsFront};
+ghost use Rattle.log_replay.specs.Replays.{Prints};
 ghost use Rattle.node_model.specs.State.{NodeState, new_node};
 ghost use Rattle.node_model.specs.Node.{node_step};
 ghost use Rattle.node_core.specs.Stands.{NodeStands, IsStep};
@@ -29,8 +28,11 @@ fn event_lines<S: Services>(
     event: &Event,
 ) -> Result<Bytes, NoMemory>
     requires { KeepsNodeEvent event.now }
-    ensures text { (s : NodeState) → NodeStands S.stands node.old s → IfOk result (λ text. text ≡ lines_text here (entries_at number (node_step s event.now).acts)) }
-    ensures after { (s : NodeState) → NodeStands S.stands node.old s → OnOk result (NodeStands S.stands node.new (node_step s event.now).node) }
+    ensures text { (s : NodeState) → NodeStands S.stands node.old s
+        → IfOk result
+        (λ text. text ≡ lines_text here (entries_at number (node_step s event.now).acts)) }
+    ensures after { (s : NodeState) → NodeStands S.stands node.old s
+        → OnOk result (NodeStands S.stands node.new (node_step s event.now).node) }
 {
     let acts = node.step(alloc, event)?;
     step_lines(alloc, number, here, acts.list.as_slice())
@@ -45,8 +47,10 @@ fn entry_lines<S: Services>(
     entry: &LogEvent,
 ) -> Result<Bytes, NoMemory>
     requires { KeepsEntry entry.now }
-    ensures text { (s : NodeState) → NodeStands S.stands node.old s → IfOk result (λ text. text ≡ lines_text here (entries_at number (acts_of s entry.now))) }
-    ensures after { (s : NodeState) → NodeStands S.stands node.old s → OnOk result (NodeStands S.stands node.new (node_by s entry.now)) }
+    ensures text { (s : NodeState) → NodeStands S.stands node.old s
+        → IfOk result (λ text. text ≡ lines_text here (entries_at number (acts_of s entry.now))) }
+    ensures after { (s : NodeState) → NodeStands S.stands node.old s
+        → OnOk result (NodeStands S.stands node.new (node_by s entry.now)) }
 {
     match entry {
         LogEvent::Step(event) => event_lines(alloc, node, here, number, event),
@@ -54,6 +58,7 @@ fn entry_lines<S: Services>(
     }
 }
 
+#[tactic(auto, using(node_io::proofs::SinkLaws::prefix_none))]
 /// Makes an entry again, and writes its lines.
 fn write_entry<S: Services, K: Sink>(
     alloc: Global,
@@ -64,15 +69,19 @@ fn write_entry<S: Services, K: Sink>(
     out: &mut K,
 ) -> Result<(), ReplayFault>
     requires { KeepsEntry entry.now }
-    ensures whole { IsTrue K.tells → (s : NodeState) → NodeStands S.stands node.old s → OnOk result (K.taken out.new ≡ K.taken out.old ++ lines_text here (entries_at number (acts_of s entry.now))) }
-    ensures front { IsTrue K.tells → (s : NodeState) → NodeStands S.stands node.old s → AppendsFront (K.taken out.old) (K.taken out.new) (lines_text here (entries_at number (acts_of s entry.now))) }
-    ensures after { (s : NodeState) → NodeStands S.stands node.old s → OnOk result (NodeStands S.stands node.new (node_by s entry.now)) }
-    ensures write { IsErrOf result ReplayFault.WriteFault → HasRisen (K.faults out.old) (K.faults out.new) }
-    ensures later { K.faults out.old ≤ K.faults out.new }
+    ensures lines { (s : NodeState) → NodeStands S.stands node.old s
+        → Prints (lines_text here (entries_at number (acts_of s entry.now)))
+        (K.state out.old) (K.state out.new) result }
+    ensures after { (s : NodeState) → NodeStands S.stands node.old s
+        → OnOk result (NodeStands S.stands node.new (node_by s entry.now)) }
 {
-    let text = entry_lines(alloc, node, here, number, entry)?;
-    put_all(out, text.as_slice())?;
-    Ok(())
+    let Ok(text) = entry_lines(alloc, node, here, number, entry) else {
+        return Err(ReplayFault::NoMemory);
+    };
+    match put_all(out, text.as_slice()) {
+        Ok(()) => Ok(()),
+        Err(_) => Err(ReplayFault::WriteFault),
+    }
 }
 
 /// Makes the entries of a log again, and writes their lines.
@@ -85,15 +94,16 @@ fn write_entries<S: Services, K: Sink>(
 ) -> Result<(), ReplayFault>
     requires keeps { All KeepsEntry entries.now }
     requires few { length entries.now ≤ 50000 }
-    ensures whole { IsTrue K.tells → (s : NodeState) → NodeStands S.stands node.old s → OnOk result (K.taken out.new ≡ K.taken out.old ++ lines_text here (played 0 s entries.now)) }
-    ensures front { IsTrue K.tells → (s : NodeState) → NodeStands S.stands node.old s → AppendsFront (K.taken out.old) (K.taken out.new) (lines_text here (played 0 s entries.now)) }
-    ensures write { IsErrOf result ReplayFault.WriteFault → HasRisen (K.faults out.old) (K.faults out.new) }
-    ensures later { K.faults out.old ≤ K.faults out.new }
+    ensures { (s : NodeState) → NodeStands S.stands node.old s
+        → Prints (lines_text here (played 0 s entries.now))
+        (K.state out.old) (K.state out.new) result }
 {
     let mut number = 0;
     for entry in entries {
         number += 1;
-        write_entry(alloc, node, here, number, entry, out)?;
+        if let Err(fault) = write_entry(alloc, node, here, number, entry, out) {
+            return Err(fault);
+        }
     }
     Ok(())
 }
@@ -120,12 +130,14 @@ pub fn begin_node<S: Services + Drop>(
 ) -> Result<Node<S>, NoMemory>
     requires keeps { KeepsNode config.now }
     requires services { IsResting (S.stands services) }
-    ensures { IfOk result (λ node. NodeStands S.stands node (new_node config.now (S.stands services))) }
+    ensures { IfOk result
+        (λ node. NodeStands S.stands node (new_node config.now (S.stands services))) }
 {
     let config = copy_of(alloc, config)?;
     Node::new(alloc, config, services)
 }
 
+#[tactic(auto, using(node_io::proofs::SinkLaws::prefix_none, crate::proofs::ReplayLaws::trace_begun))]
 /// Writes the trace of a log: its first line, the lines of each entry's step at a new node with these services, with
 /// `drop @H NoMemory` for one that found no memory, and `end`. Conditions: the log keeps its rules, and no `begin` of the
 /// services is open. Where it fails, what was written is a prefix of the trace.
@@ -137,14 +149,22 @@ pub fn run_log<S: Services + Drop, K: Sink>(
 ) -> Result<(), ReplayFault>
     requires keeps { KeepsLog log.now }
     requires services { IsResting (S.stands services) }
-    ensures whole { IsTrue K.tells → OnOk result (K.taken out.new ≡ K.taken out.old ++ whole_trace log.now.node.here (played 0 (new_node log.now.node (S.stands services)) log.now.events)) }
-    ensures front { IsTrue K.tells → AppendsFront (K.taken out.old) (K.taken out.new) (whole_trace log.now.node.here (played 0 (new_node log.now.node (S.stands services)) log.now.events)) }
-    ensures write { IsErrOf result ReplayFault.WriteFault → HasRisen (K.faults out.old) (K.faults out.new) }
-    ensures later { K.faults out.old ≤ K.faults out.new }
+    ensures { Prints
+        (whole_trace log.now.node.here
+        (played 0 (new_node log.now.node (S.stands services)) log.now.events))
+        (K.state out.old) (K.state out.new) result }
 {
-    let mut node = begin_node(alloc, &log.node, services)?;
-    put_all(out, b"planet trace 1\n")?;
-    write_entries(alloc, &mut node, log.node.here, log.events.as_slice(), out)?;
-    put_all(out, b"end\n")?;
-    Ok(())
+    let Ok(mut node) = begin_node(alloc, &log.node, services) else {
+        return Err(ReplayFault::NoMemory);
+    };
+    let Ok(()) = put_all(out, b"planet trace 1\n") else {
+        return Err(ReplayFault::WriteFault);
+    };
+    if let Err(fault) = write_entries(alloc, &mut node, log.node.here, log.events.as_slice(), out) {
+        return Err(fault);
+    }
+    match put_all(out, b"end\n") {
+        Ok(()) => Ok(()),
+        Err(_) => Err(ReplayFault::WriteFault),
+    }
 }

@@ -14,7 +14,8 @@ use Rattle.network_plan.specs.declared.schedule.HostSpec.{HostSpec}
 use Rattle.network_plan.specs.declared.schedule.Schedule.{Schedule}
 use Rattle.network_plan.specs.declared.schedule.Topology.{Topology}
 use Rattle.network_plan.specs.Rules.{KeepsEvent, KeepsRules}
-use Rattle.node_io.specs.Pieces.{AppendsFront}
+use Rattle.node_io.specs.Sinks.{SinkState, Writes, WritesPrefix, FailsIn}
+use Rattle.node_io.proofs.SinkLaws.{writes_none, writes_both, writes_as, fails_as, fails_longer, fails_more, prefix_as, prefix_longer, prefix_more, prefix_all}
 use Rattle.bound_ledger.specs.Rows.{FamilyRow}
 use Rattle.world_model.specs.declared.lines.Line.{Line}
 use Rattle.world_model.specs.declared.lines.Entry.{Entry}
@@ -31,7 +32,10 @@ use Rattle.run_ledger.specs.Stands.{Stands}
 use Rattle.run_ledger.proofs.Runs.{event_fits_at, history_of-push, world_after-push}
 use Rattle.net_world.specs.declared.network.Network.{Network}
 use Rattle.net_world.specs.Stands.{WorldStands}
-use Rattle.net_world.specs.Running.{IsCountable, IsWaiting}
+use Rattle.net_world.specs.Running.{IsCountable}
+use Rattle.net_world.specs.Printing.{IsWaiting, Stops}
+use Rattle.net_world.specs.declared.runs.RunFault.{RunFault}
+use Rattle.net_world.specs.declared.runs.RunFault.TheVariants.{WriteFault, NoMemory}
 
 pub entries_text-append : (frames : Bool) (xs ys : List Entry) → entries_text frames (xs ++ ys) ≡ entries_text frames xs ++ entries_text frames ys
 unfolding entries_text
@@ -42,49 +46,48 @@ unfolding history_of world_after
 history_of-append [] fs w = refl
 history_of-append (x ∷ es) fs w = ap (λ h. entries w x ++ h) (history_of-append es fs (happens w x).world) ∙ sym (append_assoc (entries w x) (history_of es (happens w x).world) (history_of fs (world_after es (happens w x).world)))
 
-take-within : {X : Type 0} (xs ys : List X) (n : ℕ) → take (min n (length xs)) (xs ++ ys) ≡ take n xs
-take-within xs ys n = take-append-le (min n (length xs)) xs ys (omega arith) ∙ take_min n xs
+-- ---- texts that were written in part
 
--- a prefix of a piece behind what was written is a prefix of the whole
-pub front_within : (old mid new done piece rest whole : List ℕ) → mid ≡ old ++ done → whole ≡ done ++ (piece ++ rest) → AppendsFront mid new piece → AppendsFront old new whole
-front_within old mid new done piece rest whole a b f =
-    let n = min f.count (length piece) in
-    record {
-      count = length done + n;
-      is = f.is ∙ ap (λ x. x ++ take f.count piece) a ∙ append_assoc old done (take f.count piece)
-          ∙ ap (λ x. old ++ x) (ap (λ x. done ++ x) (sym (take-within piece rest f.count)) ∙ sym (take-append-add done (piece ++ rest) n) ∙ ap (take (length done + n)) (sym b));
-    }
+stops_as : (fault : RunFault) (a b : SinkState) (x y : List ℕ) → x ≡ y → Stops fault x a b → Stops fault y a b
+stops_as WriteFault a b x y e p = fails_as a b x y e p
+stops_as NoMemory a b x y e p = prefix_as a b x y e p
+
+stops_more : (fault : RunFault) (a b c : SinkState) (x y : List ℕ) → Writes a b x → Stops fault y b c → Stops fault (x ++ y) a c
+stops_more WriteFault a b c x y w p = fails_more a b c x y w p
+stops_more NoMemory a b c x y w p = prefix_more a b c x y w p
+
+stops_longer : (fault : RunFault) (a b : SinkState) (x y : List ℕ) → Stops fault x a b → Stops fault (x ++ y) a b
+stops_longer WriteFault a b x y p = fails_longer a b x y p
+stops_longer NoMemory a b x y p = prefix_longer a b x y p
 
 -- nothing waits, and all waits
-pub waits_none : (taken bytes : List ℕ) → IsWaiting taken taken bytes bytes
-waits_none taken bytes = record { done = []; written = sym (append-nil taken); is = refl }
+pub waits_none : (a : SinkState) (bytes : List ℕ) → IsWaiting a a bytes bytes
+waits_none a bytes = record { done = []; written = writes_none a; is = refl }
 
-pub waits_written : (old new bytes : List ℕ) → new ≡ old ++ bytes → IsWaiting old new [] bytes
-waits_written old new bytes h = record { done = bytes; written = h; is = sym (append-nil bytes) }
+pub waits_written : (a b : SinkState) (left bytes : List ℕ) → left ≡ [] → Writes a b bytes → IsWaiting a b left bytes
+waits_written a b left bytes e w = record { done = bytes; written = w; is = sym (append-nil bytes) ∙ ap (λ l. bytes ++ l) (sym e) }
 
 -- one piece more
-waits_more : (old mid new text left before piece : List ℕ) → IsWaiting old mid text before → IsWaiting mid new left (text ++ piece) → IsWaiting old new left (before ++ piece)
-waits_more old mid new text left before piece a b = record {
-  done = a.done ++ b.done;
-  written = b.written ∙ ap (λ x. x ++ b.done) a.written ∙ append_assoc old a.done b.done;
-  is = ap (λ x. x ++ piece) a.is ∙ append_assoc a.done text piece ∙ ap (λ x. a.done ++ x) b.is ∙ sym (append_assoc a.done b.done left);
+waits_more : (a b c : SinkState) (text left before piece : List ℕ) → IsWaiting a b text before → IsWaiting b c left (text ++ piece) → IsWaiting a c left (before ++ piece)
+waits_more a b c text left before piece u v = record {
+  done = u.done ++ v.done;
+  written = writes_both a b c u.done v.done u.written v.written;
+  is = ap (λ x. x ++ piece) u.is ∙ append_assoc u.done text piece ∙ ap (λ x. u.done ++ x) v.is ∙ sym (append_assoc u.done v.done left);
 }
 
--- a prefix of what waits with one piece more is a prefix of the whole
-front_waiting : (old mid new text before piece rest whole : List ℕ) → whole ≡ before ++ (piece ++ rest) → IsWaiting old mid text before → AppendsFront mid new (text ++ piece) → AppendsFront old new whole
-front_waiting old mid new text before piece rest whole e a f = front_within old mid new a.done (text ++ piece) rest whole a.written
-    (e ∙ ap (λ x. x ++ (piece ++ rest)) a.is ∙ append_assoc a.done text (piece ++ rest) ∙ ap (λ x. a.done ++ x) (sym (append_assoc text piece rest))) f
-
 -- what waited is written, or a prefix of it
-pub waited_written : (old mid new text whole : List ℕ) → IsWaiting old mid text whole → new ≡ mid ++ text → new ≡ old ++ whole
-waited_written old mid new text whole a n = n ∙ ap (λ x. x ++ text) a.written ∙ append_assoc old a.done text ∙ ap (λ x. old ++ x) (sym a.is)
+pub waited_written : (a b c : SinkState) (text whole : List ℕ) → IsWaiting a b text whole → Writes b c text → Writes a c whole
+waited_written a b c text whole u w = writes_as a c (u.done ++ text) whole (sym u.is) (writes_both a b c u.done text u.written w)
 
-pub waited_front : (old mid new text whole : List ℕ) → IsWaiting old mid text whole → AppendsFront mid new text → AppendsFront old new whole
-waited_front old mid new text whole a f = front_within old mid new a.done text [] whole a.written (a.is ∙ ap (λ x. a.done ++ x) (sym (append-nil text))) f
+pub waited_stopped : (fault : RunFault) (a b c : SinkState) (text whole : List ℕ) → IsWaiting a b text whole → Stops fault text b c → Stops fault whole a c
+waited_stopped fault a b c text whole u p = stops_as fault a c (u.done ++ text) whole (sym u.is) (stops_more fault a b c u.done text u.written p)
 
--- nothing more was written
-pub front_so_far : (old mid done rest whole : List ℕ) → mid ≡ old ++ done → whole ≡ done ++ rest → AppendsFront old mid whole
-front_so_far old mid done rest whole a b = record { count = length done; is = a ∙ ap (λ x. old ++ x) (sym (take-append_seam done rest) ∙ ap (take (length done)) (sym b)) }
+-- what waits with one piece more, written in part
+stopped_piece : (fault : RunFault) (a b c : SinkState) (text before piece rest whole : List ℕ) → whole ≡ before ++ (piece ++ rest) → IsWaiting a b text before → Stops fault (text ++ piece) b c → Stops fault whole a c
+stopped_piece fault a b c text before piece rest whole e u p =
+    stops_as fault a c (u.done ++ ((text ++ piece) ++ rest)) whole
+    (ap (λ x. u.done ++ x) (append_assoc text piece rest) ∙ sym (append_assoc u.done text (piece ++ rest)) ∙ ap (λ x. x ++ (piece ++ rest)) (sym u.is) ∙ sym e)
+    (stops_more fault a b c u.done ((text ++ piece) ++ rest) u.written (stops_longer fault b c (text ++ piece) rest p))
 
 module _ (w : WorldState) (es : List WorldEvent) (i : ℕ) (e : WorldEvent) (within : i < length es) (is : e ≡ get_or es i e) where
   next_events : take (i + 1) es ≡ take i es ++ e ∷ []
@@ -108,7 +111,7 @@ module _ (w : WorldState) (es : List WorldEvent) (i : ℕ) (e : WorldEvent) (wit
     text_more : entries_text frames (history_of (take (i + 1) es) w) ≡ entries_text frames (history_of (take i es) w) ++ entries_text frames (entries (world_after (take i es) w) e)
     text_more = ap (entries_text frames) (sym history_next) ∙ entries_text-append frames (history_of (take i es) w) (entries (world_after (take i es) w) e)
 
-    pub waits_next : (old mid new text left : List ℕ) → IsWaiting old mid text (entries_text frames (history_of (take i es) w)) → IsWaiting mid new left (text ++ entries_text frames (entries (world_after (take i es) w) e))
+    pub waits_next : (old mid new : SinkState) (text left : List ℕ) → IsWaiting old mid text (entries_text frames (history_of (take i es) w)) → IsWaiting mid new left (text ++ entries_text frames (entries (world_after (take i es) w) e))
         → IsWaiting old new left (entries_text frames (history_of (take (i + 1) es) w))
     waits_next old mid new text left a b = subst (IsWaiting old new left) (sym text_more)
         (waits_more old mid new text left (entries_text frames (history_of (take i es) w)) (entries_text frames (entries (world_after (take i es) w) e)) a b)
@@ -124,10 +127,10 @@ module _ (w : WorldState) (es : List WorldEvent) (i : ℕ) (e : WorldEvent) (wit
         ∙ append_assoc (entries_text frames (history_of (take i es) w)) (entries_text frames (entries (world_after (take i es) w) e)) (entries_text frames (history_of (drop (i + 1) es) (world_after (take (i + 1) es) w)))
 
     -- a prefix of an event's text behind that of the events before it
-    pub front_event : (old mid new text : List ℕ) → IsWaiting old mid text (entries_text frames (history_of (take i es) w)) → AppendsFront mid new (text ++ entries_text frames (entries (world_after (take i es) w) e))
-        → AppendsFront old new (entries_text frames (history_of es w))
-    front_event old mid new text a f = front_waiting old mid new text (entries_text frames (history_of (take i es) w)) (entries_text frames (entries (world_after (take i es) w) e))
-        (entries_text frames (history_of (drop (i + 1) es) (world_after (take (i + 1) es) w))) (entries_text frames (history_of es w)) text_split a f
+    pub stopped_event : (fault : RunFault) (old mid new : SinkState) (text : List ℕ) → IsWaiting old mid text (entries_text frames (history_of (take i es) w))
+        → Stops fault (text ++ entries_text frames (entries (world_after (take i es) w) e)) mid new → Stops fault (entries_text frames (history_of es w)) old new
+    stopped_event fault old mid new text a p = stopped_piece fault old mid new text (entries_text frames (history_of (take i es) w)) (entries_text frames (entries (world_after (take i es) w) e))
+        (entries_text frames (history_of (drop (i + 1) es) (world_after (take (i + 1) es) w))) (entries_text frames (history_of es w)) text_split a p
 
 -- before the first event
 pub text_none : (frames : Bool) (w : WorldState) (es : List WorldEvent) → entries_text frames (history_of (take 0 es) w) ≡ []
@@ -143,7 +146,7 @@ unfolding history_of
 counts_none rows w es h = h
 
 -- once all events were made
-pub waits_all : (frames : Bool) (w : WorldState) (es : List WorldEvent) (i : ℕ) (old new text : List ℕ) → length es ≤ i → IsWaiting old new text (entries_text frames (history_of (take i es) w)) → IsWaiting old new text (entries_text frames (history_of es w))
+pub waits_all : (frames : Bool) (w : WorldState) (es : List WorldEvent) (i : ℕ) (old new : SinkState) (text : List ℕ) → length es ≤ i → IsWaiting old new text (entries_text frames (history_of (take i es) w)) → IsWaiting old new text (entries_text frames (history_of es w))
 waits_all frames w es i old new text h a = subst (λ x. IsWaiting old new text (entries_text frames (history_of x w))) (take_all i es h) a
 
 pub counts_all : (rows : List FamilyRow) (w : WorldState) (es : List WorldEvent) (i : ℕ) → length es ≤ i → Stands (history_of (take i es) w) rows → Stands (history_of es w) rows
@@ -200,28 +203,30 @@ run_text_is : (frames : Bool) (es : List WorldEvent) (w : WorldState) → run_te
 unfolding run_text trace_text
 run_text_is frames es w = refl
 
-module _ (frames : Bool) (es : List WorldEvent) (w : WorldState) where
-  -- the prefixes of a run's text at each place where it may end
-  pub front_header : (old new : List ℕ) → AppendsFront old new (codes "planet trace 1\n") → AppendsFront old new (run_text frames es w)
-  front_header old new f = front_within old old new [] header (entries_text frames (history_of es w) ++ ledger_text (history_of es w) (world_after es w)) (run_text frames es w) (sym (append-nil old))
-      (run_text_is frames es w ∙ append_assoc header (entries_text frames (history_of es w)) (ledger_text (history_of es w) (world_after es w))) f
+-- a run's text at each place where it may end
+module _ (frames : Bool) (es : List WorldEvent) (w : WorldState) (a b c d : SinkState) where
+  lines : List ℕ
+  lines = entries_text frames (history_of es w)
 
-  pub front_lines : (old mid new : List ℕ) → mid ≡ old ++ codes "planet trace 1\n" → AppendsFront mid new (entries_text frames (history_of es w)) → AppendsFront old new (run_text frames es w)
-  front_lines old mid new m f = front_within old mid new header (entries_text frames (history_of es w)) (ledger_text (history_of es w) (world_after es w)) (run_text frames es w) m
-      (run_text_is frames es w ∙ append_assoc header (entries_text frames (history_of es w)) (ledger_text (history_of es w) (world_after es w))) f
+  whole_is : (header ++ lines) ++ ledger_text (history_of es w) (world_after es w) ≡ run_text frames es w
+  unfolding lines
+  whole_is = sym (run_text_is frames es w)
 
-  both : (old mid new : List ℕ) → mid ≡ old ++ header → new ≡ mid ++ entries_text frames (history_of es w) → new ≡ old ++ (header ++ entries_text frames (history_of es w))
-  both old mid new m n = n ∙ ap (λ x. x ++ entries_text frames (history_of es w)) m ∙ append_assoc old header (entries_text frames (history_of es w))
+  pub stopped_header : FailsIn a b (codes "planet trace 1\n") → FailsIn a b (run_text frames es w)
+  stopped_header f = fails_as a b _ (run_text frames es w) whole_is (fails_longer a b (header ++ lines) (ledger_text (history_of es w) (world_after es w)) (fails_longer a b header lines f))
 
-  pub front_no_ledger : (old mid new : List ℕ) → mid ≡ old ++ codes "planet trace 1\n" → new ≡ mid ++ entries_text frames (history_of es w) → AppendsFront old new (run_text frames es w)
-  front_no_ledger old mid new m n = front_so_far old new (header ++ entries_text frames (history_of es w)) (ledger_text (history_of es w) (world_after es w)) (run_text frames es w) (both old mid new m n) (run_text_is frames es w)
+  pub stopped_lines : (fault : RunFault) → Writes a b (codes "planet trace 1\n") → Stops fault (entries_text frames (history_of es w)) b c → Stops fault (run_text frames es w) a c
+  unfolding lines
+  stopped_lines fault h p = stops_as fault a c _ (run_text frames es w) whole_is (stops_longer fault a c (header ++ lines) (ledger_text (history_of es w) (world_after es w)) (stops_more fault a b c header lines h p))
 
-  pub front_ledger : (old mid late new : List ℕ) → mid ≡ old ++ codes "planet trace 1\n" → late ≡ mid ++ entries_text frames (history_of es w)
-      → AppendsFront late new (ledger_text (history_of es w) (world_after es w)) → AppendsFront old new (run_text frames es w)
-  front_ledger old mid late new m n f = front_within old late new (header ++ entries_text frames (history_of es w)) (ledger_text (history_of es w) (world_after es w)) [] (run_text frames es w) (both old mid late m n)
-      (run_text_is frames es w ∙ ap (λ x. (header ++ entries_text frames (history_of es w)) ++ x) (sym (append-nil (ledger_text (history_of es w) (world_after es w))))) f
+  pub stopped_before_ledger : Writes a b (codes "planet trace 1\n") → Writes b c (entries_text frames (history_of es w)) → WritesPrefix a c (run_text frames es w)
+  unfolding lines
+  stopped_before_ledger h l = prefix_as a c _ (run_text frames es w) whole_is (prefix_longer a c (header ++ lines) (ledger_text (history_of es w) (world_after es w)) (prefix_all a c (header ++ lines) (writes_both a b c header lines h l)))
 
-  pub whole_run : (old mid late new : List ℕ) → mid ≡ old ++ codes "planet trace 1\n" → late ≡ mid ++ entries_text frames (history_of es w)
-      → new ≡ late ++ ledger_text (history_of es w) (world_after es w) → new ≡ old ++ run_text frames es w
-  whole_run old mid late new m n l = l ∙ ap (λ x. x ++ ledger_text (history_of es w) (world_after es w)) (both old mid late m n)
-      ∙ append_assoc old (header ++ entries_text frames (history_of es w)) (ledger_text (history_of es w) (world_after es w)) ∙ ap (λ x. old ++ x) (sym (run_text_is frames es w))
+  pub stopped_ledger : Writes a b (codes "planet trace 1\n") → Writes b c (entries_text frames (history_of es w)) → FailsIn c d (ledger_text (history_of es w) (world_after es w)) → FailsIn a d (run_text frames es w)
+  unfolding lines
+  stopped_ledger h l f = fails_as a d _ (run_text frames es w) whole_is (fails_more a c d (header ++ lines) (ledger_text (history_of es w) (world_after es w)) (writes_both a b c header lines h l) f)
+
+  pub whole_run : Writes a b (codes "planet trace 1\n") → Writes b c (entries_text frames (history_of es w)) → Writes c d (ledger_text (history_of es w) (world_after es w)) → Writes a d (run_text frames es w)
+  unfolding lines
+  whole_run h l k = writes_as a d _ (run_text frames es w) whole_is (writes_both a c d (header ++ lines) (ledger_text (history_of es w) (world_after es w)) (writes_both a b c header lines h l) k)

@@ -1,2 +1,4 @@
 pub mod Stands
 pub mod Running
+pub mod Printing
+pub mod Keeping

@@ -1,5 +1,5 @@
--- What a network and its ledger must be for an event's lines to be counted, and what waits to be written.
-use Rattle.std.specs.Prelude.{ℕ, List, ◌≡◌, ◌++◌}
+-- What a network and its ledger must be for an event's lines to be counted.
+use Rattle.std.specs.Prelude.{List}
 use Rattle.service_api.specs.Services.{ServiceState}
 use Rattle.network_plan.specs.declared.event.WorldEvent.{WorldEvent}
 use Rattle.bound_ledger.specs.Rows.{FamilyRow}
@@ -13,9 +13,3 @@ pub record IsCountable {S : Type 0} (stands : S → ServiceState) (n : Network S
   pub state : WorldState
   pub is : WorldStands stands n state
   pub fits : LinesFit rows (happens state e).lines
-
--- of these bytes a prefix was written, and those behind it wait
-pub record IsWaiting (old new waiting whole : List ℕ) : Type 0 where
-  pub done : List ℕ
-  pub written : new ≡ old ++ done
-  pub is : whole ≡ done ++ waiting

@@ -65,7 +65,8 @@ fn add_neighbour(
     host: Host,
     dev: Dev,
 ) -> Result<(), NoMemory>
-    ensures { OnOk result (neighbours.new ≡ neighbours.old ++ spec.neighbour_at dev (spec.peer_of links.now host dev)) }
+    ensures { OnOk result (neighbours.new
+        ≡ neighbours.old ++ spec.neighbour_at dev (spec.peer_of links.now host dev)) }
 {
     if let Some(far) = peer_of(links, host, dev) {
         neighbours.add((far.host, dev))?;

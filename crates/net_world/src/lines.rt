@@ -89,7 +89,8 @@ pub fn with_wire(
     number: u32,
     frame: &SpelledFrame,
 ) -> Result<Lines, NoMemory>
-    ensures { IfOk result (λ lines. lines ≡ before ++ line.Wire number (frame_bytes frame.now) ∷ []) }
+    ensures { IfOk result
+        (λ lines. lines ≡ before ++ line.Wire number (frame_bytes frame.now) ∷ []) }
 {
     let mut lines = before;
     let bytes = bytes_of(alloc, frame)?;

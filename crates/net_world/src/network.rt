@@ -80,7 +80,9 @@ impl<S: Services> Network<S> {
         bound: u32,
     ) -> Result<Lines, NoMemory>
         requires small { bound ≤ 65535 }
-        ensures ok { (w : WorldState) → WorldStands S.stands self.old w → IfOk result (λ lines. IsHappened S.stands (spec.injects w host chunk.now bound) lines self.new) }
+        ensures ok { (w : WorldState) → WorldStands S.stands self.old w
+            → IfOk result
+            (λ lines. IsHappened S.stands (spec.injects w host chunk.now bound) lines self.new) }
         ensures next { self.new.next ≡ self.old.next }
         ensures made { self.new.made ≡ self.old.made }
     {
@@ -92,7 +94,8 @@ impl<S: Services> Network<S> {
     }
 
     fn tick(&mut self, alloc: Global, host: Host) -> Result<Lines, NoMemory>
-        ensures ok { (w : WorldState) → WorldStands S.stands self.old w → IfOk result (λ lines. IsHappened S.stands (spec.ticks w host) lines self.new) }
+        ensures ok { (w : WorldState) → WorldStands S.stands self.old w
+            → IfOk result (λ lines. IsHappened S.stands (spec.ticks w host) lines self.new) }
         ensures next { self.new.next ≡ self.old.next }
         ensures made { self.new.made ≡ self.old.made }
     {
@@ -105,7 +108,9 @@ impl<S: Services> Network<S> {
 
     fn raw(&mut self, alloc: Global, host: Host, dev: Dev, bytes: &[u8]) -> Result<Lines, NoMemory>
         requires { IsBytes bytes.now }
-        ensures ok { (w : WorldState) → WorldStands S.stands self.old w → IfOk result (λ lines. IsHappened S.stands (spec.raws w host dev bytes.now) lines self.new) }
+        ensures ok { (w : WorldState) → WorldStands S.stands self.old w
+            → IfOk result
+            (λ lines. IsHappened S.stands (spec.raws w host dev bytes.now) lines self.new) }
         ensures next { self.new.next ≡ self.old.next }
         ensures made { self.new.made ≡ self.old.made }
     {
@@ -119,7 +124,8 @@ impl<S: Services> Network<S> {
 
     fn send(&mut self, alloc: Global, host: Host, dev: Dev) -> Result<Lines, NoMemory>
         requires few { self.old.next < 2 ^ 32 - 1 }
-        ensures ok { (w : WorldState) → WorldStands S.stands self.old w → IfOk result (λ lines. IsHappened S.stands (spec.sends w host dev) lines self.new) }
+        ensures ok { (w : WorldState) → WorldStands S.stands self.old w
+            → IfOk result (λ lines. IsHappened S.stands (spec.sends w host dev) lines self.new) }
         ensures next { self.new.next ≤ self.old.next + 1 }
         ensures still { OnErr result (self.new.next ≡ self.old.next) }
         ensures made { self.new.made ≡ self.old.made }
@@ -152,7 +158,8 @@ impl<S: Services> Network<S> {
     }
 
     fn deliver(&mut self, alloc: Global, number: u32) -> Result<Lines, NoMemory>
-        ensures ok { (w : WorldState) → WorldStands S.stands self.old w → IfOk result (λ lines. IsHappened S.stands (spec.delivers w number) lines self.new) }
+        ensures ok { (w : WorldState) → WorldStands S.stands self.old w
+            → IfOk result (λ lines. IsHappened S.stands (spec.delivers w number) lines self.new) }
         ensures next { self.new.next ≡ self.old.next }
         ensures made { self.new.made ≡ self.old.made }
     {
@@ -170,7 +177,8 @@ impl<S: Services> Network<S> {
     }
 
     fn lose(&mut self, alloc: Global, number: u32) -> Result<Lines, NoMemory>
-        ensures ok { (w : WorldState) → WorldStands S.stands self.old w → IfOk result (λ lines. IsHappened S.stands (spec.loses w number) lines self.new) }
+        ensures ok { (w : WorldState) → WorldStands S.stands self.old w
+            → IfOk result (λ lines. IsHappened S.stands (spec.loses w number) lines self.new) }
         ensures next { self.new.next ≡ self.old.next }
         ensures made { self.new.made ≡ self.old.made }
     {
@@ -187,7 +195,8 @@ impl<S: Services> Network<S> {
     pub fn act(&mut self, alloc: Global, event: &WorldEvent) -> Result<Lines, NoMemory>
         requires fits { event_fits event.now }
         requires few { self.old.next < 2 ^ 32 - 1 }
-        ensures ok { (w : WorldState) → WorldStands S.stands self.old w → IfOk result (λ lines. IsHappened S.stands (spec.acted w event.now) lines self.new) }
+        ensures ok { (w : WorldState) → WorldStands S.stands self.old w
+            → IfOk result (λ lines. IsHappened S.stands (spec.acted w event.now) lines self.new) }
         ensures next { self.new.next ≤ self.old.next + 1 }
         ensures still { OnErr result (self.new.next ≡ self.old.next) }
         ensures made { self.new.made ≡ self.old.made }
@@ -207,7 +216,8 @@ impl<S: Services> Network<S> {
         requires { self.old.made < 2 ^ 32 - 1 }
         ensures made { self.new.made ≡ self.old.made + 1 }
         ensures next { self.new.next ≡ self.old.next }
-        ensures stands { (w : WorldState) → WorldStands S.stands self.old w → WorldStands S.stands self.new (spec.counted w) }
+        ensures stands { (w : WorldState) → WorldStands S.stands self.old w
+            → WorldStands S.stands self.new (spec.counted w) }
     {
         self.made += 1;
     }

@@ -32,7 +32,8 @@ fn host_place<S: Services>(nodes: &[Node<S>], host: Host) -> Option<usize>
 
 /// The place of a host's node.
 pub fn node_place<S: Services>(nodes: &[Node<S>], host: Host) -> Option<usize>
-    ensures place { (states : List NodeState) → AllStand S.stands nodes.now states → result ≡ spec.place_of states host }
+    ensures place { (states : List NodeState) → AllStand S.stands nodes.now states
+        → result ≡ spec.place_of states host }
     ensures within { IfSome result (λ at. at < length nodes.now) }
 {
     host_place(nodes, host)
@@ -48,7 +49,9 @@ pub fn inject_at<S: Services>(
 ) -> Result<Acts, NoMemory>
     requires within { at < length nodes.old }
     requires small { bound ≤ 65535 }
-    ensures { (states : List NodeState) → AllStand S.stands nodes.old states → IfOk result (λ acts. StepsAt S.stands (λ node. inject_step [] node chunk.now bound) states at acts nodes.new) }
+    ensures { (states : List NodeState) → AllStand S.stands nodes.old states
+        → IfOk result (λ acts. StepsAt S.stands
+        (λ node. inject_step [] node chunk.now bound) states at acts nodes.new) }
 {
     nodes[at].inject(alloc, chunk, bound)
 }
@@ -62,7 +65,9 @@ pub fn arrive_at<S: Services>(
     bytes: &[u8],
 ) -> Result<Acts, NoMemory>
     requires { at < length nodes.old }
-    ensures { (states : List NodeState) → AllStand S.stands nodes.old states → IfOk result (λ acts. StepsAt S.stands (λ node. arrive_step node dev bytes.now) states at acts nodes.new) }
+    ensures { (states : List NodeState) → AllStand S.stands nodes.old states
+        → IfOk result (λ acts. StepsAt S.stands
+        (λ node. arrive_step node dev bytes.now) states at acts nodes.new) }
 {
     nodes[at].arrive(alloc, dev, bytes)
 }
@@ -76,7 +81,9 @@ pub fn hand_to<S: Services>(
     frame: &SpelledFrame,
 ) -> Result<Acts, NoMemory>
     requires { at < length nodes.old }
-    ensures { (states : List NodeState) → AllStand S.stands nodes.old states → IfOk result (λ acts. StepsAt S.stands (λ node. frame_step node dev frame.now) states at acts nodes.new) }
+    ensures { (states : List NodeState) → AllStand S.stands nodes.old states
+        → IfOk result (λ acts. StepsAt S.stands
+        (λ node. frame_step node dev frame.now) states at acts nodes.new) }
 {
     arrive_at(alloc, nodes, at, dev, frame.bytes())
 }
@@ -88,7 +95,8 @@ pub fn tick_at<S: Services>(
     at: usize,
 ) -> Result<Acts, NoMemory>
     requires { at < length nodes.old }
-    ensures { (states : List NodeState) → AllStand S.stands nodes.old states → IfOk result (λ acts. StepsAt S.stands tick_step states at acts nodes.new) }
+    ensures { (states : List NodeState) → AllStand S.stands nodes.old states
+        → IfOk result (λ acts. StepsAt S.stands tick_step states at acts nodes.new) }
 {
     nodes[at].tick(alloc)
 }
@@ -101,8 +109,11 @@ pub fn take_at<S: Services>(
     dev: Dev,
 ) -> Result<Acts, NoMemory>
     requires { at < length nodes.old }
-    ensures step { (states : List NodeState) → AllStand S.stands nodes.old states → IfOk result (λ acts. StepsAt S.stands (λ node. take_step node dev) states at acts nodes.new) }
-    ensures same { (states : List NodeState) → AllStand S.stands nodes.old states → IfOk result (λ acts. acts.frame ≡ None → AllStand S.stands nodes.new states) }
+    ensures step { (states : List NodeState) → AllStand S.stands nodes.old states
+        → IfOk result
+        (λ acts. StepsAt S.stands (λ node. take_step node dev) states at acts nodes.new) }
+    ensures same { (states : List NodeState) → AllStand S.stands nodes.old states
+        → IfOk result (λ acts. acts.frame ≡ None → AllStand S.stands nodes.new states) }
 {
     nodes[at].take(alloc, dev)
 }

@@ -46,7 +46,8 @@ fn open_node<S: Services + Drop>(
 ) -> Result<Node<S>, NoMemory>
     requires rules { KeepsNetwork topology.now }
     requires services { S.stands services ≡ spec.opening_services host.now }
-    ensures { IfOk result (λ node. NodeStands S.stands node (spec.opening_node topology.now host.now)) }
+    ensures { IfOk result
+        (λ node. NodeStands S.stands node (spec.opening_node topology.now host.now)) }
 {
     let config = config_of(alloc, topology, host)?;
     Node::new(alloc, config, services)
@@ -60,7 +61,9 @@ pub fn open_nodes<S: Services + Drop>(
 ) -> Result<Vec<Node<S>>, NoMemory>
     requires rules { KeepsNetwork topology.now }
     requires services { map S.stands services ≡ map spec.opening_services topology.now.hosts }
-    ensures { IfOk result (λ nodes. AllStand S.stands nodes.items (map (spec.opening_node topology.now) topology.now.hosts)) }
+    ensures { IfOk result
+        (λ nodes. AllStand S.stands nodes.items
+        (map (spec.opening_node topology.now) topology.now.hosts)) }
 {
     let mut nodes = Items::new(alloc);
     for own in services.into_vec() {

@@ -1,21 +1,17 @@
-ghost use Rattle.std.specs.Prelude.{◌≡◌, ◌++◌, ◌+◌, ◌≤◌, ◌<◌, ◌-◌, ◌^◌, [], ℕ, List, map, take, codes, length, All, IsTrue, IfOk, OnOk, IsErrOf};
+ghost use Rattle.std.specs.Prelude.{◌≡◌, ◌++◌, ◌+◌, ◌<◌, ◌-◌, ◌^◌, [], List, map, IfOk, OnOk};
 ghost use Rattle.plan_base.specs.declared.ids.Family.{Family as FamilyOf};
-ghost use Rattle.node_io.specs.Causes.{HasCause, HasRisen};
-ghost use Rattle.node_io.specs.Pieces.{AppendsFront};
 ghost use Rattle.network_plan.specs.Rules.{KeepsRules};
 ghost use Rattle.world_model.specs.World as spec;
 ghost use Rattle.world_model.specs.World.{WorldState, opening};
 ghost use Rattle.world_model.specs.declared.lines.Entry.{Entry as EntryOf};
-ghost use Rattle.world_model.specs.Counts.{Balanced, IsBounded, IsGranted};
-ghost use Rattle.world_model.specs.Sound.{IsSound, event_fits};
-ghost use Rattle.world_model.specs.Wires.{IsOnce, WireLeads};
-ghost use Rattle.world_model.specs.Visits.{EndsWell, visits_after};
 ghost use Rattle.world_model.specs.Texts.{entries_text, ledger_text, run_text};
-ghost use Rattle.world_routes.specs.Roads.{NotRaw};
-ghost use Rattle.world_routes.specs.Routes.{RunKeepsRoutes};
 ghost use Rattle.run_ledger.specs.Stands.{Stands};
 ghost use Rattle.net_world.specs.Stands.{WorldStands};
-ghost use Rattle.net_world.specs.Running.{IsCountable, IsWaiting};
+ghost use Rattle.world_model.specs.Counts.{Balanced};
+ghost use Rattle.world_model.specs.Sound.{event_fits};
+ghost use Rattle.net_world.specs.Running.{IsCountable};
+ghost use Rattle.net_world.specs.Printing.{Prints, WaitsFor, PutsPiece};
+ghost use Rattle.net_world.specs.Keeping.{KeepsRun};
 
 use crate::world::World;
 use bound_ledger::Ledger;
@@ -40,26 +36,6 @@ pub enum RunFault {
     NoMemory,
 }
 
-impl From<Failed> for RunFault {
-    ghost use Rattle.net_world.specs.declared.runs.RunFault.TheVariants.{WriteFault};
-
-    ghost from_gives = { λ _ e. e ≡ WriteFault };
-
-    fn from(_failed: Failed) -> RunFault {
-        RunFault::WriteFault
-    }
-}
-
-impl From<NoMemory> for RunFault {
-    ghost use Rattle.net_world.specs.declared.runs.RunFault.TheVariants.{NoMemory};
-
-    ghost from_gives = { λ _ e. e ≡ NoMemory };
-
-    fn from(_refused: NoMemory) -> RunFault {
-        RunFault::NoMemory
-    }
-}
-
 /// Makes an event, counts its lines, and adds their text.
 fn make_event<S: Services>(
     alloc: Global,
@@ -72,9 +48,12 @@ fn make_event<S: Services>(
     requires fits { event_fits event.now }
     requires few { world.old.made < 2 ^ 32 - 2 }
     requires counts { IsCountable S.stands world.old event.now ledger.old }
-    ensures text { (w : WorldState) → WorldStands S.stands world.old w → OnOk result (text.new ≡ text.old ++ entries_text frames (spec.entries w event.now)) }
-    ensures world { (w : WorldState) → WorldStands S.stands world.old w → OnOk result (WorldStands S.stands world.new (spec.happens w event.now).world) }
-    ensures ledger { (w : WorldState) (h : List EntryOf) → WorldStands S.stands world.old w → Stands h ledger.old → OnOk result (Stands (h ++ spec.entries w event.now) ledger.new) }
+    ensures text { (w : WorldState) → WorldStands S.stands world.old w
+        → OnOk result (text.new ≡ text.old ++ entries_text frames (spec.entries w event.now)) }
+    ensures world { (w : WorldState) → WorldStands S.stands world.old w
+        → OnOk result (WorldStands S.stands world.new (spec.happens w event.now).world) }
+    ensures ledger { (w : WorldState) (h : List EntryOf) → WorldStands S.stands world.old w
+        → Stands h ledger.old → OnOk result (Stands (h ++ spec.entries w event.now) ledger.new) }
     ensures made { OnOk result (world.new.made ≡ world.old.made + 1) }
 {
     let number = world.made() + 1;
@@ -84,19 +63,21 @@ fn make_event<S: Services>(
     Ok(())
 }
 
+#[tactic(auto, using(crate::proofs::RunLaws::waits_none, crate::proofs::RunLaws::waits_written))]
 /// Writes a text that has grown to a piece; a shorter one waits.
 fn write_piece<K: Sink>(alloc: Global, text: Bytes, out: &mut K) -> Result<Bytes, Failed>
-    ensures waits { IsTrue K.tells → IfOk result (λ left. IsWaiting (K.taken out.old) (K.taken out.new) left text) }
-    ensures front { IsTrue K.tells → AppendsFront (K.taken out.old) (K.taken out.new) text }
-    ensures cause { HasCause (K.faults out.old) (K.faults out.new) result }
+    ensures { PutsPiece text (K.state out.old) (K.state out.new) result }
 {
     if text.len() < PIECE {
         return Ok(text);
     }
-    put_all(out, text.as_slice())?;
-    Ok(Bytes::new(alloc))
+    match put_all(out, text.as_slice()) {
+        Ok(()) => Ok(Bytes::new(alloc)),
+        Err(failed) => Err(failed),
+    }
 }
 
+#[tactic(auto, using(node_io::proofs::SinkLaws::prefix_none))]
 /// Makes an event, counts its lines and adds their text to what waits to be written; what still waits.
 fn run_event<S: Services, K: Sink>(
     alloc: Global,
@@ -110,18 +91,23 @@ fn run_event<S: Services, K: Sink>(
     requires fits { event_fits event.now }
     requires few { world.old.made < 2 ^ 32 - 2 }
     requires counts { IsCountable S.stands world.old event.now ledger.old }
-    ensures waits { (w : WorldState) → WorldStands S.stands world.old w → IsTrue K.tells → IfOk result (λ left. IsWaiting (K.taken out.old) (K.taken out.new) left (text ++ entries_text frames (spec.entries w event.now))) }
-    ensures front { (w : WorldState) → WorldStands S.stands world.old w → IsTrue K.tells → AppendsFront (K.taken out.old) (K.taken out.new) (text ++ entries_text frames (spec.entries w event.now)) }
-    ensures write { IsErrOf result RunFault.WriteFault → HasRisen (K.faults out.old) (K.faults out.new) }
-    ensures later { K.faults out.old ≤ K.faults out.new }
-    ensures world { (w : WorldState) → WorldStands S.stands world.old w → OnOk result (WorldStands S.stands world.new (spec.happens w event.now).world) }
-    ensures ledger { (w : WorldState) (h : List EntryOf) → WorldStands S.stands world.old w → Stands h ledger.old → OnOk result (Stands (h ++ spec.entries w event.now) ledger.new) }
+    ensures waits { (w : WorldState) → WorldStands S.stands world.old w
+        → WaitsFor (text ++ entries_text frames (spec.entries w event.now))
+        (K.state out.old) (K.state out.new) result }
+    ensures world { (w : WorldState) → WorldStands S.stands world.old w
+        → OnOk result (WorldStands S.stands world.new (spec.happens w event.now).world) }
+    ensures ledger { (w : WorldState) (h : List EntryOf) → WorldStands S.stands world.old w
+        → Stands h ledger.old → OnOk result (Stands (h ++ spec.entries w event.now) ledger.new) }
     ensures made { OnOk result (world.new.made ≡ world.old.made + 1) }
 {
     let mut waiting = text;
-    make_event(alloc, world, ledger, frames, event, &mut waiting)?;
-    let left = write_piece(alloc, waiting, out)?;
-    Ok(left)
+    let Ok(()) = make_event(alloc, world, ledger, frames, event, &mut waiting) else {
+        return Err(RunFault::NoMemory);
+    };
+    match write_piece(alloc, waiting, out) {
+        Ok(left) => Ok(left),
+        Err(_) => Err(RunFault::WriteFault),
+    }
 }
 
 /// Makes the events of a schedule in order, counts their lines and writes them. Conditions: nothing has happened in
@@ -136,24 +122,31 @@ fn run_events<S: Services, K: Sink>(
     requires rules { KeepsRules schedule.now }
     requires opening { WorldStands S.stands world.old (opening schedule.now.topology) }
     requires empty { Stands [] ledger.old }
-    ensures whole { IsTrue K.tells → OnOk result (K.taken out.new ≡ K.taken out.old ++ entries_text schedule.now.frames (spec.history_of schedule.now.events (opening schedule.now.topology))) }
-    ensures front { IsTrue K.tells → AppendsFront (K.taken out.old) (K.taken out.new) (entries_text schedule.now.frames (spec.history_of schedule.now.events (opening schedule.now.topology))) }
-    ensures write { IsErrOf result RunFault.WriteFault → HasRisen (K.faults out.old) (K.faults out.new) }
-    ensures later { K.faults out.old ≤ K.faults out.new }
-    ensures ledger { OnOk result (Stands (spec.history_of schedule.now.events (opening schedule.now.topology)) ledger.new) }
+    ensures lines { Prints
+        (entries_text schedule.now.frames
+        (spec.history_of schedule.now.events (opening schedule.now.topology)))
+        (K.state out.old) (K.state out.new) result }
+    ensures ledger { OnOk result
+        (Stands (spec.history_of schedule.now.events (opening schedule.now.topology)) ledger.new) }
 {
     let events = schedule.events.as_slice();
     let mut text = Bytes::new(alloc);
     for event in events {
-        text = run_event(alloc, world, ledger, schedule.frames, event, text, out)?;
+        match run_event(alloc, world, ledger, schedule.frames, event, text, out) {
+            Ok(left) => text = left,
+            Err(fault) => return Err(fault),
+        }
     }
-    put_all(out, text.as_slice())?;
-    Ok(())
+    match put_all(out, text.as_slice()) {
+        Ok(()) => Ok(()),
+        Err(_) => Err(RunFault::WriteFault),
+    }
 }
 
 /// The text of a ledger.
 fn ledger_bytes(alloc: Global, ledger: &Ledger) -> Result<Bytes, NoMemory>
-    ensures { (h : List EntryOf) (w : WorldState) → Stands h ledger.now → ((f : FamilyOf) → Balanced f h w) → IfOk result (λ text. text ≡ ledger_text h w) }
+    ensures { (h : List EntryOf) (w : WorldState) → Stands h ledger.now
+        → ((f : FamilyOf) → Balanced f h w) → IfOk result (λ text. text ≡ ledger_text h w) }
 {
     let mut text = Bytes::new(alloc);
     put_ledger(&mut text, ledger)?;
@@ -169,19 +162,29 @@ fn write_run<S: Services, K: Sink>(
 ) -> Result<(), RunFault>
     requires rules { KeepsRules schedule.now }
     requires opening { WorldStands S.stands world.old (opening schedule.now.topology) }
-    ensures whole { IsTrue K.tells → OnOk result (K.taken out.new ≡ K.taken out.old ++ run_text schedule.now.frames schedule.now.events (opening schedule.now.topology)) }
-    ensures front { IsTrue K.tells → AppendsFront (K.taken out.old) (K.taken out.new) (run_text schedule.now.frames schedule.now.events (opening schedule.now.topology)) }
-    ensures write { IsErrOf result RunFault.WriteFault → HasRisen (K.faults out.old) (K.faults out.new) }
-    ensures later { K.faults out.old ≤ K.faults out.new }
+    ensures { Prints
+        (run_text schedule.now.frames schedule.now.events (opening schedule.now.topology))
+        (K.state out.old) (K.state out.new) result }
 {
-    let mut ledger = Ledger::new(alloc)?;
-    put_all(out, b"planet trace 1\n")?;
-    run_events(alloc, schedule, world, &mut ledger, out)?;
-    let text = ledger_bytes(alloc, &ledger)?;
-    put_all(out, text.as_slice())?;
-    Ok(())
+    let Ok(mut ledger) = Ledger::new(alloc) else {
+        return Err(RunFault::NoMemory);
+    };
+    let Ok(()) = put_all(out, b"planet trace 1\n") else {
+        return Err(RunFault::WriteFault);
+    };
+    if let Err(fault) = run_events(alloc, schedule, world, &mut ledger, out) {
+        return Err(fault);
+    }
+    let Ok(text) = ledger_bytes(alloc, &ledger) else {
+        return Err(RunFault::NoMemory);
+    };
+    match put_all(out, text.as_slice()) {
+        Ok(()) => Ok(()),
+        Err(_) => Err(RunFault::WriteFault),
+    }
 }
 
+#[tactic(auto, using(node_io::proofs::SinkLaws::prefix_none))]
 /// Runs a schedule and writes its trace and its ledger.
 fn run_schedule<S: Services + Drop, K: Sink>(
     alloc: Global,
@@ -190,22 +193,23 @@ fn run_schedule<S: Services + Drop, K: Sink>(
     out: &mut K,
 ) -> Result<(), RunFault>
     requires rules { KeepsRules schedule.now }
-    requires services { map S.stands services ≡ map spec.opening_services schedule.now.topology.hosts }
-    ensures whole { IsTrue K.tells → OnOk result (K.taken out.new ≡ K.taken out.old ++ run_text schedule.now.frames schedule.now.events (opening schedule.now.topology)) }
-    ensures front { IsTrue K.tells → AppendsFront (K.taken out.old) (K.taken out.new) (run_text schedule.now.frames schedule.now.events (opening schedule.now.topology)) }
-    ensures write { IsErrOf result RunFault.WriteFault → HasRisen (K.faults out.old) (K.faults out.new) }
-    ensures later { K.faults out.old ≤ K.faults out.new }
+    requires services { map S.stands services
+        ≡ map spec.opening_services schedule.now.topology.hosts }
+    ensures { Prints
+        (run_text schedule.now.frames schedule.now.events (opening schedule.now.topology))
+        (K.state out.old) (K.state out.new) result }
 {
-    let mut world = World::new(alloc, &schedule.topology, services)?;
-    write_run(alloc, schedule, &mut world, out)?;
-    Ok(())
+    let Ok(mut world) = World::new(alloc, &schedule.topology, services) else {
+        return Err(RunFault::NoMemory);
+    };
+    write_run(alloc, schedule, &mut world, out)
 }
 
 /// Runs a schedule and writes its trace and its ledger to `out`; no event's lines are kept. After each prefix of its
 /// events: each family is in balance, is bounded and granted; each frame's number went once, and each frame on the
-/// wire leads over its link; the network keeps what every network keeps; and the visits of the event behind it are
-/// never without a case, and would end by themselves; and where no bytes came from outside, the law of routes holds. `services`: one for each host, in the order of hosts.
-/// Condition: the schedule keeps its rules.
+/// wire leads over its link; the network keeps what every network keeps; the visits of the event behind it are never
+/// without a case, and would end by themselves; and where no bytes came from outside, the law of routes holds.
+/// `services`: one for each host, in the order of hosts. Condition: the schedule keeps its rules.
 pub fn run<S: Services + Drop, K: Sink>(
     alloc: Global,
     schedule: &Schedule,
@@ -213,19 +217,12 @@ pub fn run<S: Services + Drop, K: Sink>(
     out: &mut K,
 ) -> Result<(), RunFault>
     requires rules { KeepsRules schedule.now }
-    requires services { map S.stands services ≡ map spec.opening_services schedule.now.topology.hosts }
-    ensures whole { IsTrue K.tells → OnOk result (K.taken out.new ≡ K.taken out.old ++ run_text schedule.now.frames schedule.now.events (opening schedule.now.topology)) }
-    ensures front { IsTrue K.tells → AppendsFront (K.taken out.old) (K.taken out.new) (run_text schedule.now.frames schedule.now.events (opening schedule.now.topology)) }
-    ensures write { IsErrOf result RunFault.WriteFault → HasRisen (K.faults out.old) (K.faults out.new) }
-    ensures later { K.faults out.old ≤ K.faults out.new }
-    ensures law { (k : ℕ) (f : FamilyOf) → Balanced f (spec.history_of (take k schedule.now.events) (opening schedule.now.topology)) (spec.world_after (take k schedule.now.events) (opening schedule.now.topology)) }
-    ensures bounded { (k : ℕ) (f : FamilyOf) → IsBounded f (spec.history_of (take k schedule.now.events) (opening schedule.now.topology)) (spec.world_after (take k schedule.now.events) (opening schedule.now.topology)) }
-    ensures granted { (k : ℕ) (f : FamilyOf) → IsGranted f (spec.history_of (take k schedule.now.events) (opening schedule.now.topology)) (spec.world_after (take k schedule.now.events) (opening schedule.now.topology)) }
-    ensures once { (k : ℕ) (n : ℕ) → IsOnce n (spec.history_of (take k schedule.now.events) (opening schedule.now.topology)) (spec.world_after (take k schedule.now.events) (opening schedule.now.topology)) }
-    ensures leads { (k : ℕ) → WireLeads schedule.now.topology.links (spec.world_after (take k schedule.now.events) (opening schedule.now.topology)).wire }
-    ensures sound { (k : ℕ) → IsSound (spec.world_after (take k schedule.now.events) (opening schedule.now.topology)) }
-    ensures visits { (k : ℕ) → All EndsWell (visits_after k schedule.now.events (opening schedule.now.topology)) }
-    ensures routes { (k : ℕ) → All NotRaw (take k schedule.now.events) → RunKeepsRoutes (take k schedule.now.events) (opening schedule.now.topology) }
+    requires services { map S.stands services
+        ≡ map spec.opening_services schedule.now.topology.hosts }
+    ensures prints { Prints
+        (run_text schedule.now.frames schedule.now.events (opening schedule.now.topology))
+        (K.state out.old) (K.state out.new) result }
+    ensures keeps { KeepsRun schedule.now }
 {
     run_schedule(alloc, schedule, services, out)
 }

@@ -85,12 +85,15 @@ impl<S: Services> World<S> {
     pub fn step(&mut self, alloc: Global, event: &WorldEvent) -> Result<Lines, NoMemory>
         requires fits { event_fits event.now }
         requires few { self.old.made < 2 ^ 32 - 2 }
-        ensures ok { (w : WorldState) → WorldStands S.stands self.old w → IfOk result (λ lines. IsHappened S.stands (spec.happens w event.now) lines self.new) }
+        ensures ok { (w : WorldState) → WorldStands S.stands self.old w
+            → IfOk result (λ lines. IsHappened S.stands (spec.happens w event.now) lines self.new) }
         ensures made { OnOk result (self.new.made ≡ self.old.made + 1) }
-        ensures balance { (f : Family) (w : WorldState) → GrowsInBalance f w (spec.entries w event.now) (spec.happens w event.now).world }
+        ensures balance { (f : Family) (w : WorldState)
+            → GrowsInBalance f w (spec.entries w event.now) (spec.happens w event.now).world }
         ensures sound { (w : WorldState) → IsSound w → IsSound (spec.happens w event.now).world }
         ensures visits { (w : WorldState) → IsSound w → All EndsWell (event_visits w event.now) }
-        ensures routes { (w : WorldState) → Reached w → NotRaw event.now → KeepsRoutes w (spec.happens w event.now) }
+        ensures routes { (w : WorldState) → Reached w → NotRaw event.now
+            → KeepsRoutes w (spec.happens w event.now) }
     {
         let lines = self.network.act(alloc, event)?;
         self.network.count();

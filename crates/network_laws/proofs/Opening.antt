@@ -80,7 +80,7 @@ near links h (suc n) = one_more n (peer_of links h (record { 0 = n + 1 })) (neig
 no_rows_good : AreGoodRows no_rows
 no_rows_good = record { values = All-nil (λ x. IsGoodValue x.ty x.value); room = refl; least = omega arith; greatest = omega arith }
 
-services_fit : (h : HostSpec) → ServicesFit (opening_services h)
+pub services_fit : (h : HostSpec) → ServicesFit (opening_services h)
 services_fit h = record { good = record { serve = serve_good (present_without h.missing); rows = no_rows_good }; closed = refl; waits = refl }
 
 pub config_fits : (t : Topology) (h : HostSpec) → KeepsNetwork t → ConfigFits (config_of t h)

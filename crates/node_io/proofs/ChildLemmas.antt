@@ -3,7 +3,7 @@ use Rattle.std.proofs.Common.{◌≡◌, ℕ, ◌+◌, ◌<◌, List, [], ◌∷
 use Rattle.std.specs.List.{All, Contains, filter}
 use Rattle.std.proofs.lemmas.List.Elements.{Contains-push, All-nil, All-push, All-contains, All-weaker, All-filter}
 use Rattle.node_io.specs.declared.spawner.Child.{Child}
-use Rattle.node_io.specs.Children.{is_other}
+use Rattle.node_io.specs.Spawners.{is_other}
 
 -- what was added last is there
 pub last_is_there : {X : Type 0} (old new : List X) (x : X) → new ≡ old ++ x ∷ [] → Contains new x

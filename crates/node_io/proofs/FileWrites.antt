@@ -1,53 +1,72 @@
 -- Bytes that are added to a file in pieces.
-use Rattle.std.proofs.Common.{◌≡◌, ℕ, ◌+◌, ◌-◌, List, [], ◌++◌, length, take, drop, refl, sym, ap, ◌∙◌, subst, append_assoc, Option, Some, None, IsSome, unwrap_or, length-drop}
-use Rattle.std.proofs.lemmas.List.{append-nil}
-use Rattle.std.proofs.Math.Seq.{take-add, take-length}
-use Rattle.node_io.specs.FileMaps.{FileMap, file_at, contents, ChangesOnly, WritesMore, WritesFront, SavesFront, untouched, begun}
+use Rattle.std.proofs.Common.{◌≡◌, ℕ, ◌+◌, ◌-◌, ◌≤◌, List, [], ◌++◌, length, take, drop, refl, sym, ap, ◌∙◌, subst, append_assoc, append-nil, length-drop, IsTrue, Option, Some, IsSome, unwrap_or, arith}
+use Rattle.std.proofs.Math.Seq.{take-add}
+use Rattle.node_io.specs.Causes.{HasRisen}
+use Rattle.node_io.specs.FileMaps.{FileMap, file_at, contents, ChangesOnly, WritesMore}
+use Rattle.node_io.specs.FileStates.{FilesState, OnlyWrites, Adds, AddsSome, AddsNone, FailsAdding}
+use Rattle.node_io.proofs.SinkLaws.{rest_is}
 
--- nothing was added yet
-pub adds_nothing : (old new : FileMap) (name : List ℕ) → new ≡ old → WritesMore old new name []
-adds_nothing old new name e = record {
-  here = ap (λ (m : FileMap). contents m name) e ∙ sym (append-nil (contents old name));
-  there = λ h. subst (λ (m : FileMap). IsSome (file_at m name)) (sym e) h;
-  others = λ other differs. ap (λ (m : FileMap). file_at m other) e;
+-- ---- maps
+
+more_none : (old : FileMap) (name : List ℕ) → WritesMore old old name []
+more_none old name = record { here = sym (append-nil (contents old name)); there = λ h. h; others = λ other differs. refl }
+
+more_both : (a b c : FileMap) (name x y : List ℕ) → WritesMore a b name x → WritesMore b c name y → WritesMore a c name (x ++ y)
+more_both a b c name x y u v = record {
+  here = v.here ∙ ap (λ l. l ++ y) u.here ∙ append_assoc (contents a name) x y;
+  there = λ h. v.there (u.there h);
+  others = λ other differs. v.others other differs ∙ u.others other differs;
 }
 
--- what was added is a prefix, by its length
-pub adds_front : (old mid new : FileMap) (name bytes : List ℕ) (n : ℕ) → new ≡ mid → WritesMore old mid name (take n bytes) → WritesFront old new name bytes
-adds_front old mid new name bytes n e more =
-    let P : FileMap → Type 0 = λ m. WritesMore old m name (take n bytes) in
-    record { count = n; is = subst P (sym e) more }
+-- a file that has these bytes more now
+pub more_changed : (old new : FileMap) (name bytes : List ℕ) → ChangesOnly old new name (contents old name ++ bytes) → WritesMore old new name bytes
+more_changed old new name bytes c = record {
+  here = ap (λ (o : Option (List ℕ)). unwrap_or o []) c.here;
+  there = λ h. subst (λ (o : Option (List ℕ)). IsSome o) (sym c.here) refl;
+  others = c.others;
+}
 
--- one piece more
-pub adds_more : (old mid new : FileMap) (name same bytes : List ℕ) (at n : ℕ) → same ≡ name → WritesMore old mid name (take at bytes)
-    → ChangesOnly mid new same (contents mid same ++ take n (take (length bytes - at) (drop at bytes))) → WritesMore old new name (take (at + n) bytes)
-adds_more old mid new name same bytes at n e more changed =
-    let P : List ℕ → Type 0 = λ x. ChangesOnly mid new x (contents mid x ++ take n (take (length bytes - at) (drop at bytes))) in
-    let only = subst P e changed in
-    let all : take (length bytes - at) (drop at bytes) ≡ drop at bytes = ap (λ m. take m (drop at bytes)) (sym (length-drop at bytes)) ∙ take-length (drop at bytes) in
-    record {
-      here = ap (λ (o : Option (List ℕ)). unwrap_or o []) only.here ∙ ap (λ x. contents mid name ++ take n x) all ∙ ap (λ x. x ++ take n (drop at bytes)) more.here
-          ∙ append_assoc (contents old name) (take at bytes) (take n (drop at bytes)) ∙ ap (λ x. contents old name ++ x) (sym (take-add at n bytes));
-      there = λ h. subst (λ (o : Option (List ℕ)). IsSome o) (sym only.here) refl;
-      others = λ other differs. only.others other differs ∙ more.others other differs;
-    }
+-- ---- files
 
-as_contents : (o : Option (List ℕ)) → IsSome o → o ≡ Some (unwrap_or o [])
-as_contents None h = cc
-as_contents (Some x) h = refl
+pub only_same : (s : FilesState) → OnlyWrites s s
+only_same s = record { observable = refl; asked = refl; reading = refl; read_faults = refl; later = omega arith }
 
--- a file that was emptied and then written whole
-pub saves_whole : (old mid new : FileMap) (name same bytes : List ℕ) → same ≡ name → ChangesOnly old mid name [] → WritesMore mid new same bytes → ChangesOnly old new name bytes
-saves_whole old mid new name same bytes e emptied more =
-    let P : List ℕ → Type 0 = λ x. WritesMore mid new x bytes in
-    let only = subst P e more in
-    let there = only.there (subst (λ (o : Option (List ℕ)). IsSome o) (sym emptied.here) refl) in
-    let now : contents new name ≡ bytes = only.here ∙ ap (λ (o : Option (List ℕ)). unwrap_or o [] ++ bytes) emptied.here in
-    record {
-      here = as_contents (file_at new name) there ∙ ap (λ x. Some x) now;
-      others = λ other differs. only.others other differs ∙ emptied.others other differs;
-    }
+pub only_both : (a b c : FilesState) → OnlyWrites a b → OnlyWrites b c → OnlyWrites a c
+only_both a b c u v = record {
+  observable = v.observable ∙ u.observable;
+  asked = v.asked ∙ u.asked;
+  reading = v.reading ∙ u.reading;
+  read_faults = v.read_faults ∙ u.read_faults;
+  later = omega (arith, u.later, v.later);
+}
 
--- a file that was emptied and then written in part
-pub saves_front : (old mid new : FileMap) (name same bytes : List ℕ) → same ≡ name → ChangesOnly old mid name [] → WritesFront mid new same bytes → SavesFront old new name bytes
-saves_front old mid new name same bytes e emptied front = begun front.count (saves_whole old mid new name same (take front.count bytes) e emptied front.is)
+-- nothing yet
+pub adds_none : (s : FilesState) → Adds s s []
+adds_none s = record { only = only_same s; made = refl; writing = refl; target = refl; held = λ seen. more_none s.held s.target }
+
+-- one after the other
+pub adds_both : (a b c : FilesState) (x y : List ℕ) → Adds a b x → Adds b c y → Adds a c (x ++ y)
+adds_both a b c x y u v = record {
+  only = only_both a b c u.only v.only;
+  made = v.made ∙ u.made;
+  writing = v.writing ∙ u.writing;
+  target = v.target ∙ u.target;
+  held = λ seen. more_both a.held b.held c.held a.target x y (u.held seen)
+      (subst (λ name. WritesMore b.held c.held name y) u.target (v.held (subst IsTrue (sym u.only.observable) seen)));
+}
+
+pub some_added : (b c : FilesState) (bytes : List ℕ) (at n : ℕ) → at ≤ length bytes → AddsSome b c (take (length bytes - at) (drop at bytes)) n → at + n ≤ length bytes
+some_added b c bytes at n h v = omega (arith, h, subst (λ l. n ≤ length l) (rest_is at bytes) v.within, length-drop at bytes)
+
+-- some more of the bytes
+pub adds_more : (a b c : FilesState) (bytes : List ℕ) (at n : ℕ) → Adds a b (take at bytes) → AddsSome b c (take (length bytes - at) (drop at bytes)) n → Adds a c (take (at + n) bytes)
+adds_more a b c bytes at n u v =
+    subst (Adds a c) (ap (λ l. take at bytes ++ take n l) (rest_is at bytes) ∙ sym (take-add at n bytes)) (adds_both a b c (take at bytes) (take n (take (length bytes - at) (drop at bytes))) u v.is)
+
+-- no more of them
+pub fails_adding_at : (a b c : FilesState) (bytes : List ℕ) (at : ℕ) → Adds a b (take at bytes) → AddsNone b c → FailsAdding a c bytes
+fails_adding_at a b c bytes at u v = record {
+  count = at;
+  is = subst (Adds a c) (append-nil (take at bytes)) (adds_both a b c (take at bytes) [] u v.is);
+  rose = omega (arith, u.only.later, v.rose);
+}

@@ -1,6 +1,7 @@
 pub mod FileMapLemmas
 pub mod PieceLemmas
-pub mod Fronts
+pub mod SinkLaws
+pub mod SpawnerLaws
 pub mod ChildLemmas
 pub mod FileWrites
 pub mod Taking

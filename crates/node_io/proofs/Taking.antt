@@ -5,7 +5,7 @@ use Rattle.node_io.specs.declared.link.Peer.{Peer}
 use Rattle.node_io.specs.declared.link.Arrival.{Arrival}
 use Rattle.node_io.specs.declared.link.Got.{Got}
 use Rattle.node_io.specs.declared.link.Got.TheVariants as got
-use Rattle.node_io.specs.Links.{heard_of, next_heard, IsHeard, Hears}
+use Rattle.node_io.specs.Links.{heard_of, next_heard, LinkState, IsHeard, HearResult}
 
 pub next_there : (xs : List ℕ) (i d : ℕ) → i < length xs → get_or xs i 0 ≡ get_or (drop i xs) 0 d
 next_there xs i d h = ap (λ l. get_or l 0 d) (sym (drop_more xs i 0 h))
@@ -31,8 +31,8 @@ next_is peers (x ∷ script) zero a h e = let same : x ≡ a = cc in ap (heard_o
 next_is peers (x ∷ script) (suc i) a h e = next_is peers script i a (omega arith) e
 
 -- what is heard of the next entry is what the script gives next
-pub hears_next : (peers : List Peer) (script : List Arrival) (i : ℕ) (a : Arrival) (result : Got) (buf : List ℕ) → i < length script → slice_get script i ≡ Some a
-    → IsHeard peers a result buf → Hears peers (drop i script) (drop (i + 1) script) result buf
-hears_next peers script i a (got.Frame dev n) buf h e k = (next_is peers script i a h e ∙ k, rest_next script i)
-hears_next peers script i a got.Nothing buf h e k = (next_is peers script i a h e ∙ k, rest_next script i)
-hears_next peers script i a got.Failed buf h e k = absurd k
+pub hears_next : (script : List Arrival) (i : ℕ) (a : Arrival) (result : Got) (buf : List ℕ) (old new : LinkState) → i < length script → slice_get script i ≡ Some a
+    → old.script ≡ drop i script → new.script ≡ drop (i + 1) script → IsHeard old.bound a result buf → HearResult buf old new result
+hears_next script i a (got.Frame dev n) buf old new h e f g k = λ seen. (ap (next_heard old.bound) f ∙ next_is old.bound script i a h e ∙ k, g ∙ rest_next script i ∙ ap (drop 1) (sym f))
+hears_next script i a got.Nothing buf old new h e f g k = λ seen. (ap (next_heard old.bound) f ∙ next_is old.bound script i a h e ∙ k, g ∙ rest_next script i ∙ ap (drop 1) (sym f))
+hears_next script i a got.Failed buf old new h e f g k = absurd k

@@ -1,15 +1,10 @@
 -- When a call of the outside may fail: a count of faults rises in it.
-use Rattle.std.specs.Prelude.{ℕ, Bool, List, ◌+◌, ◌-◌, ◌^◌, ◌≤◌, ◌==◌, min, IsTrue, Result, OnErr}
+use Rattle.std.specs.Prelude.{ℕ, Bool, List, ◌+◌, ◌-◌, ◌^◌, ◌≤◌, ◌==◌, min, IsTrue}
 use Rattle.std.specs.List.{list_any}
 
 -- a count rose: it is greater now, or stands at its last value
 abbrev pub HasRisen : ℕ → ℕ → Type 0
 HasRisen before now = min (before + 1) (2 ^ 64 - 1) ≤ now
-
--- a count never falls, and a failed call raised it
-pub record HasCause {T E : Type 0} (before now : ℕ) (result : Result T E) : Type 0 where
-  pub later : before ≤ now
-  pub failed : OnErr result (HasRisen before now)
 
 -- the count after one more, which stands still at its last value
 abbrev pub one_more : ℕ → ℕ

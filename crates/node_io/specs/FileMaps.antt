@@ -43,11 +43,6 @@ pub record WritesMore (old new : FileMap) (name bytes : List ℕ) : Type 0 where
   pub there : IsSome (file_at old name) → IsSome (file_at new name)
   pub others : (other : List ℕ) → other ≢ name → file_at new other ≡ file_at old other
 
--- a prefix of these bytes was added at the end of the file of this name
-pub record WritesFront (old new : FileMap) (name bytes : List ℕ) : Type 0 where
-  pub count : ℕ
-  pub is : WritesMore old new name (take count bytes)
-
 -- the files are as before, or the file of this name is a prefix of these bytes and every other one is as before
 pub data SavesFront (old new : FileMap) (name bytes : List ℕ) : Type 0 where
   untouched : new ≡ old → SavesFront old new name bytes

@@ -1,6 +1,9 @@
 pub mod Causes
-pub mod Pieces
+pub mod Sinks
 pub mod FileMaps
-pub mod Memory
+pub mod FileStates
 pub mod Links
-pub mod Children
+pub mod Clocks
+pub mod Spawners
+pub mod Outsides
+pub mod Memory

@@ -1,5 +1,5 @@
 -- Peers of a link, what a link answers, and what it tells of its frames.
-use Rattle.std.specs.Prelude.{ℕ, Bool, not, ◌||◌, if◌then◌else◌, List, [], ◌∷◌, ◌++◌, drop, take, length, ◌≡◌, ◌⊎◌, ◌<◌, ◌≤◌, ◌==◌, IsTrue, Option, Some, None, Result, MatchResult}
+use Rattle.std.specs.Prelude.{ℕ, Bool, not, ◌||◌, if◌then◌else◌, List, [], ◌∷◌, ◌++◌, drop, take, length, ◌≡◌, ◌⊎◌, ◌<◌, ◌≤◌, ◌==◌, IsTrue, Option, Some, None, Result, Ok, Err}
 use Rattle.std.specs.List.{list_any}
 use Rattle.plan_base.specs.declared.ids.Dev.{Dev}
 use Rattle.node_io.specs.Causes.{HasRisen}
@@ -22,11 +22,6 @@ IsFrameOfPeer peers (Frame dev n) = HasPeer peers dev × (0 < n) × (n ≤ 16513
 IsFrameOfPeer peers Nothing = Unit {0}
 IsFrameOfPeer peers Failed = Unit {0}
 
--- the faults never fall, and rose where a receiving failed
-pub record GotHasCause (before now : ℕ) (result : Got) : Type 0 where
-  pub later : before ≤ now
-  pub failed : result ≡ Failed → HasRisen before now
-
 -- a frame with the device on which it comes
 abbrev pub Heard : Type 0
 Heard = Dev × List ℕ
@@ -47,20 +42,56 @@ abbrev pub next_heard : List Peer → List Arrival → Option Heard
 next_heard peers [] = None
 next_heard peers (a ∷ script) = heard_of peers a
 
--- a receiving gives what the script gives next, at the front of the buffer; only one that failed leaves the script as it was
-abbrev pub Hears : List Peer → List Arrival → List Arrival → Got → List ℕ → Type 0
-Hears peers old new (Frame dev n) buf = (next_heard peers old ≡ Some (dev, take n buf)) × (new ≡ drop 1 old)
-Hears peers old new Nothing buf = (next_heard peers old ≡ None) × (new ≡ drop 1 old)
-Hears peers old new Failed buf = new ≡ old
-
--- a frame that was sent stands at the end of the frames sent; one that wasn't stands nowhere
-abbrev pub Sends : {T E : Type 0} → List Heard → List Heard → Heard → Result T E → Type 0
-Sends old new frame result = MatchResult result (λ _. new ≡ old ++ frame ∷ []) (λ _. new ≡ old)
-
 -- a port with peers
 abbrev pub Bind : Type 0
 Bind = ℕ × List Peer
 
--- the list of binds has grown by this one; a failed call may have found no memory for it
-abbrev pub Binds : {T E : Type 0} → List Bind → List Bind → Bind → Result T E → Type 0
-Binds old new bind result = MatchResult result (λ _. new ≡ old ++ bind ∷ []) (λ _. (new ≡ old) ⊎ (new ≡ old ++ bind ∷ []))
+-- a link, as contracts see it. The arrivals to come, the frames sent and the binds asked are known where it is observable; the
+-- peers, none before a successful bind, always
+pub record LinkState : Type 0 where
+  pub observable : Bool
+  pub script : List Arrival
+  pub sent : List Heard
+  pub binds : List Bind
+  pub bound : List Peer
+  pub faults : ℕ
+
+-- these peers are bound; a bind that failed leaves none, and may have found no memory for its entry
+abbrev pub BindResult : {T E : Type 0} → Bind → LinkState → LinkState → Result T E → Type 0
+BindResult bind old new (Ok x) = (new.bound ≡ bind.1) × (IsTrue old.observable → new.binds ≡ old.binds ++ bind ∷ [])
+BindResult bind old new (Err e) = (new.bound ≡ []) × ((new.binds ≡ old.binds) ⊎ (new.binds ≡ old.binds ++ bind ∷ [])) × HasRisen old.faults new.faults
+
+pub record Binds {T E : Type 0} (bind : Bind) (old new : LinkState) (result : Result T E) : Type 0 where
+  pub observable : new.observable ≡ old.observable
+  pub script : new.script ≡ old.script
+  pub sent : new.sent ≡ old.sent
+  pub later : old.faults ≤ new.faults
+  pub did : BindResult bind old new result
+
+-- a receiving gives what the script gives next, at the front of the buffer; only one that failed leaves the script as it was
+abbrev pub HearResult : List ℕ → LinkState → LinkState → Got → Type 0
+HearResult buf old new (Frame dev n) = IsTrue old.observable → (next_heard old.bound old.script ≡ Some (dev, take n buf)) × (new.script ≡ drop 1 old.script)
+HearResult buf old new Nothing = IsTrue old.observable → (next_heard old.bound old.script ≡ None) × (new.script ≡ drop 1 old.script)
+HearResult buf old new Failed = (new.script ≡ old.script) × HasRisen old.faults new.faults
+
+pub record Hears (buf : List ℕ) (old new : LinkState) (result : Got) : Type 0 where
+  pub observable : new.observable ≡ old.observable
+  pub sent : new.sent ≡ old.sent
+  pub binds : new.binds ≡ old.binds
+  pub bound : new.bound ≡ old.bound
+  pub later : old.faults ≤ new.faults
+  pub frame : IsFrameOfPeer old.bound result
+  pub did : HearResult buf old new result
+
+-- a frame that was sent stands at the end of the frames sent; one that wasn't stands nowhere
+abbrev pub SendResult : {T E : Type 0} → Heard → LinkState → LinkState → Result T E → Type 0
+SendResult frame old new (Ok x) = IsTrue old.observable → new.sent ≡ old.sent ++ frame ∷ []
+SendResult frame old new (Err e) = (new.sent ≡ old.sent) × HasRisen old.faults new.faults
+
+pub record Sends {T E : Type 0} (frame : Heard) (old new : LinkState) (result : Result T E) : Type 0 where
+  pub observable : new.observable ≡ old.observable
+  pub script : new.script ≡ old.script
+  pub binds : new.binds ≡ old.binds
+  pub bound : new.bound ≡ old.bound
+  pub later : old.faults ≤ new.faults
+  pub did : SendResult frame old new result

@@ -1,10 +1,38 @@
 -- What the forms in memory keep, and when their calls fail.
-use Rattle.std.specs.Prelude.{ℕ, List, ◌≡◌, ◌<◌, ◌⊎◌, Option, Some, None, option_map, length}
+use Rattle.std.specs.Prelude.{ℕ, List, [], true, ◌≡◌, ◌<◌, Option, Some, drop, is_some, unwrap_or, length}
+use Rattle.node_io.specs.Sinks.{SinkState}
+use Rattle.node_io.specs.FileStates.{FilesState}
+use Rattle.node_io.specs.Links.{LinkState}
+use Rattle.node_io.specs.Spawners.{SpawnerState}
 use Rattle.node_io.specs.Causes.{IsDue, HasRisen, one_more}
 use Rattle.node_io.specs.declared.mem_sink.MemSink.{MemSink}
 use Rattle.node_io.specs.declared.mem_files.MemFiles.{MemFiles}
 use Rattle.node_io.specs.declared.mem_link.MemLink.{MemLink}
 use Rattle.node_io.specs.declared.mem_spawner.MemSpawner.{MemSpawner}
+
+-- the states of the forms in memory
+abbrev pub sink_state : MemSink → SinkState
+sink_state s = record { observable = true; taken = s.taken; faults = s.faults }
+
+abbrev pub files_state : MemFiles → FilesState
+files_state f = record {
+  observable = true;
+  held = f.files;
+  asked = f.asked;
+  made = f.made;
+  left = unwrap_or f.reading [];
+  target = unwrap_or f.writing [];
+  reading = is_some f.reading;
+  writing = is_some f.writing;
+  read_faults = f.read_faults;
+  write_faults = f.write_faults;
+}
+
+abbrev pub link_state : MemLink → LinkState
+link_state l = record { observable = true; script = drop l.taken l.script; sent = l.sent; binds = l.binds; bound = l.peers; faults = l.faults }
+
+abbrev pub spawner_state : MemSpawner → SpawnerState
+spawner_state s = record { observable = true; statuses = s.statuses; started = s.children.0; starts = s.starts; children = s.children.1; faults = s.faults }
 
 -- the bytes that a sink in memory may still take, or None where there is no end
 abbrev pub room_of : MemSink → Option ℕ

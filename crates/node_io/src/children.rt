@@ -1,5 +1,5 @@
 ghost use Rattle.std.specs.Prelude.{◌≡◌, ◌++◌, ◌∷◌, ◌+◌, ◌<◌, ◌==◌, [], false, filter, Contains, IfOk, MatchResult};
-ghost use Rattle.node_io.specs.Children.{is_other, IsFresh};
+ghost use Rattle.node_io.specs.Spawners.{is_other, IsFresh};
 
 use crate::spawner::Child;
 use std::alloc::{AllocError, Global};
@@ -53,7 +53,8 @@ impl Children {
     pub(crate) fn open_next(&mut self) -> Result<Child, AllocError>
         requires { self.old.0 < 4294967295 }
         ensures next { MatchResult result
-            (λ child. (child.0 ≡ self.old.0) × (self.new ≡ (self.old.0 + 1, self.old.1 ++ child ∷ [])))
+            (λ child. (child.0 ≡ self.old.0)
+            × (self.new ≡ (self.old.0 + 1, self.old.1 ++ child ∷ [])))
             (λ _. self.new ≡ self.old) }
         ensures fresh { IfOk result (IsFresh self.old.1) }
         ensures there { IfOk result (Contains self.new.1) }

@@ -1,4 +1,5 @@
-ghost use Rattle.std.specs.Prelude.{◌≡◌, ℕ, Bool, List, true, drop, get_or, IsTrue, IfOk};
+ghost use Rattle.std.specs.Prelude.{◌≡◌, true, drop, get_or, IfOk};
+ghost use Rattle.node_io.specs.Clocks.{ClockState, Tells};
 
 use plan_base::NoMemory;
 use plan_items::Items;
@@ -9,18 +10,11 @@ pub type Moments = Items<u64>;
 
 /// What tells the time.
 pub trait Clock {
-    // whether the clock tells the answers that are still to come, and its last answer, 0 before the first
-    ghost tells: { Bool };
-
-    ghost answers: { Self → List ℕ };
-
-    ghost last: { Self → ℕ };
+    ghost state: { Self → ClockState };
 
     /// The time in milliseconds. Never fails.
     fn now(&mut self) -> u64
-        ensures told { IsTrue tells → result ≡ get_or (answers self.old) 0 (last self.old) }
-        ensures answers { IsTrue tells → answers self.new ≡ drop 1 (answers self.old) }
-        ensures last { IsTrue tells → last self.new ≡ result };
+        ensures tells { Tells (state self.old) (state self.new) result };
 }
 
 /// A clock in memory, which answers a list in order, and after its end the last answer, or 0 where
@@ -46,11 +40,7 @@ impl MemClock {
 }
 
 impl Clock for MemClock {
-    ghost tells = { true };
-
-    ghost answers = { λ c. drop c.given c.answers };
-
-    ghost last = { λ c. c.last };
+    ghost state = { λ c. record { observable = true; answers = drop c.given c.answers; last = c.last } };
 
     fn now(&mut self) -> u64 {
         let answer = next_of(self.answers.as_slice(), self.given, self.last);

@@ -105,7 +105,8 @@ impl FileList {
         name: &[u8],
         piece: &[u8],
     ) -> Result<(), NoMemory>
-        ensures ok { OnOk result (ChangesOnly self.old self.new name.now (contents self.old name.now ++ piece.now)) }
+        ensures ok { OnOk result
+            (ChangesOnly self.old self.new name.now (contents self.old name.now ++ piece.now)) }
         ensures err { OnErr result (self.new ≡ self.old) }
     {
         match self.find(name) {

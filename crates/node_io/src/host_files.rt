@@ -21,7 +21,8 @@ pub struct HostFiles<'a, R: System> {
 impl<'a, R: System> HostFiles<'a, R> {
     /// The files of this system: no fault is counted, and nothing is begun.
     pub fn new(system: &'a R) -> HostFiles<'a, R>
-        ensures { (result.read_faults ≡ 0) × (result.write_faults ≡ 0) × (is_some result.source ≡ false) × (is_some result.target ≡ false) }
+        ensures { (result.read_faults ≡ 0) × (result.write_faults ≡ 0)
+            × (is_some result.source ≡ false) × (is_some result.target ≡ false) }
     {
         HostFiles {
             system,
@@ -34,25 +35,18 @@ impl<'a, R: System> HostFiles<'a, R> {
 }
 
 impl<R: System> Files for HostFiles<'_, R> {
-    ghost read_faults = { λ f. f.read_faults };
-
-    ghost write_faults = { λ f. f.write_faults };
-
-    ghost reading = { λ f. is_some f.source };
-
-    ghost writing = { λ f. is_some f.target };
-
-    ghost tells = { false };
-
-    ghost files = { λ _. [] };
-
-    ghost left = { λ _. [] };
-
-    ghost target = { λ _. [] };
-
-    ghost asked = { λ _. [] };
-
-    ghost made = { λ _. [] };
+    ghost state = { λ f. record {
+      observable = false;
+      held = [];
+      asked = [];
+      made = [];
+      left = [];
+      target = [];
+      reading = is_some f.source;
+      writing = is_some f.target;
+      read_faults = f.read_faults;
+      write_faults = f.write_faults;
+    } };
 
     fn read_from(&mut self, name: &str) -> Result<(), Failed> {
         self.source = fs::open(self.system, name).ok();

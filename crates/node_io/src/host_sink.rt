@@ -39,11 +39,7 @@ pub(crate) fn write_some<W: Write>(to: &mut W, piece: &[u8]) -> Option<usize>
 }
 
 impl<W: Write + Drop> Sink for HostSink<W> {
-    ghost faults = { λ s. s.faults };
-
-    ghost tells = { false };
-
-    ghost taken = { λ _. [] };
+    ghost state = { λ s. record { observable = false; taken = []; faults = s.faults } };
 
     fn push(&mut self, piece: &[u8]) -> Result<usize, Failed> {
         match write_some(&mut self.inner, piece) {

@@ -35,4 +35,4 @@ pub use mem_spawner::MemSpawner;
 pub use outside::{Calls, Failed, Files, Sink};
 pub use read::{ReadError, read_whole};
 pub use spawner::{Child, Spawner, Statuses};
-pub use write::{put_all, put_file, save};
+pub use write::{put_all, put_file};

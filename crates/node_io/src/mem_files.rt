@@ -1,8 +1,7 @@
 ghost use Rattle.std.specs.Prelude.{◌≡◌, ◌++◌, ◌∷◌, ◌<◌, ◌≤◌, ◌⊎◌, ◌↔◌, [], Some, None, true, take, length, is_some, unwrap_or, IsTrue, IsNone, IfNone, IfSome, IsOk, IsErr, OnOk, OnErr, IfOk, MatchOption, MatchResult};
-ghost use Rattle.node_io.specs.Causes.{HasCause};
-ghost use Rattle.node_io.specs.Pieces.{PushCount, PullTakes};
-ghost use Rattle.node_io.specs.FileMaps.{file_at, contents, ChangesOnly, Names, HasDistinctNames};
-ghost use Rattle.node_io.specs.Memory.{IsDueCall, LacksMemory, CountsCall};
+ghost use Rattle.node_io.specs.FileMaps.{file_at, ChangesOnly, Names, HasDistinctNames};
+ghost use Rattle.node_io.specs.FileStates.{BeginsReading, Pulls, BeginsWriting, AddResult};
+ghost use Rattle.node_io.specs.Memory.{files_state, IsDueCall, LacksMemory, CountsCall};
 
 use crate::counts::{is_due, raise};
 use crate::file_list::FileList;
@@ -35,8 +34,9 @@ impl MemFiles {
     pub fn new(alloc: Global, files: FileList, fails: Calls) -> Result<MemFiles, NoMemory>
         requires { HasDistinctNames files }
         ensures { IfOk result
-            (λ f. (f.files ≡ files) × (f.asked ≡ []) × (f.made ≡ []) × (f.fails ≡ fails) × (f.calls ≡ 0)
-            × (f.refused ≡ 0) × (f.read_faults ≡ 0) × (f.write_faults ≡ 0) × (f.reading ≡ None) × (f.writing ≡ None)) }
+            (λ f. (f.files ≡ files) × (f.asked ≡ []) × (f.made ≡ []) × (f.fails ≡ fails)
+            × (f.calls ≡ 0) × (f.refused ≡ 0) × (f.read_faults ≡ 0) × (f.write_faults ≡ 0)
+            × (f.reading ≡ None) × (f.writing ≡ None)) }
     {
         Ok(MemFiles {
             alloc,
@@ -55,7 +55,7 @@ impl MemFiles {
 
     /// The files as they are now.
     pub fn files(&self) -> &FileList
-        ensures { result.now ≡ ⟦<MemFiles as Files>⟧.files self.now }
+        ensures { result.now ≡ (⟦<MemFiles as Files>⟧.state self.now).held }
     {
         &self.files
     }
@@ -71,7 +71,8 @@ fn open(
     due: bool,
 ) -> Result<Option<Reading>, NoMemory>
     ensures found { IfOk result
-        (λ r. MatchOption r (IsTrue due ⊎ (file_at files.now name.now ≡ None)) (λ left. file_at files.now name.now ≡ Some left)) }
+        (λ r. MatchOption r (IsTrue due ⊎ (file_at files.now name.now ≡ None))
+        (λ left. file_at files.now name.now ≡ Some left)) }
     ensures due { IsTrue due → IfOk result (λ r. r ≡ None) }
     ensures missing { file_at files.now name.now ≡ None → IfOk result (λ r. r ≡ None) }
     ensures asked { Names asked.old asked.new name.now result }
@@ -98,7 +99,8 @@ fn make(
     due: bool,
 ) -> Result<Option<Text>, NoMemory>
     ensures found { IfOk result
-        (λ r. MatchOption r (IsTrue due × (files.new ≡ files.old)) (λ target. (target ≡ name.now) × ChangesOnly files.old files.new name.now [])) }
+        (λ r. MatchOption r (IsTrue due × (files.new ≡ files.old))
+        (λ target. (target ≡ name.now) × ChangesOnly files.old files.new name.now [])) }
     ensures due { IsTrue due → IfOk result (λ r. r ≡ None) }
     ensures stays { OnErr result (files.new ≡ files.old) }
     ensures made { Names made.old made.new name.now result }
@@ -113,39 +115,18 @@ fn make(
 }
 
 impl Files for MemFiles {
-    ghost read_faults = { λ m. m.read_faults };
-
-    ghost write_faults = { λ m. m.write_faults };
-
-    ghost reading = { λ m. is_some m.reading };
-
-    ghost writing = { λ m. is_some m.writing };
-
-    ghost tells = { true };
-
-    ghost files = { λ m. m.files };
-
-    ghost left = { λ m. unwrap_or m.reading [] };
-
-    ghost target = { λ m. unwrap_or m.writing [] };
-
-    ghost asked = { λ m. m.asked };
-
-    ghost made = { λ m. m.made };
+    ghost state = { files_state };
 
     fn read_from(&mut self, name: &str) -> Result<(), Failed>
-        ensures begun { IsTrue (is_some self.new.reading) ↔ IsOk result }
-        ensures left { OnOk result (file_at self.old.files name.now ≡ Some (unwrap_or self.new.reading [])) }
-        ensures asked { Names self.old.asked self.new.asked name.now result }
+        ensures begins { BeginsReading name.now
+            (files_state self.old) (files_state self.new) result }
         ensures named { OnErr result
             ((self.new.asked ≡ self.old.asked ++ name.now ∷ []) ⊎ LacksMemory self.old self.new) }
-        ensures kept { (self.new.files ≡ self.old.files) × (self.new.made ≡ self.old.made) }
-        ensures cause { HasCause self.old.read_faults self.new.read_faults result }
-        ensures same { (self.new.write_faults ≡ self.old.write_faults) × (is_some self.new.writing ≡ is_some self.old.writing) }
         ensures due { IsDueCall self.old → IsErr result }
         ensures missing { file_at self.old.files name.now ≡ None → IsErr result }
         ensures only { OnErr result
-            (IsDueCall self.old ⊎ (file_at self.old.files name.now ≡ None) ⊎ LacksMemory self.old self.new) }
+            (IsDueCall self.old ⊎ (file_at self.old.files name.now ≡ None)
+            ⊎ LacksMemory self.old self.new) }
         ensures counted { CountsCall self.old self.new }
     {
         raise(&mut self.calls);
@@ -177,13 +158,7 @@ impl Files for MemFiles {
     fn pull(&mut self, buf: &mut [u8]) -> Result<usize, Failed>
         requires begun { IsTrue (is_some self.old.reading) }
         requires room { 0 < length buf.old }
-        ensures within { IfOk result (λ n. n ≤ length buf.new) }
-        ensures left { PullTakes (unwrap_or self.old.reading []) (unwrap_or self.new.reading []) result buf.new }
-        ensures kept { (self.new.files ≡ self.old.files) × (self.new.asked ≡ self.old.asked) × (self.new.made ≡ self.old.made) }
-        ensures cause { HasCause self.old.read_faults self.new.read_faults result }
-        ensures same { (self.new.write_faults ≡ self.old.write_faults)
-            × (is_some self.new.reading ≡ is_some self.old.reading)
-            × (is_some self.new.writing ≡ is_some self.old.writing) }
+        ensures pulls { Pulls buf.new (files_state self.old) (files_state self.new) result }
         ensures due { IsErr result ↔ IsDueCall self.old }
         ensures counted { CountsCall self.old self.new }
     {
@@ -199,16 +174,10 @@ impl Files for MemFiles {
     }
 
     fn write_to(&mut self, name: &str) -> Result<(), Failed>
-        ensures begun { IsTrue (is_some self.new.writing) ↔ IsOk result }
-        ensures empty { OnOk result (ChangesOnly self.old.files self.new.files name.now []) }
-        ensures target { OnOk result (unwrap_or self.new.writing [] ≡ name.now) }
-        ensures stays { OnErr result (self.new.files ≡ self.old.files) }
-        ensures made { Names self.old.made self.new.made name.now result }
+        ensures begins { BeginsWriting name.now
+            (files_state self.old) (files_state self.new) result }
         ensures named { OnErr result
             ((self.new.made ≡ self.old.made ++ name.now ∷ []) ⊎ LacksMemory self.old self.new) }
-        ensures kept { self.new.asked ≡ self.old.asked }
-        ensures cause { HasCause self.old.write_faults self.new.write_faults result }
-        ensures same { (self.new.read_faults ≡ self.old.read_faults) × (is_some self.new.reading ≡ is_some self.old.reading) }
         ensures due { IsDueCall self.old → IsErr result }
         ensures only { OnErr result (IsDueCall self.old ⊎ LacksMemory self.old self.new) }
         ensures counted { CountsCall self.old self.new }
@@ -241,18 +210,7 @@ impl Files for MemFiles {
 
     fn push(&mut self, piece: &[u8]) -> Result<usize, Failed>
         requires { IsTrue (is_some self.old.writing) }
-        ensures count { PushCount result piece.now }
-        ensures grown { IfOk result
-            (λ n. ChangesOnly self.old.files self.new.files (unwrap_or self.old.writing [])
-            (contents self.old.files (unwrap_or self.old.writing []) ++ take n piece.now)) }
-        ensures stays { OnErr result (self.new.files ≡ self.old.files) }
-        ensures kept { (unwrap_or self.new.writing [] ≡ unwrap_or self.old.writing [])
-            × (self.new.asked ≡ self.old.asked)
-            × (self.new.made ≡ self.old.made) }
-        ensures cause { HasCause self.old.write_faults self.new.write_faults result }
-        ensures same { (self.new.read_faults ≡ self.old.read_faults)
-            × (is_some self.new.reading ≡ is_some self.old.reading)
-            × (is_some self.new.writing ≡ is_some self.old.writing) }
+        ensures adds { AddResult piece.now (files_state self.old) (files_state self.new) result }
         ensures due { IsDueCall self.old → IsErr result }
         ensures only { OnErr result (IsDueCall self.old ⊎ LacksMemory self.old self.new) }
         ensures counted { CountsCall self.old self.new }

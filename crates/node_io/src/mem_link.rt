@@ -1,7 +1,6 @@
 ghost use Rattle.std.specs.Prelude.{◌≡◌, ◌++◌, ◌∷◌, [], ◌⊎◌, ◌↔◌, true, length, min, take, drop, IfOk, IfSome, IsNone, IsTrue, IsErr, OnOk, OnErr, MatchResult};
-ghost use Rattle.node_io.specs.Causes.{HasCause};
-ghost use Rattle.node_io.specs.Links.{has_peer, HasPeer, IsFrameOfPeer, GotHasCause, IsHeard, Hears, Sends, Binds};
-ghost use Rattle.node_io.specs.Memory.{IsDueAtLink, LinkLacksMemory, CountsAtLink};
+ghost use Rattle.node_io.specs.Links.{has_peer, HasPeer, IsFrameOfPeer, IsHeard, Hears, Sends, Binds};
+ghost use Rattle.node_io.specs.Memory.{link_state, IsDueAtLink, LinkLacksMemory, CountsAtLink};
 
 use crate::counts::{is_due, raise};
 use crate::link::{Arrival, Arrivals, Got, Link, Peer, Peers, RECEIVED_MAX, SentFrames};
@@ -31,7 +30,8 @@ impl MemLink {
     /// A link with this script, whose calls with the numbers in `fails`, from 1, fail.
     pub fn new(alloc: Global, script: Arrivals, fails: Calls) -> Result<MemLink, NoMemory>
         ensures { IfOk result
-            (λ l. (l.script ≡ script) × (l.taken ≡ 0) × (l.sent ≡ []) × (l.binds ≡ []) × (l.peers ≡ []) × (l.fails ≡ fails)
+            (λ l. (l.script ≡ script) × (l.taken ≡ 0) × (l.sent ≡ []) × (l.binds ≡ [])
+            × (l.peers ≡ []) × (l.fails ≡ fails)
             × (l.calls ≡ 0) × (l.refused ≡ 0) × (l.faults ≡ 0)) }
     {
         Ok(MemLink {
@@ -50,7 +50,7 @@ impl MemLink {
 
     /// The frames sent so far.
     pub fn sent(&self) -> &SentFrames
-        ensures { result.now ≡ ⟦<MemLink as Link>⟧.sent self.now }
+        ensures { result.now ≡ (⟦<MemLink as Link>⟧.state self.now).sent }
     {
         &self.sent
     }
@@ -102,7 +102,9 @@ fn note_bind(
     due: bool,
 ) -> Result<Option<Peers>, AllocError>
     ensures copied { IfOk result (λ r. IfSome r (λ copy. copy ≡ peers.now)) }
-    ensures asked { Binds binds.old binds.new (port, peers.now) result }
+    ensures asked { MatchResult result
+        (λ _. binds.new ≡ binds.old ++ (port, peers.now) ∷ [])
+        (λ _. (binds.new ≡ binds.old) ⊎ (binds.new ≡ binds.old ++ (port, peers.now) ∷ [])) }
     ensures due { IfOk result (λ r. IsNone r ↔ IsTrue due) }
 {
     let asked = Items::from_slice(alloc, peers.as_slice())?;
@@ -123,27 +125,15 @@ fn note_sent(alloc: Global, sent: &mut SentFrames, dev: Dev, bytes: &[u8]) -> Re
 }
 
 impl Link for MemLink {
-    ghost faults = { λ l. l.faults };
-
-    ghost bound = { λ l. l.peers };
-
-    ghost tells = { true };
-
-    ghost script = { λ l. drop l.taken l.script };
-
-    ghost sent = { λ l. l.sent };
-
-    ghost binds = { λ l. l.binds };
+    ghost state = { link_state };
 
     fn bind(&mut self, port: u16, peers: &Peers) -> Result<(), Failed>
-        ensures bound { MatchResult result (λ _. self.new.peers ≡ peers.now) (λ _. self.new.peers ≡ []) }
-        ensures binds { Binds self.old.binds self.new.binds (port, peers.now) result }
-        ensures kept { (drop self.new.taken self.new.script ≡ drop self.old.taken self.old.script) × (self.new.sent ≡ self.old.sent) }
-        ensures cause { HasCause self.old.faults self.new.faults result }
+        ensures binds { Binds (port, peers.now) (link_state self.old) (link_state self.new) result }
         ensures due { IsDueAtLink self.old → IsErr result }
         ensures only { OnErr result (IsDueAtLink self.old ⊎ LinkLacksMemory self.old self.new) }
         ensures asked { OnErr result
-            ((self.new.binds ≡ self.old.binds ++ (port, peers.now) ∷ []) ⊎ LinkLacksMemory self.old self.new) }
+            ((self.new.binds ≡ self.old.binds ++ (port, peers.now) ∷ [])
+            ⊎ LinkLacksMemory self.old self.new) }
         ensures counted { CountsAtLink self.old self.new }
     {
         raise(&mut self.calls);
@@ -170,12 +160,8 @@ impl Link for MemLink {
     #[tactic(auto, using(crate::proofs::Taking::hears_next))]
     fn recv(&mut self, buf: &mut [u8]) -> Got
         requires { length buf.old ≡ 16513 }
-        ensures frame { IsFrameOfPeer self.old.peers result }
-        ensures heard { Hears self.old.peers (drop self.old.taken self.old.script) (drop self.new.taken self.new.script) result buf.new }
+        ensures hears { Hears buf.new (link_state self.old) (link_state self.new) result }
         ensures room { length buf.new ≡ length buf.old }
-        ensures kept { (self.new.sent ≡ self.old.sent) × (self.new.binds ≡ self.old.binds) }
-        ensures same { self.new.peers ≡ self.old.peers }
-        ensures cause { GotHasCause self.old.faults self.new.faults result }
         ensures due { (result ≡ Got.Failed) ↔ IsDueAtLink self.old }
         ensures counted { CountsAtLink self.old self.new }
     {
@@ -194,10 +180,7 @@ impl Link for MemLink {
 
     fn send(&mut self, dev: Dev, bytes: &[u8]) -> Result<(), Failed>
         requires { HasPeer self.old.peers dev }
-        ensures sent { Sends self.old.sent self.new.sent (dev, bytes.now) result }
-        ensures kept { (drop self.new.taken self.new.script ≡ drop self.old.taken self.old.script) × (self.new.binds ≡ self.old.binds) }
-        ensures same { self.new.peers ≡ self.old.peers }
-        ensures cause { HasCause self.old.faults self.new.faults result }
+        ensures sends { Sends (dev, bytes.now) (link_state self.old) (link_state self.new) result }
         ensures due { IsDueAtLink self.old → IsErr result }
         ensures only { OnErr result (IsDueAtLink self.old ⊎ LinkLacksMemory self.old self.new) }
         ensures counted { CountsAtLink self.old self.new }

@@ -1,7 +1,6 @@
 ghost use Rattle.std.specs.Prelude.{◌≡◌, ◌++◌, ◌-◌, ◌<◌, ◌≤◌, ◌⊎◌, [], true, take, length, IsNone, IfNone, IfSome, IsErr, OnErr, IfOk, MatchOption, MatchResult, option_map};
-ghost use Rattle.node_io.specs.Causes.{HasCause};
-ghost use Rattle.node_io.specs.Pieces.{PushCount, PushAppends};
-ghost use Rattle.node_io.specs.Memory.{room_of, IsDuePush, IsFull, LacksRoom, CountsPush};
+ghost use Rattle.node_io.specs.Sinks.{Pushes};
+ghost use Rattle.node_io.specs.Memory.{sink_state, room_of, IsDuePush, IsFull, LacksRoom, CountsPush};
 
 use crate::counts::{is_due, raise};
 use crate::outside::{Calls, Failed, Sink};
@@ -25,7 +24,8 @@ impl MemSink {
     /// A sink that fails at the pushes whose numbers, from 1, are in `fails`.
     pub fn new(alloc: Global, fails: Calls) -> Result<MemSink, NoMemory>
         ensures { IfOk result
-            (λ s. (s.taken ≡ []) × (s.fails ≡ fails) × (s.calls ≡ 0) × (s.refused ≡ 0) × (s.faults ≡ 0) × (s.room ≡ None)) }
+            (λ s. (s.taken ≡ []) × (s.fails ≡ fails) × (s.calls ≡ 0) × (s.refused ≡ 0)
+            × (s.faults ≡ 0) × (s.room ≡ None)) }
     {
         Ok(MemSink {
             taken: Bytes::new(alloc),
@@ -40,7 +40,8 @@ impl MemSink {
     /// A sink that takes `n` bytes and then fails.
     pub fn stopping(alloc: Global, n: u64) -> Result<MemSink, NoMemory>
         ensures { IfOk result
-            (λ s. (s.taken ≡ []) × (s.fails ≡ []) × (s.calls ≡ 0) × (s.refused ≡ 0) × (s.faults ≡ 0) × (s.room ≡ Some n)) }
+            (λ s. (s.taken ≡ []) × (s.fails ≡ []) × (s.calls ≡ 0) × (s.refused ≡ 0) × (s.faults ≡ 0)
+            × (s.room ≡ Some n)) }
     {
         Ok(MemSink {
             taken: Bytes::new(alloc),
@@ -54,19 +55,23 @@ impl MemSink {
 
     /// The bytes taken so far.
     pub fn taken(&self) -> &Bytes
-        ensures { result.now ≡ ⟦<MemSink as Sink>⟧.taken self.now }
+        ensures { result.now ≡ (⟦<MemSink as Sink>⟧.state self.now).taken }
     {
         &self.taken
     }
 
     // Takes a prefix of `piece` and answers its length, or `None` where the push is to fail.
     fn take(&mut self, piece: &[u8]) -> Option<usize>
-        ensures count { IfSome result (λ n. (n ≤ length piece.now) × (0 < length piece.now → 0 < n)) }
-        ensures bytes { MatchOption result (self.new.taken ≡ self.old.taken) (λ n. self.new.taken ≡ self.old.taken ++ take n piece.now) }
-        ensures room { MatchOption result (self.new.room ≡ self.old.room) (λ n. self.new.room ≡ option_map (λ r. r - n) self.old.room) }
+        ensures count { IfSome result
+            (λ n. (n ≤ length piece.now) × (0 < length piece.now → 0 < n)) }
+        ensures bytes { MatchOption result (self.new.taken ≡ self.old.taken)
+            (λ n. self.new.taken ≡ self.old.taken ++ take n piece.now) }
+        ensures room { MatchOption result (self.new.room ≡ self.old.room)
+            (λ n. self.new.room ≡ option_map (λ r. r - n) self.old.room) }
         ensures due { IsDuePush self.old → IsNone result }
         ensures full { IsFull self.old piece.now → IsNone result }
-        ensures only { IfNone result (IsDuePush self.old ⊎ IsFull self.old piece.now ⊎ LacksRoom self.old self.new) }
+        ensures only { IfNone result (IsDuePush self.old ⊎ IsFull self.old piece.now
+            ⊎ LacksRoom self.old self.new) }
         ensures counted { CountsPush self.old self.new }
         ensures kept { self.new.faults ≡ self.old.faults }
     {
@@ -108,20 +113,17 @@ fn less(room: Option<u64>, count: usize) -> Option<u64>
 }
 
 impl Sink for MemSink {
-    ghost faults = { λ s. s.faults };
-
-    ghost tells = { true };
-
-    ghost taken = { λ s. s.taken };
+    ghost state = { sink_state };
 
     fn push(&mut self, piece: &[u8]) -> Result<usize, Failed>
-        ensures count { PushCount result piece.now }
-        ensures bytes { PushAppends self.old.taken self.new.taken result piece.now }
-        ensures cause { HasCause self.old.faults self.new.faults result }
-        ensures room { MatchResult result (λ n. room_of self.new ≡ option_map (λ r. r - n) (room_of self.old)) (λ _. room_of self.new ≡ room_of self.old) }
+        ensures pushes { Pushes piece.now (sink_state self.old) (sink_state self.new) result }
+        ensures room { MatchResult result
+            (λ n. room_of self.new ≡ option_map (λ r. r - n) (room_of self.old))
+            (λ _. room_of self.new ≡ room_of self.old) }
         ensures due { IsDuePush self.old → IsErr result }
         ensures full { IsFull self.old piece.now → IsErr result }
-        ensures only { OnErr result (IsDuePush self.old ⊎ IsFull self.old piece.now ⊎ LacksRoom self.old self.new) }
+        ensures only { OnErr result (IsDuePush self.old ⊎ IsFull self.old piece.now
+            ⊎ LacksRoom self.old self.new) }
         ensures counted { CountsPush self.old self.new }
     {
         match self.take(piece) {

@@ -1,7 +1,6 @@
 ghost use Rattle.std.specs.Prelude.{◌≡◌, ◌++◌, ◌∷◌, ◌+◌, ◌⊎◌, [], None, Some, true, filter, Contains, IsErr, IfOk, OnOk, OnErr, MatchResult, slice_get};
-ghost use Rattle.node_io.specs.Causes.{HasCause};
-ghost use Rattle.node_io.specs.Children.{is_other, IsFresh, Starts};
-ghost use Rattle.node_io.specs.Memory.{IsDueAtSpawner, SpawnerLacksMemory, HasAllChildren, CountsAtSpawner};
+ghost use Rattle.node_io.specs.Spawners.{Starts, Waits};
+ghost use Rattle.node_io.specs.Memory.{spawner_state, IsDueAtSpawner, SpawnerLacksMemory, HasAllChildren, CountsAtSpawner};
 
 use crate::children::Children;
 use crate::counts::{is_due, raise};
@@ -30,7 +29,8 @@ impl MemSpawner {
     /// A spawner with these statuses, whose calls with the numbers in `fails`, from 1, fail.
     pub fn new(alloc: Global, statuses: Statuses, fails: Calls) -> Result<MemSpawner, NoMemory>
         ensures { IfOk result
-            (λ s. (s.statuses ≡ statuses) × (s.starts ≡ []) × (s.children.0 ≡ 0) × (s.children.1 ≡ []) × (s.fails ≡ fails) × (s.calls ≡ 0)
+            (λ s. (s.statuses ≡ statuses) × (s.starts ≡ []) × (s.children.0 ≡ 0)
+            × (s.children.1 ≡ []) × (s.fails ≡ fails) × (s.calls ≡ 0)
             × (s.refused ≡ 0) × (s.faults ≡ 0)) }
     {
         Ok(MemSpawner {
@@ -66,34 +66,16 @@ fn note_start(alloc: Global, starts: &mut Items<Texts>, words: &Texts) -> Result
 }
 
 impl Spawner for MemSpawner {
-    ghost faults = { λ s. s.faults };
-
-    ghost children = { λ s. s.children.1 };
-
-    ghost tells = { true };
-
-    ghost statuses = { λ s. s.statuses };
-
-    ghost started = { λ s. s.children.0 };
-
-    ghost starts = { λ s. s.starts };
+    ghost state = { spawner_state };
 
     fn start(&mut self, words: &Texts) -> Result<Child, Failed>
-        ensures children { MatchResult result
-            (λ child. self.new.children.1 ≡ self.old.children.1 ++ child ∷ [])
-            (λ _. self.new.children.1 ≡ self.old.children.1) }
-        ensures fresh { IfOk result (IsFresh self.old.children.1) }
-        ensures started { IfOk result (Contains self.new.children.1) }
-        ensures starts { Starts self.old.starts self.new.starts words.now result }
-        ensures numbered { MatchResult result
-            (λ child. (child.0 ≡ self.old.children.0) × (self.new.children.0 ≡ self.old.children.0 + 1))
-            (λ _. self.new.children.0 ≡ self.old.children.0) }
-        ensures kept { self.new.statuses ≡ self.old.statuses }
-        ensures cause { HasCause self.old.faults self.new.faults result }
+        ensures starts { Starts words.now (spawner_state self.old) (spawner_state self.new) result }
         ensures due { IsDueAtSpawner self.old → IsErr result }
-        ensures only { OnErr result (IsDueAtSpawner self.old ⊎ HasAllChildren self.old ⊎ SpawnerLacksMemory self.old self.new) }
+        ensures only { OnErr result (IsDueAtSpawner self.old ⊎ HasAllChildren self.old
+            ⊎ SpawnerLacksMemory self.old self.new) }
         ensures asked { OnErr result
-            ((self.new.starts ≡ self.old.starts ++ words.now ∷ []) ⊎ SpawnerLacksMemory self.old self.new) }
+            ((self.new.starts ≡ self.old.starts ++ words.now ∷ [])
+            ⊎ SpawnerLacksMemory self.old self.new) }
         ensures counted { CountsAtSpawner self.old self.new }
     {
         raise(&mut self.calls);
@@ -119,15 +101,11 @@ impl Spawner for MemSpawner {
 
     fn wait(&mut self, child: Child) -> Result<u8, Failed>
         requires { Contains self.old.children.1 child }
-        ensures children { self.new.children.1 ≡ filter (is_other child) self.old.children.1 }
-        ensures status { IfOk result (λ status. slice_get self.old.statuses child.0 ≡ Some status) }
-        ensures kept { (self.new.statuses ≡ self.old.statuses)
-            × (self.new.children.0 ≡ self.old.children.0)
-            × (self.new.starts ≡ self.old.starts) }
-        ensures cause { HasCause self.old.faults self.new.faults result }
+        ensures waits { Waits child (spawner_state self.old) (spawner_state self.new) result }
         ensures due { IsDueAtSpawner self.old → IsErr result }
         ensures past { slice_get self.old.statuses child.0 ≡ None → IsErr result }
-        ensures only { OnErr result (IsDueAtSpawner self.old ⊎ (slice_get self.old.statuses child.0 ≡ None)) }
+        ensures only { OnErr result (IsDueAtSpawner self.old
+            ⊎ (slice_get self.old.statuses child.0 ≡ None)) }
         ensures counted { CountsAtSpawner self.old self.new }
     {
         raise(&mut self.calls);

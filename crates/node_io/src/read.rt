@@ -1,6 +1,5 @@
-ghost use Rattle.std.specs.Prelude.{◌≡◌, ◌≢◌, ◌++◌, ◌+◌, ◌^◌, ◌<◌, ◌≤◌, [], length, IsTrue, IsOk, OnOk, IfOk, IfSome, IsSomeAnd, IsErrOf};
-ghost use Rattle.node_io.specs.Causes.{HasRisen};
-ghost use Rattle.node_io.specs.FileMaps.{file_at, MayName};
+ghost use Rattle.std.specs.Prelude.{◌≡◌, ◌≢◌, ◌++◌, ◌+◌, ◌^◌, ◌<◌, ◌≤◌, [], length, IsTrue, OnOk, IfOk};
+ghost use Rattle.node_io.specs.FileStates.{Filled, Rest, ReadsFile};
 
 use crate::outside::{Failed, Files};
 use plan_base::{Bytes, NoMemory};
@@ -40,21 +39,9 @@ impl From<AllocError> for ReadError {
 // Pulls the next bytes, at most `most`, adds them at the end of `bytes`, and answers their number,
 // 0 only at the end of the file.
 fn pull_some<F: Files>(files: &mut F, most: usize, bytes: &mut Bytes) -> Result<usize, ReadError>
-    requires begun { IsTrue (F.reading files.old) }
+    requires begun { IsTrue (F.state files.old).reading }
     requires room { 0 < most }
-    ensures whole { IsTrue F.tells → OnOk result (bytes.old ++ F.left files.old ≡ bytes.new ++ F.left files.new) }
-    ensures end { IsTrue F.tells → IfOk result (λ n. n ≡ 0 → F.left files.new ≡ []) }
-    ensures few { IsTrue F.tells → length (F.left files.old) ≤ length (F.left files.new) + most }
-    ensures grown { IfOk result (λ n. length bytes.new ≡ length bytes.old + n) }
-    ensures within { IfOk result (λ n. n ≤ most) }
-    ensures fault { IsErrOf result ReadError.Fault → HasRisen (F.read_faults files.old) (F.read_faults files.new) }
-    ensures no_end { result ≢ Err ReadError.TooLong }
-    ensures later { F.read_faults files.old ≤ F.read_faults files.new }
-    ensures kept { IsTrue F.tells
-        → (F.files files.new ≡ F.files files.old) × (F.asked files.new ≡ F.asked files.old) × (F.made files.new ≡ F.made files.old) }
-    ensures same { (F.write_faults files.new ≡ F.write_faults files.old)
-        × (F.reading files.new ≡ F.reading files.old)
-        × (F.writing files.new ≡ F.writing files.old) }
+    ensures { Filled most bytes.old bytes.new (F.state files.old) (F.state files.new) result }
 {
     let mut buf = [0u8; 4096];
     let room = most.min(4096);
@@ -65,18 +52,10 @@ fn pull_some<F: Files>(files: &mut F, most: usize, bytes: &mut Bytes) -> Result<
 
 // Reads to the end of the file, or stops after `limit` and one byte more.
 fn read_rest<F: Files>(files: &mut F, limit: usize, bytes: &mut Bytes) -> Result<(), ReadError>
-    requires begun { IsTrue (F.reading files.old) }
+    requires begun { IsTrue (F.state files.old).reading }
     requires fits { limit < 2 ^ 62 }
     requires fresh { bytes.old ≡ [] }
-    ensures whole { IsTrue F.tells → OnOk result (bytes.new ≡ F.left files.old) }
-    ensures within { OnOk result (length bytes.new ≤ limit) }
-    ensures too_long { IsTrue F.tells → IsErrOf result ReadError.TooLong → limit < length (F.left files.old) }
-    ensures stops { IsTrue F.tells → length (F.left files.old) ≤ length (F.left files.new) + limit + 1 }
-    ensures fault { IsErrOf result ReadError.Fault → HasRisen (F.read_faults files.old) (F.read_faults files.new) }
-    ensures later { F.read_faults files.old ≤ F.read_faults files.new }
-    ensures kept { IsTrue F.tells
-        → (F.files files.new ≡ F.files files.old) × (F.asked files.new ≡ F.asked files.old) × (F.made files.new ≡ F.made files.old) }
-    ensures same { (F.write_faults files.new ≡ F.write_faults files.old) × (F.writing files.new ≡ F.writing files.old) }
+    ensures { Rest limit bytes.new (F.state files.old) (F.state files.new) result }
 {
     while bytes.len() <= limit {
         let most = limit + 1 - bytes.len();
@@ -88,8 +67,7 @@ fn read_rest<F: Files>(files: &mut F, limit: usize, bytes: &mut Bytes) -> Result
 }
 
 /// The bytes of the file `name`, which may be at most `limit`; the reading stops after `limit` and
-/// one byte more. Answers `TooLong` for a longer file, and `Fault` only where the count of faults of
-/// reading rose.
+/// one byte more.
 pub fn read_whole<F: Files>(
     alloc: Global,
     files: &mut F,
@@ -97,19 +75,7 @@ pub fn read_whole<F: Files>(
     limit: usize,
 ) -> Result<Bytes, ReadError>
     requires { limit < 2 ^ 62 }
-    ensures whole { IsTrue F.tells → IfOk result (λ bytes. file_at (F.files files.old) name.now ≡ Some bytes) }
-    ensures within { IfOk result (λ bytes. length bytes ≤ limit) }
-    ensures too_long { IsTrue F.tells
-        → IsErrOf result ReadError.TooLong
-        → IsSomeAnd (file_at (F.files files.old) name.now) (λ bytes. limit < length bytes) }
-    ensures stops { IsTrue F.tells
-        → IsTrue (F.reading files.new)
-        → IfSome (file_at (F.files files.old) name.now) (λ bytes. length bytes ≤ length (F.left files.new) + limit + 1) }
-    ensures fault { IsErrOf result ReadError.Fault → HasRisen (F.read_faults files.old) (F.read_faults files.new) }
-    ensures later { F.read_faults files.old ≤ F.read_faults files.new }
-    ensures asked { IsTrue F.tells → MayName (F.asked files.old) (F.asked files.new) name.now }
-    ensures kept { IsTrue F.tells → (F.files files.new ≡ F.files files.old) × (F.made files.new ≡ F.made files.old) }
-    ensures same { (F.write_faults files.new ≡ F.write_faults files.old) × (F.writing files.new ≡ F.writing files.old) }
+    ensures { ReadsFile name.now limit (F.state files.old) (F.state files.new) result }
 {
     let mut bytes = Bytes::new(alloc);
     files.read_from(name)?;

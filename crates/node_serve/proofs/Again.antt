@@ -8,10 +8,11 @@ use Rattle.node_model.specs.State.{NodeState}
 use Rattle.serve_model.specs.Texts.{whole_trace}
 use Rattle.serve_model.proofs.Going.{lines_of_run}
 use Rattle.node_serve.specs.Shown.{run_log}
-use Rattle.node_serve.specs.Served.{Outside, Served, run_in}
+use Rattle.node_serve.specs.Desks.{Serving}
+use Rattle.node_serve.specs.Served.{Served, run_in}
 use Rattle.node_serve.specs.Again.{ReadsAgain}
 
-pub again : (cfg : ServeConfig) (node : NodeState) (turns : ℕ) (old new : Outside) (s : Served cfg node turns old new) → KeepsServe cfg → length (run_in cfg node turns old s.refused).events ≤ 50000 → ReadsAgain cfg node old new
+pub again : (cfg : ServeConfig) (node : NodeState) (turns : ℕ) (old new : Serving) (s : Served cfg node turns old new) → KeepsServe cfg → length (run_in cfg node turns old s.refused).events ≤ 50000 → ReadsAgain cfg node old new
 again cfg node turns old new s k few =
     let run = run_in cfg node turns old s.refused in
     let log : Log = record { node = cfg.node; missing = cfg.missing; events = run.events } in
@@ -22,5 +23,5 @@ again cfg node turns old new s k few =
       reads = log_again log (record { node = k.node; serial = k.serial; missing = k.missing; few = few; events = λ i d h. (s.readable i d h).keeps }) (λ i d h. (s.readable i d h).spells);
       begins = refl;
       missing = refl;
-      trace = s.out ∙ ap (λ es. old.taken ++ whole_trace cfg.node.here es) (lines_of_run cfg node old.script old.last old.answers turns s.refused);
+      trace = s.out ∙ ap (λ es. old.out.taken ++ whole_trace cfg.node.here es) (lines_of_run cfg node old.link.script old.clock.last old.clock.answers turns s.refused);
     }

@@ -182,7 +182,7 @@ tick_early period t r early refused = if_false (nat_le (r.last + period) t) (mar
 
 -- ---- a frame that is taken and sent
 
-held_is : (d : Dev) (r : Running) → r.held ≡ true → (refused : List ℕ) → take_send d refused r ≡ r
+pub held_is : (d : Dev) (r : Running) → r.held ≡ true → (refused : List ℕ) → take_send d refused r ≡ r
 unfolding take_send
 held_is d r h refused = if_true r.held r (if is_refused refused r then holding true (with_entry Lost r) else send_taken d (first_on r.node d) (with_entry (Step (Take d)) r)) h
 

@@ -1,7 +1,11 @@
 pub mod Showing
 pub mod Following
 pub mod Looping
+pub mod Joining
+pub mod Taking
+pub mod Turning
 pub mod Ending
+pub mod Starting
 pub mod PeerLaws
 pub mod FrameSizes
 pub mod LogNames

@@ -1,5 +1,5 @@
 -- A step that was made and written, or not.
-use Rattle.std.proofs.Common.{◌≡◌, ◌≢◌, ℕ, suc, ◌+◌, ◌<◌, ◌==◌, ◌⊎◌, inl, inr, get_or, Bool, true, false, if◌then◌else◌, nat_le, List, [], ◌∷◌, ◌++◌, length, drop, slice_get, Option, Some, None, Result, Ok, Err, refl, sym, ◌∙◌, ap, subst, arith, length-append, append-nil}
+use Rattle.std.proofs.Common.{◌≡◌, ◌≢◌, ℕ, suc, ◌+◌, ◌<◌, ◌==◌, ◌⊎◌, inl, inr, get_or, Bool, true, false, if◌then◌else◌, nat_le, List, [], ◌∷◌, ◌++◌, length, drop, slice_get, Option, Some, None, Result, Ok, Err, MatchResult, refl, sym, ◌∙◌, ap, subst, arith, length-append, append-nil}
 use Rattle.std.proofs.lemmas.Bool.Decides.{nat_tests}
 use Rattle.plan_base.specs.declared.ids.Dev.{Dev}
 use Rattle.plan_base.specs.declared.ids.Host.{Host}
@@ -13,8 +13,8 @@ use Rattle.network_plan.specs.declared.event.LogEvent.{LogEvent}
 use Rattle.network_plan.specs.declared.event.LogEvent.TheVariants as entry
 use Rattle.network_plan.specs.declared.serve.ServeConfig.{ServeConfig}
 use Rattle.service_api.specs.Services.{ServiceState}
-use Rattle.node_io.specs.FileMaps.{FileMap, ChangesOnly, WritesMore, WritesFront}
-use Rattle.node_io.specs.Pieces.{AppendsFront}
+use Rattle.node_io.specs.FileMaps.{ChangesOnly, WritesMore}
+use Rattle.node_serve.specs.Fronts.{AppendsFront, WritesFront}
 use Rattle.node_io.specs.declared.link.Peer.{Peer}
 use Rattle.node_io.specs.declared.link.Arrival.{Arrival}
 use Rattle.node_io.specs.Links.{Heard, has_peer, next_heard}
@@ -33,8 +33,8 @@ use Rattle.node_serve.specs.declared.server.Server.{Server}
 use Rattle.node_serve.specs.declared.steps.StepOutcome.{StepOutcome}
 use Rattle.node_serve.specs.declared.steps.StepOutcome.TheVariants.{Lost, Took}
 use Rattle.node_serve.specs.declared.steps.StepTexts.{StepTexts}
-use Rattle.node_serve.specs.Steps.{was_lost, Written, WrittenFront, in_log, in_trace, sending, SendsTaken}
-use Rattle.node_serve.specs.Stays.{StandsFor, Makes, seen_of}
+use Rattle.node_serve.specs.Steps.{was_lost, Written, WrittenFront, in_log, in_trace, sending}
+use Rattle.node_serve.specs.Stays.{StandsFor, Makes}
 
 pub made_reached : {S : Type 0} (stands : S → ServiceState) (cfg : ServeConfig) (base seen : Seen) (r : Running) (e : Event) (made : StepOutcome) (server : Server S) → Makes stands cfg base seen r e made server → Reached (StandsFor stands server) cfg base seen r (make e)
 made_reached stands cfg base seen r e made server m = reached_make (StandsFor stands server) cfg base seen r e (was_lost made) m.stands_for m.shows
@@ -110,7 +110,7 @@ shows_taken cfg base old new d (Some x) r h f t k s = shows_sent cfg base old ne
 
 -- a frame that was taken, and sent or not
 pub send_result : {S T E : Type 0} (stands : S → ServiceState) (cfg : ServeConfig) (base old new : Seen) (r : Running) (d : Dev) (x : Option PlainFrame) (server : Server S) (result : Result T E) → r.held ≡ false → Makes stands cfg base old r (Take d) (Took x) server
-    → SendsTaken old.sent new.sent d x result → new.files ≡ old.files → new.target ≡ old.target → new.taken ≡ old.taken → Leaves (StandsFor stands server) cfg base new r (take_send d) result
+    → MatchResult result (λ _. new.sent ≡ old.sent ++ sending d x) (λ _. new.sent ≡ old.sent) → new.files ≡ old.files → new.target ≡ old.target → new.taken ≡ old.taken → Leaves (StandsFor stands server) cfg base new r (take_send d) result
 send_result stands cfg base old new r d x server (Ok y) h m s f t k =
     let taken = with_entry (entry.Step (Take d)) r in
     send_took (StandsFor stands server) cfg base new r d x h (m.frame refl) (stands_sent stands server d x taken m.stands_for) (shows_taken cfg base old new d x taken m.shows f t k s)
@@ -212,10 +212,6 @@ shows_held cfg base seen r s = record { log = s.log; target = s.target; out = s.
 -- what a step gave, by its case
 pub made_as : {S : Type 0} (stands : S → ServiceState) (cfg : ServeConfig) (base seen : Seen) (r : Running) (e : Event) (made now : StepOutcome) (server : Server S) → made ≡ now → Makes stands cfg base seen r e made server → Makes stands cfg base seen r e now server
 made_as stands cfg base seen r e made now server same m = subst (λ x. Makes stands cfg base seen r e x server) same m
-
--- the frames sent are as before
-pub sent_as : (cfg : ServeConfig) (base : Seen) (files : FileMap) (target taken : List ℕ) (before now : List Heard) (r : Running) → now ≡ before → Shows cfg base (seen_of files target taken before) r → Shows cfg base (seen_of files target taken now) r
-sent_as cfg base files target taken before now r same h = subst (λ s. Shows cfg base (seen_of files target taken s) r) (sym same) h
 
 -- no frame was queued for the node itself
 pub back_stay : (x : Option PlainFrame) (r : Running) → x ≡ None → (refused : List ℕ) → come_back x refused r ≡ r

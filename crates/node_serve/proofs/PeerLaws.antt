@@ -1,5 +1,5 @@
 -- The peers of a node that keeps its rules.
-use Rattle.std.proofs.Common.{◌≡◌, ◌≢◌, ℕ, ◌≤◌, ◌==◌, Bool, true, false, ◌||◌, List, [], ◌∷◌, map, refl, sym, ◌∙◌, ap, arith}
+use Rattle.std.proofs.Common.{◌≡◌, ◌≢◌, ℕ, ◌≤◌, ◌==◌, Bool, true, false, ◌||◌, List, [], ◌∷◌, map, length, refl, sym, ◌∙◌, ap, arith}
 use Rattle.std.specs.List.{All, list_any}
 use Rattle.std.proofs.lemmas.Bool.{false≢true}
 use Rattle.std.proofs.lemmas.Bool.Decides.{nat_tests}
@@ -59,3 +59,8 @@ pub peer_small : (cfg : ServeConfig) (d : Dev) → KeepsServe cfg → has_peer (
 peer_small cfg d k h =
     either (0 == d.0) (is_one (map (λ p. p.0) cfg.devs) d) d.0 (sym (peers_are cfg d) ∙ h) (same_small 0 d.0 (omega arith))
     (λ one. small_device cfg.node.here cfg.node.hosts cfg.node.neighbours d k.node.neighbours (ap (λ ds. is_one ds d) (sym k.devices) ∙ one))
+
+-- a node has a peer
+pub some_peers : (cfg : ServeConfig) → peers_of cfg ≡ [] → ⊥
+unfolding peers_of
+some_peers cfg h = let none : length (peers_of cfg) ≡ 0 = ap length h in omega (arith, none)

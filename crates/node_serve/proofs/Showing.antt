@@ -11,8 +11,8 @@ use Rattle.plan_base.specs.declared.ids.Dev.{Dev}
 use Rattle.packet_frame.specs.declared.frame.PlainFrame.{PlainFrame}
 use Rattle.packet_frame.specs.Bytes.{frame_bytes}
 use Rattle.node_files.specs.LogTexts.{head_text, entry_text}
-use Rattle.node_io.specs.FileMaps.{FileMap, file_at, contents, ChangesOnly, WritesMore, WritesFront}
-use Rattle.node_io.specs.Pieces.{AppendsFront}
+use Rattle.node_io.specs.FileMaps.{FileMap, file_at, contents, ChangesOnly, WritesMore}
+use Rattle.node_serve.specs.Fronts.{AppendsFront, WritesFront}
 use Rattle.serve_model.specs.Runs.{Running, acts_of, entries_at, with_entry, with_sent}
 use Rattle.serve_model.specs.Texts.{trace_line, lines_text, begun_trace}
 use Rattle.node_serve.specs.Shown.{Seen, run_log, run_trace, IsReadable, Shows, Fronts}

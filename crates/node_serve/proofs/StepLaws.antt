@@ -1,5 +1,5 @@
 -- The texts of a step.
-use Rattle.std.proofs.Common.{◌≡◌, ℕ, [], ◌∷◌, Result, Ok, Err, IfOk, OnOk, sym, ◌∙◌, ap, subst}
+use Rattle.std.proofs.Common.{◌≡◌, ℕ, [], ◌∷◌, Result, Ok, Err, IfOk, sym, ◌∙◌, ap, subst}
 use Rattle.std.proofs.lemmas.Bool.{false≢true}
 use Rattle.plan_base.specs.declared.ids.Host.{Host}
 use Rattle.network_plan.specs.declared.event.Event.{Event}
@@ -48,6 +48,6 @@ lost_result stands here n s e new (Ok t) h line lines made = written_lost stands
 lost_result stands here n s e new (Err x) h line lines made = tt
 
 pub took_result : {S E : Type 0} (stands : S → ServiceState) (here : Host) (n : ℕ) (s : NodeState) (x e : Event) (acts : Acts) (new : Node S) (result : Result StepTexts E) → x ≡ e → IsStep stands (node_step s x) acts new
-    → IfOk result (λ t. t.line ≡ entry_text (entry.Step x)) → IfOk result (λ t. t.lines ≡ lines_text here (entries_at n acts.list)) → IfOk result (λ t. t.made ≡ Took acts.frame) → OnOk result (IsReadable (entry.Step x)) → IfOk result (λ t. Written stands here n s e t new)
-took_result stands here n s x e acts new (Ok t) same h line lines made readable = written_took stands here n s x e acts t new same h line lines made readable
-took_result stands here n s x e acts new (Err y) same h line lines made readable = tt
+    → IfOk result (λ t. (t.line ≡ entry_text (entry.Step x)) × IsReadable (entry.Step x)) → IfOk result (λ t. t.lines ≡ lines_text here (entries_at n acts.list)) → IfOk result (λ t. t.made ≡ Took acts.frame) → IfOk result (λ t. Written stands here n s e t new)
+took_result stands here n s x e acts new (Ok t) same h line lines made = written_took stands here n s x e acts t new same h line.0 lines made line.1
+took_result stands here n s x e acts new (Err y) same h line lines made = tt

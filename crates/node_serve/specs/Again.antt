@@ -7,14 +7,14 @@ use Rattle.node_io.specs.FileMaps.{file_at}
 use Rattle.node_model.specs.State.{NodeState}
 use Rattle.serve_model.specs.Runs.{played}
 use Rattle.serve_model.specs.Texts.{whole_trace}
-use Rattle.node_serve.specs.Served.{Outside}
+use Rattle.node_serve.specs.Desks.{Serving}
 
 -- the log reads as that of a node that began so, and the trace of its entries is what was written
-pub record ReadsAgain (cfg : ServeConfig) (node : NodeState) (old new : Outside) : Type 0 where
+pub record ReadsAgain (cfg : ServeConfig) (node : NodeState) (old new : Serving) : Type 0 where
   pub bytes : List ℕ
   pub log : Log
-  pub there : file_at new.files cfg.log ≡ Some bytes
+  pub there : file_at new.files.held cfg.log ≡ Some bytes
   pub reads : log_of bytes ≡ Ok log
   pub begins : log.node ≡ cfg.node
   pub missing : log.missing ≡ cfg.missing
-  pub trace : new.taken ≡ old.taken ++ whole_trace cfg.node.here (played 0 node log.events)
+  pub trace : new.out.taken ≡ old.out.taken ++ whole_trace cfg.node.here (played 0 node log.events)

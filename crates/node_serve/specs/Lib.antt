@@ -1,5 +1,10 @@
+pub mod Fronts
 pub mod Shown
-pub mod Served
+pub mod Desks
 pub mod Steps
 pub mod Stays
+pub mod Goes
+pub mod Served
+pub mod Openings
+pub mod Serves
 pub mod Again

@@ -6,7 +6,7 @@ use Rattle.network_plan.specs.declared.event.LogEvent.{LogEvent}
 use Rattle.network_plan.specs.NodeRules.{KeepsEntry}
 use Rattle.node_files.specs.LogTexts.{log_text, IsSpellable}
 use Rattle.node_io.specs.FileMaps.{FileMap, ChangesOnly}
-use Rattle.node_io.specs.Pieces.{AppendsFront}
+use Rattle.node_serve.specs.Fronts.{AppendsFront}
 use Rattle.node_io.specs.Links.{Heard}
 use Rattle.serve_model.specs.Runs.{Running, Action}
 use Rattle.serve_model.specs.Texts.{begun_trace}

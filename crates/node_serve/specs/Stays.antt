@@ -1,10 +1,8 @@
 -- Which run a serving node has made so far.
-use Rattle.std.specs.Prelude.{◌≡◌, ℕ, false, List, length}
+use Rattle.std.specs.Prelude.{◌≡◌, false, length}
 use Rattle.network_plan.specs.declared.event.Event.{Event}
 use Rattle.network_plan.specs.declared.serve.ServeConfig.{ServeConfig}
 use Rattle.service_api.specs.Services.{ServiceState}
-use Rattle.node_io.specs.FileMaps.{FileMap}
-use Rattle.node_io.specs.Links.{Heard}
 use Rattle.node_model.specs.Node.{node_step}
 use Rattle.node_core.specs.Stands.{NodeStands}
 use Rattle.serve_model.specs.Runs.{Running, with_entry}
@@ -20,10 +18,6 @@ pub record StandsFor {S : Type 0} (stands : S → ServiceState) (server : Server
   pub last : server.last ≡ r.last
   pub held : server.held ≡ r.held
   pub steps : server.steps ≡ length r.events
-
--- what stands outside
-abbrev pub seen_of : FileMap → List ℕ → List ℕ → List Heard → Seen
-seen_of files target taken sent = record { files = files; target = target; taken = taken; sent = sent }
 
 -- a step was made and written: it was refused, or gave this frame
 pub record Makes {S : Type 0} (stands : S → ServiceState) (cfg : ServeConfig) (base seen : Seen) (r : Running) (e : Event) (made : StepOutcome) (server : Server S) : Type 0 where

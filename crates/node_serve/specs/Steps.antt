@@ -1,11 +1,14 @@
 -- What a step of a serving node gives.
-use Rattle.std.specs.Prelude.{◌≡◌, ℕ, Bool, true, false, List, [], ◌∷◌, ◌++◌, Option, Some, None, Result, MatchResult}
+use Rattle.std.specs.Prelude.{◌≡◌, ℕ, ◌≤◌, ◌⊎◌, Bool, true, false, IsTrue, List, [], ◌∷◌, ◌++◌, Option, Some, None, Result, Ok, Err}
 use Rattle.plan_base.specs.declared.ids.Host.{Host}
 use Rattle.plan_base.specs.declared.ids.Dev.{Dev}
 use Rattle.packet_frame.specs.Bytes.{frame_bytes}
-use Rattle.node_io.specs.FileMaps.{FileMap, WritesMore, WritesFront}
-use Rattle.node_io.specs.Pieces.{AppendsFront}
-use Rattle.node_io.specs.Links.{Heard}
+use Rattle.node_io.specs.FileMaps.{FileMap, WritesMore}
+use Rattle.node_serve.specs.Fronts.{AppendsFront, WritesFront}
+use Rattle.node_io.specs.Causes.{HasRisen}
+use Rattle.node_io.specs.Sinks.{SinkState, Writes, FailsIn}
+use Rattle.node_io.specs.FileStates.{FilesState, Adds, FailsAdding}
+use Rattle.node_io.specs.Links.{Heard, LinkState}
 use Rattle.packet_frame.specs.declared.frame.PlainFrame.{PlainFrame}
 use Rattle.network_plan.specs.declared.event.Event.{Event}
 use Rattle.service_api.specs.Services.{ServiceState}
@@ -18,6 +21,8 @@ use Rattle.serve_model.specs.Runs.{acts_of, node_by, entries_at}
 use Rattle.serve_model.specs.Follow.{entry_of}
 use Rattle.serve_model.specs.Texts.{lines_text}
 use Rattle.node_serve.specs.Shown.{IsReadable}
+use Rattle.node_serve.specs.declared.fault.ServeFault.{ServeFault}
+use Rattle.node_serve.specs.declared.fault.ServeFault.TheVariants.{LinkFault, WriteFault, NoMemory}
 use Rattle.node_serve.specs.declared.steps.StepOutcome.{StepOutcome}
 use Rattle.node_serve.specs.declared.steps.StepOutcome.TheVariants.{Lost, Took}
 use Rattle.node_serve.specs.declared.steps.StepTexts.{StepTexts}
@@ -45,14 +50,28 @@ pub data WrittenFront (old new : FileMap) (target line taken grown lines : List 
   in_log : WritesFront old new target line → grown ≡ taken → WrittenFront old new target line taken grown lines
   in_trace : WritesMore old new target line → AppendsFront taken grown lines → WrittenFront old new target line taken grown lines
 
-abbrev pub IsWritten : {T E : Type 0} → FileMap → FileMap → List ℕ → List ℕ → List ℕ → List ℕ → List ℕ → Result T E → Type 0
-IsWritten old new target line taken grown lines result =
-    MatchResult result (λ _. WritesMore old new target line × (grown ≡ taken ++ lines)) (λ _. WrittenFront old new target line taken grown lines)
+-- a line of the log and its lines of the trace were written, or prefixes of them, the log first
+abbrev pub WritesStep : {T E : Type 0} → List ℕ → List ℕ → FilesState → FilesState → SinkState → SinkState → Result T E → Type 0
+WritesStep line lines files files_new out out_new (Ok x) = Adds files files_new line × Writes out out_new lines
+WritesStep line lines files files_new out out_new (Err e) =
+    (FailsAdding files files_new line × (out_new ≡ out)) ⊎ (Adds files files_new line × FailsIn out out_new lines)
 
 -- a frame that was taken is sent, where there is one
 abbrev pub sending : Dev → Option PlainFrame → List Heard
 sending d None = []
 sending d (Some x) = (d, frame_bytes x) ∷ []
 
-abbrev pub SendsTaken : {T E : Type 0} → List Heard → List Heard → Dev → Option PlainFrame → Result T E → Type 0
-SendsTaken old new d frame result = MatchResult result (λ _. new ≡ old ++ sending d frame) (λ _. new ≡ old)
+-- the frame that was taken was sent, or none where the link failed
+abbrev pub SendResult : {T : Type 0} → Dev → Option PlainFrame → LinkState → LinkState → Result T ServeFault → Type 0
+SendResult d frame old new (Ok x) = IsTrue old.observable → new.sent ≡ old.sent ++ sending d frame
+SendResult d frame old new (Err LinkFault) = (new.sent ≡ old.sent) × HasRisen old.faults new.faults
+SendResult d frame old new (Err WriteFault) = ⊥
+SendResult d frame old new (Err NoMemory) = ⊥
+
+pub record SendsTaken {T : Type 0} (d : Dev) (frame : Option PlainFrame) (old new : LinkState) (result : Result T ServeFault) : Type 0 where
+  pub observable : new.observable ≡ old.observable
+  pub script : new.script ≡ old.script
+  pub binds : new.binds ≡ old.binds
+  pub bound : new.bound ≡ old.bound
+  pub later : old.faults ≤ new.faults
+  pub did : SendResult d frame old new result

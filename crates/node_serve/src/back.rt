@@ -1,13 +1,12 @@
-ghost use Rattle.std.specs.Prelude.{◌≡◌, ◌≤◌, ◌<◌, ◌⊎◌, List, Option, Some, IsTrue, IsErrOf};
+ghost use Rattle.std.specs.Prelude.{◌≡◌, IsTrue};
 ghost use Rattle.network_plan.specs.NodeRules.{KeepsNodeEvent};
-ghost use Rattle.node_io.specs.Causes.{HasRisen};
-ghost use Rattle.node_io.specs.Links.{Heard};
-ghost use Rattle.serve_model.specs.Runs as spec;
-ghost use Rattle.node_serve.specs.Shown.{Seen, Shows, Leaves};
-ghost use Rattle.node_serve.specs.Stays.{StandsFor, seen_of};
 ghost use Rattle.network_plan.specs.Hosts.{dev_of};
 ghost use Rattle.network_plan.specs.declared.event.Event.TheVariants as event;
 ghost use Rattle.packet_frame.specs.Bytes.{frame_bytes};
+ghost use Rattle.node_io.specs.Links.{LinkState};
+ghost use Rattle.serve_model.specs.Runs as spec;
+ghost use Rattle.node_serve.specs.Desks.{desk};
+ghost use Rattle.node_serve.specs.Goes.{Goes};
 
 use crate::fault::ServeFault;
 use crate::server::Server;
@@ -40,14 +39,10 @@ impl<S: Services> Server<S> {
         out: &mut K,
         frame: Option<SpelledFrame>,
     ) -> Result<(), ServeFault>
-        requires writing { IsTrue (F.writing files.old) }
-        ensures run { IsTrue F.tells → IsTrue K.tells → (sent : List Heard) (base : Seen) (r : spec.Running) → StandsFor S.stands self.old r → Shows cfg.now base (seen_of (F.files files.old) (F.target files.old) (K.taken out.old) sent) r → Leaves (StandsFor S.stands self.new) cfg.now base (seen_of (F.files files.new) (F.target files.new) (K.taken out.new) sent) r (spec.come_back frame) result }
-        ensures write { IsErrOf result ServeFault.WriteFault → HasRisen (F.write_faults files.old) (F.write_faults files.new) ⊎ HasRisen (K.faults out.old) (K.faults out.new) }
-        ensures no_link { IsErrOf result ServeFault.LinkFault → ⊥ }
-        ensures later { (F.write_faults files.old ≤ F.write_faults files.new) × (K.faults out.old ≤ K.faults out.new) }
-        ensures writing { IsTrue (F.writing files.new) }
-        ensures kept { IsTrue F.tells → (F.asked files.new ≡ F.asked files.old) × (F.made files.new ≡ F.made files.old) }
-        ensures same { (F.read_faults files.new ≡ F.read_faults files.old) × (F.reading files.new ≡ F.reading files.old) }
+        requires { IsTrue (F.state files.old).writing }
+        ensures { (l : LinkState) → Goes S.stands cfg.now (spec.come_back frame) self.old self.new
+            (desk (F.state files.old) (K.state out.old) l)
+            (desk (F.state files.new) (K.state out.new) l) result }
     {
         let Some(frame) = frame else {
             return Ok(());
@@ -64,18 +59,15 @@ impl<S: Services> Server<S> {
         files: &mut F,
         out: &mut K,
     ) -> Result<(), ServeFault>
-        requires writing { IsTrue (F.writing files.old) }
-        ensures run { IsTrue F.tells → IsTrue K.tells → (sent : List Heard) (base : Seen) (r : spec.Running) → StandsFor S.stands self.old r → Shows cfg.now base (seen_of (F.files files.old) (F.target files.old) (K.taken out.old) sent) r → Leaves (StandsFor S.stands self.new) cfg.now base (seen_of (F.files files.new) (F.target files.new) (K.taken out.new) sent) r (spec.take_back) result }
-        ensures write { IsErrOf result ServeFault.WriteFault → HasRisen (F.write_faults files.old) (F.write_faults files.new) ⊎ HasRisen (K.faults out.old) (K.faults out.new) }
-        ensures no_link { IsErrOf result ServeFault.LinkFault → ⊥ }
-        ensures later { (F.write_faults files.old ≤ F.write_faults files.new) × (K.faults out.old ≤ K.faults out.new) }
-        ensures writing { IsTrue (F.writing files.new) }
-        ensures kept { IsTrue F.tells → (F.asked files.new ≡ F.asked files.old) × (F.made files.new ≡ F.made files.old) }
-        ensures same { (F.read_faults files.new ≡ F.read_faults files.old) × (F.reading files.new ≡ F.reading files.old) }
+        requires { IsTrue (F.state files.old).writing }
+        ensures { (l : LinkState) → Goes S.stands cfg.now (spec.take_back) self.old self.new
+            (desk (F.state files.old) (K.state out.old) l)
+            (desk (F.state files.new) (K.state out.new) l) result }
     {
-        match self.make(alloc, cfg, files, out, &Some(Event::Take(Dev(0))))? {
-            StepOutcome::Lost => Ok(()),
-            StepOutcome::Took(frame) => self.come_back(alloc, cfg, files, out, frame),
+        match self.make(alloc, cfg, files, out, &Some(Event::Take(Dev(0)))) {
+            Ok(StepOutcome::Lost) => Ok(()),
+            Ok(StepOutcome::Took(frame)) => self.come_back(alloc, cfg, files, out, frame),
+            Err(fault) => Err(fault),
         }
     }
 
@@ -87,14 +79,10 @@ impl<S: Services> Server<S> {
         files: &mut F,
         out: &mut K,
     ) -> Result<(), ServeFault>
-        requires writing { IsTrue (F.writing files.old) }
-        ensures run { IsTrue F.tells → IsTrue K.tells → (sent : List Heard) (base : Seen) (r : spec.Running) → StandsFor S.stands self.old r → Shows cfg.now base (seen_of (F.files files.old) (F.target files.old) (K.taken out.old) sent) r → Leaves (StandsFor S.stands self.new) cfg.now base (seen_of (F.files files.new) (F.target files.new) (K.taken out.new) sent) r (spec.loop_back) result }
-        ensures write { IsErrOf result ServeFault.WriteFault → HasRisen (F.write_faults files.old) (F.write_faults files.new) ⊎ HasRisen (K.faults out.old) (K.faults out.new) }
-        ensures no_link { IsErrOf result ServeFault.LinkFault → ⊥ }
-        ensures later { (F.write_faults files.old ≤ F.write_faults files.new) × (K.faults out.old ≤ K.faults out.new) }
-        ensures writing { IsTrue (F.writing files.new) }
-        ensures kept { IsTrue F.tells → (F.asked files.new ≡ F.asked files.old) × (F.made files.new ≡ F.made files.old) }
-        ensures same { (F.read_faults files.new ≡ F.read_faults files.old) × (F.reading files.new ≡ F.reading files.old) }
+        requires { IsTrue (F.state files.old).writing }
+        ensures { (l : LinkState) → Goes S.stands cfg.now (spec.loop_back) self.old self.new
+            (desk (F.state files.old) (K.state out.old) l)
+            (desk (F.state files.new) (K.state out.new) l) result }
     {
         if self.node.queued(Dev(0)) == 0 {
             return Ok(());

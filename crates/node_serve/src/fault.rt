@@ -1,9 +1,3 @@
-ghost use Rattle.std.specs.Prelude.{◌≡◌};
-
-use node_io::Failed;
-use plan_base::NoMemory;
-use std::alloc::AllocError;
-
 /// Why a node stopped serving before the last turn was made and written.
 #[derive(Clone, Copy, PartialEq, Eq)]
 pub enum ServeFault {
@@ -13,34 +7,4 @@ pub enum ServeFault {
     WriteFault,
     /// Memory was refused at the opening or in writing a line.
     NoMemory,
-}
-
-impl From<Failed> for ServeFault {
-    ghost use Rattle.node_serve.specs.declared.fault.ServeFault.TheVariants.{WriteFault};
-
-    ghost from_gives = { λ _ e. e ≡ WriteFault };
-
-    fn from(_failed: Failed) -> ServeFault {
-        ServeFault::WriteFault
-    }
-}
-
-impl From<NoMemory> for ServeFault {
-    ghost use Rattle.node_serve.specs.declared.fault.ServeFault.TheVariants.{NoMemory};
-
-    ghost from_gives = { λ _ e. e ≡ NoMemory };
-
-    fn from(_refused: NoMemory) -> ServeFault {
-        ServeFault::NoMemory
-    }
-}
-
-impl From<AllocError> for ServeFault {
-    ghost use Rattle.node_serve.specs.declared.fault.ServeFault.TheVariants.{NoMemory};
-
-    ghost from_gives = { λ _ e. e ≡ NoMemory };
-
-    fn from(_refused: AllocError) -> ServeFault {
-        ServeFault::NoMemory
-    }
 }

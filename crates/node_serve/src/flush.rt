@@ -1,10 +1,9 @@
-ghost use Rattle.std.specs.Prelude.{◌≡◌, ◌≤◌, ◌<◌, ◌⊎◌, Option, Some, IsTrue, IsErrOf, ◌==◌};
-ghost use Rattle.node_io.specs.Causes.{HasRisen};
+ghost use Rattle.std.specs.Prelude.{◌≡◌, ◌≤◌, ◌==◌, IsTrue};
+ghost use Rattle.std.specs.List.{list_any};
 ghost use Rattle.node_io.specs.Links.{has_peer, HasPeer};
 ghost use Rattle.serve_model.specs.Runs as spec;
-ghost use Rattle.node_serve.specs.Shown.{Seen, Shows, Leaves};
-ghost use Rattle.node_serve.specs.Stays.{StandsFor, seen_of};
-ghost use Rattle.std.specs.List.{list_any};
+ghost use Rattle.node_serve.specs.Desks.{desk};
+ghost use Rattle.node_serve.specs.Goes.{Goes};
 ghost use Rattle.node_serve.specs.Steps.{SendsTaken};
 
 use crate::fault::ServeFault;
@@ -23,14 +22,8 @@ fn send_frame<L: Link>(
     dev: Dev,
     frame: &Option<SpelledFrame>,
 ) -> Result<(), ServeFault>
-    requires { HasPeer (L.bound link.old) dev }
-    ensures sent { IsTrue L.tells → SendsTaken (L.sent link.old) (L.sent link.new) dev frame.now result }
-    ensures link { IsErrOf result ServeFault.LinkFault → HasRisen (L.faults link.old) (L.faults link.new) }
-    ensures no_write { IsErrOf result ServeFault.WriteFault → ⊥ }
-    ensures later { L.faults link.old ≤ L.faults link.new }
-    ensures bound { L.bound link.new ≡ L.bound link.old }
-    ensures binds { IsTrue L.tells → L.binds link.new ≡ L.binds link.old }
-    ensures script { IsTrue L.tells → L.script link.new ≡ L.script link.old }
+    requires { HasPeer (L.state link.old).bound dev }
+    ensures { SendsTaken dev frame.now (L.state link.old) (L.state link.new) result }
 {
     let Some(frame) = frame else {
         return Ok(());
@@ -69,31 +62,25 @@ impl<S: Services> Server<S> {
         out: &mut K,
         dev: Dev,
     ) -> Result<(), ServeFault>
-        requires writing { IsTrue (F.writing files.old) }
-        requires bound { L.bound link.old ≡ spec.peers_of cfg.now }
+        requires writing { IsTrue (F.state files.old).writing }
+        requires bound { (L.state link.old).bound ≡ spec.peers_of cfg.now }
         requires peer { HasPeer (spec.peers_of cfg.now) dev }
         requires device { dev.0 ≤ 8 }
-        ensures run { IsTrue F.tells → IsTrue K.tells → IsTrue L.tells → (base : Seen) (r : spec.Running) → StandsFor S.stands self.old r → Shows cfg.now base (seen_of (F.files files.old) (F.target files.old) (K.taken out.old) (L.sent link.old)) r → Leaves (StandsFor S.stands self.new) cfg.now base (seen_of (F.files files.new) (F.target files.new) (K.taken out.new) (L.sent link.new)) r (spec.take_send dev) result }
-        ensures write { IsErrOf result ServeFault.WriteFault → HasRisen (F.write_faults files.old) (F.write_faults files.new) ⊎ HasRisen (K.faults out.old) (K.faults out.new) }
-        ensures link { IsErrOf result ServeFault.LinkFault → HasRisen (L.faults link.old) (L.faults link.new) }
-        ensures later { (F.write_faults files.old ≤ F.write_faults files.new) × (K.faults out.old ≤ K.faults out.new) }
-        ensures later_link { L.faults link.old ≤ L.faults link.new }
-        ensures bound { L.bound link.new ≡ L.bound link.old }
-        ensures binds { IsTrue L.tells → L.binds link.new ≡ L.binds link.old }
-        ensures script { IsTrue L.tells → L.script link.new ≡ L.script link.old }
-        ensures writing { IsTrue (F.writing files.new) }
-        ensures kept { IsTrue F.tells → (F.asked files.new ≡ F.asked files.old) × (F.made files.new ≡ F.made files.old) }
-        ensures same { (F.read_faults files.new ≡ F.read_faults files.old) × (F.reading files.new ≡ F.reading files.old) }
+        ensures goes { Goes S.stands cfg.now (spec.take_send dev) self.old self.new
+            (desk (F.state files.old) (K.state out.old) (L.state link.old))
+            (desk (F.state files.new) (K.state out.new) (L.state link.new)) result }
+        ensures script { (L.state link.new).script ≡ (L.state link.old).script }
     {
         if self.held {
             return Ok(());
         }
-        match self.make(alloc, cfg, files, out, &Some(Event::Take(dev)))? {
-            StepOutcome::Lost => {
+        match self.make(alloc, cfg, files, out, &Some(Event::Take(dev))) {
+            Ok(StepOutcome::Lost) => {
                 self.held = true;
                 Ok(())
             }
-            StepOutcome::Took(frame) => send_frame(link, dev, &frame),
+            Ok(StepOutcome::Took(frame)) => send_frame(link, dev, &frame),
+            Err(fault) => Err(fault),
         }
     }
 
@@ -108,24 +95,19 @@ impl<S: Services> Server<S> {
         dev: Dev,
         count: u32,
     ) -> Result<(), ServeFault>
-        requires writing { IsTrue (F.writing files.old) }
-        requires bound { L.bound link.old ≡ spec.peers_of cfg.now }
+        requires writing { IsTrue (F.state files.old).writing }
+        requires bound { (L.state link.old).bound ≡ spec.peers_of cfg.now }
         requires peer { HasPeer (spec.peers_of cfg.now) dev }
         requires device { dev.0 ≤ 8 }
-        ensures run { IsTrue F.tells → IsTrue K.tells → IsTrue L.tells → (base : Seen) (r : spec.Running) → StandsFor S.stands self.old r → Shows cfg.now base (seen_of (F.files files.old) (F.target files.old) (K.taken out.old) (L.sent link.old)) r → Leaves (StandsFor S.stands self.new) cfg.now base (seen_of (F.files files.new) (F.target files.new) (K.taken out.new) (L.sent link.new)) r (spec.repeat_send dev count) result }
-        ensures write { IsErrOf result ServeFault.WriteFault → HasRisen (F.write_faults files.old) (F.write_faults files.new) ⊎ HasRisen (K.faults out.old) (K.faults out.new) }
-        ensures link { IsErrOf result ServeFault.LinkFault → HasRisen (L.faults link.old) (L.faults link.new) }
-        ensures later { (F.write_faults files.old ≤ F.write_faults files.new) × (K.faults out.old ≤ K.faults out.new) }
-        ensures later_link { L.faults link.old ≤ L.faults link.new }
-        ensures bound { L.bound link.new ≡ L.bound link.old }
-        ensures binds { IsTrue L.tells → L.binds link.new ≡ L.binds link.old }
-        ensures script { IsTrue L.tells → L.script link.new ≡ L.script link.old }
-        ensures writing { IsTrue (F.writing files.new) }
-        ensures kept { IsTrue F.tells → (F.asked files.new ≡ F.asked files.old) × (F.made files.new ≡ F.made files.old) }
-        ensures same { (F.read_faults files.new ≡ F.read_faults files.old) × (F.reading files.new ≡ F.reading files.old) }
+        ensures goes { Goes S.stands cfg.now (spec.repeat_send dev count) self.old self.new
+            (desk (F.state files.old) (K.state out.old) (L.state link.old))
+            (desk (F.state files.new) (K.state out.new) (L.state link.new)) result }
+        ensures script { (L.state link.new).script ≡ (L.state link.old).script }
     {
         for _ in 0..count {
-            self.take_send(alloc, cfg, link, files, out, dev)?;
+            if let Err(fault) = self.take_send(alloc, cfg, link, files, out, dev) {
+                return Err(fault);
+            }
         }
         Ok(())
     }
@@ -140,20 +122,14 @@ impl<S: Services> Server<S> {
         out: &mut K,
         dev: Dev,
     ) -> Result<(), ServeFault>
-        requires writing { IsTrue (F.writing files.old) }
-        requires bound { L.bound link.old ≡ spec.peers_of cfg.now }
+        requires writing { IsTrue (F.state files.old).writing }
+        requires bound { (L.state link.old).bound ≡ spec.peers_of cfg.now }
         requires device { dev.0 ≤ 8 }
-        ensures run { IsTrue F.tells → IsTrue K.tells → IsTrue L.tells → (base : Seen) (r : spec.Running) → StandsFor S.stands self.old r → Shows cfg.now base (seen_of (F.files files.old) (F.target files.old) (K.taken out.old) (L.sent link.old)) r → Leaves (StandsFor S.stands self.new) cfg.now base (seen_of (F.files files.new) (F.target files.new) (K.taken out.new) (L.sent link.new)) r (spec.flush_device (spec.peers_of cfg.now) dev) result }
-        ensures write { IsErrOf result ServeFault.WriteFault → HasRisen (F.write_faults files.old) (F.write_faults files.new) ⊎ HasRisen (K.faults out.old) (K.faults out.new) }
-        ensures link { IsErrOf result ServeFault.LinkFault → HasRisen (L.faults link.old) (L.faults link.new) }
-        ensures later { (F.write_faults files.old ≤ F.write_faults files.new) × (K.faults out.old ≤ K.faults out.new) }
-        ensures later_link { L.faults link.old ≤ L.faults link.new }
-        ensures bound { L.bound link.new ≡ L.bound link.old }
-        ensures binds { IsTrue L.tells → L.binds link.new ≡ L.binds link.old }
-        ensures script { IsTrue L.tells → L.script link.new ≡ L.script link.old }
-        ensures writing { IsTrue (F.writing files.new) }
-        ensures kept { IsTrue F.tells → (F.asked files.new ≡ F.asked files.old) × (F.made files.new ≡ F.made files.old) }
-        ensures same { (F.read_faults files.new ≡ F.read_faults files.old) × (F.reading files.new ≡ F.reading files.old) }
+        ensures goes { Goes S.stands cfg.now (spec.flush_device (spec.peers_of cfg.now) dev)
+            self.old self.new
+            (desk (F.state files.old) (K.state out.old) (L.state link.old))
+            (desk (F.state files.new) (K.state out.new) (L.state link.new)) result }
+        ensures script { (L.state link.new).script ≡ (L.state link.old).script }
     {
         if !has_peer(cfg, dev) {
             return Ok(());
@@ -171,22 +147,18 @@ impl<S: Services> Server<S> {
         files: &mut F,
         out: &mut K,
     ) -> Result<(), ServeFault>
-        requires writing { IsTrue (F.writing files.old) }
-        requires bound { L.bound link.old ≡ spec.peers_of cfg.now }
-        ensures run { IsTrue F.tells → IsTrue K.tells → IsTrue L.tells → (base : Seen) (r : spec.Running) → StandsFor S.stands self.old r → Shows cfg.now base (seen_of (F.files files.old) (F.target files.old) (K.taken out.old) (L.sent link.old)) r → Leaves (StandsFor S.stands self.new) cfg.now base (seen_of (F.files files.new) (F.target files.new) (K.taken out.new) (L.sent link.new)) r (spec.flush_to (spec.peers_of cfg.now) 8) result }
-        ensures write { IsErrOf result ServeFault.WriteFault → HasRisen (F.write_faults files.old) (F.write_faults files.new) ⊎ HasRisen (K.faults out.old) (K.faults out.new) }
-        ensures link { IsErrOf result ServeFault.LinkFault → HasRisen (L.faults link.old) (L.faults link.new) }
-        ensures later { (F.write_faults files.old ≤ F.write_faults files.new) × (K.faults out.old ≤ K.faults out.new) }
-        ensures later_link { L.faults link.old ≤ L.faults link.new }
-        ensures bound { L.bound link.new ≡ L.bound link.old }
-        ensures binds { IsTrue L.tells → L.binds link.new ≡ L.binds link.old }
-        ensures script { IsTrue L.tells → L.script link.new ≡ L.script link.old }
-        ensures writing { IsTrue (F.writing files.new) }
-        ensures kept { IsTrue F.tells → (F.asked files.new ≡ F.asked files.old) × (F.made files.new ≡ F.made files.old) }
-        ensures same { (F.read_faults files.new ≡ F.read_faults files.old) × (F.reading files.new ≡ F.reading files.old) }
+        requires writing { IsTrue (F.state files.old).writing }
+        requires bound { (L.state link.old).bound ≡ spec.peers_of cfg.now }
+        ensures goes { Goes S.stands cfg.now (spec.flush_to (spec.peers_of cfg.now) 8)
+            self.old self.new
+            (desk (F.state files.old) (K.state out.old) (L.state link.old))
+            (desk (F.state files.new) (K.state out.new) (L.state link.new)) result }
+        ensures script { (L.state link.new).script ≡ (L.state link.old).script }
     {
         for number in 0..8 {
-            self.flush_device(alloc, cfg, link, files, out, Dev(number + 1))?;
+            if let Err(fault) = self.flush_device(alloc, cfg, link, files, out, Dev(number + 1)) {
+                return Err(fault);
+            }
         }
         Ok(())
     }
@@ -200,19 +172,12 @@ impl<S: Services> Server<S> {
         files: &mut F,
         out: &mut K,
     ) -> Result<(), ServeFault>
-        requires writing { IsTrue (F.writing files.old) }
-        requires bound { L.bound link.old ≡ spec.peers_of cfg.now }
-        ensures run { IsTrue F.tells → IsTrue K.tells → IsTrue L.tells → (base : Seen) (r : spec.Running) → StandsFor S.stands self.old r → Shows cfg.now base (seen_of (F.files files.old) (F.target files.old) (K.taken out.old) (L.sent link.old)) r → Leaves (StandsFor S.stands self.new) cfg.now base (seen_of (F.files files.new) (F.target files.new) (K.taken out.new) (L.sent link.new)) r (spec.flush (spec.peers_of cfg.now)) result }
-        ensures write { IsErrOf result ServeFault.WriteFault → HasRisen (F.write_faults files.old) (F.write_faults files.new) ⊎ HasRisen (K.faults out.old) (K.faults out.new) }
-        ensures link { IsErrOf result ServeFault.LinkFault → HasRisen (L.faults link.old) (L.faults link.new) }
-        ensures later { (F.write_faults files.old ≤ F.write_faults files.new) × (K.faults out.old ≤ K.faults out.new) }
-        ensures later_link { L.faults link.old ≤ L.faults link.new }
-        ensures bound { L.bound link.new ≡ L.bound link.old }
-        ensures binds { IsTrue L.tells → L.binds link.new ≡ L.binds link.old }
-        ensures script { IsTrue L.tells → L.script link.new ≡ L.script link.old }
-        ensures writing { IsTrue (F.writing files.new) }
-        ensures kept { IsTrue F.tells → (F.asked files.new ≡ F.asked files.old) × (F.made files.new ≡ F.made files.old) }
-        ensures same { (F.read_faults files.new ≡ F.read_faults files.old) × (F.reading files.new ≡ F.reading files.old) }
+        requires writing { IsTrue (F.state files.old).writing }
+        requires bound { (L.state link.old).bound ≡ spec.peers_of cfg.now }
+        ensures goes { Goes S.stands cfg.now (spec.flush (spec.peers_of cfg.now)) self.old self.new
+            (desk (F.state files.old) (K.state out.old) (L.state link.old))
+            (desk (F.state files.new) (K.state out.new) (L.state link.new)) result }
+        ensures script { (L.state link.new).script ≡ (L.state link.old).script }
     {
         self.held = false;
         self.flush_all(alloc, cfg, link, files, out)
@@ -227,21 +192,17 @@ impl<S: Services> Server<S> {
         files: &mut F,
         out: &mut K,
     ) -> Result<(), ServeFault>
-        requires writing { IsTrue (F.writing files.old) }
-        requires bound { L.bound link.old ≡ spec.peers_of cfg.now }
-        ensures run { IsTrue F.tells → IsTrue K.tells → IsTrue L.tells → (base : Seen) (r : spec.Running) → StandsFor S.stands self.old r → Shows cfg.now base (seen_of (F.files files.old) (F.target files.old) (K.taken out.old) (L.sent link.old)) r → Leaves (StandsFor S.stands self.new) cfg.now base (seen_of (F.files files.new) (F.target files.new) (K.taken out.new) (L.sent link.new)) r (spec.end_turn (spec.peers_of cfg.now)) result }
-        ensures write { IsErrOf result ServeFault.WriteFault → HasRisen (F.write_faults files.old) (F.write_faults files.new) ⊎ HasRisen (K.faults out.old) (K.faults out.new) }
-        ensures link { IsErrOf result ServeFault.LinkFault → HasRisen (L.faults link.old) (L.faults link.new) }
-        ensures later { (F.write_faults files.old ≤ F.write_faults files.new) × (K.faults out.old ≤ K.faults out.new) }
-        ensures later_link { L.faults link.old ≤ L.faults link.new }
-        ensures bound { L.bound link.new ≡ L.bound link.old }
-        ensures binds { IsTrue L.tells → L.binds link.new ≡ L.binds link.old }
-        ensures script { IsTrue L.tells → L.script link.new ≡ L.script link.old }
-        ensures writing { IsTrue (F.writing files.new) }
-        ensures kept { IsTrue F.tells → (F.asked files.new ≡ F.asked files.old) × (F.made files.new ≡ F.made files.old) }
-        ensures same { (F.read_faults files.new ≡ F.read_faults files.old) × (F.reading files.new ≡ F.reading files.old) }
+        requires writing { IsTrue (F.state files.old).writing }
+        requires bound { (L.state link.old).bound ≡ spec.peers_of cfg.now }
+        ensures goes { Goes S.stands cfg.now (spec.end_turn (spec.peers_of cfg.now))
+            self.old self.new
+            (desk (F.state files.old) (K.state out.old) (L.state link.old))
+            (desk (F.state files.new) (K.state out.new) (L.state link.new)) result }
+        ensures script { (L.state link.new).script ≡ (L.state link.old).script }
     {
-        self.loop_back(alloc, cfg, files, out)?;
-        self.flush(alloc, cfg, link, files, out)
+        match self.loop_back(alloc, cfg, files, out) {
+            Ok(()) => self.flush(alloc, cfg, link, files, out),
+            Err(fault) => Err(fault),
+        }
     }
 }

@@ -1,10 +1,10 @@
-ghost use Rattle.std.specs.Prelude.{◌≡◌, ◌≤◌, ◌<◌, ◌⊎◌, List, Option, Some, IsTrue, IsErrOf, IfSome, length};
+ghost use Rattle.std.specs.Prelude.{◌≡◌, ◌≤◌, ◌<◌, Some, IsTrue, IfSome, length};
 ghost use Rattle.network_plan.specs.NodeRules.{KeepsNodeEvent, KeepsServe};
-ghost use Rattle.node_io.specs.Causes.{HasRisen};
-ghost use Rattle.node_io.specs.Links.{Heard, next_heard};
+ghost use Rattle.node_io.specs.Links.{LinkState, next_heard};
 ghost use Rattle.serve_model.specs.Runs as spec;
-ghost use Rattle.node_serve.specs.Shown.{Seen, Shows, Leaves, UsesOne};
-ghost use Rattle.node_serve.specs.Stays.{StandsFor, seen_of};
+ghost use Rattle.node_serve.specs.Desks.{desk};
+ghost use Rattle.node_serve.specs.Goes.{Goes};
+ghost use Rattle.node_serve.specs.Shown.{UsesOne};
 
 use crate::fault::ServeFault;
 use crate::server::Server;
@@ -40,17 +40,14 @@ impl<S: Services> Server<S> {
         dev: Dev,
         bytes: &[u8],
     ) -> Result<(), ServeFault>
-        requires writing { IsTrue (F.writing files.old) }
+        requires writing { IsTrue (F.state files.old).writing }
         requires device { dev.0 ≤ 8 }
         requires some { 0 < length bytes.now }
         requires few { length bytes.now ≤ 16513 }
-        ensures run { IsTrue F.tells → IsTrue K.tells → (sent : List Heard) (base : Seen) (r : spec.Running) → StandsFor S.stands self.old r → Shows cfg.now base (seen_of (F.files files.old) (F.target files.old) (K.taken out.old) sent) r → Leaves (StandsFor S.stands self.new) cfg.now base (seen_of (F.files files.new) (F.target files.new) (K.taken out.new) sent) r (spec.hear (Some (dev, bytes.now))) result }
-        ensures write { IsErrOf result ServeFault.WriteFault → HasRisen (F.write_faults files.old) (F.write_faults files.new) ⊎ HasRisen (K.faults out.old) (K.faults out.new) }
-        ensures no_link { IsErrOf result ServeFault.LinkFault → ⊥ }
-        ensures later { (F.write_faults files.old ≤ F.write_faults files.new) × (K.faults out.old ≤ K.faults out.new) }
-        ensures writing { IsTrue (F.writing files.new) }
-        ensures kept { IsTrue F.tells → (F.asked files.new ≡ F.asked files.old) × (F.made files.new ≡ F.made files.old) }
-        ensures same { (F.read_faults files.new ≡ F.read_faults files.old) × (F.reading files.new ≡ F.reading files.old) }
+        ensures { (l : LinkState) → Goes S.stands cfg.now (spec.hear (Some (dev, bytes.now)))
+            self.old self.new
+            (desk (F.state files.old) (K.state out.old) l)
+            (desk (F.state files.new) (K.state out.new) l) result }
     {
         let event = arrival(alloc, dev, bytes);
         self.step(alloc, cfg, files, out, &event)
@@ -66,21 +63,17 @@ impl<S: Services> Server<S> {
         out: &mut K,
         buf: &mut [u8],
     ) -> Result<(), ServeFault>
-        requires writing { IsTrue (F.writing files.old) }
-        requires bound { L.bound link.old ≡ spec.peers_of cfg.now }
+        requires writing { IsTrue (F.state files.old).writing }
+        requires bound { (L.state link.old).bound ≡ spec.peers_of cfg.now }
         requires keeps { KeepsServe cfg.now }
         requires room { length buf.old ≡ 16513 }
-        ensures run { IsTrue F.tells → IsTrue K.tells → IsTrue L.tells → (base : Seen) (r : spec.Running) → StandsFor S.stands self.old r → Shows cfg.now base (seen_of (F.files files.old) (F.target files.old) (K.taken out.old) (L.sent link.old)) r → Leaves (StandsFor S.stands self.new) cfg.now base (seen_of (F.files files.new) (F.target files.new) (K.taken out.new) (L.sent link.new)) r (spec.hear (next_heard (spec.peers_of cfg.now) (L.script link.old))) result }
-        ensures write { IsErrOf result ServeFault.WriteFault → HasRisen (F.write_faults files.old) (F.write_faults files.new) ⊎ HasRisen (K.faults out.old) (K.faults out.new) }
-        ensures link { IsErrOf result ServeFault.LinkFault → HasRisen (L.faults link.old) (L.faults link.new) }
-        ensures later { (F.write_faults files.old ≤ F.write_faults files.new) × (K.faults out.old ≤ K.faults out.new) }
-        ensures later_link { L.faults link.old ≤ L.faults link.new }
-        ensures bound { L.bound link.new ≡ L.bound link.old }
-        ensures binds { IsTrue L.tells → L.binds link.new ≡ L.binds link.old }
-        ensures writing { IsTrue (F.writing files.new) }
-        ensures kept { IsTrue F.tells → (F.asked files.new ≡ F.asked files.old) × (F.made files.new ≡ F.made files.old) }
-        ensures same { (F.read_faults files.new ≡ F.read_faults files.old) × (F.reading files.new ≡ F.reading files.old) }
-        ensures script { IsTrue L.tells → UsesOne (L.script link.old) (L.script link.new) result }
+        ensures goes { Goes S.stands cfg.now
+            (spec.hear (next_heard (spec.peers_of cfg.now) (L.state link.old).script))
+            self.old self.new
+            (desk (F.state files.old) (K.state out.old) (L.state link.old))
+            (desk (F.state files.new) (K.state out.new) (L.state link.new)) result }
+        ensures script { IsTrue (L.state link.old).observable
+            → UsesOne (L.state link.old).script (L.state link.new).script result }
         ensures room { length buf.new ≡ length buf.old }
     {
         match link.recv(buf) {

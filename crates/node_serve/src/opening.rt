@@ -1,13 +1,10 @@
-ghost use Rattle.std.specs.Prelude.{◌≡◌, ◌∷◌, ◌++◌, ◌≤◌, ◌⊎◌, map, ℕ, List, IfOk, IsErrOf, IsTrue, OnOk, codes, length};
+ghost use Rattle.std.specs.Prelude.{◌≡◌, ◌∷◌, map, IfOk, length};
 ghost use Rattle.network_plan.specs.NodeRules.{KeepsServe};
-ghost use Rattle.node_files.specs.LogTexts.{head_text};
-ghost use Rattle.node_io.specs.Causes.{HasRisen};
-ghost use Rattle.node_io.specs.FileMaps.{ChangesOnly, SavesFront, Names};
-ghost use Rattle.node_io.specs.Links.{Binds};
-ghost use Rattle.node_io.specs.Pieces.{AppendsFront};
 ghost use Rattle.network_plan.specs.Hosts.{dev_of};
+ghost use Rattle.node_files.specs.LogTexts.{head_text};
 ghost use Rattle.serve_model.specs.Runs.{peer, peers_of};
-ghost use Rattle.node_serve.specs.Served.{Opens, outside_of, own_bind};
+ghost use Rattle.node_serve.specs.Desks.{desk};
+ghost use Rattle.node_serve.specs.Openings.{BindsNode, BeginsLog, Opens};
 
 use crate::fault::ServeFault;
 use network_plan::ServeConfig;
@@ -18,7 +15,8 @@ use std::alloc::Global;
 
 /// The peers of a node: its owner on device 0, at this port, and its neighbours.
 fn peers_at(alloc: Global, control: u16, ports: &[(Dev, u16)]) -> Result<Peers, NoMemory>
-    ensures { IfOk result (λ peers. peers ≡ peer (dev_of 0) control ∷ map (λ p. peer p.0 p.1) ports.now) }
+    ensures { IfOk result
+        (λ peers. peers ≡ peer (dev_of 0) control ∷ map (λ p. peer p.0 p.1) ports.now) }
 {
     let mut peers = Peers::new(alloc);
     peers.add(Peer {
@@ -44,14 +42,11 @@ pub(crate) fn room(alloc: Global) -> Result<Vec<u8>, NoMemory>
 /// Binds the link at the node's own port, with its peers.
 #[tactic(auto, unfolding(serve_model::specs::Runs::peers_of))]
 fn bind<L: Link>(alloc: Global, cfg: &ServeConfig, link: &mut L) -> Result<(), ServeFault>
-    ensures bound { OnOk result (L.bound link.new ≡ peers_of cfg.now) }
-    ensures binds { IsTrue L.tells → Binds (L.binds link.old) (L.binds link.new) (own_bind cfg.now) result }
-    ensures kept { IsTrue L.tells → (L.script link.new ≡ L.script link.old) × (L.sent link.new ≡ L.sent link.old) }
-    ensures link { IsErrOf result ServeFault.LinkFault → HasRisen (L.faults link.old) (L.faults link.new) }
-    ensures no_write { IsErrOf result ServeFault.WriteFault → ⊥ }
-    ensures later { L.faults link.old ≤ L.faults link.new }
+    ensures { BindsNode cfg.now (L.state link.old) (L.state link.new) result }
 {
-    let peers = peers_at(alloc, cfg.control, cfg.devs.as_slice())?;
+    let Ok(peers) = peers_at(alloc, cfg.control, cfg.devs.as_slice()) else {
+        return Err(ServeFault::NoMemory);
+    };
     match link.bind(cfg.port, &peers) {
         Ok(()) => Ok(()),
         Err(_) => Err(ServeFault::LinkFault),
@@ -69,34 +64,19 @@ fn log_head(alloc: Global, cfg: &ServeConfig) -> Result<Bytes, NoMemory>
 
 /// Makes the log, and writes its lines up to `events`.
 fn begin_log<F: Files>(alloc: Global, cfg: &ServeConfig, files: &mut F) -> Result<(), ServeFault>
-    requires keeps { KeepsServe cfg.now }
-    ensures whole { IsTrue F.tells → OnOk result (ChangesOnly (F.files files.old) (F.files files.new) cfg.now.log (head_text cfg.now.node cfg.now.missing)) }
-    ensures front { IsTrue F.tells → SavesFront (F.files files.old) (F.files files.new) cfg.now.log (head_text cfg.now.node cfg.now.missing) }
-    ensures target { IsTrue F.tells → OnOk result (F.target files.new ≡ cfg.now.log) }
-    ensures writing { OnOk result (IsTrue (F.writing files.new)) }
-    ensures made { IsTrue F.tells → Names (F.made files.old) (F.made files.new) cfg.now.log result }
-    ensures asked { IsTrue F.tells → F.asked files.new ≡ F.asked files.old }
-    ensures write { IsErrOf result ServeFault.WriteFault → HasRisen (F.write_faults files.old) (F.write_faults files.new) }
-    ensures no_link { IsErrOf result ServeFault.LinkFault → ⊥ }
-    ensures later { F.write_faults files.old ≤ F.write_faults files.new }
-    ensures same { (F.read_faults files.new ≡ F.read_faults files.old) × (F.reading files.new ≡ F.reading files.old) }
+    requires { KeepsServe cfg.now }
+    ensures { BeginsLog cfg.now (F.state files.old) (F.state files.new) result }
 {
-    let head = log_head(alloc, cfg)?;
-    files.write_to(cfg.log.as_str())?;
-    put_file(files, head.as_slice())?;
-    Ok(())
-}
-
-/// Writes the trace's first line.
-fn begin_trace<K: Sink>(out: &mut K) -> Result<(), ServeFault>
-    ensures whole { IsTrue K.tells → OnOk result (K.taken out.new ≡ K.taken out.old ++ codes "planet trace 1\n") }
-    ensures front { IsTrue K.tells → AppendsFront (K.taken out.old) (K.taken out.new) (codes "planet trace 1\n") }
-    ensures write { IsErrOf result ServeFault.WriteFault → HasRisen (K.faults out.old) (K.faults out.new) }
-    ensures no_link { IsErrOf result ServeFault.LinkFault → ⊥ }
-    ensures later { K.faults out.old ≤ K.faults out.new }
-{
-    put_all(out, b"planet trace 1\n")?;
-    Ok(())
+    let Ok(head) = log_head(alloc, cfg) else {
+        return Err(ServeFault::NoMemory);
+    };
+    let Ok(()) = files.write_to(cfg.log.as_str()) else {
+        return Err(ServeFault::WriteFault);
+    };
+    match put_file(files, head.as_slice()) {
+        Ok(()) => Ok(()),
+        Err(_) => Err(ServeFault::WriteFault),
+    }
 }
 
 /// Binds the link, begins the log and begins the trace, in this order.
@@ -107,19 +87,19 @@ pub(crate) fn begin<L: Link, F: Files, K: Sink>(
     files: &mut F,
     out: &mut K,
 ) -> Result<(), ServeFault>
-    requires keeps { KeepsServe cfg.now }
-    ensures opens { IsTrue F.tells → IsTrue K.tells → IsTrue L.tells → (last : ℕ) (answers : List ℕ) → Opens cfg.now (outside_of (L.script link.old) (L.sent link.old) (L.binds link.old) last answers (F.files files.old) (K.taken out.old)) (outside_of (L.script link.new) (L.sent link.new) (L.binds link.new) last answers (F.files files.new) (K.taken out.new)) (F.target files.new) result }
-    ensures bound { OnOk result (L.bound link.new ≡ peers_of cfg.now) }
-    ensures writing { OnOk result (IsTrue (F.writing files.new)) }
-    ensures made { IsTrue F.tells → Names (F.made files.old) (F.made files.new) cfg.now.log result }
-    ensures asked { IsTrue F.tells → F.asked files.new ≡ F.asked files.old }
-    ensures write { IsErrOf result ServeFault.WriteFault → HasRisen (F.write_faults files.old) (F.write_faults files.new) ⊎ HasRisen (K.faults out.old) (K.faults out.new) }
-    ensures link { IsErrOf result ServeFault.LinkFault → HasRisen (L.faults link.old) (L.faults link.new) }
-    ensures later { (F.write_faults files.old ≤ F.write_faults files.new) × (K.faults out.old ≤ K.faults out.new) }
-    ensures later_link { L.faults link.old ≤ L.faults link.new }
-    ensures same { (F.read_faults files.new ≡ F.read_faults files.old) × (F.reading files.new ≡ F.reading files.old) }
+    requires { KeepsServe cfg.now }
+    ensures { Opens cfg.now
+        (desk (F.state files.old) (K.state out.old) (L.state link.old))
+        (desk (F.state files.new) (K.state out.new) (L.state link.new)) result }
 {
-    bind(alloc, cfg, link)?;
-    begin_log(alloc, cfg, files)?;
-    begin_trace(out)
+    if let Err(fault) = bind(alloc, cfg, link) {
+        return Err(fault);
+    }
+    if let Err(fault) = begin_log(alloc, cfg, files) {
+        return Err(fault);
+    }
+    match put_all(out, b"planet trace 1\n") {
+        Ok(()) => Ok(()),
+        Err(_) => Err(ServeFault::WriteFault),
+    }
 }

@@ -1,18 +1,17 @@
-ghost use Rattle.std.specs.Prelude.{◌≡◌, ◌+◌, ◌≤◌, ◌<◌, ◌⊎◌, List, Option, IsTrue, IsErrOf, IfSome, IfOk, MatchResult};
+ghost use Rattle.std.specs.Prelude.{◌≡◌, ◌+◌, IsTrue, IfSome, IfOk};
 ghost use Rattle.network_plan.specs.declared.event.Event.{Event as EventOf};
 ghost use Rattle.network_plan.specs.NodeRules.{KeepsNodeEvent};
-ghost use Rattle.node_io.specs.Causes.{HasRisen};
-ghost use Rattle.node_io.specs.Links.{Heard};
+ghost use Rattle.node_io.specs.Links.{LinkState};
 ghost use Rattle.serve_model.specs.Runs as spec;
-ghost use Rattle.node_serve.specs.Shown.{Seen, Shows, Leaves, Stopped};
-ghost use Rattle.node_serve.specs.Stays.{StandsFor, Makes, seen_of};
-ghost use Rattle.node_serve.specs.Steps.{IsWritten};
+ghost use Rattle.node_serve.specs.Desks.{desk};
+ghost use Rattle.node_serve.specs.Goes.{Goes, MakesStep};
+ghost use Rattle.node_serve.specs.Steps.{WritesStep};
 
 use crate::fault::ServeFault;
 use crate::steps::{StepOutcome, try_step};
 use network_plan::{Event, ServeConfig};
 use node_core::Node;
-use node_io::{Files, Sink, put_all, put_file};
+use node_io::{Failed, Files, Sink, put_all, put_file};
 use plan_base::NoMemory;
 use service_api::Services;
 use std::alloc::Global;
@@ -40,20 +39,15 @@ fn write_step<F: Files, K: Sink>(
     out: &mut K,
     line: &[u8],
     lines: &[u8],
-) -> Result<(), ServeFault>
-    requires writing { IsTrue (F.writing files.old) }
-    ensures run { IsTrue F.tells → IsTrue K.tells → IsWritten (F.files files.old) (F.files files.new) (F.target files.old) line.now (K.taken out.old) (K.taken out.new) lines.now result }
-    ensures target { IsTrue F.tells → F.target files.new ≡ F.target files.old }
-    ensures write { IsErrOf result ServeFault.WriteFault → HasRisen (F.write_faults files.old) (F.write_faults files.new) ⊎ HasRisen (K.faults out.old) (K.faults out.new) }
-    ensures no_link { IsErrOf result ServeFault.LinkFault → ⊥ }
-    ensures later { (F.write_faults files.old ≤ F.write_faults files.new) × (K.faults out.old ≤ K.faults out.new) }
-    ensures writing { IsTrue (F.writing files.new) }
-    ensures kept { IsTrue F.tells → (F.asked files.new ≡ F.asked files.old) × (F.made files.new ≡ F.made files.old) }
-    ensures same { (F.read_faults files.new ≡ F.read_faults files.old) × (F.reading files.new ≡ F.reading files.old) }
+) -> Result<(), Failed>
+    requires { IsTrue (F.state files.old).writing }
+    ensures { WritesStep line.now lines.now (F.state files.old) (F.state files.new)
+        (K.state out.old) (K.state out.new) result }
 {
-    put_file(files, line)?;
-    put_all(out, lines)?;
-    Ok(())
+    let Ok(()) = put_file(files, line) else {
+        return Err(Failed);
+    };
+    put_all(out, lines)
 }
 
 impl<S: Services> Server<S> {
@@ -67,19 +61,22 @@ impl<S: Services> Server<S> {
         out: &mut K,
         event: &Option<Event>,
     ) -> Result<StepOutcome, ServeFault>
-        requires writing { IsTrue (F.writing files.old) }
+        requires writing { IsTrue (F.state files.old).writing }
         requires event { IfSome event.now KeepsNodeEvent }
-        ensures run { IsTrue F.tells → IsTrue K.tells → (sent : List Heard) (base : Seen) (r : spec.Running) (e : EventOf) → StandsFor S.stands self.old r → Shows cfg.now base (seen_of (F.files files.old) (F.target files.old) (K.taken out.old) sent) r → IfSome event.now (λ x. x ≡ e) → MatchResult result (λ made. Makes S.stands cfg.now base (seen_of (F.files files.new) (F.target files.new) (K.taken out.new) sent) r e made self.new) (λ _. Stopped cfg.now base (seen_of (F.files files.new) (F.target files.new) (K.taken out.new) sent) r (spec.make e)) }
-        ensures write { IsErrOf result ServeFault.WriteFault → HasRisen (F.write_faults files.old) (F.write_faults files.new) ⊎ HasRisen (K.faults out.old) (K.faults out.new) }
-        ensures no_link { IsErrOf result ServeFault.LinkFault → ⊥ }
-        ensures later { (F.write_faults files.old ≤ F.write_faults files.new) × (K.faults out.old ≤ K.faults out.new) }
-        ensures writing { IsTrue (F.writing files.new) }
-        ensures kept { IsTrue F.tells → (F.asked files.new ≡ F.asked files.old) × (F.made files.new ≡ F.made files.old) }
-        ensures same { (F.read_faults files.new ≡ F.read_faults files.old) × (F.reading files.new ≡ F.reading files.old) }
+        ensures { (l : LinkState) (e : EventOf) → IfSome event.now (λ x. x ≡ e)
+            → MakesStep S.stands cfg.now e self.old self.new
+            (desk (F.state files.old) (K.state out.old) l)
+            (desk (F.state files.new) (K.state out.new) l) result }
     {
-        let number = next_number(self.steps)?;
-        let texts = try_step(alloc, &mut self.node, number, cfg.node.here, event)?;
-        write_step(files, out, texts.line.as_slice(), texts.lines.as_slice())?;
+        let Ok(number) = next_number(self.steps) else {
+            return Err(ServeFault::NoMemory);
+        };
+        let Ok(texts) = try_step(alloc, &mut self.node, number, cfg.node.here, event) else {
+            return Err(ServeFault::NoMemory);
+        };
+        let Ok(()) = write_step(files, out, texts.line.as_slice(), texts.lines.as_slice()) else {
+            return Err(ServeFault::WriteFault);
+        };
         self.steps = number;
         Ok(texts.made)
     }
@@ -93,17 +90,16 @@ impl<S: Services> Server<S> {
         out: &mut K,
         event: &Option<Event>,
     ) -> Result<(), ServeFault>
-        requires writing { IsTrue (F.writing files.old) }
+        requires writing { IsTrue (F.state files.old).writing }
         requires event { IfSome event.now KeepsNodeEvent }
-        ensures run { IsTrue F.tells → IsTrue K.tells → (sent : List Heard) (base : Seen) (r : spec.Running) (e : EventOf) → StandsFor S.stands self.old r → Shows cfg.now base (seen_of (F.files files.old) (F.target files.old) (K.taken out.old) sent) r → IfSome event.now (λ x. x ≡ e) → Leaves (StandsFor S.stands self.new) cfg.now base (seen_of (F.files files.new) (F.target files.new) (K.taken out.new) sent) r (spec.make e) result }
-        ensures write { IsErrOf result ServeFault.WriteFault → HasRisen (F.write_faults files.old) (F.write_faults files.new) ⊎ HasRisen (K.faults out.old) (K.faults out.new) }
-        ensures no_link { IsErrOf result ServeFault.LinkFault → ⊥ }
-        ensures later { (F.write_faults files.old ≤ F.write_faults files.new) × (K.faults out.old ≤ K.faults out.new) }
-        ensures writing { IsTrue (F.writing files.new) }
-        ensures kept { IsTrue F.tells → (F.asked files.new ≡ F.asked files.old) × (F.made files.new ≡ F.made files.old) }
-        ensures same { (F.read_faults files.new ≡ F.read_faults files.old) × (F.reading files.new ≡ F.reading files.old) }
+        ensures { (l : LinkState) (e : EventOf) → IfSome event.now (λ x. x ≡ e)
+            → Goes S.stands cfg.now (spec.make e) self.old self.new
+            (desk (F.state files.old) (K.state out.old) l)
+            (desk (F.state files.new) (K.state out.new) l) result }
     {
-        self.make(alloc, cfg, files, out, event)?;
+        if let Err(fault) = self.make(alloc, cfg, files, out, event) {
+            return Err(fault);
+        }
         Ok(())
     }
 }

@@ -1,12 +1,10 @@
-ghost use Rattle.std.specs.Prelude.{◌≡◌, ◌++◌, ◌≤◌, ◌⊎◌, IfOk, IsErrOf, IsTrue, OnOk, codes, length};
-ghost use Rattle.node_io.specs.Pieces.{AppendsFront};
+ghost use Rattle.std.specs.Prelude.{◌≡◌, IfOk, IsTrue, length};
 ghost use Rattle.network_plan.specs.NodeRules.{KeepsServe};
-ghost use Rattle.node_io.specs.Causes.{HasRisen};
-ghost use Rattle.node_io.specs.FileMaps.{Names};
 ghost use Rattle.node_core.specs.Turns.{IsResting};
-ghost use Rattle.node_model.specs.State.{NodeState, new_node};
+ghost use Rattle.node_model.specs.State.{new_node};
 ghost use Rattle.serve_model.specs.Runs.{opened, peers_of};
-ghost use Rattle.node_serve.specs.Served.{Begins, Ends, Outside, outside_of};
+ghost use Rattle.node_serve.specs.Desks.{serving};
+ghost use Rattle.node_serve.specs.Serves.{Finishes, Serves};
 ghost use Rattle.node_serve.specs.Stays.{StandsFor};
 
 use crate::fault::ServeFault;
@@ -18,18 +16,6 @@ use node_io::{Clock, Files, Link, Sink, put_all};
 use plan_base::NoMemory;
 use service_api::Services;
 use std::alloc::Global;
-
-/// Writes the trace's last line.
-fn end_trace<K: Sink>(out: &mut K) -> Result<(), ServeFault>
-    ensures whole { IsTrue K.tells → OnOk result (K.taken out.new ≡ K.taken out.old ++ codes "end\n") }
-    ensures front { IsTrue K.tells → AppendsFront (K.taken out.old) (K.taken out.new) (codes "end\n") }
-    ensures write { IsErrOf result ServeFault.WriteFault → HasRisen (K.faults out.old) (K.faults out.new) }
-    ensures no_link { IsErrOf result ServeFault.LinkFault → ⊥ }
-    ensures later { K.faults out.old ≤ K.faults out.new }
-{
-    put_all(out, b"end\n")?;
-    Ok(())
-}
 
 impl<S: Services> Server<S> {
     /// So many turns, and then the trace's last line.
@@ -44,20 +30,22 @@ impl<S: Services> Server<S> {
         room: &mut [u8],
         turns: u32,
     ) -> Result<(), ServeFault>
-        requires writing { IsTrue (F.writing files.old) }
-        requires bound { L.bound link.old ≡ peers_of cfg.now }
+        requires writing { IsTrue (F.state files.old).writing }
+        requires bound { (L.state link.old).bound ≡ peers_of cfg.now }
         requires keeps { KeepsServe cfg.now }
         requires room { length room.old ≡ 16513 }
-        ensures ends { IsTrue F.tells → IsTrue K.tells → IsTrue L.tells → IsTrue C.tells → (node : NodeState) (old : Outside) → StandsFor S.stands self.old (opened node) → Begins cfg.now old (outside_of (L.script link.old) (L.sent link.old) (L.binds link.old) (C.last clock.old) (C.answers clock.old) (F.files files.old) (K.taken out.old)) (F.target files.old) → Ends cfg.now node turns old (outside_of (L.script link.new) (L.sent link.new) (L.binds link.new) (C.last clock.new) (C.answers clock.new) (F.files files.new) (K.taken out.new)) result }
-        ensures kept { IsTrue F.tells → (F.asked files.new ≡ F.asked files.old) × (F.made files.new ≡ F.made files.old) }
-        ensures write { IsErrOf result ServeFault.WriteFault → HasRisen (F.write_faults files.old) (F.write_faults files.new) ⊎ HasRisen (K.faults out.old) (K.faults out.new) }
-        ensures link { IsErrOf result ServeFault.LinkFault → HasRisen (L.faults link.old) (L.faults link.new) }
-        ensures later { (F.write_faults files.old ≤ F.write_faults files.new) × (K.faults out.old ≤ K.faults out.new) }
-        ensures later_link { L.faults link.old ≤ L.faults link.new }
-        ensures same { (F.read_faults files.new ≡ F.read_faults files.old) × (F.reading files.new ≡ F.reading files.old) }
+        ensures { Finishes S.stands cfg.now turns self.old
+            (serving (F.state files.old) (K.state out.old) (L.state link.old) (C.state clock.old))
+            (serving (F.state files.new) (K.state out.new) (L.state link.new) (C.state clock.new))
+            result }
     {
-        self.run_turns(alloc, cfg, link, clock, files, out, room, turns)?;
-        end_trace(out)
+        if let Err(fault) = self.run_turns(alloc, cfg, link, clock, files, out, room, turns) {
+            return Err(fault);
+        }
+        match put_all(out, b"end\n") {
+            Ok(()) => Ok(()),
+            Err(_) => Err(ServeFault::WriteFault),
+        }
     }
 }
 
@@ -69,7 +57,8 @@ fn open<S: Services + Drop>(
 ) -> Result<Server<S>, NoMemory>
     requires keeps { KeepsServe cfg.now }
     requires services { IsResting (S.stands services) }
-    ensures { IfOk result (λ server. StandsFor S.stands server (opened (new_node cfg.now.node (S.stands services)))) }
+    ensures { IfOk result
+        (λ server. StandsFor S.stands server (opened (new_node cfg.now.node (S.stands services)))) }
 {
     Ok(Server {
         node: begin_node(alloc, &cfg.node, services)?,
@@ -98,19 +87,20 @@ pub fn serve<S: Services + Drop, L: Link, C: Clock, F: Files, K: Sink>(
 ) -> Result<(), ServeFault>
     requires keeps { KeepsServe cfg.now }
     requires services { IsResting (S.stands services) }
-    // The run of the node, or prefixes of it.
-    ensures ends { IsTrue F.tells → IsTrue K.tells → IsTrue L.tells → IsTrue C.tells → Ends cfg.now (new_node cfg.now.node (S.stands services)) turns (outside_of (L.script link.old) (L.sent link.old) (L.binds link.old) (C.last clock.old) (C.answers clock.old) (F.files files.old) (K.taken out.old)) (outside_of (L.script link.new) (L.sent link.new) (L.binds link.new) (C.last clock.new) (C.answers clock.new) (F.files files.new) (K.taken out.new)) result }
-    // The log is made once, or at most once where the run fails; nothing is read.
-    ensures made { IsTrue F.tells → Names (F.made files.old) (F.made files.new) cfg.now.log result }
-    ensures asked { IsTrue F.tells → F.asked files.new ≡ F.asked files.old }
-    ensures write { IsErrOf result ServeFault.WriteFault → HasRisen (F.write_faults files.old) (F.write_faults files.new) ⊎ HasRisen (K.faults out.old) (K.faults out.new) }
-    ensures link { IsErrOf result ServeFault.LinkFault → HasRisen (L.faults link.old) (L.faults link.new) }
-    ensures later { (F.write_faults files.old ≤ F.write_faults files.new) × (K.faults out.old ≤ K.faults out.new) }
-    ensures later_link { L.faults link.old ≤ L.faults link.new }
-    ensures same { (F.read_faults files.new ≡ F.read_faults files.old) × (F.reading files.new ≡ F.reading files.old) }
+    // The run of the node, or a prefix of it; only the log is made and written, and a fault comes only where its count rose.
+    ensures { Serves cfg.now (new_node cfg.now.node (S.stands services)) turns
+        (serving (F.state files.old) (K.state out.old) (L.state link.old) (C.state clock.old))
+        (serving (F.state files.new) (K.state out.new) (L.state link.new) (C.state clock.new))
+        result }
 {
-    let mut server = open(alloc, cfg, services)?;
-    let mut room = room(alloc)?;
-    begin(alloc, cfg, link, files, out)?;
+    let Ok(mut server) = open(alloc, cfg, services) else {
+        return Err(ServeFault::NoMemory);
+    };
+    let Ok(mut room) = room(alloc) else {
+        return Err(ServeFault::NoMemory);
+    };
+    if let Err(fault) = begin(alloc, cfg, link, files, out) {
+        return Err(fault);
+    }
     server.finish(alloc, cfg, link, clock, files, out, &mut room, turns)
 }

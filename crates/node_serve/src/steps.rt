@@ -62,7 +62,8 @@ fn lost_line(alloc: Global) -> Result<Bytes, NoMemory>
 /// The texts of a step that found no memory.
 fn lost_texts(alloc: Global, number: u64, here: Host) -> Result<StepTexts, NoMemory>
     ensures line { IfOk result (λ texts. texts.line ≡ entry_text entry.Lost) }
-    ensures lines { IfOk result (λ texts. texts.lines ≡ lines_text here (entries_at number (act.NoMemory ∷ []))) }
+    ensures lines { IfOk result
+        (λ texts. texts.lines ≡ lines_text here (entries_at number (act.NoMemory ∷ []))) }
     ensures made { IfOk result (λ texts. texts.made ≡ stepped.Lost) }
 {
     let line = lost_line(alloc)?;
@@ -83,10 +84,11 @@ fn took_texts(
     acts: Acts,
 ) -> Result<StepTexts, NoMemory>
     requires { KeepsNodeEvent event.now }
-    ensures line { IfOk result (λ texts. texts.line ≡ entry_text (entry.Step event.now)) }
-    ensures lines { IfOk result (λ texts. texts.lines ≡ lines_text here (entries_at number acts.list)) }
+    ensures line { IfOk result (λ texts. (texts.line ≡ entry_text (entry.Step event.now))
+        × IsReadable (entry.Step event.now)) }
+    ensures lines { IfOk result
+        (λ texts. texts.lines ≡ lines_text here (entries_at number acts.list)) }
     ensures made { IfOk result (λ texts. texts.made ≡ stepped.Took acts.frame) }
-    ensures readable { OnOk result (IsReadable (entry.Step event.now)) }
 {
     let Acts { list, frame } = acts;
     let line = event_text(alloc, event)?;
@@ -107,7 +109,9 @@ pub(crate) fn try_step<S: Services>(
     event: &Option<Event>,
 ) -> Result<StepTexts, NoMemory>
     requires { IfSome event.now KeepsNodeEvent }
-    ensures { (s : NodeState) (e : EventOf) → NodeStands S.stands node.old s → IfSome event.now (λ x. x ≡ e) → IfOk result (λ texts. Written S.stands here number s e texts node.new) }
+    ensures { (s : NodeState) (e : EventOf) → NodeStands S.stands node.old s
+        → IfSome event.now (λ x. x ≡ e)
+        → IfOk result (λ texts. Written S.stands here number s e texts node.new) }
 {
     let Some(event) = event else {
         return lost_texts(alloc, number, here);

@@ -1,11 +1,10 @@
-ghost use Rattle.std.specs.Prelude.{◌≡◌, ◌≤◌, ◌<◌, ◌⊎◌, List, Option, Some, IsTrue, IsErrOf, IfSome, length, ◌+◌, nat_le};
+ghost use Rattle.std.specs.Prelude.{◌≡◌, ◌+◌, Some, IsTrue, IfSome, length, nat_le};
 ghost use Rattle.network_plan.specs.NodeRules.{KeepsNodeEvent, KeepsServe, KeepsInject};
-ghost use Rattle.node_io.specs.Causes.{HasRisen};
-ghost use Rattle.node_io.specs.Links.{Heard};
-ghost use Rattle.serve_model.specs.Runs as spec;
-ghost use Rattle.node_serve.specs.Shown.{Seen, Shows, Leaves};
-ghost use Rattle.node_serve.specs.Stays.{StandsFor, seen_of};
 ghost use Rattle.network_plan.specs.declared.event.Event.TheVariants as event;
+ghost use Rattle.node_io.specs.Links.{LinkState};
+ghost use Rattle.serve_model.specs.Runs as spec;
+ghost use Rattle.node_serve.specs.Desks.{desk};
+ghost use Rattle.node_serve.specs.Goes.{Goes};
 
 use crate::fault::ServeFault;
 use crate::server::Server;
@@ -41,19 +40,18 @@ impl<S: Services> Server<S> {
         out: &mut K,
         now: u64,
     ) -> Result<(), ServeFault>
-        requires writing { IsTrue (F.writing files.old) }
-        ensures run { IsTrue F.tells → IsTrue K.tells → (sent : List Heard) (base : Seen) (r : spec.Running) → StandsFor S.stands self.old r → Shows cfg.now base (seen_of (F.files files.old) (F.target files.old) (K.taken out.old) sent) r → Leaves (StandsFor S.stands self.new) cfg.now base (seen_of (F.files files.new) (F.target files.new) (K.taken out.new) sent) r (spec.tick cfg.now.period now) result }
-        ensures write { IsErrOf result ServeFault.WriteFault → HasRisen (F.write_faults files.old) (F.write_faults files.new) ⊎ HasRisen (K.faults out.old) (K.faults out.new) }
-        ensures no_link { IsErrOf result ServeFault.LinkFault → ⊥ }
-        ensures later { (F.write_faults files.old ≤ F.write_faults files.new) × (K.faults out.old ≤ K.faults out.new) }
-        ensures writing { IsTrue (F.writing files.new) }
-        ensures kept { IsTrue F.tells → (F.asked files.new ≡ F.asked files.old) × (F.made files.new ≡ F.made files.old) }
-        ensures same { (F.read_faults files.new ≡ F.read_faults files.old) × (F.reading files.new ≡ F.reading files.old) }
+        requires { IsTrue (F.state files.old).writing }
+        ensures { (l : LinkState)
+            → Goes S.stands cfg.now (spec.tick cfg.now.period now) self.old self.new
+            (desk (F.state files.old) (K.state out.old) l)
+            (desk (F.state files.new) (K.state out.new) l) result }
     {
         if !is_over(self.last, cfg.period, now) {
             return Ok(());
         }
-        self.step(alloc, cfg, files, out, &Some(Event::Tick))?;
+        if let Err(fault) = self.step(alloc, cfg, files, out, &Some(Event::Tick)) {
+            return Err(fault);
+        }
         self.last = now;
         Ok(())
     }
@@ -68,15 +66,12 @@ impl<S: Services> Server<S> {
         turn: u32,
         inject: &Inject,
     ) -> Result<(), ServeFault>
-        requires writing { IsTrue (F.writing files.old) }
+        requires writing { IsTrue (F.state files.old).writing }
         requires keeps { KeepsInject inject.now }
-        ensures run { IsTrue F.tells → IsTrue K.tells → (sent : List Heard) (base : Seen) (r : spec.Running) → StandsFor S.stands self.old r → Shows cfg.now base (seen_of (F.files files.old) (F.target files.old) (K.taken out.old) sent) r → Leaves (StandsFor S.stands self.new) cfg.now base (seen_of (F.files files.new) (F.target files.new) (K.taken out.new) sent) r (spec.inject_one turn (Some inject.now)) result }
-        ensures write { IsErrOf result ServeFault.WriteFault → HasRisen (F.write_faults files.old) (F.write_faults files.new) ⊎ HasRisen (K.faults out.old) (K.faults out.new) }
-        ensures no_link { IsErrOf result ServeFault.LinkFault → ⊥ }
-        ensures later { (F.write_faults files.old ≤ F.write_faults files.new) × (K.faults out.old ≤ K.faults out.new) }
-        ensures writing { IsTrue (F.writing files.new) }
-        ensures kept { IsTrue F.tells → (F.asked files.new ≡ F.asked files.old) × (F.made files.new ≡ F.made files.old) }
-        ensures same { (F.read_faults files.new ≡ F.read_faults files.old) × (F.reading files.new ≡ F.reading files.old) }
+        ensures { (l : LinkState)
+            → Goes S.stands cfg.now (spec.inject_one turn (Some inject.now)) self.old self.new
+            (desk (F.state files.old) (K.state out.old) l)
+            (desk (F.state files.new) (K.state out.new) l) result }
     {
         if inject.0 != turn {
             return Ok(());
@@ -94,18 +89,18 @@ impl<S: Services> Server<S> {
         out: &mut K,
         turn: u32,
     ) -> Result<(), ServeFault>
-        requires writing { IsTrue (F.writing files.old) }
+        requires writing { IsTrue (F.state files.old).writing }
         requires keeps { KeepsServe cfg.now }
-        ensures run { IsTrue F.tells → IsTrue K.tells → (sent : List Heard) (base : Seen) (r : spec.Running) → StandsFor S.stands self.old r → Shows cfg.now base (seen_of (F.files files.old) (F.target files.old) (K.taken out.old) sent) r → Leaves (StandsFor S.stands self.new) cfg.now base (seen_of (F.files files.new) (F.target files.new) (K.taken out.new) sent) r (spec.inject_to turn cfg.now.at (length cfg.now.at)) result }
-        ensures write { IsErrOf result ServeFault.WriteFault → HasRisen (F.write_faults files.old) (F.write_faults files.new) ⊎ HasRisen (K.faults out.old) (K.faults out.new) }
-        ensures no_link { IsErrOf result ServeFault.LinkFault → ⊥ }
-        ensures later { (F.write_faults files.old ≤ F.write_faults files.new) × (K.faults out.old ≤ K.faults out.new) }
-        ensures writing { IsTrue (F.writing files.new) }
-        ensures kept { IsTrue F.tells → (F.asked files.new ≡ F.asked files.old) × (F.made files.new ≡ F.made files.old) }
-        ensures same { (F.read_faults files.new ≡ F.read_faults files.old) × (F.reading files.new ≡ F.reading files.old) }
+        ensures { (l : LinkState)
+            → Goes S.stands cfg.now (spec.inject_to turn cfg.now.at (length cfg.now.at))
+            self.old self.new
+            (desk (F.state files.old) (K.state out.old) l)
+            (desk (F.state files.new) (K.state out.new) l) result }
     {
         for inject in cfg.at.as_slice() {
-            self.inject_one(alloc, cfg, files, out, turn, inject)?;
+            if let Err(fault) = self.inject_one(alloc, cfg, files, out, turn, inject) {
+                return Err(fault);
+            }
         }
         Ok(())
     }
@@ -120,17 +115,16 @@ impl<S: Services> Server<S> {
         turn: u32,
         now: u64,
     ) -> Result<(), ServeFault>
-        requires writing { IsTrue (F.writing files.old) }
+        requires writing { IsTrue (F.state files.old).writing }
         requires keeps { KeepsServe cfg.now }
-        ensures run { IsTrue F.tells → IsTrue K.tells → (sent : List Heard) (base : Seen) (r : spec.Running) → StandsFor S.stands self.old r → Shows cfg.now base (seen_of (F.files files.old) (F.target files.old) (K.taken out.old) sent) r → Leaves (StandsFor S.stands self.new) cfg.now base (seen_of (F.files files.new) (F.target files.new) (K.taken out.new) sent) r (spec.begin_turn cfg.now turn now) result }
-        ensures write { IsErrOf result ServeFault.WriteFault → HasRisen (F.write_faults files.old) (F.write_faults files.new) ⊎ HasRisen (K.faults out.old) (K.faults out.new) }
-        ensures no_link { IsErrOf result ServeFault.LinkFault → ⊥ }
-        ensures later { (F.write_faults files.old ≤ F.write_faults files.new) × (K.faults out.old ≤ K.faults out.new) }
-        ensures writing { IsTrue (F.writing files.new) }
-        ensures kept { IsTrue F.tells → (F.asked files.new ≡ F.asked files.old) × (F.made files.new ≡ F.made files.old) }
-        ensures same { (F.read_faults files.new ≡ F.read_faults files.old) × (F.reading files.new ≡ F.reading files.old) }
+        ensures { (l : LinkState)
+            → Goes S.stands cfg.now (spec.begin_turn cfg.now turn now) self.old self.new
+            (desk (F.state files.old) (K.state out.old) l)
+            (desk (F.state files.new) (K.state out.new) l) result }
     {
-        self.tick(alloc, cfg, files, out, now)?;
-        self.inject_all(alloc, cfg, files, out, turn)
+        match self.tick(alloc, cfg, files, out, now) {
+            Ok(()) => self.inject_all(alloc, cfg, files, out, turn),
+            Err(fault) => Err(fault),
+        }
     }
 }

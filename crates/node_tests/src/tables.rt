@@ -1,5 +1,8 @@
 // Tables and overlays: the order of their rows, which of them go, and the last key.
 
+ghost use Rattle.std.specs.Prelude.{IfOk};
+ghost use Rattle.resident_tables.specs.Layers.{IsOver};
+
 use plan_base::{NoMemory, Text, Ty, Value};
 use plan_items::{Boxed, Items};
 use resident_tables::{Overlay, TableFault, Tables};
@@ -104,7 +107,9 @@ fn numbers(alloc: Global, rows: &[(i64, u64)]) -> Result<Tables, Fail> {
 }
 
 // An overlay that removes the first key, and puts the second and the first anew.
-fn puts_anew(alloc: Global, tables: &Tables) -> Result<Overlay, Fail> {
+fn puts_anew(alloc: Global, tables: &Tables) -> Result<Overlay, Fail>
+    ensures { IfOk result (λ changes. IsOver tables.now.rows changes) }
+{
     let name = name(alloc)?;
     let mut overlay = Overlay::new(alloc, tables.next_key());
     overlay

@@ -1,38 +1,63 @@
--- What was written of an output, by cases.
-use Rattle.std.proofs.Common.{◌≡◌, ℕ, List, [], ◌++◌, length, refl, sym, ◌∙◌, ap}
-use Rattle.std.proofs.Math.Seq.{take-nil, take-length}
-use Rattle.std.proofs.lemmas.List.{append-nil}
-use Rattle.node_io.specs.Pieces.{AppendsFront}
-use Rattle.planet_cli.specs.Outcomes.{Outcome, unasked, missing, refused, whole, runs, output_of, Writes, WritesFront}
+-- A command of one text that is done wrote the text of its file.
+use Rattle.std.proofs.Common.{◌≡◌, ℕ, IsTrue, Bool, true, false, cond, nat_lt, List, length, Option, Some, None, Result, Ok, Err, refl, sym, ap, ◌∙◌, subst}
+use Rattle.plan_base.specs.declared.tree.Program.{Program}
+use Rattle.program_text.specs.Texts.{program_of}
+use Rattle.network_plan.specs.declared.schedule.Schedule.{Schedule}
+use Rattle.network_plan.specs.declared.node.Log.{Log}
+use Rattle.schedule_text.specs.Schedules.{schedule_of}
+use Rattle.node_files.specs.Logs.{log_of}
+use Rattle.node_io.specs.FileMaps.{FileMap, file_at}
+use Rattle.node_io.specs.FileStates.{FilesState}
+use Rattle.node_io.specs.Outsides.{Outside}
+use Rattle.node_io.specs.Sinks.{SinkState, Writes}
+use Rattle.call_causes.specs.declared.status.Cause.{Cause}
+use Rattle.call_causes.specs.declared.status.Cause.TheVariants.{Done}
+use Rattle.call_causes.specs.declared.status.Refusal.{Refusal}
+use Rattle.call_causes.specs.declared.status.Refusal.TheVariants.{TooLong}
+use Rattle.file_commands.specs.Said.{Said, outside, says, said_at, said_in}
+use Rattle.file_commands.specs.Checks.{program_limit, program_said, check_said, sizes_text, sizes_of}
+use Rattle.run_commands.specs.Schedules.{schedule_limit, schedule_said, replay_said, replay_text, log_trace}
+use Rattle.run_commands.proofs.Logs.{replay_said_is, log_said}
+use Rattle.planet_cli.specs.Requests.{Request, replay, check}
+use Rattle.planet_cli.specs.Calls.{Calls}
+use Rattle.planet_cli.specs.Outcomes.{Outcome, whole, outcome_by, outcome_of, IsAccepted, WritesOut}
+use Rattle.planet_cli.proofs.Giving.{is_accepted, is_written}
 
-pub written : (o : Outcome) (old new : List ℕ) → new ≡ old ++ output_of o → Writes o old new
-written unasked old new h = h ∙ append-nil old
-written missing old new h = h ∙ append-nil old
-written (refused r) old new h = h ∙ append-nil old
-written (whole text) old new h = h
-written runs old new h = tt
+-- what a file says that isn't too long
+unlimited : (long : Bool) (said : Said (List ℕ)) (text : List ℕ) (a b : SinkState) → said ≡ says text → IsAccepted (outcome_by whole (cond long (outside TooLong) said))
+    → WritesOut (outcome_by whole (cond long (outside TooLong) said)) a b → Writes a b text
+unlimited true said text a b e h w = elim h [ ]
+unlimited false said text a b e h w = subst (λ s. WritesOut (outcome_by whole s) a b) e w
 
-no_front : (old new : List ℕ) → AppendsFront old new [] → new ≡ old
-no_front old new f = f.is ∙ ap (λ t. old ++ t) (take-nil f.count) ∙ append-nil old
+at_file : (limit : ℕ) (read : List ℕ → Said (List ℕ)) (file : Option (List ℕ)) (bytes text : List ℕ) (a b : SinkState) → file ≡ Some bytes → read bytes ≡ says text
+    → IsAccepted (outcome_by whole (said_at limit read file)) → WritesOut (outcome_by whole (said_at limit read file)) a b → Writes a b text
+at_file limit read file bytes text a b there e h w =
+    unlimited (nat_lt limit (length bytes)) (read bytes) text a b e
+    (subst (λ f. IsAccepted (outcome_by whole (said_at limit read f))) there h)
+    (subst (λ f. WritesOut (outcome_by whole (said_at limit read f)) a b) there w)
 
-pub front_written : (o : Outcome) (old new : List ℕ) → AppendsFront old new (output_of o) → WritesFront o old new
-front_written unasked old new h = no_front old new h
-front_written missing old new h = no_front old new h
-front_written (refused r) old new h = no_front old new h
-front_written (whole text) old new h = h
-front_written runs old new h = tt
+module _ (file bytes : List ℕ) where
+  -- a replay of a schedule
+  pub schedule_written : (s : Schedule) (cause : Cause) (old new : Outside) (n m : SinkState) → Calls (Some (replay file)) cause old new n m → IsTrue old.files.observable
+      → file_at old.files.held file ≡ Some bytes → schedule_of bytes ≡ Ok s → cause ≡ Done → Writes old.out new.out (replay_text s)
+  schedule_written s cause old new n m call seen there e done =
+      at_file schedule_limit schedule_said (file_at old.files.held file) bytes (replay_text s) old.out new.out there (replay_said_is bytes s e)
+      (is_accepted (Some (replay file)) cause old new n m call seen done) (is_written (Some (replay file)) cause old new n m call seen done)
 
--- where nothing was written, a prefix was
-pub nothing_written : (o : Outcome) (old : List ℕ) → WritesFront o old old
-nothing_written unasked old = refl
-nothing_written missing old = refl
-nothing_written (refused r) old = refl
-nothing_written (whole text) old = record { count = 0; is = sym (append-nil old) }
-nothing_written runs old = tt
+  -- of a log
+  pub log_written : (l : Log) (cause : Cause) (old new : Outside) (n m : SinkState) → Calls (Some (replay file)) cause old new n m → IsTrue old.files.observable
+      → file_at old.files.held file ≡ Some bytes → log_of bytes ≡ Ok l → cause ≡ Done → Writes old.out new.out (log_trace l)
+  log_written l cause old new n m call seen there e done =
+      at_file schedule_limit schedule_said (file_at old.files.held file) bytes (log_trace l) old.out new.out there (log_said bytes l e)
+      (is_accepted (Some (replay file)) cause old new n m call seen done) (is_written (Some (replay file)) cause old new n m call seen done)
 
--- all of it is a prefix, and so is nothing
-pub all_front : (old new text : List ℕ) → new ≡ old ++ text → AppendsFront old new text
-all_front old new text h = record { count = length text; is = h ∙ ap (λ t. old ++ t) (sym (take-length text)) }
+  sizes_said : (p : Program) → program_of bytes ≡ Ok p → program_said bytes ≡ says (sizes_text p)
+  unfolding program_said
+  sizes_said p e = ap sizes_of e
 
-pub none_front : (old new text : List ℕ) → new ≡ old → AppendsFront old new text
-none_front old new text h = record { count = 0; is = h ∙ sym (append-nil old) }
+  -- a check of a program
+  pub check_written : (p : Program) (cause : Cause) (old new : Outside) (n m : SinkState) → Calls (Some (check file)) cause old new n m → IsTrue old.files.observable
+      → file_at old.files.held file ≡ Some bytes → program_of bytes ≡ Ok p → cause ≡ Done → Writes old.out new.out (sizes_text p)
+  check_written p cause old new n m call seen there e done =
+      at_file program_limit program_said (file_at old.files.held file) bytes (sizes_text p) old.out new.out there (sizes_said p e)
+      (is_accepted (Some (check file)) cause old new n m call seen done) (is_written (Some (check file)) cause old new n m call seen done)

@@ -1,55 +1,27 @@
--- What a replay promises: the written meaning of its schedule, in balance at every moment.
-use Rattle.std.specs.Prelude.{ℕ, ◌≡◌, List, Some, take, Ok, All}
-use Rattle.plan_base.specs.declared.ids.Family.{Family}
-use Rattle.node_io.specs.FileMaps.{FileMap, file_at}
+-- Calls that replay a file.
+use Rattle.std.specs.Prelude.{ℕ, ◌≡◌, IsTrue, List, Some, Ok}
 use Rattle.network_plan.specs.declared.schedule.Schedule.{Schedule}
 use Rattle.network_plan.specs.declared.node.Log.{Log}
+use Rattle.node_io.specs.FileMaps.{file_at}
+use Rattle.node_io.specs.FileStates.{FilesState}
 use Rattle.schedule_text.specs.Schedules.{schedule_of}
 use Rattle.node_files.specs.Logs.{log_of}
-use Rattle.world_model.specs.declared.lines.Entry.{Entry}
-use Rattle.world_model.specs.World.{WorldState, opening, world_after, history_of}
-use Rattle.world_model.specs.Counts.{Balanced, IsBounded, IsGranted}
-use Rattle.world_model.specs.Sound.{IsSound}
-use Rattle.world_model.specs.Wires.{IsOnce, WireLeads}
-use Rattle.world_model.specs.Visits.{EndsWell, visits_after}
-use Rattle.world_routes.specs.Roads.{NotRaw}
-use Rattle.world_routes.specs.Routes.{RunKeepsRoutes}
 use Rattle.planet_cli.specs.Requests.{replay, request_of}
 
--- the words are a replay of a file that says this schedule
-pub record IsReplayOf (words : List (List ℕ)) (files : FileMap) (s : Schedule) : Type 0 where
+-- the words are a replay of a file that is seen to say this schedule
+pub record Replays (words : List (List ℕ)) (files : FilesState) (s : Schedule) : Type 0 where
   pub file : List ℕ
   pub bytes : List ℕ
   pub asked : request_of words ≡ Some (replay file)
-  pub there : file_at files file ≡ Some bytes
+  pub seen : IsTrue files.observable
+  pub there : file_at files.held file ≡ Some bytes
   pub says : schedule_of bytes ≡ Ok s
 
--- the words are a replay of a file that says this log
-pub record IsLogOf (words : List (List ℕ)) (files : FileMap) (l : Log) : Type 0 where
+-- the words are a replay of a file that is seen to say this log
+pub record ReplaysLog (words : List (List ℕ)) (files : FilesState) (l : Log) : Type 0 where
   pub file : List ℕ
   pub bytes : List ℕ
   pub asked : request_of words ≡ Some (replay file)
-  pub there : file_at files file ≡ Some bytes
+  pub seen : IsTrue files.observable
+  pub there : file_at files.held file ≡ Some bytes
   pub says : log_of bytes ≡ Ok l
-
--- the history of a schedule's first events, and the network after them
-abbrev pub history_at : Schedule → ℕ → List Entry
-history_at s k = history_of (take k s.events) (opening s.topology)
-
-abbrev pub world_at : Schedule → ℕ → WorldState
-world_at s k = world_after (take k s.events) (opening s.topology)
-
--- after every number of events: what was granted is what was paid, is live or was left; no family has more than one injection,
--- nor paid and live more than it was granted; only granted families have packets; each number is on the wire, was delivered or was
--- lost, once; each frame on the wire leads to the other end of its link; and the network is sound, so the chunk of every packet and
--- the value of every row are typed. Of each event, every visit has a case at every step, and some allowance of work suffices for it.
--- As long as no bytes came from outside, the law of routes holds
-pub record KeepsLedger (s : Schedule) : Type 0 where
-  pub balance : (k : ℕ) (f : Family) → Balanced f (history_at s k) (world_at s k)
-  pub bounded : (k : ℕ) (f : Family) → IsBounded f (history_at s k) (world_at s k)
-  pub granted : (k : ℕ) (f : Family) → IsGranted f (history_at s k) (world_at s k)
-  pub once : (k n : ℕ) → IsOnce n (history_at s k) (world_at s k)
-  pub leads : (k : ℕ) → WireLeads s.topology.links (world_at s k).wire
-  pub sound : (k : ℕ) → IsSound (world_at s k)
-  pub visits : (k : ℕ) → All EndsWell (visits_after k s.events (opening s.topology))
-  pub routes : (k : ℕ) → All NotRaw (take k s.events) → RunKeepsRoutes (take k s.events) (opening s.topology)

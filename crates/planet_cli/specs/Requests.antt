@@ -43,34 +43,3 @@ abbrev pub request_of : List (List ℕ) → Option Request
 request_of (command ∷ file ∷ []) = if is_file_name file then with_file command file else None
 request_of (command ∷ a ∷ b ∷ []) = with_two command a b
 request_of _ = None
-
--- the file that a request reads
-abbrev pub file_of : Request → Option (List ℕ)
-file_of (replay file) = Some file
-file_of (check file) = Some file
-file_of (show file) = Some file
-file_of (inject file) = Some file
-file_of (fleet file) = Some file
-file_of (node file turns) = Some file
-file_of (grow seed n) = None
-
--- a fact of all requests but those that use the link
-abbrev pub UnlessLinked : Option Request → Type 0 → Type 0
-UnlessLinked (Some (inject file)) P = Unit {0}
-UnlessLinked (Some (node file turns)) P = Unit {0}
-UnlessLinked _ P = P
-
--- a fact of all requests but `fleet`, which alone uses children
-abbrev pub UnlessFleet : Option Request → Type 0 → Type 0
-UnlessFleet (Some (fleet file)) P = Unit {0}
-UnlessFleet _ P = P
-
--- a fact of all requests but `node`, which alone uses a clock and writes files
-abbrev pub UnlessNode : Option Request → Type 0 → Type 0
-UnlessNode (Some (node file turns)) P = Unit {0}
-UnlessNode _ P = P
-
--- a premise for `inject` alone
-abbrev pub WhereInjected : Option Request → Type 0 → Type 0
-WhereInjected (Some (inject file)) P = P
-WhereInjected _ P = Unit {0}

@@ -2,31 +2,35 @@
 #![tactic(auto)]
 
 mod args;
-mod by_file;
 mod by_words;
-mod check;
-mod command;
-mod fleet;
-mod grow;
-mod inject;
-mod lines;
-mod memory;
-mod node;
-mod note;
-mod replay;
-mod show;
-mod status;
+mod call_laws;
+mod fault_laws;
+mod frame_laws;
+mod live_laws;
 mod top;
 mod words;
+mod writing_laws;
 
 pub use args::{program_of, words_of};
-pub use by_file::on_file;
 pub use by_words::run;
-pub use check::Check;
-pub use command::{FileCommand, Stop};
-pub use note::settle;
-pub use replay::Replay;
-pub use show::Show;
-pub use status::{Cause, Refusal, Status};
+pub use call_causes::{Cause, Refusal, Status};
+pub use call_laws::{
+    accepted, complete, front, note, own, refused, refused_always, silent, usage, usage_always,
+    whole,
+};
+pub use fault_laws::{
+    link_fault, no_link_fault, no_nodes_failed, no_spawn_fault, read_fault, spawn_fault,
+    write_fault,
+};
+pub use frame_laws::{
+    asked, files, made, no_arrivals, no_frames, no_moments, no_starts, statuses, unserved,
+};
+pub use live_laws::{
+    fleet, fleet_complete, fleet_front, fleet_only, fleet_starts, injected, injected_line, injects,
+    node_complete, served, serves, waited,
+};
 pub use top::planet;
 pub use words::{Command, read_words};
+pub use writing_laws::{
+    checked, grown, grown_whole, ledger, logged, replayed, shown, shown_only, shown_whole,
+};

@@ -33,7 +33,8 @@ fn is(word: &[u8], name: &[u8]) -> bool
 
 // The command of that name on a file, or `None` where there is none.
 fn command_on<'a>(name: &[u8], file: &'a str) -> Option<Command<'a>>
-    ensures { MatchOption result (with_file name.now file.now ≡ None) (λ c. with_file name.now file.now ≡ Some (request_for c)) }
+    ensures { MatchOption result (with_file name.now file.now ≡ None)
+        (λ c. with_file name.now file.now ≡ Some (request_for c)) }
 {
     if is(name, b"replay") {
         return Some(Command::Replay(file));
@@ -55,7 +56,8 @@ fn command_on<'a>(name: &[u8], file: &'a str) -> Option<Command<'a>>
 
 // The command of that name with two words, or `None` where there is none that takes them.
 fn command_with<'a>(name: &[u8], first: &'a [u8], second: &[u8]) -> Option<Command<'a>>
-    ensures named { MatchOption result (with_two name.now first.now second.now ≡ None) (λ c. with_two name.now first.now second.now ≡ Some (request_for c)) }
+    ensures named { MatchOption result (with_two name.now first.now second.now ≡ None)
+        (λ c. with_two name.now first.now second.now ≡ Some (request_for c)) }
     ensures fits { IfSome result command_fits }
 {
     if is(name, b"grow") {
@@ -69,7 +71,8 @@ fn command_with<'a>(name: &[u8], first: &'a [u8], second: &[u8]) -> Option<Comma
 
 /// What the words ask for, or `None` where they are none of the commands.
 pub fn read_words(words: &Texts) -> Option<Command<'_>>
-    ensures named { MatchOption result (request_of words.now ≡ None) (λ c. request_of words.now ≡ Some (request_for c)) }
+    ensures named { MatchOption result (request_of words.now ≡ None)
+        (λ c. request_of words.now ≡ Some (request_for c)) }
     ensures fits { IfSome result command_fits }
 {
     match words.as_slice() {

@@ -21,7 +21,7 @@ ghost use Rattle.std.specs.List.{list_all};
 ghost use Rattle.plan_base.specs.declared.tree.Chunk.{Chunk};
 ghost use Rattle.chunk_types.specs.declared.fault.Ill.{Ill};
 ghost use Rattle.chunk_types.specs.declared.fault.ChunkFault.{ChunkFault};
-ghost use Rattle.chunk_types.specs.declared.fault.ChunkFault.TheVariants as fault;
+ghost use Rattle.chunk_types.specs.declared.fault.ChunkFault.TheVariants as chunk_fault;
 ghost use Rattle.chunk_types.specs.Chunks.{illness, refusal_of};
 ghost use Rattle.typing_order.specs.ChunkConditions.{conditions, call_conditions, FirstFailing};
 ghost use Rattle.typing_order.specs.Memory.{IllHoldsNoMemory, HoldsNoMemory};
@@ -53,7 +53,7 @@ pub fn refusals_hold_no_memory()
 /// What comes first that is wrong with a chunk, its own size aside, is what is told for the first condition that it doesn't
 /// keep: its code, its entry, the number of its arguments, and each of them.
 pub fn first_failing_is_answered()
-    ensures { (c : Chunk) (i : Ill) → IsWellFormedChunk c → ChunkHasTypes c → (illness c ≡ Some i) ↔ FirstFailing c (fault.Ill i) (conditions c) }
+    ensures { (c : Chunk) (i : Ill) → IsWellFormedChunk c → ChunkHasTypes c → (illness c ≡ Some i) ↔ FirstFailing c (chunk_fault.Ill i) (conditions c) }
 {}
 
 /// What comes first that forbids a chunk with that code, entry and arguments, the code aside, is what is told for the first

@@ -1,6 +1,6 @@
 use Rattle.std.proofs.Common.{rules, tests}
 use Rattle.std.proofs.lemmas.Fn.{filter_same}
-use Rattle.node_io.specs.Children.{is_other}
+use Rattle.node_io.specs.Spawners.{is_other}
 use Rattle.live_io.proofs.host_spawner.forget.Goals as goal
 
 pub returns : goal.returns

@@ -1,4 +1,5 @@
-use Rattle.std.proofs.Common.{◌≡◌, ◌≤◌, ◌++◌, take, IsTrue}
+use Rattle.std.proofs.Common.{◌≡◌, take}
+use Rattle.node_io.specs.Sinks.{Writes}
 use Rattle.node_model.specs.State.{NodeState}
 use Rattle.node_core.specs.Stands.{NodeStands}
 use Rattle.serve_model.specs.Runs.{played, node_after}
@@ -8,7 +9,6 @@ use Rattle.log_replay.proofs.replay.write_entries.Given as goal
 abbrev pub invariant-loop-entry : goal.invariant-loop-entry
 invariant-loop-entry g l = record {
   number : l.number ≡ l.entry-index;
-  later : g.K.Sink.faults l.initial.out ≤ g.K.Sink.faults l.out;
   stands : (s : NodeState) → NodeStands g.S.Services.stands l.initial.node s → NodeStands g.S.Services.stands l.node (node_after s (take l.entry-index l.entries));
-  written : IsTrue g.K.Sink.tells → (s : NodeState) → NodeStands g.S.Services.stands l.initial.node s → g.K.Sink.taken l.out ≡ g.K.Sink.taken l.initial.out ++ lines_text l.here (played 0 s (take l.entry-index l.entries));
+  written : (s : NodeState) → NodeStands g.S.Services.stands l.initial.node s → Writes (g.K.Sink.state l.initial.out) (g.K.Sink.state l.out) (lines_text l.here (played 0 s (take l.entry-index l.entries)));
 }

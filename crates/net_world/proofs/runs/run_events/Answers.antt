@@ -3,9 +3,10 @@ use Rattle.std.proofs.lemmas.List.{append-nil}
 use Rattle.std.proofs.lemmas.List.Elements.{All-get_or}
 use Rattle.world_model.specs.World.{opening}
 use Rattle.world_model.specs.Sound.{event_fits}
-use Rattle.node_io.specs.Pieces.{AppendsFront}
-use Rattle.node_io.proofs.Fronts.{front_all}
-use Rattle.net_world.proofs.RunLaws.{stands_none, counts_none, text_none, opening_made, events_fit, countable, stands_next, counts_next, waits_next, front_event, waits_all, waited_written, waited_front, counts_all}
+use Rattle.node_io.specs.Sinks.{Writes, FailsIn}
+use Rattle.node_io.proofs.SinkLaws.{writes_none}
+use Rattle.net_world.specs.declared.runs.RunFault.TheVariants.{WriteFault}
+use Rattle.net_world.proofs.RunLaws.{stands_none, counts_none, text_none, opening_made, events_fit, countable, stands_next, counts_next, waits_next, stopped_event, waits_all, waited_written, waited_stopped, counts_all}
 use Rattle.net_world.proofs.runs.run_events.Goals as goal
 
 pub loop-event-init : goal.loop-event-init
@@ -15,8 +16,7 @@ loop-event-init g c =
       world = stands_none g.S.Services.stands c.args.world.now (opening s.topology) s.events c.requires.opening;
       ledger = counts_none c.args.ledger.now (opening s.topology) s.events c.requires.empty;
       made = c.requires.opening.made ∙ opening_made s.topology;
-      later = omega arith;
-      waits = λ t. record { done = []; written = sym (append-nil (g.K.Sink.taken c.args.out.now)); is = text_none s.frames (opening s.topology) s.events ∙ sym c.new-text.ensures };
+      waits = record { done = []; written = writes_none (g.K.Sink.state c.args.out.now); is = text_none s.frames (opening s.topology) s.events ∙ sym c.new-text.ensures };
     }
 
 pub run_event-requires-clause-fits : goal.run_event-requires-clause-fits
@@ -45,45 +45,45 @@ loop-event-preserved g c =
     let i = c.loop-event.invariant in
     let within = subst (λ es. c.loop-event.event-index < length es) c.as_slice-events.ensures c.loop-event-test.true in
     let is = c.event-item.is ∙ ap (λ es. get_or es c.loop-event.event-index c.event-item.result) c.as_slice-events.ensures in
-    let done = c.in_ok-text.ensures in
+    let done = c.in-Ok.ensures in
+    let out = g.K.Sink.state in
     record {
       world = stands_next w s.events c.loop-event.event-index c.event-item.result within is g.S.Services.stands c.run_event.new.world (done.world _ i.world);
       ledger = counts_next w s.events c.loop-event.event-index c.event-item.result within is c.run_event.new.ledger (done.ledger _ _ i.world i.ledger);
       made = done.made ∙ ap (λ n. n + 1) i.made;
-      later = omega (arith, i.later, c.run_event.ensures.later);
-      waits = λ t. waits_next w s.events c.loop-event.event-index c.event-item.result within is s.frames (g.K.Sink.taken c.args.out.now) (g.K.Sink.taken c.loop-event.out) (g.K.Sink.taken c.run_event.new.out) c.loop-event.text _ (i.waits t) (done.waits _ i.world t);
+      waits = waits_next w s.events c.loop-event.event-index c.event-item.result within is s.frames (out c.args.out.now) (out c.loop-event.out) (out c.run_event.new.out) c.loop-event.text _ i.waits (done.waits _ i.world);
     }
 
-pub returns-in_err-text-clause-front : goal.returns-in_err-text-clause-front
-returns-in_err-text-clause-front g c = λ t.
+pub returns-in-Err-clause-lines : goal.returns-in-Err-clause-lines
+returns-in-Err-clause-lines g c =
     let s = c.args.schedule.now in
     let i = c.loop-event.invariant in
+    let out = g.K.Sink.state in
     let within = subst (λ es. c.loop-event.event-index < length es) c.as_slice-events.ensures c.loop-event-test.true in
     let is = c.event-item.is ∙ ap (λ es. get_or es c.loop-event.event-index c.event-item.result) c.as_slice-events.ensures in
-    front_event (opening s.topology) s.events c.loop-event.event-index c.event-item.result within is s.frames (g.K.Sink.taken c.args.out.now) (g.K.Sink.taken c.loop-event.out) (g.K.Sink.taken c.run_event.new.out) c.loop-event.text (i.waits t)
-    (c.run_event.ensures.front _ i.world t)
+    stopped_event (opening s.topology) s.events c.loop-event.event-index c.event-item.result within is s.frames c.in-Err.fault (out c.args.out.now) (out c.loop-event.out) (out c.run_event.new.out) c.loop-event.text i.waits
+    (c.in-Err.ensures.waits _ i.world)
 
-pub returns-in_err-put_all-clause-front : goal.returns-in_err-put_all-clause-front
-returns-in_err-put_all-clause-front g c = λ t.
+pub returns-in-Ok-put_all-clause-lines : goal.returns-in-Ok-put_all-clause-lines
+returns-in-Ok-put_all-clause-lines g c =
     let s = c.args.schedule.now in
+    let out = g.K.Sink.state in
     let all = subst (λ es. length es ≤ c.loop-event.event-index) c.as_slice-events.ensures c.loop-event-test.false in
-    waited_front (g.K.Sink.taken c.args.out.now) (g.K.Sink.taken c.loop-event.out) (g.K.Sink.taken c.put_all.new.sink) c.loop-event.text _
-    (waits_all s.frames (opening s.topology) s.events c.loop-event.event-index (g.K.Sink.taken c.args.out.now) (g.K.Sink.taken c.loop-event.out) c.loop-event.text all (c.loop-event.invariant.waits t))
-    (subst (AppendsFront (g.K.Sink.taken c.loop-event.out) (g.K.Sink.taken c.put_all.new.sink)) c.as_slice.ensures (c.put_all.ensures.front t))
+    waited_written (out c.args.out.now) (out c.loop-event.out) (out c.put_all.new.sink) c.loop-event.text _
+    (waits_all s.frames (opening s.topology) s.events c.loop-event.event-index (out c.args.out.now) (out c.loop-event.out) c.loop-event.text all c.loop-event.invariant.waits)
+    (subst (Writes (out c.loop-event.out) (out c.put_all.new.sink)) c.as_slice.ensures c.in-Ok-put_all.ensures)
 
-pub returns-clause-whole : goal.returns-clause-whole
-returns-clause-whole g c = λ t.
+pub returns-clause-lines : goal.returns-clause-lines
+returns-clause-lines g c =
     let s = c.args.schedule.now in
+    let out = g.K.Sink.state in
     let all = subst (λ es. length es ≤ c.loop-event.event-index) c.as_slice-events.ensures c.loop-event-test.false in
-    waited_written (g.K.Sink.taken c.args.out.now) (g.K.Sink.taken c.loop-event.out) (g.K.Sink.taken c.put_all.new.sink) c.loop-event.text _
-    (waits_all s.frames (opening s.topology) s.events c.loop-event.event-index (g.K.Sink.taken c.args.out.now) (g.K.Sink.taken c.loop-event.out) c.loop-event.text all (c.loop-event.invariant.waits t))
-    (c.in_ok-put_all.ensures.whole t ∙ ap (λ x. g.K.Sink.taken c.loop-event.out ++ x) c.as_slice.ensures)
+    waited_stopped WriteFault (out c.args.out.now) (out c.loop-event.out) (out c.put_all.new.sink) c.loop-event.text _
+    (waits_all s.frames (opening s.topology) s.events c.loop-event.event-index (out c.args.out.now) (out c.loop-event.out) c.loop-event.text all c.loop-event.invariant.waits)
+    (subst (FailsIn (out c.loop-event.out) (out c.put_all.new.sink)) c.as_slice.ensures c.in-Err-put_all.ensures)
 
-pub returns-clause-front : goal.returns-clause-front
-returns-clause-front g c = λ t. front_all (g.K.Sink.taken c.args.out.now) (g.K.Sink.taken c.put_all.new.sink) _ (returns-clause-whole g c t)
-
-pub returns-clause-ledger : goal.returns-clause-ledger
-returns-clause-ledger g c =
+pub returns-in-Ok-put_all-clause-ledger : goal.returns-in-Ok-put_all-clause-ledger
+returns-in-Ok-put_all-clause-ledger g c =
     let s = c.args.schedule.now in
     let all = subst (λ es. length es ≤ c.loop-event.event-index) c.as_slice-events.ensures c.loop-event-test.false in
     counts_all c.loop-event.ledger (opening s.topology) s.events c.loop-event.event-index all c.loop-event.invariant.ledger

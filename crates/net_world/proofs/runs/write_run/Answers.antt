@@ -1,56 +1,50 @@
-use Rattle.std.proofs.Common.{◌++◌, [], sym, ap, ◌∙◌, subst}
-use Rattle.node_io.specs.Pieces.{AppendsFront}
+use Rattle.std.proofs.Common.{[], sym, ap, ◌∙◌, subst}
+use Rattle.node_io.specs.Sinks.{Writes, FailsIn}
 use Rattle.run_ledger.specs.Stands.{Stands}
 use Rattle.run_ledger.proofs.LineLaws.{nothing_stands}
 use Rattle.world_model.specs.World.{opening, world_after, history_of}
 use Rattle.network_laws.proofs.Balance.{opening_balances}
-use Rattle.node_io.proofs.Fronts.{front_none, front_all}
-use Rattle.net_world.proofs.RunLaws.{front_header, front_lines, front_no_ledger, front_ledger, whole_run}
+use Rattle.net_world.proofs.RunLaws.{stopped_header, stopped_lines, stopped_before_ledger, stopped_ledger, whole_run}
 use Rattle.net_world.proofs.runs.write_run.Goals as goal
 
-pub returns-in_err-ledger-clause-front : goal.returns-in_err-ledger-clause-front
-returns-in_err-ledger-clause-front g c = λ t. front_none (g.K.Sink.taken c.args.out.now) _
-
-pub returns-in_err-put_all-clause-front : goal.returns-in_err-put_all-clause-front
-returns-in_err-put_all-clause-front g c = λ t.
-    let s = c.args.schedule.now in
-    front_header s.frames s.events (opening s.topology) (g.K.Sink.taken c.args.out.now) (g.K.Sink.taken c.put_all.new.sink) (c.put_all.ensures.front t)
-
 pub run_events-requires-clause-empty : goal.run_events-requires-clause-empty
-run_events-requires-clause-empty g c = subst (Stands []) (sym c.in_ok-ledger.ensures) nothing_stands
+run_events-requires-clause-empty g c = subst (Stands []) (sym c.in-Ok.ensures) nothing_stands
 
-pub returns-in_err-run_events-clause-front : goal.returns-in_err-run_events-clause-front
-returns-in_err-run_events-clause-front g c = λ t.
-    let s = c.args.schedule.now in
-    front_lines s.frames s.events (opening s.topology) (g.K.Sink.taken c.args.out.now) (g.K.Sink.taken c.put_all.new.sink) (g.K.Sink.taken c.run_events.new.out) (c.in_ok-put_all.ensures.whole t) (c.run_events.ensures.front t)
-
-pub returns-in_err-text-clause-front : goal.returns-in_err-text-clause-front
-returns-in_err-text-clause-front g c = λ t.
-    let s = c.args.schedule.now in
-    front_no_ledger s.frames s.events (opening s.topology) (g.K.Sink.taken c.args.out.now) (g.K.Sink.taken c.put_all.new.sink) (g.K.Sink.taken c.run_events.new.out) (c.in_ok-put_all.ensures.whole t) (c.in_ok-run_events.ensures.whole t)
-
-pub returns-in_err-put_all-2-clause-front : goal.returns-in_err-put_all-2-clause-front
-returns-in_err-put_all-2-clause-front g c = λ t.
+pub returns-in_default-put_all : goal.returns-in_default-put_all
+returns-in_default-put_all g c =
     let s = c.args.schedule.now in
     let w = opening s.topology in
-    let text = c.in_ok-text.ensures (history_of s.events w) (world_after s.events w) c.in_ok-run_events.ensures.ledger (λ f. opening_balances f s.topology s.events) in
-    front_ledger s.frames s.events w (g.K.Sink.taken c.args.out.now) (g.K.Sink.taken c.put_all.new.sink) (g.K.Sink.taken c.run_events.new.out) (g.K.Sink.taken c.put_all-2.new.sink)
-    (c.in_ok-put_all.ensures.whole t) (c.in_ok-run_events.ensures.whole t)
-    (subst (AppendsFront (g.K.Sink.taken c.run_events.new.out) (g.K.Sink.taken c.put_all-2.new.sink)) (c.as_slice.ensures ∙ text) (c.put_all-2.ensures.front t))
+    let out = g.K.Sink.state in
+    stopped_header s.frames s.events w (out c.args.out.now) (out c.put_all.new.sink) (out c.put_all.new.sink) (out c.put_all.new.sink) c.in_default-put_all.ensures
 
-pub returns-clause-whole : goal.returns-clause-whole
-returns-clause-whole g c = λ t.
+pub returns-in-Err : goal.returns-in-Err
+returns-in-Err g c =
     let s = c.args.schedule.now in
     let w = opening s.topology in
-    let text = c.in_ok-text.ensures (history_of s.events w) (world_after s.events w) c.in_ok-run_events.ensures.ledger (λ f. opening_balances f s.topology s.events) in
-    whole_run s.frames s.events w (g.K.Sink.taken c.args.out.now) (g.K.Sink.taken c.put_all.new.sink) (g.K.Sink.taken c.run_events.new.out) (g.K.Sink.taken c.put_all-2.new.sink)
-    (c.in_ok-put_all.ensures.whole t) (c.in_ok-run_events.ensures.whole t) (c.in_ok-put_all-2.ensures.whole t ∙ ap (λ x. g.K.Sink.taken c.run_events.new.out ++ x) (c.as_slice.ensures ∙ text))
+    let out = g.K.Sink.state in
+    stopped_lines s.frames s.events w (out c.args.out.now) (out c.put_all.new.sink) (out c.run_events.new.out) (out c.run_events.new.out) c.in-Err.fault c.in-Ok-put_all.ensures c.in-Err.ensures.lines
 
-pub returns-clause-front : goal.returns-clause-front
-returns-clause-front g c = λ t.
+pub returns-in_default-ledger_bytes : goal.returns-in_default-ledger_bytes
+returns-in_default-ledger_bytes g c =
     let s = c.args.schedule.now in
     let w = opening s.topology in
-    let text = c.in_ok-text.ensures (history_of s.events w) (world_after s.events w) c.in_ok-run_events.ensures.ledger (λ f. opening_balances f s.topology s.events) in
-    front_all (g.K.Sink.taken c.args.out.now) (g.K.Sink.taken c.put_all-2.new.sink) _
-    (whole_run s.frames s.events w (g.K.Sink.taken c.args.out.now) (g.K.Sink.taken c.put_all.new.sink) (g.K.Sink.taken c.run_events.new.out) (g.K.Sink.taken c.put_all-2.new.sink)
-    (c.in_ok-put_all.ensures.whole t) (c.in_ok-run_events.ensures.whole t) (c.in_ok-put_all-2.ensures.whole t ∙ ap (λ x. g.K.Sink.taken c.run_events.new.out ++ x) (c.as_slice.ensures ∙ text)))
+    let out = g.K.Sink.state in
+    stopped_before_ledger s.frames s.events w (out c.args.out.now) (out c.put_all.new.sink) (out c.run_events.new.out) (out c.run_events.new.out) c.in-Ok-put_all.ensures c.in_default-run_events.ensures.lines
+
+pub returns-in-Ok-put_all-2 : goal.returns-in-Ok-put_all-2
+returns-in-Ok-put_all-2 g c =
+    let s = c.args.schedule.now in
+    let w = opening s.topology in
+    let out = g.K.Sink.state in
+    let text = c.in-Ok-ledger_bytes.ensures (history_of s.events w) (world_after s.events w) c.in_default-run_events.ensures.ledger (λ f. opening_balances f s.topology s.events) in
+    whole_run s.frames s.events w (out c.args.out.now) (out c.put_all.new.sink) (out c.run_events.new.out) (out c.put_all-2.new.sink) c.in-Ok-put_all.ensures c.in_default-run_events.ensures.lines
+    (subst (Writes (out c.run_events.new.out) (out c.put_all-2.new.sink)) (c.as_slice.ensures ∙ text) c.in-Ok-put_all-2.ensures)
+
+pub returns : goal.returns
+returns g c =
+    let s = c.args.schedule.now in
+    let w = opening s.topology in
+    let out = g.K.Sink.state in
+    let text = c.in-Ok-ledger_bytes.ensures (history_of s.events w) (world_after s.events w) c.in_default-run_events.ensures.ledger (λ f. opening_balances f s.topology s.events) in
+    stopped_ledger s.frames s.events w (out c.args.out.now) (out c.put_all.new.sink) (out c.run_events.new.out) (out c.put_all-2.new.sink) c.in-Ok-put_all.ensures c.in_default-run_events.ensures.lines
+    (subst (FailsIn (out c.run_events.new.out) (out c.put_all-2.new.sink)) (c.as_slice.ensures ∙ text) c.in-Err-put_all.ensures)

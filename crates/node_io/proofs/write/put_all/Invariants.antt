@@ -1,11 +1,11 @@
-use Rattle.std.proofs.Common.{◌≡◌, ◌++◌, ◌-◌, ◌≤◌, length, take, IsTrue}
+use Rattle.std.proofs.Common.{◌≡◌, ◌-◌, ◌≤◌, length, take}
+use Rattle.node_io.specs.Sinks.{Writes}
 use Rattle.node_io.proofs.write.put_all.Given as goal
 
 abbrev pub invariant-loop-at : goal.invariant-loop-at
 invariant-loop-at g l = record {
   within : l.at ≤ length l.bytes;
-  later : g.K.Sink.faults l.initial.sink ≤ g.K.Sink.faults l.sink;
-  written : IsTrue g.K.Sink.tells → g.K.Sink.taken l.sink ≡ g.K.Sink.taken l.initial.sink ++ take l.at l.bytes;
+  written : Writes (g.K.Sink.state l.initial.sink) (g.K.Sink.state l.sink) (take l.at l.bytes);
 }
 
 abbrev pub decreases-loop-at : goal.decreases-loop-at

@@ -18,7 +18,8 @@ loop-made-preserved g c =
     let i = c.loop-made.invariant in
     let done = c.in_ok-make.ensures in
     grows_next g.S.Services.stands (ping c.args.code.now) c.args.events c.args.self.now.words c.loop-made._made c.loop-made.self c.make.new.self c.next_event.new.words c.in_ok-event.event i c.loop-made-test.true
-    (c.in_ok-event.ensures.event _ i.world) c.make.ensures.words c.in_ok-event.ensures.fits (done.world _ i.world) done.made (done.ledger _ _ i.world i.ledger) (done.summary _ _ i.world i.summary)
+    (c.in_ok-event.ensures.event _ i.world) c.make.ensures.made.0 c.in_ok-event.ensures.fits (done.world _ i.world) done.made.1
+    (done.counts _ _ i.world i.ledger i.summary).0 (done.counts _ _ i.world i.ledger i.summary).1
 
 pub returns-clause-ledger : goal.returns-clause-ledger
 returns-clause-ledger g c = grown_ledger g.S.Services.stands (ping c.args.code.now) c.args.events c.args.self.now.words c.loop-made._made c.loop-made.self c.loop-made.invariant c.loop-made-test.false

@@ -14,14 +14,11 @@ count_lines-requires g c =
 pub returns-clause-world : goal.returns-clause-world
 returns-clause-world g c = λ w h. (c.in_ok-lines.ensures.ok w h).world
 
-pub returns-clause-ledger : goal.returns-clause-ledger
-returns-clause-ledger g c = λ w old h s.
+pub returns-clause-counts : goal.returns-clause-counts
+returns-clause-counts g c = λ w old h s t.
     let lines = (c.in_ok-lines.ensures.ok w h).list in
-    let own = entries_are w c.args.event.now _ (c.args.self.now.world.made + 1) c.args.self.now.world.made refl h.made (c.as_slice.ensures ∙ lines) in
-    subst (λ x. Stands (old ++ x) c.count_lines.new.ledger) own (c.in_ok-count_lines.ensures old (c.args.self.now.world.made + 1) s)
-
-pub returns-clause-summary : goal.returns-clause-summary
-returns-clause-summary g c = λ w old h s.
-    let lines = (c.in_ok-lines.ensures.ok w h).list in
-    let own = entries_are w c.args.event.now _ (c.args.self.now.world.made + 1) c.args.self.now.world.made refl h.made (c.as_slice-2.ensures ∙ lines) in
-    c.count.ensures old (c.args.self.now.world.made + 1) s ∙ ap (λ x. summary_of (old ++ x)) own
+    let counted = entries_are w c.args.event.now _ (c.args.self.now.world.made + 1) c.args.self.now.world.made refl h.made (c.as_slice.ensures ∙ lines) in
+    let summed = entries_are w c.args.event.now _ (c.args.self.now.world.made + 1) c.args.self.now.world.made refl h.made (c.as_slice-2.ensures ∙ lines) in (
+      subst (λ x. Stands (old ++ x) c.count_lines.new.ledger) counted (c.in_ok-count_lines.ensures old (c.args.self.now.world.made + 1) s),
+      c.count.ensures old (c.args.self.now.world.made + 1) t ∙ ap (λ x. summary_of (old ++ x)) summed,
+    )

@@ -1,10 +1,14 @@
-use Rattle.node_serve.proofs.Following.{stopped_first, leaves_then, leaves_err}
+use Rattle.std.proofs.Common.{IsTrue, sym, subst}
+use Rattle.serve_model.specs.Runs.{loop_back, flush, peers_of}
 use Rattle.serve_model.proofs.Going.{flush_grows}
-use Rattle.serve_model.specs.Runs.{flush, peers_of}
+use Rattle.node_serve.proofs.Joining.{goes_then, goes_stopped, no_link}
 use Rattle.node_serve.proofs.server.Server.end_turn.Goals as goal
 
-pub returns-in_err-loop_back-clause-run : goal.returns-in_err-loop_back-clause-run
-returns-in_err-loop_back-clause-run g c = λ tf tk tl base r st sh. leaves_err _ _ _ _ _ _ _ c.from_residual.result c.from_residual.ensures.1 (stopped_first (flush (peers_of c.args.cfg.now)) (flush_grows (peers_of c.args.cfg.now)) (c.in_err-loop_back.ensures.run tf tk (g.L.Link.sent c.args.link.now) base r st sh))
+pub returns-in-Ok-clause-goes : goal.returns-in-Ok-clause-goes
+returns-in-Ok-clause-goes g c = goes_then g.S.Services.stands c.args.cfg.now loop_back (flush (peers_of c.args.cfg.now)) c.args.self.now c.loop_back.new.self c.flush.new.self _ _ _ tt c.flush.result (c.in-Ok.ensures (g.L.Link.state c.args.link.now)) c.flush.ensures.goes
 
-pub returns-clause-run : goal.returns-clause-run
-returns-clause-run g c = λ tf tk tl base r st sh. let a = c.in_ok-loop_back.ensures.run tf tk (g.L.Link.sent c.args.link.now) base r st sh in leaves_then _ _ _ c.flush.result a (c.flush.ensures.run tf tk tl base a.done a.stands_for a.shows)
+pub returns-in-Err-clause-goes : goal.returns-in-Err-clause-goes
+returns-in-Err-clause-goes g c = goes_stopped g.S.Services.stands c.args.cfg.now loop_back (flush (peers_of c.args.cfg.now)) c.args.self.now c.loop_back.new.self _ _ c.in-Err.fault (flush_grows (peers_of c.args.cfg.now)) (c.in-Err.ensures (g.L.Link.state c.args.link.now))
+
+pub flush-requires-clause-writing : goal.flush-requires-clause-writing
+flush-requires-clause-writing g c = subst IsTrue (sym (c.in-Ok.ensures no_link).keeps.writing) c.requires.writing

@@ -1,19 +1,13 @@
-use Rattle.std.proofs.Common.{◌≡◌, ◌≤◌, IsTrue}
-use Rattle.serve_model.specs.Runs.{Running, flush_to, peers_of}
-use Rattle.node_serve.specs.Shown.{Seen, Shows, Reached}
-use Rattle.node_serve.specs.Stays.{StandsFor, seen_of}
+use Rattle.std.proofs.Common.{◌≡◌, ◌≤◌, Ok}
+use Rattle.serve_model.specs.Runs.{flush_to, peers_of}
+use Rattle.node_serve.specs.Desks.{desk}
+use Rattle.node_serve.specs.Goes.{Goes}
 use Rattle.node_serve.proofs.server.Server.flush_all.Given as goal
 
 abbrev pub invariant-loop-number : goal.invariant-loop-number
 invariant-loop-number g l = record {
   within : l.number ≤ 8;
-  run : IsTrue g.F.Files.tells → IsTrue g.K.Sink.tells → IsTrue g.L.Link.tells → (base : Seen) (r : Running) → StandsFor g.S.Services.stands l.initial.self r → Shows l.cfg base (seen_of (g.F.Files.files l.initial.files) (g.F.Files.target l.initial.files) (g.K.Sink.taken l.initial.out) (g.L.Link.sent l.initial.link)) r → Reached (StandsFor g.S.Services.stands l.self) l.cfg base (seen_of (g.F.Files.files l.files) (g.F.Files.target l.files) (g.K.Sink.taken l.out) (g.L.Link.sent l.link)) r (flush_to (peers_of l.cfg) l.number);
-  later : (g.F.Files.write_faults l.initial.files ≤ g.F.Files.write_faults l.files) × (g.K.Sink.faults l.initial.out ≤ g.K.Sink.faults l.out);
-  later_link : g.L.Link.faults l.initial.link ≤ g.L.Link.faults l.link;
-  bound : g.L.Link.bound l.link ≡ g.L.Link.bound l.initial.link;
-  binds : IsTrue g.L.Link.tells → g.L.Link.binds l.link ≡ g.L.Link.binds l.initial.link;
-  script : IsTrue g.L.Link.tells → g.L.Link.script l.link ≡ g.L.Link.script l.initial.link;
-  writing : IsTrue (g.F.Files.writing l.files);
-  kept : IsTrue g.F.Files.tells → (g.F.Files.asked l.files ≡ g.F.Files.asked l.initial.files) × (g.F.Files.made l.files ≡ g.F.Files.made l.initial.files);
-  same : (g.F.Files.read_faults l.files ≡ g.F.Files.read_faults l.initial.files) × (g.F.Files.reading l.files ≡ g.F.Files.reading l.initial.files);
+  run : Goes {T = Unit {0}} g.S.Services.stands l.cfg (flush_to (peers_of l.cfg) l.number) l.initial.self l.self
+      (desk (g.F.Files.state l.initial.files) (g.K.Sink.state l.initial.out) (g.L.Link.state l.initial.link)) (desk (g.F.Files.state l.files) (g.K.Sink.state l.out) (g.L.Link.state l.link)) (Ok tt);
+  script : (g.L.Link.state l.link).script ≡ (g.L.Link.state l.initial.link).script;
 }

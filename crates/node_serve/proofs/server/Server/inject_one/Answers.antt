@@ -1,13 +1,17 @@
 use Rattle.std.proofs.Common.{Some}
-use Rattle.node_serve.proofs.Following.{reached_same, leaves_as}
-use Rattle.node_serve.proofs.MakeLaws.{inject_stay, inject_makes}
 use Rattle.serve_model.specs.Runs.{inject_one, make}
 use Rattle.network_plan.specs.declared.event.Event.TheVariants.{Inject}
-use Rattle.node_serve.proofs.MakeLaws.{not_same, is_same}
+use Rattle.node_serve.specs.Desks.{desk}
+use Rattle.node_serve.proofs.MakeLaws.{inject_stay, inject_makes, not_same, is_same}
+use Rattle.node_serve.proofs.Joining.{goes_same, goes_as}
 use Rattle.node_serve.proofs.server.Server.inject_one.Goals as goal
 
-pub returns-then-inject-turn-clause-run : goal.returns-then-inject-turn-clause-run
-returns-then-inject-turn-clause-run g c = λ tf tk sent base r st sh. reached_same _ _ _ _ r (inject_one c.args.turn (Some c.args.inject.now)) (inject_stay c.args.turn c.args.inject.now r (not_same _ _ c.if-inject-turn.true)) st sh
+pub returns-then-inject-turn : goal.returns-then-inject-turn
+returns-then-inject-turn g c = λ l. goes_same g.S.Services.stands c.args.cfg.now (inject_one c.args.turn (Some c.args.inject.now)) c.args.self.now (desk (g.F.Files.state c.args.files.now) (g.K.Sink.state c.args.out.now) l) tt
+    (λ r st. inject_stay c.args.turn c.args.inject.now r (not_same _ _ c.if-inject-turn.true))
 
-pub returns-clause-run : goal.returns-clause-run
-returns-clause-run g c = λ tf tk sent base r st sh. leaves_as _ _ _ _ r (make (Inject c.args.inject.now.2 c.args.inject.now.1)) (inject_one c.args.turn (Some c.args.inject.now)) c.step.result (inject_makes c.args.turn c.args.inject.now r (is_same _ _ c.if-inject-turn.false)) (c.step.ensures.run tf tk sent base r (Inject c.args.inject.now.2 c.args.inject.now.1) st sh c.injection-event.ensures.event)
+pub returns : goal.returns
+returns g c = λ l.
+    let e = Inject c.args.inject.now.2 c.args.inject.now.1 in
+    goes_as g.S.Services.stands c.args.cfg.now (make e) (inject_one c.args.turn (Some c.args.inject.now)) c.args.self.now c.step.new.self _ _ c.step.result
+    (λ seen r st. inject_makes c.args.turn c.args.inject.now r (is_same _ _ c.if-inject-turn.false)) (c.step.ensures l e c.injection-event.ensures.event)

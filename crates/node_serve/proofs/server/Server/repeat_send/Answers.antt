@@ -1,42 +1,39 @@
-use Rattle.std.proofs.Common.{refl, arith, ◌∙◌}
-use Rattle.node_serve.proofs.Following.{reached_same, leaves_err}
-use Rattle.node_serve.proofs.MakeLaws.{repeat_none, repeat_next}
-use Rattle.node_serve.proofs.Looping.{loop_next, loop_stops, loop_ends, repeat_up}
+use Rattle.std.proofs.Common.{◌≡◌, IsTrue, refl, sym, ap, subst, ◌∙◌, arith}
 use Rattle.serve_model.specs.Runs.{take_send, repeat_send}
+use Rattle.node_serve.proofs.MakeLaws.{repeat_none, repeat_next}
+use Rattle.node_serve.specs.Desks.{desk}
+use Rattle.node_serve.proofs.Looping.{repeat_up}
+use Rattle.node_serve.proofs.Joining.{goes_same, goes_as, goes_next, goes_no_more}
 use Rattle.node_serve.proofs.server.Server.repeat_send.Goals as goal
 
 pub loop-init : goal.loop-init
 loop-init g c = record {
   within = omega arith;
-  run = λ tf tk tl base r st sh. reached_same _ _ _ _ r (repeat_send c.args.dev 0) (repeat_none c.args.dev r) st sh;
-  later = (omega arith, omega arith);
-  later_link = omega arith;
-  bound = refl;
-  binds = λ _. refl;
-  script = λ _. refl;
-  writing = c.requires.writing;
-  kept = λ _. (refl, refl);
-  same = (refl, refl);
+  run = goes_same g.S.Services.stands c.args.cfg.now (repeat_send c.args.dev 0) c.args.self.now (desk (g.F.Files.state c.args.files.now) (g.K.Sink.state c.args.out.now) (g.L.Link.state c.args.link.now)) tt (λ r st. repeat_none c.args.dev r);
+  script = refl;
 }
+
+pub take_send-requires-clause-writing : goal.take_send-requires-clause-writing
+take_send-requires-clause-writing g c = subst IsTrue (sym c.loop.invariant.run.keeps.writing) c.requires.writing
+
+pub take_send-requires-clause-bound : goal.take_send-requires-clause-bound
+take_send-requires-clause-bound g c = c.loop.invariant.run.keeps.bound ∙ c.requires.bound
 
 pub loop-preserved : goal.loop-preserved
 loop-preserved g c =
     let i = c.loop.invariant in
     record {
       within = omega (arith, c.loop-test.true);
-      run = λ tf tk tl base r st sh. let a = i.run tf tk tl base r st sh in loop_next (repeat_send c.args.dev) (take_send c.args.dev) c.loop.counter (repeat_next c.args.dev c.loop.counter r) a (c.in_ok-take_send.ensures.run tf tk tl base a.done a.stands_for a.shows);
-      later = (omega (arith, i.later.0, c.take_send.ensures.later.0), omega (arith, i.later.1, c.take_send.ensures.later.1));
-      later_link = omega (arith, i.later_link, c.take_send.ensures.later_link);
-      bound = c.take_send.ensures.bound ∙ i.bound;
-      binds = λ t. c.take_send.ensures.binds t ∙ i.binds t;
-      script = λ t. c.take_send.ensures.script t ∙ i.script t;
-      writing = c.take_send.ensures.writing;
-      kept = λ t. ((c.take_send.ensures.kept t).0 ∙ (i.kept t).0, (c.take_send.ensures.kept t).1 ∙ (i.kept t).1);
-      same = (c.take_send.ensures.same.0 ∙ i.same.0, c.take_send.ensures.same.1 ∙ i.same.1);
+      run = goes_next g.S.Services.stands c.args.cfg.now (repeat_send c.args.dev) (take_send c.args.dev) c.loop.counter c.args.self.now c.loop.self c.take_send.new.self _ _ _ (repeat_next c.args.dev c.loop.counter) tt tt i.run c.in_default.ensures.goes;
+      script = c.take_send.ensures.script ∙ i.script;
     }
 
-pub returns-in_err-take_send-clause-run : goal.returns-in_err-take_send-clause-run
-returns-in_err-take_send-clause-run g c = λ tf tk tl base r st sh. let a = c.loop.invariant.run tf tk tl base r st sh in leaves_err _ _ _ _ _ _ _ c.from_residual.result c.from_residual.ensures.1 (loop_stops (repeat_send c.args.dev) (repeat_up c.args.dev) (take_send c.args.dev) c.loop.counter c.args.count c.loop-test.true (repeat_next c.args.dev c.loop.counter r) a (c.in_err-take_send.ensures.run tf tk tl base a.done a.stands_for a.shows))
+pub returns-in-Err-clause-goes : goal.returns-in-Err-clause-goes
+returns-in-Err-clause-goes g c =
+    goes_no_more g.S.Services.stands c.args.cfg.now (repeat_send c.args.dev) (take_send c.args.dev) c.loop.counter c.args.self.now c.loop.self c.take_send.new.self _ _ _ (repeat_next c.args.dev c.loop.counter) (repeat_up c.args.dev) c.args.count c.loop-test.true tt c.in-Err.fault
+    c.loop.invariant.run c.in-Err.ensures.goes
 
-pub returns-clause-run : goal.returns-clause-run
-returns-clause-run g c = λ tf tk tl base r st sh. loop_ends (repeat_send c.args.dev) c.loop.counter c.args.count c.loop.invariant.within c.loop-test.false (c.loop.invariant.run tf tk tl base r st sh)
+pub returns-clause-goes : goal.returns-clause-goes
+returns-clause-goes g c =
+    let all : c.loop.counter ≡ c.args.count = omega (arith, c.loop.invariant.within, c.loop-test.false) in
+    goes_as g.S.Services.stands c.args.cfg.now (repeat_send c.args.dev c.loop.counter) (repeat_send c.args.dev c.args.count) c.args.self.now c.loop.self _ _ _ (λ seen r st refused. ap (λ n. repeat_send c.args.dev n refused r) all) c.loop.invariant.run

@@ -1,17 +1,19 @@
-use Rattle.std.proofs.Common.{refl, sym, ◌∙◌}
-use Rattle.node_serve.proofs.Following.{send_held, send_stopped, leaves_err}
-use Rattle.node_serve.proofs.MakeLaws.{send_refused, send_result, made_as}
+use Rattle.std.proofs.Common.{refl}
 use Rattle.network_plan.specs.declared.event.Event.TheVariants.{Take}
+use Rattle.node_serve.specs.Desks.{desk}
+use Rattle.node_serve.proofs.Taking.{send_holds, send_lost, send_took, send_stops}
 use Rattle.node_serve.proofs.server.Server.take_send.Goals as goal
 
-pub returns-then-self-clause-run : goal.returns-then-self-clause-run
-returns-then-self-clause-run g c = λ tf tk tl base r st sh. send_held _ _ _ _ r c.args.dev (sym st.held ∙ c.if-self.true) st sh
+pub returns-then-self-clause-goes : goal.returns-then-self-clause-goes
+returns-then-self-clause-goes g c = send_holds g.S.Services.stands c.args.cfg.now c.args.dev c.args.self.now c.args.self.now (desk (g.F.Files.state c.args.files.now) (g.K.Sink.state c.args.out.now) (g.L.Link.state c.args.link.now)) tt c.if-self.true
 
-pub returns-in_err-make-clause-run : goal.returns-in_err-make-clause-run
-returns-in_err-make-clause-run g c = λ tf tk tl base r st sh. leaves_err _ _ _ _ _ _ _ c.from_residual.result c.from_residual.ensures.1 (send_stopped _ _ _ r c.args.dev (sym st.held ∙ c.if-self.false) (c.in_err-make.ensures.run tf tk (g.L.Link.sent c.args.link.now) base r (Take c.args.dev) st sh refl))
+pub returns-in-Ok-Lost-clause-goes : goal.returns-in-Ok-Lost-clause-goes
+returns-in-Ok-Lost-clause-goes g c = send_lost g.S.Services.stands c.args.cfg.now c.args.dev c.args.self.now c.make.new.self _ _ c.in-Ok-Lost.field-0 _ tt c.if-self.false c.in-Ok-Lost.field-0-is
+    (c.in-Ok-Lost.ensures (g.L.Link.state c.args.link.now) (Take c.args.dev) refl) refl refl refl refl
 
-pub returns-in-Lost-clause-run : goal.returns-in-Lost-clause-run
-returns-in-Lost-clause-run g c = λ tf tk tl base r st sh. send_refused g.S.Services.stands c.args.cfg.now base _ r c.args.dev c.make.new.self _ (sym st.held ∙ c.if-self.false) (made_as g.S.Services.stands c.args.cfg.now base _ r (Take c.args.dev) _ _ c.make.new.self c.in-Lost.is (c.in_ok-make.ensures.run tf tk (g.L.Link.sent c.args.link.now) base r (Take c.args.dev) st sh refl)) refl refl refl refl
+pub returns-in-Ok-Took-clause-goes : goal.returns-in-Ok-Took-clause-goes
+returns-in-Ok-Took-clause-goes g c = send_took g.S.Services.stands c.args.cfg.now c.args.dev c.args.self.now c.make.new.self _ (g.F.Files.state c.make.new.files) (g.K.Sink.state c.make.new.out) (g.L.Link.state c.args.link.now) (g.L.Link.state c.send_frame.new.link)
+    c.in-Ok-Took.field-0 c.in-Ok-Took.frame c.send_frame.result c.if-self.false c.in-Ok-Took.field-0-is (c.in-Ok-Took.ensures (g.L.Link.state c.args.link.now) (Take c.args.dev) refl) c.send_frame.ensures
 
-pub returns-clause-run : goal.returns-clause-run
-returns-clause-run g c = λ tf tk tl base r st sh. send_result g.S.Services.stands c.args.cfg.now base _ _ r c.args.dev c.in-Took.frame c.make.new.self c.send_frame.result (sym st.held ∙ c.if-self.false) (made_as g.S.Services.stands c.args.cfg.now base _ r (Take c.args.dev) _ _ c.make.new.self c.in-Took.is (c.in_ok-make.ensures.run tf tk (g.L.Link.sent c.args.link.now) base r (Take c.args.dev) st sh refl)) (c.send_frame.ensures.sent tl) refl refl refl
+pub returns-clause-goes : goal.returns-clause-goes
+returns-clause-goes g c = send_stops g.S.Services.stands c.args.cfg.now c.args.dev c.args.self.now c.make.new.self _ _ c.in-Err.fault c.if-self.false (c.in-Err.ensures (g.L.Link.state c.args.link.now) (Take c.args.dev) refl)

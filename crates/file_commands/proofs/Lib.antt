@@ -1,0 +1,5 @@
+pub mod Refusing
+pub mod Taking
+pub mod Rendering
+pub mod ShowLemmas
+pub mod Showing

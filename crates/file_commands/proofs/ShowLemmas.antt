@@ -1,0 +1,56 @@
+-- A text without the line feed that it may have at its end, and how long it is; a frame that is refused.
+use Rattle.std.proofs.Common.{◌≡◌, ◌≤◌, ◌⊎◌, inl, inr, Some, Ok, Err, subst, ℕ, ◌+◌, ◌-◌, ◌==◌, Bool, true, false, List, [], ◌∷◌, length, take, get_or, refl, sym, ◌∙◌, ap, arith}
+use Rattle.std.specs.Prelude.{nat_lt, if◌then◌else◌}
+use Rattle.std.proofs.lemmas.Bool.{eq-eqb, ne_eqb, le-ltb}
+use Rattle.std.proofs.lemmas.List.{length-take}
+use Rattle.hex.specs.Hex.{decode_of, IsBytes}
+use Rattle.hex.proofs.HexLemmas.{decode_of-ok}
+use Rattle.packet_frame.specs.declared.fault.FrameFault.{FrameFault}
+use Rattle.packet_frame.specs.Typed.{FrameFirst}
+use Rattle.packet_frame.specs.Decoding.{frame_of}
+use Rattle.packet_frame.proofs.OneAnswer.{first_is}
+use Rattle.call_causes.specs.Memory.{cause_at}
+use Rattle.call_causes.specs.declared.status.Cause.{Cause}
+use Rattle.call_causes.specs.declared.status.Cause.TheVariants.{NoMemory}
+use Rattle.call_causes.specs.declared.status.Refusal.TheVariants.{Frame}
+use Rattle.file_commands.specs.Takes.{Refuses}
+use Rattle.file_commands.specs.Shows.{without_feed, framed_said}
+use Rattle.file_commands.proofs.Refusing.{refuses_told}
+
+pub no_text : (text : List ℕ) → length text ≡ 0 → text ≡ without_feed text
+no_text [] h = refl
+no_text (b ∷ bs) h = absurd (omega (arith, h))
+
+-- the text by its last byte
+by_last : (text : List ℕ) (last : ℕ) → last + 1 ≡ length text → without_feed text ≡ (if get_or text last 0 == 10 then take last text else text)
+by_last text last e = let i : length text - 1 ≡ last = omega (arith, e) in ap (λ k. if get_or text k 0 == 10 then take k text else text) i
+
+pub feed_off : (text : List ℕ) (last : ℕ) → last + 1 ≡ length text → get_or text last 0 ≡ 10 → take last text ≡ without_feed text
+feed_off text last e h = sym (by_last text last e ∙ ap (λ b. if b then take last text else text) (eq-eqb (get_or text last 0) 10 h))
+
+pub no_feed : (text : List ℕ) (last : ℕ) → last + 1 ≡ length text → (get_or text last 0 ≡ 10 → ⊥) → text ≡ without_feed text
+no_feed text last e h = sym (by_last text last e ∙ ap (λ b. if b then take last text else text) (ne_eqb (get_or text last 0) 10 h))
+
+-- ---- a text in hex that stands for few bytes is short
+
+one_less : (text : List ℕ) (b : Bool) → length text ≤ length (if b then take (length text - 1) text else text) + 1
+one_less text true = let e = length-take (length text - 1) text in omega (arith, e)
+one_less text false = omega arith
+
+pub short_hex : (text bytes : List ℕ) → decode_of (without_feed text) ≡ Ok bytes → length bytes ≤ 16512 → nat_lt 33025 (length text) ≡ false
+short_hex text bytes h short =
+    let even = (decode_of-ok (without_feed text) bytes h).2 in
+    let more = one_less text (get_or text (length text - 1) 0 == 10) in
+    le-ltb 33025 (length text) (omega (arith, even, more))
+
+pub decoded_bytes : (text bytes : List ℕ) → decode_of text ≡ Ok bytes → IsBytes bytes
+decoded_bytes text bytes h = (decode_of-ok text bytes h).3
+
+-- ---- a frame that is refused
+
+pub frame_refused : (bytes : List ℕ) (e : FrameFault) (cause : Cause) → cause ≡ cause_at (Frame e) → IsBytes bytes → (e ≡ FrameFault.NoMemory) ⊎ FrameFirst e bytes
+    → Refuses (framed_said (frame_of bytes)) cause
+frame_refused bytes e cause is h (inl none) =
+    let wants : cause ≡ NoMemory = is ∙ ap (λ f. cause_at (Frame f)) none in
+    subst (Refuses (framed_said (frame_of bytes))) (sym wants) tt
+frame_refused bytes e cause is h (inr first) = refuses_told (framed_said (frame_of bytes)) (Frame e) cause is (ap framed_said (first_is bytes e h first))

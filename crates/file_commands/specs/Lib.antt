@@ -1,0 +1,5 @@
+pub mod Said
+pub mod Takes
+pub mod Renders
+pub mod Checks
+pub mod Shows

@@ -1,0 +1,14 @@
+//! Commands that act on what one file says: the reading of that file, and the commands that write one text of it.
+#![tactic(auto)]
+
+mod by_file;
+mod check;
+mod command;
+mod lines;
+mod show;
+
+pub use by_file::on_file;
+pub use check::Check;
+pub use command::{FileCommand, print};
+pub use lines::{LineValue, value_of};
+pub use show::Show;

@@ -1,0 +1,119 @@
+ghost use Rattle.std.specs.Prelude.{◌≡◌, ◌≤◌, ◌<◌, ◌^◌, ◌⊎◌, List, ℕ, Result, Ok, Err, IfOk, IfErr, length};
+ghost use Rattle.line_files.specs.declared.fault.LineFault.{LineFault as Fault};
+ghost use Rattle.file_commands.specs.Said.{all_of, said_by, said_in, lines_said};
+ghost use Rattle.file_commands.specs.Takes.{Reads, Takes};
+
+use call_causes::{Cause, Refusal, stop_at};
+use line_files::LineFault;
+use network_plan::{AskFile, Fleet, ServeConfig};
+use node_files::{read_ask, read_config, read_fleet};
+use node_io::{Files, ReadError, read_whole};
+use plan_base::Bytes;
+use std::alloc::Global;
+
+/// The most bytes of a file of lines.
+const LINES_MAX: usize = 4_194_304;
+
+/// Reads the file `name`, which may have at most so many bytes.
+pub fn bytes_of<F: Files>(
+    alloc: Global,
+    files: &mut F,
+    name: &str,
+    limit: usize,
+) -> Result<Bytes, Cause>
+    requires { limit < 2 ^ 62 }
+    ensures within { IfOk result (λ bytes. length bytes ≤ limit) }
+    ensures takes { Takes (said_in limit all_of name.now) name.now
+        (F.state files.old) (F.state files.new) result }
+{
+    match read_whole(alloc, files, name, limit) {
+        Ok(bytes) => Ok(bytes),
+        Err(ReadError::Fault) => Err(Cause::ReadFault),
+        Err(ReadError::TooLong) => Err(Cause::Refused(Refusal::TooLong)),
+        Err(ReadError::NoMemory) => Err(Cause::NoMemory),
+    }
+}
+
+/// A value that a file says line by line.
+pub trait LineValue: Drop + Sized {
+    // what bytes say: the value, or the first line outside its format; and what such a value keeps
+    ghost said: { List ℕ → Result Self Fault };
+
+    ghost keeps: { Self → Type 0 };
+
+    /// Reads the value. Condition: at most 4,194,304 bytes.
+    fn read(alloc: Global, bytes: &[u8]) -> Result<Self, LineFault>
+        requires { length bytes.now ≤ 4194304 }
+        ensures found { IfOk result (λ v. said bytes.now ≡ Ok v) }
+        ensures fault { IfErr result (λ e. (e ≡ LineFault.NoMemory) ⊎ (said bytes.now ≡ Err e)) }
+        ensures rules { IfOk result keeps };
+}
+
+impl LineValue for AskFile {
+    ghost use Rattle.network_plan.specs.NodeRules.{KeepsAsk};
+    ghost use Rattle.node_files.specs.Asks.{ask_of};
+
+    ghost said = { ask_of };
+
+    ghost keeps = { KeepsAsk };
+
+    fn read(alloc: Global, bytes: &[u8]) -> Result<AskFile, LineFault> {
+        read_ask(alloc, bytes)
+    }
+}
+
+impl LineValue for Fleet {
+    ghost use Rattle.network_plan.specs.NodeRules.{KeepsFleet};
+    ghost use Rattle.node_files.specs.Fleets.{fleet_of};
+
+    ghost said = { fleet_of };
+
+    ghost keeps = { KeepsFleet };
+
+    fn read(alloc: Global, bytes: &[u8]) -> Result<Fleet, LineFault> {
+        read_fleet(alloc, bytes)
+    }
+}
+
+impl LineValue for ServeConfig {
+    ghost use Rattle.network_plan.specs.NodeRules.{KeepsServe};
+    ghost use Rattle.node_files.specs.Configs.{config_of};
+
+    ghost said = { config_of };
+
+    ghost keeps = { KeepsServe };
+
+    fn read(alloc: Global, bytes: &[u8]) -> Result<ServeConfig, LineFault> {
+        read_config(alloc, bytes)
+    }
+}
+
+// The value that bytes say. Condition: at most 4,194,304 bytes.
+#[tactic(auto, using(crate::proofs::Refusing::lines_refuse))]
+fn value_in<V: LineValue>(alloc: Global, bytes: &[u8]) -> Result<V, Cause>
+    requires { length bytes.now ≤ 4194304 }
+    ensures reads { Reads (said_by (V.said bytes.now)) result }
+    ensures rules { IfOk result V.keeps }
+{
+    match V::read(alloc, bytes) {
+        Ok(value) => Ok(value),
+        Err(fault) => Err(stop_at(fault)),
+    }
+}
+
+/// Reads the file `name` and answers the value that it says.
+#[tactic(auto, using(crate::proofs::Taking::takes_none, crate::proofs::Taking::takes_read))]
+pub fn value_of<V: LineValue, F: Files>(
+    alloc: Global,
+    files: &mut F,
+    name: &str,
+) -> Result<V, Cause>
+    ensures takes { Takes (lines_said V.said name.now) name.now
+        (F.state files.old) (F.state files.new) result }
+    ensures rules { IfOk result V.keeps }
+{
+    match bytes_of(alloc, files, name, LINES_MAX) {
+        Ok(bytes) => value_in(alloc, bytes.as_slice()),
+        Err(cause) => Err(cause),
+    }
+}

@@ -1,0 +1,114 @@
+ghost use Rattle.std.specs.Prelude.{◌≡◌, IfOk, MatchResult, Ok};
+ghost use Rattle.hex.specs.Hex.{decode_of, IsBytes};
+ghost use Rattle.packet_frame.specs.Typed.{plain_of};
+ghost use Rattle.packet_frame.specs.Decoding.{frame_of};
+ghost use Rattle.file_commands.specs.Said.{says};
+ghost use Rattle.file_commands.specs.Takes.{Refuses, Reads};
+ghost use Rattle.file_commands.specs.Shows.{frame_limit, without_feed, bytes_said, framed_said, frame_said};
+
+use crate::command::{FileCommand, print};
+use call_causes::{Cause, Refusal, cause_at};
+use frame_text::print_frame;
+use hex::FromHexError;
+use node_io::Sink;
+use packet_frame::{Frame, get_frame};
+use plan_base::Bytes;
+use std::alloc::Global;
+
+/// The most bytes of a frame in hex: two digits for each byte of the longest frame, and a line feed.
+const HEX_MAX: usize = 33_025;
+
+/// `show FILE`: what a frame in hex says.
+pub struct Show;
+
+// The text without the line feed that it may have at its end.
+#[tactic(auto, using(crate::proofs::ShowLemmas::no_text, crate::proofs::ShowLemmas::feed_off, crate::proofs::ShowLemmas::no_feed))]
+fn trimmed(text: &[u8]) -> &[u8]
+    ensures { result.now ≡ without_feed text.now }
+{
+    if text.is_empty() {
+        return text;
+    }
+    let last = text.len() - 1;
+    if text[last] == b'\n' {
+        &text[..last]
+    } else {
+        text
+    }
+}
+
+// The bytes that hex digits of either case stand for.
+#[tactic(auto, using(crate::proofs::ShowLemmas::decoded_bytes))]
+fn decoded(alloc: Global, text: &[u8]) -> Result<Bytes, Cause>
+    ensures reads { Reads (bytes_said (decode_of (without_feed text.now))) result }
+    ensures bytes { IfOk result IsBytes }
+{
+    match hex::decode(alloc, trimmed(text)) {
+        Ok(bytes) => Ok(Bytes::of(bytes)),
+        Err(FromHexError::OutOfMemory) => Err(Cause::NoMemory),
+        Err(_) => Err(Cause::Refused(Refusal::BadHex)),
+    }
+}
+
+// The frame that the bytes spell.
+fn framed(alloc: Global, bytes: &[u8]) -> Result<Frame, Cause>
+    requires { IsBytes bytes.now }
+    ensures { MatchResult result (λ x. frame_of bytes.now ≡ Ok (plain_of x))
+        (λ why. Refuses (framed_said (frame_of bytes.now)) why) }
+{
+    match get_frame(alloc, bytes, None) {
+        Ok(frame) => Ok(frame),
+        Err(refusal) => Err(cause_at(Refusal::Frame(refusal))),
+    }
+}
+
+// What a frame says.
+fn text_of(alloc: Global, frame: &Frame) -> Result<Bytes, Cause>
+    ensures { Reads (framed_said (Ok (plain_of frame.now))) result }
+{
+    let mut text = Bytes::new(alloc);
+    match print_frame(alloc, frame, &mut text) {
+        Ok(()) => Ok(text),
+        Err(_) => Err(Cause::NoMemory),
+    }
+}
+
+// What the frame says that the bytes spell.
+fn bytes_text(alloc: Global, bytes: &[u8]) -> Result<Bytes, Cause>
+    requires { IsBytes bytes.now }
+    ensures { Reads (framed_said (frame_of bytes.now)) result }
+{
+    match framed(alloc, bytes) {
+        Ok(frame) => text_of(alloc, &frame),
+        Err(cause) => Err(cause),
+    }
+}
+
+// What a frame in hex says.
+#[tactic(auto, using(crate::proofs::Refusing::undecoded), unfolding(crate::specs::Shows::frame_said))]
+fn hex_text(alloc: Global, text: &[u8]) -> Result<Bytes, Cause>
+    ensures { Reads (frame_said text.now) result }
+{
+    match decoded(alloc, text) {
+        Ok(bytes) => bytes_text(alloc, bytes.as_slice()),
+        Err(cause) => Err(cause),
+    }
+}
+
+impl FileCommand for Show {
+    ghost limit = { frame_limit };
+
+    ghost said = { frame_said };
+
+    fn limit() -> usize {
+        HEX_MAX
+    }
+
+    #[tactic(auto, using(crate::proofs::Rendering::renders_none, crate::proofs::Rendering::renders_text))]
+    fn write<K: Sink>(alloc: Global, bytes: &[u8], out: &mut K) -> Cause {
+        match hex_text(alloc, bytes) {
+            Ok(text) => print(text.as_slice(), out),
+            Err(cause) => cause,
+        }
+    }
+}

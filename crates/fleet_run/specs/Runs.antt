@@ -1,0 +1,89 @@
+-- What stands after a fleet's run, and after each part of it.
+use Rattle.std.specs.Prelude.{ℕ, IsTrue, List, ◌≡◌, ◌++◌, ◌⊎◌, ◌≤◌, length, take, drop, Result, Ok, Err}
+use Rattle.network_plan.specs.declared.fleet.Kid.{Kid}
+use Rattle.node_io.specs.Causes.{HasRisen, one_more}
+use Rattle.node_io.specs.Sinks.{SinkState, Writes, FailsIn}
+use Rattle.node_io.specs.Spawners.{Words, SpawnerState, KeepsStatuses}
+use Rattle.node_io.specs.declared.spawner.Child.{Child}
+use Rattle.fleet_run.specs.Children.{AreOpen, AreNumbered, LeavesOpen}
+use Rattle.fleet_run.specs.Fleets.{fleet_starts, fleet_text, fleet_end}
+use Rattle.fleet_run.specs.declared.fault.FleetFault.{FleetFault}
+use Rattle.fleet_run.specs.declared.fault.FleetFault.TheVariants.{StartFault, WaitFault, WriteFault, NoMemory}
+use Rattle.fleet_run.specs.declared.reports.FleetEnd.{FleetEnd}
+
+-- all of these starts were asked
+abbrev pub Started : List Words → SpawnerState → SpawnerState → Type 0
+Started words old new = IsTrue old.observable → new.starts ≡ old.starts ++ words
+
+-- a prefix of them was
+pub record StartsPrefix (words : List Words) (old new : SpawnerState) : Type 0 where
+  pub count : ℕ
+  pub is : IsTrue old.observable → new.starts ≡ old.starts ++ take count words
+
+-- ---- parts
+
+-- all were started, or a prefix of them
+abbrev pub StartResult : {T E : Type 0} → List Words → List Child → SpawnerState → SpawnerState → Result T E → Type 0
+StartResult words started old new (Ok x) = (length started ≡ length words) × Started words old new
+StartResult words started old new (Err e) = HasRisen old.faults new.faults × StartsPrefix words old new
+
+pub record StartsAll {T E : Type 0} (words : List Words) (started : List Child) (old new : SpawnerState) (result : Result T E) : Type 0 where
+  pub kept : KeepsStatuses old new
+  pub running : AreOpen old.children new.children started
+  pub numbered : IsTrue old.observable → AreNumbered old.started started
+  pub did : StartResult words started old new result
+
+-- these were waited for, up to a fault
+pub record WaitsForAll (started : List Child) (old new : SpawnerState) : Type 0 where
+  pub kept : KeepsStatuses old new
+  pub starts : new.starts ≡ old.starts
+  pub waited : (base : List Child) → AreOpen base old.children started → (new.children ≡ base) ⊎ (HasRisen old.faults new.faults × LeavesOpen base new.children)
+
+-- each was waited for, and its line written
+abbrev pub ReportResult : {T : Type 0} → List Kid → List ℕ → SpawnerState → SpawnerState → SinkState → SinkState → Result T FleetFault → Type 0
+ReportResult kids statuses old new out_old out_new (Ok x) = (length statuses ≡ length kids) × Writes out_old out_new (fleet_text kids statuses)
+ReportResult kids statuses old new out_old out_new (Err StartFault) = ⊥
+ReportResult kids statuses old new out_old out_new (Err WaitFault) = HasRisen old.faults new.faults × Writes out_old out_new (fleet_text kids statuses)
+ReportResult kids statuses old new out_old out_new (Err WriteFault) = FailsIn out_old out_new (fleet_text kids statuses)
+ReportResult kids statuses old new out_old out_new (Err NoMemory) = Writes out_old out_new (fleet_text kids statuses)
+
+abbrev pub Closes : {T E : Type 0} → List Child → List Child → Result T E → Type 0
+Closes base running (Ok x) = running ≡ base
+Closes base running (Err e) = LeavesOpen base running
+
+pub record ReportsEach {T : Type 0} (kids : List Kid) (started : List Child) (statuses : List ℕ) (old new : SpawnerState) (out_old out_new : SinkState) (result : Result T FleetFault) : Type 0 where
+  pub kept : KeepsStatuses old new
+  pub starts : new.starts ≡ old.starts
+  pub few : length statuses ≤ length kids
+  pub given : IsTrue old.observable → (n : ℕ) → AreNumbered n started → statuses ≡ take (length statuses) (drop n old.statuses)
+  pub closed : (base : List Child) → AreOpen base old.children started → Closes base new.children result
+  pub did : ReportResult kids statuses old new out_old out_new result
+
+-- ---- the whole
+
+-- what stands of the starts, of the open children and of the lines, where these statuses came
+abbrev pub FleetResult : List Kid → List ℕ → SpawnerState → SpawnerState → SinkState → SinkState → Result FleetEnd FleetFault → Type 0
+FleetResult kids statuses old new out_old out_new (Ok end) =
+    (length statuses ≡ length kids) × (end ≡ fleet_end kids statuses)
+    × Started (fleet_starts kids) old new × (new.children ≡ old.children) × Writes out_old out_new (fleet_text kids statuses)
+FleetResult kids statuses old new out_old out_new (Err StartFault) =
+    HasRisen old.faults new.faults
+    × StartsPrefix (fleet_starts kids) old new
+    × ((new.children ≡ old.children) ⊎ (HasRisen (one_more old.faults) new.faults × LeavesOpen old.children new.children))
+    × (out_new ≡ out_old)
+FleetResult kids statuses old new out_old out_new (Err WaitFault) =
+    HasRisen old.faults new.faults
+    × Started (fleet_starts kids) old new × LeavesOpen old.children new.children × Writes out_old out_new (fleet_text kids statuses)
+FleetResult kids statuses old new out_old out_new (Err WriteFault) =
+    Started (fleet_starts kids) old new × LeavesOpen old.children new.children × FailsIn out_old out_new (fleet_text kids statuses)
+FleetResult kids statuses old new out_old out_new (Err NoMemory) =
+    ((new.starts ≡ old.starts) ⊎ Started (fleet_starts kids) old new)
+    × LeavesOpen old.children new.children × Writes out_old out_new (fleet_text kids statuses)
+
+-- a fleet ran: these statuses of its first children came, in order, and so much stands
+pub record RunsFleet (kids : List Kid) (old new : SpawnerState) (out_old out_new : SinkState) (result : Result FleetEnd FleetFault) : Type 0 where
+  pub kept : KeepsStatuses old new
+  pub statuses : List ℕ
+  pub few : length statuses ≤ length kids
+  pub given : IsTrue old.observable → statuses ≡ take (length statuses) (drop old.started old.statuses)
+  pub did : FleetResult kids statuses old new out_old out_new result

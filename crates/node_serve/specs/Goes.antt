@@ -1,0 +1,49 @@
+-- How each call of a serving node goes on from a run.
+use Rattle.std.specs.Prelude.{◌≡◌, ℕ, IsTrue, Result, MatchResult}
+use Rattle.network_plan.specs.declared.serve.ServeConfig.{ServeConfig}
+use Rattle.network_plan.specs.declared.event.Event.{Event}
+use Rattle.node_io.specs.Clocks.{Tells}
+use Rattle.node_io.specs.Links.{next_heard}
+use Rattle.service_api.specs.Services.{ServiceState}
+use Rattle.serve_model.specs.Runs.{Running, Action, make, turn, turns, peers_of}
+use Rattle.node_serve.specs.Shown.{Seen, Shows, Stopped, Leaves, UsesOne, UsesUpTo}
+use Rattle.node_serve.specs.Stays.{StandsFor, Makes}
+use Rattle.node_serve.specs.Desks.{Desk, Serving, desk_of, seen_at, IsSeen, KeepsDesk, Faults}
+use Rattle.node_serve.specs.declared.server.Server.{Server}
+use Rattle.node_serve.specs.declared.steps.StepOutcome.{StepOutcome}
+use Rattle.node_serve.specs.declared.fault.ServeFault.{ServeFault}
+
+-- a call went on from a run as this action does
+pub record Goes {S T : Type 0} (stands : S → ServiceState) (cfg : ServeConfig) (act : Action) (server after : Server S)
+    (old new : Desk) (result : Result T ServeFault) : Type 0 where
+  pub keeps : KeepsDesk old new
+  pub faults : Faults old new result
+  pub run : IsSeen old → (base : Seen) (r : Running) → StandsFor stands server r → Shows cfg base (seen_at old) r
+      → Leaves (StandsFor stands after) cfg base (seen_at new) r act result
+
+-- a step was made and written, or a prefix of it
+pub record MakesStep {S : Type 0} (stands : S → ServiceState) (cfg : ServeConfig) (e : Event) (server after : Server S)
+    (old new : Desk) (result : Result StepOutcome ServeFault) : Type 0 where
+  pub keeps : KeepsDesk old new
+  pub faults : Faults old new result
+  pub run : IsSeen old → (base : Seen) (r : Running) → StandsFor stands server r → Shows cfg base (seen_at old) r
+      → MatchResult result (λ made. Makes stands cfg base (seen_at new) r e made after) (λ _. Stopped cfg base (seen_at new) r (make e))
+
+-- a turn was made at the time that the clock told, with what the link heard; a failed one may have used no arrival
+pub record GoesTurn {S T : Type 0} (stands : S → ServiceState) (cfg : ServeConfig) (number : ℕ) (server after : Server S)
+    (old new : Serving) (result : Result T ServeFault) : Type 0 where
+  pub time : ℕ
+  pub told : Tells old.clock new.clock time
+  pub goes : Goes stands cfg (turn cfg number time (next_heard (peers_of cfg) old.link.script)) server after (desk_of old) (desk_of new) result
+  pub script : IsTrue old.link.observable → UsesOne old.link.script new.link.script result
+
+-- so many turns were made, each with an arrival and an answer of the clock; where they failed, no more
+pub record GoesTurns {S T : Type 0} (stands : S → ServiceState) (cfg : ServeConfig) (count : ℕ) (server after : Server S)
+    (old new : Serving) (result : Result T ServeFault) : Type 0 where
+  pub keeps : KeepsDesk (desk_of old) (desk_of new)
+  pub faults : Faults (desk_of old) (desk_of new) result
+  pub clock : new.clock.observable ≡ old.clock.observable
+  pub goes : IsTrue old.clock.observable
+      → Goes stands cfg (turns cfg old.link.script old.clock.last old.clock.answers count) server after (desk_of old) (desk_of new) result
+  pub script : IsTrue old.link.observable → UsesUpTo count old.link.script new.link.script result
+  pub answers : IsTrue old.clock.observable → UsesUpTo count old.clock.answers new.clock.answers result

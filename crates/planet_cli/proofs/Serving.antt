@@ -1,0 +1,189 @@
+-- The laws of `node`, and of files that aren't taken.
+use Rattle.std.proofs.Common.{◌≡◌, ◌⊎◌, inl, inr, ℕ, IsTrue, List, [], Option, Some, None, Result, Ok, Err, MatchResult, refl, sym, ap, ◌∙◌, subst, arith}
+use Rattle.std.proofs.lemmas.List.{append-nil}
+use Rattle.network_plan.specs.declared.fleet.AskFile.{AskFile}
+use Rattle.network_plan.specs.declared.serve.ServeConfig.{ServeConfig}
+use Rattle.node_io.specs.Causes.{HasRisen}
+use Rattle.node_io.specs.FileMaps.{FileMap, ChangesOnly, SavesFront, untouched}
+use Rattle.node_io.specs.FileStates.{FilesState}
+use Rattle.node_io.specs.Outsides.{Outside}
+use Rattle.node_io.specs.Sinks.{SinkState}
+use Rattle.node_model.specs.State.{NodeState}
+use Rattle.serve_model.specs.Follow.{lost_after}
+use Rattle.fleet_run.specs.Asks.{ask_line}
+use Rattle.node_serve.specs.Desks.{Serving, IsSeen, desk_of}
+use Rattle.node_serve.specs.Shown.{run_log}
+use Rattle.node_serve.specs.Served.{Served, Begun, Ends, run_in}
+use Rattle.node_serve.specs.Serves.{Serves}
+use Rattle.node_serve.specs.declared.fault.ServeFault.{ServeFault}
+use Rattle.node_serve.specs.declared.fault.ServeFault.TheVariants as faults
+use Rattle.call_causes.specs.Causes.{Gives}
+use Rattle.call_causes.specs.declared.status.Cause.{Cause}
+use Rattle.call_causes.specs.declared.status.Cause.TheVariants.{Done, Usage, Refused, ReadFault, WriteFault, LinkFault, SpawnFault, NoMemory, NodesFailed}
+use Rattle.file_commands.specs.Said.{Said, nothing, outside, says}
+use Rattle.file_commands.specs.Takes.{Untaken}
+use Rattle.live_commands.specs.Asks.{AsksAs, ask_said}
+use Rattle.live_commands.specs.Nodes.{ServesAs, config_said, own_node, serve_cause}
+use Rattle.planet_cli.specs.Requests.{Request, replay, check, show, inject, fleet, node, grow}
+use Rattle.planet_cli.specs.Does.{Does, wire_in, serving_in}
+use Rattle.planet_cli.specs.Calls.{Calls}
+use Rattle.planet_cli.specs.Outcomes.{Outcome, whole, runs, outcome_by, outcome_of, IsAccepted}
+use Rattle.planet_cli.specs.Laws.{ServesAtMost}
+use Rattle.planet_cli.proofs.Views.{Took, took, left, view}
+use Rattle.planet_cli.proofs.Fleets.{unread}
+use Rattle.planet_cli.proofs.Giving.{given, done_found, well}
+
+-- ---- a run over files that were read before
+
+module _ (cfg : ServeConfig) (n : NodeState) (turns : ℕ) (old new : Serving) (read : FilesState) (held : read.held ≡ old.files.held) where
+  served_before : Served cfg n turns (record old { files = read }) new → Served cfg n turns old new
+  served_before x = record {
+    refused = x.refused;
+    places = x.places;
+    log = subst (λ f. ChangesOnly f new.files.held cfg.log (run_log cfg (run_in cfg n turns old x.refused))) held x.log;
+    out = x.out;
+    sent = x.sent;
+    binds = x.binds;
+    script = x.script;
+    answers = x.answers;
+    readable = x.readable;
+  }
+
+  begun_before : Begun cfg n turns (record old { files = read }) new → Begun cfg n turns old new
+  begun_before x = record {
+    refused = x.refused;
+    steps = x.steps;
+    places = x.places;
+    log = subst (λ f. SavesFront f new.files.held cfg.log (run_log cfg (run_in cfg n turns old x.refused))) held x.log;
+    out = x.out;
+    sent = x.sent;
+    binds = x.binds;
+    script = x.script;
+    answers = x.answers;
+  }
+
+  ended_before : (result : Result (Unit {0}) ServeFault) → Ends cfg n turns (record old { files = read }) new result → Served cfg n turns old new ⊎ Begun cfg n turns old new
+  ended_before (Ok x) e = inl (served_before e)
+  ended_before (Err f) e = inr (begun_before e)
+
+  -- where nothing was served
+  not_begun : Begun cfg n turns old (record old { files = read })
+  unfolding lost_after
+  not_begun = record {
+    refused = [];
+    steps = 0;
+    places = refl;
+    log = untouched held;
+    out = record { count = 0; is = sym (append-nil old.out.taken) };
+    sent = record { count = 0; is = sym (append-nil old.link.sent) };
+    binds = inl refl;
+    script = record { count = 0; few = omega (arith); is = refl };
+    answers = record { count = 0; few = omega (arith); is = refl };
+  }
+
+none_served : (s : Said ServeConfig) (turns : ℕ) (old : Serving) (read : FilesState) → read.held ≡ old.files.held → ServesAtMost s turns old (record old { files = read })
+none_served nothing turns old read held = (refl, held)
+none_served (outside r) turns old read held = (refl, held)
+none_served (says cfg) turns old read held = inr (not_begun cfg (own_node cfg) turns old (record old { files = read }) read held)
+
+-- ---- causes
+
+served_well : (old new : Serving) (cfg : ServeConfig) (turns : ℕ) (result : Result (Unit {0}) ServeFault) → serve_cause result ≡ Done → Ends cfg (own_node cfg) turns old new result → Served cfg (own_node cfg) turns old new
+served_well old new cfg turns (Ok x) e h = h
+served_well old new cfg turns (Err faults.LinkFault) e h = absurd (cc)
+served_well old new cfg turns (Err faults.WriteFault) e h = absurd (cc)
+served_well old new cfg turns (Err faults.NoMemory) e h = absurd (cc)
+
+done_or_poor : (cfg : ServeConfig) (turns : ℕ) (old new : Serving) (result : Result (Unit {0}) ServeFault) → Serves cfg (own_node cfg) turns old new result
+    → ¬ (HasRisen old.files.write_faults new.files.write_faults) → ¬ (HasRisen old.link.faults new.link.faults) → ¬ (HasRisen old.out.faults new.out.faults) → (serve_cause result ≡ Done) ⊎ (serve_cause result ≡ NoMemory)
+done_or_poor cfg turns old new (Ok x) p w l o = inl refl
+done_or_poor cfg turns old new (Err faults.LinkFault) p w l o = absurd (l p.faults)
+done_or_poor cfg turns old new (Err faults.WriteFault) p w l o = elim p.faults [ inl rose ↦ absurd (w rose) | inr rose ↦ absurd (o rose) ]
+done_or_poor cfg turns old new (Err faults.NoMemory) p w l o = inr refl
+
+says_one : {A : Type 0} (a b : A) → says a ≡ says b → a ≡ b
+says_one a b e = cc
+
+-- ---- calls
+
+module _ (file : List ℕ) (turns : ℕ) (cause : Cause) (old new : Outside) (n m : SinkState) (call : Calls (Some (node file turns)) cause old new n m) where
+  still_held : call.does.1.read.held ≡ old.files.held
+  still_held = call.does.1.did.takes.only.held
+
+  node_view : Took (config_said file) (ServesAs turns) old.files call.does.1.read call.found (record (serving_in old) { files = call.does.1.read }) (serving_in new)
+  node_view = view (config_said file) (ServesAs turns) file old.files call.does.1.read call.found (record (serving_in old) { files = call.does.1.read }) (serving_in new) call.does.1.did
+
+  still_seen : IsSeen (desk_of (serving_in old)) → IsSeen (desk_of (record (serving_in old) { files = call.does.1.read }))
+  still_seen seen = (subst IsTrue (sym call.does.1.did.takes.only.observable) seen.0, seen.1, seen.2)
+
+  module _ (seen : IsSeen (desk_of (serving_in old))) (clock : IsTrue old.clock.observable) where
+    served_so : (c : Cause) (cfg : ServeConfig) → Took (config_said file) (ServesAs turns) old.files call.does.1.read c (record (serving_in old) { files = call.does.1.read }) (serving_in new)
+        → config_said file old.files.held ≡ says cfg → c ≡ Done → Served cfg (own_node cfg) turns (serving_in old) (serving_in new)
+    served_so c cfg (took own_cfg own p) e done =
+        subst (λ k. Served k (own_node k) turns (serving_in old) (serving_in new)) (says_one own_cfg cfg (sym (own seen.0) ∙ e))
+        (served_before own_cfg (own_node own_cfg) turns (serving_in old) (serving_in new) call.does.1.read still_held
+        (served_well (record (serving_in old) { files = call.does.1.read }) (serving_in new) own_cfg turns p.result (sym p.is ∙ done) (p.serves.runs (still_seen seen) clock)))
+    served_so c cfg (left u same) e done = elim (subst (Untaken (config_said file) old.files call.does.1.read) done u) [ ]
+
+    pub node_serves : (cfg : ServeConfig) → config_said file old.files.held ≡ says cfg → cause ≡ Done → Served cfg (own_node cfg) turns (serving_in old) (serving_in new)
+    node_serves cfg e done = served_so call.found cfg node_view e (done_found (Some (node file turns)) cause old new n m call done)
+
+    at_most : (c : Cause) → Took (config_said file) (ServesAs turns) old.files call.does.1.read c (record (serving_in old) { files = call.does.1.read }) (serving_in new)
+        → ServesAtMost (config_said file old.files.held) turns (serving_in old) (serving_in new)
+    at_most c (took cfg own p) =
+        subst (λ s. ServesAtMost s turns (serving_in old) (serving_in new)) (sym (own seen.0))
+        (ended_before cfg (own_node cfg) turns (serving_in old) (serving_in new) call.does.1.read still_held p.result (p.serves.runs (still_seen seen) clock))
+    at_most c (left u same) =
+        subst (λ s. ServesAtMost (config_said file old.files.held) turns (serving_in old) s) (sym same)
+        (none_served (config_said file old.files.held) turns (serving_in old) call.does.1.read still_held)
+
+    pub node_fronts : ServesAtMost (config_said file old.files.held) turns (serving_in old) (serving_in new)
+    node_fronts = at_most call.found node_view
+
+  complete_so : (c : Cause) (cfg : ServeConfig) → Took (config_said file) (ServesAs turns) old.files call.does.1.read c (record (serving_in old) { files = call.does.1.read }) (serving_in new)
+      → IsTrue old.files.observable → config_said file old.files.held ≡ says cfg → ¬ (HasRisen old.files.read_faults new.files.read_faults) → ¬ (HasRisen old.files.write_faults new.files.write_faults)
+      → ¬ (HasRisen old.link.faults new.link.faults) → ¬ (HasRisen old.out.faults new.out.faults) → (c ≡ Done) ⊎ (c ≡ NoMemory)
+  complete_so c cfg (took own_cfg own p) seen e r w l o =
+      subst (λ x. (x ≡ Done) ⊎ (x ≡ NoMemory)) (sym p.is)
+      (done_or_poor own_cfg turns (record (serving_in old) { files = call.does.1.read }) (serving_in new) p.result p.serves
+      (λ rose. w (subst (λ k. HasRisen k new.files.write_faults) call.does.1.did.takes.only.write_faults rose)) l o)
+  complete_so c cfg (left u same) seen e r w l o =
+      inr (unread (config_said file) old.files call.does.1.read c cfg u (λ s. e) seen (λ rose. r (subst (λ f. HasRisen old.files.read_faults f.read_faults) (sym (ap (λ x. x.files) same)) rose)))
+
+  pub node_is_complete : IsTrue old.files.observable → (cfg : ServeConfig) → config_said file old.files.held ≡ says cfg → ¬ (HasRisen old.files.read_faults new.files.read_faults)
+      → ¬ (HasRisen old.files.write_faults new.files.write_faults) → ¬ (HasRisen old.link.faults new.link.faults) → ¬ (HasRisen old.out.faults new.out.faults) → ¬ (HasRisen n.faults m.faults)
+      → (cause ≡ Done) ⊎ (cause ≡ NoMemory)
+  node_is_complete seen cfg e r w l o k = well call.found cause (HasRisen n.faults m.faults) (given (Some (node file turns)) cause old new n m call) k (complete_so call.found cfg node_view seen e r w l o)
+
+-- ---- files that aren't taken
+
+abbrev Kept : Outside → Outside → Type 0
+Kept old new = (new.link ≡ old.link) × (new.clock ≡ old.clock) × (new.files.held ≡ old.files.held)
+
+taken_so : {A : Type 0} (made : A → Outcome) (s : Said A) (v : A) → s ≡ says v → IsAccepted (made v) → IsAccepted (outcome_by made s)
+taken_so made s v e h = subst (λ x. IsAccepted (outcome_by made x)) (sym e) h
+
+module _ (c : Cause) (old new : Outside) (seen : IsTrue old.files.observable) where
+  ask_kept : (file : List ℕ) → new.clock ≡ old.clock → new.files.held ≡ old.files.held → ¬ (IsAccepted (outcome_by (λ a. whole (ask_line a)) (ask_said file old.files.held)))
+      → Took (ask_said file) AsksAs old.files new.files c (wire_in old) (wire_in new) → Kept old new
+  ask_kept file clock held h (took a own p) = absurd (h (taken_so (λ x. whole (ask_line x)) (ask_said file old.files.held) a (own seen) tt))
+  ask_kept file clock held h (left u same) = (ap (λ w. w.link) same, clock, held)
+
+  node_kept : (file : List ℕ) (turns : ℕ) (read : FilesState) → read.held ≡ old.files.held → ¬ (IsAccepted (outcome_by (λ x. runs) (config_said file old.files.held)))
+      → Took (config_said file) (ServesAs turns) old.files read c (record (serving_in old) { files = read }) (serving_in new) → Kept old new
+  node_kept file turns read held h (took cfg own p) = absurd (h (taken_so (λ x. runs) (config_said file old.files.held) cfg (own seen) tt))
+  node_kept file turns read held h (left u same) = (ap (λ w. w.link) same, ap (λ w. w.clock) same, ap (λ w. w.files.held) same ∙ held)
+
+  kept : (q : Option Request) → Does q c old new → ¬ (IsAccepted (outcome_of q old.files.held)) → Kept old new
+  kept None d h = (ap (λ o. o.link) d.1, ap (λ o. o.clock) d.1, ap (λ o. o.files.held) d.1)
+  kept (Some (replay file)) d h = (ap (λ o. o.link) d.0, ap (λ o. o.clock) d.0, d.1.takes.only.held)
+  kept (Some (check file)) d h = (ap (λ o. o.link) d.0, ap (λ o. o.clock) d.0, d.1.takes.only.held)
+  kept (Some (show file)) d h = (ap (λ o. o.link) d.0, ap (λ o. o.clock) d.0, d.1.takes.only.held)
+  kept (Some (inject file)) d h = ask_kept file (ap (λ o. o.clock) d.0) d.1.takes.only.held h (view (ask_said file) AsksAs file old.files new.files c (wire_in old) (wire_in new) d.1)
+  kept (Some (fleet file)) d h = (ap (λ o. o.link) d.0, ap (λ o. o.clock) d.0, d.1.takes.only.held)
+  kept (Some (node file turns)) d h = node_kept file turns d.1.read d.1.did.takes.only.held h (view (config_said file) (ServesAs turns) file old.files d.1.read c (record (serving_in old) { files = d.1.read }) (serving_in new) d.1.did)
+  kept (Some (grow seed k)) d h = (ap (λ o. o.link) d.0, ap (λ o. o.clock) d.0, ap (λ o. o.files.held) d.0)
+
+pub none_kept : (q : Option Request) (cause : Cause) (old new : Outside) (n m : SinkState) → Calls q cause old new n m → IsTrue old.files.observable → ¬ (IsAccepted (outcome_of q old.files.held))
+    → (new.link ≡ old.link) × (new.clock ≡ old.clock) × (new.files.held ≡ old.files.held)
+none_kept q cause old new n m call seen h = kept call.found old new seen q call.does h

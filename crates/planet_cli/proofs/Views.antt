@@ -1,0 +1,20 @@
+-- What became of the file of a command: a value was taken and acted on, or none was and nothing was done.
+use Rattle.std.proofs.Common.{◌≡◌, ℕ, IsTrue, List, Result, Ok, Err, MatchResult, sym, subst}
+use Rattle.node_io.specs.FileMaps.{FileMap}
+use Rattle.node_io.specs.FileStates.{FilesState}
+use Rattle.call_causes.specs.declared.status.Cause.{Cause}
+use Rattle.file_commands.specs.Said.{Said, says}
+use Rattle.file_commands.specs.Takes.{Untaken, Takes, TakesAndActs}
+
+pub data Took {A S : Type 0} (said : FileMap → Said A) (Acts : A → Cause → S → S → Type 0) (files read : FilesState) (cause : Cause) (old new : S) : Type 0 where
+  took : (v : A) → (IsTrue files.observable → said files.held ≡ says v) → Acts v cause old new → Took said Acts files read cause old new
+  left : Untaken said files read cause → new ≡ old → Took said Acts files read cause old new
+
+module _ {A S : Type 0} (said : FileMap → Said A) (Acts : A → Cause → S → S → Type 0) (name : List ℕ) (files read : FilesState) (cause : Cause) (old new : S) where
+  by_taken : (taken : Result A Cause) → Takes said name files read taken → MatchResult taken (λ v. Acts v cause old new) (λ why. (cause ≡ why) × (new ≡ old))
+      → Took said Acts files read cause old new
+  by_taken (Ok v) t p = took v t.did p
+  by_taken (Err why) t p = left (subst (Untaken said files read) (sym p.0) t.did) p.1
+
+  pub view : TakesAndActs said Acts name files read cause old new → Took said Acts files read cause old new
+  view t = by_taken t.taken t.takes t.acts

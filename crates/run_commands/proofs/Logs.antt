@@ -1,0 +1,45 @@
+-- What a file says to `replay`, by what it says; one that says a log begins as no schedule.
+use Rattle.std.proofs.Common.{◌≡◌, ℕ, Bool, true, false, List, [], ◌∷◌, Ok, Err, refl, ap, ◌∙◌}
+use Rattle.std.specs.Str.{bytes_eq}
+use Rattle.std.proofs.lemmas.Slice.Eq.{bytes_eq-Decides}
+use lib.Chars.{codes}
+use Rattle.network_plan.specs.declared.schedule.Schedule.{Schedule}
+use Rattle.network_plan.specs.declared.node.Log.{Log}
+use Rattle.line_files.specs.declared.fault.LineFault.TheVariants as faults
+use Rattle.line_files.specs.declared.fault.LineReason.TheVariants.{BadHeader}
+use Rattle.line_files.specs.Lines.{lines}
+use Rattle.line_files.specs.Files.{read_on}
+use Rattle.schedule_text.specs.Schedules.{schedule_of, schedule_format, step, nothing_read}
+use Rattle.node_files.specs.Logs.{log_of, log_format, log_step_at, nothing_logged}
+use Rattle.file_commands.specs.Said.{says}
+use Rattle.run_commands.specs.Schedules.{replayed_by, replayed_of, as_log, replay_text, log_trace, run_said, schedule_said}
+
+-- a first line is not that of a schedule and of a log
+other_line : (line : List ℕ) → bytes_eq line (codes "planet log 1") ≡ true → bytes_eq line (codes "planet schedule 1") ≡ false
+other_line line is = ap (λ l. bytes_eq l (codes "planet schedule 1")) ((bytes_eq-Decides line (codes "planet log 1")).0 is)
+
+-- a log's first line
+log_begins : (ls : List (List ℕ)) (l : Log) → read_on log_format 1 ls nothing_logged ≡ Ok l → read_on schedule_format 1 ls nothing_read ≡ Err (faults.Line 1 BadHeader)
+unfolding read_on log_step_at step
+log_begins [] l e = absurd (cc)
+log_begins (line ∷ more) l e = by_header (bytes_eq line (codes "planet log 1")) refl e
+  where
+    by_header : (b : Bool) → bytes_eq line (codes "planet log 1") ≡ b → read_on log_format 1 (line ∷ more) nothing_logged ≡ Ok l
+        → read_on schedule_format 1 (line ∷ more) nothing_read ≡ Err (faults.Line 1 BadHeader)
+    by_header true is h = rw (other_line line is) refl
+    by_header false is h = absurd (cc)
+
+-- so what it says is the log
+log_replayed : (bytes : List ℕ) (l : Log) → log_of bytes ≡ Ok l → replayed_of bytes ≡ as_log (log_of bytes)
+unfolding schedule_of
+log_replayed bytes l e = ap (λ s. replayed_by s bytes) (log_begins (lines bytes) l e)
+
+-- a file that says a log says its trace to `replay`
+pub log_said : (bytes : List ℕ) (l : Log) → log_of bytes ≡ Ok l → schedule_said bytes ≡ says (log_trace l)
+unfolding schedule_said
+log_said bytes l e = ap run_said (log_replayed bytes l e ∙ ap as_log e)
+
+-- and one that says a schedule its run
+pub replay_said_is : (bytes : List ℕ) (s : Schedule) → schedule_of bytes ≡ Ok s → schedule_said bytes ≡ says (replay_text s)
+unfolding schedule_said
+replay_said_is bytes s e = ap (λ r. run_said (replayed_by r bytes)) e

@@ -1,0 +1,27 @@
+ghost use Rattle.std.specs.Prelude.{◌≤◌};
+ghost use Rattle.run_commands.specs.Grown.{GrowsAs};
+
+use crate::replay::services_of;
+use call_causes::Cause;
+use grow_run::{grow, ring};
+use net_world::RunFault;
+use node_io::Sink;
+use std::alloc::Global;
+
+/// `grow SEED N`: the summary of a network that grows by itself.
+pub fn on_seed<K: Sink>(alloc: Global, seed: u64, events: u32, out: &mut K) -> Cause
+    requires { events ≤ 50000 }
+    ensures { GrowsAs seed events result (K.state out.old) (K.state out.new) }
+{
+    let Ok(topology) = ring(alloc) else {
+        return Cause::NoMemory;
+    };
+    let Ok(services) = services_of(alloc, topology.hosts.as_slice()) else {
+        return Cause::NoMemory;
+    };
+    match grow(alloc, seed, events, services, out) {
+        Ok(()) => Cause::Done,
+        Err(RunFault::WriteFault) => Cause::WriteFault,
+        Err(RunFault::NoMemory) => Cause::NoMemory,
+    }
+}
