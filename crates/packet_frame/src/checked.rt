@@ -159,8 +159,8 @@ fn checked_stamped(
 
 /// Reads a frame as a node of version 2 does.
 ///
-/// Ok exactly where all the bytes, at most 16,512, are its spelling, its chunk is typed and its handler, if it has one, is a
-/// function of that chunk's code that may handle; otherwise the first fault.
+/// Ok exactly where all the bytes, at most 16,512, are its spelling, its chunk is typed, and the code of that chunk has the
+/// function that its handler names, if any, which may handle; otherwise the first fault.
 #[tactic(auto, using(crate::proofs::Carried::two_spelled, crate::proofs::Carried::two_only))]
 pub fn get_frame2(
     alloc: Global,

@@ -34,7 +34,7 @@ fn handles(d: &Fun) -> bool
     is_one_string(d.params.as_slice()) && is_unit(&d.result)
 }
 
-/// Whether a program has a function of that name with one parameter of type string and result unit.
+/// Whether a name is that of a function which may handle: it takes one string and gives unit.
 #[tactic(auto, unfolding(typing_rules::specs::Handlers::is_handler))]
 pub fn is_handler(code: &Program, name: &Name) -> bool
     ensures { result ≡ spec.is_handler code.now name.now }
