@@ -1,5 +1,5 @@
 -- What came back from the native stack, by what was evaluated there.
-use Rattle.std.proofs.Common.{◌≡◌, ◌≢◌, ℕ, ◌+◌, ◌*◌, ◌<◌, List, [], ◌∷◌, ◌++◌, reverse, length, length-append, arith, Some, None, IsSome, Result, Ok, Err, refl, sym, ◌∙◌, ap}
+use Rattle.std.proofs.Common.{◌≡◌, ◌≢◌, ℕ, ◌+◌, ◌*◌, ◌<◌, ◌≤◌, List, [], ◌∷◌, ◌++◌, reverse, length, length-append, arith, Some, None, IsSome, Result, Ok, Err, refl, sym, ◌∙◌, ap}
 use Rattle.std.proofs.lemmas.List.{reverse-append, length-reverse}
 use Rattle.std.proofs.lemmas.List.Sums.{sum_by-append, sum_by-cons}
 use Rattle.plan_base.specs.declared.name.Name.{Name}
@@ -127,6 +127,10 @@ module _ (outer : List Activation) (a : Activation) (r : Rest) where
   pub load_waits : (depth old new : ℕ) → 0 < depth → Spends depth old (Ok (flow.Wait r)) new
       → load mode.Run ((outer ++ whole ∷ []) ++ reverse r.activations) new < load mode.Run (outer ++ a ∷ []) old
   load_waits depth old new some h = let less : 5 * new + burden r < 5 * old = h.1 some in omega (arith, less, frames_of, length_of, frames_before, length-append outer (a ∷ []))
+
+  pub load_rests : (old new : ℕ) → Lasts 3 old (Ok (flow.Wait r)) new
+      → load mode.Run ((outer ++ whole ∷ []) ++ reverse r.activations) new ≤ load mode.Run (outer ++ a ∷ []) old + 3
+  load_rests old new h = omega (arith, h, frames_of, length_of, frames_before, length-append outer (a ∷ []))
 
 -- an expression that went on spent 1 before
 pub spends_one : (depth old mid new : ℕ) (r : Result Flow Stop) → mid + 1 ≡ old → Lasts 3 mid r new → Spends depth old r new

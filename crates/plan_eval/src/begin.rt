@@ -6,6 +6,9 @@ ghost use Rattle.plan_meaning.specs.Meaning.{bound, value_of};
 ghost use Rattle.plan_meaning.specs.Safe.{IsSafe};
 ghost use Rattle.plan_base.specs.declared.tree.Program.{Program as AProgram};
 ghost use Rattle.service_api.specs.Services.{Standing};
+ghost use Rattle.plan_base.specs.declared.tree.Value as value;
+ghost use Rattle.plan_meaning.specs.Run.{weighed};
+ghost use Rattle.plan_eval.specs.Stack.{Spot};
 ghost use Rattle.plan_eval.specs.Direct.{spot, env_of, Flows, IsNumber, Lasts};
 ghost use Rattle.plan_eval.specs.Nexts.{Decides, Starts, begins};
 
@@ -18,7 +21,7 @@ use crate::next::Next;
 use crate::place::argument_of;
 use crate::rest::Flow;
 use crate::walk::value_from;
-use plan_base::{Chunk, Exn, Expr, Name, Program, Value};
+use plan_base::{Chunk, Exn, Expr, Name, Program, Value, Values};
 use plan_items::{Boxed, Items, Shared};
 use plan_meaning::Stop;
 use service_api::Services;
@@ -111,6 +114,26 @@ pub fn leaf_number(here: &Here<'_>, e: &Expr) -> Option<i64>
         Expr::Var(x) => named_number(here, e, x),
         _ => None,
     }
+}
+
+/// A chunk of this program.
+pub fn packed(
+    alloc: Global,
+    code: &Shared<Program>,
+    entry: &Name,
+    args: Values,
+    state: &mut State,
+) -> Result<Flow, Stop>
+    ensures flows { (codes : List AProgram) (seen : ℕ) (at : Spot) (m : Standing)
+        → Flows codes code.now seen at (weighed (value.Chunk (record { code = code.now; entry = entry.now; args = args })) (joined state.old m)) result (joined state.new m) }
+    ensures lasts { Lasts 3 state.old.work result state.new.work }
+{
+    let chunk = Chunk {
+        code: code.share()?,
+        entry: entry.copy(alloc)?,
+        args,
+    };
+    ended(alloc, Value::Chunk(Boxed::new(alloc, chunk)?), state)
 }
 
 /// A chunk without arguments.

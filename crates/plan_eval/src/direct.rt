@@ -2,29 +2,34 @@
 ghost use Rattle.std.specs.Prelude.{◌≡◌, length, option_copied, IfOk, IsSome, Some, slice_get};
 ghost use Rattle.plan_base.specs.declared.tree.Expr.{Expr-F, out-Expr};
 ghost use Rattle.plan_eval.specs.declared.frame.Frame.TheVariants as frame;
-ghost use Rattle.plan_eval.specs.Stack.{part_or_self};
+ghost use Rattle.plan_base.specs.declared.tree.Value as value;
+ghost use Rattle.plan_meaning.specs.Run.{weighed};
+ghost use Rattle.plan_eval.specs.Forms.{IsRow};
+ghost use Rattle.plan_eval.specs.Stack.{part_or_self, parts_of, resume};
 ghost use Rattle.plan_meaning.specs.State.{joined};
 ghost use Rattle.plan_meaning.specs.Meaning.{entered, meaning, visited};
 ghost use Rattle.plan_meaning.specs.Safe.{IsSafe};
 ghost use Rattle.plan_eval.specs.declared.next.Next.TheVariants as next;
 ghost use Rattle.plan_eval.specs.Nexts.{begins, call_of, next_step};
 ghost use Rattle.plan_eval.specs.Turns.{IsPlaced};
-ghost use Rattle.plan_eval.specs.Direct.{spot, IsHere, Flows, Bodies, Enters, Advances, Grows, Goes, Lasts, Spends, Turns};
+ghost use Rattle.plan_eval.specs.Direct.{spot, IsHere, Flows, Bodies, Enters, Advances, Grows, Goes, Lasts, RowLasts, Rows, Spends, Turns};
 
 use crate::back::{
-    args_back, body_back, called_back, ended, give, is_bound, last_back, part_back, stepped_back,
-    visited_back,
+    args_back, body_back, called_back, chunk_back, ended, give, is_bound, last_back, part_back,
+    stepped_back, visited_back,
 };
-use crate::begin::{begin, leaf_number, number, variable};
+use crate::begin::{begin, leaf_number, number, packed, variable};
 use crate::call::called;
 use crate::frame::{Codes, Frame};
 use crate::here::Here;
 use crate::next::Next;
 use crate::operand::{numbers, operands_back};
-use crate::rest::{Flow, inside, pause, pause_in};
+use crate::packed::pay_packed;
+use crate::rest::{Flow, inside, pause, pause_in, stopped_in};
+use crate::row::Row;
 use crate::turn::Turn;
 use crate::walk::part_or_self;
-use plan_base::{Chunk, Expr, Fun, Name, NoMemory, Op, Program, Values, place_of};
+use plan_base::{Chunk, Expr, Exprs, Fun, Name, NoMemory, Op, Program, Value, Values, place_of};
 use plan_items::{Items, Shared};
 use plan_meaning::Stop;
 use service_api::Services;
@@ -55,50 +60,28 @@ pub fn evaluate<S: Services>(
     ensures begun { (S.stands svc.new).begun ≡ (S.stands svc.old).begun }
 {
     if depth == 0 {
-        return Ok(pause(alloc)?);
+        return Ok(pause(alloc));
     }
     if !state.pays(1) {
         return Err(Stop::WorkSpent);
     }
+    let below = depth - 1;
     match e {
         Expr::Int(n) => number(alloc, here, e, *n, state),
         Expr::Var(x) => variable(alloc, here, e, x, state),
-        Expr::If(t, a, b) => choice(
-            alloc,
-            codes,
-            here,
-            e,
-            t.get(),
-            a.get(),
-            b.get(),
-            depth - 1,
-            state,
-            svc,
-        ),
-        Expr::Binary(op, a, b) => operation(
-            alloc,
-            codes,
-            here,
-            e,
-            *op,
-            a.get(),
-            b.get(),
-            depth - 1,
-            state,
-            svc,
-        ),
-        Expr::Call(f, es) => call(
-            alloc,
-            codes,
-            here,
-            e,
-            f,
-            es.as_slice(),
-            depth - 1,
-            state,
-            svc,
-        ),
-        _ => general(alloc, codes, here, e, depth - 1, state, svc),
+        Expr::If(t, a, b) => {
+            let (t, a, b) = (t.get(), a.get(), b.get());
+            choice(alloc, codes, here, e, t, a, b, below, state, svc)
+        }
+        Expr::Binary(op, a, b) => {
+            let (a, b) = (a.get(), b.get());
+            operation(alloc, codes, here, e, *op, a, b, below, state, svc)
+        }
+        Expr::Tuple(es) => tuple(alloc, codes, here, e, es, below, state, svc),
+        Expr::Call(f, es) => call(alloc, codes, here, e, f, es, below, state, svc),
+        Expr::ChunkOf(f, es) => packing(alloc, codes, here, e, f, es, below, state, svc),
+        Expr::Eval(a) => eval(alloc, codes, here, e, a.get(), below, state, svc),
+        _ => general(alloc, codes, here, e, below, state, svc),
     }
 }
 
@@ -163,7 +146,7 @@ fn choice<S: Services>(
             Some(false) => last_part(alloc, codes, here, e, 2, b, depth, state, svc),
             None => Err(Stop::Wrong),
         },
-        Ok(Flow::Wait(rest)) => Ok(inside(alloc, rest, Frame::Part(0, Items::new(alloc)))?),
+        Ok(Flow::Wait(rest)) => Ok(inside(rest, Frame::Part(0, Items::new(alloc)))?),
         Err(stop) => Err(stop),
     }
 }
@@ -233,18 +216,118 @@ fn operation<S: Services>(
             let flow = evaluate(alloc, codes, here, b, depth, state, svc);
             operands_back(alloc, op, x, flow, state)
         }
-        Ok(Flow::Wait(rest)) => Ok(inside(alloc, rest, Frame::Part(0, Items::new(alloc)))?),
+        Ok(Flow::Wait(rest)) => Ok(inside(rest, Frame::Part(0, Items::new(alloc)))?),
         Err(stop) => Err(stop),
     }
 }
 
-/// The argument with that number, from 0.
-fn argument_at(es: &[Expr], n: usize) -> Option<&Expr>
+/// The part with that number, from 0.
+fn part_at(es: &[Expr], n: usize) -> Option<&Expr>
     ensures { option_copied result ≡ slice_get es.now n }
 {
     match es.get(n) {
         Some(e) => Some(e),
         None => None,
+    }
+}
+
+/// Evaluates the parts of a tuple, a call or a chunk in their order.
+#[cycle(evaluate)]
+#[inline]
+fn all_parts<S: Services>(
+    alloc: Global,
+    codes: &mut Codes,
+    here: &Here<'_>,
+    e: &Expr,
+    es: &[Expr],
+    depth: u64,
+    state: &mut State,
+    svc: &mut S,
+) -> Result<Row, Stop>
+    requires form { IsRow (out-Expr e.now) }
+    requires parts { parts_of (out-Expr e.now) ≡ es.now }
+    requires open { IsSome (S.stands svc.old).begun }
+    requires here { IsHere codes.old here.now }
+    requires safe { IsSafe (begins here.now.code.now here.now.fun (spot here.now e.now) (joined state.old (S.stands svc.old))).asks }
+    ensures rows { Rows codes.new here.now.code.now here.now.fun (spot here.now e.now)
+        (begins here.now.code.now here.now.fun (spot here.now e.now) (joined state.old (S.stands svc.old)))
+        result (joined state.new (S.stands svc.new)) }
+    ensures lasts { RowLasts state.old.work result state.new.work }
+    ensures grown { Grows codes.old codes.new }
+    ensures offer { (S.stands svc.new).offer ≡ (S.stands svc.old).offer }
+    ensures begun { (S.stands svc.new).begun ≡ (S.stands svc.old).begun }
+{
+    let mut held = Items::new(alloc);
+    while let Some(x) = part_at(es, held.len()) {
+        match evaluate(alloc, codes, here, x, depth, state, svc) {
+            Ok(Flow::Done(v)) => held.add(v)?,
+            Ok(Flow::Wait(rest)) => return Ok(stopped_in(rest, Frame::Part(held.len(), held))?),
+            Err(stop) => return Err(stop),
+        }
+    }
+    Ok(Row::All(held))
+}
+
+/// Evaluates the parts of a tuple.
+#[cycle(evaluate)]
+fn tuple<S: Services>(
+    alloc: Global,
+    codes: &mut Codes,
+    here: &Here<'_>,
+    e: &Expr,
+    es: &Exprs,
+    depth: u64,
+    state: &mut State,
+    svc: &mut S,
+) -> Result<Flow, Stop>
+    requires form { out-Expr e.now ≡ Expr-F.Tuple es.now }
+    requires open { IsSome (S.stands svc.old).begun }
+    requires here { IsHere codes.old here.now }
+    requires safe { IsSafe (begins here.now.code.now here.now.fun (spot here.now e.now) (joined state.old (S.stands svc.old))).asks }
+    ensures flows { Flows codes.new here.now.code.now here.now.fun (spot here.now e.now)
+        (begins here.now.code.now here.now.fun (spot here.now e.now) (joined state.old (S.stands svc.old)))
+        result (joined state.new (S.stands svc.new)) }
+    ensures lasts { Lasts 3 state.old.work result state.new.work }
+    ensures grown { Grows codes.old codes.new }
+    ensures offer { (S.stands svc.new).offer ≡ (S.stands svc.old).offer }
+    ensures begun { (S.stands svc.new).begun ≡ (S.stands svc.old).begun }
+{
+    match all_parts(alloc, codes, here, e, es.as_slice(), depth, state, svc) {
+        Ok(Row::All(parts)) => ended(alloc, Value::Tuple(parts), state),
+        Ok(Row::Wait(rest)) => Ok(Flow::Wait(rest)),
+        Err(stop) => Err(stop),
+    }
+}
+
+/// Evaluates the arguments of a chunk.
+#[cycle(evaluate)]
+fn packing<S: Services>(
+    alloc: Global,
+    codes: &mut Codes,
+    here: &Here<'_>,
+    e: &Expr,
+    f: &Name,
+    es: &Exprs,
+    depth: u64,
+    state: &mut State,
+    svc: &mut S,
+) -> Result<Flow, Stop>
+    requires form { out-Expr e.now ≡ Expr-F.ChunkOf f.now es.now }
+    requires open { IsSome (S.stands svc.old).begun }
+    requires here { IsHere codes.old here.now }
+    requires safe { IsSafe (begins here.now.code.now here.now.fun (spot here.now e.now) (joined state.old (S.stands svc.old))).asks }
+    ensures flows { Flows codes.new here.now.code.now here.now.fun (spot here.now e.now)
+        (begins here.now.code.now here.now.fun (spot here.now e.now) (joined state.old (S.stands svc.old)))
+        result (joined state.new (S.stands svc.new)) }
+    ensures lasts { Lasts 3 state.old.work result state.new.work }
+    ensures grown { Grows codes.old codes.new }
+    ensures offer { (S.stands svc.new).offer ≡ (S.stands svc.old).offer }
+    ensures begun { (S.stands svc.new).begun ≡ (S.stands svc.old).begun }
+{
+    match all_parts(alloc, codes, here, e, es.as_slice(), depth, state, svc) {
+        Ok(Row::All(args)) => packed(alloc, here.code, f, args, state),
+        Ok(Row::Wait(rest)) => Ok(Flow::Wait(rest)),
+        Err(stop) => Err(stop),
     }
 }
 
@@ -256,7 +339,7 @@ fn call<S: Services>(
     here: &Here<'_>,
     e: &Expr,
     f: &Name,
-    es: &[Expr],
+    es: &Exprs,
     depth: u64,
     state: &mut State,
     svc: &mut S,
@@ -273,15 +356,11 @@ fn call<S: Services>(
     ensures offer { (S.stands svc.new).offer ≡ (S.stands svc.old).offer }
     ensures begun { (S.stands svc.new).begun ≡ (S.stands svc.old).begun }
 {
-    let mut args = Items::new(alloc);
-    while let Some(x) = argument_at(es, args.len()) {
-        match evaluate(alloc, codes, here, x, depth, state, svc) {
-            Ok(Flow::Done(v)) => args.add(v)?,
-            Ok(Flow::Wait(rest)) => return Ok(inside(alloc, rest, Frame::Part(args.len(), args))?),
-            Err(stop) => return Err(stop),
-        }
+    match all_parts(alloc, codes, here, e, es.as_slice(), depth, state, svc) {
+        Ok(Row::All(args)) => invoke(alloc, codes, here, e, f, args, depth, state, svc),
+        Ok(Row::Wait(rest)) => Ok(Flow::Wait(rest)),
+        Err(stop) => Err(stop),
     }
-    invoke(alloc, codes, here, e, f, args, depth, state, svc)
 }
 
 /// Calls a function, a service or a primitive.
@@ -329,10 +408,151 @@ fn invoke<S: Services>(
     }
 }
 
+/// Evaluates a chunk.
+#[cycle(evaluate)]
+fn eval<S: Services>(
+    alloc: Global,
+    codes: &mut Codes,
+    here: &Here<'_>,
+    e: &Expr,
+    a: &Expr,
+    depth: u64,
+    state: &mut State,
+    svc: &mut S,
+) -> Result<Flow, Stop>
+    requires form { out-Expr e.now ≡ Expr-F.Eval a.now }
+    requires open { IsSome (S.stands svc.old).begun }
+    requires here { IsHere codes.old here.now }
+    requires safe { IsSafe (begins here.now.code.now here.now.fun (spot here.now e.now) (joined state.old (S.stands svc.old))).asks }
+    ensures flows { Flows codes.new here.now.code.now here.now.fun (spot here.now e.now)
+        (begins here.now.code.now here.now.fun (spot here.now e.now) (joined state.old (S.stands svc.old)))
+        result (joined state.new (S.stands svc.new)) }
+    ensures lasts { Lasts 3 state.old.work result state.new.work }
+    ensures grown { Grows codes.old codes.new }
+    ensures offer { (S.stands svc.new).offer ≡ (S.stands svc.old).offer }
+    ensures begun { (S.stands svc.new).begun ≡ (S.stands svc.old).begun }
+{
+    match a {
+        Expr::ChunkOf(f, es) if depth > 0 => {
+            eval_packing(alloc, codes, here, e, a, f, es, depth - 1, state, svc)
+        }
+        _ => general(alloc, codes, here, e, depth, state, svc),
+    }
+}
+
+/// Evaluates a chunk of this program, which is not made: first its arguments.
+#[cycle(evaluate)]
+fn eval_packing<S: Services>(
+    alloc: Global,
+    codes: &mut Codes,
+    here: &Here<'_>,
+    e: &Expr,
+    a: &Expr,
+    f: &Name,
+    es: &Exprs,
+    depth: u64,
+    state: &mut State,
+    svc: &mut S,
+) -> Result<Flow, Stop>
+    requires form { out-Expr e.now ≡ Expr-F.Eval a.now }
+    requires packs { out-Expr a.now ≡ Expr-F.ChunkOf f.now es.now }
+    requires open { IsSome (S.stands svc.old).begun }
+    requires here { IsHere codes.old here.now }
+    requires safe { IsSafe (begins here.now.code.now here.now.fun (spot here.now e.now) (joined state.old (S.stands svc.old))).asks }
+    ensures flows { Flows codes.new here.now.code.now here.now.fun (spot here.now e.now)
+        (begins here.now.code.now here.now.fun (spot here.now e.now) (joined state.old (S.stands svc.old)))
+        result (joined state.new (S.stands svc.new)) }
+    ensures lasts { Lasts 3 state.old.work result state.new.work }
+    ensures grown { Grows codes.old codes.new }
+    ensures offer { (S.stands svc.new).offer ≡ (S.stands svc.old).offer }
+    ensures begun { (S.stands svc.new).begun ≡ (S.stands svc.old).begun }
+{
+    if !state.pays(1) {
+        return Err(Stop::WorkSpent);
+    }
+    match all_parts(alloc, codes, here, a, es.as_slice(), depth, state, svc) {
+        Ok(Row::All(args)) => eval_packed(alloc, codes, here, e, f, args, depth, state, svc),
+        Ok(Row::Wait(rest)) => Ok(inside(rest, Frame::Part(0, Items::new(alloc)))?),
+        Err(stop) => Err(stop),
+    }
+}
+
+/// Weighs it, pays and evaluates it.
+#[cycle(evaluate)]
+fn eval_packed<S: Services>(
+    alloc: Global,
+    codes: &mut Codes,
+    here: &Here<'_>,
+    e: &Expr,
+    f: &Name,
+    args: Values,
+    depth: u64,
+    state: &mut State,
+    svc: &mut S,
+) -> Result<Flow, Stop>
+    requires form { (a : Expr) × (out-Expr e.now ≡ Expr-F.Eval a) }
+    requires open { IsSome (S.stands svc.old).begun }
+    requires here { IsHere codes.old here.now }
+    requires safe { IsSafe (resume here.now.code.now here.now.fun (spot here.now e.now) (frame.Part 0 []) (weighed (value.Chunk (record { code = here.now.code.now; entry = f.now; args = args })) (joined state.old (S.stands svc.old)))).asks }
+    ensures flows { Flows codes.new here.now.code.now here.now.fun (spot here.now e.now)
+        (resume here.now.code.now here.now.fun (spot here.now e.now) (frame.Part 0 []) (weighed (value.Chunk (record { code = here.now.code.now; entry = f.now; args = args })) (joined state.old (S.stands svc.old))))
+        result (joined state.new (S.stands svc.new)) }
+    ensures lasts { Lasts 3 state.old.work result state.new.work }
+    ensures grown { Grows codes.old codes.new }
+    ensures offer { (S.stands svc.new).offer ≡ (S.stands svc.old).offer }
+    ensures begun { (S.stands svc.new).begun ≡ (S.stands svc.old).begun }
+{
+    match pay_packed(alloc, here.code, f, args.as_slice(), state) {
+        Ok(()) => visit_here(alloc, codes, here, e, f, args, depth, state, svc),
+        Err(stop) => Err(stop),
+    }
+}
+
+/// Enters a chunk of this program, which was paid.
+#[cycle(evaluate)]
+fn visit_here<S: Services>(
+    alloc: Global,
+    codes: &mut Codes,
+    here: &Here<'_>,
+    e: &Expr,
+    f: &Name,
+    args: Values,
+    depth: u64,
+    state: &mut State,
+    svc: &mut S,
+) -> Result<Flow, Stop>
+    requires open { IsSome (S.stands svc.old).begun }
+    requires here { IsHere codes.old here.now }
+    requires safe { IsSafe (next_step here.now.code.now here.now.fun (spot here.now e.now) (next.Visit (record { code = here.now.code.now; entry = f.now; args = args })) (joined state.old (S.stands svc.old))).asks }
+    ensures flows { Flows codes.new here.now.code.now here.now.fun (spot here.now e.now)
+        (next_step here.now.code.now here.now.fun (spot here.now e.now) (next.Visit (record { code = here.now.code.now; entry = f.now; args = args })) (joined state.old (S.stands svc.old)))
+        result (joined state.new (S.stands svc.new)) }
+    ensures lasts { Lasts 3 state.old.work result state.new.work }
+    ensures grown { Grows codes.old codes.new }
+    ensures offer { (S.stands svc.new).offer ≡ (S.stands svc.old).offer }
+    ensures begun { (S.stands svc.new).begun ≡ (S.stands svc.old).begun }
+{
+    let Some(fun) = place_of(f, here.code.get().funs.as_slice()) else {
+        return Err(Stop::Wrong);
+    };
+    let flow = enter(
+        alloc,
+        codes,
+        here.code,
+        here.number,
+        fun,
+        args,
+        depth,
+        state,
+        svc,
+    );
+    chunk_back(alloc, flow, state)
+}
+
 /// Goes on with an open expression.
 #[cycle(evaluate)]
 #[inline(never)]
-fn proceed<S: Services>(
+pub fn proceed<S: Services>(
     alloc: Global,
     codes: &mut Codes,
     here: &Here<'_>,

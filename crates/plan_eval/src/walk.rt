@@ -1,10 +1,8 @@
 //! Where the frames of a body lead.
-ghost use Rattle.std.specs.Prelude.{◌≡◌, length, Option, Some, None, if◌then◌else◌};
+ghost use Rattle.std.specs.Prelude.{◌≡◌, Option, Some, None};
 ghost use Rattle.std.specs.Option.{option_copied};
 ghost use Rattle.std.specs.Str.{bytes_eq};
-ghost use Rattle.plan_base.specs.declared.tree.Expr.{out-Expr};
-ghost use Rattle.plan_meaning.specs.Meaning.{value_of, bound};
-ghost use Rattle.plan_eval.specs.Stack as spec;
+ghost use Rattle.plan_meaning.specs.Meaning.{bound};
 ghost use Rattle.plan_eval.specs.Stack.{part_number, part_or_self, expr_from, value_from, value_at};
 
 use crate::frame::Frame;

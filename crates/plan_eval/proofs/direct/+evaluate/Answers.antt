@@ -1,24 +1,29 @@
 use Rattle.std.proofs.Common.{◌≡◌, rules, Ok, Err, true, false, ◌∷◌, [], length, slice_get, Some, None, IsSome, refl, sym, ◌∙◌, arith, ◌<◌}
 use Rattle.plan_base.specs.declared.tree.Expr.{Expr-F, out-Expr}
+use Rattle.plan_base.specs.declared.tree.Expr as expr
+use Rattle.plan_eval.specs.declared.row.Row.TheVariants as row
 use Rattle.plan_base.specs.TypingNames.{place_of}
-use Rattle.plan_meaning.specs.declared.stop.Stop.TheVariants.{WorkSpent}
+use Rattle.plan_meaning.specs.declared.stop.Stop.TheVariants.{WorkSpent, Wrong}
 use Rattle.plan_meaning.specs.State.{joined}
 use Rattle.plan_meaning.specs.Run.{gave}
 use Rattle.plan_meaning.specs.Safe.{IsSafe}
-use Rattle.plan_meaning.specs.Meaning.{meaning, as_bool, bound, entered}
+use Rattle.plan_meaning.specs.Meaning.{meaning, as_bool, bound, entered, visited}
 use Rattle.plan_eval.specs.declared.frame.Frame.TheVariants as frame
 use Rattle.plan_eval.specs.declared.next.Next.TheVariants as next
 use Rattle.plan_eval.specs.declared.rest.Flow.TheVariants as flow
 use Rattle.plan_eval.specs.declared.turn.Turn.TheVariants as turn
-use Rattle.plan_eval.specs.Stack.{part_or_self, part_number}
+use Rattle.plan_eval.specs.Forms.{IsRow}
+use Rattle.plan_eval.specs.Stack.{parts_of, part_or_self, part_number}
 use Rattle.plan_eval.specs.Nexts.{begins, next_step, call_of}
-use Rattle.plan_eval.specs.Direct.{env_of, spot}
+use Rattle.plan_eval.specs.Leads.{Leads}
+use Rattle.plan_eval.specs.Direct.{env_of, spot, row_gave, Waits}
 use Rattle.plan_eval.proofs.Leading.{itself, onward}
 use Rattle.plan_eval.proofs.Beginning.{begun_here, begun_spent}
 use Rattle.plan_eval.proofs.Naming.{no_part, enters_none, enters_other}
 use Rattle.plan_eval.proofs.Taking.{resume_asks}
-use Rattle.plan_eval.proofs.Hot.{call_form, call_begins, call_next, call_more, call_done, call_no_try, next_deep, next_safe, if_form, binary_form, part_stops_so, first_leads, first_safe, if_test, if_yes, if_no, if_parts, if_no_try, if_true, if_false, if_wrong, left_part, right_part, operator_parts, operator_no_try, right_leads}
+use Rattle.plan_eval.proofs.Hot.{call_form, eval_part, eval_parts, eval_no_try, packing_leads, tuple_form, chunk_form, eval_form, row_no_try, row_begins, row_next, next_deep, next_safe, row_more, row_done, tuple_gave, chunk_gave, call_gave, if_form, binary_form, part_stops_so, first_leads, first_safe, if_test, if_yes, if_no, if_parts, if_no_try, if_true, if_false, if_wrong, left_part, right_part, operator_parts, operator_no_try, right_leads}
 use Rattle.plan_eval.proofs.Turning.{visited_nowhere}
+use Rattle.plan_eval.proofs.Ending.{resume_final}
 use Rattle.plan_eval.proofs.Delivering.{visited_on}
 use Rattle.plan_eval.proofs.Waiting.{paused, waits_inside}
 use Rattle.plan_eval.proofs.Backs.{flows_from, enters_from}
@@ -29,7 +34,7 @@ use Rattle.plan_eval.proofs.direct.+evaluate.Goals as goal
 
 pub evaluate-returns-then-depth-eq0-clause-flows : goal.evaluate-returns-then-depth-eq0-clause-flows
 evaluate-returns-then-depth-eq0-clause-flows g t c =
-    rw c.in_ok-pause.ensures (paused c.args.codes.now c.args.here.now.code.now c.args.here.now.fun (spot c.args.here.now c.args.e.now) (joined c.args.state.now (g.S.Services.stands c.args.svc.now)))
+    rw c.pause.ensures (paused c.args.codes.now c.args.here.now.code.now c.args.here.now.fun (spot c.args.here.now c.args.e.now) (joined c.args.state.now (g.S.Services.stands c.args.svc.now)))
 
 pub evaluate-returns-then-not-pays-clause-flows : goal.evaluate-returns-then-not-pays-clause-flows
 evaluate-returns-then-not-pays-clause-flows g t c = λ other.
@@ -305,83 +310,135 @@ visit-returns-clause-enters g t c =
 pub visit-returns-clause-grown : goal.visit-returns-clause-grown
 visit-returns-clause-grown g t c = grows_on _ _ _ c.open_code.ensures.grown c.enter.ensures.grown
 
-pub call-loop-x-init : goal.call-loop-x-init
-call-loop-x-init g t c = record {
+pub all_parts-loop-x-init : goal.all_parts-loop-x-init
+all_parts-loop-x-init g t c = record {
   here = c.requires.here;
-  leads = rw c.new-args.ensures (call_begins c.args.here.now.code.now c.args.here.now.fun c.args.e.now c.args.f.now c.args.es.now (spot c.args.here.now c.args.e.now).env c.requires.form (joined c.args.state.now (g.S.Services.stands c.args.svc.now)));
+  leads = rw c.new-held.ensures (row_begins c.args.here.now.code.now c.args.here.now.fun c.args.e.now (spot c.args.here.now c.args.e.now).env c.args.es.now c.requires.form c.requires.parts (joined c.args.state.now (g.S.Services.stands c.args.svc.now)));
   falls = omega arith;
   grown = grows_none _ _ refl;
   offer = refl;
   begun = refl;
 }
 
-pub call-evaluate-requires : goal.call-evaluate-requires
-call-evaluate-requires g t c =
+pub all_parts-evaluate-requires : goal.all_parts-evaluate-requires
+all_parts-evaluate-requires g t c =
     let found : Some c.in-Some.x.now ≡ slice_get c.args.es.now c.len.result = c.in-Some.ensures in
-    let is_x : slice_get c.args.es.now (length c.loop-x.args) ≡ Some c.in-Some.x.now = rw c.len.ensures at (sym found) in
+    let is_x : slice_get c.args.es.now (length c.loop-x.held) ≡ Some c.in-Some.x.now = rw c.len.ensures at (sym found) in
     let i = c.loop-x.invariant in
     let opened : IsSome (g.S.Services.stands c.loop-x.svc).begun = rw i.begun c.requires.open in
     let here = i.here in
-    let safe : IsSafe (meaning c.args.here.now.code.now c.args.here.now.fun (spot c.args.here.now c.args.e.now).env c.in-Some.x.now (joined c.loop-x.state (g.S.Services.stands c.loop-x.svc))).asks = next_safe c.args.here.now.code.now c.args.here.now.fun c.args.e.now c.args.f.now c.args.es.now (spot c.args.here.now c.args.e.now).env c.requires.form c.loop-x.args c.in-Some.x.now (joined c.args.state.now (g.S.Services.stands c.args.svc.now)) (joined c.loop-x.state (g.S.Services.stands c.loop-x.svc)) is_x i.leads c.requires.safe in
+    let safe : IsSafe (meaning c.args.here.now.code.now c.args.here.now.fun (spot c.args.here.now c.args.e.now).env c.in-Some.x.now (joined c.loop-x.state (g.S.Services.stands c.loop-x.svc))).asks = next_safe c.args.here.now.code.now c.args.here.now.fun c.args.e.now (spot c.args.here.now c.args.e.now).env c.args.es.now c.requires.form c.requires.parts c.loop-x.held c.in-Some.x.now (joined c.args.state.now (g.S.Services.stands c.args.svc.now)) (joined c.loop-x.state (g.S.Services.stands c.loop-x.svc)) is_x i.leads c.requires.safe in
     let falls = i.falls in
     search rules
 
-pub call-loop-x-preserved : goal.call-loop-x-preserved
-call-loop-x-preserved g t c =
+pub all_parts-loop-x-preserved : goal.all_parts-loop-x-preserved
+all_parts-loop-x-preserved g t c =
     let found : Some c.in-Some.x.now ≡ slice_get c.args.es.now c.len.result = c.in-Some.ensures in
-    let is_x : slice_get c.args.es.now (length c.loop-x.args) ≡ Some c.in-Some.x.now = rw c.len.ensures at (sym found) in
+    let is_x : slice_get c.args.es.now (length c.loop-x.held) ≡ Some c.in-Some.x.now = rw c.len.ensures at (sym found) in
     let i = c.loop-x.invariant in
     let is : c.evaluate.result ≡ Ok (flow.Done c.in-Ok-Done.v) = cc in
     let less : c.evaluate.new.state.work < c.loop-x.state.work = rw is at c.evaluate.ensures.spends in
     record {
       here = here_grown _ _ _ c.evaluate.ensures.grown i.here;
-      leads = call_more c.args.here.now.code.now c.args.here.now.fun c.args.e.now c.args.f.now c.args.es.now (spot c.args.here.now c.args.e.now).env c.requires.form c.loop-x.args c.add.new.self c.in-Some.x.now c.in-Ok-Done.v (joined c.args.state.now (g.S.Services.stands c.args.svc.now)) (joined c.loop-x.state (g.S.Services.stands c.loop-x.svc)) (joined c.evaluate.new.state (g.S.Services.stands c.evaluate.new.svc)) is_x i.leads (rw is at c.evaluate.ensures.flows) c.in_ok-add-in-Ok-Done.ensures.ok;
+      leads = row_more c.args.here.now.code.now c.args.here.now.fun c.args.e.now (spot c.args.here.now c.args.e.now).env c.args.es.now c.requires.form c.requires.parts c.loop-x.held c.add.new.self c.in-Some.x.now c.in-Ok-Done.v (joined c.args.state.now (g.S.Services.stands c.args.svc.now)) (joined c.loop-x.state (g.S.Services.stands c.loop-x.svc)) (joined c.evaluate.new.state (g.S.Services.stands c.evaluate.new.svc)) is_x i.leads (rw is at c.evaluate.ensures.flows) c.in_ok-add-in-Ok-Done.ensures.ok;
       falls = omega (arith, i.falls, less);
       grown = grows_on _ _ _ i.grown c.evaluate.ensures.grown;
       offer = c.evaluate.ensures.offer ∙ i.offer;
       begun = c.evaluate.ensures.begun ∙ i.begun;
     }
 
-pub call-returns-in-Ok-Wait-clause-flows : goal.call-returns-in-Ok-Wait-clause-flows
-call-returns-in-Ok-Wait-clause-flows g t c =
+pub all_parts-returns-in-Ok-Wait-clause-rows : goal.all_parts-returns-in-Ok-Wait-clause-rows
+all_parts-returns-in-Ok-Wait-clause-rows g t c =
     let found : Some c.in-Some.x.now ≡ slice_get c.args.es.now c.len.result = c.in-Some.ensures in
-    let is_x : slice_get c.args.es.now (length c.loop-x.args) ≡ Some c.in-Some.x.now = rw c.len.ensures at (sym found) in
+    let is_x : slice_get c.args.es.now (length c.loop-x.held) ≡ Some c.in-Some.x.now = rw c.len.ensures at (sym found) in
     let i = c.loop-x.invariant in
     let is : c.evaluate.result ≡ Ok (flow.Wait c.in-Ok-Wait.rest) = cc in
-    rw (c.in_ok-inside-in-Ok-Wait.ensures, c.len-in-Ok-Wait.ensures)
-    (waits_inside c.evaluate.new.codes c.args.here.now.code.now c.args.here.now.fun (spot c.args.here.now c.args.e.now) (frame.Part (length c.loop-x.args) c.loop-x.args) _ (next_deep c.args.here.now.code.now c.args.here.now.fun c.args.e.now c.args.f.now c.args.es.now (spot c.args.here.now c.args.e.now).env c.requires.form c.loop-x.args c.in-Some.x.now is_x) c.in-Ok-Wait.rest (joined c.evaluate.new.state (g.S.Services.stands c.evaluate.new.svc)) _ _
-    (call_next c.args.here.now.code.now c.args.here.now.fun c.args.e.now c.args.f.now c.args.es.now (spot c.args.here.now c.args.e.now).env c.requires.form c.loop-x.args c.in-Some.x.now (joined c.args.state.now (g.S.Services.stands c.args.svc.now)) (joined c.loop-x.state (g.S.Services.stands c.loop-x.svc)) is_x i.leads) (rw is at c.evaluate.ensures.flows))
+    rw (c.in_ok-stopped_in-in-Ok-Wait.ensures, c.len-in-Ok-Wait.ensures)
+    (waits_inside c.evaluate.new.codes c.args.here.now.code.now c.args.here.now.fun (spot c.args.here.now c.args.e.now) (frame.Part (length c.loop-x.held) c.loop-x.held) _ (next_deep c.args.here.now.code.now c.args.here.now.fun c.args.e.now (spot c.args.here.now c.args.e.now).env c.args.es.now c.requires.form c.requires.parts c.loop-x.held c.in-Some.x.now is_x) c.in-Ok-Wait.rest (joined c.evaluate.new.state (g.S.Services.stands c.evaluate.new.svc)) _ _
+    (row_next c.args.here.now.code.now c.args.here.now.fun c.args.e.now (spot c.args.here.now c.args.e.now).env c.args.es.now c.requires.form c.requires.parts c.loop-x.held c.in-Some.x.now (joined c.args.state.now (g.S.Services.stands c.args.svc.now)) (joined c.loop-x.state (g.S.Services.stands c.loop-x.svc)) is_x i.leads) (rw is at c.evaluate.ensures.flows))
 
-pub call-returns-in-Err-clause-flows : goal.call-returns-in-Err-clause-flows
-call-returns-in-Err-clause-flows g t c = λ other.
+pub all_parts-returns-in-Err-clause-rows : goal.all_parts-returns-in-Err-clause-rows
+all_parts-returns-in-Err-clause-rows g t c = λ other.
     let found : Some c.in-Some.x.now ≡ slice_get c.args.es.now c.len.result = c.in-Some.ensures in
-    let is_x : slice_get c.args.es.now (length c.loop-x.args) ≡ Some c.in-Some.x.now = rw c.len.ensures at (sym found) in
+    let is_x : slice_get c.args.es.now (length c.loop-x.held) ≡ Some c.in-Some.x.now = rw c.len.ensures at (sym found) in
     let i = c.loop-x.invariant in
     let is : c.evaluate.result ≡ Err c.in-Err.stop = cc in
     let ends = (rw is at c.evaluate.ensures.flows) other in
-    (call_next c.args.here.now.code.now c.args.here.now.fun c.args.e.now c.args.f.now c.args.es.now (spot c.args.here.now c.args.e.now).env c.requires.form c.loop-x.args c.in-Some.x.now (joined c.args.state.now (g.S.Services.stands c.args.svc.now)) (joined c.loop-x.state (g.S.Services.stands c.loop-x.svc)) is_x i.leads).same ∙ part_stops_so c.args.here.now.code.now c.args.here.now.fun (spot c.args.here.now c.args.e.now) (length c.loop-x.args) c.loop-x.args _ c.in-Err.stop _ (call_no_try c.args.here.now.code.now c.args.here.now.fun c.args.e.now c.args.f.now c.args.es.now (spot c.args.here.now c.args.e.now).env c.requires.form) ends
+    (row_next c.args.here.now.code.now c.args.here.now.fun c.args.e.now (spot c.args.here.now c.args.e.now).env c.args.es.now c.requires.form c.requires.parts c.loop-x.held c.in-Some.x.now (joined c.args.state.now (g.S.Services.stands c.args.svc.now)) (joined c.loop-x.state (g.S.Services.stands c.loop-x.svc)) is_x i.leads).same ∙ part_stops_so c.args.here.now.code.now c.args.here.now.fun (spot c.args.here.now c.args.e.now) (length c.loop-x.held) c.loop-x.held _ c.in-Err.stop _ (row_no_try (out-Expr c.args.e.now) c.requires.form) ends
+
+pub all_parts-returns-clause-rows : goal.all_parts-returns-clause-rows
+all_parts-returns-clause-rows g t c =
+    let found : slice_get c.args.es.now c.len.result ≡ None = sym c.in_default.ensures in
+    let none : slice_get c.args.es.now (length c.loop-x.held) ≡ None = rw c.len.ensures at found in
+    row_done c.args.here.now.code.now c.args.here.now.fun c.args.e.now (spot c.args.here.now c.args.e.now).env c.args.es.now c.requires.form c.requires.parts c.loop-x.held (joined c.args.state.now (g.S.Services.stands c.args.svc.now)) (joined c.loop-x.state (g.S.Services.stands c.loop-x.svc)) none c.loop-x.invariant.leads
+
+pub tuple-all_parts-requires : goal.tuple-all_parts-requires
+tuple-all_parts-requires g t c =
+    let row : IsRow (out-Expr c.args.e.now) = rw c.requires.form tt in
+    let parts : parts_of (out-Expr c.args.e.now) ≡ c.as_slice.result.now = rw (c.requires.form, c.as_slice.ensures) refl in
+    search rules
+
+pub tuple-returns-in-Ok-All-clause-flows : goal.tuple-returns-in-Ok-All-clause-flows
+tuple-returns-in-Ok-All-clause-flows g t c =
+    let is : c.all_parts.result ≡ Ok (row.All c.in-Ok-All.parts) = cc in
+    let leads = rw is at c.all_parts.ensures.rows in
+    flows_from c.all_parts.new.codes c.args.here.now.code.now c.args.here.now.fun (spot c.args.here.now c.args.e.now) _ _ c.ended.result (joined c.ended.new.state (g.S.Services.stands c.all_parts.new.svc))
+    (onward _ _ _ leads (tuple_gave c.args.here.now.code.now c.args.here.now.fun c.args.e.now (spot c.args.here.now c.args.e.now).env c.in-Ok-All.parts (joined c.all_parts.new.state (g.S.Services.stands c.all_parts.new.svc)) c.args.es.now c.requires.form))
+    (c.ended.ensures.flows c.all_parts.new.codes c.args.here.now.code.now c.args.here.now.fun (spot c.args.here.now c.args.e.now) (g.S.Services.stands c.all_parts.new.svc))
+
+pub packing-all_parts-requires : goal.packing-all_parts-requires
+packing-all_parts-requires g t c =
+    let row : IsRow (out-Expr c.args.e.now) = rw c.requires.form tt in
+    let parts : parts_of (out-Expr c.args.e.now) ≡ c.as_slice.result.now = rw (c.requires.form, c.as_slice.ensures) refl in
+    search rules
+
+pub packing-returns-in-Ok-All-clause-flows : goal.packing-returns-in-Ok-All-clause-flows
+packing-returns-in-Ok-All-clause-flows g t c =
+    let is : c.all_parts.result ≡ Ok (row.All c.in-Ok-All.args) = cc in
+    let leads = rw is at c.all_parts.ensures.rows in
+    flows_from c.all_parts.new.codes c.args.here.now.code.now c.args.here.now.fun (spot c.args.here.now c.args.e.now) _ _ c.packed.result (joined c.packed.new.state (g.S.Services.stands c.all_parts.new.svc))
+    (onward _ _ _ leads (chunk_gave c.args.here.now.code.now c.args.here.now.fun c.args.e.now (spot c.args.here.now c.args.e.now).env c.in-Ok-All.args (joined c.all_parts.new.state (g.S.Services.stands c.all_parts.new.svc)) c.args.f.now c.args.es.now c.requires.form))
+    (c.packed.ensures.flows c.all_parts.new.codes c.args.here.now.fun (spot c.args.here.now c.args.e.now) (g.S.Services.stands c.all_parts.new.svc))
+
+pub call-all_parts-requires : goal.call-all_parts-requires
+call-all_parts-requires g t c =
+    let row : IsRow (out-Expr c.args.e.now) = rw c.requires.form tt in
+    let parts : parts_of (out-Expr c.args.e.now) ≡ c.as_slice.result.now = rw (c.requires.form, c.as_slice.ensures) refl in
+    search rules
 
 pub call-invoke-requires : goal.call-invoke-requires
 call-invoke-requires g t c =
-    let found : slice_get c.args.es.now c.len.result ≡ None = sym c.in_default.ensures in
-    let none : slice_get c.args.es.now (length c.loop-x.args) ≡ None = rw c.len.ensures at found in
-    let i = c.loop-x.invariant in
-    let opened : IsSome (g.S.Services.stands c.loop-x.svc).begun = rw i.begun c.requires.open in
-    let here = i.here in
-    let safe : IsSafe (call_of c.args.here.now.code.now c.args.here.now.fun c.args.f.now c.loop-x.args (joined c.loop-x.state (g.S.Services.stands c.loop-x.svc))).asks = (call_done c.args.here.now.code.now c.args.here.now.fun c.args.e.now c.args.f.now c.args.es.now (spot c.args.here.now c.args.e.now).env c.requires.form c.loop-x.args (joined c.args.state.now (g.S.Services.stands c.args.svc.now)) (joined c.loop-x.state (g.S.Services.stands c.loop-x.svc)) none i.leads).safe c.requires.safe in
-    let falls = i.falls in
+    let is : c.all_parts.result ≡ Ok (row.All c.in-Ok-All.args) = cc in
+    let leads = rw is at c.all_parts.ensures.rows in
+    let here = here_grown _ _ _ c.all_parts.ensures.grown c.requires.here in
+    let safe : IsSafe (call_of c.args.here.now.code.now c.args.here.now.fun c.args.f.now c.in-Ok-All.args (joined c.all_parts.new.state (g.S.Services.stands c.all_parts.new.svc))).asks = (call_gave c.args.here.now.code.now c.args.here.now.fun c.args.e.now (spot c.args.here.now c.args.e.now).env c.in-Ok-All.args (joined c.all_parts.new.state (g.S.Services.stands c.all_parts.new.svc)) c.args.f.now c.args.es.now c.requires.form).safe (leads.safe c.requires.safe) in
     search rules
 
-pub call-returns-clause-flows : goal.call-returns-clause-flows
-call-returns-clause-flows g t c =
-    let found : slice_get c.args.es.now c.len.result ≡ None = sym c.in_default.ensures in
-    let none : slice_get c.args.es.now (length c.loop-x.args) ≡ None = rw c.len.ensures at found in
+pub call-returns-in-Ok-All-clause-flows : goal.call-returns-in-Ok-All-clause-flows
+call-returns-in-Ok-All-clause-flows g t c =
+    let is : c.all_parts.result ≡ Ok (row.All c.in-Ok-All.args) = cc in
+    let leads = rw is at c.all_parts.ensures.rows in
     flows_from c.invoke.new.codes c.args.here.now.code.now c.args.here.now.fun (spot c.args.here.now c.args.e.now) _ _ c.invoke.result (joined c.invoke.new.state (g.S.Services.stands c.invoke.new.svc))
-    (call_done c.args.here.now.code.now c.args.here.now.fun c.args.e.now c.args.f.now c.args.es.now (spot c.args.here.now c.args.e.now).env c.requires.form c.loop-x.args (joined c.args.state.now (g.S.Services.stands c.args.svc.now)) (joined c.loop-x.state (g.S.Services.stands c.loop-x.svc)) none c.loop-x.invariant.leads) c.invoke.ensures.flows
+    (onward _ _ _ leads (call_gave c.args.here.now.code.now c.args.here.now.fun c.args.e.now (spot c.args.here.now c.args.e.now).env c.in-Ok-All.args (joined c.all_parts.new.state (g.S.Services.stands c.all_parts.new.svc)) c.args.f.now c.args.es.now c.requires.form))
+    c.invoke.ensures.flows
+
+pub evaluate-tuple-requires : goal.evaluate-tuple-requires
+evaluate-tuple-requires g t c =
+    let form : out-Expr c.args.e.now ≡ Expr-F.Tuple c.in-Tuple.es = rw c.in-Tuple.is (tuple_form c.in-Tuple.es) in
+    let leads = begun_here c.args.here.now.code.now c.args.here.now.fun (spot c.args.here.now c.args.e.now).env c.args.e.now (joined c.args.state.now (g.S.Services.stands c.args.svc.now)) (joined c.pays.new.self (g.S.Services.stands c.args.svc.now))
+    (c.if-not-pays.ensures.paid refl (g.S.Services.stands c.args.svc.now)) in
+    let safe : IsSafe (begins c.args.here.now.code.now c.args.here.now.fun (spot c.args.here.now c.args.e.now) (joined c.pays.new.self (g.S.Services.stands c.args.svc.now))).asks = leads.safe c.requires.safe in
+    search rules
+
+pub evaluate-returns-in-Tuple-clause-flows : goal.evaluate-returns-in-Tuple-clause-flows
+evaluate-returns-in-Tuple-clause-flows g t c =
+    let leads = begun_here c.args.here.now.code.now c.args.here.now.fun (spot c.args.here.now c.args.e.now).env c.args.e.now (joined c.args.state.now (g.S.Services.stands c.args.svc.now)) (joined c.pays.new.self (g.S.Services.stands c.args.svc.now))
+    (c.if-not-pays.ensures.paid refl (g.S.Services.stands c.args.svc.now)) in
+    flows_from c.tuple.new.codes c.args.here.now.code.now c.args.here.now.fun (spot c.args.here.now c.args.e.now) _ _ c.tuple.result (joined c.tuple.new.state (g.S.Services.stands c.tuple.new.svc)) leads c.tuple.ensures.flows
 
 pub evaluate-call-requires : goal.evaluate-call-requires
 evaluate-call-requires g t c =
-    let form : out-Expr c.args.e.now ≡ Expr-F.Call c.in-Call.f c.as_slice.result.now = rw (c.in-Call.is, c.as_slice.ensures) (call_form c.in-Call.f c.in-Call.es) in
+    let form : out-Expr c.args.e.now ≡ Expr-F.Call c.in-Call.f c.in-Call.es = rw c.in-Call.is (call_form c.in-Call.f c.in-Call.es) in
     let leads = begun_here c.args.here.now.code.now c.args.here.now.fun (spot c.args.here.now c.args.e.now).env c.args.e.now (joined c.args.state.now (g.S.Services.stands c.args.svc.now)) (joined c.pays.new.self (g.S.Services.stands c.args.svc.now))
     (c.if-not-pays.ensures.paid refl (g.S.Services.stands c.args.svc.now)) in
     let safe : IsSafe (begins c.args.here.now.code.now c.args.here.now.fun (spot c.args.here.now c.args.e.now) (joined c.pays.new.self (g.S.Services.stands c.args.svc.now))).asks = leads.safe c.requires.safe in
@@ -392,6 +449,34 @@ evaluate-returns-in-Call-clause-flows g t c =
     let leads = begun_here c.args.here.now.code.now c.args.here.now.fun (spot c.args.here.now c.args.e.now).env c.args.e.now (joined c.args.state.now (g.S.Services.stands c.args.svc.now)) (joined c.pays.new.self (g.S.Services.stands c.args.svc.now))
     (c.if-not-pays.ensures.paid refl (g.S.Services.stands c.args.svc.now)) in
     flows_from c.call.new.codes c.args.here.now.code.now c.args.here.now.fun (spot c.args.here.now c.args.e.now) _ _ c.call.result (joined c.call.new.state (g.S.Services.stands c.call.new.svc)) leads c.call.ensures.flows
+
+pub evaluate-packing-requires : goal.evaluate-packing-requires
+evaluate-packing-requires g t c =
+    let form : out-Expr c.args.e.now ≡ Expr-F.ChunkOf c.in-ChunkOf.f c.in-ChunkOf.es = rw c.in-ChunkOf.is (chunk_form c.in-ChunkOf.f c.in-ChunkOf.es) in
+    let leads = begun_here c.args.here.now.code.now c.args.here.now.fun (spot c.args.here.now c.args.e.now).env c.args.e.now (joined c.args.state.now (g.S.Services.stands c.args.svc.now)) (joined c.pays.new.self (g.S.Services.stands c.args.svc.now))
+    (c.if-not-pays.ensures.paid refl (g.S.Services.stands c.args.svc.now)) in
+    let safe : IsSafe (begins c.args.here.now.code.now c.args.here.now.fun (spot c.args.here.now c.args.e.now) (joined c.pays.new.self (g.S.Services.stands c.args.svc.now))).asks = leads.safe c.requires.safe in
+    search rules
+
+pub evaluate-returns-in-ChunkOf-clause-flows : goal.evaluate-returns-in-ChunkOf-clause-flows
+evaluate-returns-in-ChunkOf-clause-flows g t c =
+    let leads = begun_here c.args.here.now.code.now c.args.here.now.fun (spot c.args.here.now c.args.e.now).env c.args.e.now (joined c.args.state.now (g.S.Services.stands c.args.svc.now)) (joined c.pays.new.self (g.S.Services.stands c.args.svc.now))
+    (c.if-not-pays.ensures.paid refl (g.S.Services.stands c.args.svc.now)) in
+    flows_from c.packing.new.codes c.args.here.now.code.now c.args.here.now.fun (spot c.args.here.now c.args.e.now) _ _ c.packing.result (joined c.packing.new.state (g.S.Services.stands c.packing.new.svc)) leads c.packing.ensures.flows
+
+pub evaluate-eval-requires : goal.evaluate-eval-requires
+evaluate-eval-requires g t c =
+    let form : out-Expr c.args.e.now ≡ Expr-F.Eval c.get-in-Eval.result.now = rw (c.in-Eval.is, c.get-in-Eval.ensures) (eval_form c.in-Eval.a) in
+    let leads = begun_here c.args.here.now.code.now c.args.here.now.fun (spot c.args.here.now c.args.e.now).env c.args.e.now (joined c.args.state.now (g.S.Services.stands c.args.svc.now)) (joined c.pays.new.self (g.S.Services.stands c.args.svc.now))
+    (c.if-not-pays.ensures.paid refl (g.S.Services.stands c.args.svc.now)) in
+    let safe : IsSafe (begins c.args.here.now.code.now c.args.here.now.fun (spot c.args.here.now c.args.e.now) (joined c.pays.new.self (g.S.Services.stands c.args.svc.now))).asks = leads.safe c.requires.safe in
+    search rules
+
+pub evaluate-returns-in-Eval-clause-flows : goal.evaluate-returns-in-Eval-clause-flows
+evaluate-returns-in-Eval-clause-flows g t c =
+    let leads = begun_here c.args.here.now.code.now c.args.here.now.fun (spot c.args.here.now c.args.e.now).env c.args.e.now (joined c.args.state.now (g.S.Services.stands c.args.svc.now)) (joined c.pays.new.self (g.S.Services.stands c.args.svc.now))
+    (c.if-not-pays.ensures.paid refl (g.S.Services.stands c.args.svc.now)) in
+    flows_from c.eval.new.codes c.args.here.now.code.now c.args.here.now.fun (spot c.args.here.now c.args.e.now) _ _ c.eval.result (joined c.eval.new.state (g.S.Services.stands c.eval.new.svc)) leads c.eval.ensures.flows
 
 pub invoke-enter-flow-requires : goal.invoke-enter-flow-requires
 invoke-enter-flow-requires g t c =
@@ -418,3 +503,97 @@ pub invoke-returns-in-Err-clause-flows : goal.invoke-returns-in-Err-clause-flows
 invoke-returns-in-Err-clause-flows g t c = λ other.
     let is : c.called.result ≡ Err c.in-Err.stop = cc in
     (rw is at (c.called.ensures.decides (spot c.args.here.now c.args.e.now))) other
+
+-- ---- evals
+
+pub eval-eval_packing-requires : goal.eval-eval_packing-requires
+eval-eval_packing-requires g t c =
+    let is : c.args.a.now ≡ expr.ChunkOf c.in-ChunkOf.f c.in-ChunkOf.es = cc in
+    let packs : out-Expr c.args.a.now ≡ Expr-F.ChunkOf c.in-ChunkOf.f c.in-ChunkOf.es = rw is (chunk_form c.in-ChunkOf.f c.in-ChunkOf.es) in
+    search rules
+
+pub eval_packing-returns-then-not-pays-clause-flows : goal.eval_packing-returns-then-not-pays-clause-flows
+eval_packing-returns-then-not-pays-clause-flows g t c = λ other.
+    let ends = begun_spent c.args.here.now.code.now c.args.here.now.fun (spot c.args.here.now c.args.e.now).env c.args.a.now WorkSpent (joined c.args.state.now (g.S.Services.stands c.args.svc.now)) _ (c.if-not-pays.ensures.unpaid refl (g.S.Services.stands c.args.svc.now)) in
+    (first_leads c.args.here.now.code.now c.args.here.now.fun (spot c.args.here.now c.args.e.now) c.args.a.now (joined c.args.state.now (g.S.Services.stands c.args.svc.now)) (eval_parts c.args.here.now.code.now c.args.here.now.fun c.args.e.now c.args.a.now (spot c.args.here.now c.args.e.now).env c.requires.form) (eval_part c.args.here.now.code.now c.args.here.now.fun c.args.e.now c.args.a.now (spot c.args.here.now c.args.e.now).env c.requires.form)).same
+    ∙ part_stops_so c.args.here.now.code.now c.args.here.now.fun (spot c.args.here.now c.args.e.now) 0 [] _ WorkSpent _ (eval_no_try c.args.here.now.code.now c.args.here.now.fun c.args.e.now c.args.a.now (spot c.args.here.now c.args.e.now).env c.requires.form) ends
+
+pub eval_packing-all_parts-requires : goal.eval_packing-all_parts-requires
+eval_packing-all_parts-requires g t c =
+    let row : IsRow (out-Expr c.args.a.now) = rw c.requires.packs tt in
+    let parts : parts_of (out-Expr c.args.a.now) ≡ c.as_slice.result.now = rw (c.requires.packs, c.as_slice.ensures) refl in
+    let part_is_safe = first_safe c.args.here.now.code.now c.args.here.now.fun (spot c.args.here.now c.args.e.now) c.args.a.now (joined c.args.state.now (g.S.Services.stands c.args.svc.now)) (eval_parts c.args.here.now.code.now c.args.here.now.fun c.args.e.now c.args.a.now (spot c.args.here.now c.args.e.now).env c.requires.form) (eval_part c.args.here.now.code.now c.args.here.now.fun c.args.e.now c.args.a.now (spot c.args.here.now c.args.e.now).env c.requires.form) c.requires.safe in
+    let safe : IsSafe (begins c.args.here.now.code.now c.args.here.now.fun (spot c.args.here.now c.args.a.now) (joined c.pays.new.self (g.S.Services.stands c.args.svc.now))).asks = (begun_here c.args.here.now.code.now c.args.here.now.fun (spot c.args.here.now c.args.e.now).env c.args.a.now (joined c.args.state.now (g.S.Services.stands c.args.svc.now)) (joined c.pays.new.self (g.S.Services.stands c.args.svc.now)) (c.if-not-pays.ensures.paid refl (g.S.Services.stands c.args.svc.now))).safe part_is_safe in
+    search rules
+
+pub eval_packing-eval_packed-requires : goal.eval_packing-eval_packed-requires
+eval_packing-eval_packed-requires g t c =
+    let is : c.all_parts.result ≡ Ok (row.All c.in-Ok-All.args) = cc in
+    let rows : Leads (begins c.args.here.now.code.now c.args.here.now.fun (spot c.args.here.now c.args.a.now) (joined c.pays.new.self (g.S.Services.stands c.args.svc.now))) (row_gave c.args.here.now.code.now c.args.here.now.fun (spot c.args.here.now c.args.a.now) c.in-Ok-All.args (joined c.all_parts.new.state (g.S.Services.stands c.all_parts.new.svc))) = rw is at c.all_parts.ensures.rows in
+    let whole = packing_leads c.args.here.now.code.now c.args.here.now.fun c.args.e.now c.args.a.now (spot c.args.here.now c.args.e.now).env c.requires.form (weighed (value.Chunk (record { code = c.args.here.now.code.now; entry = c.args.f.now; args = c.in-Ok-All.args })) (joined c.all_parts.new.state (g.S.Services.stands c.all_parts.new.svc))) (joined c.args.state.now (g.S.Services.stands c.args.svc.now))
+    (onward _ _ _ (begun_here c.args.here.now.code.now c.args.here.now.fun (spot c.args.here.now c.args.e.now).env c.args.a.now (joined c.args.state.now (g.S.Services.stands c.args.svc.now)) (joined c.pays.new.self (g.S.Services.stands c.args.svc.now)) (c.if-not-pays.ensures.paid refl (g.S.Services.stands c.args.svc.now))) (onward _ _ _ rows (chunk_gave c.args.here.now.code.now c.args.here.now.fun c.args.a.now (spot c.args.here.now c.args.e.now).env c.in-Ok-All.args (joined c.all_parts.new.state (g.S.Services.stands c.all_parts.new.svc)) c.args.f.now c.args.es.now c.requires.packs))) in
+    let here = here_grown _ _ _ c.all_parts.ensures.grown c.requires.here in
+    let safe : IsSafe (resume c.args.here.now.code.now c.args.here.now.fun (spot c.args.here.now c.args.e.now) (frame.Part 0 []) (weighed (value.Chunk (record { code = c.args.here.now.code.now; entry = c.args.f.now; args = c.in-Ok-All.args })) (joined c.all_parts.new.state (g.S.Services.stands c.all_parts.new.svc)))).asks = whole.safe c.requires.safe in
+    search rules
+
+pub eval_packing-returns-in-Ok-All-clause-flows : goal.eval_packing-returns-in-Ok-All-clause-flows
+eval_packing-returns-in-Ok-All-clause-flows g t c =
+    let is : c.all_parts.result ≡ Ok (row.All c.in-Ok-All.args) = cc in
+    let rows : Leads (begins c.args.here.now.code.now c.args.here.now.fun (spot c.args.here.now c.args.a.now) (joined c.pays.new.self (g.S.Services.stands c.args.svc.now))) (row_gave c.args.here.now.code.now c.args.here.now.fun (spot c.args.here.now c.args.a.now) c.in-Ok-All.args (joined c.all_parts.new.state (g.S.Services.stands c.all_parts.new.svc))) = rw is at c.all_parts.ensures.rows in
+    let whole = packing_leads c.args.here.now.code.now c.args.here.now.fun c.args.e.now c.args.a.now (spot c.args.here.now c.args.e.now).env c.requires.form (weighed (value.Chunk (record { code = c.args.here.now.code.now; entry = c.args.f.now; args = c.in-Ok-All.args })) (joined c.all_parts.new.state (g.S.Services.stands c.all_parts.new.svc))) (joined c.args.state.now (g.S.Services.stands c.args.svc.now))
+    (onward _ _ _ (begun_here c.args.here.now.code.now c.args.here.now.fun (spot c.args.here.now c.args.e.now).env c.args.a.now (joined c.args.state.now (g.S.Services.stands c.args.svc.now)) (joined c.pays.new.self (g.S.Services.stands c.args.svc.now)) (c.if-not-pays.ensures.paid refl (g.S.Services.stands c.args.svc.now))) (onward _ _ _ rows (chunk_gave c.args.here.now.code.now c.args.here.now.fun c.args.a.now (spot c.args.here.now c.args.e.now).env c.in-Ok-All.args (joined c.all_parts.new.state (g.S.Services.stands c.all_parts.new.svc)) c.args.f.now c.args.es.now c.requires.packs))) in
+    flows_from c.eval_packed.new.codes c.args.here.now.code.now c.args.here.now.fun (spot c.args.here.now c.args.e.now) _ _ c.eval_packed.result (joined c.eval_packed.new.state (g.S.Services.stands c.eval_packed.new.svc)) whole c.eval_packed.ensures.flows
+
+pub eval_packing-returns-in_ok-inside-in-Ok-Wait-clause-flows : goal.eval_packing-returns-in_ok-inside-in-Ok-Wait-clause-flows
+eval_packing-returns-in_ok-inside-in-Ok-Wait-clause-flows g t c =
+    let is : c.all_parts.result ≡ Ok (row.Wait c.in-Ok-Wait.rest) = cc in
+    let rows : Waits c.all_parts.new.codes c.args.here.now.code.now c.args.here.now.fun (spot c.args.here.now c.args.a.now) (begins c.args.here.now.code.now c.args.here.now.fun (spot c.args.here.now c.args.a.now) (joined c.pays.new.self (g.S.Services.stands c.args.svc.now))) c.in-Ok-Wait.rest (joined c.all_parts.new.state (g.S.Services.stands c.all_parts.new.svc)) = rw is at c.all_parts.ensures.rows in
+    rw (c.in_ok-inside-in-Ok-Wait.ensures, c.new.ensures)
+    (waits_inside c.all_parts.new.codes c.args.here.now.code.now c.args.here.now.fun (spot c.args.here.now c.args.e.now) (frame.Part 0 []) _ (eval_part c.args.here.now.code.now c.args.here.now.fun c.args.e.now c.args.a.now (spot c.args.here.now c.args.e.now).env c.requires.form) c.in-Ok-Wait.rest (joined c.all_parts.new.state (g.S.Services.stands c.all_parts.new.svc)) _ _ (packing_leads c.args.here.now.code.now c.args.here.now.fun c.args.e.now c.args.a.now (spot c.args.here.now c.args.e.now).env c.requires.form _ (joined c.args.state.now (g.S.Services.stands c.args.svc.now)) (begun_here c.args.here.now.code.now c.args.here.now.fun (spot c.args.here.now c.args.e.now).env c.args.a.now (joined c.args.state.now (g.S.Services.stands c.args.svc.now)) (joined c.pays.new.self (g.S.Services.stands c.args.svc.now)) (c.if-not-pays.ensures.paid refl (g.S.Services.stands c.args.svc.now)))) rows)
+
+pub eval_packing-returns-in-Err-clause-flows : goal.eval_packing-returns-in-Err-clause-flows
+eval_packing-returns-in-Err-clause-flows g t c = λ other.
+    let is : c.all_parts.result ≡ Err c.in-Err.stop = cc in
+    let ends = (rw is at c.all_parts.ensures.rows) other in
+    (packing_leads c.args.here.now.code.now c.args.here.now.fun c.args.e.now c.args.a.now (spot c.args.here.now c.args.e.now).env c.requires.form _ (joined c.args.state.now (g.S.Services.stands c.args.svc.now)) (begun_here c.args.here.now.code.now c.args.here.now.fun (spot c.args.here.now c.args.e.now).env c.args.a.now (joined c.args.state.now (g.S.Services.stands c.args.svc.now)) (joined c.pays.new.self (g.S.Services.stands c.args.svc.now)) (c.if-not-pays.ensures.paid refl (g.S.Services.stands c.args.svc.now)))).same ∙ part_stops_so c.args.here.now.code.now c.args.here.now.fun (spot c.args.here.now c.args.e.now) 0 [] _ c.in-Err.stop _ (eval_no_try c.args.here.now.code.now c.args.here.now.fun c.args.e.now c.args.a.now (spot c.args.here.now c.args.e.now).env c.requires.form) ends
+
+pub eval_packed-visit_here-requires : goal.eval_packed-visit_here-requires
+eval_packed-visit_here-requires g t c =
+    let is : c.pay_packed.result ≡ Ok tt = cc in
+    let form = c.requires.form in
+    let leads = rw (is, c.as_slice.ensures) at (c.pay_packed.ensures.pays c.args.here.now.fun c.args.e.now form.0 (spot c.args.here.now c.args.e.now).env (g.S.Services.stands c.args.svc.now) form.1) in
+    let safe : IsSafe (next_step c.args.here.now.code.now c.args.here.now.fun (spot c.args.here.now c.args.e.now) (next.Visit (record { code = c.args.here.now.code.now; entry = c.args.f.now; args = c.args.args })) (joined c.pay_packed.new.state (g.S.Services.stands c.args.svc.now))).asks = leads.safe c.requires.safe in
+    let here = c.requires.here in
+    search rules
+
+pub eval_packed-returns-in-Ok-clause-flows : goal.eval_packed-returns-in-Ok-clause-flows
+eval_packed-returns-in-Ok-clause-flows g t c =
+    let is : c.pay_packed.result ≡ Ok tt = cc in
+    let form = c.requires.form in
+    let leads = rw (is, c.as_slice.ensures) at (c.pay_packed.ensures.pays c.args.here.now.fun c.args.e.now form.0 (spot c.args.here.now c.args.e.now).env (g.S.Services.stands c.args.svc.now) form.1) in
+    flows_from c.visit_here.new.codes c.args.here.now.code.now c.args.here.now.fun (spot c.args.here.now c.args.e.now) _ _ c.visit_here.result (joined c.visit_here.new.state (g.S.Services.stands c.visit_here.new.svc)) leads c.visit_here.ensures.flows
+
+pub eval_packed-returns-in-Err-clause-flows : goal.eval_packed-returns-in-Err-clause-flows
+eval_packed-returns-in-Err-clause-flows g t c = λ other.
+    let is : c.pay_packed.result ≡ Err c.in-Err.stop = cc in
+    let form = c.requires.form in
+    (rw (is, c.as_slice.ensures) at (c.pay_packed.ensures.pays c.args.here.now.fun c.args.e.now form.0 (spot c.args.here.now c.args.e.now).env (g.S.Services.stands c.args.svc.now) form.1)) other
+
+pub visit_here-returns-in_default-clause-flows : goal.visit_here-returns-in_default-clause-flows
+visit_here-returns-in_default-clause-flows g t c = λ other.
+    let none : place_of c.args.f.now c.args.here.now.code.now.funs ≡ None = cc in
+    resume_final c.args.here.now.code.now c.args.here.now.fun Wrong _ tt (spot c.args.here.now c.args.e.now) frame.Chunk (visited meaning (record { code = c.args.here.now.code.now; entry = c.args.f.now; args = c.args.args }) (joined c.args.state.now (g.S.Services.stands c.args.svc.now))) (visited_nowhere (record { code = c.args.here.now.code.now; entry = c.args.f.now; args = c.args.args }) (joined c.args.state.now (g.S.Services.stands c.args.svc.now)) none)
+
+pub visit_here-enter-flow-requires : goal.visit_here-enter-flow-requires
+visit_here-enter-flow-requires g t c =
+    let place : place_of c.args.f.now c.args.here.now.code.now.funs ≡ Some c.in-Some.fun = cc in
+    let inside = resume_asks c.args.here.now.code.now c.args.here.now.fun (spot c.args.here.now c.args.e.now) frame.Chunk _ c.requires.safe in
+    let safe : IsSafe (entered meaning c.args.here.now.code.now c.in-Some.fun c.args.args (joined c.args.state.now (g.S.Services.stands c.args.svc.now))).asks = (visited_on (record { code = c.args.here.now.code.now; entry = c.args.f.now; args = c.args.args }) c.in-Some.fun (joined c.args.state.now (g.S.Services.stands c.args.svc.now)) place).safe inside in
+    let program = c.requires.here.program in
+    search rules
+
+pub visit_here-returns-clause-flows : goal.visit_here-returns-clause-flows
+visit_here-returns-clause-flows g t c =
+    let place : place_of c.args.f.now c.args.here.now.code.now.funs ≡ Some c.in-Some.fun = cc in
+    c.chunk_back.ensures.flows c.enter-flow.new.codes c.args.here.now.code.now c.args.here.now.fun (spot c.args.here.now c.args.e.now) _ (g.S.Services.stands c.enter-flow.new.svc)
+    (enters_from c.enter-flow.new.codes _ _ c.enter-flow.result _ (visited_on (record { code = c.args.here.now.code.now; entry = c.args.f.now; args = c.args.args }) c.in-Some.fun (joined c.args.state.now (g.S.Services.stands c.args.svc.now)) place) c.enter-flow.ensures.enters)

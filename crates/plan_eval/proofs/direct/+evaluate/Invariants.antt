@@ -57,15 +57,36 @@ decreases-last_part g l = 8 * l.state.now.work + 1
 abbrev pub decreases-operation : goal.decreases-operation
 decreases-operation g l = 8 * l.state.now.work + 1
 
-abbrev pub invariant-call-loop-x : goal.invariant-call-loop-x
-invariant-call-loop-x g l = record {
+abbrev pub invariant-all_parts-loop-x : goal.invariant-all_parts-loop-x
+invariant-all_parts-loop-x g l = record {
   here : IsHere l.codes l.here;
-  leads : Leads (begins l.here.code.now l.here.fun (spot l.here l.e) (joined l.fn.state (g.S.Services.stands l.fn.svc))) (pending l.here.code.now l.here.fun (spot l.here l.e) l.f l.args (drop (length l.args) l.fn.es) (joined l.state (g.S.Services.stands l.svc)));
+  leads : Leads (begins l.here.code.now l.here.fun (spot l.here l.e) (joined l.fn.state (g.S.Services.stands l.fn.svc))) (pending l.here.code.now l.here.fun (spot l.here l.e) l.held (drop (length l.held) l.fn.es) (joined l.state (g.S.Services.stands l.svc)));
   falls : l.state.work ≤ l.fn.state.work;
   grown : Grows l.fn.codes l.codes;
   offer : (g.S.Services.stands l.svc).offer ≡ (g.S.Services.stands l.fn.svc).offer;
   begun : (g.S.Services.stands l.svc).begun ≡ (g.S.Services.stands l.fn.svc).begun;
 }
 
-abbrev pub decreases-call-loop-x : goal.decreases-call-loop-x
-decreases-call-loop-x g l = l.state.work
+abbrev pub decreases-all_parts-loop-x : goal.decreases-all_parts-loop-x
+decreases-all_parts-loop-x g l = l.state.work
+
+abbrev pub decreases-all_parts : goal.decreases-all_parts
+decreases-all_parts g l = 8 * l.state.now.work + 1
+
+abbrev pub decreases-tuple : goal.decreases-tuple
+decreases-tuple g l = 8 * l.state.now.work + 2
+
+abbrev pub decreases-packing : goal.decreases-packing
+decreases-packing g l = 8 * l.state.now.work + 2
+
+abbrev pub decreases-visit_here : goal.decreases-visit_here
+decreases-visit_here g l = 8 * l.state.now.work + 3
+
+abbrev pub decreases-eval_packed : goal.decreases-eval_packed
+decreases-eval_packed g l = 8 * l.state.now.work + 4
+
+abbrev pub decreases-eval_packing : goal.decreases-eval_packing
+decreases-eval_packing g l = 8 * l.state.now.work + 5
+
+abbrev pub decreases-eval : goal.decreases-eval
+decreases-eval g l = 8 * l.state.now.work + 7
