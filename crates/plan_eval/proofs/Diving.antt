@@ -14,13 +14,14 @@ use Rattle.plan_base.specs.declared.tree.Exn.{Exn}
 use Rattle.plan_meaning.specs.State.{VisitState}
 use Rattle.plan_meaning.specs.Run.{Step, gave, stopped, quiet}
 use Rattle.plan_meaning.specs.Safe.{IsSafe}
-use Rattle.plan_meaning.specs.Meaning.{meaning, bound, entered}
+use Rattle.plan_meaning.specs.Meaning.{Env, meaning, bound, entered}
 use Rattle.plan_eval.specs.declared.frame.Frame.{Frame}
 use Rattle.plan_eval.specs.declared.frame.Frame.TheVariants as frame
 use Rattle.plan_eval.specs.declared.frame.Activation.{Activation}
 use Rattle.plan_eval.specs.declared.frame.Mode.{Mode}
 use Rattle.plan_eval.specs.declared.frame.Mode.TheVariants as mode
 use Rattle.plan_eval.specs.declared.here.Here.{Here}
+use Rattle.plan_eval.specs.declared.here.Binding.{Binding}
 use Rattle.plan_eval.specs.Turns.{IsAt, IsPlaced, Stands, Turned, under}
 use Rattle.plan_eval.specs.declared.next.Next.TheVariants as next
 use Rattle.plan_eval.specs.declared.rest.Flow.{Flow}
@@ -28,7 +29,7 @@ use Rattle.plan_eval.specs.declared.rest.Flow.TheVariants as flow
 use Rattle.plan_eval.specs.Stack.{Spot, spot_of, env_at, deeper, part_or_self, part_number, resume, spot_in, ended, all_ended, AreLinked, stands_for}
 use Rattle.plan_eval.specs.Nexts.{next_step}
 use Rattle.plan_eval.specs.Leads.{Leads}
-use Rattle.plan_eval.specs.Direct.{env_of, IsHere, is_let, Flows, Bodies, Grows}
+use Rattle.plan_eval.specs.Direct.{bound_here, env_of, IsHere, is_let, Flows, Bodies, Grows}
 use Rattle.plan_eval.proofs.Leading.{itself}
 use Rattle.plan_eval.proofs.Applying.{grown, program_of, spot_in_grown, ended_grown, all_ended_grown}
 use Rattle.plan_eval.proofs.Beginning.{runs_on}
@@ -85,9 +86,13 @@ some_is o x is = rw is refl
 pub binds_some : (ps : List Param) (vs : List Value) → length ps ≡ length vs → IsSome (bound ps vs)
 binds_some ps vs h = let b = binds_all ps vs h in some_is (bound ps vs) b.0 b.1
 
-module _ (code : Program) (fun : ℕ) (f : Fun) (args vs : List Value) (fs : List Frame) (s : VisitState) (has : slice_get code.funs fun ≡ Some f) (many : length f.params ≡ length args) (same : vs ≡ args) (none : fs ≡ []) where
-  pub body_leads : Leads (entered meaning code fun args s) (meaning code fun (env_of f vs fs) f.body s)
-  body_leads = rw (same, none) (entered_on code fun args f (env_of f args []) s has (bound_env f args (binds_some f.params args many)))
+-- where no name is bound
+no_names : (env : Env) (bs : List Binding) → bs ≡ [] → env ++ bound_here bs ≡ env
+no_names env bs bare = rw bare (append-nil env)
+
+module _ (code : Program) (fun : ℕ) (f : Fun) (args vs : List Value) (fs : List Frame) (bs : List Binding) (s : VisitState) (has : slice_get code.funs fun ≡ Some f) (many : length f.params ≡ length args) (same : vs ≡ args) (none : fs ≡ []) (bare : bs ≡ []) where
+  pub body_leads : Leads (entered meaning code fun args s) (meaning code fun (env_of f vs fs ++ bound_here bs) f.body s)
+  body_leads = rw (no_names (env_of f vs fs) bs bare, same, none) (entered_on code fun args f (env_of f args []) s has (bound_env f args (binds_some f.params args many)))
 
   pub body_binds : IsSome (bound f.params vs)
   body_binds = rw same (binds_some f.params args many)
@@ -99,28 +104,31 @@ module _ (code : Program) (fun : ℕ) (f : Fun) (args vs : List Value) (fs : Lis
   bodies codes number want (Err e) t is h = h
 
   pub bodies_from : (codes : List Program) (number : ℕ) (r : Result Flow Stop) (t : VisitState) → slice_get codes number ≡ Some code
-      → Flows codes code fun (record { expr = f.body; env = env_of f vs fs }) (meaning code fun (env_of f vs fs) f.body s) r t → Bodies codes code number fun f args (entered meaning code fun args s) r t
+      → Flows codes code fun (record { expr = f.body; env = env_of f vs fs ++ bound_here bs }) (meaning code fun (env_of f vs fs ++ bound_here bs) f.body s) r t → Bodies codes code number fun f args (entered meaning code fun args s) r t
   bodies_from codes number r t is h =
-      bodies codes number _ r t is (rw (same, none) at (flows_from codes code fun (record { expr = f.body; env = env_of f vs fs }) _ _ r t body_leads h))
+      bodies codes number _ r t is (rw (no_names (env_of f vs fs) bs bare, same, none) at (flows_from codes code fun (record { expr = f.body; env = env_of f vs fs ++ bound_here bs }) _ _ r t body_leads h))
 
 -- ---- where an activation stands
 
 same_some : {A : Type 0} (o : Option A) (x y : A) → o ≡ Some x → o ≡ Some y → x ≡ y
 same_some o x y h k = some-same (sym h ∙ k)
 
-module _ (codes : List Program) (a : Activation) (code : Program) (f : Fun) (e : Expr) (h : IsAt codes a code f e) (linked : IsSome (spot_in codes a)) (vs : List Value) (fs : List Frame) (same : vs ≡ a.args) (those : fs ≡ a.frames) where
+module _ (codes : List Program) (a : Activation) (code : Program) (f : Fun) (e : Expr) (h : IsAt codes a code f e) (linked : IsSome (spot_in codes a)) (vs : List Value) (fs : List Frame) (bs : List Binding) (same : vs ≡ a.args) (those : fs ≡ a.frames) (bare : bs ≡ []) where
   pub here_binds : IsSome (bound f.params vs)
   here_binds = let stands = stands_at codes a code f e h linked in rw same (some_is (bound f.params a.args) stands.0 stands.1)
 
-  pub here_spot : spot_in codes a ≡ Some (record { expr = e; env = env_of f vs fs })
+  spot_bare : spot_in codes a ≡ Some (record { expr = e; env = env_of f vs fs })
   unfolding env_of
-  here_spot = let stands = stands_at codes a code f e h linked in rw (same, those, stands.1) stands.2
+  spot_bare = let stands = stands_at codes a code f e h linked in rw (same, those, stands.1) stands.2
 
-  pub here_only : (P : Program → Spot → Type 0) → P code (record { expr = e; env = env_of f vs fs })
+  pub here_spot : spot_in codes a ≡ Some (record { expr = e; env = env_of f vs fs ++ bound_here bs })
+  here_spot = rw (no_names (env_of f vs fs) bs bare) spot_bare
+
+  pub here_only : (P : Program → Spot → Type 0) → P code (record { expr = e; env = env_of f vs fs ++ bound_here bs })
       → (c : Program) (at : Spot) → slice_get codes a.code ≡ Some c → spot_in codes a ≡ Some at → P c at
   here_only P p c at is there =
       subst (λ (x : Program). P x at) (same_some (slice_get codes a.code) code c h.program is)
-      (subst (λ (y : Spot). P code y) (same_some (spot_in codes a) (record { expr = e; env = env_of f vs fs }) at here_spot there) p)
+      (subst (λ (y : Spot). P code y) (same_some (spot_in codes a) (record { expr = e; env = env_of f vs fs ++ bound_here bs }) at here_spot there) p)
 
 -- ---- the innermost expression of the machine's stack
 

@@ -1,10 +1,12 @@
 -- The forms that are evaluated by themselves on the native stack.
-use Rattle.std.proofs.Common.{◌≡◌, arith, Bool, ℕ, ◌+◌, ℤ, List, [], ◌∷◌, ◌++◌, length, length-append, drop, slice_get, zero, suc, true, false, Some, None, IsSome, Result, refl, sym, ◌∙◌, ap, subst}
+use Rattle.std.proofs.Common.{◌≡◌, arith, Bool, ℕ, ◌+◌, ℤ, List, [], ◌∷◌, ◌++◌, length, length-append, drop, slice_get, zero, suc, true, false, Some, None, refl, sym, ◌∙◌, ap, subst}
 use Rattle.small_laws.proofs.Options.{none-some}
 use Rattle.plan_base.specs.declared.name.Name.{Name}
 use Rattle.plan_base.specs.declared.tree.Op.{Op}
+use Rattle.plan_base.specs.declared.tree.Ty.{Ty}
+use Rattle.plan_eval.specs.declared.here.Binding.{Binding}
+use Rattle.std.proofs.lemmas.List.{append_assoc, map-append}
 use Rattle.plan_base.specs.declared.tree.Expr.{Expr, Expr-F, out-Expr}
-use Rattle.plan_base.specs.declared.tree.Fun.{Fun}
 use Rattle.plan_base.specs.declared.tree.Program.{Program}
 use Rattle.plan_base.specs.declared.tree.Value.{Value}
 use Rattle.plan_base.specs.declared.tree.Value as value
@@ -18,33 +20,23 @@ use Rattle.plan_meaning.specs.State.{VisitState}
 use Rattle.plan_meaning.specs.Run.{Step, ◌>>=◌, gave, stopped, pure, «next», spend, weighed, is_too_large}
 use Rattle.plan_meaning.specs.Safe.{IsSafe}
 use Rattle.plan_base.specs.declared.tree.Chunk.{Chunk}
-use Rattle.plan_meaning.specs.Meaning.{Env, meaning, bound, as_bool, as_chunk, value_of, called, tuple, call, packed, values, pay_eval}
-use Rattle.plan_eval.specs.declared.frame.Frame.{Frame}
+use Rattle.plan_meaning.specs.Meaning.{Env, binds, meaning, as_bool, as_chunk, value_of, called, tuple, call, packed, values, pay_eval}
 use Rattle.plan_eval.specs.declared.frame.Frame.TheVariants as frame
 use Rattle.plan_eval.specs.declared.next.Next.TheVariants as next
-use Rattle.plan_eval.specs.declared.rest.Flow.{Flow}
 use Rattle.plan_eval.specs.Forms.{HasParts, IsRow}
-use Rattle.plan_eval.specs.Stack.{Spot, deeper, behind, parts_of, part_or_self, resumed, resume, value_from}
+use Rattle.plan_eval.specs.Stack.{Spot, deeper, behind, parts_of, part_or_self, resumed, resume}
 use Rattle.plan_eval.specs.Nexts.{begins, next_step, part_gave, call_of}
-use Rattle.plan_eval.specs.Leads.{Leads}
-use Rattle.plan_eval.specs.Turns.{argument_of}
-use Rattle.plan_eval.specs.Direct.{env_of, Flows, IsNumber, made_of, row_gave, pending}
+use Rattle.visit_state.specs.Meets.{Meets}
+use Rattle.plan_eval.specs.Leads.{Leads, Carries}
+use Rattle.plan_eval.specs.Direct.{bound_here, IsNumber, made_of, row_gave, pending}
 use Rattle.plan_eval.proofs.Leading.{itself, onward, known_then, given_on}
 use Rattle.plan_eval.proofs.Stacks.{resume_leads}
 use Rattle.plan_eval.proofs.Sending.{chunk_unpaid}
 use Rattle.plan_eval.proofs.Beginning.{gives_literal, gives_name, begun_here, begun_spent}
 use Rattle.plan_eval.proofs.Delivering.{IsNoTry, part_given}
-use Rattle.plan_eval.proofs.Deciding.{opens_part, chosen_true, chosen_false, chosen_none, second, front_of, rest_of, next_of_tuple, next_of_call, next_of_chunk, chunk_paid}
+use Rattle.plan_eval.proofs.Deciding.{bound as named_next, opens_part, chosen_true, chosen_false, chosen_none, second, front_of, rest_of, next_of_tuple, next_of_call, next_of_chunk, chunk_paid}
 use Rattle.plan_eval.proofs.Taking.{resume_asks}
-use Rattle.plan_eval.proofs.Backs.{flows_from, gives_here, resume_gave}
-
--- a name's value, once it is weighed
-pub variable_gives : (codes : List Program) (code : Program) (seen : ℕ) (e : Expr) (x : Name) (f : Fun) (args : List Value) (frames : List Frame) (v : Value) (r : Result Flow Stop) (s t : VisitState)
-    → out-Expr e ≡ Expr-F.Var x → IsSome (bound f.params args) → value_from x (argument_of x None f.params args) (Some f.body) frames ≡ Some v
-    → Flows codes code seen (record { expr = e; env = env_of f args frames }) (weighed v s) r t
-    → Flows codes code seen (record { expr = e; env = env_of f args frames }) (begins code seen (record { expr = e; env = env_of f args frames }) s) r t
-variable_gives codes code seen e x f args frames v r s t form h is flows =
-    flows_from codes code seen (record { expr = e; env = env_of f args frames }) _ _ r t (gives_here code seen s e x f args frames form h v is) flows
+use Rattle.plan_eval.proofs.Backs.{resume_gave}
 
 nil-cons : {A : Type 0} {x : A} {xs : List A} → [] ≡ x ∷ xs → ⊥
 nil-cons h = cc
@@ -117,6 +109,41 @@ module _ (code : Program) (seen : ℕ) (e t a b : Expr) (env : Env) (form : out-
 
     pub if_wrong : as_bool v ≡ None → (begins code seen here s).after ≡ stopped Wrong s1
     if_wrong is = if_came.same ∙ chosen_none code seen e env s1 t a b 0 [] v form is
+
+-- ---- `let`
+
+pub let_form : (x : Name) (t : Ty) (a b : Expr) → out-Expr (expr.Let x t a b) ≡ Expr-F.Let x t a b
+let_form x t a b = grind (arith, trees)
+
+module _ (code : Program) (seen : ℕ) (e : Expr) (x : Name) (t : Ty) (a b : Expr) (env : Env) (form : out-Expr e ≡ Expr-F.Let x t a b) where
+  abbrev let_here : Spot
+  let_here = record { expr = e; env = env }
+
+  pub let_first : deeper let_here (frame.Part 0 []) ≡ Some (record { expr = a; env = env })
+  unfolding deeper
+  let_first = rw form refl
+
+  pub let_parts : HasParts (out-Expr e)
+  let_parts = rw form tt
+
+  pub let_no_try : IsNoTry (out-Expr e)
+  let_no_try = rw form tt
+
+  pub let_body : (v : Value) → deeper let_here (frame.Bound v) ≡ Some (record { expr = b; env = env ++ binds x v ∷ [] })
+  unfolding deeper
+  let_body v = rw form refl
+
+  pub let_leads : (s s1 : VisitState) (v : Value) → (meaning code seen env a s).after ≡ gave v s1
+      → Leads (begins code seen let_here s) (resume code seen let_here (frame.Bound v) (meaning code seen (env ++ binds x v ∷ []) b s1))
+  let_leads s s1 v came =
+      rw (let_body v) at
+      (onward _ _ _ (first_leads code seen let_here a s let_parts let_first)
+      (onward _ _ _ (part_came code seen let_here 0 [] (meaning code seen env a s) v s1 came)
+      (named_next code seen e env s1 x t a b 0 [] v form)))
+
+-- one more name
+pub one_name : (env : Env) (bs : List Binding) (b : Binding) (all : List Binding) → all ≡ bs ++ b ∷ [] → env ++ bound_here all ≡ (env ++ bound_here bs) ++ binds b.name.now b.value.now ∷ []
+one_name env bs b all is = rw is (ap (λ (x : Env). env ++ x) (map-append (λ (c : Binding). binds c.name.now c.value.now) bs (b ∷ [])) ∙ sym (append_assoc env (bound_here bs) (binds b.name.now b.value.now ∷ [])))
 
 -- ---- operators
 
@@ -321,6 +348,11 @@ module _ (code : Program) (seen : ℕ) (e a : Expr) (env : Env) (form : out-Expr
 
       pub packed_unpaid : (x : Stop) (t : VisitState) → (pay_eval s1).after ≡ stopped x t → (resume code seen eval_here (frame.Part 0 []) (weighed (value.Chunk k) s)).after ≡ stopped x t
       packed_unpaid x t unpaid = packed_came.same ∙ chunk_unpaid code seen e env s1 a 0 [] (value.Chunk k) k x t form (is_chunk k) unpaid
+
+      pub packed_carries : (r : Result (Unit {0}) Stop) (t : VisitState) → Meets (pay_eval s1) r t
+          → Carries (resume code seen eval_here (frame.Part 0 []) (weighed (value.Chunk k) s)) (λ _. next_step code seen eval_here (next.Visit k) t) r t
+      packed_carries (Ok u) t h = packed_paid t h
+      packed_carries (Err x) t h = λ other. packed_unpaid x t (h other)
 
   -- what the parts of such a chunk lead to
   pub packing_leads : (p : Step Value) (s : VisitState) → Leads (meaning code seen env a s) p → Leads (begins code seen eval_here s) (resume code seen eval_here (frame.Part 0 []) p)

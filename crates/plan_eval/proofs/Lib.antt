@@ -22,4 +22,4 @@ mod Waiting
 mod Backs
 mod Diving
 mod Hot
-mod Numbers
+mod Counted

@@ -26,7 +26,7 @@ use Rattle.plan_eval.specs.Stack.{Spot, spot_of, deeper, part_or_self, part_numb
 use Rattle.plan_eval.specs.Turns.{IsAt, spot_at, argument_of}
 
 -- one more binding, which is innermost
-value_snoc : (x : Name) (env : Env) (y : Name) (v : Value) → value_of x (env ++ binds y v ∷ []) ≡ (if bytes_eq y x then Some v else value_of x env)
+pub value_snoc : (x : Name) (env : Env) (y : Name) (v : Value) → value_of x (env ++ binds y v ∷ []) ≡ (if bytes_eq y x then Some v else value_of x env)
 value_snoc x [] y v = go (bytes_eq y x)
   where
     go : (t : Bool) → option_or None (if t then Some v else None) ≡ (if t then Some v else None)

@@ -1,5 +1,5 @@
 -- An evaluation on the native stack: how far it came, and what waits where it stopped.
-use Rattle.std.specs.Prelude.{◌≡◌, ◌≢◌, ◌+◌, ◌*◌, ◌≤◌, ◌<◌, length, reverse, ℕ, ℤ, Bool, true, false, List, [], ◌∷◌, ◌++◌, Option, Some, None, IsSome, Result, Ok, Err, slice_get}
+use Rattle.std.specs.Prelude.{◌≡◌, ◌≢◌, ◌+◌, ◌*◌, ◌≤◌, ◌<◌, if◌then◌else◌, length, map, reverse, ℕ, ℤ, Bool, true, false, List, [], ◌∷◌, ◌++◌, Option, Some, None, IsSome, Result, Ok, Err, slice_get}
 use Rattle.plan_base.specs.declared.tree.Expr.{Expr, Expr-F, out-Expr}
 use Rattle.plan_base.specs.declared.tree.Fun.{Fun}
 use Rattle.plan_base.specs.declared.tree.Program.{Program}
@@ -9,12 +9,15 @@ use Rattle.plan_meaning.specs.declared.stop.Stop.{Stop}
 use Rattle.plan_meaning.specs.declared.stop.Stop.TheVariants.{Raised, NoMemory}
 use Rattle.plan_meaning.specs.State.{VisitState}
 use Rattle.plan_meaning.specs.Run.{Run, Step, ◌>>=◌, gave, stopped, quiet, pure, wrong, weighed}
-use Rattle.plan_meaning.specs.Meaning.{Env, bound, called, meaning}
+use Rattle.plan_meaning.specs.Meaning.{Env, binds, bound, called, meaning}
 use Rattle.plan_eval.specs.declared.frame.Frame.{Frame}
 use Rattle.plan_eval.specs.declared.frame.Frame.TheVariants as frame
 use Rattle.plan_eval.specs.declared.frame.Activation.{Activation}
 use Rattle.plan_eval.specs.declared.frame.Mode.TheVariants as mode
 use Rattle.plan_eval.specs.declared.here.Here.{Here}
+use Rattle.plan_eval.specs.declared.here.Binding.{Binding}
+use Rattle.plan_base.specs.declared.name.Name.{Name}
+use Rattle.std.specs.Str.{bytes_eq}
 use Rattle.plan_eval.specs.declared.rest.Rest.{Rest}
 use Rattle.plan_eval.specs.declared.row.Row.{Row}
 use Rattle.plan_eval.specs.declared.row.Row.TheVariants as row
@@ -40,8 +43,24 @@ base_of None = []
 unfoldable pub env_of : Fun → List Value → List Frame → Env
 env_of f args frames = env_from (Some f.body) (base_of (bound f.params args)) frames
 
+-- the names that are bound inside the frames
+abbrev pub bound_here : List Binding → Env
+bound_here = map (λ b. binds b.name.now b.value.now)
+
+abbrev pub env_at_here : Here → Env
+env_at_here here = env_of here.function.now here.args.now here.frames.now ++ bound_here here.bindings.now
+
 abbrev pub spot : Here → Expr → Spot
-spot here e = record { expr = e; env = env_of here.function.now here.args.now here.frames.now }
+spot here e = record { expr = e; env = env_at_here here }
+
+-- an expression that sees one more name
+abbrev pub named_spot : Here → Name → Value → Expr → Spot
+named_spot here x v e = record { expr = e; env = env_at_here here ++ binds x v ∷ [] }
+
+-- what a name is bound to there, where it was bound to `before` outside
+abbrev pub bound_value : Name → Option Value → List Binding → Option Value
+bound_value x before [] = before
+bound_value x before (b ∷ bs) = bound_value x (if bytes_eq b.name.now x then Some b.value.now else before) bs
 
 -- its program has its number, and the function takes so many arguments
 pub record IsHere (codes : List Program) (here : Here) : Type 0 where

@@ -78,7 +78,26 @@ pub fn last_back(
 {
     match flow {
         Ok(Flow::Done(v)) => ended(alloc, v, state),
-        Ok(Flow::Wait(rest)) => Ok(inside(rest, Frame::Last(n))?),
+        Ok(Flow::Wait(rest)) => Ok(inside(alloc, rest, Frame::Last(n))?),
+        Err(stop) => Err(stop),
+    }
+}
+
+/// What sees a value under a name came so far.
+pub fn bound_back(
+    alloc: Global,
+    v: Value,
+    flow: Result<Flow, Stop>,
+    state: &mut State,
+) -> Result<Flow, Stop>
+    ensures flows { (codes : List Code) (code : Code) (seen : ℕ) (at inner : Spot) (c : Step AValue) (m : Standing) → deeper at (frame.Bound v) ≡ Some inner
+        → Flows codes code seen inner c flow (joined state.old m)
+        → Flows codes code seen at (resume code seen at (frame.Bound v) c) result (joined state.new m) }
+    ensures lasts { (depth old : ℕ) → Spends depth old flow state.old.work → Lasts 3 old result state.new.work }
+{
+    match flow {
+        Ok(Flow::Done(value)) => ended(alloc, value, state),
+        Ok(Flow::Wait(rest)) => Ok(inside(alloc, rest, Frame::Bound(v))?),
         Err(stop) => Err(stop),
     }
 }
@@ -91,7 +110,7 @@ pub fn called_back(alloc: Global, flow: Result<Flow, Stop>) -> Result<Turn, Stop
 {
     match flow {
         Ok(Flow::Done(v)) => Ok(Turn::More(Next::Give(v))),
-        Ok(Flow::Wait(rest)) => Ok(Turn::End(inside(rest, Frame::Body)?)),
+        Ok(Flow::Wait(rest)) => Ok(Turn::End(inside(alloc, rest, Frame::Body)?)),
         Err(stop) => Err(stop),
     }
 }
@@ -104,7 +123,7 @@ pub fn body_back(alloc: Global, flow: Result<Flow, Stop>, state: &mut State) -> 
 {
     match flow {
         Ok(Flow::Done(v)) => ended(alloc, v, state),
-        Ok(Flow::Wait(rest)) => Ok(inside(rest, Frame::Body)?),
+        Ok(Flow::Wait(rest)) => Ok(inside(alloc, rest, Frame::Body)?),
         Err(stop) => Err(stop),
     }
 }
@@ -117,7 +136,7 @@ pub fn chunk_back(alloc: Global, flow: Result<Flow, Stop>, state: &mut State) ->
 {
     match flow {
         Ok(Flow::Done(_)) => ended(alloc, Value::Unit, state),
-        Ok(Flow::Wait(rest)) => Ok(inside(rest, Frame::Chunk)?),
+        Ok(Flow::Wait(rest)) => Ok(inside(alloc, rest, Frame::Chunk)?),
         Err(stop) => Err(stop),
     }
 }
@@ -130,7 +149,7 @@ pub fn visited_back(alloc: Global, flow: Result<Flow, Stop>) -> Result<Turn, Sto
 {
     match flow {
         Ok(Flow::Done(_)) => Ok(Turn::More(Next::Give(Value::Unit))),
-        Ok(Flow::Wait(rest)) => Ok(Turn::End(inside(rest, Frame::Chunk)?)),
+        Ok(Flow::Wait(rest)) => Ok(Turn::End(inside(alloc, rest, Frame::Chunk)?)),
         Err(stop) => Err(stop),
     }
 }
@@ -163,7 +182,7 @@ pub fn stepped_back(
 {
     match flow {
         Ok(Flow::Done(v)) => item_back(alloc, here, e, left, v),
-        Ok(Flow::Wait(rest)) => Ok(Turn::End(inside(rest, Frame::Items(left))?)),
+        Ok(Flow::Wait(rest)) => Ok(Turn::End(inside(alloc, rest, Frame::Items(left))?)),
         Err(stop) => Err(stop),
     }
 }
@@ -249,7 +268,7 @@ pub fn part_back<S: Services>(
 {
     match flow {
         Ok(Flow::Done(v)) => value_back(alloc, here, e, frame, v, state, svc),
-        Ok(Flow::Wait(rest)) => Ok(Turn::End(inside(rest, frame)?)),
+        Ok(Flow::Wait(rest)) => Ok(Turn::End(inside(alloc, rest, frame)?)),
         Err(stop) => stop_back(e, &frame, stop),
     }
 }

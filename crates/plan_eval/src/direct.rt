@@ -1,6 +1,7 @@
 //! Evaluation by recursion on the native stack, down to a depth; what is left there waits.
-ghost use Rattle.std.specs.Prelude.{◌≡◌, length, option_copied, IfOk, IsSome, Some, slice_get};
-ghost use Rattle.plan_base.specs.declared.tree.Expr.{Expr-F, out-Expr};
+ghost use Rattle.std.specs.Prelude.{◌≡◌, [], length, IsSome, Some, slice_get};
+ghost use Rattle.plan_base.specs.declared.tree.Expr.{Expr, Expr-F, out-Expr};
+ghost use Rattle.plan_base.specs.declared.tree.Ty.{Ty};
 ghost use Rattle.plan_eval.specs.declared.frame.Frame.TheVariants as frame;
 ghost use Rattle.plan_base.specs.declared.tree.Value as value;
 ghost use Rattle.plan_meaning.specs.Run.{weighed};
@@ -11,20 +12,21 @@ ghost use Rattle.plan_meaning.specs.Meaning.{entered, meaning, visited};
 ghost use Rattle.plan_meaning.specs.Safe.{IsSafe};
 ghost use Rattle.plan_eval.specs.declared.next.Next.TheVariants as next;
 ghost use Rattle.plan_eval.specs.Nexts.{begins, call_of, next_step};
-ghost use Rattle.plan_eval.specs.Turns.{IsPlaced};
-ghost use Rattle.plan_eval.specs.Direct.{spot, IsHere, Flows, Bodies, Enters, Advances, Grows, Goes, Lasts, RowLasts, Rows, Spends, Turns};
+ghost use Rattle.plan_eval.specs.Direct.{spot, IsHere, Flows, Bodies, Enters, Advances, Grows, Goes, Lasts, RowLasts, Rows, Spends, Turns, named_spot, row_gave};
 
 use crate::back::{
-    args_back, body_back, called_back, chunk_back, ended, give, is_bound, last_back, part_back,
-    stepped_back, visited_back,
+    args_back, body_back, bound_back, called_back, chunk_back, ended, give, is_bound, last_back,
+    part_back, stepped_back, visited_back,
 };
 use crate::begin::{begin, leaf_number, number, packed, variable};
 use crate::call::called;
 use crate::frame::{Codes, Frame};
-use crate::here::Here;
+use crate::here::{Binding, Here};
 use crate::next::Next;
 use crate::operand::{numbers, operands_back};
 use crate::packed::pay_packed;
+use crate::parts::part_at;
+use crate::place::open_code;
 use crate::rest::{Flow, inside, pause, pause_in, stopped_in};
 use crate::row::Row;
 use crate::turn::Turn;
@@ -77,9 +79,13 @@ pub fn evaluate<S: Services>(
             let (a, b) = (a.get(), b.get());
             operation(alloc, codes, here, e, *op, a, b, below, state, svc)
         }
-        Expr::Tuple(es) => tuple(alloc, codes, here, e, es, below, state, svc),
-        Expr::Call(f, es) => call(alloc, codes, here, e, f, es, below, state, svc),
-        Expr::ChunkOf(f, es) => packing(alloc, codes, here, e, f, es, below, state, svc),
+        Expr::Tuple(es) => row(alloc, codes, here, e, es, below, state, svc),
+        Expr::Call(_, es) => row(alloc, codes, here, e, es, below, state, svc),
+        Expr::ChunkOf(_, es) => row(alloc, codes, here, e, es, below, state, svc),
+        Expr::Let(x, _, a, b) => {
+            let (a, b) = (a.get(), b.get());
+            binding(alloc, codes, here, e, x, a, b, below, state, svc)
+        }
         Expr::Eval(a) => eval(alloc, codes, here, e, a.get(), below, state, svc),
         _ => general(alloc, codes, here, e, below, state, svc),
     }
@@ -146,7 +152,7 @@ fn choice<S: Services>(
             Some(false) => last_part(alloc, codes, here, e, 2, b, depth, state, svc),
             None => Err(Stop::Wrong),
         },
-        Ok(Flow::Wait(rest)) => Ok(inside(rest, Frame::Part(0, Items::new(alloc)))?),
+        Ok(Flow::Wait(rest)) => Ok(inside(alloc, rest, Frame::Part(0, Items::new(alloc)))?),
         Err(stop) => Err(stop),
     }
 }
@@ -216,18 +222,8 @@ fn operation<S: Services>(
             let flow = evaluate(alloc, codes, here, b, depth, state, svc);
             operands_back(alloc, op, x, flow, state)
         }
-        Ok(Flow::Wait(rest)) => Ok(inside(rest, Frame::Part(0, Items::new(alloc)))?),
+        Ok(Flow::Wait(rest)) => Ok(inside(alloc, rest, Frame::Part(0, Items::new(alloc)))?),
         Err(stop) => Err(stop),
-    }
-}
-
-/// The part with that number, from 0.
-fn part_at(es: &[Expr], n: usize) -> Option<&Expr>
-    ensures { option_copied result ≡ slice_get es.now n }
-{
-    match es.get(n) {
-        Some(e) => Some(e),
-        None => None,
     }
 }
 
@@ -261,16 +257,20 @@ fn all_parts<S: Services>(
     while let Some(x) = part_at(es, held.len()) {
         match evaluate(alloc, codes, here, x, depth, state, svc) {
             Ok(Flow::Done(v)) => held.add(v)?,
-            Ok(Flow::Wait(rest)) => return Ok(stopped_in(rest, Frame::Part(held.len(), held))?),
+            Ok(Flow::Wait(rest)) => return Ok(stopped_in(
+                alloc,
+                rest,
+                Frame::Part(held.len(), held),
+            )?),
             Err(stop) => return Err(stop),
         }
     }
     Ok(Row::All(held))
 }
 
-/// Evaluates the parts of a tuple.
+/// Evaluates a tuple, a call or a chunk.
 #[cycle(evaluate)]
-fn tuple<S: Services>(
+fn row<S: Services>(
     alloc: Global,
     codes: &mut Codes,
     here: &Here<'_>,
@@ -280,7 +280,8 @@ fn tuple<S: Services>(
     state: &mut State,
     svc: &mut S,
 ) -> Result<Flow, Stop>
-    requires form { out-Expr e.now ≡ Expr-F.Tuple es.now }
+    requires form { IsRow (out-Expr e.now) }
+    requires parts { parts_of (out-Expr e.now) ≡ es.now }
     requires open { IsSome (S.stands svc.old).begun }
     requires here { IsHere codes.old here.now }
     requires safe { IsSafe (begins here.now.code.now here.now.fun (spot here.now e.now) (joined state.old (S.stands svc.old))).asks }
@@ -293,73 +294,41 @@ fn tuple<S: Services>(
     ensures begun { (S.stands svc.new).begun ≡ (S.stands svc.old).begun }
 {
     match all_parts(alloc, codes, here, e, es.as_slice(), depth, state, svc) {
-        Ok(Row::All(parts)) => ended(alloc, Value::Tuple(parts), state),
+        Ok(Row::All(values)) => made(alloc, codes, here, e, values, depth, state, svc),
         Ok(Row::Wait(rest)) => Ok(Flow::Wait(rest)),
         Err(stop) => Err(stop),
     }
 }
 
-/// Evaluates the arguments of a chunk.
+/// What a tuple, a call or a chunk makes of the values of its parts.
 #[cycle(evaluate)]
-fn packing<S: Services>(
+#[tactic(auto, using(plan_base::specs::Trees::trees))]
+fn made<S: Services>(
     alloc: Global,
     codes: &mut Codes,
     here: &Here<'_>,
     e: &Expr,
-    f: &Name,
-    es: &Exprs,
+    values: Values,
     depth: u64,
     state: &mut State,
     svc: &mut S,
 ) -> Result<Flow, Stop>
-    requires form { out-Expr e.now ≡ Expr-F.ChunkOf f.now es.now }
     requires open { IsSome (S.stands svc.old).begun }
     requires here { IsHere codes.old here.now }
-    requires safe { IsSafe (begins here.now.code.now here.now.fun (spot here.now e.now) (joined state.old (S.stands svc.old))).asks }
+    requires safe { IsSafe (row_gave here.now.code.now here.now.fun (spot here.now e.now) values (joined state.old (S.stands svc.old))).asks }
     ensures flows { Flows codes.new here.now.code.now here.now.fun (spot here.now e.now)
-        (begins here.now.code.now here.now.fun (spot here.now e.now) (joined state.old (S.stands svc.old)))
+        (row_gave here.now.code.now here.now.fun (spot here.now e.now) values (joined state.old (S.stands svc.old)))
         result (joined state.new (S.stands svc.new)) }
     ensures lasts { Lasts 3 state.old.work result state.new.work }
     ensures grown { Grows codes.old codes.new }
     ensures offer { (S.stands svc.new).offer ≡ (S.stands svc.old).offer }
     ensures begun { (S.stands svc.new).begun ≡ (S.stands svc.old).begun }
 {
-    match all_parts(alloc, codes, here, e, es.as_slice(), depth, state, svc) {
-        Ok(Row::All(args)) => packed(alloc, here.code, f, args, state),
-        Ok(Row::Wait(rest)) => Ok(Flow::Wait(rest)),
-        Err(stop) => Err(stop),
-    }
-}
-
-/// Evaluates the arguments of a call, and calls.
-#[cycle(evaluate)]
-fn call<S: Services>(
-    alloc: Global,
-    codes: &mut Codes,
-    here: &Here<'_>,
-    e: &Expr,
-    f: &Name,
-    es: &Exprs,
-    depth: u64,
-    state: &mut State,
-    svc: &mut S,
-) -> Result<Flow, Stop>
-    requires form { out-Expr e.now ≡ Expr-F.Call f.now es.now }
-    requires open { IsSome (S.stands svc.old).begun }
-    requires here { IsHere codes.old here.now }
-    requires safe { IsSafe (begins here.now.code.now here.now.fun (spot here.now e.now) (joined state.old (S.stands svc.old))).asks }
-    ensures flows { Flows codes.new here.now.code.now here.now.fun (spot here.now e.now)
-        (begins here.now.code.now here.now.fun (spot here.now e.now) (joined state.old (S.stands svc.old)))
-        result (joined state.new (S.stands svc.new)) }
-    ensures lasts { Lasts 3 state.old.work result state.new.work }
-    ensures grown { Grows codes.old codes.new }
-    ensures offer { (S.stands svc.new).offer ≡ (S.stands svc.old).offer }
-    ensures begun { (S.stands svc.new).begun ≡ (S.stands svc.old).begun }
-{
-    match all_parts(alloc, codes, here, e, es.as_slice(), depth, state, svc) {
-        Ok(Row::All(args)) => invoke(alloc, codes, here, e, f, args, depth, state, svc),
-        Ok(Row::Wait(rest)) => Ok(Flow::Wait(rest)),
-        Err(stop) => Err(stop),
+    match e {
+        Expr::Call(f, _) => invoke(alloc, codes, here, e, f, values, depth, state, svc),
+        Expr::ChunkOf(f, _) => packed(alloc, here.code, f, values, state),
+        Expr::Tuple(_) => ended(alloc, Value::Tuple(values), state),
+        _ => Err(Stop::Wrong),
     }
 }
 
@@ -472,7 +441,7 @@ fn eval_packing<S: Services>(
     }
     match all_parts(alloc, codes, here, a, es.as_slice(), depth, state, svc) {
         Ok(Row::All(args)) => eval_packed(alloc, codes, here, e, f, args, depth, state, svc),
-        Ok(Row::Wait(rest)) => Ok(inside(rest, Frame::Part(0, Items::new(alloc)))?),
+        Ok(Row::Wait(rest)) => Ok(inside(alloc, rest, Frame::Part(0, Items::new(alloc)))?),
         Err(stop) => Err(stop),
     }
 }
@@ -547,6 +516,75 @@ fn visit_here<S: Services>(
         svc,
     );
     chunk_back(alloc, flow, state)
+}
+
+/// Evaluates a value, and what sees it under a name.
+#[cycle(evaluate)]
+fn binding<S: Services>(
+    alloc: Global,
+    codes: &mut Codes,
+    here: &Here<'_>,
+    e: &Expr,
+    x: &Name,
+    a: &Expr,
+    b: &Expr,
+    depth: u64,
+    state: &mut State,
+    svc: &mut S,
+) -> Result<Flow, Stop>
+    requires form { (t : Ty) × (out-Expr e.now ≡ Expr-F.Let x.now t a.now b.now) }
+    requires open { IsSome (S.stands svc.old).begun }
+    requires here { IsHere codes.old here.now }
+    requires safe { IsSafe (begins here.now.code.now here.now.fun (spot here.now e.now) (joined state.old (S.stands svc.old))).asks }
+    ensures flows { Flows codes.new here.now.code.now here.now.fun (spot here.now e.now)
+        (begins here.now.code.now here.now.fun (spot here.now e.now) (joined state.old (S.stands svc.old)))
+        result (joined state.new (S.stands svc.new)) }
+    ensures lasts { Lasts 3 state.old.work result state.new.work }
+    ensures grown { Grows codes.old codes.new }
+    ensures offer { (S.stands svc.new).offer ≡ (S.stands svc.old).offer }
+    ensures begun { (S.stands svc.new).begun ≡ (S.stands svc.old).begun }
+{
+    match evaluate(alloc, codes, here, a, depth, state, svc) {
+        Ok(Flow::Done(v)) => {
+            let flow = under_name(alloc, codes, here, x, &v, b, depth, state, svc);
+            bound_back(alloc, v, flow, state)
+        }
+        Ok(Flow::Wait(rest)) => Ok(inside(alloc, rest, Frame::Part(0, Items::new(alloc)))?),
+        Err(stop) => Err(stop),
+    }
+}
+
+/// Evaluates an expression that sees one more name.
+#[cycle(evaluate)]
+fn under_name<S: Services>(
+    alloc: Global,
+    codes: &mut Codes,
+    here: &Here<'_>,
+    x: &Name,
+    v: &Value,
+    b: &Expr,
+    depth: u64,
+    state: &mut State,
+    svc: &mut S,
+) -> Result<Flow, Stop>
+    requires open { IsSome (S.stands svc.old).begun }
+    requires here { IsHere codes.old here.now }
+    requires safe { IsSafe (meaning here.now.code.now here.now.fun (named_spot here.now x.now v.now b.now).env b.now (joined state.old (S.stands svc.old))).asks }
+    ensures flows { Flows codes.new here.now.code.now here.now.fun (named_spot here.now x.now v.now b.now)
+        (meaning here.now.code.now here.now.fun (named_spot here.now x.now v.now b.now).env b.now (joined state.old (S.stands svc.old)))
+        result (joined state.new (S.stands svc.new)) }
+    ensures spends { Spends depth state.old.work result state.new.work }
+    ensures grown { Grows codes.old codes.new }
+    ensures offer { (S.stands svc.new).offer ≡ (S.stands svc.old).offer }
+    ensures begun { (S.stands svc.new).begun ≡ (S.stands svc.old).begun }
+{
+    let mut bindings = Items::from_slice(alloc, here.bindings)?;
+    bindings.add(Binding { name: x, value: v })?;
+    let inner = Here {
+        bindings: bindings.as_slice(),
+        ..*here
+    };
+    evaluate(alloc, codes, &inner, b, depth, state, svc)
 }
 
 /// Goes on with an open expression.
@@ -737,6 +775,7 @@ fn body_flow<S: Services>(
     ensures begun { (S.stands svc.new).begun ≡ (S.stands svc.old).begun }
 {
     let none = Items::new(alloc);
+    let bare = Items::new(alloc);
     let here = Here {
         code,
         number,
@@ -744,19 +783,9 @@ fn body_flow<S: Services>(
         function,
         args: args.as_slice(),
         frames: none.as_slice(),
+        bindings: bare.as_slice(),
     };
     evaluate(alloc, codes, &here, &function.body, depth, state, svc)
-}
-
-/// The number of a program that comes behind those that are open.
-#[tactic(auto, using(crate::proofs::Diving::placed_one, crate::proofs::Diving::grows_none, crate::proofs::Diving::grows_one))]
-fn open_code(codes: &mut Codes, code: &Shared<Program>) -> Result<usize, NoMemory>
-    ensures placed { IfOk result (λ n. IsPlaced codes.old code.now n codes.new) }
-    ensures grown { Grows codes.old codes.new }
-{
-    let number = codes.len();
-    codes.add(code.share()?)?;
-    Ok(number)
 }
 
 /// Evaluates a chunk.

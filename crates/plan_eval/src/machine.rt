@@ -18,6 +18,7 @@ use crate::rest::{Flow, stacked};
 use crate::task::{Task, perform};
 use crate::walk::expr_from;
 use plan_base::{Exn, Value};
+use plan_items::Items;
 use plan_meaning::Stop;
 use service_api::Services;
 use std::alloc::Global;
@@ -85,6 +86,7 @@ fn run_top<S: Services>(
     let Some(expr) = expr_from(&function.body, top.frames.as_slice()) else {
         return Err(Stop::Wrong);
     };
+    let none = Items::new(alloc);
     let here = Here {
         code: &code,
         number: top.code,
@@ -92,6 +94,7 @@ fn run_top<S: Services>(
         function,
         args: top.args.as_slice(),
         frames: top.frames.as_slice(),
+        bindings: none.as_slice(),
     };
     perform(alloc, codes, &here, expr, task, state, svc)
 }

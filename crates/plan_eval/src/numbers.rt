@@ -30,14 +30,15 @@ fn number_of(op: Op, x: i64, y: i64) -> Option<i64>
 }
 
 /// What a test of the order of two numbers gives.
+#[tactic(auto, using(crate::proofs::Counted::lt_is, crate::proofs::Counted::le_is, crate::proofs::Counted::gt_is, crate::proofs::Counted::ge_is))]
 fn order_of(op: Op, x: i64, y: i64) -> Option<bool>
     ensures { IfSome result (λ b. rules.binary op (value.Int x) (value.Int y) ≡ rules.gives (value.Bool b)) }
 {
     match op {
         Op::Lt => Some(x < y),
-        Op::Le => Some(x <= y),
-        Op::Gt => Some(x > y),
-        Op::Ge => Some(x >= y),
+        Op::Le => Some(!(y < x)),
+        Op::Gt => Some(y < x),
+        Op::Ge => Some(!(x < y)),
         _ => None,
     }
 }
@@ -57,7 +58,7 @@ fn both_numbers(x: &Value, y: &Value) -> Option<(i64, i64)>
 }
 
 /// The number that an operator gives of two values, where both are numbers.
-#[tactic(auto, using(crate::proofs::Numbers::number_is))]
+#[tactic(auto, using(crate::proofs::Counted::number_is))]
 pub fn number_given(op: Op, x: &Value, y: &Value) -> Option<i64>
     ensures { IfSome result (λ n. rules.binary op x.now y.now ≡ rules.gives (value.Int n)) }
 {
@@ -68,7 +69,7 @@ pub fn number_given(op: Op, x: &Value, y: &Value) -> Option<i64>
 }
 
 /// What a test of the order of two values gives, where both are numbers.
-#[tactic(auto, using(crate::proofs::Numbers::order_is))]
+#[tactic(auto, using(crate::proofs::Counted::order_is))]
 pub fn order_given(op: Op, x: &Value, y: &Value) -> Option<bool>
     ensures { IfSome result (λ b. rules.binary op x.now y.now ≡ rules.gives (value.Bool b)) }
 {

@@ -155,7 +155,7 @@ pub fn operands_back(
 {
     match flow {
         Ok(Flow::Done(y)) => operate(alloc, op, x, y, state),
-        Ok(Flow::Wait(rest)) => Ok(inside(rest, behind_one(alloc, 1, x)?)?),
+        Ok(Flow::Wait(rest)) => Ok(inside(alloc, rest, behind_one(alloc, 1, x)?)?),
         Err(stop) => Err(stop),
     }
 }

@@ -1,5 +1,5 @@
 //! Chunks of the program that evaluates them, which are not made.
-ghost use Rattle.std.specs.Prelude.{◌≡◌, ◌≤◌, ℕ, min};
+ghost use Rattle.std.specs.Prelude.{◌≡◌, ◌≤◌, ℕ, [], min};
 ghost use Rattle.std.specs.List.{sum_by};
 ghost use Rattle.plan_base.specs.Sizes.{largest_by, weight, nesting};
 ghost use Rattle.plan_base.specs.declared.tree.Expr.{Expr, Expr-F, out-Expr};

@@ -1,5 +1,7 @@
 //! Functions and their arguments.
-ghost use Rattle.std.specs.Prelude.{◌≡◌, None, IsTrue, IsFalse, option_copied};
+ghost use Rattle.std.specs.Prelude.{◌≡◌, None, IfOk, IsTrue, IsFalse, option_copied};
+ghost use Rattle.plan_eval.specs.Direct.{Grows};
+ghost use Rattle.plan_eval.specs.Turns.{IsPlaced};
 ghost use Rattle.plan_eval.specs.Turns.{argument_of};
 ghost use Rattle.plan_meaning.specs.declared.stop.Stop.TheVariants.{Wrong};
 ghost use Rattle.plan_meaning.specs.State.{VisitState};
@@ -7,8 +9,9 @@ ghost use Rattle.plan_meaning.specs.Run.{stopped};
 ghost use Rattle.plan_meaning.specs.Meaning.{entered, meaning};
 ghost use Rattle.plan_eval.specs.Nexts.{Enters};
 
+use crate::frame::Codes;
 use crate::walk::same_name;
-use plan_base::{Name, Param, Program, Value, Values};
+use plan_base::{Name, NoMemory, Param, Program, Value, Values};
 use plan_items::Shared;
 
 /// What a name is bound to among parameters with their arguments: the last of that name.
@@ -42,4 +45,15 @@ pub fn enters(code: &Shared<Program>, fun: usize, args: &Values) -> bool
         Some(function) => function.params.len() == args.len(),
         None => false,
     }
+}
+
+/// The number of a program that comes behind those that are open.
+#[tactic(auto, using(crate::proofs::Diving::placed_one, crate::proofs::Diving::grows_none, crate::proofs::Diving::grows_one))]
+pub fn open_code(codes: &mut Codes, code: &Shared<Program>) -> Result<usize, NoMemory>
+    ensures placed { IfOk result (λ n. IsPlaced codes.old code.now n codes.new) }
+    ensures grown { Grows codes.old codes.new }
+{
+    let number = codes.len();
+    codes.add(code.share()?)?;
+    Ok(number)
 }

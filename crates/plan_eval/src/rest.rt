@@ -39,16 +39,35 @@ pub fn pause(alloc: Global) -> Flow
     })
 }
 
+/// A list of one frame, which takes no more than it: most bodies wait in one alone.
+fn alone(alloc: Global, frame: Frame) -> Result<Frames, NoMemory>
+    ensures { IfOk result (λ all. all ≡ frame ∷ []) }
+{
+    let mut all = Items::from_vec(Vec::with_capacity(alloc, 1)?);
+    all.add(frame)?;
+    Ok(all)
+}
+
+/// One more frame.
+fn framed(alloc: Global, frames: Frames, frame: Frame) -> Result<Frames, NoMemory>
+    ensures { IfOk result (λ all. all ≡ frames ++ frame ∷ []) }
+{
+    if frames.is_empty() {
+        return alone(alloc, frame);
+    }
+    let mut all = frames;
+    all.add(frame)?;
+    Ok(all)
+}
+
 /// An expression that stops before its one open part begins.
 #[cold]
 #[inline(never)]
 pub fn pause_in(alloc: Global, frame: Frame) -> Result<Flow, NoMemory>
     ensures { IfOk result (λ f. f ≡ flow.Wait (record { frames = frame ∷ []; activations = [] })) }
 {
-    let mut frames = Items::new(alloc);
-    frames.add(frame)?;
     Ok(Flow::Wait(Rest {
-        frames,
+        frames: alone(alloc, frame)?,
         activations: Items::new(alloc),
     }))
 }
@@ -56,16 +75,15 @@ pub fn pause_in(alloc: Global, frame: Frame) -> Result<Flow, NoMemory>
 /// The same inside one more open expression.
 #[cold]
 #[inline(never)]
-pub fn inside(rest: Rest, frame: Frame) -> Result<Flow, NoMemory>
+pub fn inside(alloc: Global, rest: Rest, frame: Frame) -> Result<Flow, NoMemory>
     ensures { IfOk result (λ f. f ≡ flow.Wait (record rest { frames = rest.frames ++ frame ∷ [] })) }
 {
     let Rest {
-        mut frames,
+        frames,
         activations,
     } = rest;
-    frames.add(frame)?;
     Ok(Flow::Wait(Rest {
-        frames,
+        frames: framed(alloc, frames, frame)?,
         activations,
     }))
 }
@@ -73,16 +91,15 @@ pub fn inside(rest: Rest, frame: Frame) -> Result<Flow, NoMemory>
 /// The same of the parts of that expression.
 #[cold]
 #[inline(never)]
-pub fn stopped_in(rest: Rest, frame: Frame) -> Result<Row, NoMemory>
+pub fn stopped_in(alloc: Global, rest: Rest, frame: Frame) -> Result<Row, NoMemory>
     ensures { IfOk result (λ r. r ≡ row.Wait (record rest { frames = rest.frames ++ frame ∷ [] })) }
 {
     let Rest {
-        mut frames,
+        frames,
         activations,
     } = rest;
-    frames.add(frame)?;
     Ok(Row::Wait(Rest {
-        frames,
+        frames: framed(alloc, frames, frame)?,
         activations,
     }))
 }

@@ -1,4 +1,4 @@
-use Rattle.std.proofs.Common.{◌≡◌, rules, Ok, Err, true, false, ◌∷◌, [], length, slice_get, Some, None, IsSome, refl, sym, ◌∙◌, arith, ◌<◌}
+use Rattle.std.proofs.Common.{◌≡◌, ap, List, ◌++◌, rules, Ok, Err, true, false, ◌∷◌, [], length, slice_get, Some, None, IsSome, refl, sym, ◌∙◌, arith, ◌<◌}
 use Rattle.plan_base.specs.declared.tree.Expr.{Expr-F, out-Expr}
 use Rattle.plan_base.specs.declared.tree.Expr as expr
 use Rattle.plan_eval.specs.declared.row.Row.TheVariants as row
@@ -16,12 +16,13 @@ use Rattle.plan_eval.specs.Forms.{IsRow}
 use Rattle.plan_eval.specs.Stack.{parts_of, part_or_self, part_number}
 use Rattle.plan_eval.specs.Nexts.{begins, next_step, call_of}
 use Rattle.plan_eval.specs.Leads.{Leads}
-use Rattle.plan_eval.specs.Direct.{env_of, spot, row_gave, Waits}
+use Rattle.plan_eval.specs.declared.here.Binding.{Binding}
+use Rattle.plan_eval.specs.Direct.{env_of, bound_here, named_spot, spot, row_gave, Waits}
 use Rattle.plan_eval.proofs.Leading.{itself, onward}
 use Rattle.plan_eval.proofs.Beginning.{begun_here, begun_spent}
 use Rattle.plan_eval.proofs.Naming.{no_part, enters_none, enters_other}
 use Rattle.plan_eval.proofs.Taking.{resume_asks}
-use Rattle.plan_eval.proofs.Hot.{call_form, eval_part, eval_parts, eval_no_try, packing_leads, tuple_form, chunk_form, eval_form, row_no_try, row_begins, row_next, next_deep, next_safe, row_more, row_done, tuple_gave, chunk_gave, call_gave, if_form, binary_form, part_stops_so, first_leads, first_safe, if_test, if_yes, if_no, if_parts, if_no_try, if_true, if_false, if_wrong, left_part, right_part, operator_parts, operator_no_try, right_leads}
+use Rattle.plan_eval.proofs.Hot.{let_form, let_first, let_parts, let_no_try, let_body, let_leads, one_name, call_form, eval_part, eval_parts, eval_no_try, packing_leads, tuple_form, chunk_form, eval_form, row_no_try, row_begins, row_next, next_deep, next_safe, row_more, row_done, tuple_gave, chunk_gave, call_gave, if_form, binary_form, part_stops_so, first_leads, first_safe, if_test, if_yes, if_no, if_parts, if_no_try, if_true, if_false, if_wrong, left_part, right_part, operator_parts, operator_no_try, right_leads}
 use Rattle.plan_eval.proofs.Turning.{visited_nowhere}
 use Rattle.plan_eval.proofs.Ending.{resume_final}
 use Rattle.plan_eval.proofs.Delivering.{visited_on}
@@ -278,15 +279,16 @@ pub body_flow-evaluate-requires : goal.body_flow-evaluate-requires
 body_flow-evaluate-requires g t c =
     let args : c.as_slice.result.now ≡ c.args.args.now = c.as_slice.ensures in
     let none = c.as_slice-2.ensures ∙ c.new-none.ensures in
+    let bare = c.as_slice-3.ensures ∙ c.new-bare.ensures in
     let binds : IsSome (bound c.args.function.now.params c.as_slice.result.now) =
-    body_binds c.args.code.now c.args.fun c.args.function.now c.args.args.now c.as_slice.result.now c.as_slice-2.result.now (joined c.args.state.now (g.S.Services.stands c.args.svc.now)) c.requires.function c.requires.many args none in
-    let safe : IsSafe (meaning c.args.code.now c.args.fun (env_of c.args.function.now c.as_slice.result.now c.as_slice-2.result.now) c.args.function.now.body (joined c.args.state.now (g.S.Services.stands c.args.svc.now))).asks =
-    (body_leads c.args.code.now c.args.fun c.args.function.now c.args.args.now c.as_slice.result.now c.as_slice-2.result.now (joined c.args.state.now (g.S.Services.stands c.args.svc.now)) c.requires.function c.requires.many args none).safe c.requires.safe in
+    body_binds c.args.code.now c.args.fun c.args.function.now c.args.args.now c.as_slice.result.now c.as_slice-2.result.now c.as_slice-3.result.now (joined c.args.state.now (g.S.Services.stands c.args.svc.now)) c.requires.function c.requires.many args none bare in
+    let safe : IsSafe (meaning c.args.code.now c.args.fun (env_of c.args.function.now c.as_slice.result.now c.as_slice-2.result.now ++ bound_here c.as_slice-3.result.now) c.args.function.now.body (joined c.args.state.now (g.S.Services.stands c.args.svc.now))).asks =
+    (body_leads c.args.code.now c.args.fun c.args.function.now c.args.args.now c.as_slice.result.now c.as_slice-2.result.now c.as_slice-3.result.now (joined c.args.state.now (g.S.Services.stands c.args.svc.now)) c.requires.function c.requires.many args none bare).safe c.requires.safe in
     search rules
 
 pub body_flow-returns-clause-flows : goal.body_flow-returns-clause-flows
 body_flow-returns-clause-flows g t c =
-    bodies_from c.args.code.now c.args.fun c.args.function.now c.args.args.now c.as_slice.result.now c.as_slice-2.result.now (joined c.args.state.now (g.S.Services.stands c.args.svc.now)) c.requires.function c.requires.many c.as_slice.ensures (c.as_slice-2.ensures ∙ c.new-none.ensures)
+    bodies_from c.args.code.now c.args.fun c.args.function.now c.args.args.now c.as_slice.result.now c.as_slice-2.result.now c.as_slice-3.result.now (joined c.args.state.now (g.S.Services.stands c.args.svc.now)) c.requires.function c.requires.many c.as_slice.ensures (c.as_slice-2.ensures ∙ c.new-none.ensures) (c.as_slice-3.ensures ∙ c.new-bare.ensures)
     c.evaluate.new.codes c.args.number c.evaluate.result _ (grown_get c.args.codes.now c.evaluate.new.codes c.args.number c.args.code.now c.evaluate.ensures.grown c.requires.program) c.evaluate.ensures.flows
 
 pub visit-returns-in_default-clause-enters : goal.visit-returns-in_default-clause-enters
@@ -372,98 +374,6 @@ all_parts-returns-clause-rows g t c =
     let none : slice_get c.args.es.now (length c.loop-x.held) ≡ None = rw c.len.ensures at found in
     row_done c.args.here.now.code.now c.args.here.now.fun c.args.e.now (spot c.args.here.now c.args.e.now).env c.args.es.now c.requires.form c.requires.parts c.loop-x.held (joined c.args.state.now (g.S.Services.stands c.args.svc.now)) (joined c.loop-x.state (g.S.Services.stands c.loop-x.svc)) none c.loop-x.invariant.leads
 
-pub tuple-all_parts-requires : goal.tuple-all_parts-requires
-tuple-all_parts-requires g t c =
-    let row : IsRow (out-Expr c.args.e.now) = rw c.requires.form tt in
-    let parts : parts_of (out-Expr c.args.e.now) ≡ c.as_slice.result.now = rw (c.requires.form, c.as_slice.ensures) refl in
-    search rules
-
-pub tuple-returns-in-Ok-All-clause-flows : goal.tuple-returns-in-Ok-All-clause-flows
-tuple-returns-in-Ok-All-clause-flows g t c =
-    let is : c.all_parts.result ≡ Ok (row.All c.in-Ok-All.parts) = cc in
-    let leads = rw is at c.all_parts.ensures.rows in
-    flows_from c.all_parts.new.codes c.args.here.now.code.now c.args.here.now.fun (spot c.args.here.now c.args.e.now) _ _ c.ended.result (joined c.ended.new.state (g.S.Services.stands c.all_parts.new.svc))
-    (onward _ _ _ leads (tuple_gave c.args.here.now.code.now c.args.here.now.fun c.args.e.now (spot c.args.here.now c.args.e.now).env c.in-Ok-All.parts (joined c.all_parts.new.state (g.S.Services.stands c.all_parts.new.svc)) c.args.es.now c.requires.form))
-    (c.ended.ensures.flows c.all_parts.new.codes c.args.here.now.code.now c.args.here.now.fun (spot c.args.here.now c.args.e.now) (g.S.Services.stands c.all_parts.new.svc))
-
-pub packing-all_parts-requires : goal.packing-all_parts-requires
-packing-all_parts-requires g t c =
-    let row : IsRow (out-Expr c.args.e.now) = rw c.requires.form tt in
-    let parts : parts_of (out-Expr c.args.e.now) ≡ c.as_slice.result.now = rw (c.requires.form, c.as_slice.ensures) refl in
-    search rules
-
-pub packing-returns-in-Ok-All-clause-flows : goal.packing-returns-in-Ok-All-clause-flows
-packing-returns-in-Ok-All-clause-flows g t c =
-    let is : c.all_parts.result ≡ Ok (row.All c.in-Ok-All.args) = cc in
-    let leads = rw is at c.all_parts.ensures.rows in
-    flows_from c.all_parts.new.codes c.args.here.now.code.now c.args.here.now.fun (spot c.args.here.now c.args.e.now) _ _ c.packed.result (joined c.packed.new.state (g.S.Services.stands c.all_parts.new.svc))
-    (onward _ _ _ leads (chunk_gave c.args.here.now.code.now c.args.here.now.fun c.args.e.now (spot c.args.here.now c.args.e.now).env c.in-Ok-All.args (joined c.all_parts.new.state (g.S.Services.stands c.all_parts.new.svc)) c.args.f.now c.args.es.now c.requires.form))
-    (c.packed.ensures.flows c.all_parts.new.codes c.args.here.now.fun (spot c.args.here.now c.args.e.now) (g.S.Services.stands c.all_parts.new.svc))
-
-pub call-all_parts-requires : goal.call-all_parts-requires
-call-all_parts-requires g t c =
-    let row : IsRow (out-Expr c.args.e.now) = rw c.requires.form tt in
-    let parts : parts_of (out-Expr c.args.e.now) ≡ c.as_slice.result.now = rw (c.requires.form, c.as_slice.ensures) refl in
-    search rules
-
-pub call-invoke-requires : goal.call-invoke-requires
-call-invoke-requires g t c =
-    let is : c.all_parts.result ≡ Ok (row.All c.in-Ok-All.args) = cc in
-    let leads = rw is at c.all_parts.ensures.rows in
-    let here = here_grown _ _ _ c.all_parts.ensures.grown c.requires.here in
-    let safe : IsSafe (call_of c.args.here.now.code.now c.args.here.now.fun c.args.f.now c.in-Ok-All.args (joined c.all_parts.new.state (g.S.Services.stands c.all_parts.new.svc))).asks = (call_gave c.args.here.now.code.now c.args.here.now.fun c.args.e.now (spot c.args.here.now c.args.e.now).env c.in-Ok-All.args (joined c.all_parts.new.state (g.S.Services.stands c.all_parts.new.svc)) c.args.f.now c.args.es.now c.requires.form).safe (leads.safe c.requires.safe) in
-    search rules
-
-pub call-returns-in-Ok-All-clause-flows : goal.call-returns-in-Ok-All-clause-flows
-call-returns-in-Ok-All-clause-flows g t c =
-    let is : c.all_parts.result ≡ Ok (row.All c.in-Ok-All.args) = cc in
-    let leads = rw is at c.all_parts.ensures.rows in
-    flows_from c.invoke.new.codes c.args.here.now.code.now c.args.here.now.fun (spot c.args.here.now c.args.e.now) _ _ c.invoke.result (joined c.invoke.new.state (g.S.Services.stands c.invoke.new.svc))
-    (onward _ _ _ leads (call_gave c.args.here.now.code.now c.args.here.now.fun c.args.e.now (spot c.args.here.now c.args.e.now).env c.in-Ok-All.args (joined c.all_parts.new.state (g.S.Services.stands c.all_parts.new.svc)) c.args.f.now c.args.es.now c.requires.form))
-    c.invoke.ensures.flows
-
-pub evaluate-tuple-requires : goal.evaluate-tuple-requires
-evaluate-tuple-requires g t c =
-    let form : out-Expr c.args.e.now ≡ Expr-F.Tuple c.in-Tuple.es = rw c.in-Tuple.is (tuple_form c.in-Tuple.es) in
-    let leads = begun_here c.args.here.now.code.now c.args.here.now.fun (spot c.args.here.now c.args.e.now).env c.args.e.now (joined c.args.state.now (g.S.Services.stands c.args.svc.now)) (joined c.pays.new.self (g.S.Services.stands c.args.svc.now))
-    (c.if-not-pays.ensures.paid refl (g.S.Services.stands c.args.svc.now)) in
-    let safe : IsSafe (begins c.args.here.now.code.now c.args.here.now.fun (spot c.args.here.now c.args.e.now) (joined c.pays.new.self (g.S.Services.stands c.args.svc.now))).asks = leads.safe c.requires.safe in
-    search rules
-
-pub evaluate-returns-in-Tuple-clause-flows : goal.evaluate-returns-in-Tuple-clause-flows
-evaluate-returns-in-Tuple-clause-flows g t c =
-    let leads = begun_here c.args.here.now.code.now c.args.here.now.fun (spot c.args.here.now c.args.e.now).env c.args.e.now (joined c.args.state.now (g.S.Services.stands c.args.svc.now)) (joined c.pays.new.self (g.S.Services.stands c.args.svc.now))
-    (c.if-not-pays.ensures.paid refl (g.S.Services.stands c.args.svc.now)) in
-    flows_from c.tuple.new.codes c.args.here.now.code.now c.args.here.now.fun (spot c.args.here.now c.args.e.now) _ _ c.tuple.result (joined c.tuple.new.state (g.S.Services.stands c.tuple.new.svc)) leads c.tuple.ensures.flows
-
-pub evaluate-call-requires : goal.evaluate-call-requires
-evaluate-call-requires g t c =
-    let form : out-Expr c.args.e.now ≡ Expr-F.Call c.in-Call.f c.in-Call.es = rw c.in-Call.is (call_form c.in-Call.f c.in-Call.es) in
-    let leads = begun_here c.args.here.now.code.now c.args.here.now.fun (spot c.args.here.now c.args.e.now).env c.args.e.now (joined c.args.state.now (g.S.Services.stands c.args.svc.now)) (joined c.pays.new.self (g.S.Services.stands c.args.svc.now))
-    (c.if-not-pays.ensures.paid refl (g.S.Services.stands c.args.svc.now)) in
-    let safe : IsSafe (begins c.args.here.now.code.now c.args.here.now.fun (spot c.args.here.now c.args.e.now) (joined c.pays.new.self (g.S.Services.stands c.args.svc.now))).asks = leads.safe c.requires.safe in
-    search rules
-
-pub evaluate-returns-in-Call-clause-flows : goal.evaluate-returns-in-Call-clause-flows
-evaluate-returns-in-Call-clause-flows g t c =
-    let leads = begun_here c.args.here.now.code.now c.args.here.now.fun (spot c.args.here.now c.args.e.now).env c.args.e.now (joined c.args.state.now (g.S.Services.stands c.args.svc.now)) (joined c.pays.new.self (g.S.Services.stands c.args.svc.now))
-    (c.if-not-pays.ensures.paid refl (g.S.Services.stands c.args.svc.now)) in
-    flows_from c.call.new.codes c.args.here.now.code.now c.args.here.now.fun (spot c.args.here.now c.args.e.now) _ _ c.call.result (joined c.call.new.state (g.S.Services.stands c.call.new.svc)) leads c.call.ensures.flows
-
-pub evaluate-packing-requires : goal.evaluate-packing-requires
-evaluate-packing-requires g t c =
-    let form : out-Expr c.args.e.now ≡ Expr-F.ChunkOf c.in-ChunkOf.f c.in-ChunkOf.es = rw c.in-ChunkOf.is (chunk_form c.in-ChunkOf.f c.in-ChunkOf.es) in
-    let leads = begun_here c.args.here.now.code.now c.args.here.now.fun (spot c.args.here.now c.args.e.now).env c.args.e.now (joined c.args.state.now (g.S.Services.stands c.args.svc.now)) (joined c.pays.new.self (g.S.Services.stands c.args.svc.now))
-    (c.if-not-pays.ensures.paid refl (g.S.Services.stands c.args.svc.now)) in
-    let safe : IsSafe (begins c.args.here.now.code.now c.args.here.now.fun (spot c.args.here.now c.args.e.now) (joined c.pays.new.self (g.S.Services.stands c.args.svc.now))).asks = leads.safe c.requires.safe in
-    search rules
-
-pub evaluate-returns-in-ChunkOf-clause-flows : goal.evaluate-returns-in-ChunkOf-clause-flows
-evaluate-returns-in-ChunkOf-clause-flows g t c =
-    let leads = begun_here c.args.here.now.code.now c.args.here.now.fun (spot c.args.here.now c.args.e.now).env c.args.e.now (joined c.args.state.now (g.S.Services.stands c.args.svc.now)) (joined c.pays.new.self (g.S.Services.stands c.args.svc.now))
-    (c.if-not-pays.ensures.paid refl (g.S.Services.stands c.args.svc.now)) in
-    flows_from c.packing.new.codes c.args.here.now.code.now c.args.here.now.fun (spot c.args.here.now c.args.e.now) _ _ c.packing.result (joined c.packing.new.state (g.S.Services.stands c.packing.new.svc)) leads c.packing.ensures.flows
-
 pub evaluate-eval-requires : goal.evaluate-eval-requires
 evaluate-eval-requires g t c =
     let form : out-Expr c.args.e.now ≡ Expr-F.Eval c.get-in-Eval.result.now = rw (c.in-Eval.is, c.get-in-Eval.ensures) (eval_form c.in-Eval.a) in
@@ -477,6 +387,159 @@ evaluate-returns-in-Eval-clause-flows g t c =
     let leads = begun_here c.args.here.now.code.now c.args.here.now.fun (spot c.args.here.now c.args.e.now).env c.args.e.now (joined c.args.state.now (g.S.Services.stands c.args.svc.now)) (joined c.pays.new.self (g.S.Services.stands c.args.svc.now))
     (c.if-not-pays.ensures.paid refl (g.S.Services.stands c.args.svc.now)) in
     flows_from c.eval.new.codes c.args.here.now.code.now c.args.here.now.fun (spot c.args.here.now c.args.e.now) _ _ c.eval.result (joined c.eval.new.state (g.S.Services.stands c.eval.new.svc)) leads c.eval.ensures.flows
+
+pub row-all_parts-requires : goal.row-all_parts-requires
+row-all_parts-requires g t c =
+    let parts : parts_of (out-Expr c.args.e.now) ≡ c.as_slice.result.now = rw c.as_slice.ensures c.requires.parts in
+    search rules
+
+pub row-made-requires : goal.row-made-requires
+row-made-requires g t c =
+    let is : c.all_parts.result ≡ Ok (row.All c.in-Ok-All.values) = cc in
+    let leads = rw is at c.all_parts.ensures.rows in
+    let here = here_grown _ _ _ c.all_parts.ensures.grown c.requires.here in
+    let safe : IsSafe (row_gave c.args.here.now.code.now c.args.here.now.fun (spot c.args.here.now c.args.e.now) c.in-Ok-All.values (joined c.all_parts.new.state (g.S.Services.stands c.all_parts.new.svc))).asks = leads.safe c.requires.safe in
+    search rules
+
+pub row-returns-in-Ok-All-clause-flows : goal.row-returns-in-Ok-All-clause-flows
+row-returns-in-Ok-All-clause-flows g t c =
+    let is : c.all_parts.result ≡ Ok (row.All c.in-Ok-All.values) = cc in
+    flows_from c.made.new.codes c.args.here.now.code.now c.args.here.now.fun (spot c.args.here.now c.args.e.now) _ _ c.made.result (joined c.made.new.state (g.S.Services.stands c.made.new.svc)) (rw is at c.all_parts.ensures.rows) c.made.ensures.flows
+
+pub made-invoke-requires : goal.made-invoke-requires
+made-invoke-requires g t c =
+    let form : out-Expr c.args.e.now ≡ Expr-F.Call c.in-Call.f c.in-Call.field-1 = rw c.in-Call.is (call_form c.in-Call.f c.in-Call.field-1) in
+    let safe : IsSafe (call_of c.args.here.now.code.now c.args.here.now.fun c.in-Call.f c.args.values (joined c.args.state.now (g.S.Services.stands c.args.svc.now))).asks = (call_gave c.args.here.now.code.now c.args.here.now.fun c.args.e.now (spot c.args.here.now c.args.e.now).env c.args.values (joined c.args.state.now (g.S.Services.stands c.args.svc.now)) c.in-Call.f c.in-Call.field-1 form).safe c.requires.safe in
+    search rules
+
+pub made-returns-in-Call-clause-flows : goal.made-returns-in-Call-clause-flows
+made-returns-in-Call-clause-flows g t c =
+    let form : out-Expr c.args.e.now ≡ Expr-F.Call c.in-Call.f c.in-Call.field-1 = rw c.in-Call.is (call_form c.in-Call.f c.in-Call.field-1) in
+    flows_from c.invoke.new.codes c.args.here.now.code.now c.args.here.now.fun (spot c.args.here.now c.args.e.now) _ _ c.invoke.result (joined c.invoke.new.state (g.S.Services.stands c.invoke.new.svc))
+    (call_gave c.args.here.now.code.now c.args.here.now.fun c.args.e.now (spot c.args.here.now c.args.e.now).env c.args.values (joined c.args.state.now (g.S.Services.stands c.args.svc.now)) c.in-Call.f c.in-Call.field-1 form) c.invoke.ensures.flows
+
+pub made-returns-in-ChunkOf-clause-flows : goal.made-returns-in-ChunkOf-clause-flows
+made-returns-in-ChunkOf-clause-flows g t c =
+    let form : out-Expr c.args.e.now ≡ Expr-F.ChunkOf c.in-ChunkOf.f c.in-ChunkOf.field-1 = rw c.in-ChunkOf.is (chunk_form c.in-ChunkOf.f c.in-ChunkOf.field-1) in
+    flows_from c.args.codes.now c.args.here.now.code.now c.args.here.now.fun (spot c.args.here.now c.args.e.now) _ _ c.packed.result (joined c.packed.new.state (g.S.Services.stands c.args.svc.now))
+    (chunk_gave c.args.here.now.code.now c.args.here.now.fun c.args.e.now (spot c.args.here.now c.args.e.now).env c.args.values (joined c.args.state.now (g.S.Services.stands c.args.svc.now)) c.in-ChunkOf.f c.in-ChunkOf.field-1 form)
+    (c.packed.ensures.flows c.args.codes.now c.args.here.now.fun (spot c.args.here.now c.args.e.now) (g.S.Services.stands c.args.svc.now))
+
+pub made-returns-in-Tuple-clause-flows : goal.made-returns-in-Tuple-clause-flows
+made-returns-in-Tuple-clause-flows g t c =
+    let form : out-Expr c.args.e.now ≡ Expr-F.Tuple c.in-Tuple.field-0 = rw c.in-Tuple.is (tuple_form c.in-Tuple.field-0) in
+    flows_from c.args.codes.now c.args.here.now.code.now c.args.here.now.fun (spot c.args.here.now c.args.e.now) _ _ c.ended.result (joined c.ended.new.state (g.S.Services.stands c.args.svc.now))
+    (tuple_gave c.args.here.now.code.now c.args.here.now.fun c.args.e.now (spot c.args.here.now c.args.e.now).env c.args.values (joined c.args.state.now (g.S.Services.stands c.args.svc.now)) c.in-Tuple.field-0 form)
+    (c.ended.ensures.flows c.args.codes.now c.args.here.now.code.now c.args.here.now.fun (spot c.args.here.now c.args.e.now) (g.S.Services.stands c.args.svc.now))
+
+pub evaluate-row-requires : goal.evaluate-row-requires
+evaluate-row-requires g t c =
+    let form : out-Expr c.args.e.now ≡ Expr-F.Tuple c.in-Tuple.es = rw c.in-Tuple.is (tuple_form c.in-Tuple.es) in
+    let is_row : IsRow (out-Expr c.args.e.now) = rw form tt in
+    let parts : parts_of (out-Expr c.args.e.now) ≡ c.in-Tuple.es = rw form refl in
+    let leads = begun_here c.args.here.now.code.now c.args.here.now.fun (spot c.args.here.now c.args.e.now).env c.args.e.now (joined c.args.state.now (g.S.Services.stands c.args.svc.now)) (joined c.pays.new.self (g.S.Services.stands c.args.svc.now))
+    (c.if-not-pays.ensures.paid refl (g.S.Services.stands c.args.svc.now)) in
+    let safe : IsSafe (begins c.args.here.now.code.now c.args.here.now.fun (spot c.args.here.now c.args.e.now) (joined c.pays.new.self (g.S.Services.stands c.args.svc.now))).asks = leads.safe c.requires.safe in
+    search rules
+
+pub evaluate-returns-in-Tuple-clause-flows : goal.evaluate-returns-in-Tuple-clause-flows
+evaluate-returns-in-Tuple-clause-flows g t c =
+    let leads = begun_here c.args.here.now.code.now c.args.here.now.fun (spot c.args.here.now c.args.e.now).env c.args.e.now (joined c.args.state.now (g.S.Services.stands c.args.svc.now)) (joined c.pays.new.self (g.S.Services.stands c.args.svc.now))
+    (c.if-not-pays.ensures.paid refl (g.S.Services.stands c.args.svc.now)) in
+    flows_from c.row.new.codes c.args.here.now.code.now c.args.here.now.fun (spot c.args.here.now c.args.e.now) _ _ c.row.result (joined c.row.new.state (g.S.Services.stands c.row.new.svc)) leads c.row.ensures.flows
+
+pub evaluate-row-requires-in-Call : goal.evaluate-row-requires-in-Call
+evaluate-row-requires-in-Call g t c =
+    let form : out-Expr c.args.e.now ≡ Expr-F.Call c.in-Call.field-0 c.in-Call.es = rw c.in-Call.is (call_form c.in-Call.field-0 c.in-Call.es) in
+    let is_row : IsRow (out-Expr c.args.e.now) = rw form tt in
+    let parts : parts_of (out-Expr c.args.e.now) ≡ c.in-Call.es = rw form refl in
+    let leads = begun_here c.args.here.now.code.now c.args.here.now.fun (spot c.args.here.now c.args.e.now).env c.args.e.now (joined c.args.state.now (g.S.Services.stands c.args.svc.now)) (joined c.pays.new.self (g.S.Services.stands c.args.svc.now))
+    (c.if-not-pays.ensures.paid refl (g.S.Services.stands c.args.svc.now)) in
+    let safe : IsSafe (begins c.args.here.now.code.now c.args.here.now.fun (spot c.args.here.now c.args.e.now) (joined c.pays.new.self (g.S.Services.stands c.args.svc.now))).asks = leads.safe c.requires.safe in
+    search rules
+
+pub evaluate-returns-in-Call-clause-flows : goal.evaluate-returns-in-Call-clause-flows
+evaluate-returns-in-Call-clause-flows g t c =
+    let leads = begun_here c.args.here.now.code.now c.args.here.now.fun (spot c.args.here.now c.args.e.now).env c.args.e.now (joined c.args.state.now (g.S.Services.stands c.args.svc.now)) (joined c.pays.new.self (g.S.Services.stands c.args.svc.now))
+    (c.if-not-pays.ensures.paid refl (g.S.Services.stands c.args.svc.now)) in
+    flows_from c.row-in-Call.new.codes c.args.here.now.code.now c.args.here.now.fun (spot c.args.here.now c.args.e.now) _ _ c.row-in-Call.result (joined c.row-in-Call.new.state (g.S.Services.stands c.row-in-Call.new.svc)) leads c.row-in-Call.ensures.flows
+
+pub evaluate-row-requires-in-ChunkOf : goal.evaluate-row-requires-in-ChunkOf
+evaluate-row-requires-in-ChunkOf g t c =
+    let form : out-Expr c.args.e.now ≡ Expr-F.ChunkOf c.in-ChunkOf.field-0 c.in-ChunkOf.es = rw c.in-ChunkOf.is (chunk_form c.in-ChunkOf.field-0 c.in-ChunkOf.es) in
+    let is_row : IsRow (out-Expr c.args.e.now) = rw form tt in
+    let parts : parts_of (out-Expr c.args.e.now) ≡ c.in-ChunkOf.es = rw form refl in
+    let leads = begun_here c.args.here.now.code.now c.args.here.now.fun (spot c.args.here.now c.args.e.now).env c.args.e.now (joined c.args.state.now (g.S.Services.stands c.args.svc.now)) (joined c.pays.new.self (g.S.Services.stands c.args.svc.now))
+    (c.if-not-pays.ensures.paid refl (g.S.Services.stands c.args.svc.now)) in
+    let safe : IsSafe (begins c.args.here.now.code.now c.args.here.now.fun (spot c.args.here.now c.args.e.now) (joined c.pays.new.self (g.S.Services.stands c.args.svc.now))).asks = leads.safe c.requires.safe in
+    search rules
+
+pub evaluate-returns-in-ChunkOf-clause-flows : goal.evaluate-returns-in-ChunkOf-clause-flows
+evaluate-returns-in-ChunkOf-clause-flows g t c =
+    let leads = begun_here c.args.here.now.code.now c.args.here.now.fun (spot c.args.here.now c.args.e.now).env c.args.e.now (joined c.args.state.now (g.S.Services.stands c.args.svc.now)) (joined c.pays.new.self (g.S.Services.stands c.args.svc.now))
+    (c.if-not-pays.ensures.paid refl (g.S.Services.stands c.args.svc.now)) in
+    flows_from c.row-in-ChunkOf.new.codes c.args.here.now.code.now c.args.here.now.fun (spot c.args.here.now c.args.e.now) _ _ c.row-in-ChunkOf.result (joined c.row-in-ChunkOf.new.state (g.S.Services.stands c.row-in-ChunkOf.new.svc)) leads c.row-in-ChunkOf.ensures.flows
+
+pub evaluate-binding-requires : goal.evaluate-binding-requires
+evaluate-binding-requires g t c =
+    let form : out-Expr c.args.e.now ≡ Expr-F.Let c.in-Let.x c.in-Let.field-1 c.get-in-Let.result.now c.get-in-Let-2.result.now =
+    rw (c.in-Let.is, c.get-in-Let.ensures, c.get-in-Let-2.ensures) (let_form c.in-Let.x c.in-Let.field-1 c.in-Let.a c.in-Let.b) in
+    let leads = begun_here c.args.here.now.code.now c.args.here.now.fun (spot c.args.here.now c.args.e.now).env c.args.e.now (joined c.args.state.now (g.S.Services.stands c.args.svc.now)) (joined c.pays.new.self (g.S.Services.stands c.args.svc.now))
+    (c.if-not-pays.ensures.paid refl (g.S.Services.stands c.args.svc.now)) in
+    let safe : IsSafe (begins c.args.here.now.code.now c.args.here.now.fun (spot c.args.here.now c.args.e.now) (joined c.pays.new.self (g.S.Services.stands c.args.svc.now))).asks = leads.safe c.requires.safe in
+    search rules
+
+pub evaluate-returns-in-Let-clause-flows : goal.evaluate-returns-in-Let-clause-flows
+evaluate-returns-in-Let-clause-flows g t c =
+    let leads = begun_here c.args.here.now.code.now c.args.here.now.fun (spot c.args.here.now c.args.e.now).env c.args.e.now (joined c.args.state.now (g.S.Services.stands c.args.svc.now)) (joined c.pays.new.self (g.S.Services.stands c.args.svc.now))
+    (c.if-not-pays.ensures.paid refl (g.S.Services.stands c.args.svc.now)) in
+    flows_from c.binding.new.codes c.args.here.now.code.now c.args.here.now.fun (spot c.args.here.now c.args.e.now) _ _ c.binding.result (joined c.binding.new.state (g.S.Services.stands c.binding.new.svc)) leads c.binding.ensures.flows
+
+-- ---- names
+
+pub binding-evaluate-requires : goal.binding-evaluate-requires
+binding-evaluate-requires g t c =
+    let safe : IsSafe (meaning c.args.here.now.code.now c.args.here.now.fun (spot c.args.here.now c.args.e.now).env c.args.a.now (joined c.args.state.now (g.S.Services.stands c.args.svc.now))).asks = first_safe c.args.here.now.code.now c.args.here.now.fun (spot c.args.here.now c.args.e.now) c.args.a.now (joined c.args.state.now (g.S.Services.stands c.args.svc.now)) (let_parts c.args.here.now.code.now c.args.here.now.fun c.args.e.now c.args.x.now c.requires.form.0 c.args.a.now c.args.b.now (spot c.args.here.now c.args.e.now).env c.requires.form.1) (let_first c.args.here.now.code.now c.args.here.now.fun c.args.e.now c.args.x.now c.requires.form.0 c.args.a.now c.args.b.now (spot c.args.here.now c.args.e.now).env c.requires.form.1) c.requires.safe in
+    search rules
+
+pub binding-under_name-flow-requires : goal.binding-under_name-flow-requires
+binding-under_name-flow-requires g t c =
+    let is : c.evaluate.result ≡ Ok (flow.Done c.in-Ok-Done.v) = cc in
+    let leads = let_leads c.args.here.now.code.now c.args.here.now.fun c.args.e.now c.args.x.now c.requires.form.0 c.args.a.now c.args.b.now (spot c.args.here.now c.args.e.now).env c.requires.form.1 (joined c.args.state.now (g.S.Services.stands c.args.svc.now)) (joined c.evaluate.new.state (g.S.Services.stands c.evaluate.new.svc)) c.in-Ok-Done.v (rw is at c.evaluate.ensures.flows) in
+    let here = here_grown _ _ _ c.evaluate.ensures.grown c.requires.here in
+    let safe : IsSafe (meaning c.args.here.now.code.now c.args.here.now.fun (named_spot c.args.here.now c.args.x.now c.in-Ok-Done.v c.args.b.now).env c.args.b.now (joined c.evaluate.new.state (g.S.Services.stands c.evaluate.new.svc))).asks = resume_asks c.args.here.now.code.now c.args.here.now.fun (spot c.args.here.now c.args.e.now) (frame.Bound c.in-Ok-Done.v) _ (leads.safe c.requires.safe) in
+    search rules
+
+pub binding-returns-in-Ok-Done-clause-flows : goal.binding-returns-in-Ok-Done-clause-flows
+binding-returns-in-Ok-Done-clause-flows g t c =
+    let is : c.evaluate.result ≡ Ok (flow.Done c.in-Ok-Done.v) = cc in
+    let leads = let_leads c.args.here.now.code.now c.args.here.now.fun c.args.e.now c.args.x.now c.requires.form.0 c.args.a.now c.args.b.now (spot c.args.here.now c.args.e.now).env c.requires.form.1 (joined c.args.state.now (g.S.Services.stands c.args.svc.now)) (joined c.evaluate.new.state (g.S.Services.stands c.evaluate.new.svc)) c.in-Ok-Done.v (rw is at c.evaluate.ensures.flows) in
+    flows_from c.under_name-flow.new.codes c.args.here.now.code.now c.args.here.now.fun (spot c.args.here.now c.args.e.now) _ _ c.bound_back.result (joined c.bound_back.new.state (g.S.Services.stands c.under_name-flow.new.svc)) leads
+    (c.bound_back.ensures.flows c.under_name-flow.new.codes c.args.here.now.code.now c.args.here.now.fun (spot c.args.here.now c.args.e.now) _ _ (g.S.Services.stands c.under_name-flow.new.svc) (let_body c.args.here.now.code.now c.args.here.now.fun c.args.e.now c.args.x.now c.requires.form.0 c.args.a.now c.args.b.now (spot c.args.here.now c.args.e.now).env c.requires.form.1 c.in-Ok-Done.v) c.under_name-flow.ensures.flows)
+
+pub binding-returns-in_ok-inside-in-Ok-Wait-clause-flows : goal.binding-returns-in_ok-inside-in-Ok-Wait-clause-flows
+binding-returns-in_ok-inside-in-Ok-Wait-clause-flows g t c =
+    let is : c.evaluate.result ≡ Ok (flow.Wait c.in-Ok-Wait.rest) = cc in
+    rw (c.in_ok-inside-in-Ok-Wait.ensures, c.new.ensures)
+    (waits_inside c.evaluate.new.codes c.args.here.now.code.now c.args.here.now.fun (spot c.args.here.now c.args.e.now) (frame.Part 0 []) _ (let_first c.args.here.now.code.now c.args.here.now.fun c.args.e.now c.args.x.now c.requires.form.0 c.args.a.now c.args.b.now (spot c.args.here.now c.args.e.now).env c.requires.form.1) c.in-Ok-Wait.rest (joined c.evaluate.new.state (g.S.Services.stands c.evaluate.new.svc)) _ _ (first_leads c.args.here.now.code.now c.args.here.now.fun (spot c.args.here.now c.args.e.now) c.args.a.now (joined c.args.state.now (g.S.Services.stands c.args.svc.now)) (let_parts c.args.here.now.code.now c.args.here.now.fun c.args.e.now c.args.x.now c.requires.form.0 c.args.a.now c.args.b.now (spot c.args.here.now c.args.e.now).env c.requires.form.1) (let_first c.args.here.now.code.now c.args.here.now.fun c.args.e.now c.args.x.now c.requires.form.0 c.args.a.now c.args.b.now (spot c.args.here.now c.args.e.now).env c.requires.form.1)) (rw is at c.evaluate.ensures.flows))
+
+pub binding-returns-in-Err-clause-flows : goal.binding-returns-in-Err-clause-flows
+binding-returns-in-Err-clause-flows g t c = λ other.
+    let is : c.evaluate.result ≡ Err c.in-Err.stop = cc in
+    let ends = (rw is at c.evaluate.ensures.flows) other in
+    (first_leads c.args.here.now.code.now c.args.here.now.fun (spot c.args.here.now c.args.e.now) c.args.a.now (joined c.args.state.now (g.S.Services.stands c.args.svc.now)) (let_parts c.args.here.now.code.now c.args.here.now.fun c.args.e.now c.args.x.now c.requires.form.0 c.args.a.now c.args.b.now (spot c.args.here.now c.args.e.now).env c.requires.form.1) (let_first c.args.here.now.code.now c.args.here.now.fun c.args.e.now c.args.x.now c.requires.form.0 c.args.a.now c.args.b.now (spot c.args.here.now c.args.e.now).env c.requires.form.1)).same ∙ part_stops_so c.args.here.now.code.now c.args.here.now.fun (spot c.args.here.now c.args.e.now) 0 [] _ c.in-Err.stop _ (let_no_try c.args.here.now.code.now c.args.here.now.fun c.args.e.now c.args.x.now c.requires.form.0 c.args.a.now c.args.b.now (spot c.args.here.now c.args.e.now).env c.requires.form.1) ends
+
+pub under_name-evaluate-requires : goal.under_name-evaluate-requires
+under_name-evaluate-requires g t c =
+    let is = one_name (env_of c.args.here.now.function.now c.args.here.now.args.now c.args.here.now.frames.now) c.args.here.now.bindings.now _ c.as_slice.result.now (c.as_slice.ensures ∙ c.in_ok-add.ensures.ok ∙ ap (λ (bs : List Binding). bs ++ _ ∷ []) c.in_ok-bindings.ensures) in
+    let here = c.requires.here in
+    let safe : IsSafe (meaning c.args.here.now.code.now c.args.here.now.fun (env_of c.args.here.now.function.now c.args.here.now.args.now c.args.here.now.frames.now ++ bound_here c.as_slice.result.now) c.args.b.now (joined c.args.state.now (g.S.Services.stands c.args.svc.now))).asks = rw is c.requires.safe in
+    search rules
+
+pub under_name-returns-clause-flows : goal.under_name-returns-clause-flows
+under_name-returns-clause-flows g t c =
+    let is = one_name (env_of c.args.here.now.function.now c.args.here.now.args.now c.args.here.now.frames.now) c.args.here.now.bindings.now _ c.as_slice.result.now (c.as_slice.ensures ∙ c.in_ok-add.ensures.ok ∙ ap (λ (bs : List Binding). bs ++ _ ∷ []) c.in_ok-bindings.ensures) in
+    rw is at c.evaluate.ensures.flows
 
 pub invoke-enter-flow-requires : goal.invoke-enter-flow-requires
 invoke-enter-flow-requires g t c =

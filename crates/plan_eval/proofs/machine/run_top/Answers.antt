@@ -16,7 +16,7 @@ perform-requires-clause-here g c =
     let reached : Some c.in-Some-expr_from.expr.now ≡ expr_from (Some c.in-Some-get.function.now.body) c.as_slice.result.now = c.in-Some-expr_from.ensures in
     let expression : expr_from (Some c.in-Some-get.function.now.body) c.args.top.now.frames ≡ Some c.in-Some-expr_from.expr.now = rw c.as_slice.ensures at (sym reached) in
     let here : IsAt c.args.codes.now c.args.top.now c.in_ok-code.code c.in-Some-get.function.now c.in-Some-expr_from.expr.now = record { program = program; function = function; expression = expression } in
-    record { program = program; function = function; binds = here_binds c.args.codes.now c.args.top.now c.in_ok-code.code c.in-Some-get.function.now c.in-Some-expr_from.expr.now here c.requires.linked c.as_slice-2.result.now c.as_slice-3.result.now c.as_slice-2.ensures c.as_slice-3.ensures }
+    record { program = program; function = function; binds = here_binds c.args.codes.now c.args.top.now c.in_ok-code.code c.in-Some-get.function.now c.in-Some-expr_from.expr.now here c.requires.linked c.as_slice-2.result.now c.as_slice-3.result.now c.as_slice-4.result.now c.as_slice-2.ensures c.as_slice-3.ensures (c.as_slice-4.ensures ∙ c.new-none.ensures) }
 
 pub perform-requires-clause-safe : goal.perform-requires-clause-safe
 perform-requires-clause-safe g c =
@@ -27,7 +27,7 @@ perform-requires-clause-safe g c =
     let reached : Some c.in-Some-expr_from.expr.now ≡ expr_from (Some c.in-Some-get.function.now.body) c.as_slice.result.now = c.in-Some-expr_from.ensures in
     let expression : expr_from (Some c.in-Some-get.function.now.body) c.args.top.now.frames ≡ Some c.in-Some-expr_from.expr.now = rw c.as_slice.ensures at (sym reached) in
     let here : IsAt c.args.codes.now c.args.top.now c.in_ok-code.code c.in-Some-get.function.now c.in-Some-expr_from.expr.now = record { program = program; function = function; expression = expression } in
-    c.requires.safe c.in_ok-code.code _ program (here_spot c.args.codes.now c.args.top.now c.in_ok-code.code c.in-Some-get.function.now c.in-Some-expr_from.expr.now here c.requires.linked c.as_slice-2.result.now c.as_slice-3.result.now c.as_slice-2.ensures c.as_slice-3.ensures)
+    c.requires.safe c.in_ok-code.code _ program (here_spot c.args.codes.now c.args.top.now c.in_ok-code.code c.in-Some-get.function.now c.in-Some-expr_from.expr.now here c.requires.linked c.as_slice-2.result.now c.as_slice-3.result.now c.as_slice-4.result.now c.as_slice-2.ensures c.as_slice-3.ensures (c.as_slice-4.ensures ∙ c.new-none.ensures))
 
 pub returns-clause-flows : goal.returns-clause-flows
 returns-clause-flows g c =
@@ -38,6 +38,6 @@ returns-clause-flows g c =
     let reached : Some c.in-Some-expr_from.expr.now ≡ expr_from (Some c.in-Some-get.function.now.body) c.as_slice.result.now = c.in-Some-expr_from.ensures in
     let expression : expr_from (Some c.in-Some-get.function.now.body) c.args.top.now.frames ≡ Some c.in-Some-expr_from.expr.now = rw c.as_slice.ensures at (sym reached) in
     let here : IsAt c.args.codes.now c.args.top.now c.in_ok-code.code c.in-Some-get.function.now c.in-Some-expr_from.expr.now = record { program = program; function = function; expression = expression } in
-    here_only c.args.codes.now c.args.top.now c.in_ok-code.code c.in-Some-get.function.now c.in-Some-expr_from.expr.now here c.requires.linked c.as_slice-2.result.now c.as_slice-3.result.now c.as_slice-2.ensures c.as_slice-3.ensures
+    here_only c.args.codes.now c.args.top.now c.in_ok-code.code c.in-Some-get.function.now c.in-Some-expr_from.expr.now here c.requires.linked c.as_slice-2.result.now c.as_slice-3.result.now c.as_slice-4.result.now c.as_slice-2.ensures c.as_slice-3.ensures (c.as_slice-4.ensures ∙ c.new-none.ensures)
     (λ (x : Program) (y : Spot). Flows c.perform.new.codes x c.args.top.now.fun y (task_step x c.args.top.now.fun y c.args.task (joined c.args.state.now (g.S.Services.stands c.args.svc.now))) c.perform.result (joined c.perform.new.state (g.S.Services.stands c.perform.new.svc)))
     c.perform.ensures.flows
