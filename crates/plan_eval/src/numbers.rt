@@ -62,8 +62,11 @@ fn both_numbers(x: &Value, y: &Value) -> Option<(i64, i64)>
 pub fn number_given(op: Op, x: &Value, y: &Value) -> Option<i64>
     ensures { IfSome result (λ n. rules.binary op x.now y.now ≡ rules.gives (value.Int n)) }
 {
-    match both_numbers(x, y) {
-        Some((a, b)) => number_of(op, a, b),
+    let Some((a, b)) = both_numbers(x, y) else {
+        return None;
+    };
+    match number_of(op, a, b) {
+        Some(n) => Some(n),
         None => None,
     }
 }
