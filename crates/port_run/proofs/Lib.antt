@@ -1,0 +1,6 @@
+pub mod Running
+pub mod Serving
+pub mod Opening
+pub mod Quiet
+pub mod Paying
+pub mod Purses

@@ -1,0 +1,14 @@
+use Rattle.std.proofs.Common.{arith, ◌+◌}
+use Rattle.world_model.specs.World.{opening}
+use Rattle.port_run.specs.Ports.{port_run, port_begun}
+use Rattle.port_run.proofs.Paying.{families_pay}
+use Rattle.port_run.proofs.Purses.{run_pays, begun_pays}
+use Rattle.port_run.proofs.laws.port_is_paid.Goals as goal
+
+pub returns-clause-network : goal.returns-clause-network
+returns-clause-network x t b c script h = (run_pays (opening t) (b + c) script (port_begun (opening t) b c) h (begun_pays (opening t) b c)).world
+
+pub returns-clause-paid : goal.returns-clause-paid
+returns-clause-paid x t b c script fs h k =
+    let p = run_pays (opening t) (b + c) script (port_begun (opening t) b c) h (begun_pays (opening t) b c) in
+    omega (arith, p.paid, families_pay t (port_run script (port_begun (opening t) b c)).events fs p.wired k)
