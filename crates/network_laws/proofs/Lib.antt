@@ -1,9 +1,7 @@
-pub mod AllVisits
-pub mod Balance
 pub mod CountLaws
+pub mod Places
+pub mod Balance
 pub mod Fitting
-pub mod Giving
+pub mod Handings
+pub mod Numbers
 pub mod Opening
-pub mod Orders
-pub mod Wires
-pub mod Visits

@@ -8,16 +8,16 @@ use Rattle.plan_base.specs.declared.ids.Dev.{Dev}
 use Rattle.service_api.specs.Services.{AreGoodRows, IsGoodValue}
 use Rattle.service_meaning.specs.Beginning.{no_rows, present_without}
 use Rattle.service_meaning.proofs.Goods.{serve_good}
-use Rattle.network_plan.specs.Rules.{HostsDiffer, KeepsNetwork}
+use Rattle.network_plan.specs.Rules.{HostsDiffer, KeepsLink, KeepsNetwork}
 use Rattle.network_plan.specs.declared.schedule.HostSpec.{HostSpec}
 use Rattle.network_plan.specs.declared.schedule.Topology.{Topology}
 use Rattle.dv_routing.specs.Sorted as sorted
 use Rattle.node_model.specs.State.{Links, new_node}
-use Rattle.node_model.specs.Fits.{FrameKeeps, NetworkFits, ConfigFits, ServicesFit, NodeFits}
+use Rattle.node_model.specs.Fits.{StampedKeeps, NetworkFits, ConfigFits, ServicesFit, NodeFits}
 use Rattle.node_laws.proofs.HostLaws.{same_among, new_node_fits}
 use Rattle.world_model.specs.declared.lines.LinkEnd.{LinkEnd}
 use Rattle.world_model.specs.World.{Cables, peer_of, neighbour_at, neighbours_to, opening_services, config_of, opening_node, opening}
-use Rattle.world_model.specs.Sound.{WiredFits, Rise, DevicesFit, IsSound}
+use Rattle.world_model.specs.Sound.{WiredFits, Rise, DevicesFit, IsStaleAt, LinkFits, IsSound}
 use Rattle.network_laws.proofs.Fitting.{rise-push}
 
 -- ---- hosts
@@ -90,18 +90,21 @@ opening_node_fits : (t : Topology) (h : HostSpec) → h.host.0 < 2 ^ 32 → Keep
 unfolding opening_node
 opening_node_fits t h n k = new_node_fits (config_of t h) (opening_services h) n (omega arith) (config_fits t h k) (services_fit h)
 
-opening_devices : (t : Topology) (h : HostSpec) → DevicesFit (opening_node t h)
+opening_devices : (t : Topology) (h : HostSpec) → DevicesFit t.version (opening_node t h)
 unfolding opening_node new_node
-opening_devices t h = let k = near t.links h.host 8 in record { queues = refl; devices = k.within; once = k.rise }
+opening_devices t h = let k = near t.links h.host 8 in record { version = refl; windows = refl; queues = refl; devices = k.within; once = k.rise }
 
 nodes_fit : (t : Topology) (hs : List HostSpec) → KeepsNetwork t → All (λ s. s.host.0 < 2 ^ 32) hs → All NodeFits (map (opening_node t) hs)
 nodes_fit t [] k a = All-nil NodeFits
 nodes_fit t (h ∷ hs) k a = All-cons NodeFits (opening_node t h) (map (opening_node t) hs) (opening_node_fits t h (All-head (λ s. s.host.0 < 2 ^ 32) h hs a) k)
     (nodes_fit t hs k (All-tail (λ s. s.host.0 < 2 ^ 32) h hs a))
 
-devices_fit : (t : Topology) (hs : List HostSpec) → All DevicesFit (map (opening_node t) hs)
-devices_fit t [] = All-nil DevicesFit
-devices_fit t (h ∷ hs) = All-cons DevicesFit (opening_node t h) (map (opening_node t) hs) (opening_devices t h) (devices_fit t hs)
+devices_fit : (t : Topology) (hs : List HostSpec) → All (DevicesFit t.version) (map (opening_node t) hs)
+devices_fit t [] = All-nil (DevicesFit t.version)
+devices_fit t (h ∷ hs) = All-cons (DevicesFit t.version) (opening_node t h) (map (opening_node t) hs) (opening_devices t h) (devices_fit t hs)
+
+links_fit : (hosts : List HostSpec) (links : Cables) → All (KeepsLink hosts) links → All LinkFits links
+links_fit hosts links h = All-weaker (KeepsLink hosts) LinkFits (λ l k. (k.from_device, k.to_device)) links h
 
 -- the limits stand at the beginning
 pub opening_sound : (t : Topology) → KeepsNetwork t → IsSound (opening t)
@@ -109,7 +112,9 @@ unfolding opening
 opening_sound t k = record {
   nodes = nodes_fit t t.hosts k k.numbers;
   devices = devices_fit t t.hosts;
-  wire = All-nil (WiredFits FrameKeeps 1);
+  links = links_fit t.hosts t.links k.links;
+  wire = All-nil (WiredFits (StampedKeeps t.version) 1);
+  stale = All-nil (IsStaleAt (map (opening_node t) t.hosts));
   once = tt;
   room = omega arith;
   numbers = omega arith;

@@ -4,7 +4,9 @@ pub mod Giving
 pub mod HostLaws
 pub mod Keeping
 pub mod NodeBalance
+pub mod Numbers
 pub mod Orders
 pub mod Outgoing
 pub mod Staying
 pub mod VisitLaws
+pub mod Windows

@@ -1,14 +1,19 @@
-ghost use Rattle.std.specs.Prelude.{ℕ, ◌≤◌, length};
+ghost use Rattle.std.specs.Prelude.{◌≡◌, ℕ, ◌≤◌, ◌<◌, false, Option, length};
+ghost use Rattle.plan_base.specs.declared.ids.Dev.{Dev};
+ghost use Rattle.packet_frame.specs.declared.frame.PlainStamped.{PlainStamped};
+ghost use Rattle.link_window.specs.declared.window.Stamp.{Stamp};
+ghost use Rattle.link_window.specs.declared.window.Version.TheVariants.{Two};
+ghost use Rattle.link_window.specs.Seen.{is_fresh};
 ghost use Rattle.plan_base.specs.declared.ids.Family.{Family};
 ghost use Rattle.plan_base.specs.declared.tree.Packet.{Packet};
 ghost use Rattle.service_api.specs.Services.{IsGood, IsGoodChunk, begun_now};
 ghost use Rattle.network_plan.specs.declared.event.Event.{Event};
 ghost use Rattle.node_model.specs.State.{NodeState};
 ghost use Rattle.node_model.specs.Visits.{VisitKeeps, HasCase, around, evaluated, visit_at};
-ghost use Rattle.node_model.specs.Node.{node_step};
+ghost use Rattle.node_model.specs.Node.{node_step, stamped_step, takes_as};
 ghost use Rattle.node_model.specs.Orders.{queue_at, MovesInOrder};
-ghost use Rattle.node_model.specs.Fits.{NodeFits, comes_fit};
-ghost use Rattle.node_model.specs.Counts.{came, StepBalances};
+ghost use Rattle.node_model.specs.Fits.{IsMarked, NodeFits, comes_fit};
+ghost use Rattle.node_model.specs.Counts.{came, stale, StepBalances};
 
 /// Each visit keeps its balance: the packet's bound is what it paid, left and sent.
 pub fn visit_balance()
@@ -22,7 +27,7 @@ pub fn visit_has_case()
 
 /// Each step of a node is in balance, for each family.
 pub fn step_balance()
-    ensures { (f : Family) (node : NodeState) (e : Event) → StepBalances f (came f e) node (node_step node e) }
+    ensures { (f : Family) (node : NodeState) (e : Event) → StepBalances f (came f node e) (stale f node e) node (node_step node e) }
 {}
 
 /// Each step keeps what every node keeps: queues of at most 64 frames, whose packets are typed and have
@@ -35,4 +40,10 @@ pub fn step_keeps()
 /// first one leaves it.
 pub fn queues_move_in_order()
     ensures { (d : ℕ) (node : NodeState) (e : Event) → MovesInOrder (queue_at node.queues d) (queue_at (node_step node e).node.queues d) }
+{}
+
+/// What isn't fresh on a device isn't fresh there after a frame arrives; under version 2 neither is that frame.
+pub fn windows_only_close()
+    ensures later { (node : NodeState) (d e : Dev) (x : PlainStamped) (s : Option Stamp) → is_fresh (takes_as node.seen e s) ≡ false → is_fresh (takes_as (stamped_step node d x).node.seen e s) ≡ false }
+    ensures taken { (node : NodeState) (d : Dev) (x : PlainStamped) → IsMarked Two x.stamp → d.0 < length node.seen → is_fresh (takes_as (stamped_step node d x).node.seen d x.stamp) ≡ false }
 {}

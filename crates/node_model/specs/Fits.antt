@@ -1,10 +1,14 @@
 -- What every node keeps.
-use Rattle.std.specs.Prelude.{◌≡◌, ◌≢◌, ℕ, ◌≤◌, ◌<◌, ◌^◌, false, List, length, None, Some, All}
+use Rattle.std.specs.Prelude.{◌≡◌, ◌≢◌, ℕ, ◌≤◌, ◌<◌, ◌^◌, false, List, length, Option, None, Some, All}
 use Rattle.plan_base.specs.declared.ids.Host.{Host}
 use Rattle.plan_base.specs.declared.ids.Dev.{Dev}
 use Rattle.plan_base.specs.declared.tree.Chunk.{Chunk}
 use Rattle.plan_base.specs.declared.tree.Packet.{Packet}
 use Rattle.packet_frame.specs.declared.frame.PlainFrame.{PlainFrame}
+use Rattle.packet_frame.specs.declared.frame.PlainStamped.{PlainStamped}
+use Rattle.link_window.specs.declared.window.Stamp.{Stamp}
+use Rattle.link_window.specs.declared.window.Version.{Version}
+use Rattle.link_window.specs.declared.window.Version.TheVariants.{One, Two}
 use Rattle.service_api.specs.Adverts.{AdvertFits}
 use Rattle.service_api.specs.Services.{ServiceState, IsGood, IsGoodChunk}
 use Rattle.wire_bytes.specs.Fields.{IsBytes}
@@ -26,10 +30,21 @@ FrameKeeps (PlainFrame.Packet p) = PacketFits p
 FrameKeeps (PlainFrame.Advert a) = AdvertFits a
 FrameKeeps (PlainFrame.Ask bound chunk) = ⊥
 
+-- what the frames of a version bear: a stamp under version 2 alone
+abbrev pub IsMarked : Version → Option Stamp → Type 0
+IsMarked One stamp = stamp ≡ None
+IsMarked Two None = ⊥
+IsMarked Two (Some s) = Unit {0}
+
+-- a frame on its way from a node of a version
+pub record StampedKeeps (v : Version) (x : PlainStamped) : Type 0 where
+  pub frame : FrameKeeps x.frame
+  pub mark : IsMarked v x.stamp
+
 -- queues keep their room, and each frame keeps this
-pub record QueuesKeep (P : PlainFrame → Type 0) (queues : Queues) : Type 0 where
-  pub room : All (λ queue. length queue ≤ 64) queues
-  pub frames : All (λ queue. All P queue) queues
+pub record QueuesKeep (P : PlainStamped → Type 0) (queues : Queues) : Type 0 where
+  pub room : All (λ lane. length lane.frames ≤ 64) queues
+  pub frames : All (λ lane. All P lane.frames) queues
 
 -- services keep their laws, and no visit is open
 pub record ServicesFit (n : ServiceState) : Type 0 where
@@ -48,7 +63,7 @@ pub record NodeFits (node : NodeState) : Type 0 where
   pub hosts : HostsFit node.hosts
   pub near : length node.neighbours ≤ 8
   pub services : ServicesFit node.services
-  pub queues : QueuesKeep FrameKeeps node.queues
+  pub queues : QueuesKeep (StampedKeeps node.version) node.queues
   pub serial : node.serial < 2 ^ 64
   pub now : node.now < 2 ^ 64
 

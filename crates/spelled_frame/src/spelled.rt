@@ -1,11 +1,15 @@
 ghost use Rattle.std.specs.Prelude.{◌≡◌, ◌≤◌, None, IfOk};
+ghost use Rattle.packet_frame.specs.declared.frame.PlainStamped.{PlainStamped};
 ghost use Rattle.service_api.specs.Adverts.{AdvertFits};
+ghost use Rattle.packet_frame.specs.Stamped.{AcceptsBy};
 ghost use Rattle.packet_frame.specs.Typed.{Accepts};
 ghost use Rattle.packet_frame.specs.declared.frame.PlainFrame.{PlainFrame};
-ghost use Rattle.spelled_frame.specs.Spelled.{what_of};
+ghost use Rattle.spelled_frame.specs.Spelled.{what_of, frame_in, numbered, is_stamped, IsSpelled};
+ghost use Rattle.link_window.specs.declared.window.Version.TheVariants.{One, Two};
 
 use chunk_types::CheckedPacket;
-use packet_frame::{put_advert, put_packet};
+use link_window::Version;
+use packet_frame::{put_advert, put_packet, with_link};
 use plan_base::{Bytes, Family, NoMemory};
 use service_api::Advert;
 use std::alloc::Global;
@@ -20,76 +24,87 @@ pub enum What {
     Advert,
 }
 
-/// A packet with a typed chunk or an advert, kept as the bytes of its frame, which contracts see as that frame. What it holds
-/// stands beside the bytes.
+/// A packet with a typed chunk or an advert, kept as the bytes of its frame, which contracts see as that frame with its
+/// stamp. What it holds stands beside the bytes.
 #[derive(Drop)]
 pub struct SpelledFrame {
+    version: Version,
     bytes: Bytes,
     what: What,
 }
 
 impl Model for SpelledFrame {
-    ghost use Rattle.packet_frame.specs.declared.frame.PlainFrame.{PlainFrame};
-    ghost use Rattle.packet_frame.specs.contracts.frame.PlainFrame as whole;
+    ghost use Rattle.packet_frame.specs.declared.frame.PlainStamped.{PlainStamped};
+    ghost use Rattle.packet_frame.specs.contracts.frame.PlainStamped as whole;
     ghost use Rattle.spelled_frame.specs.Spelled.{frame_in, IsSpelled};
 
-    ghost Value = { PlainFrame };
+    ghost Value = { PlainStamped };
 
     ghost coded = { whole.the_row.coded };
 
-    ghost view = { λ s. frame_in s.bytes };
+    ghost view = { λ s. frame_in s.version s.bytes };
 
-    ghost invariant = { λ s. IsSpelled s.bytes s.what };
+    ghost invariant = { λ s. IsSpelled s.version s.bytes s.what };
 }
 
 impl SpelledFrame {
-    /// The frame of a packet with another bound. Conditions: the bound is at most 65,535, and it has no handler.
-    pub fn of_packet(
-        alloc: Global,
-        packet: &CheckedPacket,
-        bound: u32,
-    ) -> Result<SpelledFrame, NoMemory>
-        requires bound { bound ≤ 65535 }
-        requires plain { packet.now.handler ≡ None }
-        ensures { IfOk result (λ s. s ≡ PlainFrame.Packet (record packet.now { bound = bound })) }
-    {
-        // The chunk of a checked packet is typed, and so is that of the frame.
-        let _typed = packet.chunk();
-        let bytes = put_packet(alloc, packet, bound)?;
-        let what = What::Packet(packet.family(), bound);
-        Ok(SpelledFrame { bytes, what })
-    }
-
-    /// The frame of an advert. Condition: it keeps its limits.
-    pub fn of_advert(alloc: Global, advert: &Advert) -> Result<SpelledFrame, NoMemory>
-        requires { AdvertFits advert.now }
-        ensures { IfOk result (λ s. s ≡ PlainFrame.Advert advert.now) }
-    {
-        let bytes = put_advert(alloc, advert)?;
-        Ok(SpelledFrame {
-            bytes,
-            what: What::Advert,
-        })
-    }
-
     /// What it holds. Takes no memory.
     pub fn what(&self) -> What
-        ensures { result ≡ what_of self.now }
+        ensures { result ≡ what_of self.now.frame }
     {
         self.what
     }
 
-    /// The bytes of the frame, at most 16,512. Takes no memory.
-    pub fn bytes(&self) -> &[u8]
-        ensures { Accepts result.now self.now }
+    /// Whether it bears a stamp. Takes no memory.
+    #[tactic(auto, using(crate::proofs::Reading::one_bears, crate::proofs::Reading::two_bears))]
+    pub fn is_stamped(&self) -> bool
+        ensures { result ≡ is_stamped self.now.stamp }
     {
-        self.bytes.as_slice()
+        match self.version {
+            Version::One => false,
+            Version::Two => true,
+        }
     }
 
-    /// The bytes of the frame, at most 16,512. Takes no memory.
-    pub fn into_bytes(self) -> Bytes
-        ensures { Accepts result self }
+    /// The frame with this number, where it bears a stamp. Takes no memory.
+    pub fn numbered(self, link: u64) -> SpelledFrame
+        ensures { result ≡ numbered link self }
     {
-        self.bytes
+        let SpelledFrame {
+            version,
+            bytes,
+            what,
+        } = self;
+        match version {
+            Version::One => same_number(bytes, what, link),
+            Version::Two => other_number(bytes, what, link),
+        }
+    }
+}
+
+/// A frame of version 1, which has no number.
+#[tactic(auto, using(crate::proofs::Reading::one_numbered))]
+fn same_number(bytes: Bytes, what: What, link: u64) -> SpelledFrame
+    requires { IsSpelled One bytes what }
+    ensures { result ≡ numbered link (frame_in One bytes) }
+{
+    let _link = link;
+    SpelledFrame {
+        version: Version::One,
+        bytes,
+        what,
+    }
+}
+
+/// A frame of version 2 with this number.
+#[tactic(auto, using(crate::proofs::Reading::has_stamp, crate::proofs::Reading::two_numbered, crate::proofs::Reading::two_spelled))]
+fn other_number(bytes: Bytes, what: What, link: u64) -> SpelledFrame
+    requires { IsSpelled Two bytes what }
+    ensures { result ≡ numbered link (frame_in Two bytes) }
+{
+    SpelledFrame {
+        version: Version::Two,
+        bytes: with_link(bytes, link),
+        what,
     }
 }
