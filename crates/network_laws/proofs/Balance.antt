@@ -4,6 +4,7 @@ use Rattle.std.specs.Prelude.{map, slice_get, nat_lt, Option, Some, None, Result
 use Rattle.plan_base.specs.declared.ids.Host.{Host}
 use Rattle.plan_base.specs.declared.ids.Dev.{Dev}
 use Rattle.plan_base.specs.declared.ids.Family.{Family}
+use Rattle.plan_base.specs.declared.name.Name.{Name}
 use Rattle.plan_base.specs.declared.tree.Chunk.{Chunk}
 use Rattle.packet_frame.specs.declared.frame.PlainFrame.{PlainFrame}
 use Rattle.packet_frame.specs.declared.frame.PlainStamped.{PlainStamped}
@@ -148,15 +149,15 @@ module _ (f : Family) (late : Bool) where
       by true = refl
       by false = refl
 
-  pub injects_balance : (w : WorldState) (h : Host) (chunk : Chunk) (bound : ℕ) → Balance w (injects w h chunk bound)
-  injects_balance w h chunk bound = steps_balance w h none_before (λ node. inject_step [] node chunk bound) (record {
+  pub injects_balance : (w : WorldState) (h : Host) (chunk : Chunk) (bound : ℕ) (handler : Option Name) → Balance w (injects w h chunk bound handler)
+  injects_balance w h chunk bound handler = steps_balance w h none_before (λ node. inject_step [] node chunk bound handler) (record {
     given = λ node. 0;
     arrived = λ node. 0;
     stale = λ node. 0;
     begins = λ node. no_lines;
     is = λ node. none_counted;
-    balances = λ node. inject_event_balances f node chunk bound;
-    frame = λ node. inject_frame [] node chunk bound;
+    balances = λ node. inject_event_balances f node chunk bound handler;
+    frame = λ node. inject_frame [] node chunk bound handler;
   })
 
   pub ticks_balance : (w : WorldState) (h : Host) → Balance w (ticks w h)
@@ -363,7 +364,7 @@ module _ (f : Family) where
   loses_balance w number = lose_place_balances w (wire_place w.wire number)
 
   acted_balance : (w : WorldState) (e : WorldEvent) → IsSound w → EventInBalance f (is_late w e) w (acted w e)
-  acted_balance w (Inject h chunk bound) s = injects_balance f false w h chunk bound
+  acted_balance w (Inject h chunk bound handler) s = injects_balance f false w h chunk bound handler
   acted_balance w (Send h d) s = sends_balance f false w h d
   acted_balance w (Deliver number) s = hands_balance w Taking number s
   acted_balance w (Repeat number) s = hands_balance w Leaving number s

@@ -10,13 +10,14 @@ use Rattle.std.proofs.lemmas.Option.{slice_get_within, get_or_from_slice_get}
 use Rattle.std.proofs.lemmas.Bool.Decides.{nat_tests}
 use Rattle.plan_base.specs.declared.ids.Host.{Host}
 use Rattle.plan_base.specs.declared.ids.Dev.{Dev}
+use Rattle.plan_base.specs.declared.name.Name.{Name}
 use Rattle.plan_base.specs.declared.tree.Chunk.{Chunk}
 use Rattle.wire_bytes.specs.Fields.{IsBytes}
 use Rattle.packet_frame.specs.declared.frame.PlainStamped.{PlainStamped}
 use Rattle.link_window.specs.declared.window.Version.{Version}
 use Rattle.link_window.specs.declared.window.Version.TheVariants.{One, Two}
 use Rattle.link_window.specs.Seen.{is_fresh}
-use Rattle.chunk_types.specs.Chunks.{IsCheckedChunk}
+use Rattle.network_plan.specs.Rules.{KeepsInjection}
 use Rattle.network_plan.specs.declared.event.WorldEvent.{WorldEvent}
 use Rattle.network_plan.specs.declared.event.WorldEvent.TheVariants.{Inject, Send, Deliver, Repeat, Lose, Tick, Raw}
 use Rattle.node_model.specs.State.{Links, NodeState}
@@ -26,6 +27,7 @@ use Rattle.node_laws.proofs.Fitting.{FrameTaken, inject_event_fits, stamped_fits
 use Rattle.node_laws.proofs.Staying.{Stays, inject_stays, stamped_stays, arrive_stays, tick_stays, take_stays}
 use Rattle.node_laws.proofs.Windows.{SeenLater, same_later, inject_seen, arrive_later, stamped_later, stamped_taken}
 use Rattle.network_laws.proofs.Places.{SetAt, there, elsewhere, set_at, first_of_host, set_of_host}
+use Rattle.network_laws.proofs.Numbers.{numbers_differ}
 use Rattle.world_model.specs.declared.lines.Line.{Line}
 use Rattle.world_model.specs.declared.lines.LinkEnd.{LinkEnd}
 use Rattle.world_model.specs.declared.lines.Wired.{Wired}
@@ -37,7 +39,7 @@ use Rattle.world_model.specs.Sound.{WiredFits, Rise, DevicesFit, number_of, node
 pub All-remove : {X : Type 0} (P : X → Type 0) (xs : List X) (i : ℕ) → All P xs → All P (remove xs i)
 All-remove P xs i h = All-append P (take i xs) (drop (suc i) xs) (All-take P i xs h) (All-drop P (suc i) xs h)
 
-at_place : {X : Type 0} (P : X → Type 0) (xs : List X) (i : ℕ) (x : X) → slice_get xs i ≡ Some x → All P xs → P x
+pub at_place : {X : Type 0} (P : X → Type 0) (xs : List X) (i : ℕ) (x : X) → slice_get xs i ≡ Some x → All P xs → P x
 at_place P xs i x e all = let h = All-get_or P xs i x (slice_get_within xs i x e) all in rw (get_or_from_slice_get xs i x x e) at h
 
 module _ {X : Type 0} (key : X → ℕ) where
@@ -103,17 +105,17 @@ record EventFits (w : WorldState) (h : EventResult) : Type 0 where
 nothing_fits : (w : WorldState) → IsSound w → EventFits w (nothing w)
 nothing_fits w s = record { nodes = s.nodes; devices = s.devices; links = s.links; wire = s.wire; stale = s.stale; once = s.once; room = s.room; next = omega arith; made = refl; version = refl }
 
--- a step that keeps what nodes keep
-record Keeps (step : NodeState → Step) : Type 0 where
-  fits : (node : NodeState) → NodeFits node → NodeFits (step node).node
+-- a step that keeps what nodes of a version keep
+record Keeps (v : Version) (step : NodeState → Step) : Type 0 where
+  fits : (node : NodeState) → node.version ≡ v → NodeFits node → NodeFits (step node).node
   stays : (node : NodeState) → Stays node (step node).node
   later : (node : NodeState) → SeenLater node.seen (step node).node.seen
 
-step_at_fits : (w : WorldState) (h : Host) (before : NodeState → List Line) (step : NodeState → Step) (at : ℕ) (o : Option NodeState) → Keeps step → slice_get w.nodes at ≡ o → IsSound w → EventFits w (step_at w h before step at o)
+step_at_fits : (w : WorldState) (h : Host) (before : NodeState → List Line) (step : NodeState → Step) (at : ℕ) (o : Option NodeState) → Keeps w.version step → slice_get w.nodes at ≡ o → IsSound w → EventFits w (step_at w h before step at o)
 unfolding step_at
 step_at_fits w h before step at None k e s = nothing_fits w s
 step_at_fits w h before step at (Some node) k e s = record {
-  nodes = All-set NodeFits w.nodes at _ (k.fits node (node_there w.nodes at node e s.nodes)) s.nodes;
+  nodes = All-set NodeFits w.nodes at _ (k.fits node (at_place (DevicesFit w.version) w.nodes at node e s.devices).version (node_there w.nodes at node e s.nodes)) s.nodes;
   devices = All-set (DevicesFit w.version) w.nodes at _ (devices_stay w.version node _ (k.stays node) (at_place (DevicesFit w.version) w.nodes at node e s.devices)) s.devices;
   links = s.links;
   wire = s.wire;
@@ -125,25 +127,28 @@ step_at_fits w h before step at (Some node) k e s = record {
   version = refl;
 }
 
-step_place_fits : (w : WorldState) (h : Host) (before : NodeState → List Line) (step : NodeState → Step) (o : Option ℕ) → Keeps step → IsSound w → EventFits w (step_place w h before step o)
+step_place_fits : (w : WorldState) (h : Host) (before : NodeState → List Line) (step : NodeState → Step) (o : Option ℕ) → Keeps w.version step → IsSound w → EventFits w (step_place w h before step o)
 unfolding step_place
 step_place_fits w h before step None k s = nothing_fits w s
 step_place_fits w h before step (Some at) k s = step_at_fits w h before step at (slice_get w.nodes at) k refl s
 
-steps_fit : (w : WorldState) (h : Host) (before : NodeState → List Line) (step : NodeState → Step) → Keeps step → IsSound w → EventFits w (steps w h before step)
+steps_fit : (w : WorldState) (h : Host) (before : NodeState → List Line) (step : NodeState → Step) → Keeps w.version step → IsSound w → EventFits w (steps w h before step)
 unfolding steps
 steps_fit w h before step k s = step_place_fits w h before step (place_of w.nodes h) k s
 
-injects_fit : (w : WorldState) (h : Host) (chunk : Chunk) (bound : ℕ) → bound ≤ 65535 → IsCheckedChunk chunk → IsSound w → EventFits w (injects w h chunk bound)
-injects_fit w h chunk bound b k s = steps_fit w h none_before (λ node. inject_step [] node chunk bound)
-    (record { fits = λ node n. (inject_event_fits node chunk bound b k n).node; stays = λ node. inject_stays node chunk bound; later = λ node. same_later _ _ (inject_seen node chunk bound) }) s
+injects_fit : (w : WorldState) (h : Host) (chunk : Chunk) (bound : ℕ) (handler : Option Name) → KeepsInjection w.version chunk bound handler → IsSound w → EventFits w (injects w h chunk bound handler)
+injects_fit w h chunk bound handler k s = steps_fit w h none_before (λ node. inject_step [] node chunk bound handler) (record {
+  fits = λ node v n. (inject_event_fits node chunk bound handler (subst (λ u. KeepsInjection u chunk bound handler) (sym v) k) n).node;
+  stays = λ node. inject_stays node chunk bound handler;
+  later = λ node. same_later _ _ (inject_seen node chunk bound handler);
+}) s
 
 ticks_fit : (w : WorldState) (h : Host) → IsSound w → EventFits w (ticks w h)
-ticks_fit w h s = steps_fit w h none_before tick_step (record { fits = λ node n. (tick_fits node n).node; stays = λ node. (tick_stays node).node; later = λ node. same_later _ _ (tick_stays node).seen }) s
+ticks_fit w h s = steps_fit w h none_before tick_step (record { fits = λ node v n. (tick_fits node n).node; stays = λ node. (tick_stays node).node; later = λ node. same_later _ _ (tick_stays node).seen }) s
 
 raws_fit : (w : WorldState) (h : Host) (d : Dev) (bytes : List ℕ) → IsBytes bytes → IsSound w → EventFits w (raws w h d bytes)
 raws_fit w h d bytes b s = steps_fit w h (forged_at h bytes) (λ node. arrive_step node d bytes)
-    (record { fits = λ node n. (arrive_fits node d bytes b n).node; stays = λ node. (arrive_stays node d bytes).node; later = λ node. arrive_later node d bytes }) s
+    (record { fits = λ node v n. (arrive_fits node d bytes b n).node; stays = λ node. (arrive_stays node d bytes).node; later = λ node. arrive_later node d bytes }) s
 
 later_number : (v : Version) (next : ℕ) (x : Wired) → WiredFits (StampedKeeps v) next x → WiredFits (StampedKeeps v) (next + 1) x
 later_number v next x h = record { number = omega (arith, h.number); device = h.device; frame = h.frame }
@@ -343,7 +348,7 @@ unfolding loses
 loses_fit w number s = lose_place_fits w (wire_place w.wire number) s
 
 acted_fits : (w : WorldState) (e : WorldEvent) → event_fits w.version e → IsSound w → EventFits w (acted w e)
-acted_fits w (Inject h chunk bound) b s = injects_fit w h chunk bound b.0 b.1 s
+acted_fits w (Inject h chunk bound handler) b s = injects_fit w h chunk bound handler b s
 acted_fits w (Send h d) b s = sends_fit w h d s
 acted_fits w (Deliver number) b s = hands_fit w Taking number (λ l. absurd (never l)) s
   where
@@ -364,6 +369,7 @@ event_sound w e b s =
       links = f.links;
       wire = f.wire;
       stale = f.stale;
+      differ = numbers_differ w s.differ e;
       once = f.once;
       room = f.room;
       numbers = omega (arith, f.next, f.made, s.numbers);

@@ -8,7 +8,6 @@ use Rattle.std.proofs.lemmas.Bool.Decides.{nat_tests}
 use Rattle.plan_base.specs.declared.ids.Host.{Host}
 use Rattle.plan_base.specs.declared.ids.Dev.{Dev}
 use Rattle.plan_base.specs.declared.ids.Family.{Family}
-use Rattle.plan_base.specs.declared.tree.Chunk.{Chunk}
 use Rattle.packet_frame.specs.declared.frame.PlainFrame.{PlainFrame}
 use Rattle.packet_frame.specs.declared.frame.PlainStamped.{PlainStamped}
 use Rattle.packet_frame.specs.declared.fault.FrameFault.{FrameFault}
@@ -16,6 +15,7 @@ use Rattle.packet_frame.specs.Stamped.{stamped_bytes}
 use Rattle.link_window.specs.declared.window.Took.{Took}
 use Rattle.link_window.specs.declared.window.Took.TheVariants.{Fresh, Repeated, TooOld}
 use Rattle.packet_frame.specs.Decoding.{read_by}
+use Rattle.network_plan.specs.Rules.{KeepsNetwork}
 use Rattle.network_plan.specs.declared.schedule.Topology.{Topology}
 use Rattle.network_plan.specs.declared.event.WorldEvent.{WorldEvent}
 use Rattle.network_plan.specs.declared.event.WorldEvent.TheVariants.{Inject, Send, Deliver, Repeat, Lose, Tick, Raw}
@@ -31,11 +31,12 @@ use Rattle.world_model.specs.declared.lines.LinkEnd.{LinkEnd}
 use Rattle.world_model.specs.declared.lines.Entry.{Entry}
 use Rattle.world_model.specs.declared.lines.Wired.{Wired}
 use Rattle.world_model.specs.World.{WorldState, EventResult, nothing, lines_at, step_at, step_place, steps, none_before, forged_frame, forged, forged_at, send_taken, send_at, send_over, send_place, sends, place_of, far_end, wire_place, Handing, Taking, Leaving, hand_line, as_handed, wire_after, hand_at, hand_to, hand_frame, hand_place, hands, lose_frame, lose_place, loses, acted, happens, entry_at, entries, world_after, history_of, opening}
-use Rattle.world_model.specs.Counts.{line_granted, line_hops, line_evals, line_left, line_sum, tally, granted, hops, evals, left, Past, no_past, was_handed, past_with, past_after, left_from, live, late_frame, late_at, is_late, EventInBalance, PastAgrees, Balanced}
+use Rattle.world_model.specs.Counts.{line_granted, line_hops, line_evals, line_left, line_sum, tally, granted, hops, evals, left, Past, no_past, was_handed, past_with, past_after, left_from, live, late_frame, late_at, is_late, EventInBalance, LeavesByWire, PastAgrees, Balanced}
 use Rattle.world_model.specs.Sound.{Rise, number_of, IsSound, event_fits, EventsFit}
 use Rattle.network_laws.proofs.CountLaws.{line_sum-nil, line_sum-cons, line_sum-append, line_sum-at, tally-nil, tally-append, tally-entries}
 use Rattle.network_laws.proofs.Balance.{counted, acts_left, event_balances, opening_live}
-use Rattle.network_laws.proofs.Fitting.{All-remove, wired_of, event_sound, event_version, rest_fits}
+use Rattle.network_laws.proofs.Fitting.{All-remove, wired_of, event_sound, event_version, rest_fits, run_sound}
+use Rattle.network_laws.proofs.Opening.{opening_sound}
 
 -- ---- what a history tells
 
@@ -334,7 +335,7 @@ module _ (f : Family) (p : Past) where
   loses_tell w number s a = lose_place_tells w (wire_place w.wire number) s a
 
   acted_tells : (w : WorldState) (e : WorldEvent) → IsSound w → PastAgrees p w → Tells f p (is_late w e) (acted w e)
-  acted_tells w (Inject h chunk bound) s a = plain_steps w h (λ node. inject_step [] node chunk bound) (λ node. (inject_event_balances f node chunk bound).stale) a
+  acted_tells w (Inject h chunk bound handler) s a = plain_steps w h (λ node. inject_step [] node chunk bound handler) (λ node. (inject_event_balances f node chunk bound handler).stale) a
   acted_tells w (Send h d) s a = sends_tell w h d a
   acted_tells w (Deliver number) s a = hands_tell w Taking number s a
   acted_tells w (Repeat number) s a = hands_tell w Leaving number s a
@@ -392,8 +393,39 @@ opening_version : (t : Topology) → (opening t).version ≡ t.version
 unfolding opening
 opening_version t = refl
 
+-- what a run tells of handings agrees with the wire
+run_agrees : (f : Family) (es : List WorldEvent) (p : Past) (w : WorldState) → EventsFit w.version es → IsSound w → PastAgrees p w → PastAgrees (past_after p (history_of es w)) (world_after es w)
+unfolding history_of world_after past_after
+run_agrees f [] p w b s a = a
+run_agrees f (e ∷ es) p w b s a =
+    let fits = All-head (event_fits w.version) e es b in
+    let next = (happens w e).world in
+    let first = entries w e in
+    let more = run_agrees f es (past_after p first) next (rest_fits next.version w es (event_version w e fits s) (All-tail (event_fits w.version) e es b)) (event_sound w e fits s) (event_agrees f p w e s a) in
+    subst (λ q. PastAgrees q (world_after es next)) (sym (past_after-append p first (history_of es next))) more
+
+module _ (t : Topology) (es : List WorldEvent) (k : KeepsNetwork t) (b : EventsFit t.version es) where
+  fits_there : EventsFit (opening t).version es
+  fits_there = subst (λ v. EventsFit v es) (sym (opening_version t)) b
+
+  agrees_behind : Family → PastAgrees (past_after no_past (history_of es (opening t))) (world_after es (opening t))
+  agrees_behind f = run_agrees f es no_past (opening t) fits_there (opening_sound t k) (opening_agrees t)
+
+  pub opening_tells : PastAgrees (past_after no_past (history_of es (opening t))) (world_after es (opening t))
+  opening_tells = agrees_behind (record { source = record { 0 = 0 }; serial = 0 })
+
+  leaves_by_wire : (f : Family) (e : WorldEvent) → LeavesByWire f (history_of es (opening t)) (world_after es (opening t)) e
+  leaves_by_wire f e =
+      let w = world_after es (opening t) in
+      let h = history_of es (opening t) in
+      left_from-append f no_past h (entries w e) ∙ ap (λ n. left f h + n) (event_left f (past_after no_past h) w e (run_sound es (opening t) fits_there (opening_sound t k)) (agrees_behind f))
+
+-- from the beginning on, each event leaves what its lines leave by the wire
+pub opening_leaves : (f : Family) (t : Topology) (es : List WorldEvent) (e : WorldEvent) → KeepsNetwork t → EventsFit t.version es → LeavesByWire f (history_of es (opening t)) (world_after es (opening t)) e
+opening_leaves f t es e k b = leaves_by_wire t es k b f e
+
 -- the law of the ledger, from the beginning on
-pub opening_balances : (f : Family) (t : Topology) (es : List WorldEvent) → EventsFit t.version es → IsSound (opening t) → Balanced f (history_of es (opening t)) (world_after es (opening t))
-opening_balances f t es b s =
-    let r = (run_balances f es no_past (opening t) (subst (λ v. EventsFit v es) (sym (opening_version t)) b) s (opening_agrees t)).law in
+pub opening_balances : (f : Family) (t : Topology) (es : List WorldEvent) → KeepsNetwork t → EventsFit t.version es → Balanced f (history_of es (opening t)) (world_after es (opening t))
+opening_balances f t es k b =
+    let r = (run_balances f es no_past (opening t) (fits_there t es k b) (opening_sound t k) (opening_agrees t)).law in
     record { law = omega (arith, r, opening_live (frame_live f) t) }

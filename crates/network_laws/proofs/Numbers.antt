@@ -2,10 +2,10 @@
 use Rattle.std.proofs.Common.{◌≡◌, ℕ, zero, suc, ◌+◌, ◌<◌, Bool, true, false, cond, List, [], ◌∷◌, ◌++◌, Option, Some, None, refl, sym, ap, ◌∙◌, subst, append_assoc, arith}
 use Rattle.std.specs.Prelude.{slice_get, slice_set, remove, ◌==◌, ◌&&◌, nat_lt, length}
 use Rattle.std.specs.List.{All, flat_map}
+use Rattle.std.proofs.lemmas.List.Elements.{All-nil, All-cons, All-head, All-tail}
 use Rattle.std.proofs.lemmas.Bool.{eqb-true}
 use Rattle.std.proofs.lemmas.Bool.Decides.{nat_tests}
 use Rattle.std.proofs.lemmas.List.{append-nil}
-use Rattle.std.proofs.lemmas.List.Elements.{All-nil, All-cons, All-head, All-tail}
 use Rattle.plan_base.specs.declared.ids.Host.{Host}
 use Rattle.plan_base.specs.declared.ids.Dev.{Dev}
 use Rattle.packet_frame.specs.declared.frame.PlainStamped.{PlainStamped}
@@ -13,7 +13,7 @@ use Rattle.node_model.specs.declared.acts.Lane.{Lane}
 use Rattle.node_model.specs.State.{Queues, NodeState, is_host}
 use Rattle.world_model.specs.declared.lines.Wired.{Wired}
 use Rattle.world_model.specs.World.{WorldState, EventResult, nothing, step_at, step_place, steps, none_before, injects, ticks, forged_at, raws, send_taken, send_at, send_over, send_place, sends, place_of, far_end, wire_place, Handing, Taking, Leaving, as_handed, wire_after, hand_at, hand_to, hand_frame, hand_place, hands, lose_frame, lose_place, loses, acted, happens}
-use Rattle.world_model.specs.Sound.{node_of}
+use Rattle.world_model.specs.Sound.{node_of, is_from, from_numbers, sent_numbers, NumbersDiffer}
 use Rattle.world_model.specs.declared.lines.Line.{Line}
 use Rattle.world_model.specs.declared.lines.LinkEnd.{LinkEnd}
 use Rattle.network_plan.specs.declared.event.WorldEvent.{WorldEvent}
@@ -21,22 +21,9 @@ use Rattle.network_plan.specs.declared.event.WorldEvent.TheVariants.{Inject, Sen
 use Rattle.node_model.specs.Node.{Step, inject_step, tick_step, arrive_step, stamped_step, take_first, take_from, take_step}
 use Rattle.node_laws.proofs.Staying.{inject_stays, tick_stays, arrive_stays, stamped_stays}
 use Rattle.read_laws.proofs.Binds.{some_inj}
-use Rattle.node_laws.proofs.Numbers.{Ascend, NumbersFit, FitsAt, link_in, numbers_in, taken_fits, inject_rises, tick_rises, arrive_rises, stamped_rises}
+use Rattle.node_model.specs.Numbers.{Ascend, NumbersFit, FitsAt, link_in, numbers_in}
+use Rattle.node_laws.proofs.Numbers.{taken_fits, inject_rises, tick_rises, arrive_rises, stamped_rises}
 use Rattle.network_laws.proofs.Places.{SetAt, there, elsewhere, set_at, first_of_host, set_of_host}
-
-abbrev pub is_from : Host → ℕ → Wired → Bool
-is_from h d x = is_host x.from.host h && x.from.dev.0 == d
-
-abbrev pub from_numbers : Host → ℕ → Wired → List ℕ
-from_numbers h d x = cond (is_from h d x) (link_in x.frame.stamp) []
-
--- the numbers of the frames on the wire which a device sent
-abbrev pub sent_numbers : Host → ℕ → List Wired → List ℕ
-sent_numbers h d wire = flat_map (from_numbers h d) wire
-
--- D18's sixth point: at each device of each host's node
-abbrev pub NumbersDiffer : List NodeState → List Wired → Type 0
-NumbersDiffer nodes wire = (h : Host) (node : NodeState) → node_of nodes h ≡ Some node → (d : ℕ) → FitsAt (sent_numbers h d wire) d node.queues
 
 -- ---- lists
 
@@ -341,8 +328,8 @@ module _ (w : WorldState) (s : NumbersDiffer w.nodes w.wire) where
       by (Some place) = frame place (slice_get w.wire place)
 
   acted_differs : (e : WorldEvent) → Differs (acted w e)
-  acted_differs (Inject h chunk bound) = steps_differ h none_before (λ node. inject_step [] node chunk bound)
-      (record { here = λ node. (inject_stays node chunk bound).here; rises = λ node before d. inject_rises before d [] node chunk bound })
+  acted_differs (Inject h chunk bound handler) = steps_differ h none_before (λ node. inject_step [] node chunk bound handler)
+      (record { here = λ node. (inject_stays node chunk bound handler).here; rises = λ node before d. inject_rises before d [] node chunk bound handler })
   acted_differs (Send h d) = sends_differ h d
   acted_differs (Deliver number) = hands_differ Taking number
   acted_differs (Repeat number) = hands_differ Leaving number

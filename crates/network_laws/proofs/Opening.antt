@@ -1,7 +1,7 @@
 -- A network keeps its limits at the beginning.
-use Rattle.std.proofs.Common.{ℕ, zero, suc, ◌+◌, ◌<◌, ◌≤◌, ◌^◌, List, [], ◌∷◌, ◌++◌, refl, sym, ◌∙◌, subst, arith, length}
+use Rattle.std.proofs.Common.{◌≡◌, ℕ, Bool, true, false, cond, ap, zero, suc, ◌+◌, ◌<◌, ◌≤◌, ◌^◌, List, [], ◌∷◌, ◌++◌, refl, sym, ◌∙◌, subst, arith, length}
 use Rattle.std.specs.Prelude.{map, Option, Some, None, All}
-use Rattle.std.proofs.lemmas.List.Elements.{All-nil, All-cons, All-head, All-tail, All-append, All-weaker}
+use Rattle.std.proofs.lemmas.List.Elements.{All-nil, All-cons, All-head, All-tail, All-append, All-weaker, All-replicate}
 use Rattle.std.proofs.lemmas.List.{append-nil, length-append, length-map}
 use Rattle.plan_base.specs.declared.ids.Host.{Host}
 use Rattle.plan_base.specs.declared.ids.Dev.{Dev}
@@ -12,13 +12,15 @@ use Rattle.network_plan.specs.Rules.{HostsDiffer, KeepsLink, KeepsNetwork}
 use Rattle.network_plan.specs.declared.schedule.HostSpec.{HostSpec}
 use Rattle.network_plan.specs.declared.schedule.Topology.{Topology}
 use Rattle.dv_routing.specs.Sorted as sorted
-use Rattle.node_model.specs.State.{Links, new_node}
+use Rattle.node_model.specs.State.{Links, NodeState, is_host, no_lane, no_queues, new_node}
+use Rattle.node_model.specs.Numbers.{NumbersFit, FitsAt}
+use Rattle.read_laws.proofs.Binds.{some_inj}
 use Rattle.node_model.specs.Fits.{StampedKeeps, NetworkFits, ConfigFits, ServicesFit, NodeFits}
 use Rattle.node_laws.proofs.HostLaws.{same_among, new_node_fits}
 use Rattle.world_model.specs.declared.lines.LinkEnd.{LinkEnd}
-use Rattle.world_model.specs.World.{Cables, peer_of, neighbour_at, neighbours_to, opening_services, config_of, opening_node, opening}
-use Rattle.world_model.specs.Sound.{WiredFits, Rise, DevicesFit, IsStaleAt, LinkFits, IsSound}
-use Rattle.network_laws.proofs.Fitting.{rise-push}
+use Rattle.world_model.specs.World.{Cables, peer_of, neighbour_at, neighbours_to, opening_services, first_moment, config_of, opening_node, opening}
+use Rattle.world_model.specs.Sound.{WiredFits, Rise, DevicesFit, node_of, IsStaleAt, NumbersDiffer, LinkFits, IsSound}
+use Rattle.network_laws.proofs.Fitting.{at_place, rise-push}
 
 -- ---- hosts
 
@@ -106,6 +108,27 @@ devices_fit t (h ∷ hs) = All-cons (DevicesFit t.version) (opening_node t h) (m
 links_fit : (hosts : List HostSpec) (links : Cables) → All (KeepsLink hosts) links → All LinkFits links
 links_fit hosts links h = All-weaker (KeepsLink hosts) LinkFits (λ l k. (k.from_device, k.to_device)) links h
 
+-- ---- numbers: nothing is queued or on the wire
+
+none_fit : (link d : ℕ) → FitsAt [] d (no_queues link)
+none_fit link d lane e = at_place (NumbersFit []) (no_queues link) d lane e (All-replicate (NumbersFit []) 9 (no_lane link) (record { ascend = tt; below = All-nil (λ n. n < link) }))
+
+opening_lanes : (t : Topology) (h : HostSpec) → (opening_node t h).queues ≡ no_queues (first_moment t.version)
+unfolding opening_node new_node
+opening_lanes t h = refl
+
+lanes_cases : (t : Topology) (h : HostSpec) (rest : Option NodeState) (node : NodeState) (b : Bool) → cond b (Some (opening_node t h)) rest ≡ Some node → (rest ≡ Some node → node.queues ≡ no_queues (first_moment t.version))
+    → node.queues ≡ no_queues (first_moment t.version)
+lanes_cases t h rest node true e k = sym (ap (λ (n : NodeState). n.queues) (some_inj e)) ∙ opening_lanes t h
+lanes_cases t h rest node false e k = k e
+
+lanes_of : (t : Topology) (hs : List HostSpec) (at : Host) (node : NodeState) → node_of (map (opening_node t) hs) at ≡ Some node → node.queues ≡ no_queues (first_moment t.version)
+lanes_of t [] at node e = cc
+lanes_of t (h ∷ hs) at node e = lanes_cases t h (node_of (map (opening_node t) hs) at) node (is_host (opening_node t h).here at) e (lanes_of t hs at node)
+
+opening_differ : (t : Topology) → NumbersDiffer (map (opening_node t) t.hosts) []
+opening_differ t h node e d = subst (λ queues. FitsAt [] d queues) (sym (lanes_of t t.hosts h node e)) (none_fit (first_moment t.version) d)
+
 -- the limits stand at the beginning
 pub opening_sound : (t : Topology) → KeepsNetwork t → IsSound (opening t)
 unfolding opening
@@ -115,6 +138,7 @@ opening_sound t k = record {
   links = links_fit t.hosts t.links k.links;
   wire = All-nil (WiredFits (StampedKeeps t.version) 1);
   stale = All-nil (IsStaleAt (map (opening_node t) t.hosts));
+  differ = opening_differ t;
   once = tt;
   room = omega arith;
   numbers = omega arith;

@@ -7,6 +7,7 @@ use Rattle.service_api.specs.declared.router.RouteRow.{RouteRow}
 use Rattle.service_api.specs.Adverts.{RowsFit, AdvertFits}
 use Rattle.dv_routing.specs.Routing.{Routing, all_routes, advert_row, own_advert}
 use Rattle.dv_routing.proofs.Rows.{advert_fits}
+use Rattle.link_window.specs.declared.window.Version.{Version}
 use Rattle.node_model.specs.State.{NodeState, routing_of}
 use Rattle.node_model.specs.Visits.{around}
 use Rattle.node_model.specs.Fits.{NodeFits}
@@ -21,16 +22,16 @@ routes_ascend : (r : Routing) → AdvertFits (own_advert r) → RoutesAscend Non
 unfolding own_advert
 routes_ascend r h = rows_ascend None (all_routes r) h.2
 
-node_ordered : (node : NodeState) (p : Packet) → NodeFits node → DevicesFit node → IsOrdered (around node p)
-node_ordered node p n d = record {
+node_ordered : (v : Version) (node : NodeState) (p : Packet) → NodeFits node → DevicesFit v node → IsOrdered (around node p)
+node_ordered v node p n d = record {
   neighbours = d.once;
   routes = routes_ascend (routing_of node) (advert_fits (routing_of node) n.here n.hosts.numbers n.hosts.few n.hosts.ascend);
 }
 
-nodes_ordered : (nodes : List NodeState) → All NodeFits nodes → All DevicesFit nodes → All (λ node. (p : Packet) → IsOrdered (around node p)) nodes
-nodes_ordered [] n d = All-nil (λ node. (p : Packet) → IsOrdered (around node p))
-nodes_ordered (x ∷ xs) n d = All-cons (λ node. (p : Packet) → IsOrdered (around node p)) x xs
-    (λ p. node_ordered x p (All-head NodeFits x xs n) (All-head DevicesFit x xs d)) (nodes_ordered xs (All-tail NodeFits x xs n) (All-tail DevicesFit x xs d))
+nodes_ordered : (v : Version) (nodes : List NodeState) → All NodeFits nodes → All (DevicesFit v) nodes → All (λ node. (p : Packet) → IsOrdered (around node p)) nodes
+nodes_ordered v [] n d = All-nil (λ node. (p : Packet) → IsOrdered (around node p))
+nodes_ordered v (x ∷ xs) n d = All-cons (λ node. (p : Packet) → IsOrdered (around node p)) x xs
+    (λ p. node_ordered v x p (All-head NodeFits x xs n) (All-head (DevicesFit v) x xs d)) (nodes_ordered v xs (All-tail NodeFits x xs n) (All-tail (DevicesFit v) x xs d))
 
 pub all_ordered : (w : WorldState) → IsSound w → All (λ node. (p : Packet) → IsOrdered (around node p)) w.nodes
-all_ordered w s = nodes_ordered w.nodes s.nodes s.devices
+all_ordered w s = nodes_ordered w.version w.nodes s.nodes s.devices

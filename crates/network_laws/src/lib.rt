@@ -4,4 +4,8 @@
 
 mod laws;
 
-pub use laws::{events_balance, events_keep, openings_are_sound, runs_balance};
+pub use laws::{
+    contexts_are_ordered, events_balance, events_keep, frames_lead_over_links, numbers_go_once,
+    openings_are_sound, runs_are_bounded, runs_are_granted, runs_balance, runs_tell_handings,
+    visits_end_well,
+};

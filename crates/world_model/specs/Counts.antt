@@ -1,5 +1,5 @@
 -- What a family has paid and what it still has, counted anew from the history and the network.
-use Rattle.std.specs.Prelude.{◌≡◌, ℕ, ◌+◌, ◌*◌, ◌≤◌, ◌<◌, Bool, true, false, ◌==◌, if◌then◌else◌, List, [], ◌∷◌, sum_by, slice_get, Option, None, Some, All}
+use Rattle.std.specs.Prelude.{◌≡◌, ℕ, ◌+◌, ◌*◌, ◌≤◌, ◌<◌, Bool, true, false, ◌==◌, if◌then◌else◌, List, [], ◌∷◌, ◌++◌, sum_by, slice_get, Option, None, Some, All}
 use Rattle.std.specs.List.{list_any}
 use Rattle.plan_base.specs.declared.ids.Family.{Family}
 use Rattle.packet_frame.specs.declared.frame.PlainFrame.{PlainFrame}
@@ -11,7 +11,7 @@ use Rattle.world_model.specs.declared.lines.Entry.{Entry}
 use Rattle.world_model.specs.declared.lines.Wired.{Wired}
 use Rattle.network_plan.specs.declared.event.WorldEvent.{WorldEvent}
 use Rattle.network_plan.specs.declared.event.WorldEvent.TheVariants.{Deliver, Repeat, Lose}
-use Rattle.world_model.specs.World.{WorldState, EventResult, wire_place, happens}
+use Rattle.world_model.specs.World.{WorldState, EventResult, wire_place, happens, entries}
 
 -- ---- lines
 
@@ -76,7 +76,8 @@ abbrev pub evals : Family → List Entry → ℕ
 evals f = tally (line_evals f)
 
 -- what stands of handings so far: the numbers of the frames that were handed and stayed, and whether the last frame that was handed or
--- lost was handed before
+-- lost was handed before. A handing is a frame's first where no line `again` of its number stands before it. What is stale or lost stands
+-- behind the line `off` or `again` of its event, or behind its line `forged`, so it is told by that line.
 pub record Past : Type 0 where
   pub numbers : List ℕ
   pub late : Bool
@@ -176,6 +177,10 @@ is_late w _ = false
 pub record EventInBalance (f : Family) (late : Bool) (old : WorldState) (h : EventResult) : Type 0 where
   pub law : line_sum (line_granted f) h.lines + live f old
       ≡ line_sum (line_hops f) h.lines + line_sum (line_evals f) h.lines + live f h.world + line_sum (line_left f late) h.lines
+
+-- what an event leaves behind a history is what its lines leave by the wire
+abbrev pub LeavesByWire : Family → List Entry → WorldState → WorldEvent → Type 0
+LeavesByWire f h w e = left f (h ++ entries w e) ≡ left f h + line_sum (line_left f (is_late w e)) (happens w e).lines
 
 -- what stands of handings agrees with the wire: a frame there was handed where its number is among those, which are below the next one
 pub record PastAgrees (p : Past) (w : WorldState) : Type 0 where

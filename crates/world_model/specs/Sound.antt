@@ -1,5 +1,6 @@
 -- What every network keeps.
-use Rattle.std.specs.Prelude.{◌≡◌, ℕ, ◌+◌, ◌≤◌, ◌<◌, Bool, true, false, if◌then◌else◌, IsTrue, Option, Some, None, List, [], ◌∷◌, length, All}
+use Rattle.std.specs.Prelude.{◌≡◌, ℕ, ◌+◌, ◌≤◌, ◌<◌, Bool, true, false, ◌==◌, ◌&&◌, if◌then◌else◌, IsTrue, Option, Some, None, List, [], ◌∷◌, length, All}
+use Rattle.std.specs.List.{flat_map}
 use Rattle.plan_base.specs.declared.ids.Host.{Host}
 use Rattle.wire_bytes.specs.Fields.{IsBytes}
 use Rattle.packet_frame.specs.declared.frame.PlainStamped.{PlainStamped}
@@ -10,17 +11,17 @@ use Rattle.link_window.specs.declared.window.Version.TheVariants.{Two}
 use Rattle.link_window.specs.declared.window.Took.{Took}
 use Rattle.link_window.specs.declared.window.Took.TheVariants.{TooOld}
 use Rattle.link_window.specs.Seen.{is_fresh}
-use Rattle.chunk_types.specs.Chunks.{IsCheckedChunk}
 use Rattle.service_api.specs.declared.ctx.Ctx.{Ctx}
 use Rattle.service_api.specs.declared.router.RouteRow.{RouteRow}
 use Rattle.service_api.specs.Adverts.{is_above}
 use Rattle.network_plan.specs.declared.event.WorldEvent.{WorldEvent}
 use Rattle.network_plan.specs.declared.event.WorldEvent.TheVariants.{Inject, Send, Deliver, Repeat, Lose, Tick, Raw}
 use Rattle.network_plan.specs.Hosts.{Cable}
-use Rattle.network_plan.specs.Rules.{IsLinkDevice}
+use Rattle.network_plan.specs.Rules.{IsLinkDevice, KeepsInjection}
 use Rattle.node_model.specs.State.{Links, NodeState, is_host}
 use Rattle.node_model.specs.Node.{takes_as}
 use Rattle.node_model.specs.Fits.{StampedKeeps, NodeFits}
+use Rattle.node_model.specs.Numbers.{link_in, FitsAt}
 use Rattle.world_model.specs.declared.lines.Wired.{Wired}
 use Rattle.world_model.specs.World.{WorldState}
 
@@ -73,6 +74,21 @@ is_fresh_at nodes x = is_fresh (takes_at x.to.dev x.frame.stamp (node_of nodes x
 abbrev pub IsStaleAt : List NodeState → Wired → Type 0
 IsStaleAt nodes x = x.handed ≡ true → is_fresh_at nodes x ≡ false
 
+-- whether this device of this host sent a frame
+abbrev pub is_from : Host → ℕ → Wired → Bool
+is_from h d x = is_host x.from.host h && x.from.dev.0 == d
+
+abbrev pub from_numbers : Host → ℕ → Wired → List ℕ
+from_numbers h d x = if is_from h d x then link_in x.frame.stamp else []
+
+-- the numbers of the frames on the wire which a device sent
+abbrev pub sent_numbers : Host → ℕ → List Wired → List ℕ
+sent_numbers h d wire = flat_map (from_numbers h d) wire
+
+-- the numbers of each device's frames, on the wire and then in its queue, ascend and are below its next one; only stamps have numbers
+abbrev pub NumbersDiffer : List NodeState → List Wired → Type 0
+NumbersDiffer nodes wire = (h : Host) (node : NodeState) → node_of nodes h ≡ Some node → (d : ℕ) → FitsAt (sent_numbers h d wire) d node.queues
+
 -- both ends of a link are devices from 1 to 8
 abbrev pub LinkFits : Cable → Type 0
 LinkFits l = IsLinkDevice l.1 × IsLinkDevice l.3
@@ -84,13 +100,14 @@ pub record IsSound (w : WorldState) : Type 0 where
   pub links : All LinkFits w.links
   pub wire : All (WiredFits (StampedKeeps w.version) w.«next») w.wire
   pub stale : All (IsStaleAt w.nodes) w.wire
+  pub differ : NumbersDiffer w.nodes w.wire
   pub once : Rise number_of w.wire
   pub room : length w.wire ≤ 4096
   pub numbers : w.«next» ≤ w.made + 1
 
--- an injected bound is at most 65,535, an injected chunk is typed, a device is at most 8, and a frame is repeated under version 2 alone
+-- what is injected keeps its limits, a device is at most 8, and a frame is repeated under version 2 alone
 abbrev pub event_fits : Version → WorldEvent → Type 0
-event_fits v (Inject h chunk bound) = (bound ≤ 65535) × IsCheckedChunk chunk
+event_fits v (Inject h chunk bound handler) = KeepsInjection v chunk bound handler
 event_fits v (Send h d) = d.0 ≤ 8
 event_fits v (Raw h d bytes) = (d.0 ≤ 8) × IsBytes bytes
 event_fits v (Repeat number) = v ≡ Two

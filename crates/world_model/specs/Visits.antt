@@ -1,6 +1,7 @@
 -- The visits that an event makes, and when they end well.
 use Rattle.std.specs.Prelude.{ℕ, zero, suc, ◌==◌, if◌then◌else◌, List, [], ◌∷◌, slice_get, Option, Some, None, Result, Ok, Err}
 use Rattle.plan_base.specs.declared.ids.Host.{Host}
+use Rattle.plan_base.specs.declared.name.Name.{Name}
 use Rattle.plan_base.specs.declared.tree.Chunk.{Chunk}
 use Rattle.plan_base.specs.declared.tree.Packet.{Packet}
 use Rattle.packet_frame.specs.declared.frame.PlainFrame.{PlainFrame}
@@ -55,8 +56,8 @@ abbrev pub bytes_visits : Dev → List ℕ → NodeState → List Visiting
 bytes_visits d bytes node = read_visits d (read_by node.version bytes) node
 
 -- an injected chunk is visited at once, where a serial number is left
-abbrev pub chunk_visits : Chunk → ℕ → NodeState → List Visiting
-chunk_visits chunk bound node = if node.serial == 18446744073709551615 then [] else one_visit (next_serial node) (injected_packet node chunk bound)
+abbrev pub chunk_visits : Chunk → ℕ → Option Name → NodeState → List Visiting
+chunk_visits chunk bound handler node = if node.serial == 18446744073709551615 then [] else one_visit (next_serial node) (injected_packet node chunk bound handler)
 
 -- ---- in a network
 
@@ -83,7 +84,7 @@ delivered_visits w number = of_wired w (item_at w.wire (wire_place w.wire number
 
 -- the visits that an event makes
 abbrev pub event_visits : WorldState → WorldEvent → List Visiting
-event_visits w (Inject h chunk bound) = at_host w h (chunk_visits chunk bound)
+event_visits w (Inject h chunk bound handler) = at_host w h (chunk_visits chunk bound handler)
 event_visits w (Deliver number) = delivered_visits w number
 event_visits w (Repeat number) = delivered_visits w number
 event_visits w (Raw h d bytes) = at_host w h (bytes_visits d bytes)

@@ -2,6 +2,7 @@
 use Rattle.std.specs.Prelude.{◌≡◌, ℕ, zero, suc, ◌+◌, Bool, true, false, ◌==◌, ◌&&◌, ◌||◌, nat_lt, if◌then◌else◌, List, [], ◌∷◌, ◌++◌, length, map, slice_get, slice_set, remove, position, Option, Some, None, Result, Ok, Err}
 use Rattle.plan_base.specs.declared.ids.Host.{Host}
 use Rattle.plan_base.specs.declared.ids.Dev.{Dev}
+use Rattle.plan_base.specs.declared.name.Name.{Name}
 use Rattle.plan_base.specs.declared.tree.Chunk.{Chunk}
 use Rattle.packet_frame.specs.declared.frame.PlainFrame.{PlainFrame}
 use Rattle.packet_frame.specs.declared.fault.FrameFault.{FrameFault}
@@ -113,8 +114,8 @@ steps w h before step = step_place w h before step (place_of w.nodes h)
 abbrev pub none_before : NodeState → List Line
 none_before node = []
 
-abbrev pub injects : WorldState → Host → Chunk → ℕ → EventResult
-injects w h chunk bound = steps w h none_before (λ node. inject_step [] node chunk bound)
+abbrev pub injects : WorldState → Host → Chunk → ℕ → Option Name → EventResult
+injects w h chunk bound handler = steps w h none_before (λ node. inject_step [] node chunk bound handler)
 
 abbrev pub ticks : WorldState → Host → EventResult
 ticks w h = steps w h none_before tick_step
@@ -226,7 +227,7 @@ loses w number = lose_place w (wire_place w.wire number)
 -- ---- events and runs
 
 abbrev pub acted : WorldState → WorldEvent → EventResult
-acted w (Inject h chunk bound) = injects w h chunk bound
+acted w (Inject h chunk bound handler) = injects w h chunk bound handler
 acted w (Send h d) = sends w h d
 acted w (Deliver number) = hands w Taking number
 acted w (Repeat number) = hands w Leaving number
