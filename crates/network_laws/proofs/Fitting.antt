@@ -17,7 +17,7 @@ use Rattle.packet_frame.specs.declared.frame.PlainStamped.{PlainStamped}
 use Rattle.link_window.specs.declared.window.Version.{Version}
 use Rattle.link_window.specs.declared.window.Version.TheVariants.{One, Two}
 use Rattle.link_window.specs.Seen.{is_fresh}
-use Rattle.network_plan.specs.Rules.{KeepsInjection}
+use Rattle.network_plan.specs.Rules.{IsLinkDevice, KeepsInjection}
 use Rattle.network_plan.specs.declared.event.WorldEvent.{WorldEvent}
 use Rattle.network_plan.specs.declared.event.WorldEvent.TheVariants.{Inject, Send, Deliver, Repeat, Lose, Tick, Raw}
 use Rattle.node_model.specs.State.{Links, NodeState}
@@ -72,8 +72,7 @@ devices_stay v old new s d = record {
   version = s.version ∙ d.version;
   windows = s.windows ∙ d.windows;
   queues = s.count ∙ d.queues;
-  devices = let P : Links → Type 0 = λ links. All (λ link. (1 ≤ link.1.0) × (link.1.0 ≤ 8)) links in subst P (sym s.neighbours) d.devices;
-  once = let P : Links → Type 0 = λ links. Rise (λ link. link.1.0) links in subst P (sym s.neighbours) d.once;
+  devices = let P : Links → Type 0 = λ links. All (λ link. IsLinkDevice link.1) links in subst P (sym s.neighbours) d.devices;
 }
 
 -- a frame that isn't fresh stays so where a node goes on

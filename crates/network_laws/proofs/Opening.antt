@@ -1,13 +1,14 @@
 -- A network keeps its limits at the beginning.
-use Rattle.std.proofs.Common.{◌≡◌, ℕ, Bool, true, false, cond, ap, zero, suc, ◌+◌, ◌<◌, ◌≤◌, ◌^◌, List, [], ◌∷◌, ◌++◌, refl, sym, ◌∙◌, subst, arith, length}
+use Rattle.std.proofs.Common.{◌≡◌, ℕ, Bool, true, false, cond, ap, zero, suc, ◌+◌, ◌<◌, ◌≤◌, ◌^◌, List, [], ◌∷◌, ◌++◌, refl, sym, ◌∙◌, subst, arith}
 use Rattle.std.specs.Prelude.{map, Option, Some, None, All}
 use Rattle.std.proofs.lemmas.List.Elements.{All-nil, All-cons, All-head, All-tail, All-append, All-weaker, All-replicate}
-use Rattle.std.proofs.lemmas.List.{append-nil, length-append, length-map}
+use Rattle.std.proofs.lemmas.List.{append-nil, length-map}
 use Rattle.plan_base.specs.declared.ids.Host.{Host}
 use Rattle.plan_base.specs.declared.ids.Dev.{Dev}
 use Rattle.service_api.specs.Services.{AreGoodRows, IsGoodValue}
 use Rattle.service_meaning.specs.Beginning.{no_rows, present_without}
 use Rattle.service_meaning.proofs.Goods.{serve_good}
+use Rattle.network_plan.specs.NodeRules.{DevicesAscend}
 use Rattle.network_plan.specs.Rules.{HostsDiffer, KeepsLink, KeepsNetwork}
 use Rattle.network_plan.specs.declared.schedule.HostSpec.{HostSpec}
 use Rattle.network_plan.specs.declared.schedule.Topology.{Topology}
@@ -37,16 +38,10 @@ network_fits t k = record { few = omega (arith, k.few, length-map t.hosts (λ s.
 
 -- ---- neighbours
 
-one_neighbour : (d : Dev) (o : Option LinkEnd) → length (neighbour_at d o) ≤ 1
-one_neighbour d None = omega arith
-one_neighbour d (Some far) = omega arith
-
-near_to : (links : Cables) (h : Host) (n : ℕ) → length (neighbours_to links h n) ≤ n
-unfolding neighbours_to
-near_to links h zero = omega arith
-near_to links h (suc n) =
-    let o = peer_of links h (record { 0 = n + 1 }) in
-    omega (arith, length-append (neighbours_to links h n) (neighbour_at (record { 0 = n + 1 }) o), one_neighbour (record { 0 = n + 1 }) o, near_to links h n)
+-- devices that rise ascend
+ascends : (links : Links) → Rise (λ link. link.1.0) links → DevicesAscend links
+ascends [] r = tt
+ascends (l ∷ ls) r = (r.0, ascends ls r.1)
 
 abbrev Within : ℕ → Host × Dev → Type 0
 Within n link = (1 ≤ link.1.0) × (link.1.0 ≤ n)
@@ -86,7 +81,7 @@ pub services_fit : (h : HostSpec) → ServicesFit (opening_services h)
 services_fit h = record { good = record { serve = serve_good (present_without h.missing); rows = no_rows_good }; closed = refl; waits = refl }
 
 pub config_fits : (t : Topology) (h : HostSpec) → KeepsNetwork t → ConfigFits (config_of t h)
-config_fits t h k = record { hosts = network_fits t k; near = near_to t.links h.host 8 }
+config_fits t h k = let n = near t.links h.host 8 in record { hosts = network_fits t k; devices = n.within; ordered = ascends (neighbours_to t.links h.host 8) n.rise }
 
 opening_node_fits : (t : Topology) (h : HostSpec) → h.host.0 < 2 ^ 32 → KeepsNetwork t → NodeFits (opening_node t h)
 unfolding opening_node
@@ -94,7 +89,7 @@ opening_node_fits t h n k = new_node_fits (config_of t h) (opening_services h) n
 
 opening_devices : (t : Topology) (h : HostSpec) → DevicesFit t.version (opening_node t h)
 unfolding opening_node new_node
-opening_devices t h = let k = near t.links h.host 8 in record { version = refl; windows = refl; queues = refl; devices = k.within; once = k.rise }
+opening_devices t h = record { version = refl; windows = refl; queues = refl; devices = (near t.links h.host 8).within }
 
 nodes_fit : (t : Topology) (hs : List HostSpec) → KeepsNetwork t → All (λ s. s.host.0 < 2 ^ 32) hs → All NodeFits (map (opening_node t) hs)
 nodes_fit t [] k a = All-nil NodeFits

@@ -4,12 +4,13 @@ ghost use Rattle.network_plan.specs.Rules.{HostsDiffer, KeepsNetwork};
 ghost use Rattle.network_plan.specs.declared.schedule.Topology.{Topology};
 ghost use Rattle.network_plan.specs.declared.event.WorldEvent.{WorldEvent};
 ghost use Rattle.plan_base.specs.declared.tree.Packet.{Packet};
+ghost use Rattle.node_model.specs.Contexts.{IsOrdered};
 ghost use Rattle.node_model.specs.Visits.{around};
 ghost use Rattle.world_model.specs.World.{WorldState, happens, opening, world_after, history_of};
 ghost use Rattle.world_model.specs.Counts.{line_sum, is_late, EventInBalance, no_past, past_after, PastAgrees, LeavesByWire, Balanced, IsBounded, IsGranted};
 ghost use Rattle.world_model.specs.Visits.{EndsWell, event_visits, line_ends};
 ghost use Rattle.world_model.specs.Wires.{IsOnce, WireLeads};
-ghost use Rattle.world_model.specs.Sound.{IsOrdered, IsSound, event_fits, EventsFit};
+ghost use Rattle.world_model.specs.Sound.{IsSound, event_fits, EventsFit};
 
 /// Each event is in balance, for each family.
 pub fn events_balance()

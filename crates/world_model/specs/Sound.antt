@@ -1,5 +1,5 @@
 -- What every network keeps.
-use Rattle.std.specs.Prelude.{◌≡◌, ℕ, ◌+◌, ◌≤◌, ◌<◌, Bool, true, false, ◌==◌, ◌&&◌, if◌then◌else◌, IsTrue, Option, Some, None, List, [], ◌∷◌, length, All}
+use Rattle.std.specs.Prelude.{◌≡◌, ℕ, ◌+◌, ◌≤◌, ◌<◌, Bool, true, false, ◌==◌, ◌&&◌, if◌then◌else◌, Option, Some, None, List, [], ◌∷◌, length, All}
 use Rattle.std.specs.List.{flat_map}
 use Rattle.plan_base.specs.declared.ids.Host.{Host}
 use Rattle.wire_bytes.specs.Fields.{IsBytes}
@@ -11,9 +11,6 @@ use Rattle.link_window.specs.declared.window.Version.TheVariants.{Two}
 use Rattle.link_window.specs.declared.window.Took.{Took}
 use Rattle.link_window.specs.declared.window.Took.TheVariants.{TooOld}
 use Rattle.link_window.specs.Seen.{is_fresh}
-use Rattle.service_api.specs.declared.ctx.Ctx.{Ctx}
-use Rattle.service_api.specs.declared.router.RouteRow.{RouteRow}
-use Rattle.service_api.specs.Adverts.{is_above}
 use Rattle.network_plan.specs.declared.event.WorldEvent.{WorldEvent}
 use Rattle.network_plan.specs.declared.event.WorldEvent.TheVariants.{Inject, Send, Deliver, Repeat, Lose, Tick, Raw}
 use Rattle.network_plan.specs.Hosts.{Cable}
@@ -36,23 +33,12 @@ abbrev pub Rise : {X : Type 0} → (X → ℕ) → List X → Type 0
 Rise key [] = Unit {0}
 Rise key (x ∷ xs) = All (λ y. key x < key y) xs × Rise key xs
 
--- a node is of this version, its queues and windows are nine, and its neighbours are on devices from 1 to 8, each once, in order
+-- a node is of this version, its queues and windows are nine, and its neighbours are on devices from 1 to 8
 pub record DevicesFit (v : Version) (node : NodeState) : Type 0 where
   pub version : node.version ≡ v
   pub windows : length node.seen ≡ 9
   pub queues : length node.queues ≡ 9
-  pub devices : All (λ link. (1 ≤ link.1.0) × (link.1.0 ≤ 8)) node.neighbours
-  pub once : Rise (λ link. link.1.0) node.neighbours
-
--- each route is to a host above those before it
-abbrev pub RoutesAscend : Option ℕ → List RouteRow → Type 0
-RoutesAscend before [] = Unit {0}
-RoutesAscend before (r ∷ rs) = IsTrue (is_above before r.host.0) × RoutesAscend (Some r.host.0) rs
-
--- what stands around a visit is in order: neighbours by device and routes by host, each once
-pub record IsOrdered (c : Ctx) : Type 0 where
-  pub neighbours : Rise (λ link. link.1.0) c.neighbours
-  pub routes : RoutesAscend None c.router
+  pub devices : All (λ link. IsLinkDevice link.1) node.neighbours
 
 abbrev pub number_of : Wired → ℕ
 number_of x = x.number
