@@ -7,3 +7,4 @@ pub mod Texts
 pub mod Orders
 pub mod Numbers
 pub mod Contexts
+pub mod Numbers
