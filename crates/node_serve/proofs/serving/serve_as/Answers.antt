@@ -1,7 +1,7 @@
 use Rattle.node_model.specs.State.{new_node}
 use Rattle.node_serve.specs.Desks.{desk, serving}
 use Rattle.node_serve.proofs.Starting.{serves_none, serves_unopened, serves_opened}
-use Rattle.node_serve.proofs.serving.serve.Goals as goal
+use Rattle.node_serve.proofs.serving.serve_as.Goals as goal
 
 pub returns-in_default : goal.returns-in_default
 returns-in_default g c = serves_none c.args.cfg.now (new_node c.args.cfg.now.node (g.S.Services.stands c.args.services)) c.args.turns (serving (g.F.Files.state c.args.files.now) (g.K.Sink.state c.args.out.now) (g.L.Link.state c.args.link.now) (g.C.Clock.state c.args.clock.now))
