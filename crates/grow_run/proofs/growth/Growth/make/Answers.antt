@@ -9,13 +9,14 @@ pub count_lines-requires : goal.count_lines-requires
 count_lines-requires g c =
     let counts = c.requires.counts in
     let lines = (c.in_ok-lines.ensures.ok counts.state counts.is).list in
-    record { fits = subst (LinesFit c.args.self.now.ledger) (sym (c.as_slice.ensures ∙ lines)) counts.fits }
+    let late = ap (λ wire. late_in wire c.args.event.now) (sym counts.is.is.wire) in
+    record { fits = subst (λ x. LinesFit x.0 c.args.self.now.ledger x.1) (λ i. (sym (c.is_late-late.ensures ∙ sym late) i, sym (c.as_slice.ensures ∙ lines) i)) counts.fits }
 
 pub returns-clause-world : goal.returns-clause-world
 returns-clause-world g c = λ w h. (c.in_ok-lines.ensures.ok w h).world
 
 pub returns-clause-counts : goal.returns-clause-counts
-returns-clause-counts g c = λ w old h s t.
+returns-clause-counts g c = λ w old h l s t.
     let lines = (c.in_ok-lines.ensures.ok w h).list in
     let counted = entries_are w c.args.event.now _ (c.args.self.now.world.made + 1) c.args.self.now.world.made refl h.made (c.as_slice.ensures ∙ lines) in
     let summed = entries_are w c.args.event.now _ (c.args.self.now.world.made + 1) c.args.self.now.world.made refl h.made (c.as_slice-2.ensures ∙ lines) in (
