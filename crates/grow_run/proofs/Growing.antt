@@ -123,6 +123,9 @@ module _ {S : Type 0} (stands : S → ServiceState) (ping : Host → Host → Ch
   pub grown_ledger : (made : ℕ) (g : Growth S) → Grows stands ping n first made g → n ≤ made → Stands (history_of (grown ping n first (opening ring)) (opening ring)) g.ledger
   grown_ledger made g grows done = subst (λ es. Stands (history_of es (opening ring)) g.ledger) (all_made made g grows done) grows.ledger
 
+  pub grown_fit : (made : ℕ) (g : Growth S) → Grows stands ping n first made g → n ≤ made → EventsFit One (grown ping n first (opening ring))
+  grown_fit made g grows done = subst (EventsFit One) (all_made made g grows done) grows.fits
+
   pub grown_summary : (made : ℕ) (g : Growth S) → Grows stands ping n first made g → n ≤ made → g.summary ≡ summary_of (history_of (grown ping n first (opening ring)) (opening ring))
   grown_summary made g grows done = grows.summary ∙ ap (λ es. summary_of (history_of es (opening ring))) (all_made made g grows done)
 

@@ -4,7 +4,8 @@ ghost use Rattle.grow_run.specs.Draws.{begun};
 ghost use Rattle.world_model.specs.declared.lines.Entry.{Entry};
 ghost use Rattle.world_model.specs.World.{WorldState, happens, entries, opening, opening_services};
 ghost use Rattle.world_model.specs.Counts.{Balanced};
-ghost use Rattle.world_model.specs.Sound.{event_fits};
+ghost use Rattle.world_model.specs.Sound.{event_fits, EventsFit};
+ghost use Rattle.link_window.specs.declared.window.Version.TheVariants.{One};
 ghost use Rattle.run_ledger.specs.Stands.{Stands};
 ghost use Rattle.grow_run.specs.Grow as grow;
 ghost use Rattle.grow_run.specs.Summaries.{summary_of, grown_text};
@@ -88,6 +89,8 @@ impl<S: Services> Growth<S> {
             (Stands (grown_history (spec.ping code.now) events self.old.words) self.new.ledger) }
         ensures summary { OnOk result (self.new.summary
             ≡ summary_of (grown_history (spec.ping code.now) events self.old.words)) }
+        ensures fits { OnOk result (EventsFit One
+            (grow.grown (spec.ping code.now) events self.old.words (opening grow.ring))) }
     {
         for _made in 0..events {
             let event = next_event(alloc, code, &self.world, &mut self.words)?;

@@ -22,7 +22,7 @@ use Rattle.world_model.specs.declared.lines.Line.{Line}
 use Rattle.world_model.specs.declared.lines.Entry.{Entry}
 use Rattle.world_model.specs.World.{WorldState, happens, entry_at, entries, world_after, history_of, opening}
 use Rattle.world_model.specs.Texts.{entry_text, entries_text, trace_text, ledger_text, run_text}
-use Rattle.world_model.specs.Counts.{Balanced, IsBounded, IsGranted}
+use Rattle.world_model.specs.Counts.{line_left, line_sum, left, is_late, Balanced, IsBounded, IsGranted}
 use Rattle.world_model.specs.Sound.{IsSound, event_fits, EventsFit}
 use Rattle.world_model.specs.Visits.{EndsWell, visits_after}
 use Rattle.network_laws.proofs.Fitting.{run_sound, run_version}
@@ -30,6 +30,7 @@ use Rattle.network_laws.proofs.Handings.{opening_leaves, opening_balances}
 use Rattle.network_laws.proofs.Giving.{opening_bounded, opening_grants}
 use Rattle.network_laws.proofs.Opening.{opening_version, opening_sound}
 use Rattle.network_laws.proofs.Visits.{run_ends}
+use Rattle.run_ledger.specs.Counting.{LinesFit, Leaves}
 use Rattle.run_ledger.specs.Stands.{Stands}
 use Rattle.run_ledger.proofs.Runs.{event_fits_at, history_of-push, world_after-push}
 use Rattle.net_world.specs.declared.network.Network.{Network}
@@ -203,6 +204,15 @@ all_leave s i e k = λ f. opening_leaves f s.topology (take i s.events) e k.netw
 pub entries_are : (w : WorldState) (e : WorldEvent) (lines : List Line) (number made : ℕ) → number ≡ made + 1 → made ≡ w.made → lines ≡ (happens w e).lines → map (entry_at number) lines ≡ entries w e
 unfolding entries
 entries_are w e lines number made n m l = (λ i. map (entry_at (n i)) (l i)) ∙ ap (λ k. map (entry_at (k + 1)) (happens w e).lines) m
+
+-- lines that can be counted as those of an event, whether its frame was handed before
+pub fits_as : (rows : List FamilyRow) (late now : Bool) (lines own : List Line) → late ≡ now → lines ≡ own → LinesFit now rows own → LinesFit late rows lines
+fits_as rows late now lines own l e h = subst (λ b. LinesFit b rows lines) (sym l) (subst (LinesFit now rows) (sym e) h)
+
+-- what an event's lines leave, as they are counted
+pub leaves_as : (h : List Entry) (w : WorldState) (e : WorldEvent) (late : Bool) (n : ℕ) (lines : List Line) → late ≡ is_late w e → map (entry_at n) lines ≡ entries w e → lines ≡ (happens w e).lines → AllLeave h w e → Leaves late h n lines
+leaves_as h w e late n lines l own is all f =
+    ap (λ x. left f (h ++ x)) own ∙ all f ∙ (λ i. left f h + line_sum (line_left f (sym l i)) (sym is i))
 
 -- after each prefix of the events
 pub prefix_bounded : (s : Schedule) → KeepsRules s → (k : ℕ) (f : Family) → IsBounded f (history_of (take k s.events) (opening s.topology)) (world_after (take k s.events) (opening s.topology))

@@ -22,6 +22,6 @@ returns-clause-counts g c = λ w old h l s t.
     let late = c.is_late-late.ensures ∙ ap (λ wire. late_in wire c.args.event.now) h.is.wire in
     let counted = entries_are w c.args.event.now _ (c.args.self.now.world.made + 1) c.args.self.now.world.made refl h.is.made (c.as_slice.ensures ∙ lines) in
     let summed = entries_are w c.args.event.now _ (c.args.self.now.world.made + 1) c.args.self.now.world.made refl h.is.made (c.as_slice-2.ensures ∙ lines) in (
-      subst (λ x. Stands (old ++ x) c.count_lines.new.ledger) counted (c.in_ok-count_lines.ensures old (c.args.self.now.world.made + 1) (leaves_as old w c.args.event.now _ _ _ late counted l) s),
+      subst (λ x. Stands (old ++ x) c.count_lines.new.ledger) counted (c.in_ok-count_lines.ensures old (c.args.self.now.world.made + 1) (leaves_as old w c.args.event.now _ _ _ late counted (c.as_slice.ensures ∙ lines) l) s),
       c.count.ensures old (c.args.self.now.world.made + 1) t ∙ ap (λ x. summary_of (old ++ x)) summed,
     )
