@@ -31,8 +31,13 @@ use Rattle.node_core.specs.declared.node.Node.{Node}
 use Rattle.node_core.specs.Stands.{NodeStands, IsStep}
 use Rattle.world_model.specs.declared.lines.Line.{Line}
 use Rattle.world_model.specs.declared.lines.Line.TheVariants.{At}
-use Rattle.world_model.specs.World.{Cables, place_of, lines_at, peer_of, neighbour_at, neighbours_to}
-use Rattle.net_world.specs.Stands.{AllStand, StepsAt, IsMarkedAt}
+use Rattle.world_model.specs.World.{Cables, WorldState, place_of, lines_at, peer_of, neighbour_at, neighbours_to}
+use Rattle.world_model.specs.declared.lines.Wired.{Wired}
+use Rattle.network_plan.specs.declared.event.WorldEvent.{WorldEvent}
+use Rattle.world_model.specs.Sound.{DevicesFit, event_fits}
+use Rattle.network_laws.proofs.Fitting.{at_place, wired_of}
+use Rattle.net_world.specs.declared.network.Network.{Network}
+use Rattle.net_world.specs.Stands.{AllStand, WorldStands, StepsAt, MayNameAt, IsMarkedAt}
 
 -- ---- lines and neighbours
 
@@ -200,6 +205,21 @@ module _ {S : Type 0} (stands : S → ServiceState) where
     where
       some_state : (x y : NodeState) → Some x ≡ Some y → x ≡ y
       some_state x y q = cc
+
+  -- an event that fits a network fits each state of its version
+  pub fits_there : (w : WorldState) (e : WorldEvent) (n : Network S) → w.version ≡ n.version → event_fits n.version e → event_fits w.version e
+  fits_there w e n v f = subst (λ u. event_fits u e) (sym v) f
+
+  -- what may be named in a network may be named at each of its nodes
+  pub named_there : (n : Network S) (w : WorldState) (chunk : Chunk) (handler : Option Name) → WorldStands stands n w → MayName n.version chunk handler → (at : ℕ) → MayNameAt w.nodes at chunk handler
+  named_there n w chunk handler h m at s e =
+      subst (λ v. MayName v chunk handler) (h.is.version ∙ sym (at_place (DevicesFit w.version) w.nodes at s e h.sound.devices).version) m
+
+  -- a frame on the wire is one of each node's version
+  pub marked_there : (n : Network S) (w : WorldState) (place : ℕ) (x : Wired) → WorldStands stands n w → slice_get n.wire place ≡ Some x → (at : ℕ) → IsMarkedAt w.nodes at x.frame.stamp
+  marked_there n w place x h there at s e =
+      let on = wired_of w.version w.«next» w.wire place x (ap (λ wire. slice_get wire place) (sym h.is.wire) ∙ there) h.sound.wire in
+      subst (λ v. IsMarked v x.frame.stamp) (sym (at_place (DevicesFit w.version) w.nodes at s e h.sound.devices).version) on.frame.mark
 
   -- an injection without a handler, where none may be named
   pub unnamed : (node after : Node S) (s : NodeState) (chunk : Chunk) (bound : ℕ) (handler : Option Name) (r : Result Acts NoMemory) → node.version ≡ One → NodeStands stands node s → MayName s.version chunk handler
