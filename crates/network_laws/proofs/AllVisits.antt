@@ -40,7 +40,9 @@ use Rattle.world_model.specs.declared.lines.Line.{Line}
 use Rattle.world_model.specs.declared.lines.Line.TheVariants.{Forged, Wire, Off, Again, Lost, Nothing}
 use Rattle.world_model.specs.declared.lines.LinkEnd.{LinkEnd}
 use Rattle.world_model.specs.declared.lines.Wired.{Wired}
-use Rattle.world_model.specs.World.{WorldState, EventResult, nothing, lines_at, step_at, step_place, steps, none_before, forged_frame, forged, forged_at, send_taken, send_at, send_over, send_place, sends, place_of, far_end, wire_place, Handing, Taking, Leaving, hand_line, hand_at, hand_to, hand_frame, hand_place, hands, lose_frame, lose_place, loses, happens}
+use Rattle.world_model.specs.declared.lines.Handing.{Handing}
+use Rattle.world_model.specs.declared.lines.Handing.TheVariants.{Taking, Leaving}
+use Rattle.world_model.specs.World.{WorldState, EventResult, nothing, lines_at, step_at, step_place, steps, none_before, forged_frame, forged, forged_at, send_taken, send_at, send_over, send_place, sends, place_of, far_end, wire_place, hand_line, hand_at, hand_to, hand_frame, hand_place, hands, lose_frame, lose_place, loses, happens}
 use Rattle.world_model.specs.Counts.{line_sum}
 use Rattle.world_model.specs.Visits.{Visiting, one_visit, frame_visits, visits_as, stamped_visits, read_visits, bytes_visits, chunk_visits, item_at, at_node, at_host, of_wired, delivered_visits, event_visits, act_ends, line_ends}
 use Rattle.network_laws.proofs.CountLaws.{line_sum-nil, line_sum-cons, line_sum-one, line_sum-append, line_sum-at}

@@ -30,7 +30,9 @@ use Rattle.world_model.specs.declared.lines.Line.{Line}
 use Rattle.world_model.specs.declared.lines.Line.TheVariants.{At, Forged, Wire, Off, Again, Lost, Nothing}
 use Rattle.world_model.specs.declared.lines.LinkEnd.{LinkEnd}
 use Rattle.world_model.specs.declared.lines.Wired.{Wired}
-use Rattle.world_model.specs.World.{WorldState, EventResult, nothing, lines_at, step_at, step_place, steps, none_before, injects, ticks, forged_frame, forged, forged_at, raws, send_taken, send_at, send_over, send_place, sends, place_of, far_end, wire_place, Handing, Taking, Leaving, hand_line, as_handed, wire_after, hand_at, hand_to, hand_frame, hand_place, hands, lose_frame, lose_place, loses, acted, happens, opening_node, opening}
+use Rattle.world_model.specs.declared.lines.Handing.{Handing}
+use Rattle.world_model.specs.declared.lines.Handing.TheVariants.{Taking, Leaving}
+use Rattle.world_model.specs.World.{WorldState, EventResult, nothing, lines_at, step_at, step_place, steps, none_before, injects, ticks, forged_frame, forged, forged_at, raws, send_taken, send_at, send_over, send_place, sends, place_of, far_end, wire_place, hand_line, as_handed, wire_after, hand_at, hand_to, hand_frame, hand_place, hands, lose_frame, lose_place, loses, acted, happens, opening_node, opening}
 use Rattle.world_model.specs.Counts.{line_granted, line_hops, line_evals, line_left, line_sum, nodes_sum, wire_sum, unhanded, unhanded_sum, live, late_frame, late_at, is_late, EventInBalance}
 use Rattle.world_model.specs.Sound.{IsSound, node_of, takes_at, is_fresh_at, IsStaleAt}
 use Rattle.network_laws.proofs.CountLaws.{line_sum-nil, line_sum-cons, line_sum-one, line_sum-append, line_sum-at, nodes_sum-nil, nodes_sum-cons, nodes_sum-set, wire_sum-nil, unhanded_sum-nil, unhanded_sum-push, unhanded_sum-remove, unhanded_sum-set}

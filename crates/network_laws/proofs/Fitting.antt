@@ -31,7 +31,9 @@ use Rattle.network_laws.proofs.Numbers.{numbers_differ}
 use Rattle.world_model.specs.declared.lines.Line.{Line}
 use Rattle.world_model.specs.declared.lines.LinkEnd.{LinkEnd}
 use Rattle.world_model.specs.declared.lines.Wired.{Wired}
-use Rattle.world_model.specs.World.{Cables, WorldState, EventResult, nothing, step_at, step_place, steps, none_before, injects, ticks, forged_at, raws, send_taken, send_at, send_over, send_place, sends, place_of, is_on, has_end, other_end, peer_at, peer_of, far_end, wire_place, Handing, Taking, Leaving, as_handed, wire_after, hand_at, hand_to, hand_frame, hand_place, hands, lose_frame, lose_place, loses, acted, happens, world_after}
+use Rattle.world_model.specs.declared.lines.Handing.{Handing}
+use Rattle.world_model.specs.declared.lines.Handing.TheVariants.{Taking, Leaving}
+use Rattle.world_model.specs.World.{Cables, WorldState, EventResult, nothing, step_at, step_place, steps, none_before, injects, ticks, forged_at, raws, send_taken, send_at, send_over, send_place, sends, place_of, is_on, has_end, other_end, peer_at, peer_of, far_end, wire_place, as_handed, wire_after, hand_at, hand_to, hand_frame, hand_place, hands, lose_frame, lose_place, loses, acted, happens, world_after}
 use Rattle.world_model.specs.Sound.{WiredFits, Rise, DevicesFit, number_of, node_of, takes_at, is_fresh_at, IsStaleAt, LinkFits, IsSound, event_fits, EventsFit}
 
 -- ---- lists
@@ -389,6 +391,16 @@ run_sound (e ∷ es) w b s =
     let first = All-head (event_fits w.version) e es b in
     let next = (happens w e).world in
     run_sound es next (rest_fits next.version w es (event_version w e first s) (All-tail (event_fits w.version) e es b)) (event_sound w e first s)
+
+-- a network keeps its version
+pub run_version : (es : List WorldEvent) (w : WorldState) → EventsFit w.version es → IsSound w → (world_after es w).version ≡ w.version
+unfolding world_after
+run_version [] w b s = refl
+run_version (e ∷ es) w b s =
+    let first = All-head (event_fits w.version) e es b in
+    let next = (happens w e).world in
+    let same = event_version w e first s in
+    run_version es next (rest_fits next.version w es same (All-tail (event_fits w.version) e es b)) (event_sound w e first s) ∙ same
 
 -- the number of events
 pub run_made : (es : List WorldEvent) (w : WorldState) → EventsFit w.version es → IsSound w → (world_after es w).made ≡ w.made + length es

@@ -30,13 +30,15 @@ use Rattle.world_model.specs.declared.lines.Line.TheVariants.{At, Forged, Wire, 
 use Rattle.world_model.specs.declared.lines.LinkEnd.{LinkEnd}
 use Rattle.world_model.specs.declared.lines.Entry.{Entry}
 use Rattle.world_model.specs.declared.lines.Wired.{Wired}
-use Rattle.world_model.specs.World.{WorldState, EventResult, nothing, lines_at, step_at, step_place, steps, none_before, forged_frame, forged, forged_at, send_taken, send_at, send_over, send_place, sends, place_of, far_end, wire_place, Handing, Taking, Leaving, hand_line, as_handed, wire_after, hand_at, hand_to, hand_frame, hand_place, hands, lose_frame, lose_place, loses, acted, happens, entry_at, entries, world_after, history_of, opening}
+use Rattle.world_model.specs.declared.lines.Handing.{Handing}
+use Rattle.world_model.specs.declared.lines.Handing.TheVariants.{Taking, Leaving}
+use Rattle.world_model.specs.World.{WorldState, EventResult, nothing, lines_at, step_at, step_place, steps, none_before, forged_frame, forged, forged_at, send_taken, send_at, send_over, send_place, sends, place_of, far_end, wire_place, hand_line, as_handed, wire_after, hand_at, hand_to, hand_frame, hand_place, hands, lose_frame, lose_place, loses, acted, happens, entry_at, entries, world_after, history_of, opening}
 use Rattle.world_model.specs.Counts.{line_granted, line_hops, line_evals, line_left, line_sum, tally, granted, hops, evals, left, Past, no_past, was_handed, past_with, past_after, left_from, live, late_frame, late_at, is_late, EventInBalance, LeavesByWire, PastAgrees, Balanced}
 use Rattle.world_model.specs.Sound.{Rise, number_of, IsSound, event_fits, EventsFit}
 use Rattle.network_laws.proofs.CountLaws.{line_sum-nil, line_sum-cons, line_sum-append, line_sum-at, tally-nil, tally-append, tally-entries}
 use Rattle.network_laws.proofs.Balance.{counted, acts_left, event_balances, opening_live}
 use Rattle.network_laws.proofs.Fitting.{All-remove, wired_of, event_sound, event_version, rest_fits, run_sound}
-use Rattle.network_laws.proofs.Opening.{opening_sound}
+use Rattle.network_laws.proofs.Opening.{opening_version, opening_sound}
 
 -- ---- what a history tells
 
@@ -388,10 +390,6 @@ run_balances f (e ∷ es) p w b s a =
 opening_agrees : (t : Topology) → PastAgrees no_past (opening t)
 unfolding opening
 opening_agrees t = record { handed = All-nil (λ x. x.handed ≡ was_handed x.number no_past); below = All-nil (λ m. m < 1) }
-
-opening_version : (t : Topology) → (opening t).version ≡ t.version
-unfolding opening
-opening_version t = refl
 
 -- what a run tells of handings agrees with the wire
 run_agrees : (f : Family) (es : List WorldEvent) (p : Past) (w : WorldState) → EventsFit w.version es → IsSound w → PastAgrees p w → PastAgrees (past_after p (history_of es w)) (world_after es w)

@@ -12,7 +12,9 @@ use Rattle.packet_frame.specs.declared.frame.PlainStamped.{PlainStamped}
 use Rattle.node_model.specs.declared.acts.Lane.{Lane}
 use Rattle.node_model.specs.State.{Queues, NodeState, is_host}
 use Rattle.world_model.specs.declared.lines.Wired.{Wired}
-use Rattle.world_model.specs.World.{WorldState, EventResult, nothing, step_at, step_place, steps, none_before, injects, ticks, forged_at, raws, send_taken, send_at, send_over, send_place, sends, place_of, far_end, wire_place, Handing, Taking, Leaving, as_handed, wire_after, hand_at, hand_to, hand_frame, hand_place, hands, lose_frame, lose_place, loses, acted, happens}
+use Rattle.world_model.specs.declared.lines.Handing.{Handing}
+use Rattle.world_model.specs.declared.lines.Handing.TheVariants.{Taking, Leaving}
+use Rattle.world_model.specs.World.{WorldState, EventResult, nothing, step_at, step_place, steps, none_before, injects, ticks, forged_at, raws, send_taken, send_at, send_over, send_place, sends, place_of, far_end, wire_place, as_handed, wire_after, hand_at, hand_to, hand_frame, hand_place, hands, lose_frame, lose_place, loses, acted, happens}
 use Rattle.world_model.specs.Sound.{node_of, is_from, from_numbers, sent_numbers, NumbersDiffer}
 use Rattle.world_model.specs.declared.lines.Line.{Line}
 use Rattle.world_model.specs.declared.lines.LinkEnd.{LinkEnd}

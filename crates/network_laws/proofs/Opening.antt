@@ -124,6 +124,10 @@ lanes_of t (h ∷ hs) at node e = lanes_cases t h (node_of (map (opening_node t)
 opening_differ : (t : Topology) → NumbersDiffer (map (opening_node t) t.hosts) []
 opening_differ t h node e d = subst (λ queues. FitsAt [] d queues) (sym (lanes_of t t.hosts h node e)) (none_fit (first_moment t.version) d)
 
+pub opening_version : (t : Topology) → (opening t).version ≡ t.version
+unfolding opening
+opening_version t = refl
+
 -- the limits stand at the beginning
 pub opening_sound : (t : Topology) → KeepsNetwork t → IsSound (opening t)
 unfolding opening

@@ -166,12 +166,15 @@ abbrev pub late_at : List Wired → Option ℕ → Bool
 late_at wire None = false
 late_at wire (Some place) = late_frame (slice_get wire place)
 
--- whether an event hands or loses a frame that was handed before
+-- whether an event hands or loses a frame on the wire that was handed before
+abbrev pub late_in : List Wired → WorldEvent → Bool
+late_in wire (Deliver number) = late_at wire (wire_place wire number)
+late_in wire (Repeat number) = late_at wire (wire_place wire number)
+late_in wire (Lose number) = late_at wire (wire_place wire number)
+late_in wire _ = false
+
 abbrev pub is_late : WorldState → WorldEvent → Bool
-is_late w (Deliver number) = late_at w.wire (wire_place w.wire number)
-is_late w (Repeat number) = late_at w.wire (wire_place w.wire number)
-is_late w (Lose number) = late_at w.wire (wire_place w.wire number)
-is_late w _ = false
+is_late w e = late_in w.wire e
 
 -- what an event's lines say is in balance with what it changes
 pub record EventInBalance (f : Family) (late : Bool) (old : WorldState) (h : EventResult) : Type 0 where

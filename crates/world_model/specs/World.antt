@@ -28,6 +28,8 @@ use Rattle.world_model.specs.declared.lines.Line.TheVariants.{At, Forged, Wire, 
 use Rattle.world_model.specs.declared.lines.Entry.{Entry}
 use Rattle.world_model.specs.declared.lines.LinkEnd.{LinkEnd}
 use Rattle.world_model.specs.declared.lines.Wired.{Wired}
+use Rattle.world_model.specs.declared.lines.Handing.{Handing}
+use Rattle.world_model.specs.declared.lines.Handing.TheVariants.{Taking, Leaving}
 
 -- links, each from a device of one host to a device of another
 abbrev pub Cables : Type 0
@@ -168,10 +170,6 @@ sends w h d = send_place w h d (place_of w.nodes h)
 -- ---- handings and losses
 
 -- a frame is handed to its receiving end: taken off the wire, or left there
-pub data Handing : Type 0 where
-  Taking : Handing
-  Leaving : Handing
-
 abbrev pub hand_line : Handing → ℕ → Line
 hand_line Taking number = Off number
 hand_line Leaving number = Again number

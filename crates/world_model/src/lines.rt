@@ -63,3 +63,12 @@ pub struct Wired {
     /// Whether it was handed before.
     pub handed: bool,
 }
+
+/// How a frame on the wire is handed to its receiving end.
+#[derive(Clone, Copy, PartialEq, Eq)]
+pub enum Handing {
+    /// It is taken off the wire.
+    Taking,
+    /// It stays on the wire, as one that was handed.
+    Leaving,
+}

@@ -29,7 +29,9 @@ use Rattle.node_laws.proofs.Staying.{Stays as NodeStays, inject_stays, stamped_s
 use Rattle.world_model.specs.declared.lines.Line.TheVariants.{At, Wire, Off, Again, Lost, Nothing}
 use Rattle.world_model.specs.declared.lines.LinkEnd.{LinkEnd}
 use Rattle.world_model.specs.declared.lines.Wired.{Wired}
-use Rattle.world_model.specs.World.{Cables, WorldState, EventResult, nothing, lines_at, step_at, step_place, steps, none_before, place_of, far_end, send_taken, send_at, send_over, send_place, sends, wire_place, Handing, Taking, Leaving, hand_line, as_handed, wire_after, hand_at, hand_to, hand_frame, hand_place, hands, lose_frame, lose_place, loses, acted, happens}
+use Rattle.world_model.specs.declared.lines.Handing.{Handing}
+use Rattle.world_model.specs.declared.lines.Handing.TheVariants.{Taking, Leaving}
+use Rattle.world_model.specs.World.{Cables, WorldState, EventResult, nothing, lines_at, step_at, step_place, steps, none_before, place_of, far_end, send_taken, send_at, send_over, send_place, sends, wire_place, hand_line, as_handed, wire_after, hand_at, hand_to, hand_frame, hand_place, hands, lose_frame, lose_place, loses, acted, happens}
 use Rattle.world_model.specs.Wires.{WireLeads}
 use Rattle.world_routes.specs.Roads.{routing_in, NotRaw}
 use Rattle.world_routes.specs.Routes.{FrameHasWay, IsRoutedAct, IsRouted}
