@@ -6,7 +6,6 @@ use Rattle.link_window.specs.declared.window.Version.TheVariants.{One, Two}
 use Rattle.link_window.specs.declared.window.Stamp.{Stamp}
 use Rattle.packet_frame.specs.declared.frame.PlainFrame.{PlainFrame}
 use Rattle.std.specs.Prelude.{Result, Ok, Err, IfOk}
-use Rattle.plan_base.specs.declared.bytes.Bytes.{Bytes}
 use Rattle.plan_base.specs.declared.memory.NoMemory.{NoMemory}
 use Rattle.plan_base.specs.declared.name.Name.{Name}
 use Rattle.packet_frame.specs.Frames.{SpellsFrame}
@@ -38,7 +37,7 @@ pub one_accepted : (bytes : List ℕ) (x : PlainFrame) → SpellsFrame bytes x �
 unfolding stamped_bytes
 one_accepted bytes x h t = record { short = h.short; fits = h.fits; read = (refl, h.plain); is = h.is; typed = t; handler = plain_carries x h.plain }
 
-pub none_accepted : (m : Option Stamp) (x : PlainFrame) (r : Result Bytes NoMemory) → m ≡ None → CarriesTyped x → IfOk r (λ b. SpellsFrame b x)
+pub none_accepted : (m : Option Stamp) (x : PlainFrame) (r : Result (List ℕ) NoMemory) → m ≡ None → CarriesTyped x → IfOk r (λ b. SpellsFrame b x)
     → IfOk r (λ b. AcceptsBy (version_of m) b (record { stamp = m; frame = x }))
 none_accepted None x (Ok b) e t h = one_accepted b x h t
 none_accepted None x (Err f) e t h = h
