@@ -47,13 +47,13 @@ module _ (node : NodeState) (p : Packet) (good : IsGood node.services) (near : l
   }
 
   -- a good chunk at a node with good services ends well
-  ends_well : IsGoodChunk p.chunk → All EndsWell (one_visit node p)
+  pub ends_well : IsGoodChunk p.chunk → All EndsWell (one_visit node p)
   ends_well k = All-cons EndsWell (record { node = node; packet = p }) [] (record {
     case = has_case node p good near k;
     ends = visit_can_end p.chunk (around node p) p.family (begun_now node.services) k 0 good_start;
   }) (All-nil EndsWell)
 
-cases : (t : Bool) (vs ws : List Visiting) → All EndsWell vs → All EndsWell ws → All EndsWell (cond t vs ws)
+pub cases : (t : Bool) (vs ws : List Visiting) → All EndsWell vs → All EndsWell ws → All EndsWell (cond t vs ws)
 cases true vs ws a b = a
 cases false vs ws a b = b
 
@@ -75,10 +75,10 @@ read_ends : (d : Dev) (v : Version) (bytes : List ℕ) (r : Result PlainStamped 
 read_ends d v bytes (Ok x) node b e n = stamped_ends d x node (taken_in bytes v x (found_by v bytes x b e)) n
 read_ends d v bytes (Err e) node b h n = All-nil EndsWell
 
-bytes_end : (d : Dev) (bytes : List ℕ) (node : NodeState) → IsBytes bytes → NodeFits node → All EndsWell (bytes_visits d bytes node)
+pub bytes_end : (d : Dev) (bytes : List ℕ) (node : NodeState) → IsBytes bytes → NodeFits node → All EndsWell (bytes_visits d bytes node)
 bytes_end d bytes node b n = read_ends d node.version bytes (read_by node.version bytes) node b refl n
 
-chunk_ends : (chunk : Chunk) (bound : ℕ) (handler : Option Name) (node : NodeState) → IsCheckedChunk chunk → NodeFits node → All EndsWell (chunk_visits chunk bound handler node)
+pub chunk_ends : (chunk : Chunk) (bound : ℕ) (handler : Option Name) (node : NodeState) → IsCheckedChunk chunk → NodeFits node → All EndsWell (chunk_visits chunk bound handler node)
 chunk_ends chunk bound handler node k n = cases (node.serial == 18446744073709551615) [] (one_visit (next_serial node) (injected_packet node chunk bound handler)) (All-nil EndsWell)
     (ends_well (next_serial node) (injected_packet node chunk bound handler) n.services.good n.near (record { typed = k.typed; formed = k.formed }))
 
