@@ -16,7 +16,9 @@ pub fn open_windows(alloc: Global) -> Result<Vec<Window>, NoMemory>
 {
     let mut windows = Vec::with_capacity(alloc, DEVICES)?;
     while windows.len() < DEVICES {
-        windows.push(Window::new())?;
+        let Ok(()) = windows.push(Window::new()) else {
+            return Err(NoMemory);
+        };
     }
     Ok(windows)
 }
