@@ -133,7 +133,7 @@ fn next_tick(now: u64) -> u64
 impl<S: Services + Drop> Node<S> {
     /// A node at its beginning: it has heard nothing, nothing is queued, nothing was taken, and its time is 0. Conditions: at
     /// most 32 hosts, none twice; neighbours on devices from 1 to 8, each once, in order; no `begin` of the services is open.
-    #[tactic(auto, unfolding(node_model::specs::State::new_node))]
+    #[tactic(auto, unfolding(node_model::specs::State::new_node), using(node_laws::proofs::Contexts::near_by_devices))]
     pub fn new(alloc: Global, config: NodeConfig, services: S) -> Result<Node<S>, NoMemory>
         requires config { ConfigFits config }
         requires services { IsResting (S.stands services) }
@@ -191,6 +191,7 @@ impl<S: Services> Node<S> {
     }
 
     /// What its frames bear: a stamp under version 2, with the number 0 until they are queued.
+    #[tactic(auto, using(crate::proofs::StepLaws::mark_stands))]
     fn mark(&self) -> Option<Stamp>
         ensures value { result ≡ mark_on self.now }
         ensures stands { (s : NodeState) → NodeStands S.stands self.now s → result ≡ spec.mark s }
@@ -483,9 +484,10 @@ impl<S: Services> Node<S> {
         ensures stands { (s : NodeState) → NodeStands S.stands self.old s → spec.takes_as s.seen dev stamp ≡ FreshOne → NodeStands S.stands self.new (spec.with_seen (spec.seen_then s.seen dev stamp) s) }
         ensures same { version_of self.new ≡ version_of self.old }
     {
-        if let Some(stamp) = stamp {
-            note(&mut self.windows, dev, stamp);
-        }
+        let Some(stamp) = stamp else {
+            return;
+        };
+        note(&mut self.windows, dev, stamp);
     }
 
     /// A fresh frame arrives, and its stamp is taken. Condition: under version 1 a packet has no handler.
