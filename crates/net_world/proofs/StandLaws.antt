@@ -243,11 +243,11 @@ module _ {S : Type 0} (stands : S → ServiceState) where
       → IfOk r (λ acts. StepsAt stands (λ node. arrive_step node dev bytes) states at acts new) → IfOk r (λ acts. StepsAt stands (λ node. stamped_step node dev x) states at acts new)
   handed_at dev bytes x new at r states h marked done = if_ok (λ acts. StepsAt stands (λ node. arrive_step node dev bytes) states at acts new) (λ acts. StepsAt stands (λ node. stamped_step node dev x) states at acts new) r
       (λ acts s.
-        let e = by_bytes bytes x s.node dev h (marked s.node s.there) in
-        record {
-          node = s.node;
-          there = s.there;
-          list = s.list ∙ ap (λ (t : Step). t.acts) e;
-          frame = s.frame ∙ ap (λ (t : Step). t.frame) e;
-          after = subst (AllStand stands new) (ap (λ (t : Step). slice_set states at t.node) e) s.after;
-        }) done
+      let e = by_bytes bytes x s.node dev h (marked s.node s.there) in
+      record {
+        node = s.node;
+        there = s.there;
+        list = s.list ∙ ap (λ (t : Step). t.acts) e;
+        frame = s.frame ∙ ap (λ (t : Step). t.frame) e;
+        after = subst (AllStand stands new) (ap (λ (t : Step). slice_set states at t.node) e) s.after;
+      }) done

@@ -281,8 +281,8 @@ hand_at_fits w how place x at (Some node) two q p e s =
     let y = stamped_stays node x.to.dev x.frame in
     let nodes = slice_set w.nodes at step.node in
     let wire = hand_wire how w.version w.«next» nodes w.wire place x q
-        (record { fits = s.wire; stale = wire_stale w.nodes at node step.node w.wire e y.node.here (stamped_later node x.to.dev x.frame) s.stale; once = s.once; room = s.room })
-        (λ l. not_fresh on d y.node.here (two l)) in
+    (record { fits = s.wire; stale = wire_stale w.nodes at node step.node w.wire e y.node.here (stamped_later node x.to.dev x.frame) s.stale; once = s.once; room = s.room })
+    (λ l. not_fresh on d y.node.here (two l)) in
     record {
       nodes = All-set NodeFits w.nodes at step.node (stamped_fits node x.to.dev x.frame on.frame.frame (node_there w.nodes at node e s.nodes)).node s.nodes;
       devices = All-set (DevicesFit w.version) w.nodes at step.node (devices_stay w.version node step.node y.node d) s.devices;
