@@ -249,9 +249,22 @@ handler_free sep (Some name) named free word rest k = (word, (free name named, k
 
 -- an event's line has no line feed
 pub event_line_free : (ps : List NamedText) (by : Chunk → Written) (version : Version) (hosts : List HostSpec) (e : WorldEvent) → SmallHosts hosts → KeepsEvent version hosts e → EventIsWritten ps by e → Free 10 (event_words by e)
-event_line_free ps by version hosts (happens.Inject h c bound handler) small keeps k =
-    (refl, ((host_free hosts h small keeps.0).1, ((name_free (by c).program k.0).1, ((name_free c.entry k.1.0.entry).1, ((number_free bound (omega (arith, keeps.1.0.0))).1,
-    handler_free 10 handler k.1.1 (λ w n. (name_free w n).1) refl ((by c).args ∷ []) (k.1.0.line, tt))))))
+event_line_free ps by version hosts (happens.Inject h c bound handler) small keeps k = (
+  refl,
+  (
+    (host_free hosts h small keeps.0).1,
+    (
+      (name_free (by c).program k.0).1,
+      (
+        (name_free c.entry k.1.0.entry).1,
+        (
+          (number_free bound (omega (arith, keeps.1.0.0))).1,
+          handler_free 10 handler k.1.1 (λ w n. (name_free w n).1) refl ((by c).args ∷ []) (k.1.0.line, tt),
+        ),
+      ),
+    ),
+  ),
+)
 event_line_free ps by version hosts (happens.Send h d) small keeps k = (refl, ((host_free hosts h small keeps.0).1, ((number_free d.0 (omega (arith, keeps.1))).1, tt)))
 event_line_free ps by version hosts (happens.Deliver n) small keeps k = (refl, ((number_free n (omega (arith, keeps))).1, tt))
 event_line_free ps by version hosts (happens.Repeat n) small keeps k = (refl, ((number_free n (omega (arith, keeps.1))).1, tt))
@@ -265,9 +278,22 @@ front_words w h c bound handler = decimal h.0 ∷ w.program ∷ c.entry ∷ deci
 
 event_words_are : (ps : List NamedText) (by : Chunk → Written) (version : Version) (hosts : List HostSpec) (e : WorldEvent) → SmallHosts hosts → KeepsEvent version hosts e → EventIsWritten ps by e → words (spaced (event_words by e)) ≡ read_words by e
 event_words_are ps by version hosts (happens.Inject h c bound handler) small keeps k =
-    words_rest (codes "inject") (front_words (by c) h c bound handler) (by c).args
-    (refl, ((host_free hosts h small keeps.0).0, ((name_free (by c).program k.0).0, ((name_free c.entry k.1.0.entry).0, ((number_free bound (omega (arith, keeps.1.0.0))).0,
-    subst (λ ws. Free 32 ws) (append-nil (handler_words handler)) (handler_free 32 handler k.1.1 (λ w n. (name_free w n).0) refl [] tt))))))
+    words_rest (codes "inject") (front_words (by c) h c bound handler) (by c).args (
+      refl,
+      (
+        (host_free hosts h small keeps.0).0,
+        (
+          (name_free (by c).program k.0).0,
+          (
+            (name_free c.entry k.1.0.entry).0,
+            (
+              (number_free bound (omega (arith, keeps.1.0.0))).0,
+              subst (λ ws. Free 32 ws) (append-nil (handler_words handler)) (handler_free 32 handler k.1.1 (λ w n. (name_free w n).0) refl [] tt),
+            ),
+          ),
+        ),
+      ),
+    )
 event_words_are ps by version hosts (happens.Send h d) small keeps k = words_are (codes "send") _ (refl, ((host_free hosts h small keeps.0).0, ((number_free d.0 (omega (arith, keeps.1))).0, tt)))
 event_words_are ps by version hosts (happens.Deliver n) small keeps k = words_are (codes "deliver") _ (refl, ((number_free n (omega (arith, keeps))).0, tt))
 event_words_are ps by version hosts (happens.Repeat n) small keeps k = words_are (codes "repeat") _ (refl, ((number_free n (omega (arith, keeps.1))).0, tt))
