@@ -50,12 +50,30 @@ record Begun (k : TokenKind) (ts : List Token) : Type 0 where
   rest : List Token
   is : ts ≡ token k from to ∷ rest
 
+-- the kind of a token that was read, else another
+abbrev kind_by : Option TokenKind → TokenKind → TokenKind
+kind_by (Some j) k = j
+kind_by None k = k
+
+abbrev kind_in : Result (Option TokenKind × ℕ) LexFault → TokenKind → TokenKind
+kind_in (Ok m) k = kind_by m.0 k
+kind_in (Err e) k = k
+
 kind_is : (j k : TokenKind) (n m : ℕ) → moved j n ≡ moved k m → j ≡ k
-kind_is j k n m e = cc
+kind_is j k n m e = ap (λ r. kind_in r k) e
+
+-- no token was read
+abbrev NoKind : Option TokenKind → Type 0
+NoKind None = Unit {0}
+NoKind (Some k) = ⊥
+
+abbrev NoToken : Result (Option TokenKind × ℕ) LexFault → Type 0
+NoToken (Ok m) = NoKind m.0
+NoToken (Err e) = Unit {0}
 
 first_of : (at : ℕ) (text : List ℕ) (ts : List Token) (k : TokenKind) (n : ℕ) → Toks at text ts → move_at at text ≡ moved k n → 0 < length text → Begun k ts
 first_of _ _ _ k n (ends at) m some = absurd (omega (arith, some))
-first_of _ _ _ k n (skips at text ts next long skipped h) m some = absurd (let both = sym skipped ∙ m in cc)
+first_of _ _ _ k n (skips at text ts next long skipped h) m some = absurd (subst NoToken (sym skipped ∙ m) tt)
 first_of _ _ _ k n (takes at text ts j next long taken h) m some = record {
   from = at;
   to = next;
