@@ -311,14 +311,17 @@ close_keeps s k =
 -- behind the header nothing is injected yet
 as_version : (version : Version) (s : ConfigReading) → KeptAt stages.Header s → Kept (begun_by s version)
 as_version version s k =
-    let t = k.0.2 in
-    (k.0.0, k.0.1, record {
-      missing = t.missing;
-      checked = t.checked;
-      injects = subst (λ at. All (KeepsInject version) at) (sym k.1) (All-nil (KeepsInject version));
-      sum = t.sum;
-      few = t.few;
-    })
+    let t = k.0.2 in (
+      k.0.0,
+      k.0.1,
+      record {
+        missing = t.missing;
+        checked = t.checked;
+        injects = subst (λ at. All (KeepsInject version) at) (sym k.1) (All-nil (KeepsInject version));
+        sum = t.sum;
+        few = t.few;
+      },
+    )
 
 step_keeps : (stage : ConfigStage) (number : ℕ) (line : List ℕ) (s : ConfigReading) → s.stage ≡ stage → Kept s → IfStep Kept (config_step_at stage number line s)
 unfolding config_step_at

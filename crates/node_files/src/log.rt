@@ -138,11 +138,7 @@ pub struct LogReading {
 /// `inject BOUND HEX` behind its first word, under version 2 with `handler NAME` at its end or without. Reasons:
 /// `BadWord`, `BadNumber`, `BadArgument`.
 #[tactic(auto, unfolding(crate::specs::Logs::inject_entry))]
-fn inject_entry(
-    alloc: Global,
-    version: Version,
-    words: &mut Words<'_>,
-) -> Result<LogEvent, Stop>
+fn inject_entry(alloc: Global, version: Version, words: &mut Words<'_>) -> Result<LogEvent, Stop>
     ensures { Gives (λ e. e) result (spec.inject_entry version words.old) }
 {
     let bound = number(words, 0, 65_535)?;

@@ -230,7 +230,7 @@ two_knows Two e = refl
 event_said : (ps : List NamedText) (by : Chunk → Written) (s : Reading) (e : WorldEvent) → IsReady ps by s → length s.events < 50000 → KeepsEvent s.version s.hosts e → EventIsWritten ps by e → s.weight + weight_of e ≤ 16777216
     → event_line (read_words by e) s ≡ said (behind_event s e)
 unfolding event_rest
-event_said ps by s (happens.Inject h c bound handler) ready room keeps k few = event_known s _ (codes "inject") _ event.Inject refl room (inject_ok ps by s h c bound handler ready keeps.0 keeps.1 k.1.0 k.1.1 (omega (arith, few)))
+event_said ps by s (happens.Inject h c bound handler) ready room keeps k few = event_known s _ (codes "inject") _ event.Inject refl room (inject_ok ps by s h c bound handler ready keeps.0 keeps.1 k.1 k.2 (omega (arith, few)))
 event_said ps by s (happens.Send h d) ready room keeps k few = event_known s _ (codes "send") _ event.Send refl room (send_ok s h d ready.small keeps.0 keeps.1)
 event_said ps by s (happens.Deliver n) ready room keeps k few = event_known s _ (codes "deliver") _ event.Deliver refl room (deliver_ok s n keeps)
 event_said ps by s (happens.Repeat n) ready room keeps k few = event_known s _ (codes "repeat") _ event.Repeat (two_knows s.version keeps.0) room (repeat_ok s n keeps.1)
@@ -249,9 +249,22 @@ handler_free sep (Some name) named free word rest k = (word, (free name named, k
 
 -- an event's line has no line feed
 pub event_line_free : (ps : List NamedText) (by : Chunk → Written) (version : Version) (hosts : List HostSpec) (e : WorldEvent) → SmallHosts hosts → KeepsEvent version hosts e → EventIsWritten ps by e → Free 10 (event_words by e)
-event_line_free ps by version hosts (happens.Inject h c bound handler) small keeps k =
-    (refl, ((host_free hosts h small keeps.0).1, ((name_free (by c).program k.0).1, ((name_free c.entry k.1.0.entry).1, ((number_free bound (omega (arith, keeps.1.0.0))).1,
-    handler_free 10 handler k.1.1 (λ w n. (name_free w n).1) refl ((by c).args ∷ []) (k.1.0.line, tt))))))
+event_line_free ps by version hosts (happens.Inject h c bound handler) small keeps k = (
+  refl,
+  (
+    (host_free hosts h small keeps.0).1,
+    (
+      (name_free (by c).program k.0).1,
+      (
+        (name_free c.entry k.1.entry).1,
+        (
+          (number_free bound (omega (arith, keeps.1.0.0))).1,
+          handler_free 10 handler k.2 (λ w n. (name_free w n).1) refl ((by c).args ∷ []) (k.1.line, tt),
+        ),
+      ),
+    ),
+  ),
+)
 event_line_free ps by version hosts (happens.Send h d) small keeps k = (refl, ((host_free hosts h small keeps.0).1, ((number_free d.0 (omega (arith, keeps.1))).1, tt)))
 event_line_free ps by version hosts (happens.Deliver n) small keeps k = (refl, ((number_free n (omega (arith, keeps))).1, tt))
 event_line_free ps by version hosts (happens.Repeat n) small keeps k = (refl, ((number_free n (omega (arith, keeps.1))).1, tt))
@@ -265,9 +278,22 @@ front_words w h c bound handler = decimal h.0 ∷ w.program ∷ c.entry ∷ deci
 
 event_words_are : (ps : List NamedText) (by : Chunk → Written) (version : Version) (hosts : List HostSpec) (e : WorldEvent) → SmallHosts hosts → KeepsEvent version hosts e → EventIsWritten ps by e → words (spaced (event_words by e)) ≡ read_words by e
 event_words_are ps by version hosts (happens.Inject h c bound handler) small keeps k =
-    words_rest (codes "inject") (front_words (by c) h c bound handler) (by c).args
-    (refl, ((host_free hosts h small keeps.0).0, ((name_free (by c).program k.0).0, ((name_free c.entry k.1.0.entry).0, ((number_free bound (omega (arith, keeps.1.0.0))).0,
-    subst (λ ws. Free 32 ws) (append-nil (handler_words handler)) (handler_free 32 handler k.1.1 (λ w n. (name_free w n).0) refl [] tt))))))
+    words_rest (codes "inject") (front_words (by c) h c bound handler) (by c).args (
+      refl,
+      (
+        (host_free hosts h small keeps.0).0,
+        (
+          (name_free (by c).program k.0).0,
+          (
+            (name_free c.entry k.1.entry).0,
+            (
+              (number_free bound (omega (arith, keeps.1.0.0))).0,
+              subst (λ ws. Free 32 ws) (append-nil (handler_words handler)) (handler_free 32 handler k.2 (λ w n. (name_free w n).0) refl [] tt),
+            ),
+          ),
+        ),
+      ),
+    )
 event_words_are ps by version hosts (happens.Send h d) small keeps k = words_are (codes "send") _ (refl, ((host_free hosts h small keeps.0).0, ((number_free d.0 (omega (arith, keeps.1))).0, tt)))
 event_words_are ps by version hosts (happens.Deliver n) small keeps k = words_are (codes "deliver") _ (refl, ((number_free n (omega (arith, keeps))).0, tt))
 event_words_are ps by version hosts (happens.Repeat n) small keeps k = words_are (codes "repeat") _ (refl, ((number_free n (omega (arith, keeps.1))).0, tt))
