@@ -12,3 +12,4 @@ pub mod LogNames
 pub mod StepLaws
 pub mod MakeLaws
 pub mod Again
+pub mod Moments

@@ -62,7 +62,7 @@ impl<S: Services> Server<S> {
         event: &Option<Event>,
     ) -> Result<StepOutcome, ServeFault>
         requires writing { IsTrue (F.state files.old).writing }
-        requires event { IfSome event.now KeepsNodeEvent }
+        requires event { IfSome event.now (KeepsNodeEvent cfg.now.node.version) }
         ensures { (l : LinkState) (e : EventOf) → IfSome event.now (λ x. x ≡ e)
             → MakesStep S.stands cfg.now e self.old self.new
             (desk (F.state files.old) (K.state out.old) l)
@@ -71,7 +71,7 @@ impl<S: Services> Server<S> {
         let Ok(number) = next_number(self.steps) else {
             return Err(ServeFault::NoMemory);
         };
-        let Ok(texts) = try_step(alloc, &mut self.node, number, cfg.node.here, event) else {
+        let Ok(texts) = try_step(alloc, &mut self.node, number, &cfg.node, event) else {
             return Err(ServeFault::NoMemory);
         };
         let Ok(()) = write_step(files, out, texts.line.as_slice(), texts.lines.as_slice()) else {
@@ -91,7 +91,7 @@ impl<S: Services> Server<S> {
         event: &Option<Event>,
     ) -> Result<(), ServeFault>
         requires writing { IsTrue (F.state files.old).writing }
-        requires event { IfSome event.now KeepsNodeEvent }
+        requires event { IfSome event.now (KeepsNodeEvent cfg.now.node.version) }
         ensures { (l : LinkState) (e : EventOf) → IfSome event.now (λ x. x ≡ e)
             → Goes S.stands cfg.now (spec.make e) self.old self.new
             (desk (F.state files.old) (K.state out.old) l)

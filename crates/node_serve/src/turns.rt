@@ -1,3 +1,4 @@
+ghost use Rattle.link_window.specs.declared.window.Version.{Version};
 ghost use Rattle.std.specs.Prelude.{◌≡◌, ◌+◌, Some, IsTrue, IfSome, length, nat_le};
 ghost use Rattle.network_plan.specs.NodeRules.{KeepsNodeEvent, KeepsServe, KeepsInject};
 ghost use Rattle.network_plan.specs.declared.event.Event.TheVariants as event;
@@ -10,6 +11,7 @@ use crate::fault::ServeFault;
 use crate::server::Server;
 use network_plan::{Event, Inject, ServeConfig};
 use node_io::{Files, Sink};
+use plan_copies::copy_handler;
 use service_api::Services;
 use std::alloc::Global;
 
@@ -22,12 +24,12 @@ fn is_over(last: u64, period: u32, now: u64) -> bool
 
 /// The event of an injection, where its chunk finds memory.
 fn injection(alloc: Global, inject: &Inject) -> Option<Event>
-    requires { KeepsInject inject.now }
-    ensures event { IfSome result (λ e. e ≡ event.Inject inject.now.2 inject.now.1) }
-    ensures keeps { IfSome result KeepsNodeEvent }
+    ensures event { IfSome result (λ e. e ≡ event.Inject inject.now.2 inject.now.1 inject.now.3) }
+    ensures keeps { (v : Version) → KeepsInject v inject.now → IfSome result (KeepsNodeEvent v) }
 {
     let chunk = inject.2.copy(alloc).ok()?;
-    Some(Event::Inject(chunk, inject.1))
+    let handler = copy_handler(alloc, &inject.3).ok()?;
+    Some(Event::Inject(chunk, inject.1, handler))
 }
 
 impl<S: Services> Server<S> {
@@ -67,7 +69,7 @@ impl<S: Services> Server<S> {
         inject: &Inject,
     ) -> Result<(), ServeFault>
         requires writing { IsTrue (F.state files.old).writing }
-        requires keeps { KeepsInject inject.now }
+        requires keeps { KeepsInject cfg.now.node.version inject.now }
         ensures { (l : LinkState)
             → Goes S.stands cfg.now (spec.inject_one turn (Some inject.now)) self.old self.new
             (desk (F.state files.old) (K.state out.old) l)

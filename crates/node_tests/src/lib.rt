@@ -7,3 +7,5 @@ mod logs;
 mod steps;
 #[cfg(test)]
 mod tables;
+#[cfg(test)]
+mod windows;

@@ -17,7 +17,7 @@ use Rattle.fleet_run.specs.declared.fault.FleetFault.TheVariants as fleets
 use Rattle.fleet_run.specs.declared.reports.FleetEnd.{FleetEnd}
 use Rattle.fleet_run.specs.declared.reports.FleetEnd.TheVariants.{Well, Failed}
 use Rattle.node_serve.specs.Desks.{Serving, desk_of}
-use Rattle.node_serve.specs.Serves.{Serves}
+use Rattle.node_serve.specs.Moments.{ServesFrom}
 use Rattle.node_serve.specs.declared.fault.ServeFault.{ServeFault}
 use Rattle.node_serve.specs.declared.fault.ServeFault.TheVariants as serves
 use Rattle.call_causes.specs.Causes.{WriteRose, Explains}
@@ -34,7 +34,7 @@ use Rattle.cut_files.specs.Texts.{cut_output}
 use Rattle.message_commands.specs.Messages.{cut_said, gather_said, messages_text}
 use Rattle.live_commands.specs.Asks.{AsksAs, ask_said, ask_cause}
 use Rattle.live_commands.specs.Fleets.{RunsAs, fleet_said, fleet_cause}
-use Rattle.live_commands.specs.Nodes.{ServesAs, config_said, own_node, serve_cause}
+use Rattle.live_commands.specs.Nodes.{ServesAs, config_said, own_services, serve_cause}
 use Rattle.planet_cli.specs.Requests.{Request, replay, check, show, inject, fleet, node, grow, cut, gather}
 use Rattle.planet_cli.specs.Does.{Does, wire_in, shop_in, serving_in}
 use Rattle.planet_cli.specs.Calls.{Calls}
@@ -79,10 +79,10 @@ module _ (old new : Outside) (n m : SinkState) where
   ran f (Err fleets.NoMemory) p = tt
 
   served : (cfg : ServeConfig) (turns : ℕ) (read : FilesState) (result : Result (Unit {0}) ServeFault) → read.write_faults ≡ old.files.write_faults
-      → Serves cfg (own_node cfg) turns (record (serving_in old) { files = read }) (serving_in new) result → Explains (serve_cause result) old new n m
+      → ServesFrom cfg (own_services cfg) turns (record (serving_in old) { files = read }) (serving_in new) result → Explains (serve_cause result) old new n m
   served cfg turns read (Ok x) same p = tt
-  served cfg turns read (Err serves.LinkFault) same p = p.faults
-  served cfg turns read (Err serves.WriteFault) same p = elim p.faults [ inl rose ↦ inr (inl (subst (λ k. HasRisen k new.files.write_faults) same rose)) | inr rose ↦ inl rose ]
+  served cfg turns read (Err serves.LinkFault) same p = p.serves.faults
+  served cfg turns read (Err serves.WriteFault) same p = elim p.serves.faults [ inl rose ↦ inr (inl (subst (λ k. HasRisen k new.files.write_faults) same rose)) | inr rose ↦ inl rose ]
   served cfg turns read (Err serves.NoMemory) same p = tt
 
   -- where nothing was taken

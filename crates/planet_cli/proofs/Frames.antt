@@ -110,7 +110,7 @@ module _ (c : Cause) (old new : Outside) where
 
   node_asked : (file : List ℕ) (turns : ℕ) (read : FilesState) → MayName old.files.asked read.asked file
       → Took (config_said file) (ServesAs turns) old.files read c (record (serving_in old) { files = read }) (serving_in new) → MayName old.files.asked new.files.asked file
-  node_asked file turns read named (took cfg own p) = subst (λ k. MayName old.files.asked k file) (sym p.serves.only.asked) named
+  node_asked file turns read named (took cfg own p) = subst (λ k. MayName old.files.asked k file) (sym p.serves.serves.only.asked) named
   node_asked file turns read named (left u same) = subst (λ k. MayName old.files.asked k file) (sym (ap (λ w. w.files.asked) same)) named
 
   pub files_asked : (q : Option Request) → Does q c old new → AsksFor q old.files.asked new.files.asked
@@ -134,7 +134,7 @@ module _ (c : Cause) (old new : Outside) where
       → Took (config_said file) (ServesAs turns) old.files read c (record (serving_in old) { files = read }) (serving_in new)
       → IsTrue old.files.observable → LogsAtMost (config_said file old.files.held) old.files.made new.files.made
   node_made file turns read same (took cfg own p) seen =
-      subst (λ s. LogsAtMost s old.files.made new.files.made) (sym (own seen)) (subst (λ k. MayName k new.files.made cfg.log) same p.serves.made.0)
+      subst (λ s. LogsAtMost s old.files.made new.files.made) (sym (own seen)) (subst (λ k. MayName k new.files.made cfg.log) same p.serves.serves.made.0)
   node_made file turns read same (left u is) seen = none_made (config_said file old.files.held) (ap (λ w. w.files.made) is ∙ same)
 
   pub files_made : (q : Option Request) → Does q c old new → MakesAtMost q old new

@@ -8,6 +8,11 @@ use Rattle.plan_base.specs.declared.tree.Chunk.{Chunk}
 use Rattle.plan_base.specs.declared.tree.Packet.{Packet}
 use Rattle.plan_base.specs.declared.tree.Value.{Value}
 use Rattle.packet_frame.specs.declared.frame.PlainFrame.{PlainFrame}
+use Rattle.packet_frame.specs.declared.frame.PlainStamped.{PlainStamped}
+use Rattle.link_window.specs.declared.window.Stamp.{Stamp}
+use Rattle.link_window.specs.declared.window.Took.{Took}
+use Rattle.link_window.specs.declared.window.Took.TheVariants.{Fresh, Repeated, TooOld}
+use Rattle.plan_base.specs.declared.name.Name.{Name}
 use Rattle.service_api.specs.declared.advert.Advert.{Advert}
 use Rattle.service_api.specs.declared.answer.Note.{Note}
 use Rattle.service_api.specs.declared.router.Hop.{Hop}
@@ -26,15 +31,16 @@ use Rattle.node_model.specs.declared.acts.Act.{Act}
 use Rattle.node_model.specs.declared.acts.Act.TheVariants.{Arrived, Noted, Ended, Dropped, Injected, SerialsSpent, Heard, Misplaced, Ticked, Taken}
 use Rattle.node_model.specs.declared.acts.Reason.TheVariants as reason
 use Rattle.node_model.specs.declared.acts.Sending.{Sending}
+use Rattle.node_model.specs.declared.acts.Lane.{Lane}
 use Rattle.plan_base.specs.declared.ids.Host.{Host}
 use Rattle.node_model.specs.State.{Links, Queues, NodeState, routing_of, is_host, leads_to}
 use Rattle.node_model.specs.Visits.{evaluated, visit_end, visit_of, services_end, services_after, around, visit_at}
-use Rattle.node_model.specs.Node.{Step, send_act, send_queues, sends_acts, sends_queues, has_room, packet_sending, visit_sends, visit_acts, visited, inject_step, next_serial, injected_packet, forward_by, forward_step, packet_step, advert_step, frame_step, tick_step, ticking, tick_sends, advert_sending, take_step, take_from, only_acts, onward, hearing}
+use Rattle.node_model.specs.Node.{Step, send_act, send_queues, sends_acts, sends_queues, has_room, packet_sending, visit_sends, visit_acts, visited, inject_step, next_serial, injected_packet, forward_by, forward_step, packet_step, advert_step, frame_step, drop_act, lane_room, mark, takes_as, stamped_as, stamped_step, tick_step, ticking, tick_sends, advert_sending, take_step, take_first, take_from, only_acts, onward, hearing}
 use Rattle.node_model.specs.Fits.{QueuesKeep}
-use Rattle.node_laws.proofs.Keeping.{send_keeps, sends_keep, took}
-use Rattle.port_visits.specs.Only.{Allowed, Good}
+use Rattle.node_laws.proofs.Keeping.{Whatever, send_keeps, sends_keep, took}
+use Rattle.port_visits.specs.Only.{Allowed, MaySend, Good}
 use Rattle.port_visits.specs.Visits.{EndsGood}
-use Rattle.port_node.specs.Known.{IsClosed, FrameKnown, NodeKnown, ActKnown, TakenKnown, StepKnown}
+use Rattle.port_node.specs.Known.{IsClosed, FrameKnown, StampedKnown, NodeKnown, ActKnown, TakenKnown, StepKnown}
 
 pub all_append : {X : Type 0} (P : X → Type 0) (xs ys : List X) → AllByRecursion P xs → AllByRecursion P ys → AllByRecursion P (xs ++ ys)
 all_append P [] ys h k = k
@@ -44,7 +50,7 @@ module _ (a : Allowed) (closed : IsClosed a) where
   -- ---- visits
 
   pub record VisitKnown (v : Visit) (services : ServiceState) : Type 0 where
-    pub sends : AllByRecursion (λ (x : Sent). a.chunk x.packet.chunk) v.outbox
+    pub sends : AllByRecursion (MaySend a) v.outbox
     pub notes : AllByRecursion a.note v.notes
     pub offer : services.offer ≡ a.offer
 
@@ -61,33 +67,51 @@ module _ (a : Allowed) (closed : IsClosed a) where
 
   -- ---- sends
 
-  Sends : Sending → Type 0
-  Sends s = FrameKnown a s.frame
+  abbrev Sends : Sending → Type 0
+  Sends s = StampedKnown a s.frame
 
-  sends_all : (ss : List Sent) → AllByRecursion (λ (x : Sent). a.chunk x.packet.chunk) ss → All (λ s. FrameKnown a s.frame) (map packet_sending ss)
-  sends_all [] h = All-nil (λ s. FrameKnown a s.frame)
-  sends_all (s ∷ ss) h = All-cons (λ s. FrameKnown a s.frame) (packet_sending s) (map packet_sending ss) h.0 (sends_all ss h.1)
+  -- a number changes nothing
+  again : Whatever (StampedKnown a)
+  again n x h = h
 
-  send_act_known : (queues : Queues) (s : Sent) → ActKnown a (send_act queues (packet_sending s))
+  sends_all : (m : Option Stamp) (ss : List Sent) → AllByRecursion (MaySend a) ss → All Sends (map (packet_sending m) ss)
+  sends_all m [] h = All-nil Sends
+  sends_all m (s ∷ ss) h = All-cons Sends (packet_sending m s) (map (packet_sending m) ss) h.0 (sends_all m ss h.1)
+
+  -- the act of a frame that is to be queued is one of three
+  one_act : (queues : Queues) (s : Sending) → ActKnown a s.queued → ActKnown a s.dropped → ActKnown a s.spent → ActKnown a (send_act queues s)
   unfolding send_act
-  send_act_known queues s = by (has_room queues (packet_sending s).dev)
+  one_act queues s q d p = by (has_room queues s.dev s.frame) (slice_get queues s.dev.0)
     where
-      by : (t : Bool) → ActKnown a (if t then (packet_sending s).queued else (packet_sending s).dropped)
-      by true = tt
-      by false = tt
+      full : (t : Bool) → ActKnown a (if t then s.spent else s.dropped)
+      full true = p
+      full false = d
 
-  sends_acts_known : (queues : Queues) (ss : List Sent) → AllByRecursion (ActKnown a) (sends_acts queues (map packet_sending ss))
+      unsent : (o : Option Lane) → ActKnown a (drop_act o s)
+      unsent None = d
+      unsent (Some lane) = full (lane_room lane)
+
+      by : (t : Bool) (o : Option Lane) → ActKnown a (if t then s.queued else drop_act o s)
+      by true o = q
+      by false o = unsent o
+
+  send_act_known : (m : Option Stamp) (queues : Queues) (s : Sent) → ActKnown a (send_act queues (packet_sending m s))
+  send_act_known m queues s = one_act queues (packet_sending m s) tt tt tt
+
+  sends_acts_known : (m : Option Stamp) (queues : Queues) (ss : List Sent) → AllByRecursion (ActKnown a) (sends_acts queues (map (packet_sending m) ss))
   unfolding sends_acts
-  sends_acts_known queues [] = tt
-  sends_acts_known queues (s ∷ ss) = (send_act_known queues s, sends_acts_known (send_queues queues (packet_sending s)) ss)
+  sends_acts_known m queues [] = tt
+  sends_acts_known m queues (s ∷ ss) = (send_act_known m queues s, sends_acts_known m (send_queues queues (packet_sending m s)) ss)
 
   notes_known : (ns : List Note) → AllByRecursion a.note ns → AllByRecursion (ActKnown a) (map Noted ns)
   notes_known [] h = tt
   notes_known (n ∷ ns) h = (h.0, notes_known ns h.1)
 
-  visit_acts_known : (queues : Queues) (p : Packet) (v : Visit) (n : ServiceState) → VisitKnown v n → AllByRecursion (ActKnown a) (visit_acts queues p v)
+  visit_acts_known : (m : Option Stamp) (queues : Queues) (p : Packet) (v : Visit) (n : ServiceState) → VisitKnown v n → AllByRecursion (ActKnown a) (visit_acts m queues p v)
   unfolding visit_acts visit_sends
-  visit_acts_known queues p v n h = all_append (ActKnown a) (map Noted v.notes) (Ended p.family v.outcome v.evals v.left ∷ sends_acts queues (map packet_sending v.outbox)) (notes_known v.notes h.notes) (tt, sends_acts_known queues v.outbox)
+  visit_acts_known m queues p v n h =
+      all_append (ActKnown a) (map Noted v.notes) (Ended p.family v.outcome v.evals v.left ∷ sends_acts queues (map (packet_sending m) v.outbox))
+      (notes_known v.notes h.notes) (tt, sends_acts_known m queues v.outbox)
 
   -- ---- steps
 
@@ -96,35 +120,42 @@ module _ (a : Allowed) (closed : IsClosed a) where
   visited_known acts node p h k n =
       let v = visit_known (around node p) (begun_now node.services) p n.offer k in
       record {
-        node = record { queues = sends_keep (FrameKnown a) node.queues (map packet_sending (visit_at node p).outbox) (sends_all (visit_at node p).outbox v.sends) n.queues; offer = v.offer };
-        acts = all_append (ActKnown a) acts (visit_acts node.queues p (visit_at node p)) h (visit_acts_known node.queues p (visit_at node p) (services_after (around node p) (begun_now node.services) p) v);
+        node = record {
+          queues = sends_keep (StampedKnown a) again node.queues (map (packet_sending (mark node)) (visit_at node p).outbox) (sends_all (mark node) (visit_at node p).outbox v.sends) n.queues;
+          offer = v.offer;
+        };
+        acts = all_append (ActKnown a) acts (visit_acts (mark node) node.queues p (visit_at node p)) h
+            (visit_acts_known (mark node) node.queues p (visit_at node p) (services_after (around node p) (begun_now node.services) p) v);
         frame = tt;
       }
 
-  pub inject_known : (node : NodeState) (c : Chunk) (b : ℕ) → a.chunk c → NodeKnown a node → StepKnown a (inject_step [] node c b)
+  pub inject_known : (node : NodeState) (c : Chunk) (b : ℕ) (o : Option Name) → a.chunk c × (o ≡ None) → NodeKnown a node → StepKnown a (inject_step [] node c b o)
   unfolding inject_step
-  inject_known node c b k n = by (node.serial == 18446744073709551615)
+  inject_known node c b o k n = by (node.serial == 18446744073709551615)
     where
-      by : (t : Bool) → StepKnown a (cond t (record { acts = SerialsSpent ∷ []; frame = None; node = node }) (visited (Injected (record { source = node.here; serial = node.serial }) b ∷ []) (next_serial node) (injected_packet node c b)))
-      by true = record { node = n; acts = (tt, tt); frame = tt }
-      by false = visited_known (Injected (record { source = node.here; serial = node.serial }) b ∷ []) (next_serial node) (injected_packet node c b) (tt, tt) k (record { queues = n.queues; offer = n.offer })
+      abbrev grant : Act
+      grant = Injected (record { source = node.here; serial = node.serial }) b
 
-  by_known : (node : NodeState) (d : Dev) (p : Packet) (h : Hop) → a.chunk p.chunk → NodeKnown a node → StepKnown a (forward_by node d p h)
+      by : (t : Bool) → StepKnown a (cond t (record { acts = SerialsSpent ∷ []; frame = None; node = node }) (visited (grant ∷ []) (next_serial node) (injected_packet node c b o)))
+      by true = record { node = n; acts = (tt, tt); frame = tt }
+      by false = visited_known (grant ∷ []) (next_serial node) (injected_packet node c b o) (tt, tt) k.0 (record { queues = n.queues; offer = n.offer })
+
+  by_known : (node : NodeState) (d : Dev) (p : Packet) (h : Hop) → a.chunk p.chunk × (p.handler ≡ None) → NodeKnown a node → StepKnown a (forward_by node d p h)
   unfolding forward_by
   by_known node d p (To host over) k n = record {
-    node = record { queues = send_keeps (FrameKnown a) node.queues (packet_sending (record { dev = over; packet = p })) k n.queues; offer = n.offer };
-    acts = (tt, (send_act_known node.queues (record { dev = over; packet = p }), tt));
+    node = record { queues = send_keeps (StampedKnown a) again node.queues (packet_sending (mark node) (record { dev = over; packet = p })) k n.queues; offer = n.offer };
+    acts = (tt, (send_act_known (mark node) node.queues (record { dev = over; packet = p }), tt));
     frame = tt;
   }
   by_known node d p NoService k n = record { node = n; acts = (tt, (tt, tt)); frame = tt }
   by_known node d p NoRoute k n = record { node = n; acts = (tt, (tt, tt)); frame = tt }
 
-  pub packet_known : (node : NodeState) (d : Dev) (p : Packet) → a.chunk p.chunk → NodeKnown a node → StepKnown a (packet_step node d p)
+  pub packet_known : (node : NodeState) (d : Dev) (p : Packet) → a.chunk p.chunk × (p.handler ≡ None) → NodeKnown a node → StepKnown a (packet_step node d p)
   unfolding packet_step forward_step
   packet_known node d p k n = by (is_host p.dest node.here) (p.bound == 0)
     where
       by : (t u : Bool) → StepKnown a (cond t (visited (Arrived d ∷ []) node p) (cond u (record { acts = Arrived d ∷ Dropped reason.NoBound p.family 0 ∷ []; frame = None; node = node }) (forward_by node d p (hop (all_routes (routing_of node)) p.route node.here p.dest))))
-      by true u = visited_known (Arrived d ∷ []) node p (tt, tt) k n
+      by true u = visited_known (Arrived d ∷ []) node p (tt, tt) k.0 n
       by false true = record { node = n; acts = (tt, (tt, tt)); frame = tt }
       by false false = by_known node d p (hop (all_routes (routing_of node)) p.route node.here p.dest) k n
 
@@ -141,40 +172,49 @@ module _ (a : Allowed) (closed : IsClosed a) where
   frame_known node d (PlainFrame.Advert x) k n = advert_known node d x n
   frame_known node d (PlainFrame.Ask b c) k n = record { node = n; acts = (tt, (tt, tt)); frame = tt }
 
+  -- a frame that is stale changes nothing
+  as_known : (node : NodeState) (d : Dev) (x : PlainStamped) (t : Took) → StampedKnown a x → NodeKnown a node → StepKnown a (stamped_as node d x t)
+  as_known node d x Fresh k n = let s = frame_known node d x.frame k n in record { node = record { queues = s.node.queues; offer = s.node.offer }; acts = s.acts; frame = s.frame }
+  as_known node d x Repeated k n = record { node = n; acts = (tt, (tt, tt)); frame = tt }
+  as_known node d x TooOld k n = record { node = n; acts = (tt, (tt, tt)); frame = tt }
+
+  pub stamped_known : (node : NodeState) (d : Dev) (x : PlainStamped) → StampedKnown a x → NodeKnown a node → StepKnown a (stamped_step node d x)
+  unfolding stamped_step
+  stamped_known node d x k n = as_known node d x (takes_as node.seen d x.stamp) k n
+
   pub take_known : (node : NodeState) (d : Dev) → NodeKnown a node → StepKnown a (take_step node d)
   unfolding take_step
   take_known node d n = by (slice_get node.queues d.0) refl
     where
-      by : (o : Option (List PlainFrame)) → slice_get node.queues d.0 ≡ o → StepKnown a (take_from node d o)
-      by None e = record { node = n; acts = tt; frame = tt }
-      by (Some []) e = record { node = n; acts = tt; frame = tt }
-      by (Some (x ∷ queue)) e =
-          let t = took (FrameKnown a) node.queues d.0 x queue e n.queues in
+      first : (number : ℕ) (frames : List PlainStamped) → slice_get node.queues d.0 ≡ Some (record { frames = frames; number = number }) → StepKnown a (take_first node d number frames)
+      first number [] e = record { node = n; acts = tt; frame = tt }
+      first number (x ∷ queue) e =
+          let t = took (StampedKnown a) node.queues d.0 number x queue e n.queues in
           record { node = record { queues = t.rest; offer = n.offer }; acts = (tt, tt); frame = t.frame }
+
+      by : (o : Option Lane) → slice_get node.queues d.0 ≡ o → StepKnown a (take_from node d o)
+      by None e = record { node = n; acts = tt; frame = tt }
+      by (Some lane) e = first lane.number lane.frames e
 
   -- ---- ticks: adverts alone
 
-  adverts_all : (x : Advert) (links : Links) → All (λ s. FrameKnown a s.frame) (map (advert_sending x) links)
-  adverts_all x [] = All-nil (λ s. FrameKnown a s.frame)
-  adverts_all x (l ∷ ls) = All-cons (λ s. FrameKnown a s.frame) (advert_sending x l) (map (advert_sending x) ls) tt (adverts_all x ls)
+  adverts_all : (m : Option Stamp) (x : Advert) (links : Links) → All Sends (map (advert_sending m x) links)
+  adverts_all m x [] = All-nil Sends
+  adverts_all m x (l ∷ ls) = All-cons Sends (advert_sending m x l) (map (advert_sending m x) ls) tt (adverts_all m x ls)
 
-  advert_act : (queues : Queues) (x : Advert) (l : Host × Dev) → ActKnown a (send_act queues (advert_sending x l))
-  unfolding send_act
-  advert_act queues x l = by (has_room queues (advert_sending x l).dev)
-    where
-      by : (t : Bool) → ActKnown a (if t then (advert_sending x l).queued else (advert_sending x l).dropped)
-      by true = tt
-      by false = tt
-
-  advert_acts : (queues : Queues) (x : Advert) (links : Links) → AllByRecursion (ActKnown a) (sends_acts queues (map (advert_sending x) links))
+  advert_acts : (m : Option Stamp) (queues : Queues) (x : Advert) (links : Links) → AllByRecursion (ActKnown a) (sends_acts queues (map (advert_sending m x) links))
   unfolding sends_acts
-  advert_acts queues x [] = tt
-  advert_acts queues x (l ∷ ls) = (advert_act queues x l, advert_acts (send_queues queues (advert_sending x l)) x ls)
+  advert_acts m queues x [] = tt
+  advert_acts m queues x (l ∷ ls) = (one_act queues (advert_sending m x l) tt tt tt, advert_acts m (send_queues queues (advert_sending m x l)) x ls)
 
   pub tick_known : (node : NodeState) → NodeKnown a node → StepKnown a (tick_step node)
   unfolding tick_step tick_sends
   tick_known node n = record {
-    node = record { queues = sends_keep (FrameKnown a) node.queues (map (advert_sending (own_advert (routing_of node))) node.neighbours) (adverts_all (own_advert (routing_of node)) node.neighbours) n.queues; offer = n.offer };
-    acts = (tt, advert_acts node.queues (own_advert (routing_of node)) node.neighbours);
+    node = record {
+      queues = sends_keep (StampedKnown a) again node.queues (map (advert_sending (mark node) (own_advert (routing_of node))) node.neighbours)
+          (adverts_all (mark node) (own_advert (routing_of node)) node.neighbours) n.queues;
+      offer = n.offer;
+    };
+    acts = (tt, advert_acts (mark node) node.queues (own_advert (routing_of node)) node.neighbours);
     frame = tt;
   }

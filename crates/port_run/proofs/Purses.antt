@@ -92,10 +92,11 @@ module _ (w : WorldState) (n : ℕ) where
       by false = record { world = h.world; wired = h.wired; paid = h.paid }
 
   wire_pays : (e : WorldEvent) (s : PortState) → IsWire (Wire e) → Pays w n s → Pays w n (after e s)
-  wire_pays (event.Inject g c b) s q h = absurd q
+  wire_pays (event.Inject g c b o) s q h = absurd q
   wire_pays (event.Raw g d bytes) s q h = absurd q
   wire_pays (event.Send g d) s q h = let p = h.paid in hears_pay (happens s.world (event.Send g d)).lines (makes (event.Send g d) s) (made (event.Send g d) s tt h.world h.wired (omega (arith, p)))
   wire_pays (event.Deliver k) s q h = let p = h.paid in hears_pay (happens s.world (event.Deliver k)).lines (makes (event.Deliver k) s) (made (event.Deliver k) s tt h.world h.wired (omega (arith, p)))
+  wire_pays (event.Repeat k) s q h = let p = h.paid in hears_pay (happens s.world (event.Repeat k)).lines (makes (event.Repeat k) s) (made (event.Repeat k) s tt h.world h.wired (omega (arith, p)))
   wire_pays (event.Lose k) s q h = let p = h.paid in hears_pay (happens s.world (event.Lose k)).lines (makes (event.Lose k) s) (made (event.Lose k) s tt h.world h.wired (omega (arith, p)))
   wire_pays (event.Tick g) s q h = let p = h.paid in hears_pay (happens s.world (event.Tick g)).lines (makes (event.Tick g) s) (made (event.Tick g) s tt h.world h.wired (omega (arith, p)))
 

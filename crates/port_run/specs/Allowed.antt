@@ -49,7 +49,7 @@ pub record PortServes (offer : Offering) : Type 0 where
 
 -- no bytes come from outside, and nothing is injected but by the ends
 abbrev pub IsWire : PortEvent → Type 0
-IsWire (Wire (event.Inject h c b)) = ⊥
+IsWire (Wire (event.Inject h c b o)) = ⊥
 IsWire (Wire (event.Raw h d bytes)) = ⊥
 IsWire _ = Unit {0}
 

@@ -33,7 +33,7 @@ line_bound _ = 0
 
 -- the bound that an event grants
 abbrev pub event_bound : WorldEvent → ℕ
-event_bound (event.Inject h c b) = b
+event_bound (event.Inject h c b o) = b
 event_bound _ = 0
 
 -- no family stands twice

@@ -94,11 +94,11 @@ second_pays s = record { offers = s.offers; sender = s.sender; receiver = s.rece
 
 -- the injection of an ack of all that was delivered
 abbrev pub ack_event : Receiving → WorldEvent
-ack_event r = event.Inject second_host (ack_chunk first_host (pos (next_of r))) price
+ack_event r = event.Inject second_host (ack_chunk first_host (pos (next_of r))) price None
 
 -- the injection of a message
 abbrev pub message_event : ℕ → Body → WorldEvent
-message_event seq b = event.Inject first_host (data_chunk second_host (pos seq) b) price
+message_event seq b = event.Inject first_host (data_chunk second_host (pos seq) b) price None
 
 -- the second host's ack, where its purse pays
 abbrev pub acks : PortState → PortState

@@ -103,7 +103,7 @@ module _ (a : Allowed) where
   only_send k h n r c s g = by (is_paid n s.ctx.purse)
     where
       way : (w : Hop) → EndsGood a (λ _. Unit {0}) (sent_by w k h (bound_of n) r s).after
-      way (To via dev) = (record { offer = g.offer; sends = all_push (λ (x : Sent). a.chunk x.packet.chunk) s.outbox (record { dev = dev; packet = packet s k h (bound_of n) r }) g.sends c; notes = g.notes }, tt)
+      way (To via dev) = (record { offer = g.offer; sends = all_push (MaySend a) s.outbox (record { dev = dev; packet = packet s k h (bound_of n) r }) g.sends (c, refl); notes = g.notes }, tt)
       way NoService = g
       way NoRoute = g
 

@@ -10,5 +10,5 @@ abbrev pub invariant-loop-entry : goal.invariant-loop-entry
 invariant-loop-entry g l = record {
   number : l.number ≡ l.entry-index;
   stands : (s : NodeState) → NodeStands g.S.Services.stands l.initial.node s → NodeStands g.S.Services.stands l.node (node_after s (take l.entry-index l.entries));
-  written : (s : NodeState) → NodeStands g.S.Services.stands l.initial.node s → Writes (g.K.Sink.state l.initial.out) (g.K.Sink.state l.out) (lines_text l.here (played 0 s (take l.entry-index l.entries)));
+  written : (s : NodeState) → NodeStands g.S.Services.stands l.initial.node s → Writes (g.K.Sink.state l.initial.out) (g.K.Sink.state l.out) (lines_text l.config.here (played 0 s (take l.entry-index l.entries)));
 }
