@@ -11,7 +11,8 @@ use Rattle.line_files.specs.Numbers.{number_at}
 use Rattle.line_files.specs.HexWords.{hex_at}
 use Rattle.line_files.proofs.FileLaws.{is_keeping}
 use Rattle.line_files.proofs.Keeping.{IfRead, then_keeps, done_keeps, none_keeps, number_is, hex_is, IfStep, step_done, read_keeps}
-use Rattle.line_files.proofs.Placing.{OnFault, fault_done, fault_here, Places}
+use Rattle.line_files.specs.Inside.{OnFault}
+use Rattle.line_files.proofs.Placing.{fault_done, fault_here, Places, refuses_read}
 use Rattle.node_files.specs.Parts.{behind_word}
 use Rattle.node_files.specs.Answers.{Accepted, Refused}
 use Rattle.node_files.proofs.PartLaws.{header_keeps, usual_keeps, header_placed, usual_placed, answered}
@@ -136,4 +137,4 @@ cut_places = record {
 }
 
 pub cut_answered : (bytes : List ℕ) → Accepted cut_of bytes ⊎ Refused cut_of bytes
-cut_answered bytes = answered cut_format nothing_read Anywhere cut_places tt bytes
+cut_answered bytes = answered cut_format nothing_read (refuses_read cut_format nothing_read Anywhere cut_places tt) bytes
