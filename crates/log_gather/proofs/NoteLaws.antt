@@ -6,7 +6,7 @@ use Rattle.std.specs.Option.{option_map}
 use Rattle.service_api.specs.declared.answer.Note.{Note}
 use Rattle.network_plan.specs.declared.event.LogEvent.{LogEvent}
 use Rattle.node_model.specs.declared.acts.Act.{Act}
-use Rattle.node_model.specs.declared.acts.Act.TheVariants as act
+use Rattle.node_model.specs.declared.acts.Act.TheVariants.{Noted}
 use Rattle.node_model.specs.State.{NodeState}
 use Rattle.serve_model.specs.Runs.{acts_of, node_by}
 use Rattle.frag_chunks.specs.declared.holding.Entry.{Entry}
@@ -30,24 +30,8 @@ notes_more [] ys c = refl
 notes_more (x ∷ xs) ys c = notes_more xs ys (with_note x c)
 
 act_noted : (a : Act) (c : Counting) → with_act a c ≡ with_notes (note_of a) c
-act_noted (act.Noted note) c = refl
-act_noted (act.Injected f b) c = refl
-act_noted (act.Arrived d) c = refl
-act_noted act.Asked c = refl
-act_noted (act.Ended f o e l) c = refl
-act_noted (act.Queued d f b) c = refl
-act_noted (act.Dropped r f b) c = refl
-act_noted (act.Bad f) c = refl
-act_noted act.Misplaced c = refl
-act_noted (act.AdvertQueued d) c = refl
-act_noted (act.AdvertDropped d) c = refl
-act_noted (act.AdvertSpent d) c = refl
-act_noted (act.Stale t w) c = refl
-act_noted (act.Heard d) c = refl
-act_noted (act.Ticked t) c = refl
-act_noted (act.Taken d w) c = refl
-act_noted act.SerialsSpent c = refl
-act_noted act.NoMemory c = refl
+act_noted (Noted note) c = refl
+act_noted _ c = refl
 
 acts_noted : (acts : List Act) (c : Counting) → with_acts acts c ≡ with_notes (notes_in acts) c
 acts_noted [] c = refl
