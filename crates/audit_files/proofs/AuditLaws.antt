@@ -22,7 +22,8 @@ use Rattle.line_files.specs.Numbers.{number_at}
 use Rattle.line_files.specs.FileNames.{file_name_at}
 use Rattle.line_files.proofs.FileLaws.{is_keeping}
 use Rattle.line_files.proofs.Keeping.{IfRead, then_keeps, done_keeps, allowed_below, allowed_not, either_false, number_is, file_name_is, IfStep, step_done, read_keeps}
-use Rattle.line_files.proofs.Placing.{OnFault, fault_done, fault_here, Places}
+use Rattle.line_files.proofs.Placing.{OnFault, fault_done, fault_here, Places, refuses_read}
+use Rattle.line_files.specs.Inside.{RefusesRead}
 use Rattle.schedule_text.proofs.NetworkRules.{apart_push}
 use Rattle.node_files.specs.Answers.{Accepted, Refused}
 use Rattle.node_files.proofs.PartLaws.{header_keeps, usual_keeps, header_placed, usual_placed, answered}
@@ -178,5 +179,9 @@ audit_places = record {
   finish = λ number s low b. end_placed s.begun (ltb 0 (length s.logs)) number s low;
 }
 
+-- they refuse lines that were read
+audit_refuses : RefusesRead audit_format nothing_read
+audit_refuses = refuses_read audit_format nothing_read Anywhere audit_places tt
+
 pub audit_answered : (bytes : List ℕ) → Accepted audit_of bytes ⊎ Refused audit_of bytes
-audit_answered bytes = answered audit_format nothing_read Anywhere audit_places tt bytes
+audit_answered bytes = answered audit_format nothing_read audit_refuses bytes

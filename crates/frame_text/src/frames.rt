@@ -1,10 +1,9 @@
-ghost use Rattle.std.specs.Prelude.{◌≡◌, ◌++◌, [], Option, codes, IfOk, OnOk, OnErr};
+ghost use Rattle.std.specs.Prelude.{◌≡◌, ◌++◌, [], None, codes, IfOk, OnOk, OnErr};
 ghost use Rattle.std.specs.Fmt.{decimal};
 ghost use Rattle.std.specs.String.{string_bytes};
 ghost use Rattle.std.specs.List.{flat_map};
 ghost use Rattle.printed_forms.specs.Pieces.{listed, commas};
 ghost use Rattle.printed_forms.specs.Printed.{value_text, program_text};
-ghost use Rattle.link_window.specs.declared.window.Stamp.{Stamp};
 ghost use Rattle.packet_frame.specs.Stamped.{stamped_plain};
 ghost use Rattle.packet_frame.specs.declared.frame.PlainFrame.{PlainFrame as Plain};
 ghost use Rattle.frame_text.specs.Frames.{chunk_text, packet_head as head_text, stamp_text, handler_text, packet_line, row_line, text_with, frame_text};
@@ -130,7 +129,7 @@ fn put_advert(
 /// An ask, which bears no stamp.
 #[tactic(auto, using(std::proofs::Common::append_assoc))]
 fn put_ask(alloc: Global, bound: u32, c: &Chunk, out: &mut Bytes) -> Result<(), NoMemory>
-    ensures { (s : Option Stamp) → OnOk result (out.new ≡ out.old ++ text_with s (Plain.Ask bound c.now)) }
+    ensures { OnOk result (out.new ≡ out.old ++ text_with None (Plain.Ask bound c.now)) }
 {
     let line = format!(in alloc; "ask bound {bound}\n")?;
     put(out, line.as_bytes())?;

@@ -170,11 +170,11 @@ impl<S: Services> Network<S> {
         let Some(place) = wire_place(self.wire.as_slice(), number) else {
             return nothing(alloc);
         };
-        let to = self.wire.at(place).to;
+        let x = self.wire.at(place);
+        let to = x.to;
         let Some(at) = node_place(self.nodes.as_slice(), to.host) else {
             return nothing(alloc);
         };
-        let x = self.wire.at(place);
         let line = hand_line(how, x.number);
         let acts = hand_to(alloc, &mut self.nodes, at, to.dev, &x.frame)?;
         hand_off(alloc, &mut self.wire, how, place);

@@ -11,7 +11,8 @@ use Rattle.world_model.specs.declared.lines.Line.{Line}
 use Rattle.world_model.specs.declared.lines.Line.TheVariants.{At, Forged, Lost}
 use Rattle.world_model.specs.declared.lines.Entry.{Entry}
 use Rattle.world_model.specs.World.{entry_at}
-use Rattle.world_model.specs.Counts.{left, line_granted, line_hops, line_evals, line_left, line_sum}
+use Rattle.world_model.specs.Counts as count
+use Rattle.world_model.specs.Counts.{line_granted, line_hops, line_evals, line_left, line_sum}
 use Rattle.world_model.specs.Texts.{line_families}
 
 -- ---- one line
@@ -103,4 +104,4 @@ pub record LinesFit (late : Bool) (rows : List FamilyRow) (lines : List Line) : 
 
 -- what these lines leave behind this history, where their event's frame was handed before or wasn't
 abbrev pub Leaves : Bool → List Entry → ℕ → List Line → Type 0
-Leaves late h n lines = (f : Family) → left f (h ++ map (entry_at n) lines) ≡ left f h + line_sum (line_left f late) lines
+Leaves late h n lines = (f : Family) → count.left f (h ++ map (entry_at n) lines) ≡ count.left f h + line_sum (line_left f late) lines

@@ -1,4 +1,4 @@
-use Rattle.std.proofs.Common.{◌∙◌, ◌++◌, ap, refl}
+use Rattle.std.proofs.Common.{◌∙◌, ◌++◌, ◌∷◌, [], ap, refl}
 use Rattle.world_model.specs.World.{wire_place, lines_at}
 use Rattle.std.proofs.lemmas.List.{length-set}
 use Rattle.net_world.proofs.StandLaws.{if_ok, given_back, marked_there}
@@ -14,14 +14,18 @@ pub returns-in_default-node_place-clause-ok : goal.returns-in_default-node_place
 returns-in_default-node_place-clause-ok g c = λ w h.
     let there = c.in-Some.ensures.place ∙ ap (λ x. wire_place x c.args.number) c.as_slice.ensures in
     let none = c.in_default-node_place.ensures.place w.nodes (placed _ c.args.self.now w _ h.is c.as_slice-2.ensures.value) in
-    if_ok _ _ c.nothing-in_default-node_place.result (λ lines e. none_there _ c.args.self.now w c.args.number h.is lines c.args.how c.in-Some.place c.at.result.now there c.at.ensures none e) c.nothing-in_default-node_place.ensures
+    if_ok _ _ c.nothing-in_default-node_place.result (λ lines e. none_there _ c.args.self.now w c.args.number h.is lines c.args.how c.in-Some.place c.at-x.result.now there c.at-x.ensures none e) c.nothing-in_default-node_place.ensures
 
 pub returns-clause-ok : goal.returns-clause-ok
 returns-clause-ok g c = λ w h.
     let there = c.in-Some.ensures.place ∙ ap (λ x. wire_place x c.args.number) c.as_slice.ensures in
     let node = c.in-Some-node_place.ensures.place w.nodes (placed _ c.args.self.now w _ h.is c.as_slice-2.ensures.value) in
     let x = c.at-x.result.now in
-    let y = c.at.result.now in
-    let same = one_frame y x (sym c.at.ensures ∙ c.at-x.ensures) in
-    let done = c.in_ok-acts.ensures w.nodes (placed _ c.args.self.now w _ h.is c.deref_mut.ensures.value) (marked_there _ c.args.self.now w c.in-Some.place x h c.at-x.ensures c.in-Some-node_place.at) in
-    handed_ok
+    let marked = marked_there _ c.args.self.now w c.in-Some.place x h c.at-x.ensures c.in-Some-node_place.at in
+    let done = c.in_ok-acts.ensures w.nodes (placed _ c.args.self.now w _ h.is c.deref_mut.ensures.value) marked in
+    let line = c.in_ok-before.ensures ∙ ap (λ l. l ∷ []) c.hand_line-line.ensures in
+    let back = given_back _ c.args.self.now.nodes c.hand_to.new.nodes w.nodes _ h.is.nodes done.after (length-set w.nodes c.in-Some-node_place.at _) in
+    if_ok _ _ c.with_acts.result
+    (λ lines e. one_handed _ c.args.self.now w c.args.number h.is lines c.args.how _ c.in-Some.place x c.in-Some-node_place.at c.in_ok-acts.acts c.hand_to.new.nodes there c.at-x.ensures node done
+    (e ∙ ap (λ b. b ++ lines_at x.to.host c.in_ok-acts.acts.list) line) back refl (c.hand_off.ensures x c.at-x.ensures) refl refl refl)
+    c.with_acts.ensures
