@@ -90,4 +90,4 @@ refused_placed f begin bytes e places h = stands f begin places [] (lines bytes)
 
 -- every line before the refused one is inside the format
 pub before_inside : {S T : Type 0} (f : Format S T) (begin : S) (bytes : List ℕ) (n k : ℕ) (r : LineReason) → RefusesRead f begin → file_of f begin bytes ≡ Err (faults.Line n r) → k < n → AreInside f begin (take k (lines bytes))
-before_inside f begin bytes n k r places e lt = reaches f begin places k [] (lines bytes) begin n r (nothing_behind f begin places) e lt
+before_inside f begin bytes n k r places e lt = reaches f begin places k [] (lines bytes) begin n r (nothing_behind f begin places) e (omega (arith, lt))

@@ -4,7 +4,7 @@ ghost use Rattle.network_plan.specs.NodeRules.{KeepsEntry, KeepsLog, KeepsNode, 
 ghost use Rattle.log_replay.specs.Replays.{Prints};
 ghost use Rattle.node_model.specs.State.{NodeState, new_node};
 ghost use Rattle.node_model.specs.Node.{node_step};
-ghost use Rattle.node_core.specs.Stands.{NodeStands, IsStep};
+ghost use Rattle.node_core.specs.Stands.{version_of, NodeStands, IsStep};
 ghost use Rattle.node_core.specs.Turns.{IsResting};
 ghost use Rattle.serve_model.specs.Runs.{acts_of, node_by, entries_at, played, node_after};
 ghost use Rattle.serve_model.specs.Texts.{lines_text, whole_trace};
@@ -20,6 +20,7 @@ use service_api::Services;
 use std::alloc::Global;
 
 /// Makes a step again, and gives its lines.
+#[tactic(auto, using(crate::proofs::Within::comes_so))]
 fn event_lines<S: Services>(
     alloc: Global,
     node: &mut Node<S>,
@@ -27,7 +28,9 @@ fn event_lines<S: Services>(
     number: u64,
     event: &Event,
 ) -> Result<Bytes, NoMemory>
-    requires { KeepsNodeEvent config.now.version event.now }
+    requires event { KeepsNodeEvent config.now.version event.now }
+    requires version { version_of node.old ≡ config.now.version }
+    ensures same { version_of node.new ≡ version_of node.old }
     ensures text { (s : NodeState) → NodeStands S.stands node.old s
         → IfOk result
         (λ text. text ≡ lines_text config.now.here (entries_at number (node_step s event.now).acts)) }
@@ -46,7 +49,9 @@ fn entry_lines<S: Services>(
     number: u64,
     entry: &LogEvent,
 ) -> Result<Bytes, NoMemory>
-    requires { KeepsEntry config.now.version entry.now }
+    requires entry { KeepsEntry config.now.version entry.now }
+    requires version { version_of node.old ≡ config.now.version }
+    ensures same { version_of node.new ≡ version_of node.old }
     ensures text { (s : NodeState) → NodeStands S.stands node.old s
         → IfOk result (λ text. text ≡ lines_text config.now.here (entries_at number (acts_of s entry.now))) }
     ensures after { (s : NodeState) → NodeStands S.stands node.old s
@@ -68,7 +73,9 @@ fn write_entry<S: Services, K: Sink>(
     entry: &LogEvent,
     out: &mut K,
 ) -> Result<(), ReplayFault>
-    requires { KeepsEntry config.now.version entry.now }
+    requires entry { KeepsEntry config.now.version entry.now }
+    requires version { version_of node.old ≡ config.now.version }
+    ensures same { version_of node.new ≡ version_of node.old }
     ensures lines { (s : NodeState) → NodeStands S.stands node.old s
         → Prints (lines_text config.now.here (entries_at number (acts_of s entry.now)))
         (K.state out.old) (K.state out.new) result }
@@ -94,6 +101,7 @@ fn write_entries<S: Services, K: Sink>(
 ) -> Result<(), ReplayFault>
     requires keeps { All (KeepsEntry config.now.version) entries.now }
     requires few { length entries.now ≤ 50000 }
+    requires version { version_of node.old ≡ config.now.version }
     ensures { (s : NodeState) → NodeStands S.stands node.old s
         → Prints (lines_text config.now.here (played 0 s entries.now))
         (K.state out.old) (K.state out.new) result }
@@ -133,8 +141,9 @@ pub fn begin_node<S: Services + Drop>(
 ) -> Result<Node<S>, NoMemory>
     requires keeps { KeepsNode config.now }
     requires services { IsResting (S.stands services) }
-    ensures { IfOk result
+    ensures stands { IfOk result
         (λ node. NodeStands S.stands node (new_node config.now (S.stands services))) }
+    ensures version { IfOk result (λ node. version_of node ≡ config.now.version) }
 {
     let config = config_again(alloc, config)?;
     Node::new(alloc, config, services)

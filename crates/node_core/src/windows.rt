@@ -7,16 +7,18 @@ ghost use Rattle.node_core.specs.Windows.{AllSeen};
 
 use crate::lanes::DEVICES;
 use link_window::{Stamp, Took, Window};
-use plan_base::{Dev, NoMemory};
-use std::alloc::Global;
+use plan_base::Dev;
+use std::alloc::{AllocError, Global};
 
 /// A window for each device, which has taken nothing.
-pub fn open_windows(alloc: Global) -> Result<Vec<Window>, NoMemory>
+pub fn open_windows(alloc: Global) -> Result<Vec<Window>, AllocError>
     ensures { IfOk result (λ windows. AllSeen none_seen windows.items) }
 {
     let mut windows = Vec::with_capacity(alloc, DEVICES)?;
     while windows.len() < DEVICES {
-        windows.push(Window::new())?;
+        let Ok(()) = windows.push(Window::new()) else {
+            return Err(NoMemory);
+        };
     }
     Ok(windows)
 }
@@ -36,7 +38,8 @@ pub fn note(windows: &mut [Window], dev: Dev, s: Stamp)
     ensures { (seen : List Seen) → AllSeen seen windows.old → took_by (slice_get seen dev.0) s ≡ FreshOne → AllSeen (seen_at seen dev s (slice_get seen dev.0)) windows.new }
 {
     let at = dev.0 as usize;
-    if at < windows.len() {
-        windows[at].keep(s);
+    if at >= windows.len() {
+        return;
     }
+    windows[at].keep(s);
 }

@@ -1,4 +1,4 @@
-ghost use Rattle.std.specs.Prelude.{◌≡◌, ◌++◌, ◌≤◌, length, codes, IfOk, OnOk, OnErr, Ok};
+ghost use Rattle.std.specs.Prelude.{◌≡◌, ◌++◌, ◌≤◌, length, codes, IfOk, OnOk, OnErr, Ok, Some};
 ghost use Rattle.std.specs.List.{All, flat_map};
 ghost use Rattle.std.specs.Fmt.{decimal};
 ghost use Rattle.hex.specs.Hex.{encode_lower};
@@ -62,17 +62,30 @@ fn are_bytes(bytes: &[u8])
     let _begin = Cursor::over(bytes).at();
 }
 
-/// The end of the line of an injection with this handler, if it has one.
-fn put_handler(handler: &Option<Name>, out: &mut Bytes) -> Result<(), NoMemory>
-    ensures line { OnOk result (out.new ≡ out.old ++ closing (handler_words handler.now)) }
-    ensures again { OnOk result (IsNamed handler.now) }
+/// The end of the line of an injection that has a handler.
+fn put_name(name: &Name, out: &mut Bytes) -> Result<(), NoMemory>
+    ensures line { OnOk result (out.new ≡ out.old ++ closing (handler_words (Some name.now))) }
+    ensures again { IsNamed (Some name.now) }
 {
-    if let Some(name) = handler {
-        out.add_all(b" handler ")?;
-        out.add_all(name.as_slice())?;
-    }
+    let bytes = name.as_slice();
+    out.add_all(b" handler ")?;
+    out.add_all(bytes)?;
     out.add_all(b"\n")?;
     Ok(())
+}
+
+/// The end of the line of an injection.
+fn put_handler(handler: &Option<Name>, out: &mut Bytes) -> Result<(), NoMemory>
+    ensures line { OnOk result (out.new ≡ out.old ++ closing (handler_words handler.now)) }
+    ensures again { IsNamed handler.now }
+{
+    match handler {
+        None => {
+            out.add_all(b"\n")?;
+            Ok(())
+        }
+        Some(name) => put_name(name, out),
+    }
 }
 
 /// The line of an injection.

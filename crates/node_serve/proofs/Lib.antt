@@ -13,3 +13,4 @@ pub mod StepLaws
 pub mod MakeLaws
 pub mod Again
 pub mod Moments
+pub mod Injecting

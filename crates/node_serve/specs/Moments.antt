@@ -1,5 +1,6 @@
--- The moment at which a serving node begins.
-use Rattle.std.specs.Prelude.{◌≡◌, ℕ, Result}
+-- The moment at which a serving node begins, and what its version takes.
+use Rattle.std.specs.Prelude.{◌≡◌, ℕ, Bool, true, false, Option, Some, None, Result}
+use Rattle.plan_base.specs.declared.name.Name.{Name}
 use Rattle.link_window.specs.declared.window.Version.{Version}
 use Rattle.link_window.specs.declared.window.Version.TheVariants.{One, Two}
 use Rattle.network_plan.specs.declared.serve.ServeConfig.{ServeConfig}
@@ -25,3 +26,9 @@ pub record ServesFrom {T : Type 0} (cfg : ServeConfig) (services : ServiceState)
   pub clock : ClockState
   pub asked : Asks cfg.node.version old.clock clock boot
   pub serves : Serves (booted boot cfg) (new_node (booted boot cfg).node services) turns (record old { clock = clock }) new result
+
+-- a node of version 1 takes no handler
+abbrev pub takes_handler : Version → Option Name → Bool
+takes_handler One None = true
+takes_handler One (Some n) = false
+takes_handler Two handler = true

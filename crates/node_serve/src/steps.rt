@@ -4,7 +4,8 @@ ghost use Rattle.network_plan.specs.declared.event.Event.{Event as EventOf};
 ghost use Rattle.network_plan.specs.NodeRules.{KeepsNodeEvent};
 ghost use Rattle.node_model.specs.State.{NodeState};
 ghost use Rattle.node_model.specs.declared.acts.Act.TheVariants as act;
-ghost use Rattle.node_core.specs.Stands.{NodeStands};
+ghost use Rattle.node_core.specs.Stands.{version_of, NodeStands};
+ghost use Rattle.node_model.specs.Fits.{comes_within};
 ghost use Rattle.network_plan.specs.declared.event.LogEvent.TheVariants as entry;
 ghost use Rattle.node_files.specs.LogTexts.{entry_text};
 ghost use Rattle.serve_model.specs.Runs.{entries_at};
@@ -108,7 +109,8 @@ pub(crate) fn try_step<S: Services>(
     config: &NodeConfig,
     event: &Option<Event>,
 ) -> Result<StepTexts, NoMemory>
-    requires { IfSome event.now (KeepsNodeEvent config.now.version) }
+    requires event { IfSome event.now (KeepsNodeEvent config.now.version) }
+    requires within { IfSome event.now (comes_within (version_of node.old)) }
     ensures { (s : NodeState) (e : EventOf) → NodeStands S.stands node.old s
         → IfSome event.now (λ x. x ≡ e)
         → IfOk result (λ texts. Written S.stands config.now number s e texts node.new) }

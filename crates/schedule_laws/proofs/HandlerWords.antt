@@ -47,7 +47,7 @@ none_in len (Err e) = refl
 
 alone_none : args_of_text handler_word ≡ None
 unfolding args_of_text tokens_of
-alone_none = ap (λ m. args_in 7 (on_move m (λ x. before (record { kind = kinds.Word handler_word; start = 0; stop = x.1 } ∷ []) (scanned 6 x.1 (rest_at 0 handler_word x.1))))) first_alone ∙ none_in 7 _
+alone_none = rw first_alone (none_in 7 _)
 
 more_none : (more : List ℕ) → args_of_text (handler_word ++ 32 ∷ more) ≡ None
 unfolding args_of_text tokens_of

@@ -4,7 +4,7 @@
 #![tactic(auto)]
 
 ghost use Rattle.std.specs.Prelude.{◌≡◌, ◌<◌, ◌++◌, ◌∷◌, ℕ, List, length, take, true};
-ghost use Rattle.line_files.specs.Inside.{AreInside};
+ghost use Rattle.line_files.specs.Inside.{AreInside, RefusesRead};
 ghost use Rattle.line_files.specs.Counting.{moved_by, CountsOnly};
 ghost use Rattle.line_files.specs.declared.fault.LineReason.{LineReason};
 ghost use Rattle.line_files.specs.Lines.{lines};
@@ -17,9 +17,10 @@ ghost use Rattle.schedule_laws.specs.Lines.{EndOutside, later_file};
 ghost use Rattle.schedule_laws.specs.Written.{NamedText, Written, schedule_text, IsSchedule};
 
 /// Every line before a refused one is inside the format.
-#[tactic(auto, using(crate::proofs::MoveLaws::before_inside))]
+#[tactic(auto, using(schedule_text::proofs::AnswerLaws::refuses, crate::proofs::MoveLaws::before_inside))]
 pub fn lines_before_a_refusal_are_inside()
-    ensures { (bytes : List ℕ) (n k : ℕ) (r : LineReason) → IsRefused bytes n r → k < n → AreInside schedule_format nothing_read (take k (lines bytes)) }
+    ensures refuses { RefusesRead schedule_format nothing_read }
+    ensures inside { (bytes : List ℕ) (n k : ℕ) (r : LineReason) → IsRefused bytes n r → k < n → AreInside schedule_format nothing_read (take k (lines bytes)) }
 {}
 
 /// An empty line or a comment, put behind the header and outside of programs, changes nothing but the numbers of the

@@ -24,12 +24,6 @@ pub enum Reason {
     NoRoute,
     /// The queue is full.
     QueueFull,
-    /// The numbers of its device are spent.
-    LinkSpent,
-    /// Its device took it before.
-    Repeated,
-    /// Its number is too old for its device to know.
-    TooOld,
 }
 
 /// A line of a trace, without the number of its event. Values, notes and refusals are kept as they
@@ -54,8 +48,6 @@ pub enum Line {
     Raised(Host, Family, Bytes, u32, u32),
     /// A visit passed its allowance of work, and so much is left.
     Spent(Host, Family, u32),
-    /// A packet with this bound was made for a handler of this name.
-    Handled(Host, Family, Bytes, u32),
     /// A packet was put into a queue with this bound.
     Queued(Host, Dev, Family, u32),
     /// A packet was dropped with this bound.
@@ -76,8 +68,6 @@ pub enum Line {
     WireShown(u32, Bytes),
     /// The frame of this number left the wire.
     Off(u32),
-    /// The frame of this number arrives, and stays on the wire.
-    Again(u32),
     /// A packet with this bound was lost.
     Lost(Family, u32),
     /// An advert was lost.
@@ -101,7 +91,6 @@ impl Line {
             | Line::Gave(h, ..)
             | Line::Raised(h, ..)
             | Line::Spent(h, ..)
-            | Line::Handled(h, ..)
             | Line::Queued(h, ..)
             | Line::Dropped(h, ..)
             | Line::Refused(h, _)
@@ -112,7 +101,6 @@ impl Line {
             Line::Wire(_)
             | Line::WireShown(..)
             | Line::Off(_)
-            | Line::Again(_)
             | Line::Lost(..)
             | Line::LostAdvert
             | Line::Nothing => None,
@@ -132,7 +120,6 @@ impl Line {
             Line::Gave(..) => b"value",
             Line::Raised(..) => b"raised",
             Line::Spent(..) => b"spent",
-            Line::Handled(..) => b"handler",
             Line::Queued(..) => b"queue",
             Line::Dropped(..) | Line::Refused(..) => b"drop",
             Line::Advert(..) => b"advert",
@@ -141,7 +128,6 @@ impl Line {
             Line::Sent(..) => b"send",
             Line::Wire(_) | Line::WireShown(..) => b"wire",
             Line::Off(_) => b"off",
-            Line::Again(_) => b"again",
             Line::Lost(..) | Line::LostAdvert => b"lost",
             Line::Nothing => b"nothing",
         }

@@ -34,13 +34,13 @@ pub enum Kind {
     Spent,
     /// Something was dropped or refused.
     Dropped,
-    /// What a visit printed or handed to a port, or a packet for a handler.
+    /// What a visit printed or handed to a port.
     Note,
     /// A packet was injected.
     Start,
     /// A packet was forged.
     Forgery,
-    /// A faint remark: queues, ticks, adverts, asks, frames that stay on the wire, and events that named nothing.
+    /// A faint remark: queues, ticks, adverts, asks, and events that named nothing.
     Aside,
     /// Nothing is drawn.
     Unseen,

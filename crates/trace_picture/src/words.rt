@@ -20,7 +20,7 @@ pub(crate) fn kind_of(line: &Line) -> Kind
         Line::Raised(..) => Kind::Exception,
         Line::Spent(..) => Kind::Spent,
         Line::Dropped(..) | Line::Refused(..) => Kind::Dropped,
-        Line::Printed(..) | Line::Delivered(..) | Line::Handled(..) => Kind::Note,
+        Line::Printed(..) | Line::Delivered(..) => Kind::Note,
         Line::Injected(..) => Kind::Start,
         Line::Forged(..) => Kind::Forgery,
         Line::Queued(..)
@@ -28,7 +28,6 @@ pub(crate) fn kind_of(line: &Line) -> Kind
         | Line::Advert(..)
         | Line::Heard(..)
         | Line::Ticked(..)
-        | Line::Again(_)
         | Line::Nothing => Kind::Aside,
         Line::Off(_) => Kind::Unseen,
     }
@@ -73,14 +72,12 @@ pub(crate) fn put_label(alloc: Global, out: &mut Bytes, line: &Line) -> Result<(
         | Line::Asked(_)
         | Line::Delivered(..)
         | Line::Spent(..)
-        | Line::Handled(..)
         | Line::Queued(..)
         | Line::Dropped(..)
         | Line::Refused(..)
         | Line::Advert(..)
         | Line::Heard(..)
         | Line::Ticked(..)
-        | Line::Again(_)
         | Line::Lost(..)
         | Line::LostAdvert
         | Line::Nothing => put_words(alloc, out, line),
