@@ -19,7 +19,7 @@ use Rattle.call_causes.specs.declared.status.Cause.{Cause}
 use Rattle.call_causes.specs.declared.status.Cause.TheVariants.{Done, Usage, Refused, ReadFault, WriteFault, LinkFault, SpawnFault, NoMemory, NodesFailed}
 use Rattle.file_commands.specs.Said.{Said, nothing, outside, says}
 use Rattle.live_commands.specs.Nodes.{config_said, own_node, begun_config, begun_with}
-use Rattle.planet_cli.specs.Requests.{Request, replay, check, show, inject, fleet, node, grow}
+use Rattle.planet_cli.specs.Requests.{Request, replay, check, show, inject, fleet, node, grow, cut, gather}
 
 -- ---- by the request
 
@@ -53,6 +53,8 @@ AsksFor (Some (inject file)) old new = MayName old new file
 AsksFor (Some (fleet file)) old new = MayName old new file
 AsksFor (Some (node file turns)) old new = MayName old new file
 AsksFor (Some (grow seed n)) old new = new ≡ old
+AsksFor (Some (cut file)) old new = MayName old new file
+AsksFor (Some (gather port file)) old new = MayName old new file
 AsksFor None old new = new ≡ old
 
 -- ---- by the cause
