@@ -65,8 +65,8 @@ noted ts ws at d new s a e f k =
     subst (λ o. AllSeen (seen_at ts at s o) (slice_set ws at.0 new)) (sym h.is)
     (set_stands ts ws at.0 (seen_with h.t s) new a (k h.t h.stands (sym (ap (λ o. took_by o s) h.is) ∙ f)))
 
-pub not_noted : (ts : List Seen) (ws : List Window) (at : Dev) (s : Stamp) → AllSeen ts ws → false ≡ nat_lt at.0 (length ws) → AllSeen (seen_at ts at s (slice_get ts at.0)) ws
-not_noted ts ws at s a e = subst (λ o. AllSeen (seen_at ts at s o) ws) (sym (none_index ts ws at.0 a (beyond at.0 (length ws) e))) a
+pub not_noted : (ts : List Seen) (ws : List Window) (at : Dev) (s : Stamp) → AllSeen ts ws → length ws ≤ at.0 → AllSeen (seen_at ts at s (slice_get ts at.0)) ws
+not_noted ts ws at s a e = subst (λ o. AllSeen (seen_at ts at s o) ws) (sym (none_index ts ws at.0 a e)) a
 
 -- one window more that has taken nothing
 pub opened_more : (ws : List Window) (w : Window) → AllSeen (replicate (length ws) nothing_seen) ws → WindowStands nothing_seen w

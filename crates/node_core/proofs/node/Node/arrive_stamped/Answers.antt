@@ -14,4 +14,4 @@ returns-in-Repeated-clause-ok g c = λ s h.
 
 pub returns-in-TooOld-clause-ok : goal.returns-in-TooOld-clause-ok
 returns-in-TooOld-clause-ok g c = λ s h.
-    stale_result _ s c.args.dev (stamped_plain c.args.stamped.now) TooOld c.arrive_stale-2.result c.args.self.now h (sym c.in-TooOld.is ∙ c.judge.ensures s h) refl c.arrive_stale-2.ensures.list c.arrive_stale-2.ensures.frame
+    stale_result _ s c.args.dev (stamped_plain c.args.stamped.now) TooOld c.arrive_stale-in-TooOld.result c.args.self.now h (sym c.in-TooOld.is ∙ c.judge.ensures s h) refl c.arrive_stale-in-TooOld.ensures.list c.arrive_stale-in-TooOld.ensures.frame
