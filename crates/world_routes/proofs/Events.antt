@@ -26,7 +26,7 @@ use Rattle.node_model.specs.Node.{Step, inject_step, stamped_step, tick_step, ta
 use Rattle.node_model.specs.Fits.{QueuesKeep}
 use Rattle.node_laws.proofs.Keeping.{took}
 use Rattle.node_laws.proofs.Staying.{Stays as NodeStays, inject_stays, stamped_stays, tick_stays}
-use Rattle.world_model.specs.declared.lines.Line.TheVariants.{At, Wire, Off, Again, Lost, Nothing}
+use Rattle.world_model.specs.declared.lines.Line.TheVariants.{At, Wire, Off, Lost, Nothing}
 use Rattle.world_model.specs.declared.lines.LinkEnd.{LinkEnd}
 use Rattle.world_model.specs.declared.lines.Wired.{Wired}
 use Rattle.world_model.specs.declared.lines.Handing.{Handing}

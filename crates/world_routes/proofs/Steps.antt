@@ -1,6 +1,6 @@
 -- What a node's step queues and hears are moves; it keeps packets to the one routing function, and drops none for want of a route.
-use Rattle.std.proofs.Common.{◌≡◌, ℕ, Bool, true, false, cond, not, eqb, Option, Some, None, List, [], ◌∷◌, ◌++◌, length, inl, refl, sym, ap, subst, ◌∙◌, arith}
-use Rattle.std.specs.Prelude.{map, slice_get, slice_set, nat_lt, ◌==◌, ◌&&◌, All, Contains}
+use Rattle.std.proofs.Common.{◌≡◌, ℕ, Bool, true, false, cond, not, eqb, Option, Some, None, List, [], ◌∷◌, ◌++◌, inl, refl, sym, ap, subst, ◌∙◌, arith}
+use Rattle.std.specs.Prelude.{map, slice_get, slice_set, ◌==◌, ◌&&◌, All, Contains}
 use Rattle.std.specs.Str.{bytes_eq}
 use Rattle.std.proofs.lemmas.Bool.{false≢true}
 use Rattle.std.proofs.lemmas.Bool.Decides.{Decides-eqb}
@@ -42,8 +42,8 @@ use Rattle.node_model.specs.declared.acts.Lane.{Lane}
 use Rattle.node_model.specs.declared.acts.Sending.{Sending}
 use Rattle.node_model.specs.State.{Links, Queues, NodeState, routing_of, is_host, neighbour_on, is_the_host, leads_to}
 use Rattle.node_model.specs.Visits.{around, evaluated, visit_end, visit_of, visit_at}
-use Rattle.spelled_frame.specs.Spelled.{what_of}
-use Rattle.node_model.specs.Node.{Step, stepped, lane_room, queue_room, has_room, numbered, lane_with, queue_push, mark, drop_act, takes_as, stamped_as, stamped_step, send_act, send_queues, sends_acts, sends_queues, packet_sending, visit_sends, visit_acts, visited, next_serial, injected_packet, inject_step, only_acts, forward_by, forward_step, packet_step, hearing, advert_step, frame_step, next_tick, advert_sending, tick_sends, tick_step}
+use Rattle.spelled_frame.specs.Spelled.{what_of, numbered}
+use Rattle.node_model.specs.Node.{Step, stepped, lane_room, queue_room, has_room, lane_with, queue_push, mark, drop_act, takes_as, stamped_as, stamped_step, send_act, send_queues, sends_acts, sends_queues, packet_sending, visit_sends, visit_acts, visited, next_serial, injected_packet, inject_step, only_acts, forward_by, forward_step, packet_step, hearing, advert_step, frame_step, next_tick, advert_sending, tick_sends, tick_step}
 use Rattle.node_model.specs.Fits.{QueuesKeep}
 use Rattle.node_laws.proofs.Keeping.{Sends, send_keeps, sends_keep}
 use Rattle.world_routes.specs.Routes.{IsRoutedAct}

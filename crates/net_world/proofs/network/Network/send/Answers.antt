@@ -30,7 +30,7 @@ pub returns-in_default-frame-clause-ok : goal.returns-in_default-frame-clause-ok
 returns-in_default-frame-clause-ok g c = λ w h.
     let node = c.in-Some.ensures.place w.nodes (placed _ c.args.self.now w _ h.is c.as_slice.ensures.value) in
     let far = c.in-Some-far_end.ensures ∙ ap (λ x. far_end x c.args.host c.args.dev) c.as_slice-2.ensures in
-    let stand = placed _ c.args.self.now w _ h c.deref_mut.ensures.value in
+    let stand = placed _ c.args.self.now w _ h.is c.deref_mut.ensures.value in
     let done = c.in_ok-list.ensures.step w.nodes stand in
     let none = c.in_default-frame.is in
     let same = c.in_ok-list.ensures.same w.nodes stand none in
@@ -43,7 +43,7 @@ pub returns-clause-ok : goal.returns-clause-ok
 returns-clause-ok g c = λ w h.
     let node = c.in-Some.ensures.place w.nodes (placed _ c.args.self.now w _ h.is c.as_slice.ensures.value) in
     let far = c.in-Some-far_end.ensures ∙ ap (λ x. far_end x c.args.host c.args.dev) c.as_slice-2.ensures in
-    let stand = placed _ c.args.self.now w _ h c.deref_mut.ensures.value in
+    let stand = placed _ c.args.self.now w _ h.is c.deref_mut.ensures.value in
     let done = c.in_ok-list.ensures.step w.nodes stand in
     let acts = c.in_ok-before.ensures ∙ ap (λ x. x ++ lines_at c.args.host c.in_ok-list.field-0.list) c.no_lines.ensures in
     one_sent _ c.args.self.now w c.args.host c.args.dev h.is _ _ c.in-Some.at c.in-Some-far_end.to c.in_ok-list.field-0 c.take_at.new.nodes c.in-Some-frame.frame node far
