@@ -20,6 +20,7 @@ use Rattle.node_files.specs.Parts.{behind_word, last_number}
 use Rattle.node_files.specs.declared.config.ConfigReading.{ConfigReading}
 use Rattle.node_files.specs.declared.config.ConfigStage.{ConfigStage}
 use Rattle.node_files.specs.declared.config.HeadWord.{HeadWord}
+use Rattle.node_files.specs.declared.config.TailPart.{TailPart}
 use Rattle.node_files.specs.declared.config.TailWord.{TailWord}
 use Rattle.std.specs.Option.{ok_or}
 use Rattle.std.specs.Str.{bytes_eq}
