@@ -22,8 +22,8 @@ use Rattle.line_files.specs.Numbers.{number_at}
 use Rattle.line_files.specs.FileNames.{file_name_at}
 use Rattle.line_files.proofs.FileLaws.{is_keeping}
 use Rattle.line_files.proofs.Keeping.{IfRead, then_keeps, done_keeps, allowed_below, allowed_not, either_false, number_is, file_name_is, IfStep, step_done, read_keeps}
-use Rattle.line_files.proofs.Placing.{OnFault, fault_done, fault_here, Places, refuses_read}
-use Rattle.line_files.specs.Inside.{RefusesRead}
+use Rattle.line_files.proofs.Placing.{fault_done, fault_here, Places, refuses_read}
+use Rattle.line_files.specs.Inside.{OnFault, RefusesRead}
 use Rattle.schedule_text.proofs.NetworkRules.{apart_push}
 use Rattle.node_files.specs.Answers.{Accepted, Refused}
 use Rattle.node_files.proofs.PartLaws.{header_keeps, usual_keeps, header_placed, usual_placed, answered}

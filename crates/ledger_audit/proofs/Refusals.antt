@@ -116,14 +116,14 @@ refused_came f node d bytes e = by (read_by node.version bytes) e
     fresh (PlainFrame.Advert a) q = refl
     fresh (PlainFrame.Ask b c) q = refl
 
-    as : (x : PlainStamped) (t : Took) → is_accepted (stamped_as node d x t).acts ≡ false → if_fresh t (frame_live f x.frame) ≡ 0
-    as x Fresh q = fresh x.frame q
-    as x Repeated q = refl
-    as x TooOld q = refl
+    among : (x : PlainStamped) (t : Took) → is_accepted (stamped_as node d x t).acts ≡ false → if_fresh t (frame_live f x.frame) ≡ 0
+    among x Fresh q = fresh x.frame q
+    among x Repeated q = refl
+    among x TooOld q = refl
 
     by : (r : Result PlainStamped FrameFault) → is_accepted (arrived node d r).acts ≡ false → bytes_came f node d r ≡ 0
     by (Err e) q = refl
-    by (Ok x) q = as x (takes_as node.seen d x.stamp) q
+    by (Ok x) q = among x (takes_as node.seen d x.stamp) q
 
 -- what is accepted was read, is fresh, and may be on its way
 pub record IsTaken (node : NodeState) (d : Dev) (bytes : List ℕ) : Type 0 where
@@ -141,14 +141,14 @@ accepted_taken node d bytes e = by (read_by node.version bytes) refl e
     way (PlainFrame.Advert a) q = tt
     way (PlainFrame.Ask b c) q = absurd (true≢false (sym q))
 
-    as : (x : PlainStamped) (t : Took) → read_by node.version bytes ≡ Ok x → takes_as node.seen d x.stamp ≡ t → is_accepted (stamped_as node d x t).acts ≡ true → IsTaken node d bytes
-    as x Fresh r s q = record { frame = x; read = r; fresh = s; way = way x.frame q }
-    as x Repeated r s q = absurd (true≢false (sym q))
-    as x TooOld r s q = absurd (true≢false (sym q))
+    among : (x : PlainStamped) (t : Took) → read_by node.version bytes ≡ Ok x → takes_as node.seen d x.stamp ≡ t → is_accepted (stamped_as node d x t).acts ≡ true → IsTaken node d bytes
+    among x Fresh r s q = record { frame = x; read = r; fresh = s; way = way x.frame q }
+    among x Repeated r s q = absurd (true≢false (sym q))
+    among x TooOld r s q = absurd (true≢false (sym q))
 
     by : (r : Result PlainStamped FrameFault) → read_by node.version bytes ≡ r → is_accepted (arrived node d r).acts ≡ true → IsTaken node d bytes
     by (Err e) r q = absurd (true≢false (sym q))
-    by (Ok x) r q = as x (takes_as node.seen d x.stamp) r refl q
+    by (Ok x) r q = among x (takes_as node.seen d x.stamp) r refl q
 
 -- ---- frames
 

@@ -16,9 +16,7 @@ pub fn open_windows(alloc: Global) -> Result<Vec<Window>, AllocError>
 {
     let mut windows = Vec::with_capacity(alloc, DEVICES)?;
     while windows.len() < DEVICES {
-        let Ok(()) = windows.push(Window::new()) else {
-            return Err(NoMemory);
-        };
+        windows.push(Window::new())?;
     }
     Ok(windows)
 }
