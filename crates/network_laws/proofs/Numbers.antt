@@ -1,4 +1,4 @@
--- Under version 2 the numbers of one sending device's frames, on the wire and in its queue, ascend and are below its next one.
+-- Under version 2: what one device sent, on the wire and in its queue, ascends in number and stays below the next one given.
 use Rattle.std.proofs.Common.{◌≡◌, ℕ, zero, suc, ◌+◌, ◌<◌, Bool, true, false, cond, List, [], ◌∷◌, ◌++◌, Option, Some, None, refl, sym, ap, ◌∙◌, subst, append_assoc, arith}
 use Rattle.std.specs.Prelude.{slice_get, slice_set, remove, ◌==◌, ◌&&◌, nat_lt, length}
 use Rattle.std.specs.List.{All, flat_map}
