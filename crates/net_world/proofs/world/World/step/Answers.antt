@@ -1,15 +1,17 @@
-use Rattle.std.proofs.Common.{sym}
+use Rattle.std.proofs.Common.{sym, subst}
 use Rattle.network_laws.proofs.Balance.{event_balances}
 use Rattle.network_laws.proofs.Fitting.{event_sound}
 use Rattle.network_laws.proofs.Visits.{event_ends}
 use Rattle.world_routes.proofs.Reaching.{event_keeps_routes}
 use Rattle.world_model.specs.World.{acted}
+use Rattle.net_world.specs.Stands.{WorldStands}
 use Rattle.net_world.proofs.StandLaws.{fits_there}
 use Rattle.net_world.proofs.world.World.step.Goals as goal
 
 pub returns-clause-ok : goal.returns-clause-ok
 returns-clause-ok g c = λ w h.
-    let done = c.in_ok-lines.ensures.ok w h in
+    let here = subst (λ n. WorldStands g.S.Services.stands n w) (sym c.self.view_is) h in
+    let done = c.in_ok-lines.ensures.ok w here in
     record {
       list = done.list;
       world = record {
