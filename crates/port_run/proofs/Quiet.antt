@@ -35,7 +35,9 @@ use Rattle.world_model.specs.declared.lines.Line.{Line}
 use Rattle.world_model.specs.declared.lines.Line.TheVariants.{At, Wire, Off, Again, Lost, Nothing}
 use Rattle.world_model.specs.declared.lines.LinkEnd.{LinkEnd}
 use Rattle.world_model.specs.declared.lines.Wired.{Wired}
-use Rattle.world_model.specs.World.{WorldState, EventResult, nothing, lines_at, steps_at, step_at, step_place, steps, place_of, far_end, send_taken, send_at, send_over, send_place, sends, none_before, Handing, Taking, Leaving, hand_line, as_handed, wire_after, with_wire, without_frame, wire_place, hand_at, hand_to, hand_frame, hand_place, hands, lose_frame, lose_place, loses, acted, happens}
+use Rattle.world_model.specs.declared.lines.Handing.{Handing}
+use Rattle.world_model.specs.declared.lines.Handing.TheVariants.{Taking, Leaving}
+use Rattle.world_model.specs.World.{WorldState, EventResult, nothing, lines_at, steps_at, step_at, step_place, steps, place_of, far_end, send_taken, send_at, send_over, send_place, sends, none_before, hand_line, as_handed, wire_after, with_wire, without_frame, wire_place, hand_at, hand_to, hand_frame, hand_place, hands, lose_frame, lose_place, loses, acted, happens}
 use Rattle.port_run.specs.Paid.{sum_of, act_bound, line_bound, event_bound, NotRaw}
 
 pub sum_append : {X : Type 0} (f : X → ℕ) (xs ys : List X) → sum_of f (xs ++ ys) ≡ sum_of f xs + sum_of f ys
