@@ -133,12 +133,9 @@ module _ (a : Allowed) (closed : IsClosed a) where
   unfolding inject_step
   inject_known node c b o k n = by (node.serial == 18446744073709551615)
     where
-      abbrev grant : Act
-      grant = Injected (record { source = node.here; serial = node.serial }) b
-
-      by : (t : Bool) → StepKnown a (cond t (record { acts = SerialsSpent ∷ []; frame = None; node = node }) (visited (grant ∷ []) (next_serial node) (injected_packet node c b o)))
+      by : (t : Bool) → StepKnown a (cond t (record { acts = SerialsSpent ∷ []; frame = None; node = node }) (visited (Injected (record { source = node.here; serial = node.serial }) b ∷ []) (next_serial node) (injected_packet node c b o)))
       by true = record { node = n; acts = (tt, tt); frame = tt }
-      by false = visited_known (grant ∷ []) (next_serial node) (injected_packet node c b o) (tt, tt) k.0 (record { queues = n.queues; offer = n.offer })
+      by false = visited_known (Injected (record { source = node.here; serial = node.serial }) b ∷ []) (next_serial node) (injected_packet node c b o) (tt, tt) k.0 (record { queues = n.queues; offer = n.offer })
 
   by_known : (node : NodeState) (d : Dev) (p : Packet) (h : Hop) → a.chunk p.chunk × (p.handler ≡ None) → NodeKnown a node → StepKnown a (forward_by node d p h)
   unfolding forward_by
