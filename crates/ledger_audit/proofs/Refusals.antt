@@ -1,8 +1,7 @@
 -- A packet that arrives is never refused, and only a taking gives a frame.
-use Rattle.std.proofs.Common.{◌≡◌, ℕ, ◌+◌, ◌-◌, Bool, true, false, not, ◌||◌, cond, if◌then◌else◌, List, [], ◌∷◌, ◌++◌, map, Option, Some, None, refl, sym, ap, ◌∙◌, arith, true≢false}
+use Rattle.std.proofs.Common.{◌≡◌, ℕ, Bool, true, false, not, ◌||◌, cond, if◌then◌else◌, List, [], ◌∷◌, ◌++◌, map, Option, Some, None, refl, sym, ap, ◌∙◌, true≢false}
 use Rattle.std.specs.Prelude.{◌==◌, Result, Ok, Err, slice_get}
 use Rattle.std.specs.List.{list_any}
-use Rattle.plan_base.specs.declared.ids.Host.{Host}
 use Rattle.plan_base.specs.declared.ids.Dev.{Dev}
 use Rattle.plan_base.specs.declared.ids.Family.{Family}
 use Rattle.plan_base.specs.declared.tree.Chunk.{Chunk}
@@ -27,13 +26,12 @@ use Rattle.plan_meaning.specs.declared.outcome.Visit.{Visit}
 use Rattle.network_plan.specs.declared.event.Event.{Event}
 use Rattle.network_plan.specs.declared.event.Event.TheVariants as event
 use Rattle.node_model.specs.declared.acts.Act.{Act}
-use Rattle.node_model.specs.declared.acts.Act.TheVariants.{Arrived, Noted, Ended, Dropped, Misplaced, Bad, Stale, Asked, SerialsSpent, Injected, Heard}
+use Rattle.node_model.specs.declared.acts.Act.TheVariants.{Arrived, Noted, Ended, Dropped, Misplaced, Asked, SerialsSpent, Injected, Heard}
 use Rattle.node_model.specs.declared.acts.Reason.TheVariants as reason
-use Rattle.node_model.specs.declared.acts.Sending.{Sending}
 use Rattle.node_model.specs.declared.acts.Lane.{Lane}
 use Rattle.node_model.specs.State.{Queues, NodeState, routing_of, is_host, leads_to}
 use Rattle.node_model.specs.Visits.{visit_at}
-use Rattle.node_model.specs.Node.{Step, node_step, inject_step, arrive_step, arrived, asked_plain, asked, drop_act, lane_room, mark, takes_as, stamped_as, stamped_step, control_step, tick_step, take_step, packet_step, forward_step, forward_by, advert_step, frame_step, visited, visit_acts, visit_sends, sends_acts, send_act, send_queues, has_room, packet_sending, onward, only_acts, hearing, next_serial, injected_packet}
+use Rattle.node_model.specs.Node.{Step, node_step, inject_step, arrive_step, arrived, asked_plain, asked, drop_act, lane_room, mark, takes_as, stamped_as, stamped_step, control_step, tick_step, packet_step, forward_step, forward_by, advert_step, frame_step, visited, visit_acts, visit_sends, sends_acts, send_act, send_queues, has_room, packet_sending, only_acts, hearing, next_serial, injected_packet}
 use Rattle.node_model.specs.Counts.{came, frame_live, if_fresh, bytes_came}
 use Rattle.ledger_audit.specs.Runs.{is_refusal, is_accepted}
 
