@@ -5,7 +5,6 @@ use Rattle.plan_base.specs.declared.ids.Dev.{Dev}
 use Rattle.plan_base.specs.declared.tree.Chunk.{Chunk}
 use Rattle.service_api.specs.declared.package.PackageName.{PackageName}
 use Rattle.network_plan.specs.declared.node.NodeConfig.{NodeConfig}
-use Rattle.link_window.specs.declared.window.Version.{Version}
 use Rattle.link_window.specs.declared.window.Version.TheVariants.{One, Two}
 use Rattle.network_plan.specs.NodeRules.{KeepsBoot, KeepsServe}
 use Rattle.network_plan.specs.declared.serve.ServeConfig.{ServeConfig}
