@@ -1,0 +1,29 @@
+-- What is settled is in balance.
+use Rattle.std.proofs.Common.{◌≡◌, ℕ, ◌+◌, List, [], ◌∷◌, ◌++◌, Option, Some, None, refl, ap, arith}
+use Rattle.std.specs.Prelude.{map}
+use Rattle.std.specs.Option.{option_to_list}
+use Rattle.std.proofs.lemmas.List.{append-nil}
+use Rattle.std.proofs.lemmas.List.Sums.{sum_by-cons, sum_by_push}
+use Rattle.plan_base.specs.declared.name.Name.{Name}
+use Rattle.plan_base.specs.declared.tree.Packet.{Packet}
+use Rattle.service_api.specs.declared.ctx.Ctx.{Ctx}
+use Rattle.plan_meaning.specs.declared.sent.Sent.{Sent}
+use Rattle.plan_meaning.specs.declared.outcome.Visit.{Visit}
+use Rattle.plan_meaning.specs.Visit.{bounds}
+use Rattle.settled_visit.specs.Settles.{telling_of, handed, left_beside, settled}
+use Rattle.settled_visit.proofs.Tellings.{tells}
+
+pub same_bounds : (h : Option Name) (outbox : List Sent) → bounds (map (handed h) outbox) ≡ bounds outbox
+same_bounds h [] = refl
+same_bounds h (s ∷ ss) =
+    omega (arith, same_bounds h ss, sum_by-cons (λ (x : Sent). x.packet.bound) (handed h s) (map (handed h) ss), sum_by-cons (λ (x : Sent). x.packet.bound) s ss)
+
+parts_balance : (h : Option Name) (outbox : List Sent) (left : ℕ) (told : Option Sent) → ((t : Sent) → told ≡ Some t → t.packet.bound ≡ left)
+    → left_beside left told + bounds (map (handed h) outbox ++ option_to_list told) ≡ left + bounds outbox
+parts_balance h outbox left None k = omega (arith, same_bounds h outbox, ap bounds (append-nil (map (handed h) outbox)))
+parts_balance h outbox left (Some t) k = omega (arith, same_bounds h outbox, k t refl, sum_by_push (λ (x : Sent). x.packet.bound) (map (handed h) outbox) t)
+
+-- what was paid, is left and is sent stays in sum
+pub settled_balance : (p : Packet) (ctx : Ctx) (v : Visit) → (settled p ctx v).visit.evals + (settled p ctx v).visit.left + bounds (settled p ctx v).visit.outbox ≡ v.evals + v.left + bounds v.outbox
+unfolding settled
+settled_balance p ctx v = omega (arith, parts_balance p.handler v.outbox v.left (telling_of p ctx v) (λ t e. ap (λ (x : Sent). x.packet.bound) (tells p ctx v t e).is))
