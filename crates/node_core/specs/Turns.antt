@@ -1,5 +1,6 @@
 -- A visit that was made, of which nothing stands yet.
-use Rattle.std.specs.Prelude.{◌≡◌, ◌+◌, ◌≤◌, Bool, true, false, if◌then◌else◌, List, None, ◌∷◌, ◌++◌, length, map, vec_len, vec_capacity, []}
+use Rattle.std.specs.Prelude.{◌≡◌, ◌+◌, ◌≤◌, Bool, true, false, if◌then◌else◌, List, Option, None, ◌∷◌, ◌++◌, length, map, vec_len, vec_capacity, []}
+use Rattle.link_window.specs.declared.window.Stamp.{Stamp}
 use Rattle.plan_base.specs.declared.tree.Packet.{Packet}
 use Rattle.service_api.specs.Services.{ServiceState, kept, abandoned}
 use Rattle.plan_meaning.specs.declared.outcome.Outcome.{Outcome}
@@ -25,7 +26,7 @@ abbrev pub closed : Bool → ServiceState → ServiceState
 closed spent n = if spent then abandoned n else kept n
 
 -- the acts of a visit up to its end, its sends, and room for their acts
-pub record IsOpen (before : List Act) (p : Packet) (v : Visit) (turn : Turn) : Type 0 where
+pub record IsOpen (m : Option Stamp) (before : List Act) (p : Packet) (v : Visit) (turn : Turn) : Type 0 where
   pub acts : turn.acts.items ≡ before ++ (map Noted v.notes ++ Ended p.family v.outcome v.evals v.left ∷ [])
-  pub sends : turn.sends ≡ visit_sends v
+  pub sends : turn.sends ≡ visit_sends m v
   pub room : vec_len turn.acts + length turn.sends ≤ vec_capacity turn.acts

@@ -7,14 +7,13 @@ ghost use Rattle.node_core.specs.Turns.{IsOpen, IsResting, closed, is_spent as s
 use crate::outgoing::visit_sendings;
 use crate::sends::{begin_acts, send_all};
 use chunk_types::CheckedPacket;
-use link_queue::Queue;
-use node_model::{Act, ActList, Sendings};
+use link_window::Stamp;
+use node_model::{Act, ActList, Lane, Sendings};
 use plan_base::NoMemory;
 use plan_eval::visit;
 use plan_items::Items;
 use plan_meaning::{Outcome, Visit};
 use service_api::{Ctx, Services};
-use spelled_frame::SpelledFrame;
 use std::alloc::Global;
 use std::marker::Model;
 
@@ -61,6 +60,7 @@ fn open_turn<S: Services>(
     alloc: Global,
     services: &mut S,
     ctx: &Ctx,
+    mark: Option<Stamp>,
     packet: &CheckedPacket,
     before: ActList,
 ) -> Result<Turn, NoMemory>
@@ -69,7 +69,7 @@ fn open_turn<S: Services>(
     requires near { length ctx.now.neighbours ≤ 8 }
     requires rows { AreGoodRows (S.stands services.old).rows }
     requires open { IsSome (S.stands services.old).begun }
-    ensures turn { IfOk result (λ turn. IsOpen before packet.now (visit_of ctx.entry.now (S.stands services.old) packet.now) turn) }
+    ensures turn { IfOk result (λ turn. IsOpen mark before packet.now (visit_of ctx.entry.now (S.stands services.old) packet.now) turn) }
     ensures closing { IfOk result (λ turn. closed turn.is_spent (S.stands services.new) ≡ services_after ctx.entry.now (S.stands services.old) packet.now) }
     ensures ready { OnOk result (IsTrue (S.stands services.new).ready) }
     ensures offer { (S.stands services.new).offer ≡ (S.stands services.old).offer }
@@ -85,7 +85,7 @@ fn open_turn<S: Services>(
     } = visit(alloc, packet, services, ctx)?;
     let is_spent = is_spent(&outcome);
     let end = Act::Ended(packet.family(), outcome, evals, left);
-    let sends = visit_sendings(alloc, outbox)?;
+    let sends = visit_sendings(alloc, mark, outbox)?;
     let acts = begin_acts(before, notes, end, sends.len())?;
     services.ready(alloc)?;
     Ok(Turn {
@@ -109,13 +109,14 @@ fn close<S: Services>(services: &mut S, is_spent: bool)
 }
 
 /// The visit of a packet, after some acts: its acts, with its sends queued. Where memory is refused, the
-/// queues and the services stay.
+/// lanes and the services stay.
 #[tactic(auto, unfolding(node_model::specs::Node::visit_acts), using(crate::proofs::TurnLaws::undone, crate::proofs::TurnLaws::rests_closed, crate::proofs::TurnLaws::rests_abandoned))]
 fn visit_turn<S: Services>(
     alloc: Global,
     services: &mut S,
     ctx: &Ctx,
-    queues: &mut [Queue<SpelledFrame>],
+    mark: Option<Stamp>,
+    lanes: &mut [Lane],
     before: ActList,
     packet: &CheckedPacket,
 ) -> Result<ActList, NoMemory>
@@ -123,15 +124,15 @@ fn visit_turn<S: Services>(
     requires source { ctx.now.source ≡ packet.now.family.source }
     requires near { length ctx.now.neighbours ≤ 8 }
     requires rests { IsResting (S.stands services.old) }
-    ensures acts { IfOk result (λ acts. acts ≡ before ++ spec.visit_acts queues.old packet.now (visit_of ctx.entry.now (begun_now (S.stands services.old)) packet.now)) }
-    ensures queues { OnOk result (queues.new ≡ spec.sends_queues queues.old (spec.visit_sends (visit_of ctx.entry.now (begun_now (S.stands services.old)) packet.now))) }
+    ensures acts { IfOk result (λ acts. acts ≡ before ++ spec.visit_acts mark lanes.old packet.now (visit_of ctx.entry.now (begun_now (S.stands services.old)) packet.now)) }
+    ensures lanes { OnOk result (lanes.new ≡ spec.sends_queues lanes.old (spec.visit_sends mark (visit_of ctx.entry.now (begun_now (S.stands services.old)) packet.now))) }
     ensures services { OnOk result (S.stands services.new ≡ services_after ctx.entry.now (begun_now (S.stands services.old)) packet.now) }
-    ensures same { OnErr result (queues.new ≡ queues.old) }
+    ensures same { OnErr result (lanes.new ≡ lanes.old) }
     ensures undone { OnErr result (S.stands services.new ≡ S.stands services.old) }
     ensures rests { IsResting (S.stands services.new) }
 {
     services.begin(alloc)?;
-    match open_turn(alloc, services, ctx, packet, before) {
+    match open_turn(alloc, services, ctx, mark, packet, before) {
         Ok(turn) => {
             let Turn {
                 mut acts,
@@ -139,7 +140,7 @@ fn visit_turn<S: Services>(
                 is_spent,
             } = turn;
             close(services, is_spent);
-            send_all(&mut acts, queues, sends);
+            send_all(&mut acts, lanes, sends);
             Ok(Items::from_vec(acts))
         }
         Err(refused) => {
@@ -159,25 +160,26 @@ impl<S: Services> IdleServices<S> {
     }
 
     /// The visit of a packet, after some acts: its acts, with its sends queued. Where memory is refused, the
-    /// queues and the services stay.
+    /// lanes and the services stay.
     pub fn turn(
         &mut self,
         alloc: Global,
         ctx: &Ctx,
-        queues: &mut [Queue<SpelledFrame>],
+        mark: Option<Stamp>,
+        lanes: &mut [Lane],
         before: ActList,
         packet: &CheckedPacket,
     ) -> Result<ActList, NoMemory>
         requires bound { ctx.now.purse ≡ packet.now.bound }
         requires source { ctx.now.source ≡ packet.now.family.source }
         requires near { length ctx.now.neighbours ≤ 8 }
-        ensures acts { IfOk result (λ acts. acts ≡ before ++ spec.visit_acts queues.old packet.now (visit_of ctx.entry.now (begun_now (S.stands self.old)) packet.now)) }
-        ensures queues { OnOk result (queues.new ≡ spec.sends_queues queues.old (spec.visit_sends (visit_of ctx.entry.now (begun_now (S.stands self.old)) packet.now))) }
+        ensures acts { IfOk result (λ acts. acts ≡ before ++ spec.visit_acts mark lanes.old packet.now (visit_of ctx.entry.now (begun_now (S.stands self.old)) packet.now)) }
+        ensures lanes { OnOk result (lanes.new ≡ spec.sends_queues lanes.old (spec.visit_sends mark (visit_of ctx.entry.now (begun_now (S.stands self.old)) packet.now))) }
         ensures services { OnOk result (S.stands self.new ≡ services_after ctx.entry.now (begun_now (S.stands self.old)) packet.now) }
-        ensures same { OnErr result (queues.new ≡ queues.old) }
+        ensures same { OnErr result (lanes.new ≡ lanes.old) }
         ensures undone { OnErr result (S.stands self.new ≡ S.stands self.old) }
     {
-        visit_turn(alloc, &mut self.services, ctx, queues, before, packet)
+        visit_turn(alloc, &mut self.services, ctx, mark, lanes, before, packet)
     }
 
     /// Takes the rows away that have expired at `now`. Takes no memory.

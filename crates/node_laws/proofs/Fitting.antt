@@ -4,14 +4,16 @@ use Rattle.std.specs.Prelude.{map, slice_get, nat_le, ◌==◌, ◌&&◌, filter
 use Rattle.std.proofs.lemmas.List.Sums.{sum_by-cons}
 use Rattle.std.proofs.lemmas.List.Elements.{All-nil, All-cons, All-head, All-tail, All-filter}
 use Rattle.std.proofs.lemmas.Bool.Decides.{nat_tests}
+use Rattle.plan_base.specs.declared.name.Name.{Name}
 use Rattle.plan_base.specs.declared.ids.Dev.{Dev}
 use Rattle.plan_base.specs.declared.tree.Chunk.{Chunk}
 use Rattle.plan_base.specs.declared.tree.Packet.{Packet}
+use Rattle.typing_rules.specs.Handlers.{MayHandle}
 use Rattle.wire_bytes.specs.Fields.{IsBytes}
 use Rattle.packet_frame.specs.declared.frame.PlainFrame.{PlainFrame}
 use Rattle.packet_frame.specs.declared.frame.PlainStamped.{PlainStamped}
 use Rattle.packet_frame.specs.Forms.{FrameFits}
-use Rattle.packet_frame.specs.Typed.{CarriesTyped}
+use Rattle.packet_frame.specs.Typed.{CarriesTyped, CarriesHandler}
 use Rattle.packet_frame.specs.Stamped.{AcceptsBy}
 use Rattle.link_window.specs.declared.window.Version.{Version}
 use Rattle.link_window.specs.declared.window.Version.TheVariants.{One, Two}
@@ -40,11 +42,13 @@ use Rattle.dv_routing.specs.Routing.{all_routes, own_advert}
 use Rattle.dv_routing.proofs.Rows.{advert_fits}
 use Rattle.network_plan.specs.declared.event.Event.{Event}
 use Rattle.network_plan.specs.declared.event.Event.TheVariants as event
+use Rattle.network_plan.specs.Rules.{MayName, KeepsInjection}
 use Rattle.node_model.specs.declared.acts.Act.{Act}
 use Rattle.node_model.specs.declared.acts.Act.TheVariants.{Injected, Asked, SerialsSpent}
 use Rattle.node_model.specs.State.{Links, Queues, NodeState, routing_of, is_host, leads_to}
 use Rattle.node_model.specs.Visits.{visit_at}
-use Rattle.node_model.specs.Node.{Step, stepped, mark_of, mark, stamp_with, takes_as, seen_then, with_seen, noting, stamped_as, stamped_step, asked_plain, take_first, hop_packet, packet_sending, advert_sending, visit_sends, tick_sends, visited, next_serial, injected_packet, inject_step, forward_by, forward_step, packet_step, hearing, advert_step, frame_step, arrived, arrive_step, asked, control_step, next_tick, tick_step, take_from, take_step, node_step}
+use Rattle.spelled_frame.specs.Spelled.{stamp_with}
+use Rattle.node_model.specs.Node.{Step, stepped, mark_of, mark, takes_as, seen_then, with_seen, noting, stamped_as, stamped_step, asked_plain, take_first, hop_packet, packet_sending, advert_sending, visit_sends, tick_sends, visited, next_serial, injected_packet, inject_step, forward_by, forward_step, packet_step, hearing, advert_step, frame_step, arrived, arrive_step, asked, control_step, next_tick, tick_step, take_from, take_step, node_step}
 use Rattle.node_model.specs.Fits.{PacketFits, FrameKeeps, IsMarked, StampedKeeps, QueuesKeep, ServicesFit, NodeFits, comes_fit}
 use Rattle.node_laws.proofs.Keeping.{Sends, Whatever, send_keeps, sends_keep, took}
 use Rattle.node_laws.proofs.VisitLaws.{visit_keeps, visit_fits}
@@ -66,15 +70,21 @@ again v n x h = record { frame = h.frame; mark = by v x.stamp h.mark }
     by Two (Some s) m = tt
 
 hop_fits : (p : Packet) → PacketFits p → PacketFits (hop_packet p)
-hop_fits p h = record { bound = omega (arith, h.bound); chunk = h.chunk }
+hop_fits p h = record { bound = omega (arith, h.bound); chunk = h.chunk; handler = h.handler }
+
+-- a packet without a handler may have none
+none_handles : (c : Chunk) (o : Option Name) → o ≡ None → MayHandle c o
+none_handles c None e = tt
+none_handles c (Some n) e = cc
 
 -- what a visit sends is within its bound, and good
 sent_fits : (v : Version) (m : Option Stamp) (ss : List Sent) → IsMarked v m → bounds ss ≤ 65535 → AreGoodPackets ss → All (Sends (StampedKeeps v)) (map (packet_sending m) ss)
 sent_fits v m [] k h g = All-nil (Sends (StampedKeeps v))
 sent_fits v m (s ∷ ss) k h g =
     let e = sum_by-cons (λ (s : Sent). s.packet.bound) s ss in
+    let good = All-head IsGoodSent s ss g in
     All-cons (Sends (StampedKeeps v)) (packet_sending m s) (map (packet_sending m) ss)
-    (record { frame = hop_fits s.packet (record { bound = omega arith; chunk = (All-head IsGoodSent s ss g).0 }); mark = k })
+    (record { frame = hop_fits s.packet (record { bound = omega arith; chunk = good.0; handler = none_handles s.packet.chunk s.packet.handler good.1 }); mark = k })
     (sent_fits v m ss k (omega arith) (All-tail IsGoodSent s ss g))
 
 adverts_sent : (v : Version) (m : Option Stamp) (a : Advert) (links : Links) → IsMarked v m → AdvertFits a → All (Sends (StampedKeeps v)) (map (advert_sending m a) links)
@@ -129,7 +139,7 @@ step_cases false a b x y = y
 
 -- a node with other queues
 with_fits : (node : NodeState) (queues : Queues) → QueuesKeep (StampedKeeps node.version) queues → NodeFits node → NodeFits (record node { queues = queues })
-with_fits node queues q n = record { here = n.here; hosts = n.hosts; near = n.near; services = n.services; queues = q; serial = n.serial; now = n.now }
+with_fits node queues q n = record { here = n.here; hosts = n.hosts; near = n.near; ordered = n.ordered; services = n.services; queues = q; serial = n.serial; now = n.now }
 
 still : (acts : List Act) (node : NodeState) → NodeFits node → StepFits (stepped acts None node)
 still acts node n = record { node = n; frame = tt }
@@ -144,6 +154,7 @@ visited_fits acts node p h n =
         here = n.here;
         hosts = n.hosts;
         near = n.near;
+        ordered = n.ordered;
         services = v.services;
         queues = sends_keep (StampedKeeps node.version) (again node.version) node.queues (map (packet_sending (mark node)) (visit_at node p).outbox) (sent_fits node.version (mark node) _ (mark_fits node.version node.boot) (omega (arith, k.balance, h.bound)) v.packets) n.queues;
         serial = n.serial;
@@ -159,16 +170,16 @@ serial_fits : (n : ℕ) → (n == 18446744073709551615) ≡ false → n < 2 ^ 64
 serial_fits n e h = grind (arith, nat_tests)
 
 next_fits : (node : NodeState) → (node.serial == 18446744073709551615) ≡ false → NodeFits node → NodeFits (next_serial node)
-next_fits node e n = record { here = n.here; hosts = n.hosts; near = n.near; services = n.services; queues = n.queues; serial = serial_fits node.serial e n.serial; now = n.now }
+next_fits node e n = record { here = n.here; hosts = n.hosts; near = n.near; ordered = n.ordered; services = n.services; queues = n.queues; serial = serial_fits node.serial e n.serial; now = n.now }
 
-inject_cases : (t : Bool) (before : List Act) (node : NodeState) (chunk : Chunk) (bound : ℕ) → (node.serial == 18446744073709551615) ≡ t → bound ≤ 65535 → IsGoodChunk chunk → NodeFits node
-    → StepFits (cond t (stepped (before ++ SerialsSpent ∷ []) None node) (visited (before ++ Injected (record { source = node.here; serial = node.serial }) bound ∷ []) (next_serial node) (injected_packet node chunk bound)))
-inject_cases true before node chunk bound e h k n = still _ node n
-inject_cases false before node chunk bound e h k n = visited_fits _ (next_serial node) (injected_packet node chunk bound) (record { bound = h; chunk = k }) (next_fits node e n)
+inject_cases : (t : Bool) (before : List Act) (node : NodeState) (chunk : Chunk) (bound : ℕ) (handler : Option Name) → (node.serial == 18446744073709551615) ≡ t → PacketFits (injected_packet node chunk bound handler) → NodeFits node
+    → StepFits (cond t (stepped (before ++ SerialsSpent ∷ []) None node) (visited (before ++ Injected (record { source = node.here; serial = node.serial }) bound ∷ []) (next_serial node) (injected_packet node chunk bound handler)))
+inject_cases true before node chunk bound handler e h n = still _ node n
+inject_cases false before node chunk bound handler e h n = visited_fits _ (next_serial node) (injected_packet node chunk bound handler) h (next_fits node e n)
 
-inject_fits : (before : List Act) (node : NodeState) (chunk : Chunk) (bound : ℕ) → bound ≤ 65535 → IsGoodChunk chunk → NodeFits node → StepFits (inject_step before node chunk bound)
+inject_fits : (before : List Act) (node : NodeState) (chunk : Chunk) (bound : ℕ) (handler : Option Name) → PacketFits (injected_packet node chunk bound handler) → NodeFits node → StepFits (inject_step before node chunk bound handler)
 unfolding inject_step
-inject_fits before node chunk bound h k n = inject_cases (node.serial == 18446744073709551615) before node chunk bound refl h k n
+inject_fits before node chunk bound handler h n = inject_cases (node.serial == 18446744073709551615) before node chunk bound handler refl h n
 
 by_fits : (node : NodeState) (d : Dev) (p : Packet) (o : Hop) → PacketFits p → NodeFits node → StepFits (forward_by node d p o)
 unfolding forward_by
@@ -187,7 +198,7 @@ unfolding packet_step
 packet_fits node d p h n = step_cases (is_host p.dest node.here) _ _ (visited_fits _ node p h n) (forward_fits node d p h n)
 
 hearing_fits : (node : NodeState) (d : Dev) (a : Advert) → NodeFits node → NodeFits (hearing node d a)
-hearing_fits node d a n = record { here = n.here; hosts = n.hosts; near = n.near; services = n.services; queues = n.queues; serial = n.serial; now = n.now }
+hearing_fits node d a n = record { here = n.here; hosts = n.hosts; near = n.near; ordered = n.ordered; services = n.services; queues = n.queues; serial = n.serial; now = n.now }
 
 advert_step_fits : (node : NodeState) (d : Dev) (a : Advert) → NodeFits node → StepFits (advert_step node d a)
 unfolding advert_step
@@ -200,12 +211,12 @@ Taken (PlainFrame.Advert a) = Unit {0}
 Taken (PlainFrame.Ask bound chunk) = (bound ≤ 65535) × IsGoodChunk chunk
 
 pub taken_in : (bytes : List ℕ) (v : Version) (x : PlainStamped) → AcceptsBy v bytes x → Taken x.frame
-taken_in bytes v x h = by x.frame h.fits h.typed
+taken_in bytes v x h = by x.frame h.fits h.typed h.handler
   where
-    by : (x : PlainFrame) → FrameFits x → CarriesTyped x → Taken x
-    by (PlainFrame.Packet p) f t = record { bound = f.1.1.1.0; chunk = record { typed = t; formed = chunk_is_formed p.chunk f.1.1.1.1.1.0 } }
-    by (PlainFrame.Advert a) f t = tt
-    by (PlainFrame.Ask bound chunk) f t = (f.0, record { typed = t; formed = chunk_is_formed chunk f.1.0 })
+    by : (x : PlainFrame) → FrameFits x → CarriesTyped x → CarriesHandler x → Taken x
+    by (PlainFrame.Packet p) f t k = record { bound = f.1.1.1.0; chunk = record { typed = t; formed = chunk_is_formed p.chunk f.1.1.1.1.1.0 }; handler = k }
+    by (PlainFrame.Advert a) f t k = tt
+    by (PlainFrame.Ask bound chunk) f t k = (f.0, record { typed = t; formed = chunk_is_formed chunk f.1.0 })
 
 pub kept_taken : (x : PlainFrame) → FrameKeeps x → Taken x
 kept_taken (PlainFrame.Packet p) h = h
@@ -218,7 +229,7 @@ frame_taken_fits node d (PlainFrame.Advert a) h n = advert_step_fits node d a n
 frame_taken_fits node d (PlainFrame.Ask bound chunk) h n = still _ node n
 
 with_seen_fits : (node : NodeState) (seen : List Seen) → NodeFits node → NodeFits (with_seen seen node)
-with_seen_fits node seen n = record { here = n.here; hosts = n.hosts; near = n.near; services = n.services; queues = n.queues; serial = n.serial; now = n.now }
+with_seen_fits node seen n = record { here = n.here; hosts = n.hosts; near = n.near; ordered = n.ordered; services = n.services; queues = n.queues; serial = n.serial; now = n.now }
 
 noting_fits : (node : NodeState) (d : Dev) (stamp : Option Stamp) (step : Step) → StepFits step → StepFits (noting node d stamp step)
 noting_fits node d stamp step f = record { node = with_seen_fits step.node (seen_then node.seen d stamp) f.node; frame = f.frame }
@@ -247,7 +258,7 @@ arrive_fits node d bytes b n = arrived_fits node d bytes (read_by node.version b
 asked_taken : (node : NodeState) (x : PlainFrame) → Taken x → NodeFits node → StepFits (asked_plain node x)
 asked_taken node (PlainFrame.Packet p) h n = still _ node n
 asked_taken node (PlainFrame.Advert a) h n = still _ node n
-asked_taken node (PlainFrame.Ask bound chunk) h n = inject_fits (Asked ∷ []) node chunk bound h.0 h.1 n
+asked_taken node (PlainFrame.Ask bound chunk) h n = inject_fits (Asked ∷ []) node chunk bound None (record { bound = h.0; chunk = h.1; handler = tt }) n
 
 asked_fits : (node : NodeState) (bytes : List ℕ) (r : Result PlainStamped FrameFault) → IsBytes bytes → read_by node.version bytes ≡ r → NodeFits node → StepFits (asked node r)
 asked_fits node bytes (Ok x) b e n = asked_taken node x.frame (taken_in bytes node.version x (found_by node.version bytes x b e)) n
@@ -271,6 +282,7 @@ tick_fits node n =
         here = n.here;
         hosts = n.hosts;
         near = n.near;
+        ordered = n.ordered;
         services = expired_fits (next_tick node.now) node.services n.services;
         queues = sends_keep (StampedKeeps node.version) (again node.version) node.queues (map (advert_sending (mark node) a) node.neighbours)
             (adverts_sent node.version (mark node) a node.neighbours (mark_fits node.version node.boot) h) n.queues;
@@ -295,12 +307,18 @@ pub take_fits : (node : NodeState) (d : Dev) → NodeFits node → StepFits (tak
 unfolding take_step
 take_fits node d n = take_from_fits node d (slice_get node.queues d.0) refl n
 
-pub inject_event_fits : (node : NodeState) (chunk : Chunk) (bound : ℕ) → bound ≤ 65535 → IsCheckedChunk chunk → NodeFits node → StepFits (inject_step [] node chunk bound)
-inject_event_fits node chunk bound b k n = inject_fits [] node chunk bound b (good_of chunk k) n
+-- what a version lets be named may handle
+named_handles : (v : Version) (c : Chunk) (o : Option Name) → MayName v c o → MayHandle c o
+named_handles One c o h = none_handles c o h
+named_handles Two c o h = h
+
+pub inject_event_fits : (node : NodeState) (chunk : Chunk) (bound : ℕ) (handler : Option Name) → KeepsInjection node.version chunk bound handler → NodeFits node → StepFits (inject_step [] node chunk bound handler)
+inject_event_fits node chunk bound handler k n =
+    inject_fits [] node chunk bound handler (record { bound = k.0.0; chunk = good_of chunk k.0.1; handler = named_handles node.version chunk handler k.1 }) n
 
 -- each step keeps the limits
-pub step_fits : (node : NodeState) (e : Event) → comes_fit e → NodeFits node → StepFits (node_step node e)
-step_fits node (event.Inject chunk bound) c n = inject_event_fits node chunk bound c.0 c.1 n
+pub step_fits : (node : NodeState) (e : Event) → comes_fit node.version e → NodeFits node → StepFits (node_step node e)
+step_fits node (event.Inject chunk bound handler) c n = inject_event_fits node chunk bound handler c n
 step_fits node (event.Frame d bytes) c n = arrive_fits node d bytes c n
 step_fits node (event.Control bytes) c n = control_fits node bytes c n
 step_fits node event.Tick c n = tick_fits node n

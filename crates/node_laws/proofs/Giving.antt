@@ -4,6 +4,7 @@ use Rattle.std.proofs.Common.{◌≡◌, ℕ, zero, suc, ◌+◌, ◌-◌, ◌*�
 use Rattle.std.specs.Prelude.{sum_by, map, slice_set, slice_get, nat_lt, nat_le, ◌==◌, ◌&&◌, Option, Some, None, Result, Ok, Err, All}
 use Rattle.std.proofs.lemmas.List.Elements.{All-nil, All-cons, All-head, All-tail}
 use Rattle.std.proofs.lemmas.Bool.Decides.{nat_tests}
+use Rattle.plan_base.specs.declared.name.Name.{Name}
 use Rattle.plan_base.specs.declared.ids.Host.{Host}
 use Rattle.plan_base.specs.declared.ids.Dev.{Dev}
 use Rattle.plan_base.specs.declared.ids.Family.{Family}
@@ -32,7 +33,8 @@ use Rattle.node_model.specs.declared.acts.Sending.{Sending}
 use Rattle.spelled_frame.specs.Spelled.{what_of}
 use Rattle.node_model.specs.State.{Links, Queues, NodeState, routing_of, is_host, leads_to}
 use Rattle.node_model.specs.Visits.{visit_at}
-use Rattle.node_model.specs.Node.{Step, stepped, queue_room, has_room, lane_room, numbered, lane_with, queue_push, drop_act, mark, takes_as, stamped_as, stamped_step, take_first, hop_packet, packet_sending, advert_sending, visit_sends, tick_sends, send_act, send_queues, sends_acts, sends_queues, visit_acts, visited, next_serial, injected_packet, inject_step, only_acts, onward, forward_by, forward_step, packet_step, hearing, advert_step, frame_step, arrived, arrive_step, next_tick, tick_step, take_from, take_step}
+use Rattle.spelled_frame.specs.Spelled.{numbered}
+use Rattle.node_model.specs.Node.{Step, stepped, queue_room, has_room, lane_room, lane_with, queue_push, drop_act, mark, takes_as, stamped_as, stamped_step, take_first, hop_packet, packet_sending, advert_sending, visit_sends, tick_sends, send_act, send_queues, sends_acts, sends_queues, visit_acts, visited, next_serial, injected_packet, inject_step, only_acts, onward, forward_by, forward_step, packet_step, hearing, advert_step, frame_step, arrived, arrive_step, next_tick, tick_step, take_from, take_step}
 use Rattle.node_model.specs.Counts.{only, is_family, act_sum, act_granted, act_injections, queues_sum, frame_one, packet_one, taken_sum}
 use Rattle.node_laws.proofs.CountLaws.{act_sum-nil, act_sum-cons, act_sum-append, queue_sum-push, queue_sum-cons, queues_sum-set, only-zero}
 use Rattle.node_laws.proofs.VisitLaws.{visit_keeps}
@@ -242,25 +244,25 @@ module _ (f : Family) where
     pub once : act_sum (act_injections f) step.acts + may_give step.node ≤ may_give old
     pub limit : act_sum (act_granted f) step.acts ≤ 65535 * act_sum (act_injections f) step.acts
 
-  inject_cases : (t : Bool) (node : NodeState) (chunk : Chunk) (bound : ℕ) → bound ≤ 65535
-      → StepGives node (cond t (stepped ([] ++ SerialsSpent ∷ []) None node) (visited ([] ++ Injected (record { source = node.here; serial = node.serial }) bound ∷ []) (next_serial node) (injected_packet node chunk bound)))
-  inject_cases true node chunk bound h = record {
+  inject_cases : (t : Bool) (node : NodeState) (chunk : Chunk) (bound : ℕ) (handler : Option Name) → bound ≤ 65535
+      → StepGives node (cond t (stepped ([] ++ SerialsSpent ∷ []) None node) (visited ([] ++ Injected (record { source = node.here; serial = node.serial }) bound ∷ []) (next_serial node) (injected_packet node chunk bound handler)))
+  inject_cases true node chunk bound handler h = record {
     once = omega (arith, act_sum-cons (act_injections f) SerialsSpent [], act_sum-nil (act_injections f));
     limit = omega (arith, act_sum-cons (act_granted f) SerialsSpent [], act_sum-nil (act_granted f));
   }
-  inject_cases false node chunk bound h =
+  inject_cases false node chunk bound handler h =
       let g : Family = record { source = node.here; serial = node.serial } in
       let act = Injected g bound in
-      let p = injected_packet node chunk bound in
+      let p = injected_packet node chunk bound handler in
       let injected = visited_count (act_injections f) injections_injects act (next_serial node) p in
       let paid = visited_count (act_granted f) granted_injects act (next_serial node) p in
       let s = visited_stays (act ∷ []) (next_serial node) p in
       let same = same_gives (next_serial node) (visited (act ∷ []) (next_serial node) p).node s.node.here s.serial in
       record { once = omega (arith, injected, same, one_given node); limit = omega (arith, injected, paid, only_limit g bound h) }
 
-  pub inject_gives : (node : NodeState) (chunk : Chunk) (bound : ℕ) → bound ≤ 65535 → StepGives node (inject_step [] node chunk bound)
+  pub inject_gives : (node : NodeState) (chunk : Chunk) (bound : ℕ) (handler : Option Name) → bound ≤ 65535 → StepGives node (inject_step [] node chunk bound handler)
   unfolding inject_step
-  inject_gives node chunk bound h = inject_cases (node.serial == 18446744073709551615) node chunk bound h
+  inject_gives node chunk bound handler h = inject_cases (node.serial == 18446744073709551615) node chunk bound handler h
 
   stamped_stays_gives : (node : NodeState) (step : Step) → StampedStays node step → act_sum (act_injections f) step.acts ≡ 0 → act_sum (act_granted f) step.acts ≡ 0 → StepGives node step
   stamped_stays_gives node step s i g = record { once = omega (arith, i, same_gives node step.node s.node.here s.serial); limit = omega (arith, g) }
@@ -325,18 +327,18 @@ module _ (f : Family) where
   adds_cases true a b x y = x
   adds_cases false a b x y = y
 
-  inject_adds_cases : (t : Bool) (node : NodeState) (chunk : Chunk) (bound : ℕ) → count_in node.queues ≡ 0
-      → act_sum (act_injections f) (cond t (stepped ([] ++ SerialsSpent ∷ []) None node) (visited ([] ++ Injected (record { source = node.here; serial = node.serial }) bound ∷ []) (next_serial node) (injected_packet node chunk bound))).acts ≡ 0
-      → count_in (cond t (stepped ([] ++ SerialsSpent ∷ []) None node) (visited ([] ++ Injected (record { source = node.here; serial = node.serial }) bound ∷ []) (next_serial node) (injected_packet node chunk bound))).node.queues ≡ 0
-  inject_adds_cases true node chunk bound q z = q
-  inject_adds_cases false node chunk bound q z =
+  inject_adds_cases : (t : Bool) (node : NodeState) (chunk : Chunk) (bound : ℕ) (handler : Option Name) → count_in node.queues ≡ 0
+      → act_sum (act_injections f) (cond t (stepped ([] ++ SerialsSpent ∷ []) None node) (visited ([] ++ Injected (record { source = node.here; serial = node.serial }) bound ∷ []) (next_serial node) (injected_packet node chunk bound handler))).acts ≡ 0
+      → count_in (cond t (stepped ([] ++ SerialsSpent ∷ []) None node) (visited ([] ++ Injected (record { source = node.here; serial = node.serial }) bound ∷ []) (next_serial node) (injected_packet node chunk bound handler))).node.queues ≡ 0
+  inject_adds_cases true node chunk bound handler q z = q
+  inject_adds_cases false node chunk bound handler q z =
       let g : Family = record { source = node.here; serial = node.serial } in
-      let c = visited_count (act_injections f) injections_injects (Injected g bound) (next_serial node) (injected_packet node chunk bound) in
-      visited_adds (Injected g bound ∷ []) (next_serial node) (injected_packet node chunk bound) (sym c ∙ z) q
+      let c = visited_count (act_injections f) injections_injects (Injected g bound) (next_serial node) (injected_packet node chunk bound handler) in
+      visited_adds (Injected g bound ∷ []) (next_serial node) (injected_packet node chunk bound handler) (sym c ∙ z) q
 
-  pub inject_adds : (node : NodeState) (chunk : Chunk) (bound : ℕ) → count_in node.queues ≡ 0 → act_sum (act_injections f) (inject_step [] node chunk bound).acts ≡ 0 → count_in (inject_step [] node chunk bound).node.queues ≡ 0
+  pub inject_adds : (node : NodeState) (chunk : Chunk) (bound : ℕ) (handler : Option Name) → count_in node.queues ≡ 0 → act_sum (act_injections f) (inject_step [] node chunk bound handler).acts ≡ 0 → count_in (inject_step [] node chunk bound handler).node.queues ≡ 0
   unfolding inject_step
-  inject_adds node chunk bound q z = inject_adds_cases (node.serial == 18446744073709551615) node chunk bound q z
+  inject_adds node chunk bound handler q z = inject_adds_cases (node.serial == 18446744073709551615) node chunk bound handler q z
 
   by_adds : (node : NodeState) (d : Dev) (p : Packet) (o : Hop) → only f p.family 1 ≡ 0 → count_in node.queues ≡ 0 → count_in (forward_by node d p o).node.queues ≡ 0
   unfolding forward_by

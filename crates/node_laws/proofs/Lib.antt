@@ -1,3 +1,4 @@
+pub mod Contexts
 pub mod CountLaws
 pub mod Fitting
 pub mod Giving

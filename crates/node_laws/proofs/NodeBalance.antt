@@ -4,6 +4,7 @@ use Rattle.std.specs.Prelude.{sum_by, map, All, slice_get, length, nat_lt, ◌==
 use Rattle.std.proofs.lemmas.List.Sums.{sum_by-cons}
 use Rattle.std.proofs.lemmas.List.Elements.{All-nil, All-cons, All-head, All-tail}
 use Rattle.std.proofs.lemmas.Bool.Decides.{nat_tests}
+use Rattle.plan_base.specs.declared.name.Name.{Name}
 use Rattle.plan_base.specs.declared.ids.Host.{Host}
 use Rattle.plan_base.specs.declared.ids.Dev.{Dev}
 use Rattle.plan_base.specs.declared.ids.Family.{Family}
@@ -34,7 +35,8 @@ use Rattle.node_model.specs.declared.acts.Sending.{Sending}
 use Rattle.spelled_frame.specs.Spelled.{what_of}
 use Rattle.node_model.specs.State.{Links, Queues, NodeState, routing_of, is_host, leads_to}
 use Rattle.node_model.specs.Visits.{visit_at, VisitKeeps}
-use Rattle.node_model.specs.Node.{Step, stepped, queue_room, has_room, lane_room, numbered, lane_with, queue_push, drop_act, mark, takes_as, noting, stamped_as, stamped_step, asked_plain, take_first, packet_sending, advert_sending, visit_sends, tick_sends, send_act, send_queues, sends_acts, sends_queues, with_queues, visit_acts, visited, injected_packet, next_serial, inject_step, only_acts, forward_by, forward_step, packet_step, hearing, advert_step, frame_step, arrived, arrive_step, asked, control_step, next_tick, tick_step, take_from, take_step, node_step}
+use Rattle.spelled_frame.specs.Spelled.{numbered}
+use Rattle.node_model.specs.Node.{Step, stepped, queue_room, has_room, lane_room, lane_with, queue_push, drop_act, mark, takes_as, noting, stamped_as, stamped_step, asked_plain, take_first, packet_sending, advert_sending, visit_sends, tick_sends, send_act, send_queues, sends_acts, sends_queues, with_queues, visit_acts, visited, injected_packet, next_serial, inject_step, only_acts, forward_by, forward_step, packet_step, hearing, advert_step, frame_step, arrived, arrive_step, asked, control_step, next_tick, tick_step, take_from, take_step, node_step}
 use Rattle.node_model.specs.Counts.{only, act_sum, act_granted, act_hops, act_evals, act_left, act_stale, what_left, packet_live, frame_live, queues_sum, node_live, if_fresh, if_stale, stamped_came, stamped_stale, bytes_came, bytes_stale, came, stale, StepBalances}
 use Rattle.node_laws.proofs.CountLaws.{only-plus, only_hop, act_sum-nil, act_sum-cons, act_sum-append, queue_sum-push, queue_sum-cons, queues_sum-set, dropped_left, sent_live}
 use Rattle.node_laws.proofs.VisitLaws.{visit_keeps}
@@ -276,21 +278,21 @@ module _ (f : Family) where
   same_node_balances : (arrived : ℕ) (old new : NodeState) (step : Step) → node_live f old ≡ node_live f new → StepBalances f arrived 0 new step → StepBalances f arrived 0 old step
   same_node_balances arrived old new step e b = record { law = omega (arith, b.law); stale = b.stale }
 
-  inject_cases : (t : Bool) (before : List Act) (node : NodeState) (chunk : Chunk) (bound : ℕ) → BeginsBalance before 0 0
-      → StepBalances f 0 0 node (cond t (stepped (before ++ SerialsSpent ∷ []) None node) (visited (before ++ Injected (record { source = node.here; serial = node.serial }) bound ∷ []) (next_serial node) (injected_packet node chunk bound)))
-  inject_cases true before node chunk bound b = plain_balances (before ++ SerialsSpent ∷ []) 0 node node refl (more_begins before SerialsSpent 0 b (one_begins SerialsSpent 0 0 refl refl refl refl refl))
-  inject_cases false before node chunk bound b =
+  inject_cases : (t : Bool) (before : List Act) (node : NodeState) (chunk : Chunk) (bound : ℕ) (handler : Option Name) → BeginsBalance before 0 0
+      → StepBalances f 0 0 node (cond t (stepped (before ++ SerialsSpent ∷ []) None node) (visited (before ++ Injected (record { source = node.here; serial = node.serial }) bound ∷ []) (next_serial node) (injected_packet node chunk bound handler)))
+  inject_cases true before node chunk bound handler b = plain_balances (before ++ SerialsSpent ∷ []) 0 node node refl (more_begins before SerialsSpent 0 b (one_begins SerialsSpent 0 0 refl refl refl refl refl))
+  inject_cases false before node chunk bound handler b =
       let act = Injected (record { source = node.here; serial = node.serial }) bound in
-      let p = injected_packet node chunk bound in
+      let p = injected_packet node chunk bound handler in
       same_node_balances 0 node (next_serial node) _ refl
       (visited_balances (before ++ act ∷ []) 0 (next_serial node) p (more_begins before act (packet_live f p) b (one_begins act 0 (packet_live f p) refl refl refl refl (omega arith))))
 
-  inject_balances : (before : List Act) (node : NodeState) (chunk : Chunk) (bound : ℕ) → BeginsBalance before 0 0 → StepBalances f 0 0 node (inject_step before node chunk bound)
+  inject_balances : (before : List Act) (node : NodeState) (chunk : Chunk) (bound : ℕ) (handler : Option Name) → BeginsBalance before 0 0 → StepBalances f 0 0 node (inject_step before node chunk bound handler)
   unfolding inject_step
-  inject_balances before node chunk bound b = inject_cases (node.serial == 18446744073709551615) before node chunk bound b
+  inject_balances before node chunk bound handler b = inject_cases (node.serial == 18446744073709551615) before node chunk bound handler b
 
-  pub inject_event_balances : (node : NodeState) (chunk : Chunk) (bound : ℕ) → StepBalances f 0 0 node (inject_step [] node chunk bound)
-  inject_event_balances node chunk bound = inject_balances [] node chunk bound none_begins
+  pub inject_event_balances : (node : NodeState) (chunk : Chunk) (bound : ℕ) (handler : Option Name) → StepBalances f 0 0 node (inject_step [] node chunk bound handler)
+  inject_event_balances node chunk bound handler = inject_balances [] node chunk bound handler none_begins
 
   -- two acts that count nothing
   only_balances : (first act : Act) (old new : NodeState) → node_live f old ≡ node_live f new → BeginsBalance (first ∷ []) 0 0 → BeginsBalance (act ∷ []) 0 0 → StepBalances f 0 0 old (only_acts first act new)
@@ -427,7 +429,7 @@ module _ (f : Family) where
   misplaced_balances node = only_balances Asked Misplaced node node refl (begins_none Asked refl refl refl refl refl) (begins_none Misplaced refl refl refl refl refl)
 
   plain_asked : (node : NodeState) (x : PlainFrame) → StepBalances f 0 0 node (asked_plain node x)
-  plain_asked node (PlainFrame.Ask bound chunk) = inject_balances (Asked ∷ []) node chunk bound (begins_none Asked refl refl refl refl refl)
+  plain_asked node (PlainFrame.Ask bound chunk) = inject_balances (Asked ∷ []) node chunk bound None (begins_none Asked refl refl refl refl refl)
   plain_asked node (PlainFrame.Packet p) = misplaced_balances node
   plain_asked node (PlainFrame.Advert a) = misplaced_balances node
 
@@ -484,7 +486,7 @@ module _ (f : Family) where
 
   -- each step of a node is in balance
   pub step_balances : (node : NodeState) (e : Event) → StepBalances f (came f node e) (stale f node e) node (node_step node e)
-  step_balances node (event.Inject chunk bound) = inject_event_balances node chunk bound
+  step_balances node (event.Inject chunk bound handler) = inject_event_balances node chunk bound handler
   step_balances node (event.Frame d bytes) = arrive_balances node d bytes
   step_balances node (event.Control bytes) = control_balances node bytes
   step_balances node event.Tick = tick_balances node

@@ -2,6 +2,7 @@
 use Rattle.std.proofs.Common.{◌≡◌, ℕ, zero, suc, Bool, true, false, cond, List, [], ◌∷◌, ◌++◌, refl, sym, ap, ◌∙◌, append_assoc, length}
 use Rattle.std.specs.Prelude.{slice_set, slice_get, nat_lt, ◌==◌, Option, Some, None, Result, Ok, Err}
 use Rattle.std.proofs.lemmas.List.{append-nil}
+use Rattle.plan_base.specs.declared.name.Name.{Name}
 use Rattle.plan_base.specs.declared.ids.Dev.{Dev}
 use Rattle.plan_base.specs.declared.tree.Chunk.{Chunk}
 use Rattle.plan_base.specs.declared.tree.Packet.{Packet}
@@ -24,13 +25,13 @@ use Rattle.node_model.specs.declared.acts.Act.TheVariants.{Injected, Asked, Seri
 use Rattle.node_model.specs.declared.acts.Sending.{Sending}
 use Rattle.node_model.specs.State.{Queues, NodeState, routing_of, is_host, leads_to}
 use Rattle.node_model.specs.Visits.{visit_at}
-use Rattle.node_model.specs.Node.{Step, stepped, queue_room, has_room, numbered, number_after, lane_with, queue_push, mark, takes_as, stamped_as, stamped_step, asked_plain, take_first, packet_sending, visit_sends, tick_sends, send_queues, sends_queues, visited, next_serial, injected_packet, inject_step, forward_by, forward_step, packet_step, advert_step, frame_step, arrived, arrive_step, asked, control_step, tick_step, take_from, take_step, node_step}
+use Rattle.spelled_frame.specs.Spelled.{stamp_with, numbered}
+use Rattle.node_model.specs.Node.{Step, stepped, queue_room, has_room, number_after, lane_with, queue_push, mark, takes_as, stamped_as, stamped_step, asked_plain, take_first, packet_sending, visit_sends, tick_sends, send_queues, sends_queues, visited, next_serial, injected_packet, inject_step, forward_by, forward_step, packet_step, advert_step, frame_step, arrived, arrive_step, asked, control_step, tick_step, take_from, take_step, node_step}
 use Rattle.node_model.specs.Orders.{frames_of, queue_at, MovesInOrder, joined, taken}
 use Rattle.std.specs.List.{All, flat_map}
 use Rattle.std.proofs.Common.{◌+◌, ◌<◌, subst, arith}
 use Rattle.std.proofs.lemmas.List.Elements.{All-nil, All-head, All-tail, All-push, All-weaker}
 use Rattle.link_window.specs.declared.window.Stamp.{Stamp}
-use Rattle.node_model.specs.Node.{stamp_with}
 
 -- the number of a frame, if it bears a stamp
 abbrev pub link_in : Option Stamp → List ℕ
@@ -155,14 +156,14 @@ module _ (before : List ℕ) (d : ℕ) where
   unfolding visited
   visited_rises acts node p = sends_rise node.queues (visit_sends (mark node) (visit_at node p))
 
-  inject_cases : (t : Bool) (before : List Act) (node : NodeState) (chunk : Chunk) (bound : ℕ)
-      → StepRises node (cond t (stepped (before ++ SerialsSpent ∷ []) None node) (visited (before ++ Injected (record { source = node.here; serial = node.serial }) bound ∷ []) (next_serial node) (injected_packet node chunk bound)))
-  inject_cases true before node chunk bound = still node
-  inject_cases false before node chunk bound = visited_rises _ (next_serial node) (injected_packet node chunk bound)
+  inject_cases : (t : Bool) (before : List Act) (node : NodeState) (chunk : Chunk) (bound : ℕ) (handler : Option Name)
+      → StepRises node (cond t (stepped (before ++ SerialsSpent ∷ []) None node) (visited (before ++ Injected (record { source = node.here; serial = node.serial }) bound ∷ []) (next_serial node) (injected_packet node chunk bound handler)))
+  inject_cases true before node chunk bound handler = still node
+  inject_cases false before node chunk bound handler = visited_rises _ (next_serial node) (injected_packet node chunk bound handler)
 
-  pub inject_rises : (before : List Act) (node : NodeState) (chunk : Chunk) (bound : ℕ) → StepRises node (inject_step before node chunk bound)
+  pub inject_rises : (before : List Act) (node : NodeState) (chunk : Chunk) (bound : ℕ) (handler : Option Name) → StepRises node (inject_step before node chunk bound handler)
   unfolding inject_step
-  inject_rises before node chunk bound = inject_cases (node.serial == 18446744073709551615) before node chunk bound
+  inject_rises before node chunk bound handler = inject_cases (node.serial == 18446744073709551615) before node chunk bound handler
 
   by_rises : (node : NodeState) (dev : Dev) (p : Packet) (o : Hop) → StepRises node (forward_by node dev p o)
   unfolding forward_by
@@ -201,7 +202,7 @@ module _ (before : List ℕ) (d : ℕ) where
   arrived_rises node dev (Err e) = still node
 
   plain_rises : (node : NodeState) (x : PlainFrame) → StepRises node (asked_plain node x)
-  plain_rises node (PlainFrame.Ask bound chunk) = inject_rises (Asked ∷ []) node chunk bound
+  plain_rises node (PlainFrame.Ask bound chunk) = inject_rises (Asked ∷ []) node chunk bound None
   plain_rises node (PlainFrame.Packet p) = still node
   plain_rises node (PlainFrame.Advert a) = still node
 
@@ -223,7 +224,7 @@ module _ (before : List ℕ) (d : ℕ) where
   control_rises node bytes = asked_rises node (read_by node.version bytes)
   -- every step but a take keeps the numbers
   pub event_rises : (node : NodeState) (e : Event) → ((dev : Dev) → e ≡ event.Take dev → ⊥) → StepRises node (node_step node e)
-  event_rises node (event.Inject chunk bound) h = inject_rises [] node chunk bound
+  event_rises node (event.Inject chunk bound handler) h = inject_rises [] node chunk bound handler
   event_rises node (event.Frame dev bytes) h = arrive_rises node dev bytes
   event_rises node (event.Control bytes) h = control_rises node bytes
   event_rises node event.Tick h = tick_rises node

@@ -2,6 +2,7 @@
 use Rattle.std.proofs.Common.{◌≡◌, ℕ, zero, suc, Bool, true, false, cond, List, [], ◌∷◌, ◌++◌, refl, sym, ap, ◌∙◌, append_assoc, length}
 use Rattle.std.specs.Prelude.{slice_set, slice_get, nat_lt, ◌==◌, Option, Some, None, Result, Ok, Err}
 use Rattle.std.proofs.lemmas.List.{append-nil}
+use Rattle.plan_base.specs.declared.name.Name.{Name}
 use Rattle.plan_base.specs.declared.ids.Dev.{Dev}
 use Rattle.plan_base.specs.declared.tree.Chunk.{Chunk}
 use Rattle.plan_base.specs.declared.tree.Packet.{Packet}
@@ -24,7 +25,8 @@ use Rattle.node_model.specs.declared.acts.Act.TheVariants.{Injected, Asked, Seri
 use Rattle.node_model.specs.declared.acts.Sending.{Sending}
 use Rattle.node_model.specs.State.{Queues, NodeState, routing_of, is_host, leads_to}
 use Rattle.node_model.specs.Visits.{visit_at}
-use Rattle.node_model.specs.Node.{Step, stepped, queue_room, has_room, numbered, number_after, lane_with, queue_push, mark, takes_as, stamped_as, stamped_step, asked_plain, take_first, packet_sending, visit_sends, tick_sends, send_queues, sends_queues, visited, next_serial, injected_packet, inject_step, forward_by, forward_step, packet_step, advert_step, frame_step, arrived, arrive_step, asked, control_step, tick_step, take_from, take_step, node_step}
+use Rattle.spelled_frame.specs.Spelled.{numbered}
+use Rattle.node_model.specs.Node.{Step, stepped, queue_room, has_room, number_after, lane_with, queue_push, mark, takes_as, stamped_as, stamped_step, asked_plain, take_first, packet_sending, visit_sends, tick_sends, send_queues, sends_queues, visited, next_serial, injected_packet, inject_step, forward_by, forward_step, packet_step, advert_step, frame_step, arrived, arrive_step, asked, control_step, tick_step, take_from, take_step, node_step}
 use Rattle.node_model.specs.Orders.{frames_of, queue_at, MovesInOrder, joined, taken}
 
 -- one queue set anew, seen at a device
@@ -96,14 +98,14 @@ module _ (d : ℕ) where
   unfolding visited
   visited_joins acts node p = sends_join node.queues (visit_sends (mark node) (visit_at node p))
 
-  inject_cases : (t : Bool) (before : List Act) (node : NodeState) (chunk : Chunk) (bound : ℕ)
-      → StepJoins node (cond t (stepped (before ++ SerialsSpent ∷ []) None node) (visited (before ++ Injected (record { source = node.here; serial = node.serial }) bound ∷ []) (next_serial node) (injected_packet node chunk bound)))
-  inject_cases true before node chunk bound = still node
-  inject_cases false before node chunk bound = visited_joins _ (next_serial node) (injected_packet node chunk bound)
+  inject_cases : (t : Bool) (before : List Act) (node : NodeState) (chunk : Chunk) (bound : ℕ) (handler : Option Name)
+      → StepJoins node (cond t (stepped (before ++ SerialsSpent ∷ []) None node) (visited (before ++ Injected (record { source = node.here; serial = node.serial }) bound ∷ []) (next_serial node) (injected_packet node chunk bound handler)))
+  inject_cases true before node chunk bound handler = still node
+  inject_cases false before node chunk bound handler = visited_joins _ (next_serial node) (injected_packet node chunk bound handler)
 
-  inject_joins : (before : List Act) (node : NodeState) (chunk : Chunk) (bound : ℕ) → StepJoins node (inject_step before node chunk bound)
+  inject_joins : (before : List Act) (node : NodeState) (chunk : Chunk) (bound : ℕ) (handler : Option Name) → StepJoins node (inject_step before node chunk bound handler)
   unfolding inject_step
-  inject_joins before node chunk bound = inject_cases (node.serial == 18446744073709551615) before node chunk bound
+  inject_joins before node chunk bound handler = inject_cases (node.serial == 18446744073709551615) before node chunk bound handler
 
   by_joins : (node : NodeState) (dev : Dev) (p : Packet) (o : Hop) → StepJoins node (forward_by node dev p o)
   unfolding forward_by
@@ -142,7 +144,7 @@ module _ (d : ℕ) where
   arrived_joins node dev (Err e) = still node
 
   plain_joins : (node : NodeState) (x : PlainFrame) → StepJoins node (asked_plain node x)
-  plain_joins node (PlainFrame.Ask bound chunk) = inject_joins (Asked ∷ []) node chunk bound
+  plain_joins node (PlainFrame.Ask bound chunk) = inject_joins (Asked ∷ []) node chunk bound None
   plain_joins node (PlainFrame.Packet p) = still node
   plain_joins node (PlainFrame.Advert a) = still node
 
@@ -184,7 +186,7 @@ module _ (d : ℕ) where
   control_joins node bytes = asked_joins node (read_by node.version bytes)
 
   pub step_moves : (node : NodeState) (e : Event) → MovesInOrder (queue_at node.queues d) (queue_at (node_step node e).node.queues d)
-  step_moves node (event.Inject chunk bound) = in_order _ _ (inject_joins [] node chunk bound)
+  step_moves node (event.Inject chunk bound handler) = in_order _ _ (inject_joins [] node chunk bound handler)
   step_moves node (event.Frame dev bytes) = in_order _ _ (arrive_joins node dev bytes)
   step_moves node (event.Control bytes) = in_order _ _ (control_joins node bytes)
   step_moves node event.Tick = in_order _ _ (tick_joins node)

@@ -3,6 +3,7 @@ use Rattle.std.proofs.Common.{◌≡◌, ℕ, zero, suc, ◌+◌, ◌-◌, ◌*�
 use Rattle.std.specs.Prelude.{sum_by, map, slice_set, slice_get, nat_lt, nat_le, ◌==◌, ◌&&◌, Option, Some, None, Result, Ok, Err}
 use Rattle.std.proofs.lemmas.List.{length-set}
 use Rattle.std.proofs.lemmas.Bool.Decides.{nat_tests}
+use Rattle.plan_base.specs.declared.name.Name.{Name}
 use Rattle.plan_base.specs.declared.ids.Host.{Host}
 use Rattle.plan_base.specs.declared.ids.Dev.{Dev}
 use Rattle.plan_base.specs.declared.ids.Family.{Family}
@@ -188,16 +189,16 @@ unfolding take_step
 take_stays node d = take_from_stays node d (slice_get node.queues d.0)
 
 -- an injection changes the serial number alone
-inject_cases : (t : Bool) (node : NodeState) (chunk : Chunk) (bound : ℕ)
-    → Stays node (cond t (stepped ([] ++ SerialsSpent ∷ []) None node) (visited ([] ++ Injected (record { source = node.here; serial = node.serial }) bound ∷ []) (next_serial node) (injected_packet node chunk bound))).node
-inject_cases true node chunk bound = itself node
-inject_cases false node chunk bound =
-    let s = visited_stays ([] ++ Injected (record { source = node.here; serial = node.serial }) bound ∷ []) (next_serial node) (injected_packet node chunk bound) in
+inject_cases : (t : Bool) (node : NodeState) (chunk : Chunk) (bound : ℕ) (handler : Option Name)
+    → Stays node (cond t (stepped ([] ++ SerialsSpent ∷ []) None node) (visited ([] ++ Injected (record { source = node.here; serial = node.serial }) bound ∷ []) (next_serial node) (injected_packet node chunk bound handler))).node
+inject_cases true node chunk bound handler = itself node
+inject_cases false node chunk bound handler =
+    let s = visited_stays ([] ++ Injected (record { source = node.here; serial = node.serial }) bound ∷ []) (next_serial node) (injected_packet node chunk bound handler) in
     after node (next_serial node) _ (record { here = refl; hosts = refl; neighbours = refl; count = refl; version = refl; boot = refl; windows = refl }) s.node
 
-pub inject_stays : (node : NodeState) (chunk : Chunk) (bound : ℕ) → Stays node (inject_step [] node chunk bound).node
+pub inject_stays : (node : NodeState) (chunk : Chunk) (bound : ℕ) (handler : Option Name) → Stays node (inject_step [] node chunk bound handler).node
 unfolding inject_step
-inject_stays node chunk bound = inject_cases (node.serial == 18446744073709551615) node chunk bound
+inject_stays node chunk bound handler = inject_cases (node.serial == 18446744073709551615) node chunk bound handler
 
 -- ---- only a take takes a frame
 
@@ -212,9 +213,9 @@ visited_frame : (acts : List Act) (node : NodeState) (p : Packet) → NoFrame (v
 unfolding visited
 visited_frame acts node p = refl
 
-pub inject_frame : (acts : List Act) (node : NodeState) (chunk : Chunk) (bound : ℕ) → NoFrame (inject_step acts node chunk bound)
+pub inject_frame : (acts : List Act) (node : NodeState) (chunk : Chunk) (bound : ℕ) (handler : Option Name) → NoFrame (inject_step acts node chunk bound handler)
 unfolding inject_step
-inject_frame acts node chunk bound = none_cases (node.serial == 18446744073709551615) _ _ refl (visited_frame _ (next_serial node) (injected_packet node chunk bound))
+inject_frame acts node chunk bound handler = none_cases (node.serial == 18446744073709551615) _ _ refl (visited_frame _ (next_serial node) (injected_packet node chunk bound handler))
 
 by_frame : (node : NodeState) (d : Dev) (p : Packet) (o : Hop) → NoFrame (forward_by node d p o)
 unfolding forward_by

@@ -1,6 +1,7 @@
 -- What a device has taken: what isn't fresh there stays so at each step, and a frame that arrives isn't fresh any more.
 use Rattle.std.proofs.Common.{◌≡◌, ℕ, zero, suc, ◌<◌, ◌≤◌, Bool, true, false, cond, List, [], ◌∷◌, ◌++◌, length, refl, sym, ap, ◌∙◌, subst, arith}
 use Rattle.std.specs.Prelude.{slice_get, slice_set, ◌==◌, Option, Some, None, Result, Ok, Err}
+use Rattle.plan_base.specs.declared.name.Name.{Name}
 use Rattle.plan_base.specs.declared.ids.Dev.{Dev}
 use Rattle.plan_base.specs.declared.tree.Chunk.{Chunk}
 use Rattle.plan_base.specs.declared.tree.Packet.{Packet}
@@ -107,15 +108,15 @@ pub arrive_later : (node : NodeState) (d : Dev) (bytes : List ℕ) → SeenLater
 unfolding arrive_step
 arrive_later node d bytes = arrived_later node d (read_by node.version bytes)
 
-inject_cases : (t : Bool) (node : NodeState) (chunk : Chunk) (bound : ℕ)
-    → (cond t (stepped ([] ++ SerialsSpent ∷ []) None node) (visited ([] ++ Injected (record { source = node.here; serial = node.serial }) bound ∷ []) (next_serial node) (injected_packet node chunk bound))).node.seen ≡ node.seen
+inject_cases : (t : Bool) (node : NodeState) (chunk : Chunk) (bound : ℕ) (handler : Option Name)
+    → (cond t (stepped ([] ++ SerialsSpent ∷ []) None node) (visited ([] ++ Injected (record { source = node.here; serial = node.serial }) bound ∷ []) (next_serial node) (injected_packet node chunk bound handler))).node.seen ≡ node.seen
 unfolding visited
-inject_cases true node chunk bound = refl
-inject_cases false node chunk bound = refl
+inject_cases true node chunk bound handler = refl
+inject_cases false node chunk bound handler = refl
 
-pub inject_seen : (node : NodeState) (chunk : Chunk) (bound : ℕ) → (inject_step [] node chunk bound).node.seen ≡ node.seen
+pub inject_seen : (node : NodeState) (chunk : Chunk) (bound : ℕ) (handler : Option Name) → (inject_step [] node chunk bound handler).node.seen ≡ node.seen
 unfolding inject_step
-inject_seen node chunk bound = inject_cases (node.serial == 18446744073709551615) node chunk bound
+inject_seen node chunk bound handler = inject_cases (node.serial == 18446744073709551615) node chunk bound handler
 
 -- ---- a frame that arrives isn't fresh any more
 

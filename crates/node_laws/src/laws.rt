@@ -12,6 +12,7 @@ ghost use Rattle.node_model.specs.State.{NodeState};
 ghost use Rattle.node_model.specs.Visits.{VisitKeeps, HasCase, around, evaluated, visit_at};
 ghost use Rattle.node_model.specs.Node.{node_step, stamped_step, takes_as};
 ghost use Rattle.node_model.specs.Orders.{queue_at, MovesInOrder};
+ghost use Rattle.node_model.specs.Contexts.{IsOrdered};
 ghost use Rattle.node_model.specs.Fits.{IsMarked, NodeFits, comes_fit};
 ghost use Rattle.node_model.specs.Counts.{came, stale, StepBalances};
 
@@ -25,15 +26,21 @@ pub fn visit_has_case()
     ensures { (node : NodeState) (p : Packet) → IsGood node.services → length node.neighbours ≤ 8 → IsGoodChunk p.chunk → HasCase (evaluated (around node p) (begun_now node.services) p) }
 {}
 
-/// Each step of a node is in balance, for each family.
+/// Each step of a node is in balance, for each family, and what came in with a stale frame stands in its acts.
 pub fn step_balance()
     ensures { (f : Family) (node : NodeState) (e : Event) → StepBalances f (came f node e) (stale f node e) node (node_step node e) }
 {}
 
 /// Each step keeps what every node keeps: queues of at most 64 frames, whose packets are typed and have
-/// at most 65,535, rows within their limits, and adverts within theirs.
+/// at most 65,535 and a handler that may handle, if one, rows within their limits, adverts within theirs, and neighbours by
+/// device.
 pub fn step_keeps()
-    ensures { (node : NodeState) (e : Event) → comes_fit e → NodeFits node → NodeFits (node_step node e).node }
+    ensures { (node : NodeState) (e : Event) → comes_fit node.version e → NodeFits node → NodeFits (node_step node e).node }
+{}
+
+/// What stands around a visit at a node is in order: its neighbours by device, and its routes by host.
+pub fn contexts_are_ordered()
+    ensures { (node : NodeState) (p : Packet) → NodeFits node → IsOrdered (around node p) }
 {}
 
 /// Frames of one device leave in the order in which they were queued: at each step they join its queue at the end, or the

@@ -5,3 +5,4 @@ pub mod Counts
 pub mod Fits
 pub mod Texts
 pub mod Orders
+pub mod Contexts

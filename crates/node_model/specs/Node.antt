@@ -2,6 +2,7 @@
 use Rattle.std.specs.Prelude.{◌≡◌, ℕ, ◌+◌, ◌-◌, Bool, true, false, ◌==◌, ◌&&◌, not, nat_lt, if◌then◌else◌, List, [], ◌∷◌, ◌++◌, length, map, slice_get, slice_set, Option, Some, None, Result, Ok, Err}
 use Rattle.plan_base.specs.declared.ids.Host.{Host}
 use Rattle.plan_base.specs.declared.ids.Dev.{Dev}
+use Rattle.plan_base.specs.declared.name.Name.{Name}
 use Rattle.plan_base.specs.declared.tree.Chunk.{Chunk}
 use Rattle.plan_base.specs.declared.tree.Packet.{Packet}
 use Rattle.packet_frame.specs.declared.frame.PlainFrame.{PlainFrame}
@@ -29,7 +30,7 @@ use Rattle.node_model.specs.declared.acts.Act.TheVariants.{Injected, Arrived, As
 use Rattle.node_model.specs.declared.acts.Reason.TheVariants as reason
 use Rattle.node_model.specs.declared.acts.Sending.{Sending}
 use Rattle.node_model.specs.declared.acts.Lane.{Lane}
-use Rattle.spelled_frame.specs.Spelled.{what_of}
+use Rattle.spelled_frame.specs.Spelled.{what_of, numbered}
 use Rattle.node_model.specs.State.{Links, Queues, NodeState, routing_of, is_host, leads_to}
 use Rattle.node_model.specs.Visits.{around, visit_at, services_after}
 
@@ -59,14 +60,6 @@ queue_room (Some lane) x = lane_room lane && not (is_spent lane x.stamp)
 -- whether a device has room and a number for one more frame
 unfoldable pub has_room : Queues → Dev → PlainStamped → Bool
 has_room queues d x = queue_room (slice_get queues d.0) x
-
-abbrev pub stamp_with : ℕ → Option Stamp → Option Stamp
-stamp_with n None = None
-stamp_with n (Some s) = Some (record { boot = s.boot; link = n })
-
--- the frame with this number
-abbrev pub numbered : ℕ → PlainStamped → PlainStamped
-numbered n x = record { stamp = stamp_with n x.stamp; frame = x.frame }
 
 abbrev pub number_after : ℕ → Option Stamp → ℕ
 number_after n None = n
@@ -148,17 +141,17 @@ visited acts node p = stepped (acts ++ visit_acts (mark node) node.queues p (vis
 
 -- ---- injections
 
--- the packet of an injection
-abbrev pub injected_packet : NodeState → Chunk → ℕ → Packet
-injected_packet node chunk bound = record { family = record { source = node.here; serial = node.serial }; dest = node.here; bound = bound; route = default_route; chunk = chunk; handler = None }
+-- the packet of an injection with its handler, if it has one
+abbrev pub injected_packet : NodeState → Chunk → ℕ → Option Name → Packet
+injected_packet node chunk bound handler = record { family = record { source = node.here; serial = node.serial }; dest = node.here; bound = bound; route = default_route; chunk = chunk; handler = handler }
 
 abbrev pub next_serial : NodeState → NodeState
 next_serial node = record node { serial = node.serial + 1 }
 
 -- an injection after these acts, which is refused where the last serial number would be given
-unfoldable pub inject_step : List Act → NodeState → Chunk → ℕ → Step
-inject_step acts node chunk bound = if node.serial == 18446744073709551615 then stepped (acts ++ SerialsSpent ∷ []) None node
-    else visited (acts ++ Injected (record { source = node.here; serial = node.serial }) bound ∷ []) (next_serial node) (injected_packet node chunk bound)
+unfoldable pub inject_step : List Act → NodeState → Chunk → ℕ → Option Name → Step
+inject_step acts node chunk bound handler = if node.serial == 18446744073709551615 then stepped (acts ++ SerialsSpent ∷ []) None node
+    else visited (acts ++ Injected (record { source = node.here; serial = node.serial }) bound ∷ []) (next_serial node) (injected_packet node chunk bound handler)
 
 -- ---- arrivals
 
@@ -242,7 +235,7 @@ unfoldable pub arrive_step : NodeState → Dev → List ℕ → Step
 arrive_step node d bytes = arrived node d (read_by node.version bytes)
 
 abbrev pub asked_plain : NodeState → PlainFrame → Step
-asked_plain node (PlainFrame.Ask bound chunk) = inject_step (Asked ∷ []) node chunk bound
+asked_plain node (PlainFrame.Ask bound chunk) = inject_step (Asked ∷ []) node chunk bound None
 asked_plain node x = only_acts Asked Misplaced node
 
 abbrev pub asked : NodeState → Result PlainStamped FrameFault → Step
@@ -296,7 +289,7 @@ take_step node d = take_from node d (slice_get node.queues d.0)
 
 -- ---- one step of a node
 abbrev pub node_step : NodeState → Event → Step
-node_step node (event.Inject chunk bound) = inject_step [] node chunk bound
+node_step node (event.Inject chunk bound handler) = inject_step [] node chunk bound handler
 node_step node (event.Frame d bytes) = arrive_step node d bytes
 node_step node (event.Control bytes) = control_step node bytes
 node_step node event.Tick = tick_step node

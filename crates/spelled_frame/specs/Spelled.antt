@@ -2,6 +2,9 @@
 use Rattle.std.specs.Prelude.{◌≡◌, ℕ, Bool, true, false, List, [], Option, None, Some, Result, Ok, Err}
 use Rattle.link_window.specs.declared.window.Stamp.{Stamp}
 use Rattle.link_window.specs.declared.window.Version.{Version}
+use Rattle.link_window.specs.declared.window.Version.TheVariants.{One, Two}
+use Rattle.plan_base.specs.declared.name.Name.{Name}
+use Rattle.plan_base.specs.declared.tree.Packet.{Packet}
 use Rattle.packet_frame.specs.declared.frame.PlainFrame.{PlainFrame}
 use Rattle.packet_frame.specs.declared.frame.PlainStamped.{PlainStamped}
 use Rattle.packet_frame.specs.declared.fault.FrameFault.{FrameFault}
@@ -50,3 +53,17 @@ numbered n x = record { stamp = stamp_with n x.stamp; frame = x.frame }
 abbrev pub is_stamped : Option Stamp → Bool
 is_stamped None = false
 is_stamped (Some s) = true
+
+-- the version of the frames that bear a stamp, or none
+abbrev pub version_of : Option Stamp → Version
+version_of None = One
+version_of (Some s) = Two
+
+-- a packet without a stamp has no handler
+abbrev pub MayCarry : Option Stamp → Option Name → Type 0
+MayCarry None handler = handler ≡ None
+MayCarry (Some s) handler = Unit {0}
+
+-- the frame of a packet with another bound
+abbrev pub packet_frame : Option Stamp → Packet → ℕ → PlainStamped
+packet_frame mark p bound = record { stamp = mark; frame = PlainFrame.Packet (record p { bound = bound }) }

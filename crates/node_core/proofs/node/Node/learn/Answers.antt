@@ -7,7 +7,10 @@ returns g c = λ s h. record {
   routes = c.hear.ensures (routing_of s) h.routes;
   neighbours = h.neighbours;
   services = h.services;
+  version = h.version;
+  boot = h.boot;
   queues = h.queues;
+  windows = h.windows;
   serial = h.serial;
   time = h.time;
 }
