@@ -14,5 +14,5 @@ mod windows;
 
 pub use link_window::{Stamp, Took, Version, Window};
 pub use node::Node;
-pub use reading::are_bytes;
+pub use reading::{are_bytes, read_as};
 pub use text::{put_act, put_act_text, put_bound, put_family, put_number};

@@ -175,6 +175,13 @@ impl<S: Services> Node<S> {
         self.here
     }
 
+    /// The node's version. Takes no memory.
+    pub fn version(&self) -> Version
+        ensures { result ≡ self.now.version }
+    {
+        self.version
+    }
+
     /// The number of frames that are queued on a device, 0 for one that isn't there. Takes no memory.
     pub fn queued(&self, dev: Dev) -> u32
         ensures { (s : NodeState) → NodeStands S.stands self.now s → result ≡ queued_at (slice_get s.queues dev.0) }

@@ -1,13 +1,16 @@
 -- The numbers of a device's frames ascend and are below its next one, behind those that it sent before.
-use Rattle.std.proofs.Common.{◌≡◌, ℕ, zero, suc, Bool, true, false, cond, List, [], ◌∷◌, ◌++◌, refl, sym, ap, ◌∙◌, append_assoc, length}
+use Rattle.std.proofs.Common.{◌≡◌, ℕ, zero, suc, ◌+◌, ◌<◌, Bool, true, false, cond, List, [], ◌∷◌, ◌++◌, refl, sym, ap, ◌∙◌, subst, append_assoc, length, arith}
 use Rattle.std.specs.Prelude.{slice_set, slice_get, nat_lt, ◌==◌, Option, Some, None, Result, Ok, Err}
+use Rattle.std.specs.List.{All}
 use Rattle.std.proofs.lemmas.List.{append-nil}
+use Rattle.std.proofs.lemmas.List.Elements.{All-nil, All-head, All-tail, All-push, All-weaker}
 use Rattle.plan_base.specs.declared.name.Name.{Name}
 use Rattle.plan_base.specs.declared.ids.Dev.{Dev}
 use Rattle.plan_base.specs.declared.tree.Chunk.{Chunk}
 use Rattle.plan_base.specs.declared.tree.Packet.{Packet}
 use Rattle.packet_frame.specs.declared.frame.PlainFrame.{PlainFrame}
 use Rattle.packet_frame.specs.declared.frame.PlainStamped.{PlainStamped}
+use Rattle.link_window.specs.declared.window.Stamp.{Stamp}
 use Rattle.link_window.specs.declared.window.Took.{Took}
 use Rattle.link_window.specs.declared.window.Took.TheVariants.{Fresh, Repeated, TooOld}
 use Rattle.node_model.specs.declared.acts.Lane.{Lane}
@@ -28,27 +31,7 @@ use Rattle.node_model.specs.Visits.{visit_at}
 use Rattle.spelled_frame.specs.Spelled.{stamp_with, numbered}
 use Rattle.node_model.specs.Node.{Step, stepped, queue_room, has_room, number_after, lane_with, queue_push, mark, takes_as, stamped_as, stamped_step, asked_plain, take_first, packet_sending, visit_sends, tick_sends, send_queues, sends_queues, visited, next_serial, injected_packet, inject_step, forward_by, forward_step, packet_step, advert_step, frame_step, arrived, arrive_step, asked, control_step, tick_step, take_from, take_step, node_step}
 use Rattle.node_model.specs.Orders.{frames_of, queue_at, MovesInOrder, joined, taken}
-use Rattle.std.specs.List.{All, flat_map}
-use Rattle.std.proofs.Common.{◌+◌, ◌<◌, subst, arith}
-use Rattle.std.proofs.lemmas.List.Elements.{All-nil, All-head, All-tail, All-push, All-weaker}
-use Rattle.link_window.specs.declared.window.Stamp.{Stamp}
-
--- the number of a frame, if it bears a stamp
-abbrev pub link_in : Option Stamp → List ℕ
-link_in None = []
-link_in (Some s) = s.link ∷ []
-
-abbrev pub numbers_in : List PlainStamped → List ℕ
-numbers_in xs = flat_map (λ x. link_in x.stamp) xs
-
-abbrev pub Ascend : List ℕ → Type 0
-Ascend [] = Unit {0}
-Ascend (n ∷ ns) = All (λ m. n < m) ns × Ascend ns
-
--- the numbers before, and those of a device's queue, ascend and are below its next one
-pub record NumbersFit (before : List ℕ) (lane : Lane) : Type 0 where
-  pub ascend : Ascend (before ++ numbers_in lane.frames)
-  pub below : All (λ n. n < lane.number) (before ++ numbers_in lane.frames)
+use Rattle.node_model.specs.Numbers.{link_in, numbers_in, Ascend, NumbersFit, FitsAt}
 
 -- a number more that is above all
 ascend-push : (ns : List ℕ) (n : ℕ) → Ascend ns → All (λ m. m < n) ns → Ascend (ns ++ n ∷ [])
@@ -108,15 +91,11 @@ seen_set (l ∷ queues) (suc at) new zero lane e = old_there e
 seen_set (l ∷ queues) (suc at) new (suc d) lane e = seen_later l queues at new d lane (seen_set queues at new d lane e)
 
 module _ (before : List ℕ) (d : ℕ) where
-  -- the numbers of the lane on a device, where it is there
-  abbrev pub FitsAt : Queues → Type 0
-  FitsAt queues = (lane : Lane) → slice_get queues d ≡ Some lane → NumbersFit before lane
-
   abbrev KeepsAt : Queues → Queues → Type 0
-  KeepsAt old new = FitsAt old → FitsAt new
+  KeepsAt old new = FitsAt before d old → FitsAt before d new
 
   -- a lane set anew, seen at the device
-  set_fits : (queues : Queues) (at : ℕ) (new : Lane) → FitsAt queues → (d ≡ at → NumbersFit before new) → FitsAt (slice_set queues at new)
+  set_fits : (queues : Queues) (at : ℕ) (new : Lane) → FitsAt before d queues → (d ≡ at → NumbersFit before new) → FitsAt before d (slice_set queues at new)
   set_fits queues at new f h lane e = by (seen_set queues at new d lane e)
     where
       by : SetSeen queues at new d lane → NumbersFit before lane
@@ -214,7 +193,6 @@ module _ (before : List ℕ) (d : ℕ) where
   unfolding tick_step
   tick_rises node = sends_rise node.queues (tick_sends node)
 
-
   pub arrive_rises : (node : NodeState) (dev : Dev) (bytes : List ℕ) → StepRises node (arrive_step node dev bytes)
   unfolding arrive_step
   arrive_rises node dev bytes = arrived_rises node dev (read_by node.version bytes)
@@ -222,6 +200,7 @@ module _ (before : List ℕ) (d : ℕ) where
   control_rises : (node : NodeState) (bytes : List ℕ) → StepRises node (control_step node bytes)
   unfolding control_step
   control_rises node bytes = asked_rises node (read_by node.version bytes)
+
   -- every step but a take keeps the numbers
   pub event_rises : (node : NodeState) (e : Event) → ((dev : Dev) → e ≡ event.Take dev → ⊥) → StepRises node (node_step node e)
   event_rises node (event.Inject chunk bound handler) h = inject_rises [] node chunk bound handler

@@ -6,3 +6,4 @@ pub mod Fits
 pub mod Texts
 pub mod Orders
 pub mod Contexts
+pub mod Numbers

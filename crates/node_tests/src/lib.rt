@@ -9,3 +9,5 @@ mod settles;
 mod steps;
 #[cfg(test)]
 mod tables;
+#[cfg(test)]
+mod windows;
