@@ -70,3 +70,17 @@ tells_good p ctx v t g m k =
 -- all that a settled visit of a typed packet sends is typed, and its handlers may handle
 pub settled_good : (p : Packet) (ctx : Ctx) (v : Visit) → IsGoodChunk p.chunk → MayHandle p.chunk p.handler → AreGoodPackets v.outbox → All IsGoodSettled (settled p ctx v).visit.outbox
 settled_good p ctx v g m a = all_settled IsGoodSettled p ctx v (handed_good p.handler v.outbox a) (λ t k. tells_good p ctx v t g m k)
+
+-- ---- packets without a handler
+
+handed_plain : (h : Option Name) (s : Sent) → h ≡ None → IsPlain (handed h s)
+handed_plain None s e = refl
+handed_plain (Some n) s e = cc
+
+all_plain : (h : Option Name) (ss : List Sent) → h ≡ None → All (λ s. IsPlain (handed h s)) ss
+all_plain h [] e = All-nil (λ s. IsPlain (handed h s))
+all_plain h (s ∷ ss) e = All-cons (λ s. IsPlain (handed h s)) s ss (handed_plain h s e) (all_plain h ss e)
+
+-- the settled visit of a packet without a handler sends none with one
+pub settled_plain : (p : Packet) (ctx : Ctx) (v : Visit) → p.handler ≡ None → All IsPlain (settled p ctx v).visit.outbox
+settled_plain p ctx v e = all_settled IsPlain p ctx v (all_plain p.handler v.outbox e) (λ t k. ap (λ (x : Sent). x.packet.handler) k.is)

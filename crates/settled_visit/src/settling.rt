@@ -129,12 +129,7 @@ fn with_telling(
 /// Conditions: nothing that the visit sends has a handler, at most 65,535 is left, and the source of the surroundings is the
 /// family's host. What was paid, is left and is sent is the same in sum (docs/meaning.md).
 #[tactic(auto, unfolding(crate::specs::Settles::settled), using(crate::proofs::Sums::settled_balance))]
-pub fn settle(
-    alloc: Global,
-    p: &CheckedPacket,
-    v: Visit,
-    ctx: &Ctx,
-) -> Result<Settled, NoMemory>
+pub fn settle(alloc: Global, p: &CheckedPacket, v: Visit, ctx: &Ctx) -> Result<Settled, NoMemory>
     requires plain { All spec.IsPlain v.outbox }
     requires left { v.left ≤ 65535 }
     requires source { ctx.now.source ≡ p.now.family.source }

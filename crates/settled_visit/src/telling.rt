@@ -61,10 +61,8 @@ fn handler_chunk(
     requires short { length reason ≤ 32 }
     ensures { IfOk result (λ k. k ≡ spec.handler_chunk chunk.now name.now reason) }
 {
-    let known = chunk.chunk();
-    let _is_name = name.as_slice();
-    let code = known.code.share()?;
-    let entry = name.copy(alloc)?;
+    let code = chunk.chunk().code.share()?;
+    let entry = Name::of(alloc, name.as_slice())?;
     let mut args = Items::new(alloc);
     args.add(Value::Str(reason))?;
     Ok(CheckedChunk::of(Chunk { code, entry, args }))
@@ -133,6 +131,7 @@ pub fn telling_of(
     let Some(name) = p.handler() else {
         return Ok(None);
     };
+    // (its bytes are a name, which the definition tests)
     let _is_name = name.as_slice();
     telling_why(alloc, p, name, ctx, left, outcome)
 }

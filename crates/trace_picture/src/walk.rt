@@ -16,6 +16,24 @@ pub(crate) struct Journey {
     pub stroke: Stroke,
 }
 
+impl Journey {
+    /// The frame comes out here, unless it came out before.
+    fn end(&mut self, at: Spot) {
+        if let Stroke::Open = self.stroke {
+            self.to = at;
+            self.stroke = self.what;
+        }
+    }
+
+    /// The frame is lost here, unless it came out before.
+    fn lose(&mut self, at: Spot) {
+        if let Stroke::Open = self.stroke {
+            self.to = at;
+            self.stroke = Stroke::Lost;
+        }
+    }
+}
+
 /// Where the frames of a device come out.
 #[derive(Clone, Copy, Drop)]
 pub(crate) struct Link {
@@ -142,7 +160,7 @@ impl Walk {
         }
     }
 
-    /// The frame that left the wire came out here.
+    /// The frame that left the wire came out here. Its way ends where it comes out first.
     fn come_out(&mut self, across: u32, device: u32) -> Result<Place, AllocError> {
         let place = self.place(across, self.taken);
         let Some(frame) = self.taken else {
@@ -151,8 +169,7 @@ impl Walk {
         let Some(journey) = self.journeys.get_mut(frame) else {
             return Ok(place);
         };
-        journey.to = place.at;
-        journey.stroke = journey.what;
+        journey.end(place.at);
         let (from, out) = (journey.from.across, journey.device);
         self.add_link(from, out, across)?;
         self.add_link(across, device, from)?;
@@ -166,8 +183,7 @@ impl Walk {
         self.is_row_used = true;
         if let Some(frame) = self.taken {
             if let Some(journey) = self.journeys.get_mut(frame) {
-                journey.to = place.at;
-                journey.stroke = Stroke::Lost;
+                journey.lose(place.at);
             }
         }
         place
@@ -184,7 +200,7 @@ impl Walk {
         self.place(across, None)
     }
 
-    /// Takes frame `number` off the wire.
+    /// Takes frame `number` off the wire, or hands it in while it stays there.
     fn take_off(&mut self, number: u32) -> Place {
         self.taken = match usize::try_from(number) {
             Ok(n) => n.checked_sub(1),
@@ -201,7 +217,7 @@ impl Walk {
         match line {
             Line::Sent(h, Dev(d), what) => Ok(self.leave(self.across(*h), *d, *what)),
             Line::Wire(_) | Line::WireShown(..) => self.set_off(),
-            Line::Off(number) => Ok(self.take_off(*number)),
+            Line::Off(number) | Line::Again(number) => Ok(self.take_off(*number)),
             Line::Arrived(h, Dev(d)) => self.come_out(self.across(*h), *d),
             Line::Lost(..) | Line::LostAdvert => Ok(self.vanish()),
             _ => match line.host() {
