@@ -16,24 +16,6 @@ pub(crate) struct Journey {
     pub stroke: Stroke,
 }
 
-impl Journey {
-    /// The frame comes out here, unless it came out before.
-    fn end(&mut self, at: Spot) {
-        if let Stroke::Open = self.stroke {
-            self.to = at;
-            self.stroke = self.what;
-        }
-    }
-
-    /// The frame is lost here, unless it came out before.
-    fn lose(&mut self, at: Spot) {
-        if let Stroke::Open = self.stroke {
-            self.to = at;
-            self.stroke = Stroke::Lost;
-        }
-    }
-}
-
 /// Where the frames of a device come out.
 #[derive(Clone, Copy, Drop)]
 pub(crate) struct Link {
@@ -67,7 +49,7 @@ pub(crate) struct Walk {
     sender: u32,
     device: u32,
     what: Stroke,
-    /// The frame that left the wire in this event.
+    /// The frame that left the wire in this event, or came out and stayed there.
     taken: Option<usize>,
 }
 
@@ -160,7 +142,7 @@ impl Walk {
         }
     }
 
-    /// The frame that left the wire came out here. Its way ends where it comes out first.
+    /// The frame came out here. Its arrow ends where it came out first.
     fn come_out(&mut self, across: u32, device: u32) -> Result<Place, AllocError> {
         let place = self.place(across, self.taken);
         let Some(frame) = self.taken else {
@@ -169,23 +151,42 @@ impl Walk {
         let Some(journey) = self.journeys.get_mut(frame) else {
             return Ok(place);
         };
-        journey.end(place.at);
+        if !is_open(*journey) {
+            return Ok(place);
+        }
+        journey.to = place.at;
+        journey.stroke = journey.what;
         let (from, out) = (journey.from.across, journey.device);
         self.add_link(from, out, across)?;
         self.add_link(across, device, from)?;
         Ok(place)
     }
 
-    /// The frame that left the wire was lost. The label stands in the next row.
+    /// The frame that left the wire was lost. The label stands in the next row. Where the frame came out before, its
+    /// arrow stays, and the cross stands where it would have come out again.
     fn vanish(&mut self) -> Place {
         let place = self.place(0, self.taken);
         self.next_row();
         self.is_row_used = true;
-        if let Some(frame) = self.taken {
-            if let Some(journey) = self.journeys.get_mut(frame) {
-                journey.lose(place.at);
-            }
+        let Some(frame) = self.taken else {
+            return place;
+        };
+        let Some(journey) = self.journeys.get_mut(frame) else {
+            return place;
+        };
+        if !is_open(*journey) {
+            let at = Spot {
+                across: journey.to.across,
+                row: place.at.row,
+            };
+            return Place {
+                at,
+                frame: None,
+                ..place
+            };
         }
+        journey.to = place.at;
+        journey.stroke = Stroke::Lost;
         place
     }
 
@@ -200,13 +201,22 @@ impl Walk {
         self.place(across, None)
     }
 
-    /// Takes frame `number` off the wire, or hands it in while it stays there.
+    /// Takes frame `number` off the wire.
     fn take_off(&mut self, number: u32) -> Place {
         self.taken = match usize::try_from(number) {
             Ok(n) => n.checked_sub(1),
             Err(_) => None,
         };
         self.place(0, None)
+    }
+
+    /// Frame `number` comes out, and stays on the wire. The label stands where it was sent.
+    fn stay_on(&mut self, number: u32) -> Place {
+        let place = self.take_off(number);
+        match self.taken.and_then(|frame| self.journeys.get(frame)) {
+            Some(journey) => self.place(journey.from.across, None),
+            None => place,
+        }
     }
 
     fn across(&self, host: Host) -> u32 {
@@ -217,7 +227,8 @@ impl Walk {
         match line {
             Line::Sent(h, Dev(d), what) => Ok(self.leave(self.across(*h), *d, *what)),
             Line::Wire(_) | Line::WireShown(..) => self.set_off(),
-            Line::Off(number) | Line::Again(number) => Ok(self.take_off(*number)),
+            Line::Off(number) => Ok(self.take_off(*number)),
+            Line::Again(number) => Ok(self.stay_on(*number)),
             Line::Arrived(h, Dev(d)) => self.come_out(self.across(*h), *d),
             Line::Lost(..) | Line::LostAdvert => Ok(self.vanish()),
             _ => match line.host() {
@@ -238,6 +249,11 @@ impl Walk {
         let place = self.place_of(&entry.line)?;
         Ok(Place { begins, ..place })
     }
+}
+
+/// Whether a frame has neither come out nor been lost.
+fn is_open(journey: Journey) -> bool {
+    matches!(journey.stroke, Stroke::Open)
 }
 
 /// Where the frames of a device come out, where that is known.
