@@ -1,5 +1,5 @@
 -- What plans of networks keep.
-use Rattle.std.specs.Prelude.{◌≡◌, ◌≢◌, ℕ, ◌+◌, ◌≤◌, ◌<◌, ◌^◌, true, false, List, [], ◌∷◌, Option, None, Some, length, get_or}
+use Rattle.std.specs.Prelude.{◌≡◌, ◌≢◌, ℕ, ◌+◌, ◌≤◌, ◌<◌, ◌^◌, true, false, List, [], ◌∷◌, Option, None, length, get_or}
 use Rattle.std.specs.List.{All}
 use Rattle.plan_base.specs.declared.ids.Dev.{Dev}
 use Rattle.plan_base.specs.declared.name.Name.{Name}
@@ -72,7 +72,7 @@ pub record MayArrive (bytes : List ℕ) : Type 0 where
   pub few : length bytes ≤ 16513
   pub are_bytes : (i : ℕ) → get_or bytes i 0 < 256
 
--- an event of a network is at one of its hosts, and what it hands in keeps the limits; frames are repeated under version 2 alone
+-- an event is at a host of its network, what it hands in keeps the limits, and version 2 alone repeats
 abbrev pub KeepsEvent : Version → List HostSpec → WorldEvent → Type 0
 KeepsEvent version hosts (happens.Inject h chunk bound handler) = (has_host h hosts ≡ true) × KeepsInjection version chunk bound handler
 KeepsEvent version hosts (happens.Send h d) = (has_host h hosts ≡ true) × (d.0 ≤ 8)

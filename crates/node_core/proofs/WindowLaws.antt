@@ -8,6 +8,7 @@ use Rattle.link_window.specs.declared.window.Took.TheVariants.{Fresh}
 use Rattle.link_window.specs.Seen.{Seen, nothing_seen, took, seen_with}
 use Rattle.link_window.specs.Stands.{WindowStands}
 use Rattle.link_window.specs.declared.window.Window.{Window}
+use Rattle.node_model.specs.State.{none_seen}
 use Rattle.node_model.specs.Node.{took_by, seen_at}
 use Rattle.plan_base.specs.declared.ids.Dev.{Dev}
 use Rattle.node_core.specs.Windows.{AllSeen}
@@ -68,8 +69,11 @@ pub not_noted : (ts : List Seen) (ws : List Window) (at : Dev) (s : Stamp) → A
 not_noted ts ws at s a e = subst (λ o. AllSeen (seen_at ts at s o) ws) (sym (none_index ts ws at.0 a (beyond at.0 (length ws) e))) a
 
 -- one window more that has taken nothing
-pub one_more : (n : ℕ) (ws : List Window) (w : Window) → AllSeen (replicate n nothing_seen) ws → WindowStands nothing_seen w → AllSeen (replicate (n + 1) nothing_seen) (ws ++ w ∷ [])
-one_more zero [] w a h = (h, tt)
-one_more zero (v ∷ ws) w a h = absurd a
-one_more (suc n) [] w a h = absurd a
-one_more (suc n) (v ∷ ws) w a h = (a.0, one_more n ws w a.1 h)
+pub opened_more : (ws : List Window) (w : Window) → AllSeen (replicate (length ws) nothing_seen) ws → WindowStands nothing_seen w
+    → AllSeen (replicate (length (ws ++ w ∷ [])) nothing_seen) (ws ++ w ∷ [])
+opened_more [] w a h = (h, tt)
+opened_more (v ∷ ws) w a h = (a.0, opened_more ws w a.1 h)
+
+-- nine windows that have taken nothing
+pub opened : (ws : List Window) → length ws ≤ 9 → 9 ≤ length ws → AllSeen (replicate (length ws) nothing_seen) ws → AllSeen none_seen ws
+opened ws short long a = let e : length ws ≡ 9 = omega (arith, short, long) in subst (λ n. AllSeen (replicate n nothing_seen) ws) e a

@@ -16,7 +16,7 @@ pub fn open_windows(alloc: Global) -> Result<Vec<Window>, NoMemory>
 {
     let mut windows = Vec::with_capacity(alloc, DEVICES)?;
     while windows.len() < DEVICES {
-        windows.push_reserved(Window::new());
+        windows.push(Window::new())?;
     }
     Ok(windows)
 }

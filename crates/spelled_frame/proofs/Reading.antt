@@ -5,6 +5,8 @@ use Rattle.packet_frame.specs.declared.frame.PlainStamped.{PlainStamped}
 use Rattle.link_window.specs.declared.window.Version.TheVariants.{One, Two}
 use Rattle.link_window.specs.declared.window.Stamp.{Stamp}
 use Rattle.packet_frame.specs.declared.frame.PlainFrame.{PlainFrame}
+use Rattle.std.specs.Prelude.{Result, Ok, Err, IfOk}
+use Rattle.plan_base.specs.declared.memory.NoMemory.{NoMemory}
 use Rattle.plan_base.specs.declared.name.Name.{Name}
 use Rattle.packet_frame.specs.Frames.{SpellsFrame}
 use Rattle.packet_frame.specs.Typed.{CarriesTyped, CarriesHandler}
@@ -34,6 +36,12 @@ is_spelled v bytes x w h o e =
 pub one_accepted : (bytes : List ℕ) (x : PlainFrame) → SpellsFrame bytes x → CarriesTyped x → AcceptsBy One bytes (record { stamp = None; frame = x })
 unfolding stamped_bytes
 one_accepted bytes x h t = record { short = h.short; fits = h.fits; read = (refl, h.plain); is = h.is; typed = t; handler = plain_carries x h.plain }
+
+pub none_accepted : (m : Option Stamp) (x : PlainFrame) (r : Result (List ℕ) NoMemory) → m ≡ None → CarriesTyped x → IfOk r (λ b. SpellsFrame b x)
+    → IfOk r (λ b. AcceptsBy (version_of m) b (record { stamp = m; frame = x }))
+none_accepted None x (Ok b) e t h = one_accepted b x h t
+none_accepted None x (Err f) e t h = h
+none_accepted (Some s) x r e t h = cc
 
 -- a frame of version 2
 pub two_accepted : (bytes : List ℕ) (x : PlainStamped) → SpellsStamped bytes x → CarriesTyped x.frame → CarriesHandler x.frame → AcceptsBy Two bytes x
