@@ -336,7 +336,7 @@ module _ (f : Family) where
 
   visited_adds : (acts : List Act) (node : NodeState) (p : Packet) → only f p.family 1 ≡ 0 → count_in node.queues ≡ 0 → count_in (visited acts node p).node.queues ≡ 0
   unfolding visited visit_sends
-  visited_adds acts node p h q = 
+  visited_adds acts node p h q =
       let m = mark node in
       let outbox = (settled_at node p).visit.outbox in
       sends_add node.queues (map (packet_sending m) outbox) (packets_of m p.family outbox h (settled_keeps node p).family) q

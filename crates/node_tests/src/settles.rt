@@ -85,7 +85,8 @@ fn is_named(name: &Option<Name>, text: &[u8]) -> bool {
 // Whether a chunk calls `oops` with `"Empty"`.
 fn calls_handler(chunk: &Chunk) -> bool {
     match chunk.args.as_slice() {
-        [Value::Str(text)] => text.as_slice() == b"Empty".as_slice() && chunk.entry.as_slice() == b"oops".as_slice(),
+        [Value::Str(text)] => text.as_slice() == b"Empty".as_slice()
+            && chunk.entry.as_slice() == b"oops".as_slice(),
         _ => false,
     }
 }

@@ -15,7 +15,8 @@ use std::alloc::Global;
 use std::test::Fail;
 
 /// A frame of version 2 with boot 7 and number 9: packet 3.1 for host 2 with bound 3.
-const PASSING: &[u8] = b"\x50\x4c\x41\x4e\x02\x01\0\0\0\0\0\0\0\x07\0\0\0\0\0\0\0\x09\0\0\0\x03\0\0\0\0\0\0\0\x01\0\0\0\x02\0\0\0\x03\x0cdefaultRoute\0\0\x01\x01f\0\0\x20\x01f\0";
+const PASSING: &[u8] =
+    b"\x50\x4c\x41\x4e\x02\x01\0\0\0\0\0\0\0\x07\0\0\0\0\0\0\0\x09\0\0\0\x03\0\0\0\0\0\0\0\x01\0\0\0\x02\0\0\0\x03\x0cdefaultRoute\0\0\x01\x01f\0\0\x20\x01f\0";
 
 // The entry `f` of a function without parameters that gives unit.
 fn chunk(alloc: Global) -> Result<CheckedChunk, Fail> {

@@ -121,6 +121,17 @@ fn with_telling(
     Ok(Settled { visit, handled })
 }
 
+/// Settles the visit of a packet by its parts. Conditions: those of `settle`.
+#[tactic(auto, unfolding(crate::specs::Settles::settled))]
+fn settle_parts(alloc: Global, p: &CheckedPacket, v: Visit, ctx: &Ctx) -> Result<Settled, NoMemory>
+    requires plain { All spec.IsPlain v.outbox }
+    requires left { v.left ≤ 65535 }
+    ensures { IfOk result (λ s. s ≡ spec.settled p.now ctx.entry.now v) }
+{
+    let told = telling_of(alloc, p, ctx, v.left, &v.outcome)?;
+    with_telling(alloc, p.handler(), v, told)
+}
+
 /// Settles the visit of a packet: what it sends has the packet's handler where its own code has such a function, and where the
 /// visit gave no value, that handler is called at the source with the exception's name, or with `WorkSpent`, by a packet
 /// that is sent last and has all that was left. That is so where the packet has a handler, something is left, and the
@@ -128,7 +139,6 @@ fn with_telling(
 ///
 /// Conditions: nothing that the visit sends has a handler, at most 65,535 is left, and the source of the surroundings is the
 /// family's host. What was paid, is left and is sent is the same in sum (docs/meaning.md).
-#[tactic(auto, unfolding(crate::specs::Settles::settled), using(crate::proofs::Sums::settled_balance))]
 pub fn settle(alloc: Global, p: &CheckedPacket, v: Visit, ctx: &Ctx) -> Result<Settled, NoMemory>
     requires plain { All spec.IsPlain v.outbox }
     requires left { v.left ≤ 65535 }
@@ -136,6 +146,5 @@ pub fn settle(alloc: Global, p: &CheckedPacket, v: Visit, ctx: &Ctx) -> Result<S
     ensures settled { IfOk result (λ s. s ≡ spec.settled p.now ctx.entry.now v) }
     ensures balance { IfOk result (λ s. s.visit.evals + s.visit.left + bounds s.visit.outbox ≡ v.evals + v.left + bounds v.outbox) }
 {
-    let told = telling_of(alloc, p, ctx, v.left, &v.outcome)?;
-    with_telling(alloc, p.handler(), v, told)
+    settle_parts(alloc, p, v, ctx)
 }
