@@ -23,11 +23,7 @@ pub fn are_bytes(bytes: &[u8])
 }
 
 /// Reads a frame of version 1.
-fn read_first(
-    alloc: Global,
-    bytes: &[u8],
-    known: Option<&Checked>,
-) -> Result<Stamped, FrameFault>
+fn read_first(alloc: Global, bytes: &[u8], known: Option<&Checked>) -> Result<Stamped, FrameFault>
     ensures found { IfOk result (λ x. AcceptsBy One bytes.now (stamped_plain x)) }
     ensures fault { IfErr result (λ e. (e ≡ FrameFault.NoMemory) ⊎ (read_by One bytes.now ≡ Err e)) }
 {
@@ -37,11 +33,7 @@ fn read_first(
 }
 
 /// Reads a frame of version 2.
-fn read_second(
-    alloc: Global,
-    bytes: &[u8],
-    known: Option<&Checked>,
-) -> Result<Stamped, FrameFault>
+fn read_second(alloc: Global, bytes: &[u8], known: Option<&Checked>) -> Result<Stamped, FrameFault>
     ensures found { IfOk result (λ x. AcceptsBy Two bytes.now (stamped_plain x)) }
     ensures fault { IfErr result (λ e. (e ≡ FrameFault.NoMemory) ⊎ (read_by Two bytes.now ≡ Err e)) }
 {

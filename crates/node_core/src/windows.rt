@@ -7,11 +7,11 @@ ghost use Rattle.node_core.specs.Windows.{AllSeen};
 
 use crate::lanes::DEVICES;
 use link_window::{Stamp, Took, Window};
-use plan_base::{Dev, NoMemory};
-use std::alloc::Global;
+use plan_base::Dev;
+use std::alloc::{AllocError, Global};
 
 /// A window for each device, which has taken nothing.
-pub fn open_windows(alloc: Global) -> Result<Vec<Window>, NoMemory>
+pub fn open_windows(alloc: Global) -> Result<Vec<Window>, AllocError>
     ensures { IfOk result (λ windows. AllSeen none_seen windows.items) }
 {
     let mut windows = Vec::with_capacity(alloc, DEVICES)?;
