@@ -36,7 +36,6 @@ use Rattle.service_api.specs.Adverts.{AdvertFits}
 use Rattle.service_api.specs.Routes.{hop}
 use Rattle.service_api.specs.Services.{Rows, ServiceState, IsGoodChunk, IsGoodValue, AreGoodRows, expired}
 use Rattle.plan_meaning.specs.declared.sent.Sent.{Sent}
-use Rattle.plan_meaning.specs.Safe.{IsGoodSent, AreGoodPackets}
 use Rattle.plan_meaning.specs.Visit.{bounds}
 use Rattle.dv_routing.specs.Routing.{all_routes, own_advert}
 use Rattle.dv_routing.proofs.Rows.{advert_fits}
@@ -46,12 +45,13 @@ use Rattle.network_plan.specs.Rules.{MayName, KeepsInjection}
 use Rattle.node_model.specs.declared.acts.Act.{Act}
 use Rattle.node_model.specs.declared.acts.Act.TheVariants.{Injected, Asked, SerialsSpent}
 use Rattle.node_model.specs.State.{Links, Queues, NodeState, routing_of, is_host, leads_to}
-use Rattle.node_model.specs.Visits.{visit_at}
+use Rattle.settled_visit.proofs.Sends.{IsGoodSettled, settled_good}
+use Rattle.node_model.specs.Visits.{around, visit_at, settled_at}
 use Rattle.spelled_frame.specs.Spelled.{stamp_with}
 use Rattle.node_model.specs.Node.{Step, stepped, mark_of, mark, takes_as, seen_then, with_seen, noting, stamped_as, stamped_step, asked_plain, take_first, hop_packet, packet_sending, advert_sending, visit_sends, tick_sends, visited, next_serial, injected_packet, inject_step, forward_by, forward_step, packet_step, hearing, advert_step, frame_step, arrived, arrive_step, asked, control_step, next_tick, tick_step, take_from, take_step, node_step}
 use Rattle.node_model.specs.Fits.{PacketFits, FrameKeeps, IsMarked, StampedKeeps, QueuesKeep, ServicesFit, NodeFits, comes_fit}
 use Rattle.node_laws.proofs.Keeping.{Sends, Whatever, send_keeps, sends_keep, took}
-use Rattle.node_laws.proofs.VisitLaws.{visit_keeps, visit_fits}
+use Rattle.node_laws.proofs.VisitLaws.{settled_keeps, visit_fits}
 
 -- ---- what is sent
 
@@ -77,15 +77,15 @@ none_handles : (c : Chunk) (o : Option Name) → o ≡ None → MayHandle c o
 none_handles c None e = tt
 none_handles c (Some n) e = cc
 
--- what a visit sends is within its bound, and good
-sent_fits : (v : Version) (m : Option Stamp) (ss : List Sent) → IsMarked v m → bounds ss ≤ 65535 → AreGoodPackets ss → All (Sends (StampedKeeps v)) (map (packet_sending m) ss)
+-- what a settled visit sends is within its bound, and good
+sent_fits : (v : Version) (m : Option Stamp) (ss : List Sent) → IsMarked v m → bounds ss ≤ 65535 → All IsGoodSettled ss → All (Sends (StampedKeeps v)) (map (packet_sending m) ss)
 sent_fits v m [] k h g = All-nil (Sends (StampedKeeps v))
 sent_fits v m (s ∷ ss) k h g =
     let e = sum_by-cons (λ (s : Sent). s.packet.bound) s ss in
-    let good = All-head IsGoodSent s ss g in
+    let good = All-head IsGoodSettled s ss g in
     All-cons (Sends (StampedKeeps v)) (packet_sending m s) (map (packet_sending m) ss)
-    (record { frame = hop_fits s.packet (record { bound = omega arith; chunk = good.0; handler = none_handles s.packet.chunk s.packet.handler good.1 }); mark = k })
-    (sent_fits v m ss k (omega arith) (All-tail IsGoodSent s ss g))
+    (record { frame = hop_fits s.packet (record { bound = omega arith; chunk = good.chunk; handler = good.handler }); mark = k })
+    (sent_fits v m ss k (omega arith) (All-tail IsGoodSettled s ss g))
 
 adverts_sent : (v : Version) (m : Option Stamp) (a : Advert) (links : Links) → IsMarked v m → AdvertFits a → All (Sends (StampedKeeps v)) (map (advert_sending m a) links)
 adverts_sent v m a [] k h = All-nil (Sends (StampedKeeps v))
@@ -147,7 +147,7 @@ still acts node n = record { node = n; frame = tt }
 visited_fits : (acts : List Act) (node : NodeState) (p : Packet) → PacketFits p → NodeFits node → StepFits (visited acts node p)
 unfolding visited visit_sends
 visited_fits acts node p h n =
-    let k = visit_keeps node p in
+    let k = settled_keeps node p in
     let v = visit_fits node p n.services.good n.near h.chunk in
     record {
       node = record {
@@ -156,7 +156,8 @@ visited_fits acts node p h n =
         near = n.near;
         ordered = n.ordered;
         services = v.services;
-        queues = sends_keep (StampedKeeps node.version) (again node.version) node.queues (map (packet_sending (mark node)) (visit_at node p).outbox) (sent_fits node.version (mark node) _ (mark_fits node.version node.boot) (omega (arith, k.balance, h.bound)) v.packets) n.queues;
+        queues = sends_keep (StampedKeeps node.version) (again node.version) node.queues (map (packet_sending (mark node)) (settled_at node p).visit.outbox)
+            (sent_fits node.version (mark node) _ (mark_fits node.version node.boot) (omega (arith, k.balance, h.bound)) (settled_good p (around node p) (visit_at node p) h.chunk h.handler v.packets)) n.queues;
         serial = n.serial;
         now = n.now;
       };

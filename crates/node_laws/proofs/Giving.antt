@@ -25,19 +25,19 @@ use Rattle.service_api.specs.declared.router.Hop.TheVariants.{To, NoService, NoR
 use Rattle.service_api.specs.Routes.{hop}
 use Rattle.dv_routing.specs.Routing.{all_routes, own_advert}
 use Rattle.plan_meaning.specs.declared.sent.Sent.{Sent}
-use Rattle.plan_meaning.specs.declared.outcome.Visit.{Visit}
 use Rattle.node_model.specs.declared.acts.Act.{Act}
-use Rattle.node_model.specs.declared.acts.Act.TheVariants.{Injected, Arrived, Asked, Noted, Ended, Queued, Dropped, Bad, Misplaced, AdvertQueued, AdvertDropped, AdvertSpent, Stale, Heard, Ticked, Taken, SerialsSpent, NoMemory}
+use Rattle.node_model.specs.declared.acts.Act.TheVariants.{Injected, Arrived, Asked, Noted, Ended, Handled, Queued, Dropped, Bad, Misplaced, AdvertQueued, AdvertDropped, AdvertSpent, Stale, Heard, Ticked, Taken, SerialsSpent, NoMemory}
 use Rattle.node_model.specs.declared.acts.Reason.TheVariants as reason
 use Rattle.node_model.specs.declared.acts.Sending.{Sending}
 use Rattle.spelled_frame.specs.Spelled.{what_of}
 use Rattle.node_model.specs.State.{Links, Queues, NodeState, routing_of, is_host, leads_to}
-use Rattle.node_model.specs.Visits.{visit_at}
+use Rattle.settled_visit.specs.declared.settling.Settled.{Settled}
+use Rattle.node_model.specs.Visits.{visit_at, settled_at}
 use Rattle.spelled_frame.specs.Spelled.{numbered}
-use Rattle.node_model.specs.Node.{Step, stepped, queue_room, has_room, lane_room, lane_with, queue_push, drop_act, mark, takes_as, stamped_as, stamped_step, take_first, hop_packet, packet_sending, advert_sending, visit_sends, tick_sends, send_act, send_queues, sends_acts, sends_queues, visit_acts, visited, next_serial, injected_packet, inject_step, only_acts, onward, forward_by, forward_step, packet_step, hearing, advert_step, frame_step, arrived, arrive_step, next_tick, tick_step, take_from, take_step}
+use Rattle.node_model.specs.Node.{Step, stepped, queue_room, has_room, lane_room, lane_with, queue_push, drop_act, mark, takes_as, stamped_as, stamped_step, take_first, hop_packet, packet_sending, advert_sending, visit_sends, tick_sends, send_act, send_queues, sends_acts, sends_queues, handled_acts, visit_acts, visited, next_serial, injected_packet, inject_step, only_acts, onward, forward_by, forward_step, packet_step, hearing, advert_step, frame_step, arrived, arrive_step, next_tick, tick_step, take_from, take_step}
 use Rattle.node_model.specs.Counts.{only, is_family, act_sum, act_granted, act_injections, queues_sum, frame_one, packet_one, taken_sum}
 use Rattle.node_laws.proofs.CountLaws.{act_sum-nil, act_sum-cons, act_sum-append, queue_sum-push, queue_sum-cons, queues_sum-set, only-zero}
-use Rattle.node_laws.proofs.VisitLaws.{visit_keeps}
+use Rattle.node_laws.proofs.VisitLaws.{settled_keeps}
 use Rattle.node_laws.proofs.Staying.{StepStays, StampedStays, visited_stays, stamped_stays, arrive_stays, tick_stays, take_stays}
 
 -- ---- counts of injections
@@ -94,21 +94,34 @@ module _ (c : Act → ℕ) (z : OnlyInjects c) where
   notes_none [] = act_sum-nil c
   notes_none (n ∷ ns) = omega (arith, act_sum-cons c (Noted n) (map Noted ns), z (Noted n) refl, notes_none ns)
 
-  visit_none : (m : Option Stamp) (queues : Queues) (p : Packet) (v : Visit) → act_sum c (visit_acts m queues p v) ≡ 0
+  handled_none : (g : Family) (h : Option Name) (bound : ℕ) → act_sum c (handled_acts g h bound) ≡ 0
+  handled_none g None bound = act_sum-nil c
+  handled_none g (Some n) bound = omega (arith, act_sum-cons c (Handled g n bound) [], act_sum-nil c, z (Handled g n bound) refl)
+
+  visit_none : (m : Option Stamp) (queues : Queues) (p : Packet) (left : ℕ) (s : Settled) → act_sum c (visit_acts m queues p left s) ≡ 0
   unfolding visit_acts visit_sends
-  visit_none m queues p v = omega (
-    arith,
-    act_sum-append c (map Noted v.notes) (Ended p.family v.outcome v.evals v.left ∷ sends_acts queues (map (packet_sending m) v.outbox)),
-    act_sum-cons c (Ended p.family v.outcome v.evals v.left) (sends_acts queues (map (packet_sending m) v.outbox)),
-    notes_none v.notes,
-    z (Ended p.family v.outcome v.evals v.left) refl,
-    sends_none queues (map (packet_sending m) v.outbox) (quiet_packets m v.outbox),
-  )
+  visit_none m queues p left s =
+      let v = s.visit in
+      let ended = Ended p.family v.outcome v.evals v.left in
+      let handled = handled_acts p.family s.handled left in
+      let sent = sends_acts queues (map (packet_sending m) v.outbox) in
+      omega (
+        arith,
+        act_sum-append c (map Noted v.notes) (ended ∷ (handled ++ sent)),
+        act_sum-cons c ended (handled ++ sent),
+        act_sum-append c handled sent,
+        notes_none v.notes,
+        z ended refl,
+        handled_none p.family s.handled left,
+        sends_none queues (map (packet_sending m) v.outbox) (quiet_packets m v.outbox),
+      )
 
   visited_count : (act : Act) (node : NodeState) (p : Packet) → act_sum c (visited (act ∷ []) node p).acts ≡ c act
   unfolding visited
-  visited_count act node p = let v = visit_at node p in
-      omega (arith, act_sum-append c (act ∷ []) (visit_acts (mark node) node.queues p v), act_sum-cons c act [], act_sum-nil c, visit_none (mark node) node.queues p v)
+  visited_count act node p =
+      let left = (visit_at node p).left in
+      let s = settled_at node p in
+      omega (arith, act_sum-append c (act ∷ []) (visit_acts (mark node) node.queues p left s), act_sum-cons c act [], act_sum-nil c, visit_none (mark node) node.queues p left s)
 
   step_cases : (t : Bool) (a b : Step) → act_sum c a.acts ≡ 0 → act_sum c b.acts ≡ 0 → act_sum c (cond t a b).acts ≡ 0
   step_cases true a b x y = x
@@ -184,6 +197,7 @@ module _ (f : Family) where
   granted_injects Asked e = refl
   granted_injects (Noted n) e = refl
   granted_injects (Ended g o v l) e = refl
+  granted_injects (Handled g n b) e = refl
   granted_injects (Queued d g b) e = refl
   granted_injects (Dropped r g b) e = refl
   granted_injects (Bad r) e = refl
@@ -204,6 +218,7 @@ module _ (f : Family) where
   injections_injects Asked e = refl
   injections_injects (Noted n) e = refl
   injections_injects (Ended g o v l) e = refl
+  injections_injects (Handled g n b) e = refl
   injections_injects (Queued d g b) e = refl
   injections_injects (Dropped r g b) e = refl
   injections_injects (Bad r) e = refl
@@ -321,7 +336,10 @@ module _ (f : Family) where
 
   visited_adds : (acts : List Act) (node : NodeState) (p : Packet) → only f p.family 1 ≡ 0 → count_in node.queues ≡ 0 → count_in (visited acts node p).node.queues ≡ 0
   unfolding visited visit_sends
-  visited_adds acts node p h q = let m = mark node in sends_add node.queues (map (packet_sending m) (visit_at node p).outbox) (packets_of m p.family (visit_at node p).outbox h (visit_keeps node p).family) q
+  visited_adds acts node p h q =
+      let m = mark node in
+      let outbox = (settled_at node p).visit.outbox in
+      sends_add node.queues (map (packet_sending m) outbox) (packets_of m p.family outbox h (settled_keeps node p).family) q
 
   adds_cases : (t : Bool) (a b : Step) → count_in a.node.queues ≡ 0 → count_in b.node.queues ≡ 0 → count_in (cond t a b).node.queues ≡ 0
   adds_cases true a b x y = x

@@ -21,7 +21,6 @@ use Rattle.packet_frame.specs.Decoding.{read_by}
 use Rattle.plan_meaning.specs.declared.sent.Sent.{Sent}
 use Rattle.service_api.specs.declared.advert.Advert.{Advert}
 use Rattle.service_api.specs.declared.answer.Note.{Note}
-use Rattle.plan_meaning.specs.declared.outcome.Visit.{Visit}
 use Rattle.network_plan.specs.declared.event.Event.{Event}
 use Rattle.network_plan.specs.declared.event.Event.TheVariants as event
 use Rattle.dv_routing.specs.Routing.{all_routes, own_advert}
@@ -29,17 +28,18 @@ use Rattle.service_api.specs.declared.router.Hop.{Hop}
 use Rattle.service_api.specs.declared.router.Hop.TheVariants.{To, NoService, NoRoute}
 use Rattle.service_api.specs.Routes.{hop}
 use Rattle.node_model.specs.declared.acts.Act.{Act}
-use Rattle.node_model.specs.declared.acts.Act.TheVariants.{Injected, Arrived, Asked, Noted, Ended, Dropped, Bad, Misplaced, Heard, Stale, Ticked, Taken, SerialsSpent}
+use Rattle.node_model.specs.declared.acts.Act.TheVariants.{Injected, Arrived, Asked, Noted, Ended, Handled, Dropped, Bad, Misplaced, Heard, Stale, Ticked, Taken, SerialsSpent}
 use Rattle.node_model.specs.declared.acts.Reason.TheVariants as reason
 use Rattle.node_model.specs.declared.acts.Sending.{Sending}
 use Rattle.spelled_frame.specs.Spelled.{what_of}
 use Rattle.node_model.specs.State.{Links, Queues, NodeState, routing_of, is_host, leads_to}
-use Rattle.node_model.specs.Visits.{visit_at, VisitKeeps}
+use Rattle.settled_visit.specs.declared.settling.Settled.{Settled}
+use Rattle.node_model.specs.Visits.{visit_at, settled_at, VisitKeeps}
 use Rattle.spelled_frame.specs.Spelled.{numbered}
-use Rattle.node_model.specs.Node.{Step, stepped, queue_room, has_room, lane_room, lane_with, queue_push, drop_act, mark, takes_as, noting, stamped_as, stamped_step, asked_plain, take_first, packet_sending, advert_sending, visit_sends, tick_sends, send_act, send_queues, sends_acts, sends_queues, with_queues, visit_acts, visited, injected_packet, next_serial, inject_step, only_acts, forward_by, forward_step, packet_step, hearing, advert_step, frame_step, arrived, arrive_step, asked, control_step, next_tick, tick_step, take_from, take_step, node_step}
+use Rattle.node_model.specs.Node.{Step, stepped, queue_room, has_room, lane_room, lane_with, queue_push, drop_act, mark, takes_as, noting, stamped_as, stamped_step, asked_plain, take_first, packet_sending, advert_sending, visit_sends, tick_sends, send_act, send_queues, sends_acts, sends_queues, with_queues, handled_acts, visit_acts, visited, injected_packet, next_serial, inject_step, only_acts, forward_by, forward_step, packet_step, hearing, advert_step, frame_step, arrived, arrive_step, asked, control_step, next_tick, tick_step, take_from, take_step, node_step}
 use Rattle.node_model.specs.Counts.{only, act_sum, act_granted, act_hops, act_evals, act_left, act_stale, what_left, packet_live, frame_live, queues_sum, node_live, if_fresh, if_stale, stamped_came, stamped_stale, bytes_came, bytes_stale, came, stale, StepBalances}
 use Rattle.node_laws.proofs.CountLaws.{only-plus, only_hop, act_sum-nil, act_sum-cons, act_sum-append, queue_sum-push, queue_sum-cons, queues_sum-set, dropped_left, sent_live}
-use Rattle.node_laws.proofs.VisitLaws.{visit_keeps}
+use Rattle.node_laws.proofs.VisitLaws.{settled_keeps}
 
 module _ (f : Family) where
   -- a frame that is to be queued: queued or dropped, it pays and leaves what its packet had
@@ -179,43 +179,72 @@ module _ (f : Family) where
   notes_zero c z [] = act_sum-nil c
   notes_zero c z (n ∷ ns) = omega (arith, act_sum-cons c (Noted n) (map Noted ns), z n, notes_zero c z ns)
 
+  handled_zero : (c : Act → ℕ) (g : Family) (h : Option Name) (bound : ℕ) → ((n : Name) → c (Handled g n bound) ≡ 0) → act_sum c (handled_acts g h bound) ≡ 0
+  handled_zero c g None bound z = act_sum-nil c
+  handled_zero c g (Some n) bound z = omega (arith, act_sum-cons c (Handled g n bound) [], act_sum-nil c, z n)
+
   -- the acts of a visit
   record VisitBalance (acts : List Act) (old new came : ℕ) : Type 0 where
     granted : act_sum (act_granted f) acts ≡ 0
     stale : act_sum (act_stale f) acts ≡ 0
     moved : act_sum (act_hops f) acts + act_sum (act_evals f) acts + act_sum (act_left f) acts + new ≡ old + came
 
-  visit_balance : (m : Option Stamp) (queues : Queues) (p : Packet) (v : Visit) → VisitKeeps p v
-      → VisitBalance (visit_acts m queues p v) (live_in queues) (live_in (sends_queues queues (visit_sends m v))) (packet_live f p)
+  visit_balance : (m : Option Stamp) (queues : Queues) (p : Packet) (left : ℕ) (s : Settled) → VisitKeeps p s.visit
+      → VisitBalance (visit_acts m queues p left s) (live_in queues) (live_in (sends_queues queues (visit_sends m s.visit))) (packet_live f p)
   unfolding visit_acts visit_sends
-  visit_balance m queues p v k =
+  visit_balance m queues p left s k =
+      let v = s.visit in
       let notes = map Noted v.notes in
       let ended = Ended p.family v.outcome v.evals v.left in
-      let sent = sends_acts queues (map (packet_sending m) v.outbox) in
+      let handled = handled_acts p.family s.handled left in
+      let sends = sends_acts queues (map (packet_sending m) v.outbox) in
+      let sent = handled ++ sends in
       let b = sends_balance queues (map (packet_sending m) v.outbox) (packets_move m v.outbox k.paid_each) in
-      let s = sent_live m f p.family v.outbox k.family in
+      let live = sent_live m f p.family v.outbox k.family in
       let total = sum_by (λ (s : Sent). s.packet.bound) v.outbox in
       let parts = ap (only f p.family) k.balance in
       record {
-        granted = omega (arith, b.granted, notes_zero (act_granted f) (λ n. refl) v.notes, act_sum-append (act_granted f) notes (ended ∷ sent), act_sum-cons (act_granted f) ended sent);
-        stale = omega (arith, b.stale, notes_zero (act_stale f) (λ n. refl) v.notes, act_sum-append (act_stale f) notes (ended ∷ sent), act_sum-cons (act_stale f) ended sent);
+        granted = omega (
+          arith,
+          b.granted,
+          notes_zero (act_granted f) (λ n. refl) v.notes,
+          act_sum-append (act_granted f) notes (ended ∷ sent),
+          act_sum-cons (act_granted f) ended sent,
+          act_sum-append (act_granted f) handled sends,
+          handled_zero (act_granted f) p.family s.handled left (λ n. refl),
+        );
+        stale = omega (
+          arith,
+          b.stale,
+          notes_zero (act_stale f) (λ n. refl) v.notes,
+          act_sum-append (act_stale f) notes (ended ∷ sent),
+          act_sum-cons (act_stale f) ended sent,
+          act_sum-append (act_stale f) handled sends,
+          handled_zero (act_stale f) p.family s.handled left (λ n. refl),
+        );
         moved = omega (
           arith,
           b.evals,
           b.moved,
-          s,
+          live,
           parts,
           only-plus f p.family (v.evals + v.left) total,
           only-plus f p.family v.evals v.left,
           notes_zero (act_hops f) (λ n. refl) v.notes,
           act_sum-append (act_hops f) notes (ended ∷ sent),
           act_sum-cons (act_hops f) ended sent,
+          act_sum-append (act_hops f) handled sends,
+          handled_zero (act_hops f) p.family s.handled left (λ n. refl),
           notes_zero (act_evals f) (λ n. refl) v.notes,
           act_sum-append (act_evals f) notes (ended ∷ sent),
           act_sum-cons (act_evals f) ended sent,
+          act_sum-append (act_evals f) handled sends,
+          handled_zero (act_evals f) p.family s.handled left (λ n. refl),
           notes_zero (act_left f) (λ n. refl) v.notes,
           act_sum-append (act_left f) notes (ended ∷ sent),
           act_sum-cons (act_left f) ended sent,
+          act_sum-append (act_left f) handled sends,
+          handled_zero (act_left f) p.family s.handled left (λ n. refl),
         );
       }
 
@@ -252,8 +281,9 @@ module _ (f : Family) where
   visited_balances : (acts : List Act) (arrived : ℕ) (node : NodeState) (p : Packet) → BeginsBalance acts arrived (packet_live f p) → StepBalances f arrived 0 node (visited acts node p)
   unfolding visited
   visited_balances acts arrived node p g =
-      let more = visit_acts (mark node) node.queues p (visit_at node p) in
-      let b = visit_balance (mark node) node.queues p (visit_at node p) (visit_keeps node p) in
+      let left = (visit_at node p).left in
+      let more = visit_acts (mark node) node.queues p left (settled_at node p) in
+      let b = visit_balance (mark node) node.queues p left (settled_at node p) (settled_keeps node p) in
       record {
         stale = omega (arith, b.stale, g.stale, act_sum-append (act_stale f) acts more);
         law = omega (

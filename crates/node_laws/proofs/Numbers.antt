@@ -27,7 +27,7 @@ use Rattle.node_model.specs.declared.acts.Act.{Act}
 use Rattle.node_model.specs.declared.acts.Act.TheVariants.{Injected, Asked, SerialsSpent}
 use Rattle.node_model.specs.declared.acts.Sending.{Sending}
 use Rattle.node_model.specs.State.{Queues, NodeState, routing_of, is_host, leads_to}
-use Rattle.node_model.specs.Visits.{visit_at}
+use Rattle.node_model.specs.Visits.{settled_at}
 use Rattle.spelled_frame.specs.Spelled.{stamp_with, numbered}
 use Rattle.node_model.specs.Node.{Step, stepped, queue_room, has_room, number_after, lane_with, queue_push, mark, takes_as, stamped_as, stamped_step, asked_plain, take_first, packet_sending, visit_sends, tick_sends, send_queues, sends_queues, visited, next_serial, injected_packet, inject_step, forward_by, forward_step, packet_step, advert_step, frame_step, arrived, arrive_step, asked, control_step, tick_step, take_from, take_step, node_step}
 use Rattle.node_model.specs.Orders.{frames_of, queue_at, MovesInOrder, joined, taken}
@@ -133,7 +133,7 @@ module _ (before : List ℕ) (d : ℕ) where
 
   visited_rises : (acts : List Act) (node : NodeState) (p : Packet) → StepRises node (visited acts node p)
   unfolding visited
-  visited_rises acts node p = sends_rise node.queues (visit_sends (mark node) (visit_at node p))
+  visited_rises acts node p = sends_rise node.queues (visit_sends (mark node) (settled_at node p).visit)
 
   inject_cases : (t : Bool) (before : List Act) (node : NodeState) (chunk : Chunk) (bound : ℕ) (handler : Option Name)
       → StepRises node (cond t (stepped (before ++ SerialsSpent ∷ []) None node) (visited (before ++ Injected (record { source = node.here; serial = node.serial }) bound ∷ []) (next_serial node) (injected_packet node chunk bound handler)))

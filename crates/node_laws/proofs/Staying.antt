@@ -25,7 +25,7 @@ use Rattle.node_model.specs.declared.acts.Act.{Act}
 use Rattle.node_model.specs.declared.acts.Act.TheVariants.{Injected, Arrived, SerialsSpent, Heard, Misplaced}
 use Rattle.node_model.specs.declared.acts.Sending.{Sending}
 use Rattle.node_model.specs.State.{Links, Queues, NodeState, routing_of, is_host, leads_to}
-use Rattle.node_model.specs.Visits.{visit_at}
+use Rattle.node_model.specs.Visits.{settled_at}
 use Rattle.link_window.specs.declared.window.Stamp.{Stamp}
 use Rattle.link_window.specs.Seen.{Seen, seen_with}
 use Rattle.node_model.specs.Node.{Step, stepped, queue_room, has_room, lane_with, queue_push, mark, takes_as, seen_at, seen_then, noting, stamped_as, stamped_step, take_first, packet_sending, advert_sending, visit_sends, tick_sends, send_queues, sends_queues, visited, next_serial, injected_packet, inject_step, only_acts, onward, forward_by, forward_step, packet_step, hearing, advert_step, frame_step, arrived, arrive_step, tick_step, take_from, take_step}
@@ -87,7 +87,7 @@ still acts node = record { node = itself node; serial = refl; seen = refl }
 pub visited_stays : (acts : List Act) (node : NodeState) (p : Packet) → StepStays node (visited acts node p)
 unfolding visited
 visited_stays acts node p = record {
-  node = record { here = refl; hosts = refl; neighbours = refl; count = sends_count node.queues (visit_sends (mark node) (visit_at node p)); version = refl; boot = refl; windows = refl };
+  node = record { here = refl; hosts = refl; neighbours = refl; count = sends_count node.queues (visit_sends (mark node) (settled_at node p).visit); version = refl; boot = refl; windows = refl };
   serial = refl;
   seen = refl;
 }

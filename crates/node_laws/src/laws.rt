@@ -9,7 +9,7 @@ ghost use Rattle.plan_base.specs.declared.tree.Packet.{Packet};
 ghost use Rattle.service_api.specs.Services.{IsGood, IsGoodChunk, begun_now};
 ghost use Rattle.network_plan.specs.declared.event.Event.{Event};
 ghost use Rattle.node_model.specs.State.{NodeState};
-ghost use Rattle.node_model.specs.Visits.{VisitKeeps, HasCase, around, evaluated, visit_at};
+ghost use Rattle.node_model.specs.Visits.{VisitKeeps, HasCase, around, evaluated, visit_at, settled_at};
 ghost use Rattle.node_model.specs.Node.{node_step, stamped_step, takes_as};
 ghost use Rattle.node_model.specs.Orders.{queue_at, MovesInOrder};
 ghost use Rattle.node_model.specs.Contexts.{IsOrdered};
@@ -19,6 +19,11 @@ ghost use Rattle.node_model.specs.Counts.{came, stale, StepBalances};
 /// Each visit keeps its balance: the packet's bound is what it paid, left and sent.
 pub fn visit_balance()
     ensures { (node : NodeState) (p : Packet) → VisitKeeps p (visit_at node p) }
+{}
+
+/// So does each settled visit.
+pub fn settled_visit_balance()
+    ensures { (node : NodeState) (p : Packet) → VisitKeeps p (settled_at node p).visit }
 {}
 
 /// With services that keep their laws and at most 8 neighbours, the visit of a typed chunk never is without a case.

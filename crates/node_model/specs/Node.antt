@@ -24,15 +24,17 @@ use Rattle.dv_routing.specs.Routing.{all_routes, own_advert}
 use Rattle.network_plan.specs.declared.event.Event.{Event}
 use Rattle.network_plan.specs.declared.event.Event.TheVariants as event
 use Rattle.plan_meaning.specs.declared.sent.Sent.{Sent}
+use Rattle.plan_base.specs.declared.ids.Family.{Family}
 use Rattle.plan_meaning.specs.declared.outcome.Visit.{Visit}
+use Rattle.settled_visit.specs.declared.settling.Settled.{Settled}
 use Rattle.node_model.specs.declared.acts.Act.{Act}
-use Rattle.node_model.specs.declared.acts.Act.TheVariants.{Injected, Arrived, Asked, Noted, Ended, Queued, Dropped, Bad, Misplaced, AdvertQueued, AdvertDropped, AdvertSpent, Stale, Heard, Ticked, Taken, SerialsSpent}
+use Rattle.node_model.specs.declared.acts.Act.TheVariants.{Injected, Arrived, Asked, Noted, Ended, Handled, Queued, Dropped, Bad, Misplaced, AdvertQueued, AdvertDropped, AdvertSpent, Stale, Heard, Ticked, Taken, SerialsSpent}
 use Rattle.node_model.specs.declared.acts.Reason.TheVariants as reason
 use Rattle.node_model.specs.declared.acts.Sending.{Sending}
 use Rattle.node_model.specs.declared.acts.Lane.{Lane}
 use Rattle.spelled_frame.specs.Spelled.{what_of, numbered}
 use Rattle.node_model.specs.State.{Links, Queues, NodeState, routing_of, is_host, leads_to}
-use Rattle.node_model.specs.Visits.{around, visit_at, services_after}
+use Rattle.node_model.specs.Visits.{around, visit_at, settled_at, services_after}
 
 -- what a step gives: the acts in order, the frame that was taken, and the node afterwards
 pub record Step : Type 0 where
@@ -130,14 +132,21 @@ packet_sending m s = record {
 unfoldable pub visit_sends : Option Stamp → Visit → List Sending
 visit_sends m v = map (packet_sending m) v.outbox
 
--- the acts of a visit: its notes, its end, and its sends
-unfoldable pub visit_acts : Option Stamp → Queues → Packet → Visit → List Act
-visit_acts m queues p v = map Noted v.notes ++ (Ended p.family v.outcome v.evals v.left ∷ sends_acts queues (visit_sends m v))
+-- the act of a handler that is called with that bound, if one is
+abbrev pub handled_acts : Family → Option Name → ℕ → List Act
+handled_acts f None bound = []
+handled_acts f (Some n) bound = Handled f n bound ∷ []
 
--- a visit at a node, after these acts
+-- the acts of a visit that left this and was settled: its notes, its end, the handler that is called, and its sends
+unfoldable pub visit_acts : Option Stamp → Queues → Packet → ℕ → Settled → List Act
+visit_acts m queues p left s =
+    map Noted s.visit.notes
+    ++ (Ended p.family s.visit.outcome s.visit.evals s.visit.left ∷ (handled_acts p.family s.handled left ++ sends_acts queues (visit_sends m s.visit)))
+
+-- a settled visit at a node, after these acts
 unfoldable pub visited : List Act → NodeState → Packet → Step
-visited acts node p = stepped (acts ++ visit_acts (mark node) node.queues p (visit_at node p)) None
-    (with_services (with_queues node (sends_queues node.queues (visit_sends (mark node) (visit_at node p)))) (services_after (around node p) (begun_now node.services) p))
+visited acts node p = stepped (acts ++ visit_acts (mark node) node.queues p (visit_at node p).left (settled_at node p)) None
+    (with_services (with_queues node (sends_queues node.queues (visit_sends (mark node) (settled_at node p).visit))) (services_after (around node p) (begun_now node.services) p))
 
 -- ---- injections
 

@@ -14,7 +14,7 @@ use Rattle.plan_meaning.specs.declared.outcome.Outcome.TheVariants as outcome
 use Rattle.link_window.specs.declared.window.Took.{Took}
 use Rattle.link_window.specs.declared.window.Took.TheVariants.{Fresh, Repeated, TooOld}
 use Rattle.node_model.specs.declared.acts.Act.{Act}
-use Rattle.node_model.specs.declared.acts.Act.TheVariants.{Injected, Arrived, Asked, Noted, Ended, Queued, Dropped, Bad, Misplaced, AdvertQueued, AdvertDropped, AdvertSpent, Stale, Heard, Ticked, Taken, SerialsSpent, NoMemory}
+use Rattle.node_model.specs.declared.acts.Act.TheVariants.{Injected, Arrived, Asked, Noted, Ended, Handled, Queued, Dropped, Bad, Misplaced, AdvertQueued, AdvertDropped, AdvertSpent, Stale, Heard, Ticked, Taken, SerialsSpent, NoMemory}
 use Rattle.node_model.specs.declared.acts.Reason.{Reason}
 use Rattle.node_model.specs.declared.acts.Reason.TheVariants as reason
 use Rattle.spelled_frame.specs.declared.spelled.What.{What}
@@ -79,6 +79,7 @@ act_text h (Arrived d) = head_text (codes "arrive") h ++ device_text d
 act_text h Asked = head_text (codes "arrive") h ++ codes " control"
 act_text h (Noted note) = note_text h note
 act_text h (Ended f o evals rest) = end_text h f o evals rest
+act_text h (Handled f n bound) = head_text (codes "handler") h ++ (codes " " ++ (family_text f ++ (codes " " ++ (n ++ (codes " bound " ++ decimal bound)))))
 act_text h (Queued d f bound) = head_text (codes "queue") h ++ (device_text d ++ bound_text f bound)
 act_text h (Dropped r f bound) = head_text (codes "drop") h ++ (codes " " ++ (reason_text r ++ bound_text f bound))
 act_text h (Bad e) = head_text (codes "drop") h ++ (codes " BadFrame " ++ refusal_text e)

@@ -1,7 +1,7 @@
 use link_queue::Queue;
 use link_window::Took;
 use packet_frame::FrameFault;
-use plan_base::{Dev, Family};
+use plan_base::{Dev, Family, Name};
 use plan_items::Items;
 use plan_meaning::Outcome;
 use service_api::Note;
@@ -38,6 +38,8 @@ pub enum Act {
     Noted(Note),
     /// A visit of a packet of this family ended so, with these evals paid and this rest of the purse.
     Ended(Family, Outcome, u32, u32),
+    /// Its source is told of that visit by a call of this handler, with this bound.
+    Handled(Family, Name, u32),
     /// A packet of this family was queued on this device with this bound.
     Queued(Dev, Family, u32),
     /// A packet of this family was dropped with this bound.

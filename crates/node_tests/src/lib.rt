@@ -4,6 +4,8 @@
 #[cfg(test)]
 mod logs;
 #[cfg(test)]
+mod settles;
+#[cfg(test)]
 mod steps;
 #[cfg(test)]
 mod tables;
