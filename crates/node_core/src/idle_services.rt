@@ -5,7 +5,7 @@ ghost use Rattle.node_model.specs.Visits.{visit_of, services_after};
 ghost use Rattle.node_model.specs.Node as spec;
 ghost use Rattle.node_model.specs.declared.acts.Act.TheVariants.{Noted, Ended};
 ghost use Rattle.spelled_frame.specs.Spelled.{MayCarry};
-ghost use Rattle.settled_visit.specs.Settles.{settled};
+ghost use Rattle.settled_visit.specs.Settles as settles;
 ghost use Rattle.node_core.specs.Turns.{Carries, IsOpen, IsResting, closed, is_spent as spent};
 
 use crate::outgoing::visit_sendings;
@@ -118,7 +118,7 @@ fn open_turn<S: Services>(
     requires near { length ctx.now.neighbours ≤ 8 }
     requires rows { AreGoodRows (S.stands services.old).rows }
     requires open { IsSome (S.stands services.old).begun }
-    ensures turn { IfOk result (λ turn. IsOpen mark before packet.now (visit_of ctx.entry.now (S.stands services.old) packet.now).left (settled packet.now ctx.entry.now (visit_of ctx.entry.now (S.stands services.old) packet.now)) turn) }
+    ensures turn { IfOk result (λ turn. IsOpen mark before packet.now (visit_of ctx.entry.now (S.stands services.old) packet.now).left (settles.settled packet.now ctx.entry.now (visit_of ctx.entry.now (S.stands services.old) packet.now)) turn) }
     ensures closing { IfOk result (λ turn. closed turn.is_spent (S.stands services.new) ≡ services_after ctx.entry.now (S.stands services.old) packet.now) }
     ensures ready { OnOk result (IsTrue (S.stands services.new).ready) }
     ensures offer { (S.stands services.new).offer ≡ (S.stands services.old).offer }
@@ -168,8 +168,8 @@ fn visit_turn<S: Services>(
     requires carried { MayCarry mark packet.now.handler }
     requires near { length ctx.now.neighbours ≤ 8 }
     requires rests { IsResting (S.stands services.old) }
-    ensures acts { IfOk result (λ acts. acts ≡ before ++ spec.visit_acts mark lanes.old packet.now (visit_of ctx.entry.now (begun_now (S.stands services.old)) packet.now).left (settled packet.now ctx.entry.now (visit_of ctx.entry.now (begun_now (S.stands services.old)) packet.now))) }
-    ensures lanes { OnOk result (lanes.new ≡ spec.sends_queues lanes.old (spec.visit_sends mark (settled packet.now ctx.entry.now (visit_of ctx.entry.now (begun_now (S.stands services.old)) packet.now)).visit)) }
+    ensures acts { IfOk result (λ acts. acts ≡ before ++ spec.visit_acts mark lanes.old packet.now (visit_of ctx.entry.now (begun_now (S.stands services.old)) packet.now).left (settles.settled packet.now ctx.entry.now (visit_of ctx.entry.now (begun_now (S.stands services.old)) packet.now))) }
+    ensures lanes { OnOk result (lanes.new ≡ spec.sends_queues lanes.old (spec.visit_sends mark (settles.settled packet.now ctx.entry.now (visit_of ctx.entry.now (begun_now (S.stands services.old)) packet.now)).visit)) }
     ensures services { OnOk result (S.stands services.new ≡ services_after ctx.entry.now (begun_now (S.stands services.old)) packet.now) }
     ensures same { OnErr result (lanes.new ≡ lanes.old) }
     ensures undone { OnErr result (S.stands services.new ≡ S.stands services.old) }
@@ -218,8 +218,8 @@ impl<S: Services> IdleServices<S> {
         requires source { ctx.now.source ≡ packet.now.family.source }
     requires carried { MayCarry mark packet.now.handler }
         requires near { length ctx.now.neighbours ≤ 8 }
-        ensures acts { IfOk result (λ acts. acts ≡ before ++ spec.visit_acts mark lanes.old packet.now (visit_of ctx.entry.now (begun_now (S.stands self.old)) packet.now).left (settled packet.now ctx.entry.now (visit_of ctx.entry.now (begun_now (S.stands self.old)) packet.now))) }
-        ensures lanes { OnOk result (lanes.new ≡ spec.sends_queues lanes.old (spec.visit_sends mark (settled packet.now ctx.entry.now (visit_of ctx.entry.now (begun_now (S.stands self.old)) packet.now)).visit)) }
+        ensures acts { IfOk result (λ acts. acts ≡ before ++ spec.visit_acts mark lanes.old packet.now (visit_of ctx.entry.now (begun_now (S.stands self.old)) packet.now).left (settles.settled packet.now ctx.entry.now (visit_of ctx.entry.now (begun_now (S.stands self.old)) packet.now))) }
+        ensures lanes { OnOk result (lanes.new ≡ spec.sends_queues lanes.old (spec.visit_sends mark (settles.settled packet.now ctx.entry.now (visit_of ctx.entry.now (begun_now (S.stands self.old)) packet.now)).visit)) }
         ensures services { OnOk result (S.stands self.new ≡ services_after ctx.entry.now (begun_now (S.stands self.old)) packet.now) }
         ensures same { OnErr result (lanes.new ≡ lanes.old) }
         ensures undone { OnErr result (S.stands self.new ≡ S.stands self.old) }
