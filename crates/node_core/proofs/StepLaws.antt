@@ -24,7 +24,7 @@ use Rattle.packet_frame.specs.Stamped.{AcceptsBy, StampedFirst, stamped_plain}
 use Rattle.packet_frame.specs.Decoding.{unstamped, read_by}
 use Rattle.packet_frame.proofs.OneAnswer.{first_is}
 use Rattle.packet_frame.proofs.Versions.{accepted_by, refused_by_two}
-use Rattle.spelled_frame.specs.Spelled.{MayCarry}
+use Rattle.spelled_frame.specs.Spelled.{what_of, MayCarry}
 use Rattle.spelled_frame.proofs.Reading.{one_accepted}
 use Rattle.service_api.specs.declared.advert.Advert.{Advert}
 use Rattle.service_api.specs.Adverts.{AdvertFits}
@@ -36,13 +36,13 @@ use Rattle.dv_routing.specs.Stands.{Stands}
 use Rattle.dv_routing.proofs.Rows.{advert_fits}
 use Rattle.network_plan.specs.Rules.{MayName}
 use Rattle.node_model.specs.declared.acts.Act.{Act}
-use Rattle.node_model.specs.declared.acts.Act.TheVariants.{Injected, SerialsSpent}
+use Rattle.node_model.specs.declared.acts.Act.TheVariants.{Injected, Arrived, Stale, SerialsSpent}
 use Rattle.node_model.specs.declared.acts.Acts.{Acts}
 use Rattle.node_model.specs.State.{NodeState}
-use Rattle.node_model.specs.Node.{next_serial, injected_packet, visited, inject_step, stepped, mark_of, takes_as, seen_then, with_seen, frame_step, stamped_as, stamped_step}
+use Rattle.node_model.specs.Node.{next_serial, injected_packet, visited, inject_step, stepped, mark_of, mark, takes_as, seen_then, with_seen, frame_step, only_acts, stamped_as, stamped_step}
 use Rattle.node_laws.proofs.Staying.{frame_stays}
 use Rattle.node_core.specs.Heard.{IsHeard}
-use Rattle.node_core.specs.Stands.{NodeStands, IsStep, MayGoOn, own_family, own_packet, asks_within}
+use Rattle.node_core.specs.Stands.{NodeStands, IsStep, MayGoOn, mark_on, own_family, own_packet, asks_within}
 use Rattle.node_core.specs.declared.node.Node.{Node}
 
 -- ---- injections
@@ -54,6 +54,10 @@ last_false : (n : ℕ) → n ≢ 18446744073709551615 → (n == 1844674407370955
 last_false n e = grind (arith, nat_tests)
 
 module _ {S : Type 0} (stands : S → ServiceState) where
+  -- what a node's frames bear is what those of its state bear
+  pub mark_stands : (n : Node S) (s : NodeState) → NodeStands stands n s → mark_on n ≡ mark s
+  mark_stands n s h = λ i. mark_of (h.version i) (h.boot i)
+
   -- a visit, and then the next serial number
   pub injected : (before : List Act) (s : NodeState) (p : Packet) (acts : Acts) (mid : Node S) (serial : ℕ) → serial ≡ mid.serial + 1
       → IsStep stands (visited before s p) acts mid → IsStep stands (visited before (next_serial s) p) acts (record mid { serial = serial })
@@ -131,6 +135,12 @@ module _ {S : Type 0} (stands : S → ServiceState) where
       → (takes_as s.seen d x.stamp ≡ Fresh → IfOk r (λ acts. IsStep stands (stamped_as s d x Fresh) acts new)) → IfOk r (λ acts. IsStep stands (stamped_step s d x) acts new)
   fresh_result s d x (Ok acts) new e h = stamped_so s d x Fresh acts new e (h (sym e))
   fresh_result s d x (Err f) new e h = h (sym e)
+
+  pub stale_result : (s : NodeState) (d : Dev) (x : PlainStamped) (t : Took) (r : Result Acts NoMemory) (old : Node S) → NodeStands stands old s → t ≡ takes_as s.seen d x.stamp
+      → stamped_as s d x t ≡ only_acts (Arrived d) (Stale t (what_of x.frame)) s → IfOk r (λ acts. acts.list ≡ Arrived d ∷ Stale t (what_of x.frame) ∷ []) → IfOk r (λ acts. acts.frame ≡ None)
+      → IfOk r (λ acts. IsStep stands (stamped_step s d x) acts old)
+  stale_result s d x t (Ok acts) old n q e l f = stamped_so s d x t acts old q (subst (λ step. IsStep stands step acts old) (sym e) (record { list = l; frame = f; node = n }))
+  stale_result s d x t (Err k) old n q e l f = l
 
 -- what a version lets be named may handle
 none_handles : (c : Chunk) (o : Option Name) → o ≡ None → MayHandle c o

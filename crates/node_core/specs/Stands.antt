@@ -1,6 +1,7 @@
 -- Which state of the definition a node stands for.
 use Rattle.std.specs.Prelude.{◌≡◌, ℕ, ◌≤◌, Option}
 use Rattle.link_window.specs.declared.window.Stamp.{Stamp}
+use Rattle.link_window.specs.declared.window.Version.{Version}
 use Rattle.plan_base.specs.declared.name.Name.{Name}
 use Rattle.plan_base.specs.declared.ids.Host.{Host}
 use Rattle.plan_base.specs.declared.ids.Family.{Family}
@@ -12,10 +13,18 @@ use Rattle.service_api.specs.Services.{ServiceState}
 use Rattle.dv_routing.specs.Stands.{Stands}
 use Rattle.node_model.specs.declared.acts.Acts.{Acts}
 use Rattle.node_model.specs.State.{NodeState, routing_of}
-use Rattle.node_model.specs.Node.{Step}
+use Rattle.node_model.specs.Node.{Step, mark_of}
 use Rattle.spelled_frame.specs.Spelled.{MayCarry}
 use Rattle.node_core.specs.Windows.{AllSeen}
 use Rattle.node_core.specs.declared.node.Node.{Node}
+
+-- the version of a node
+abbrev pub version_of : {S : Type 0} → Node S → Version
+version_of n = n.version
+
+-- what the frames of a node bear
+abbrev pub mark_on : {S : Type 0} → Node S → Option Stamp
+mark_on n = mark_of n.version n.boot
 
 -- a node stands for a state: its routes for the adverts heard, its queued bytes for the frames that they spell, its windows for
 -- the numbers taken, its services for what they stand for; all else is equal

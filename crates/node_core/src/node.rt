@@ -15,7 +15,7 @@ ghost use Rattle.node_core.specs.Queued.{queued_at};
 ghost use Rattle.packet_frame.specs.Typed.{plain_of};
 ghost use Rattle.packet_frame.specs.Stamped.{stamped_plain};
 ghost use Rattle.node_core.specs.Turns.{IsResting};
-ghost use Rattle.node_core.specs.Stands.{NodeStands, IsStep, MayGoOn, own_family, own_packet, asks_within};
+ghost use Rattle.node_core.specs.Stands.{NodeStands, IsStep, MayGoOn, version_of, mark_on, own_family, own_packet, asks_within};
 
 use crate::idle_services::IdleServices;
 use crate::lanes::{count_frames, has_frame, open_lanes, take_first};
@@ -133,11 +133,12 @@ fn next_tick(now: u64) -> u64
 impl<S: Services + Drop> Node<S> {
     /// A node at its beginning: it has heard nothing, nothing is queued, nothing was taken, and its time is 0. Conditions: at
     /// most 32 hosts, none twice; neighbours on devices from 1 to 8, each once, in order; no `begin` of the services is open.
-    #[tactic(auto, unfolding(node_model::specs::State::new_node))]
+    #[tactic(auto, unfolding(node_model::specs::State::new_node), using(node_laws::proofs::Contexts::near_by_devices))]
     pub fn new(alloc: Global, config: NodeConfig, services: S) -> Result<Node<S>, NoMemory>
         requires config { ConfigFits config }
         requires services { IsResting (S.stands services) }
-        ensures { IfOk result (λ node. NodeStands S.stands node (new_node config (S.stands services))) }
+        ensures stands { IfOk result (λ node. NodeStands S.stands node (new_node config (S.stands services))) }
+        ensures version { IfOk result (λ node. version_of node ≡ config.version) }
     {
         let NodeConfig {
             here,
@@ -177,7 +178,7 @@ impl<S: Services> Node<S> {
 
     /// The node's version. Takes no memory.
     pub fn version(&self) -> Version
-        ensures { result ≡ self.now.version }
+        ensures { result ≡ version_of self.now }
     {
         self.version
     }
@@ -190,8 +191,9 @@ impl<S: Services> Node<S> {
     }
 
     /// What its frames bear: a stamp under version 2, with the number 0 until they are queued.
+    #[tactic(auto, using(crate::proofs::StepLaws::mark_stands))]
     fn mark(&self) -> Option<Stamp>
-        ensures value { result ≡ spec.mark_of self.now.version self.now.boot }
+        ensures value { result ≡ mark_on self.now }
         ensures stands { (s : NodeState) → NodeStands S.stands self.now s → result ≡ spec.mark s }
     {
         match self.version {
@@ -231,6 +233,7 @@ impl<S: Services> Node<S> {
         requires carried { MayCarry (spec.mark_of self.old.version self.old.boot) packet.now.handler }
         ensures ok { (s : NodeState) → NodeStands S.stands self.old s → IfOk result (λ acts. IsStep S.stands (spec.visited before s packet.now) acts self.new) }
         ensures err { (s : NodeState) → NodeStands S.stands self.old s → OnErr result (NodeStands S.stands self.new s) }
+        ensures same { version_of self.new ≡ version_of self.old }
         ensures serial { self.new.serial ≡ self.old.serial }
     {
         let ctx = self.around(alloc, packet)?;
@@ -282,6 +285,7 @@ impl<S: Services> Node<S> {
         requires carried { MayCarry (spec.mark_of self.old.version self.old.boot) packet.now.handler }
         ensures ok { (s : NodeState) → NodeStands S.stands self.old s → IfOk result (λ acts. IsStep S.stands (spec.visited before (spec.next_serial s) packet.now) acts self.new) }
         ensures err { (s : NodeState) → NodeStands S.stands self.old s → OnErr result (NodeStands S.stands self.new s) }
+        ensures same { version_of self.new ≡ version_of self.old }
     {
         let acts = self.visit(alloc, before, packet)?;
         self.serial += 1;
@@ -303,6 +307,7 @@ impl<S: Services> Node<S> {
         requires handler { MayName self.old.version chunk.now handler.now }
         ensures ok { (s : NodeState) → NodeStands S.stands self.old s → IfOk result (λ acts. IsStep S.stands (spec.inject_step before s chunk.now bound handler.now) acts self.new) }
         ensures err { (s : NodeState) → NodeStands S.stands self.old s → OnErr result (NodeStands S.stands self.new s) }
+        ensures same { version_of self.new ≡ version_of self.old }
     {
         if self.serial == u64::MAX {
             let list = with_act(before, Act::SerialsSpent)?;
@@ -324,9 +329,10 @@ impl<S: Services> Node<S> {
         handler: &Option<Name>,
     ) -> Result<Acts, NoMemory>
         requires small { bound ≤ 65535 }
-        requires handler { MayName self.old.version chunk.now handler.now }
+        requires handler { MayName (version_of self.old) chunk.now handler.now }
         ensures ok { (s : NodeState) → NodeStands S.stands self.old s → IfOk result (λ acts. IsStep S.stands (spec.inject_step [] s chunk.now bound handler.now) acts self.new) }
         ensures err { (s : NodeState) → NodeStands S.stands self.old s → OnErr result (NodeStands S.stands self.new s) }
+        ensures same { version_of self.new ≡ version_of self.old }
     {
         let before = Items::new(alloc);
         self.admit(alloc, before, chunk, bound, handler)
@@ -340,9 +346,10 @@ impl<S: Services> Node<S> {
         packet: &CheckedPacket,
         over: Dev,
     ) -> Result<Acts, NoMemory>
-        requires carried { MayCarry (spec.mark_of self.old.version self.old.boot) packet.now.handler }
+        requires carried { MayCarry (mark_on self.old) packet.now.handler }
         ensures ok { (s : NodeState) → NodeStands S.stands self.old s → IfOk result (λ acts. IsStep S.stands (spec.onward s dev (spec.packet_sending (spec.mark s) (record { dev = over; packet = packet.now }))) acts self.new) }
         ensures err { (s : NodeState) → NodeStands S.stands self.old s → OnErr result (NodeStands S.stands self.new s) }
+        ensures same { version_of self.new ≡ version_of self.old }
     {
         let mut list = Vec::with_capacity(alloc, 2)?;
         let mark = self.mark();
@@ -374,9 +381,10 @@ impl<S: Services> Node<S> {
         packet: &CheckedPacket,
         hop: Hop,
     ) -> Result<Acts, NoMemory>
-        requires carried { MayCarry (spec.mark_of self.old.version self.old.boot) packet.now.handler }
+        requires carried { MayCarry (mark_on self.old) packet.now.handler }
         ensures ok { (s : NodeState) → NodeStands S.stands self.old s → IfOk result (λ acts. IsStep S.stands (spec.forward_by s dev packet.now hop) acts self.new) }
         ensures err { (s : NodeState) → NodeStands S.stands self.old s → OnErr result (NodeStands S.stands self.new s) }
+        ensures same { version_of self.new ≡ version_of self.old }
     {
         let reason = match hop {
             Hop::To(_, over) => return self.send_on(alloc, dev, packet, over),
@@ -390,9 +398,10 @@ impl<S: Services> Node<S> {
     /// A packet for another host. Condition: under version 1 it has no handler.
     #[tactic(auto, unfolding(node_model::specs::Node::forward_step))]
     fn forward(&mut self, alloc: Global, dev: Dev, packet: &CheckedPacket) -> Result<Acts, NoMemory>
-        requires carried { MayCarry (spec.mark_of self.old.version self.old.boot) packet.now.handler }
+        requires carried { MayCarry (mark_on self.old) packet.now.handler }
         ensures ok { (s : NodeState) → NodeStands S.stands self.old s → IfOk result (λ acts. IsStep S.stands (spec.forward_step s dev packet.now) acts self.new) }
         ensures err { (s : NodeState) → NodeStands S.stands self.old s → OnErr result (NodeStands S.stands self.new s) }
+        ensures same { version_of self.new ≡ version_of self.old }
     {
         if packet.bound() == 0 {
             let dropped = Act::Dropped(Reason::NoBound, packet.family(), 0);
@@ -406,9 +415,10 @@ impl<S: Services> Node<S> {
     /// A packet arrives: one for this host is visited. Condition: under version 1 it has no handler.
     #[tactic(auto, unfolding(node_model::specs::Node::packet_step))]
     fn take_in(&mut self, alloc: Global, dev: Dev, packet: &CheckedPacket) -> Result<Acts, NoMemory>
-        requires carried { MayCarry (spec.mark_of self.old.version self.old.boot) packet.now.handler }
+        requires carried { MayCarry (mark_on self.old) packet.now.handler }
         ensures ok { (s : NodeState) → NodeStands S.stands self.old s → IfOk result (λ acts. IsStep S.stands (spec.packet_step s dev packet.now) acts self.new) }
         ensures err { (s : NodeState) → NodeStands S.stands self.old s → OnErr result (NodeStands S.stands self.new s) }
+        ensures same { version_of self.new ≡ version_of self.old }
     {
         if packet.dest().0 != self.here.0 {
             return self.forward(alloc, dev, packet);
@@ -426,7 +436,8 @@ impl<S: Services> Node<S> {
 
     /// Hears an advert on a device. Takes no memory.
     fn learn(&mut self, dev: Dev, advert: &Advert)
-        ensures { (s : NodeState) → NodeStands S.stands self.old s → NodeStands S.stands self.new (spec.hearing s dev advert.now) }
+        ensures stands { (s : NodeState) → NodeStands S.stands self.old s → NodeStands S.stands self.new (spec.hearing s dev advert.now) }
+        ensures same { version_of self.new ≡ version_of self.old }
     {
         self.routes.hear(dev, advert);
     }
@@ -436,6 +447,7 @@ impl<S: Services> Node<S> {
     fn hear(&mut self, alloc: Global, dev: Dev, advert: &Advert) -> Result<Acts, NoMemory>
         ensures ok { (s : NodeState) → NodeStands S.stands self.old s → IfOk result (λ acts. IsStep S.stands (spec.advert_step s dev advert.now) acts self.new) }
         ensures err { (s : NodeState) → NodeStands S.stands self.old s → OnErr result (NodeStands S.stands self.new s) }
+        ensures same { version_of self.new ≡ version_of self.old }
     {
         if !self.knows(dev, advert.host) {
             return self.only_acts(alloc, Act::Arrived(dev), Act::Misplaced);
@@ -447,9 +459,10 @@ impl<S: Services> Node<S> {
 
     /// A frame arrives. Condition: under version 1 a packet has no handler.
     fn arrive_frame(&mut self, alloc: Global, dev: Dev, frame: &Frame) -> Result<Acts, NoMemory>
-        requires { MayGoOn (spec.mark_of self.old.version self.old.boot) (plain_of frame.now) }
+        requires { MayGoOn (mark_on self.old) (plain_of frame.now) }
         ensures ok { (s : NodeState) → NodeStands S.stands self.old s → IfOk result (λ acts. IsStep S.stands (spec.frame_step s dev (plain_of frame.now)) acts self.new) }
         ensures err { (s : NodeState) → NodeStands S.stands self.old s → OnErr result (NodeStands S.stands self.new s) }
+        ensures same { version_of self.new ≡ version_of self.old }
     {
         match frame {
             Frame::Packet(packet) => self.take_in(alloc, dev, packet),
@@ -472,18 +485,21 @@ impl<S: Services> Node<S> {
     /// Takes a fresh stamp on a device. Takes no memory.
     #[tactic(auto, unfolding(node_model::specs::Node::takes_as, node_model::specs::Node::seen_then))]
     fn note(&mut self, dev: Dev, stamp: Option<Stamp>)
-        ensures { (s : NodeState) → NodeStands S.stands self.old s → spec.takes_as s.seen dev stamp ≡ FreshOne → NodeStands S.stands self.new (spec.with_seen (spec.seen_then s.seen dev stamp) s) }
+        ensures stands { (s : NodeState) → NodeStands S.stands self.old s → spec.takes_as s.seen dev stamp ≡ FreshOne → NodeStands S.stands self.new (spec.with_seen (spec.seen_then s.seen dev stamp) s) }
+        ensures same { version_of self.new ≡ version_of self.old }
     {
-        if let Some(stamp) = stamp {
-            note(&mut self.windows, dev, stamp);
-        }
+        let Some(stamp) = stamp else {
+            return;
+        };
+        note(&mut self.windows, dev, stamp);
     }
 
     /// A fresh frame arrives, and its stamp is taken. Condition: under version 1 a packet has no handler.
     fn arrive_fresh(&mut self, alloc: Global, dev: Dev, stamped: &Stamped) -> Result<Acts, NoMemory>
-        requires { MayGoOn (spec.mark_of self.old.version self.old.boot) (plain_of stamped.now.frame) }
+        requires { MayGoOn (mark_on self.old) (plain_of stamped.now.frame) }
         ensures ok { (s : NodeState) → NodeStands S.stands self.old s → spec.takes_as s.seen dev stamped.now.stamp ≡ FreshOne → IfOk result (λ acts. IsStep S.stands (spec.stamped_as s dev (stamped_plain stamped.now) FreshOne) acts self.new) }
         ensures err { (s : NodeState) → NodeStands S.stands self.old s → OnErr result (NodeStands S.stands self.new s) }
+        ensures same { version_of self.new ≡ version_of self.old }
     {
         let acts = self.arrive_frame(alloc, dev, &stamped.frame)?;
         self.note(dev, stamped.stamp);
@@ -514,9 +530,10 @@ impl<S: Services> Node<S> {
         dev: Dev,
         stamped: &Stamped,
     ) -> Result<Acts, NoMemory>
-        requires { MayGoOn (spec.mark_of self.old.version self.old.boot) (plain_of stamped.now.frame) }
+        requires { MayGoOn (mark_on self.old) (plain_of stamped.now.frame) }
         ensures ok { (s : NodeState) → NodeStands S.stands self.old s → IfOk result (λ acts. IsStep S.stands (spec.stamped_step s dev (stamped_plain stamped.now)) acts self.new) }
         ensures err { (s : NodeState) → NodeStands S.stands self.old s → OnErr result (NodeStands S.stands self.new s) }
+        ensures same { version_of self.new ≡ version_of self.old }
     {
         match self.judge(dev, stamped.stamp) {
             Took::Fresh => self.arrive_fresh(alloc, dev, stamped),
@@ -528,8 +545,8 @@ impl<S: Services> Node<S> {
     /// Keeps the program of a frame's chunk, where it has one. Takes no memory.
     fn remember(&mut self, frame: &Frame)
         ensures stands { (s : NodeState) → NodeStands S.stands self.old s → NodeStands S.stands self.new s }
-        ensures version { self.new.version ≡ self.old.version }
-        ensures boot { self.new.boot ≡ self.old.boot }
+        ensures same { version_of self.new ≡ version_of self.old }
+        ensures mark { mark_on self.new ≡ mark_on self.old }
     {
         if let Some(program) = code_of(frame) {
             self.known = Some(program);
@@ -541,6 +558,7 @@ impl<S: Services> Node<S> {
     pub fn arrive(&mut self, alloc: Global, dev: Dev, bytes: &[u8]) -> Result<Acts, NoMemory>
         ensures ok { (s : NodeState) → NodeStands S.stands self.old s → IfOk result (λ acts. IsStep S.stands (spec.arrive_step s dev bytes.now) acts self.new) }
         ensures err { (s : NodeState) → NodeStands S.stands self.old s → OnErr result (NodeStands S.stands self.new s) }
+        ensures same { version_of self.new ≡ version_of self.old }
     {
         match read_as(alloc, bytes, self.version, self.known.as_ref()) {
             Ok(stamped) => {
@@ -558,6 +576,7 @@ impl<S: Services> Node<S> {
         requires { asks_within (plain_of frame.now) }
         ensures ok { (s : NodeState) → NodeStands S.stands self.old s → IfOk result (λ acts. IsStep S.stands (spec.asked_plain s (plain_of frame.now)) acts self.new) }
         ensures err { (s : NodeState) → NodeStands S.stands self.old s → OnErr result (NodeStands S.stands self.new s) }
+        ensures same { version_of self.new ≡ version_of self.old }
     {
         match frame {
             Frame::Ask(bound, chunk) => {
@@ -573,6 +592,7 @@ impl<S: Services> Node<S> {
     fn control(&mut self, alloc: Global, bytes: &[u8]) -> Result<Acts, NoMemory>
         ensures ok { (s : NodeState) → NodeStands S.stands self.old s → IfOk result (λ acts. IsStep S.stands (spec.control_step s bytes.now) acts self.new) }
         ensures err { (s : NodeState) → NodeStands S.stands self.old s → OnErr result (NodeStands S.stands self.new s) }
+        ensures same { version_of self.new ≡ version_of self.old }
     {
         match read_as(alloc, bytes, self.version, self.known.as_ref()) {
             Ok(stamped) => {
@@ -589,6 +609,7 @@ impl<S: Services> Node<S> {
     pub fn tick(&mut self, alloc: Global) -> Result<Acts, NoMemory>
         ensures ok { (s : NodeState) → NodeStands S.stands self.old s → IfOk result (λ acts. IsStep S.stands (spec.tick_step s) acts self.new) }
         ensures err { (s : NodeState) → NodeStands S.stands self.old s → OnErr result (NodeStands S.stands self.new s) }
+        ensures same { version_of self.new ≡ version_of self.old }
     {
         let now = next_tick(self.time);
         let advert = self.routes.advert(alloc)?;
@@ -609,6 +630,7 @@ impl<S: Services> Node<S> {
     pub fn take(&mut self, alloc: Global, dev: Dev) -> Result<Acts, NoMemory>
         ensures ok { (s : NodeState) → NodeStands S.stands self.old s → IfOk result (λ acts. IsStep S.stands (spec.take_step s dev) acts self.new) }
         ensures err { (s : NodeState) → NodeStands S.stands self.old s → OnErr result (NodeStands S.stands self.new s) }
+        ensures same { version_of self.new ≡ version_of self.old }
     {
         let mut list = Vec::with_capacity(alloc, 1)?;
         let at = dev.0 as usize;
@@ -628,9 +650,10 @@ impl<S: Services> Node<S> {
 
     /// The step of an event, by its case.
     fn step_by_case(&mut self, alloc: Global, event: &Event) -> Result<Acts, NoMemory>
-        requires { comes_within self.old.version event.now }
+        requires { comes_within (version_of self.old) event.now }
         ensures ok { (s : NodeState) → NodeStands S.stands self.old s → IfOk result (λ acts. IsStep S.stands (spec.node_step s event.now) acts self.new) }
         ensures err { (s : NodeState) → NodeStands S.stands self.old s → OnErr result (NodeStands S.stands self.new s) }
+        ensures same { version_of self.new ≡ version_of self.old }
     {
         match event {
             Event::Inject(chunk, bound, handler) => self.inject(alloc, chunk, *bound, handler),
@@ -645,9 +668,10 @@ impl<S: Services> Node<S> {
     /// keeping what every node keeps. Where memory is refused, the node stays. Conditions: an injected bound is at most 65,535 and
     /// its handler none under version 1, and one that may handle or none under version 2; a device is at most 8.
     pub fn step(&mut self, alloc: Global, event: &Event) -> Result<Acts, NoMemory>
-        requires { comes_within self.old.version event.now }
+        requires { comes_within (version_of self.old) event.now }
         ensures ok { (s : NodeState) → NodeStands S.stands self.old s → IfOk result (λ acts. IsStep S.stands (spec.node_step s event.now) acts self.new) }
         ensures err { (s : NodeState) → NodeStands S.stands self.old s → OnErr result (NodeStands S.stands self.new s) }
+        ensures same { version_of self.new ≡ version_of self.old }
         ensures balance { (f : FamilyOf) (s : NodeState) → StepBalances f (came f s event.now) (stale f s event.now) s (spec.node_step s event.now) }
         ensures keeps { (s : NodeState) → comes_fit s.version event.now → NodeFits s → NodeFits (spec.node_step s event.now).node }
     {

@@ -36,7 +36,8 @@ pub fn note(windows: &mut [Window], dev: Dev, s: Stamp)
     ensures { (seen : List Seen) → AllSeen seen windows.old → took_by (slice_get seen dev.0) s ≡ FreshOne → AllSeen (seen_at seen dev s (slice_get seen dev.0)) windows.new }
 {
     let at = dev.0 as usize;
-    if at < windows.len() {
-        windows[at].keep(s);
+    if at >= windows.len() {
+        return;
     }
+    windows[at].keep(s);
 }

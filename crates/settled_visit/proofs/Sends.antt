@@ -60,7 +60,7 @@ tells_good p ctx v t g m k =
     let may : is_handler p.chunk.code k.name ≡ true = subst (MayHandle p.chunk) k.handler m in
     let good : IsGoodSettled (telling p k.name k.text v.left t.dev) = record {
       chunk = record {
-        typed = told_typed p.chunk k.name k.text k.is_name may k.short g.typed;
+        typed = told_typed p.chunk k.name k.text k.named may k.short g.typed;
         formed = told_formed p.chunk k.name k.text g.formed k.utf8 k.short;
       };
       handler = tt;

@@ -7,7 +7,7 @@ use Rattle.plan_base.specs.declared.name.Name.{Name}
 use Rattle.plan_base.specs.declared.text.Text.{Text}
 use Rattle.plan_base.specs.declared.ids.Host.{Host}
 use Rattle.plan_base.specs.declared.tree.Packet.{Packet}
-use Rattle.plan_base.specs.Words.{is_name, IsName}
+use Rattle.plan_base.specs.Words.{is_word, is_reserved, is_name, IsName}
 use Rattle.plan_base.proofs.WordLaws.{is_name_within}
 use Rattle.service_api.specs.declared.ctx.Ctx.{Ctx}
 use Rattle.service_api.specs.declared.router.Hop.{Hop}
@@ -27,7 +27,7 @@ pub record Tells (p : Packet) (ctx : Ctx) (v : Visit) (t : Sent) : Type 0 where
   pub text : Text
   pub via : Host
   pub handler : p.handler ≡ Some name
-  pub is_name : IsName name
+  pub named : IsName name
   pub utf8 : is_utf8 text ≡ true
   pub short : length text ≤ 32
   pub some : 0 < v.left
@@ -49,10 +49,14 @@ named_reason true n s h e =
     text_or d (Some x) = x
 named_reason false n s h e = cc
 
+spent_named : IsName (codes "WorkSpent")
+unfolding is_name is_word is_reserved
+spent_named = refl
+
 reason_is : (o : Outcome) (s : Text) → reason_of o ≡ Some s → IsReason s
 reason_is (outcome.Value v) s e = cc
 reason_is (outcome.Raised x) s e = named_reason (is_name x.0) x.0 s refl e
-reason_is outcome.WorkSpent s e = named_reason true (codes "WorkSpent") s refl e
+reason_is outcome.WorkSpent s e = named_reason true (codes "WorkSpent") s spent_named e
 
 left_some : (n : ℕ) → (n == 0) ≡ false → 0 < n
 left_some n e = grind (arith, nat_tests)
@@ -61,7 +65,7 @@ module _ (p : Packet) (ctx : Ctx) (v : Visit) (t : Sent) where
   abbrev way_home : Hop
   way_home = hop ctx.router default_route ctx.here p.family.source
 
-  sent_or : Sent → Option Sent → Sent
+  abbrev sent_or : Sent → Option Sent → Sent
   sent_or d None = d
   sent_or d (Some s) = s
 
@@ -74,12 +78,12 @@ module _ (p : Packet) (ctx : Ctx) (v : Visit) (t : Sent) where
         text = s;
         via = via;
         handler = h;
-        is_name = k;
+        named = k;
         utf8 = r.utf8;
         short = r.short;
         some = l;
-        way = w ∙ ap (To via) same;
-        is = sym is ∙ ap (telling p n s v.left) same;
+        way = w ∙ ap (λ d. To via d) same;
+        is = sym is ∙ ap (λ d. telling p n s v.left d) same;
       }
   over_tells n s NoService h k r l w e = cc
   over_tells n s NoRoute h k r l w e = cc
