@@ -230,7 +230,7 @@ impl<S: Services> Node<S> {
         before: ActList,
         packet: &CheckedPacket,
     ) -> Result<Acts, NoMemory>
-        requires carried { MayCarry (spec.mark_of self.old.version self.old.boot) packet.now.handler }
+        requires carried { MayCarry (mark_on self.old) packet.now.handler }
         ensures ok { (s : NodeState) → NodeStands S.stands self.old s → IfOk result (λ acts. IsStep S.stands (spec.visited before s packet.now) acts self.new) }
         ensures err { (s : NodeState) → NodeStands S.stands self.old s → OnErr result (NodeStands S.stands self.new s) }
         ensures same { version_of self.new ≡ version_of self.old }
@@ -282,7 +282,7 @@ impl<S: Services> Node<S> {
         packet: &CheckedPacket,
     ) -> Result<Acts, NoMemory>
         requires left { self.old.serial < 18446744073709551615 }
-        requires carried { MayCarry (spec.mark_of self.old.version self.old.boot) packet.now.handler }
+        requires carried { MayCarry (mark_on self.old) packet.now.handler }
         ensures ok { (s : NodeState) → NodeStands S.stands self.old s → IfOk result (λ acts. IsStep S.stands (spec.visited before (spec.next_serial s) packet.now) acts self.new) }
         ensures err { (s : NodeState) → NodeStands S.stands self.old s → OnErr result (NodeStands S.stands self.new s) }
         ensures same { version_of self.new ≡ version_of self.old }
@@ -304,7 +304,7 @@ impl<S: Services> Node<S> {
         handler: &Option<Name>,
     ) -> Result<Acts, NoMemory>
         requires small { bound ≤ 65535 }
-        requires handler { MayName self.old.version chunk.now handler.now }
+        requires handler { MayName (version_of self.old) chunk.now handler.now }
         ensures ok { (s : NodeState) → NodeStands S.stands self.old s → IfOk result (λ acts. IsStep S.stands (spec.inject_step before s chunk.now bound handler.now) acts self.new) }
         ensures err { (s : NodeState) → NodeStands S.stands self.old s → OnErr result (NodeStands S.stands self.new s) }
         ensures same { version_of self.new ≡ version_of self.old }
