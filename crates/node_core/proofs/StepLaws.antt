@@ -151,6 +151,16 @@ pub named_handles : (v : Version) (c : Chunk) (o : Option Name) → MayName v c 
 named_handles One c o h = none_handles c o h
 named_handles Two c o h = h
 
+-- what a version lets be named may go on from its nodes
+pub named_carries : (v : Version) (boot : ℕ) (c : Chunk) (o : Option Name) → MayName v c o → MayCarry (mark_of v boot) o
+named_carries One boot c o h = h
+named_carries Two boot c o h = tt
+
+-- each version lets none be named
+pub none_named : (v : Version) (c : Chunk) (o : Option Name) → o ≡ None → MayName v c o
+none_named One c o e = e
+none_named Two c o e = none_handles c o e
+
 -- ---- readings
 
 -- what is read in a version is what the definition reads

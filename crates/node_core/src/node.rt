@@ -222,7 +222,7 @@ impl<S: Services> Node<S> {
         })
     }
 
-    /// The visit of a packet, after some acts.
+    /// The settled visit of a packet, after some acts. Condition: under version 1 it has no handler.
     #[tactic(auto, unfolding(node_model::specs::Node::visited))]
     fn visit(
         &mut self,
@@ -230,6 +230,7 @@ impl<S: Services> Node<S> {
         before: ActList,
         packet: &CheckedPacket,
     ) -> Result<Acts, NoMemory>
+        requires carried { MayCarry (mark_on self.old) packet.now.handler }
         ensures ok { (s : NodeState) → NodeStands S.stands self.old s → IfOk result (λ acts. IsStep S.stands (spec.visited before s packet.now) acts self.new) }
         ensures err { (s : NodeState) → NodeStands S.stands self.old s → OnErr result (NodeStands S.stands self.new s) }
         ensures same { version_of self.new ≡ version_of self.old }
@@ -272,14 +273,16 @@ impl<S: Services> Node<S> {
         Ok(handled(packet, name))
     }
 
-    /// The visit of an injected packet, after some acts; the next injection gets the next serial number.
+    /// The visit of an injected packet, after some acts; the next injection gets the next serial number. Conditions: a serial
+    /// number is left, and under version 1 the packet has no handler.
     fn visit_own(
         &mut self,
         alloc: Global,
         before: ActList,
         packet: &CheckedPacket,
     ) -> Result<Acts, NoMemory>
-        requires { self.old.serial < 18446744073709551615 }
+        requires left { self.old.serial < 18446744073709551615 }
+        requires carried { MayCarry (mark_on self.old) packet.now.handler }
         ensures ok { (s : NodeState) → NodeStands S.stands self.old s → IfOk result (λ acts. IsStep S.stands (spec.visited before (spec.next_serial s) packet.now) acts self.new) }
         ensures err { (s : NodeState) → NodeStands S.stands self.old s → OnErr result (NodeStands S.stands self.new s) }
         ensures same { version_of self.new ≡ version_of self.old }
@@ -289,7 +292,9 @@ impl<S: Services> Node<S> {
         Ok(acts)
     }
 
-    /// An injection after some acts. Conditions: the bound is at most 65,535, and the handler, if there is one, may handle.
+    /// An injection after some acts. Conditions: the bound is at most 65,535; the handler is none under version 1, and one that may
+    /// handle or none under version 2.
+    #[tactic(auto, using(crate::proofs::StepLaws::named_handles, crate::proofs::StepLaws::named_carries))]
     fn admit(
         &mut self,
         alloc: Global,
@@ -299,7 +304,7 @@ impl<S: Services> Node<S> {
         handler: &Option<Name>,
     ) -> Result<Acts, NoMemory>
         requires small { bound ≤ 65535 }
-        requires handler { MayHandle chunk.now handler.now }
+        requires handler { MayName (version_of self.old) chunk.now handler.now }
         ensures ok { (s : NodeState) → NodeStands S.stands self.old s → IfOk result (λ acts. IsStep S.stands (spec.inject_step before s chunk.now bound handler.now) acts self.new) }
         ensures err { (s : NodeState) → NodeStands S.stands self.old s → OnErr result (NodeStands S.stands self.new s) }
         ensures same { version_of self.new ≡ version_of self.old }
@@ -316,7 +321,6 @@ impl<S: Services> Node<S> {
 
     /// The step of an injection. Conditions: the bound is at most 65,535; the handler is none under version 1, and one that may
     /// handle or none under version 2.
-    #[tactic(auto, using(crate::proofs::StepLaws::named_handles))]
     pub fn inject(
         &mut self,
         alloc: Global,
@@ -567,6 +571,7 @@ impl<S: Services> Node<S> {
     }
 
     /// What the owner asked.
+    #[tactic(auto, using(crate::proofs::StepLaws::none_named))]
     fn ask_frame(&mut self, alloc: Global, frame: &Frame) -> Result<Acts, NoMemory>
         requires { asks_within (plain_of frame.now) }
         ensures ok { (s : NodeState) → NodeStands S.stands self.old s → IfOk result (λ acts. IsStep S.stands (spec.asked_plain s (plain_of frame.now)) acts self.new) }

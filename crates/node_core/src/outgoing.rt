@@ -1,8 +1,8 @@
-ghost use Rattle.std.specs.Prelude.{◌≡◌, map, IfOk};
-ghost use Rattle.plan_meaning.specs.Safe.{AreGoodPackets};
+ghost use Rattle.std.specs.Prelude.{◌≡◌, map, All, IfOk};
 ghost use Rattle.service_api.specs.Adverts.{AdvertFits};
 ghost use Rattle.spelled_frame.specs.Spelled.{MayCarry};
 ghost use Rattle.node_model.specs.Node as spec;
+ghost use Rattle.node_core.specs.Turns.{Carries};
 
 use chunk_types::CheckedPacket;
 use link_window::Stamp;
@@ -36,14 +36,14 @@ pub fn packet_sending(
     })
 }
 
-/// The sendings of a visit. Condition: what it sends has no handler.
-#[tactic(auto, unfolding(node_model::specs::Node::visit_sends), using(crate::proofs::SendLaws::plain_carried))]
+/// The sendings of a visit. Condition: without a mark none has a handler.
+#[tactic(auto, unfolding(node_model::specs::Node::visit_sends))]
 pub fn visit_sendings(
     alloc: Global,
     mark: Option<Stamp>,
     outbox: Outbox,
 ) -> Result<Sendings, NoMemory>
-    requires { AreGoodPackets outbox }
+    requires { All (Carries mark) outbox }
     ensures { IfOk result (λ sends. sends ≡ map (spec.packet_sending mark) outbox) }
 {
     let mut sends = Items::new(alloc);

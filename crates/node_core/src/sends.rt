@@ -1,4 +1,5 @@
 ghost use Rattle.std.specs.Prelude.{◌≡◌, ◌∷◌, ◌++◌, map, IfOk, OnOk, vec_len, vec_capacity, ◌≤◌, ◌+◌, length, [], Some, IsTrue, slice_get};
+ghost use Rattle.std.specs.Option.{option_to_list};
 ghost use Rattle.node_model.specs.declared.acts.Act.TheVariants.{Noted};
 ghost use Rattle.node_model.specs.Node as spec;
 ghost use Rattle.node_core.specs.Drops as drops;
@@ -119,19 +120,24 @@ fn note_all(acts: &mut Vec<Act>, notes: Notes) -> Result<(), AllocError>
     Ok(())
 }
 
-/// What a step lists: some acts, the notes of a visit and its end, with room for its sends.
+/// What a step lists: some acts, the notes of a visit, its end and the act of its handler, if there is one, with room for its
+/// sends.
 pub fn begin_acts(
     before: ActList,
     notes: Notes,
     end: Act,
+    handled: Option<Act>,
     sends: usize,
 ) -> Result<Vec<Act>, AllocError>
-    ensures acts { IfOk result (λ acts. acts.items ≡ before ++ (map Noted notes ++ end ∷ [])) }
+    ensures acts { IfOk result (λ acts. acts.items ≡ before ++ (map Noted notes ++ (end ∷ option_to_list handled))) }
     ensures room { IfOk result (λ acts. vec_len acts + sends ≤ vec_capacity acts) }
 {
     let mut acts = before.into_vec();
     note_all(&mut acts, notes)?;
     acts.push(end)?;
+    if let Some(act) = handled {
+        acts.push(act)?;
+    }
     acts.reserve(sends)?;
     Ok(acts)
 }

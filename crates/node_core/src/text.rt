@@ -187,6 +187,26 @@ fn put_spent(out: &mut Bytes, host: Host, f: Family, left: u32) -> Result<(), No
     Ok(())
 }
 
+/// A handler that is called, with the bound that it has.
+fn put_handled(
+    out: &mut Bytes,
+    host: Host,
+    f: Family,
+    name: &[u8],
+    bound: u32,
+) -> Result<(), NoMemory>
+    ensures { OnOk result (out.new ≡ out.old ++ (spec.head_text (codes "handler") host ++ (codes " " ++ (spec.family_text f ++ (codes " " ++ (name.now ++ (codes " bound " ++ decimal bound))))))) }
+{
+    put_head(out, b"handler", host)?;
+    out.add_all(b" ")?;
+    put_family(out, f)?;
+    out.add_all(b" ")?;
+    out.add_all(name)?;
+    out.add_all(b" bound ")?;
+    put_number(out, u64::from(bound))?;
+    Ok(())
+}
+
 /// The word of a reason.
 fn reason_word(reason: Reason) -> &'static [u8]
     ensures { result.now ≡ spec.reason_text reason }
@@ -335,6 +355,7 @@ pub fn put_act_text(alloc: Global, out: &mut Bytes, host: Host, act: &Act) -> Re
         Act::Ended(f, outcome, evals, left) => put_end(
             alloc, out, host, *f, outcome, *evals, *left,
         )?,
+        Act::Handled(f, name, bound) => put_handled(out, host, *f, name.as_slice(), *bound)?,
         Act::Queued(dev, f, bound) => put_queued(out, host, *dev, *f, *bound)?,
         Act::Dropped(reason, f, bound) => put_dropped(out, host, *reason, *f, *bound)?,
         Act::Bad(refusal) => put_bad(alloc, out, host, refusal)?,
