@@ -23,7 +23,6 @@ use Rattle.service_api.specs.Routes.{hop}
 use Rattle.dv_routing.specs.Routing.{all_routes}
 use Rattle.service_api.specs.declared.advert.Advert.{Advert}
 use Rattle.plan_meaning.specs.declared.sent.Sent.{Sent}
-use Rattle.plan_meaning.specs.declared.outcome.Visit.{Visit}
 use Rattle.network_plan.specs.declared.event.Event.{Event}
 use Rattle.network_plan.specs.declared.event.Event.TheVariants as event
 use Rattle.node_model.specs.declared.acts.Act.{Act}
@@ -32,8 +31,9 @@ use Rattle.node_model.specs.declared.acts.Reason.TheVariants as reason
 use Rattle.node_model.specs.declared.acts.Sending.{Sending}
 use Rattle.node_model.specs.declared.acts.Lane.{Lane}
 use Rattle.node_model.specs.State.{Queues, NodeState, routing_of, is_host, leads_to}
-use Rattle.node_model.specs.Visits.{visit_at}
-use Rattle.node_model.specs.Node.{Step, node_step, inject_step, arrive_step, arrived, asked_plain, asked, drop_act, lane_room, mark, takes_as, stamped_as, stamped_step, control_step, tick_step, take_step, packet_step, forward_step, forward_by, advert_step, frame_step, visited, visit_acts, visit_sends, sends_acts, send_act, send_queues, has_room, packet_sending, onward, only_acts, hearing, next_serial, injected_packet}
+use Rattle.settled_visit.specs.declared.settling.Settled.{Settled}
+use Rattle.node_model.specs.Visits.{visit_at, settled_at}
+use Rattle.node_model.specs.Node.{Step, node_step, inject_step, arrive_step, arrived, asked_plain, asked, drop_act, lane_room, mark, takes_as, stamped_as, stamped_step, control_step, tick_step, take_step, packet_step, forward_step, forward_by, advert_step, frame_step, visited, handled_acts, visit_acts, visit_sends, sends_acts, send_act, send_queues, has_room, packet_sending, onward, only_acts, hearing, next_serial, injected_packet}
 use Rattle.node_model.specs.Counts.{came, frame_live, if_fresh, bytes_came}
 use Rattle.ledger_audit.specs.Runs.{is_refusal, is_accepted}
 
@@ -79,10 +79,18 @@ clean_sends m queues (s ∷ ss) =
     or_both (is_refusal (send_act queues (packet_sending m s))) (list_any is_refusal (sends_acts (send_queues queues (packet_sending m s)) (map (packet_sending m) ss)))
     (clean_send m queues s) (clean_sends m (send_queues queues (packet_sending m s)) ss)
 
-clean_visit : (m : Option Stamp) (queues : Queues) (p : Packet) (v : Visit) → Clean (visit_acts m queues p v)
+clean_handled : (g : Family) (h : Option Name) (bound : ℕ) → Clean (handled_acts g h bound)
+clean_handled g None bound = refl
+clean_handled g (Some n) bound = refl
+
+clean_visit : (m : Option Stamp) (queues : Queues) (p : Packet) (left : ℕ) (s : Settled) → Clean (visit_acts m queues p left s)
 unfolding visit_acts visit_sends
-clean_visit m queues p v =
-    clean_append (map Noted v.notes) (Ended p.family v.outcome v.evals v.left ∷ sends_acts queues (map (packet_sending m) v.outbox)) (clean_notes v.notes) (clean_sends m queues v.outbox)
+clean_visit m queues p left s =
+    let v = s.visit in
+    let handled = handled_acts p.family s.handled left in
+    let sent = sends_acts queues (map (packet_sending m) v.outbox) in
+    clean_append (map Noted v.notes) (Ended p.family v.outcome v.evals v.left ∷ (handled ++ sent)) (clean_notes v.notes)
+    (clean_append handled sent (clean_handled p.family s.handled left) (clean_sends m queues v.outbox))
 
 clean_by : (node : NodeState) (d : Dev) (p : Packet) (h : Hop) → Clean (forward_by node d p h).acts
 unfolding forward_by
@@ -103,7 +111,7 @@ unfolding packet_step visited
 clean_packet node d p = by (is_host p.dest node.here)
   where
     by : (t : Bool) → Clean (cond t (visited (Arrived d ∷ []) node p) (forward_step node d p)).acts
-    by true = clean_visit (mark node) node.queues p (visit_at node p)
+    by true = clean_visit (mark node) node.queues p (visit_at node p).left (settled_at node p)
     by false = clean_forward node d p
 
 -- what is refused brings nothing

@@ -1,5 +1,5 @@
 -- An event's lines have one end of a visit for each of its visits.
-use Rattle.std.proofs.Common.{◌≡◌, ℕ, Bool, true, false, cond, List, [], ◌∷◌, length, refl, ◌∙◌, arith}
+use Rattle.std.proofs.Common.{◌≡◌, ℕ, Bool, true, false, cond, List, [], ◌∷◌, ◌++◌, length, refl, ◌∙◌, arith}
 use Rattle.std.specs.Prelude.{map, slice_get, nat_lt, ◌==◌, Option, Some, None, Result, Ok, Err, All}
 use Rattle.std.proofs.lemmas.List.Elements.{All-nil, All-cons, All-head, All-tail}
 use Rattle.plan_base.specs.declared.ids.Host.{Host}
@@ -22,18 +22,19 @@ use Rattle.service_api.specs.declared.router.Hop.TheVariants.{To, NoService, NoR
 use Rattle.service_api.specs.Routes.{hop}
 use Rattle.dv_routing.specs.Routing.{all_routes, own_advert}
 use Rattle.plan_meaning.specs.declared.sent.Sent.{Sent}
-use Rattle.plan_meaning.specs.declared.outcome.Visit.{Visit}
 use Rattle.network_plan.specs.declared.event.WorldEvent.{WorldEvent}
 use Rattle.network_plan.specs.declared.event.WorldEvent.TheVariants.{Inject, Send, Deliver, Repeat, Lose, Tick, Raw}
 use Rattle.spelled_frame.specs.Spelled.{what_of}
 use Rattle.node_model.specs.declared.acts.Act.{Act}
-use Rattle.node_model.specs.declared.acts.Act.TheVariants.{Injected, Arrived, Noted, Ended, Dropped, Bad, Misplaced, Stale, Heard, Ticked, Taken, SerialsSpent}
+use Rattle.node_model.specs.declared.acts.Act.TheVariants.{Injected, Arrived, Noted, Ended, Handled, Dropped, Bad, Misplaced, Stale, Heard, Ticked, Taken, SerialsSpent}
 use Rattle.node_model.specs.declared.acts.Reason.TheVariants as reason
 use Rattle.node_model.specs.declared.acts.Lane.{Lane}
 use Rattle.node_model.specs.declared.acts.Sending.{Sending}
 use Rattle.node_model.specs.State.{Links, Queues, NodeState, routing_of, is_host, leads_to}
-use Rattle.node_model.specs.Visits.{visit_at}
-use Rattle.node_model.specs.Node.{Step, stepped, lane_room, mark, packet_sending, advert_sending, visit_sends, tick_sends, has_room, drop_act, send_act, send_queues, sends_acts, visit_acts, visited, next_serial, injected_packet, inject_step, forward_by, forward_step, packet_step, hearing, advert_step, frame_step, takes_as, stamped_as, stamped_step, arrived, arrive_step, next_tick, tick_step, take_first, take_from, take_step}
+use Rattle.settled_visit.specs.declared.settling.Settled.{Settled}
+use Rattle.plan_base.specs.declared.ids.Family.{Family}
+use Rattle.node_model.specs.Visits.{visit_at, settled_at}
+use Rattle.node_model.specs.Node.{Step, stepped, lane_room, mark, packet_sending, advert_sending, visit_sends, tick_sends, has_room, drop_act, send_act, send_queues, sends_acts, handled_acts, visit_acts, visited, next_serial, injected_packet, inject_step, forward_by, forward_step, packet_step, hearing, advert_step, frame_step, takes_as, stamped_as, stamped_step, arrived, arrive_step, next_tick, tick_step, take_first, take_from, take_step}
 use Rattle.node_model.specs.Counts.{act_sum}
 use Rattle.node_laws.proofs.CountLaws.{act_sum-nil, act_sum-cons, act_sum-append}
 use Rattle.world_model.specs.declared.lines.Line.{Line}
@@ -85,15 +86,26 @@ notes_none : (ns : List Note) → act_sum act_ends (map Noted ns) ≡ 0
 notes_none [] = act_sum-nil act_ends
 notes_none (n ∷ ns) = omega (arith, act_sum-cons act_ends (Noted n) (map Noted ns), notes_none ns)
 
-visit_one : (m : Option Stamp) (queues : Queues) (p : Packet) (v : Visit) → act_sum act_ends (visit_acts m queues p v) ≡ 1
+handled_none : (g : Family) (h : Option Name) (bound : ℕ) → act_sum act_ends (handled_acts g h bound) ≡ 0
+handled_none g None bound = act_sum-nil act_ends
+handled_none g (Some n) bound = omega (arith, act_sum-cons act_ends (Handled g n bound) [], act_sum-nil act_ends)
+
+visit_one : (m : Option Stamp) (queues : Queues) (p : Packet) (left : ℕ) (s : Settled) → act_sum act_ends (visit_acts m queues p left s) ≡ 1
 unfolding visit_acts visit_sends
-visit_one m queues p v = omega (
-  arith,
-  act_sum-append act_ends (map Noted v.notes) (Ended p.family v.outcome v.evals v.left ∷ sends_acts queues (map (packet_sending m) v.outbox)),
-  act_sum-cons act_ends (Ended p.family v.outcome v.evals v.left) (sends_acts queues (map (packet_sending m) v.outbox)),
-  notes_none v.notes,
-  sends_none queues (map (packet_sending m) v.outbox) (quiet_packets m v.outbox),
-)
+visit_one m queues p left s =
+    let v = s.visit in
+    let ended = Ended p.family v.outcome v.evals v.left in
+    let handled = handled_acts p.family s.handled left in
+    let sent = sends_acts queues (map (packet_sending m) v.outbox) in
+    omega (
+      arith,
+      act_sum-append act_ends (map Noted v.notes) (ended ∷ (handled ++ sent)),
+      act_sum-cons act_ends ended (handled ++ sent),
+      act_sum-append act_ends handled sent,
+      notes_none v.notes,
+      handled_none p.family s.handled left,
+      sends_none queues (map (packet_sending m) v.outbox) (quiet_packets m v.outbox),
+    )
 
 -- a step with this many ends of visits
 abbrev Ends : Step → ℕ → Type 0
@@ -101,8 +113,10 @@ Ends step n = act_sum act_ends step.acts ≡ n
 
 visited_one : (act : Act) (node : NodeState) (p : Packet) → act_ends act ≡ 0 → Ends (visited (act ∷ []) node p) 1
 unfolding visited
-visited_one act node p z = let v = visit_at node p in
-    omega (arith, act_sum-append act_ends (act ∷ []) (visit_acts (mark node) node.queues p v), act_sum-cons act_ends act [], act_sum-nil act_ends, visit_one (mark node) node.queues p v)
+visited_one act node p z =
+    let left = (visit_at node p).left in
+    let s = settled_at node p in
+    omega (arith, act_sum-append act_ends (act ∷ []) (visit_acts (mark node) node.queues p left s), act_sum-cons act_ends act [], act_sum-nil act_ends, visit_one (mark node) node.queues p left s)
 
 two_none : (a b : Act) (node : NodeState) → act_ends a ≡ 0 → act_ends b ≡ 0 → Ends (stepped (a ∷ b ∷ []) None node) 0
 two_none a b node x y = omega (arith, act_sum-cons act_ends a (b ∷ []), act_sum-cons act_ends b [], act_sum-nil act_ends)

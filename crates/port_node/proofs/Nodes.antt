@@ -13,6 +13,7 @@ use Rattle.link_window.specs.declared.window.Stamp.{Stamp}
 use Rattle.link_window.specs.declared.window.Took.{Took}
 use Rattle.link_window.specs.declared.window.Took.TheVariants.{Fresh, Repeated, TooOld}
 use Rattle.plan_base.specs.declared.name.Name.{Name}
+use Rattle.plan_base.specs.declared.ids.Family.{Family}
 use Rattle.service_api.specs.declared.advert.Advert.{Advert}
 use Rattle.service_api.specs.declared.answer.Note.{Note}
 use Rattle.service_api.specs.declared.router.Hop.{Hop}
@@ -34,8 +35,10 @@ use Rattle.node_model.specs.declared.acts.Sending.{Sending}
 use Rattle.node_model.specs.declared.acts.Lane.{Lane}
 use Rattle.plan_base.specs.declared.ids.Host.{Host}
 use Rattle.node_model.specs.State.{Links, Queues, NodeState, routing_of, is_host, leads_to}
-use Rattle.node_model.specs.Visits.{evaluated, visit_end, visit_of, services_end, services_after, around, visit_at}
-use Rattle.node_model.specs.Node.{Step, send_act, send_queues, sends_acts, sends_queues, has_room, packet_sending, visit_sends, visit_acts, visited, inject_step, next_serial, injected_packet, forward_by, forward_step, packet_step, advert_step, frame_step, drop_act, lane_room, mark, takes_as, stamped_as, stamped_step, tick_step, ticking, tick_sends, advert_sending, take_step, take_first, take_from, only_acts, onward, hearing}
+use Rattle.settled_visit.specs.declared.settling.Settled.{Settled}
+use Rattle.settled_visit.specs.Settles.{handed, telling_by, with_telling, settled}
+use Rattle.node_model.specs.Visits.{evaluated, visit_end, visit_of, services_end, services_after, around, visit_at, settled_at}
+use Rattle.node_model.specs.Node.{Step, send_act, send_queues, sends_acts, sends_queues, has_room, packet_sending, visit_sends, handled_acts, visit_acts, visited, inject_step, next_serial, injected_packet, forward_by, forward_step, packet_step, advert_step, frame_step, drop_act, lane_room, mark, takes_as, stamped_as, stamped_step, tick_step, ticking, tick_sends, advert_sending, take_step, take_first, take_from, only_acts, onward, hearing}
 use Rattle.node_model.specs.Fits.{QueuesKeep}
 use Rattle.node_laws.proofs.Keeping.{Whatever, send_keeps, sends_keep, took}
 use Rattle.port_visits.specs.Only.{Allowed, MaySend, Good}
@@ -107,25 +110,53 @@ module _ (a : Allowed) (closed : IsClosed a) where
   notes_known [] h = tt
   notes_known (n ∷ ns) h = (h.0, notes_known ns h.1)
 
-  visit_acts_known : (m : Option Stamp) (queues : Queues) (p : Packet) (v : Visit) (n : ServiceState) → VisitKnown v n → AllByRecursion (ActKnown a) (visit_acts m queues p v)
+  -- the settled visit of a packet without a handler sends what the visit sent
+  handed_known : (ss : List Sent) → AllByRecursion (MaySend a) ss → AllByRecursion (MaySend a) (map (handed None) ss)
+  handed_known [] h = tt
+  handed_known (s ∷ ss) h = ((h.0.0, refl), handed_known ss h.1)
+
+  told_known : (p : Packet) (ctx : Ctx) (v : Visit) (o : Option Name) → o ≡ None → AllByRecursion (MaySend a) v.outbox
+      → AllByRecursion (MaySend a) (with_telling o v (telling_by p o ctx v.left v.outcome)).visit.outbox
+  told_known p ctx v None e h = all_append (MaySend a) (map (handed None) v.outbox) [] (handed_known v.outbox h) tt
+  told_known p ctx v (Some n) e h = cc
+
+  settled_known : (p : Packet) (ctx : Ctx) (v : Visit) → p.handler ≡ None → AllByRecursion (MaySend a) v.outbox → AllByRecursion (MaySend a) (settled p ctx v).visit.outbox
+  unfolding settled
+  settled_known p ctx v e h = told_known p ctx v p.handler e h
+
+  settled_notes : (p : Packet) (ctx : Ctx) (v : Visit) → AllByRecursion a.note v.notes → AllByRecursion a.note (settled p ctx v).visit.notes
+  unfolding settled
+  settled_notes p ctx v h = h
+
+  handled_known : (g : Family) (h : Option Name) (bound : ℕ) → AllByRecursion (ActKnown a) (handled_acts g h bound)
+  handled_known g None bound = tt
+  handled_known g (Some n) bound = (tt, tt)
+
+  visit_acts_known : (m : Option Stamp) (queues : Queues) (p : Packet) (left : ℕ) (s : Settled) → AllByRecursion a.note s.visit.notes → AllByRecursion (ActKnown a) (visit_acts m queues p left s)
   unfolding visit_acts visit_sends
-  visit_acts_known m queues p v n h =
-      all_append (ActKnown a) (map Noted v.notes) (Ended p.family v.outcome v.evals v.left ∷ sends_acts queues (map (packet_sending m) v.outbox))
-      (notes_known v.notes h.notes) (tt, sends_acts_known m queues v.outbox)
+  visit_acts_known m queues p left s h =
+      let v = s.visit in
+      let handled = handled_acts p.family s.handled left in
+      let sent = sends_acts queues (map (packet_sending m) v.outbox) in
+      all_append (ActKnown a) (map Noted v.notes) (Ended p.family v.outcome v.evals v.left ∷ (handled ++ sent)) (notes_known v.notes h)
+      (tt, all_append (ActKnown a) handled sent (handled_known p.family s.handled left) (sends_acts_known m queues v.outbox))
 
   -- ---- steps
 
-  pub visited_known : (acts : List Act) (node : NodeState) (p : Packet) → AllByRecursion (ActKnown a) acts → a.chunk p.chunk → NodeKnown a node → StepKnown a (visited acts node p)
+  pub visited_known : (acts : List Act) (node : NodeState) (p : Packet) → AllByRecursion (ActKnown a) acts → a.chunk p.chunk × (p.handler ≡ None) → NodeKnown a node → StepKnown a (visited acts node p)
   unfolding visited visit_sends
   visited_known acts node p h k n =
-      let v = visit_known (around node p) (begun_now node.services) p n.offer k in
+      let v = visit_known (around node p) (begun_now node.services) p n.offer k.0 in
+      let left = (visit_at node p).left in
+      let s = settled_at node p in
       record {
         node = record {
-          queues = sends_keep (StampedKnown a) again node.queues (map (packet_sending (mark node)) (visit_at node p).outbox) (sends_all (mark node) (visit_at node p).outbox v.sends) n.queues;
+          queues = sends_keep (StampedKnown a) again node.queues (map (packet_sending (mark node)) s.visit.outbox)
+              (sends_all (mark node) s.visit.outbox (settled_known p (around node p) (visit_at node p) k.1 v.sends)) n.queues;
           offer = v.offer;
         };
-        acts = all_append (ActKnown a) acts (visit_acts (mark node) node.queues p (visit_at node p)) h
-            (visit_acts_known (mark node) node.queues p (visit_at node p) (services_after (around node p) (begun_now node.services) p) v);
+        acts = all_append (ActKnown a) acts (visit_acts (mark node) node.queues p left s) h
+            (visit_acts_known (mark node) node.queues p left s (settled_notes p (around node p) (visit_at node p) v.notes));
         frame = tt;
       }
 
@@ -138,7 +169,7 @@ module _ (a : Allowed) (closed : IsClosed a) where
 
       by : (t : Bool) → StepKnown a (cond t (record { acts = SerialsSpent ∷ []; frame = None; node = node }) (visited (grant ∷ []) (next_serial node) (injected_packet node c b o)))
       by true = record { node = n; acts = (tt, tt); frame = tt }
-      by false = visited_known (grant ∷ []) (next_serial node) (injected_packet node c b o) (tt, tt) k.0 (record { queues = n.queues; offer = n.offer })
+      by false = visited_known (grant ∷ []) (next_serial node) (injected_packet node c b o) (tt, tt) k (record { queues = n.queues; offer = n.offer })
 
   by_known : (node : NodeState) (d : Dev) (p : Packet) (h : Hop) → a.chunk p.chunk × (p.handler ≡ None) → NodeKnown a node → StepKnown a (forward_by node d p h)
   unfolding forward_by
@@ -155,7 +186,7 @@ module _ (a : Allowed) (closed : IsClosed a) where
   packet_known node d p k n = by (is_host p.dest node.here) (p.bound == 0)
     where
       by : (t u : Bool) → StepKnown a (cond t (visited (Arrived d ∷ []) node p) (cond u (record { acts = Arrived d ∷ Dropped reason.NoBound p.family 0 ∷ []; frame = None; node = node }) (forward_by node d p (hop (all_routes (routing_of node)) p.route node.here p.dest))))
-      by true u = visited_known (Arrived d ∷ []) node p (tt, tt) k.0 n
+      by true u = visited_known (Arrived d ∷ []) node p (tt, tt) k n
       by false true = record { node = n; acts = (tt, (tt, tt)); frame = tt }
       by false false = by_known node d p (hop (all_routes (routing_of node)) p.route node.here p.dest) k n
 

@@ -9,6 +9,7 @@ use Rattle.link_window.specs.declared.window.Stamp.{Stamp}
 use Rattle.link_window.specs.declared.window.Took.{Took}
 use Rattle.link_window.specs.declared.window.Took.TheVariants.{Fresh, Repeated, TooOld}
 use Rattle.plan_base.specs.declared.name.Name.{Name}
+use Rattle.plan_base.specs.declared.ids.Family.{Family}
 use Rattle.packet_frame.specs.declared.frame.PlainFrame.{PlainFrame}
 use Rattle.packet_frame.specs.declared.frame.PlainStamped.{PlainStamped}
 use Rattle.packet_frame.specs.Stamped.{stamped_bytes}
@@ -19,7 +20,6 @@ use Rattle.service_api.specs.declared.router.Hop.TheVariants.{To, NoService, NoR
 use Rattle.service_api.specs.Routes.{hop}
 use Rattle.dv_routing.specs.Routing.{all_routes, own_advert}
 use Rattle.plan_meaning.specs.declared.sent.Sent.{Sent}
-use Rattle.plan_meaning.specs.declared.outcome.Visit.{Visit}
 use Rattle.network_plan.specs.declared.event.WorldEvent.{WorldEvent}
 use Rattle.network_plan.specs.declared.event.WorldEvent.TheVariants as event
 use Rattle.spelled_frame.specs.Spelled.{what_of}
@@ -29,8 +29,9 @@ use Rattle.node_model.specs.declared.acts.Reason.TheVariants as reason
 use Rattle.node_model.specs.declared.acts.Sending.{Sending}
 use Rattle.node_model.specs.declared.acts.Lane.{Lane}
 use Rattle.node_model.specs.State.{Links, Queues, NodeState, routing_of, is_host, leads_to}
-use Rattle.node_model.specs.Visits.{visit_at}
-use Rattle.node_model.specs.Node.{Step, send_act, send_queues, sends_acts, has_room, packet_sending, visit_sends, visit_acts, visited, inject_step, next_serial, injected_packet, forward_by, forward_step, packet_step, advert_step, frame_step, drop_act, lane_room, mark, takes_as, stamped_as, stamped_step, take_first, tick_step, tick_sends, advert_sending, take_step, take_from, only_acts, onward, hearing}
+use Rattle.settled_visit.specs.declared.settling.Settled.{Settled}
+use Rattle.node_model.specs.Visits.{visit_at, settled_at}
+use Rattle.node_model.specs.Node.{Step, send_act, send_queues, sends_acts, has_room, packet_sending, visit_sends, handled_acts, visit_acts, visited, inject_step, next_serial, injected_packet, forward_by, forward_step, packet_step, advert_step, frame_step, drop_act, lane_room, mark, takes_as, stamped_as, stamped_step, take_first, tick_step, tick_sends, advert_sending, take_step, take_from, only_acts, onward, hearing}
 use Rattle.world_model.specs.declared.lines.Line.{Line}
 use Rattle.world_model.specs.declared.lines.Line.TheVariants.{At, Wire, Off, Again, Lost, Nothing}
 use Rattle.world_model.specs.declared.lines.LinkEnd.{LinkEnd}
@@ -74,19 +75,28 @@ unfolding sends_acts
 sends_quiet m queues [] = refl
 sends_quiet m queues (s ∷ ss) = omega (arith, send_quiet m queues s, sends_quiet m (send_queues queues (packet_sending m s)) ss)
 
-visit_quiet : (m : Option Stamp) (queues : Queues) (p : Packet) (v : Visit) → Acts (visit_acts m queues p v) ≡ 0
+handled_quiet : (g : Family) (h : Option Name) (bound : ℕ) → Acts (handled_acts g h bound) ≡ 0
+handled_quiet g None bound = refl
+handled_quiet g (Some n) bound = refl
+
+visit_quiet : (m : Option Stamp) (queues : Queues) (p : Packet) (left : ℕ) (s : Settled) → Acts (visit_acts m queues p left s) ≡ 0
 unfolding visit_acts visit_sends
-visit_quiet m queues p v =
+visit_quiet m queues p left s =
+    let v = s.visit in
+    let handled = handled_acts p.family s.handled left in
+    let sent = sends_acts queues (map (packet_sending m) v.outbox) in
     omega (
       arith,
-      sum_append act_bound (map Noted v.notes) (Ended p.family v.outcome v.evals v.left ∷ sends_acts queues (map (packet_sending m) v.outbox)),
+      sum_append act_bound (map Noted v.notes) (Ended p.family v.outcome v.evals v.left ∷ (handled ++ sent)),
+      sum_append act_bound handled sent,
       notes_quiet v.notes,
+      handled_quiet p.family s.handled left,
       sends_quiet m queues v.outbox,
     )
 
 visited_quiet : (acts : List Act) (node : NodeState) (p : Packet) → Acts (visited acts node p).acts ≡ Acts acts
 unfolding visited
-visited_quiet acts node p = omega (arith, sum_append act_bound acts (visit_acts (mark node) node.queues p (visit_at node p)), visit_quiet (mark node) node.queues p (visit_at node p))
+visited_quiet acts node p = omega (arith, sum_append act_bound acts (visit_acts (mark node) node.queues p (visit_at node p).left (settled_at node p)), visit_quiet (mark node) node.queues p (visit_at node p).left (settled_at node p))
 
 inject_bound : (node : NodeState) (c : Chunk) (b : ℕ) (o : Option Name) → Acts (inject_step [] node c b o).acts ≤ b
 unfolding inject_step

@@ -20,7 +20,7 @@ use Rattle.network_plan.specs.declared.event.WorldEvent.{WorldEvent}
 use Rattle.network_plan.specs.declared.event.WorldEvent.TheVariants.{Inject, Send, Deliver, Repeat, Lose, Tick, Raw}
 use Rattle.spelled_frame.specs.Spelled.{what_of}
 use Rattle.node_model.specs.declared.acts.Act.{Act}
-use Rattle.node_model.specs.declared.acts.Act.TheVariants.{Injected, Arrived, Asked, Noted, Ended, Queued, Dropped, Bad, Misplaced, AdvertQueued, AdvertDropped, AdvertSpent, Stale, Heard, Ticked, Taken, SerialsSpent, NoMemory}
+use Rattle.node_model.specs.declared.acts.Act.TheVariants.{Injected, Arrived, Asked, Noted, Ended, Handled, Queued, Dropped, Bad, Misplaced, AdvertQueued, AdvertDropped, AdvertSpent, Stale, Heard, Ticked, Taken, SerialsSpent, NoMemory}
 use Rattle.node_model.specs.State.{NodeState}
 use Rattle.node_model.specs.Node.{Step, stepped, visited, next_serial, injected_packet, inject_step, stamped_step, arrive_step, tick_step, take_step}
 use Rattle.node_model.specs.Counts.{only, is_family, act_sum, act_injections}
@@ -65,6 +65,7 @@ act_of_one own h (Arrived d) k = omega arith
 act_of_one own h Asked k = omega arith
 act_of_one own h (Noted n) k = omega arith
 act_of_one own h (Ended g o evals rest) k = omega arith
+act_of_one own h (Handled g n bound) k = omega arith
 act_of_one own h (Queued d g bound) k = omega arith
 act_of_one own h (Dropped r g bound) k = omega arith
 act_of_one own h (Bad e) k = omega arith

@@ -12,7 +12,7 @@ use Rattle.bound_ledger.specs.Counts.{nothing, more, hopped, paid, quit}
 use Rattle.bound_ledger.specs.Rows.{FamilyRow, same_family, families_in, row_of, counts_of, changed, with_grant}
 use Rattle.bound_ledger.proofs.RowLaws.{same_is, same_self, counts_own, counts_other, counts_none, grant_own, grant_other, families_changed, families_granted, length_granted}
 use Rattle.spelled_frame.specs.declared.spelled.What.TheVariants as what
-use Rattle.node_model.specs.declared.acts.Act.TheVariants.{Injected, Arrived, Asked, Noted, Ended, Queued, Dropped, Bad, Misplaced, AdvertQueued, AdvertDropped, AdvertSpent, Stale, Heard, Ticked, Taken, SerialsSpent, NoMemory}
+use Rattle.node_model.specs.declared.acts.Act.TheVariants.{Injected, Arrived, Asked, Noted, Ended, Handled, Queued, Dropped, Bad, Misplaced, AdvertQueued, AdvertDropped, AdvertSpent, Stale, Heard, Ticked, Taken, SerialsSpent, NoMemory}
 use Rattle.node_model.specs.declared.acts.Act.{Act}
 use Rattle.node_model.specs.Counts.{is_family, only, act_hops, act_evals}
 use Rattle.world_model.specs.declared.lines.Line.{Line}
@@ -161,6 +161,7 @@ line_does_grant rows (At h (Arrived d)) = idle rows _ refl refl (λ f. refl)
 line_does_grant rows (At h Asked) = idle rows _ refl refl (λ f. refl)
 line_does_grant rows (At h (Noted n)) = idle rows _ refl refl (λ f. refl)
 line_does_grant rows (At h (Ended g o evals rest)) = idle rows _ refl refl (λ f. refl)
+line_does_grant rows (At h (Handled g n bound)) = idle rows _ refl refl (λ f. refl)
 line_does_grant rows (At h (Queued d g bound)) = idle rows _ refl refl (λ f. refl)
 line_does_grant rows (At h (Dropped r g bound)) = idle rows _ refl refl (λ f. refl)
 line_does_grant rows (At h (Bad e)) = idle rows _ refl refl (λ f. refl)
@@ -188,6 +189,7 @@ can_grant rows (At h (Arrived d)) few limit = tt
 can_grant rows (At h Asked) few limit = tt
 can_grant rows (At h (Noted n)) few limit = tt
 can_grant rows (At h (Ended g o evals rest)) few limit = tt
+can_grant rows (At h (Handled g n bound)) few limit = tt
 can_grant rows (At h (Queued d g bound)) few limit = tt
 can_grant rows (At h (Dropped r g bound)) few limit = tt
 can_grant rows (At h (Bad e)) few limit = tt
@@ -278,6 +280,7 @@ line_does_move late rows (At h (Injected g bound)) c = still_act late rows h _ r
 line_does_move late rows (At h (Arrived d)) c = still_act late rows h _ refl (λ f. refl) (λ f. refl) (λ f. refl)
 line_does_move late rows (At h Asked) c = still_act late rows h _ refl (λ f. refl) (λ f. refl) (λ f. refl)
 line_does_move late rows (At h (Noted n)) c = still_act late rows h _ refl (λ f. refl) (λ f. refl) (λ f. refl)
+line_does_move late rows (At h (Handled g n bound)) c = still_act late rows h _ refl (λ f. refl) (λ f. refl) (λ f. refl)
 line_does_move late rows (At h (Bad e)) c = still_act late rows h _ refl (λ f. refl) (λ f. refl) (λ f. refl)
 line_does_move late rows (At h Misplaced) c = still_act late rows h _ refl (λ f. refl) (λ f. refl) (λ f. refl)
 line_does_move late rows (At h (AdvertQueued d)) c = still_act late rows h _ refl (λ f. refl) (λ f. refl) (λ f. refl)
@@ -316,6 +319,7 @@ can_move late rows (At h (Injected g bound)) a = tt
 can_move late rows (At h (Arrived d)) a = tt
 can_move late rows (At h Asked) a = tt
 can_move late rows (At h (Noted n)) a = tt
+can_move late rows (At h (Handled g n bound)) a = tt
 can_move late rows (At h (Bad e)) a = tt
 can_move late rows (At h Misplaced) a = tt
 can_move late rows (At h (AdvertQueued d)) a = tt

@@ -9,7 +9,7 @@ use Rattle.bound_ledger.specs.Rows.{FamilyRow, families_in}
 use Rattle.network_plan.specs.Rules.{KeepsNetwork}
 use Rattle.network_plan.specs.declared.schedule.Topology.{Topology}
 use Rattle.network_plan.specs.declared.event.WorldEvent.{WorldEvent}
-use Rattle.node_model.specs.declared.acts.Act.TheVariants.{Injected, Arrived, Asked, Noted, Ended, Queued, Dropped, Bad, Misplaced, AdvertQueued, AdvertDropped, AdvertSpent, Stale, Heard, Ticked, Taken, SerialsSpent, NoMemory}
+use Rattle.node_model.specs.declared.acts.Act.TheVariants.{Injected, Arrived, Asked, Noted, Ended, Handled, Queued, Dropped, Bad, Misplaced, AdvertQueued, AdvertDropped, AdvertSpent, Stale, Heard, Ticked, Taken, SerialsSpent, NoMemory}
 use Rattle.node_model.specs.Counts.{is_family}
 use Rattle.world_model.specs.declared.lines.Line.{Line}
 use Rattle.world_model.specs.declared.lines.Line.TheVariants.{At, Forged, Wire, Off, Again, Lost, Nothing}
@@ -64,6 +64,7 @@ line_adds fs (At h (Arrived d)) = omega arith
 line_adds fs (At h Asked) = omega arith
 line_adds fs (At h (Noted n)) = omega arith
 line_adds fs (At h (Ended g o evals rest)) = omega arith
+line_adds fs (At h (Handled g n bound)) = omega arith
 line_adds fs (At h (Queued d g bound)) = omega arith
 line_adds fs (At h (Dropped r g bound)) = omega arith
 line_adds fs (At h (Bad e)) = omega arith

@@ -9,6 +9,7 @@ use Rattle.std.proofs.lemmas.List.Elements.{All-nil, All-cons, All-head, All-tai
 use Rattle.plan_base.specs.declared.ids.Host.{Host}
 use Rattle.plan_base.specs.declared.ids.Dev.{Dev}
 use Rattle.plan_base.specs.declared.name.Name.{Name}
+use Rattle.plan_base.specs.declared.ids.Family.{Family}
 use Rattle.plan_base.specs.declared.tree.Chunk.{Chunk}
 use Rattle.plan_base.specs.declared.tree.Packet.{Packet}
 use Rattle.plan_base.specs.declared.tree.Value.{Value}
@@ -37,13 +38,16 @@ use Rattle.world_routes.specs.Led.{IsLed}
 use Rattle.world_routes.proofs.Leading.{visit_led}
 use Rattle.world_routes.proofs.Moving.{led_moves}
 use Rattle.node_model.specs.declared.acts.Act.{Act}
-use Rattle.node_model.specs.declared.acts.Act.TheVariants.{Injected, Arrived, Noted, Ended, Misplaced, Stale, Heard, Ticked, SerialsSpent}
+use Rattle.node_model.specs.declared.acts.Act.TheVariants.{Injected, Arrived, Noted, Ended, Handled, Misplaced, Stale, Heard, Ticked, SerialsSpent}
 use Rattle.node_model.specs.declared.acts.Lane.{Lane}
 use Rattle.node_model.specs.declared.acts.Sending.{Sending}
 use Rattle.node_model.specs.State.{Links, Queues, NodeState, routing_of, is_host, neighbour_on, is_the_host, leads_to}
-use Rattle.node_model.specs.Visits.{around, evaluated, visit_end, visit_of, visit_at}
+use Rattle.settled_visit.specs.Settles.{handed, telling}
+use Rattle.settled_visit.proofs.Tellings.{Tells}
+use Rattle.settled_visit.proofs.Sends.{all_settled}
+use Rattle.node_model.specs.Visits.{around, evaluated, visit_end, visit_of, visit_at, settled_at}
 use Rattle.spelled_frame.specs.Spelled.{what_of, numbered}
-use Rattle.node_model.specs.Node.{Step, stepped, lane_room, queue_room, has_room, lane_with, queue_push, mark, drop_act, takes_as, stamped_as, stamped_step, send_act, send_queues, sends_acts, sends_queues, packet_sending, visit_sends, visit_acts, visited, next_serial, injected_packet, inject_step, only_acts, forward_by, forward_step, packet_step, hearing, advert_step, frame_step, next_tick, advert_sending, tick_sends, tick_step}
+use Rattle.node_model.specs.Node.{Step, stepped, lane_room, queue_room, has_room, lane_with, queue_push, mark, drop_act, takes_as, stamped_as, stamped_step, send_act, send_queues, sends_acts, sends_queues, packet_sending, visit_sends, handled_acts, visit_acts, visited, next_serial, injected_packet, inject_step, only_acts, forward_by, forward_step, packet_step, hearing, advert_step, frame_step, next_tick, advert_sending, tick_sends, tick_step}
 use Rattle.node_model.specs.Fits.{QueuesKeep}
 use Rattle.node_laws.proofs.Keeping.{Sends, send_keeps, sends_keep}
 use Rattle.world_routes.specs.Routes.{IsRoutedAct}
@@ -169,14 +173,26 @@ visit_is_led node p =
     (means.visited meaning p.chunk (begun allowance (around node p) p.family (begun_now node.services))).after
     (visit_led p.chunk (begun allowance (around node p) p.family (begun_now node.services)) refl)
 
+-- so is what the settled visit sends: a handler changes no way, and what tells the source goes over the next hop to it
+settled_is_led : (node : NodeState) (p : Packet) → All (IsLed node.here node.neighbours (all_routes (routing_of node))) (settled_at node p).visit.outbox
+settled_is_led node p =
+    let P : Sent → Type 0 = IsLed node.here node.neighbours (all_routes (routing_of node)) in
+    let v = visit_at node p in
+    all_settled P p (around node p) v (All-weaker P (λ s. P (handed p.handler s)) (λ s led. record { default = led.default; leads = led.leads }) v.outbox (visit_is_led node p)) (λ t k. tells_led t k)
+  where
+    tells_led : (t : Sent) → Tells p (around node p) (visit_at node p) t → IsLed node.here node.neighbours (all_routes (routing_of node)) t
+    tells_led t k =
+        let led : IsLed node.here node.neighbours (all_routes (routing_of node)) (telling p k.name k.text (visit_at node p).left t.dev) = record { default = refl; leads = inl (k.via, k.way) } in
+        subst (IsLed node.here node.neighbours (all_routes (routing_of node))) (sym k.is) led
+
 module _ (far : Wiring) where
-  visit_leaves : (node : NodeState) (p : Packet) → All (MayLeave far (routing_of node)) (visit_sends (mark node) (visit_at node p))
+  visit_leaves : (node : NodeState) (p : Packet) → All (MayLeave far (routing_of node)) (visit_sends (mark node) (settled_at node p).visit)
   unfolding visit_sends
   visit_leaves node p =
       let P : Sent → Type 0 = λ s. MayLeave far (routing_of node) (packet_sending (mark node) s) in
-      let outbox = (visit_at node p).outbox in
+      let outbox = (settled_at node p).visit.outbox in
       All-map (MayLeave far (routing_of node)) (packet_sending (mark node)) outbox
-      (All-weaker (IsLed node.here node.neighbours (all_routes (routing_of node))) P (λ s led. led_leaves far (routing_of node) (mark node) s led) outbox (visit_is_led node p))
+      (All-weaker (IsLed node.here node.neighbours (all_routes (routing_of node))) P (λ s led. led_leaves far (routing_of node) (mark node) s led) outbox (settled_is_led node p))
 
   tick_leaves : (node : NodeState) → All (MayLeave far (routing_of node)) (tick_sends node)
   unfolding tick_sends
@@ -196,21 +212,28 @@ module _ (far : Wiring) where
     two_acts : (a b : Act) → IsRoutedAct a → IsRoutedAct b → All IsRoutedAct (a ∷ b ∷ [])
     two_acts a b x y = All-cons IsRoutedAct a (b ∷ []) x (All-cons IsRoutedAct b [] y (All-nil IsRoutedAct))
 
-    visit_routed : (node : NodeState) (p : Packet) → All IsRoutedAct (visit_acts (mark node) node.queues p (visit_at node p))
+    handled_routed : (g : Family) (h : Option Name) (bound : ℕ) → All IsRoutedAct (handled_acts g h bound)
+    handled_routed g None bound = All-nil IsRoutedAct
+    handled_routed g (Some n) bound = All-cons IsRoutedAct (Handled g n bound) [] tt (All-nil IsRoutedAct)
+
+    visit_routed : (node : NodeState) (p : Packet) → All IsRoutedAct (visit_acts (mark node) node.queues p (visit_at node p).left (settled_at node p))
     unfolding visit_acts
     visit_routed node p =
-        let v = visit_at node p in
+        let s = settled_at node p in
+        let v = s.visit in
+        let handled = handled_acts p.family s.handled (visit_at node p).left in
         let sends = sends_acts node.queues (visit_sends (mark node) v) in
-        All-append IsRoutedAct (map Noted v.notes) (Ended p.family v.outcome v.evals v.left ∷ sends)
+        All-append IsRoutedAct (map Noted v.notes) (Ended p.family v.outcome v.evals v.left ∷ (handled ++ sends))
         (All-map IsRoutedAct Noted v.notes (λ k d lt. tt))
-        (All-cons IsRoutedAct (Ended p.family v.outcome v.evals v.left) sends tt (sends_routed far (routing_of node) node.queues (visit_sends (mark node) v) (visit_leaves node p)))
+        (All-cons IsRoutedAct (Ended p.family v.outcome v.evals v.left) (handled ++ sends) tt
+        (All-append IsRoutedAct handled sends (handled_routed p.family s.handled (visit_at node p).left) (sends_routed far (routing_of node) node.queues (visit_sends (mark node) v) (visit_leaves node p))))
 
     visited_keeps : (acts : List Act) (node : NodeState) (p : Packet) → All IsRoutedAct acts → QueuesKeep GoesDefault node.queues → StepKeeps far On node (visited acts node p)
     unfolding visited
     visited_keeps acts node p a q = record {
-      goes = λ w at on k. sends_go far (routing_of node) w at node.queues (visit_sends (mark node) (visit_at node p)) (visit_leaves node p) k;
-      queues = sends_default far (routing_of node) node.queues (visit_sends (mark node) (visit_at node p)) (visit_leaves node p) q;
-      acts = All-append IsRoutedAct acts (visit_acts (mark node) node.queues p (visit_at node p)) a (visit_routed node p);
+      goes = λ w at on k. sends_go far (routing_of node) w at node.queues (visit_sends (mark node) (settled_at node p).visit) (visit_leaves node p) k;
+      queues = sends_default far (routing_of node) node.queues (visit_sends (mark node) (settled_at node p).visit) (visit_leaves node p) q;
+      acts = All-append IsRoutedAct acts (visit_acts (mark node) node.queues p (visit_at node p).left (settled_at node p)) a (visit_routed node p);
     }
 
     inject_cases : (t : Bool) (node : NodeState) (chunk : Chunk) (bound : ℕ) (handler : Option Name) → QueuesKeep GoesDefault node.queues
