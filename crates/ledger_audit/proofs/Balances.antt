@@ -1,6 +1,6 @@
 -- The counts of a family over the entries of logs.
-use Rattle.std.proofs.Common.{◌≡◌, ℕ, ◌+◌, Bool, true, false, if◌then◌else◌, List, [], ◌∷◌, ◌++◌, map, Option, Some, None, refl, sym, ap, ◌∙◌, arith}
-use Rattle.std.specs.Prelude.{sum_by, Ok}
+use Rattle.std.proofs.Common.{◌≡◌, ℕ, ◌+◌, Bool, true, false, if◌then◌else◌, List, [], ◌∷◌, ◌++◌, Option, Some, None, refl, sym, ap, ◌∙◌, arith}
+use Rattle.std.specs.Prelude.{sum_by}
 use Rattle.std.specs.List.{AllByRecursion}
 use Rattle.std.proofs.lemmas.List.Sums.{sum_by-cons, sum_by-append}
 use Rattle.plan_base.specs.declared.ids.Dev.{Dev}
@@ -17,14 +17,14 @@ use Rattle.network_plan.specs.declared.event.LogEvent.TheVariants.{Step, Lost}
 use Rattle.node_model.specs.declared.acts.Act.{Act}
 use Rattle.node_model.specs.State.{NodeState, no_queues}
 use Rattle.node_model.specs.Node.{node_step}
-use Rattle.node_model.specs.Counts.{act_sum, act_granted, act_hops, act_evals, act_left, node_live, frame_live, taken_sum, if_fresh, bytes_came, came, StepBalances, queues_sum, queue_sum}
+use Rattle.node_model.specs.Counts.{act_sum, act_granted, act_hops, act_evals, act_left, node_live, frame_live, taken_sum, if_fresh, bytes_came, came, queues_sum, queue_sum}
 use Rattle.node_laws.proofs.NodeBalance.{step_balances}
-use Rattle.node_laws.proofs.CountLaws.{act_sum-nil, act_sum-cons, act_sum-append}
+use Rattle.node_laws.proofs.CountLaws.{act_sum-append}
 use Rattle.serve_model.specs.Runs.{acts_of, node_by, node_after}
 use Rattle.world_model.specs.World.{Cables}
-use Rattle.ledger_audit.specs.Crossings.{Crossing, Arrival, crossings, AtMost, less_each}
+use Rattle.ledger_audit.specs.Crossings.{Crossing, Arrival, crossings, AtMost}
 use Rattle.ledger_audit.specs.Runs.{is_accepted, accepts, sends_frame, sends, numbered, accepted_in, sent_in, acts_in, crossing_to, crossing_from}
-use Rattle.ledger_audit.specs.Audits.{Logged, all_accepted, all_sent, read_live, crossing_live, granted, hops, evals, left, queued, on_the_way, AddsUp}
+use Rattle.ledger_audit.specs.Audits.{Logged, all_accepted, all_sent, read_live, crossing_live, granted, hops, evals, left, queued, AddsUp}
 use Rattle.ledger_audit.specs.Spelling.{Begins, FrameReads, BytesCome, EntryReads, EntriesRead, ReadsAgain}
 use Rattle.ledger_audit.proofs.Multisets.{parted_sum}
 use Rattle.ledger_audit.proofs.Refusals.{refused_came, IsTaken, accepted_taken, none_event}

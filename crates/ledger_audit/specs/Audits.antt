@@ -1,5 +1,5 @@
 -- What the audit of logs answers, and the counts of a family over them.
-use Rattle.std.specs.Prelude.{◌≡◌, ℕ, ◌+◌, List, [], ◌∷◌, ◌++◌, sum_by, codes, nat_eq, Option, Some, None, Result, Ok, Err, if◌then◌else◌}
+use Rattle.std.specs.Prelude.{◌≡◌, ℕ, ◌+◌, List, [], ◌∷◌, ◌++◌, sum_by, codes, nat_eq, Option, Result, Ok, Err, if◌then◌else◌}
 use Rattle.std.specs.List.{starts_with}
 use Rattle.plan_base.specs.declared.ids.Family.{Family}
 use Rattle.link_window.specs.declared.window.Version.{Version}

@@ -1,7 +1,5 @@
 -- Logs from their beginning whose frames are read again.
 use Rattle.std.specs.Prelude.{◌≡◌, ℕ, List, [], ◌∷◌, Option, Some, None, Ok}
-use Rattle.std.specs.List.{AllByRecursion}
-use Rattle.plan_base.specs.declared.ids.Family.{Family}
 use Rattle.wire_bytes.specs.Fields.{IsBytes}
 use Rattle.packet_frame.specs.declared.frame.PlainStamped.{PlainStamped}
 use Rattle.packet_frame.specs.Stamped.{stamped_bytes}

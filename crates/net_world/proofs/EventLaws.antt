@@ -120,7 +120,7 @@ module _ {S : Type 0} (stands : S → ServiceState) where
 
     some_taken : (at : ℕ) (to : LinkEnd) (step : Step) (o : Option PlainStamped) (x : PlainStamped) → o ≡ Some x → send_taken w host d at to step o ≡ record {
       lines = lines_at host step.acts ++ Wire w.«next» (stamped_bytes x) ∷ [];
-      network = record {
+      world = record {
         nodes = slice_set w.nodes at step.node;
         links = w.links;
         wire = w.wire ++ record { number = w.«next»; from = record { host = host; dev = d }; to = to; frame = x; handed = false } ∷ [];

@@ -119,6 +119,10 @@ pub if_ok : {T E : Type 0} (P Q : T → Type 0) (r : Result T E) → ((x : T) �
 if_ok P Q (Ok x) f h = f x h
 if_ok P Q (Err e) f h = h
 
+-- an event that fits a network fits each state of its version
+pub fits_there : {S : Type 0} (w : WorldState) (e : WorldEvent) (n : Network S) → w.version ≡ n.version → event_fits n.version e → event_fits w.version e
+fits_there w e n v f = subst (λ u. event_fits u e) (sym v) f
+
 module _ {S : Type 0} (stands : S → ServiceState) where
   -- the state at a place of a node
   record Found (n : Node S) (states : List NodeState) (at : ℕ) : Type 0 where
@@ -205,10 +209,6 @@ module _ {S : Type 0} (stands : S → ServiceState) where
     where
       some_state : (x y : NodeState) → Some x ≡ Some y → x ≡ y
       some_state x y q = cc
-
-  -- an event that fits a network fits each state of its version
-  pub fits_there : (w : WorldState) (e : WorldEvent) (n : Network S) → w.version ≡ n.version → event_fits n.version e → event_fits w.version e
-  fits_there w e n v f = subst (λ u. event_fits u e) (sym v) f
 
   -- what may be named in a network may be named at each of its nodes
   pub named_there : (n : Network S) (w : WorldState) (chunk : Chunk) (handler : Option Name) → WorldStands stands n w → MayName n.version chunk handler → (at : ℕ) → MayNameAt w.nodes at chunk handler

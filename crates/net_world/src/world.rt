@@ -45,7 +45,8 @@ impl<S: Services> Model for World<S> {
 
 impl<S: Services + Drop> World<S> {
     /// The network of a topology: every node has serial 1, no rows and nothing queued, nothing is on the wire, and
-    /// under version 2 every node began at moment 1 and numbers its frames from 1. `services`: one for each host, in the order of hosts. Condition: the topology keeps its rules.
+    /// under version 2 every node began at moment 1 and numbers its frames from 1. `services`: one for each host, in
+    /// the order of hosts. Condition: the topology keeps its rules.
     pub fn new(alloc: Global, topology: &Topology, services: Items<S>) -> Result<World<S>, NoMemory>
         requires rules { KeepsNetwork topology.now }
         requires services { map S.stands services ≡ map spec.opening_services topology.now.hosts }

@@ -3,7 +3,6 @@ use Rattle.std.proofs.Common.{ℕ, ◌≤◌, List, [], ◌∷◌, ◌++◌, len
 use Rattle.std.specs.Int.{w32, w64, to_be_bytes}
 use Rattle.wire_bytes.specs.Fields.{IsBytes}
 use Rattle.plan_base.specs.declared.name.Name.{Name}
-use Rattle.plan_base.specs.declared.tree.Packet.{Packet}
 use Rattle.link_window.specs.declared.window.Stamp.{Stamp}
 use Rattle.link_window.specs.declared.window.Version.{Version}
 use Rattle.network_plan.specs.Rules.{MayArrive}

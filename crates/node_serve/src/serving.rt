@@ -119,7 +119,6 @@ fn injects_again(alloc: Global, at: &[Inject]) -> Result<Injects, NoMemory>
 }
 
 /// This configuration with another moment at which the node begins. Conditions: it keeps the rules, and is of version 2.
-#[tactic(auto, using(crate::proofs::Moments::booted_keeps))]
 fn booted(alloc: Global, cfg: &ServeConfig, boot: u64) -> Result<ServeConfig, NoMemory>
     requires keeps { KeepsServe cfg.now }
     requires two { cfg.now.node.version ≡ version.Two }

@@ -1,6 +1,6 @@
 -- Steps of a node whose packets carry known chunks.
-use Rattle.std.proofs.Common.{◌≡◌, ℕ, ◌+◌, ◌-◌, Bool, true, false, cond, if◌then◌else◌, List, [], ◌∷◌, ◌++◌, map, Option, Some, None, refl, sym, ap, ◌∙◌, arith}
-use Rattle.std.specs.Prelude.{◌==◌, slice_get, slice_set, All}
+use Rattle.std.proofs.Common.{◌≡◌, ℕ, Bool, true, false, cond, if◌then◌else◌, List, [], ◌∷◌, ◌++◌, map, Option, Some, None, refl}
+use Rattle.std.specs.Prelude.{◌==◌, slice_get, All}
 use Rattle.std.specs.List.{AllByRecursion}
 use Rattle.std.proofs.lemmas.List.Elements.{All-nil, All-cons}
 use Rattle.plan_base.specs.declared.ids.Dev.{Dev}
@@ -25,15 +25,13 @@ use Rattle.dv_routing.specs.Routing.{all_routes, own_advert}
 use Rattle.plan_meaning.specs.declared.sent.Sent.{Sent}
 use Rattle.plan_meaning.specs.declared.stop.Stop.TheVariants as stop
 use Rattle.plan_meaning.specs.declared.outcome.Visit.{Visit}
-use Rattle.plan_meaning.specs.State.{VisitState}
 use Rattle.plan_meaning.specs.Run.{After, gave, stopped}
 use Rattle.plan_meaning.specs.Visit.{allowance, begun}
 use Rattle.node_model.specs.declared.acts.Act.{Act}
-use Rattle.node_model.specs.declared.acts.Act.TheVariants.{Arrived, Noted, Ended, Dropped, Injected, SerialsSpent, Heard, Misplaced, Ticked, Taken}
+use Rattle.node_model.specs.declared.acts.Act.TheVariants.{Arrived, Noted, Ended, Dropped, Injected, SerialsSpent, Heard, Misplaced}
 use Rattle.node_model.specs.declared.acts.Reason.TheVariants as reason
 use Rattle.node_model.specs.declared.acts.Sending.{Sending}
 use Rattle.node_model.specs.declared.acts.Lane.{Lane}
-use Rattle.plan_base.specs.declared.ids.Host.{Host}
 use Rattle.node_model.specs.State.{Links, Queues, NodeState, routing_of, is_host, leads_to}
 use Rattle.settled_visit.specs.declared.settling.Settled.{Settled}
 use Rattle.settled_visit.specs.Settles.{handed, telling_by, with_telling, settled}
@@ -41,9 +39,9 @@ use Rattle.node_model.specs.Visits.{evaluated, visit_end, visit_of, services_end
 use Rattle.node_model.specs.Node.{Step, send_act, send_queues, sends_acts, sends_queues, has_room, packet_sending, visit_sends, handled_acts, visit_acts, visited, inject_step, next_serial, injected_packet, forward_by, forward_step, packet_step, advert_step, frame_step, drop_act, lane_room, mark, takes_as, stamped_as, stamped_step, tick_step, ticking, tick_sends, advert_sending, take_step, take_first, take_from, only_acts, onward, hearing}
 use Rattle.node_model.specs.Fits.{QueuesKeep}
 use Rattle.node_laws.proofs.Keeping.{Whatever, send_keeps, sends_keep, took}
-use Rattle.port_visits.specs.Only.{Allowed, MaySend, Good}
+use Rattle.port_visits.specs.Only.{Allowed, MaySend}
 use Rattle.port_visits.specs.Visits.{EndsGood}
-use Rattle.port_node.specs.Known.{IsClosed, FrameKnown, StampedKnown, NodeKnown, ActKnown, TakenKnown, StepKnown}
+use Rattle.port_node.specs.Known.{IsClosed, FrameKnown, StampedKnown, NodeKnown, ActKnown, StepKnown}
 
 pub all_append : {X : Type 0} (P : X → Type 0) (xs ys : List X) → AllByRecursion P xs → AllByRecursion P ys → AllByRecursion P (xs ++ ys)
 all_append P [] ys h k = k
@@ -164,12 +162,9 @@ module _ (a : Allowed) (closed : IsClosed a) where
   unfolding inject_step
   inject_known node c b o k n = by (node.serial == 18446744073709551615)
     where
-      abbrev grant : Act
-      grant = Injected (record { source = node.here; serial = node.serial }) b
-
-      by : (t : Bool) → StepKnown a (cond t (record { acts = SerialsSpent ∷ []; frame = None; node = node }) (visited (grant ∷ []) (next_serial node) (injected_packet node c b o)))
+      by : (t : Bool) → StepKnown a (cond t (record { acts = SerialsSpent ∷ []; frame = None; node = node }) (visited (Injected (record { source = node.here; serial = node.serial }) b ∷ []) (next_serial node) (injected_packet node c b o)))
       by true = record { node = n; acts = (tt, tt); frame = tt }
-      by false = visited_known (grant ∷ []) (next_serial node) (injected_packet node c b o) (tt, tt) k (record { queues = n.queues; offer = n.offer })
+      by false = visited_known (Injected (record { source = node.here; serial = node.serial }) b ∷ []) (next_serial node) (injected_packet node c b o) (tt, tt) k (record { queues = n.queues; offer = n.offer })
 
   by_known : (node : NodeState) (d : Dev) (p : Packet) (h : Hop) → a.chunk p.chunk × (p.handler ≡ None) → NodeKnown a node → StepKnown a (forward_by node d p h)
   unfolding forward_by

@@ -1,9 +1,9 @@
 -- A network at its beginning carries nothing.
-use Rattle.std.proofs.Common.{◌≡◌, ℕ, List, [], ◌∷◌, map, refl, sym, ap, ◌∙◌}
+use Rattle.std.proofs.Common.{List, [], ◌∷◌, map, ap}
 use Rattle.std.specs.List.{AllByRecursion}
 use Rattle.network_plan.specs.declared.schedule.Topology.{Topology}
 use Rattle.network_plan.specs.declared.schedule.HostSpec.{HostSpec}
-use Rattle.node_model.specs.State.{NodeState, new_node}
+use Rattle.node_model.specs.State.{new_node}
 use Rattle.node_laws.proofs.Keeping.{none_kept}
 use Rattle.service_meaning.specs.Beginning.{present_without}
 use Rattle.service_meaning.specs.Serving.{offer}

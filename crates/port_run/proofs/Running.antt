@@ -1,38 +1,34 @@
 -- The ends and the network keep together.
-use Rattle.std.proofs.Common.{◌≡◌, ℕ, zero, suc, ◌+◌, ◌-◌, ◌≤◌, Bool, true, false, cond, if◌then◌else◌, List, [], ◌∷◌, ◌++◌, length, Option, Some, None, refl, sym, ap, subst, ◌∙◌, arith, length-append}
-use Rattle.std.specs.Prelude.{◌==◌, nat_lt, pos, ℤ, slice_get, All, IfSome}
+use Rattle.std.proofs.Common.{◌≡◌, ℕ, zero, suc, ◌≤◌, Bool, true, false, cond, List, [], ◌∷◌, ◌++◌, length, Option, Some, None, refl, sym, ap, subst, ◌∙◌, arith, length-append}
+use Rattle.std.specs.Prelude.{◌==◌, nat_lt, pos, ℤ}
 use Rattle.std.specs.List.{AllByRecursion}
 use Rattle.plan_base.specs.declared.ids.Host.{Host}
 use Rattle.plan_base.specs.declared.tree.Chunk.{Chunk}
-use Rattle.plan_base.specs.declared.tree.Value.{Value, out-Value}
+use Rattle.plan_base.specs.declared.tree.Value.{out-Value}
 use Rattle.plan_base.specs.declared.tree.Value.TheVariants as value
 use Rattle.packet_frame.specs.declared.frame.PlainFrame.{PlainFrame}
 use Rattle.service_api.specs.declared.answer.Note.{Note}
-use Rattle.service_api.specs.declared.answer.Note.TheVariants.{Port, Print}
+use Rattle.service_api.specs.declared.answer.Note.TheVariants.{Port}
 use Rattle.service_api.specs.declared.answer.Answer.{Answer}
 use Rattle.service_api.specs.declared.answer.Answer.TheVariants.{Gives, Raises}
 use Rattle.service_api.specs.Services.{Offer as Offering}
 use Rattle.network_plan.specs.declared.event.WorldEvent.{WorldEvent}
 use Rattle.network_plan.specs.declared.event.WorldEvent.TheVariants as event
-use Rattle.plan_meaning.specs.State.{VisitState}
-use Rattle.node_model.specs.declared.acts.Act.{Act}
 use Rattle.node_model.specs.declared.acts.Act.TheVariants as act
 use Rattle.node_model.specs.State.{NodeState}
-use Rattle.node_model.specs.Fits.{QueuesKeep}
 use Rattle.world_model.specs.declared.lines.Line.{Line}
 use Rattle.world_model.specs.declared.lines.Line.TheVariants as line
 use Rattle.world_model.specs.declared.lines.Wired.{Wired}
-use Rattle.world_model.specs.World.{WorldState, EventResult, happens}
-use Rattle.reliable_ports.specs.Ends.{Body, number_of, Sending, Receiving, is_full, with_offer, held_at, with_ack, next_of, with_message}
+use Rattle.world_model.specs.World.{WorldState, happens}
+use Rattle.reliable_ports.specs.Ends.{Body, number_of, Receiving, is_full, with_offer, held_at, next_of, with_message}
 use Rattle.reliable_ports.proofs.Slots.{get_more}
 use Rattle.reliable_ports.proofs.Steps.{message, Receives, Sends, receives_more, receives_message, delivers_on, sends_more, held_message, sends_ack}
-use Rattle.port_tree.specs.Programs.{data_chunk, ack_chunk, this_host_is, get_rb, deliver}
-use Rattle.port_visits.specs.Only.{Allowed, Good, AnswerFits, Serves}
+use Rattle.port_visits.specs.Only.{Allowed, AnswerFits}
 use Rattle.port_visits.specs.Visits.{VisitIsGood, Any}
 use Rattle.port_visits.proofs.Closed.{data_closed, ack_closed}
 use Rattle.port_node.specs.Known.{IsClosed, FrameKnown, StampedKnown, NodeKnown, WorldKnown, LineKnown, EventKnown, ComesKnown}
 use Rattle.port_node.proofs.Worlds.{event_known}
-use Rattle.port_run.specs.Ports.{PortState, PortEvent, Offer, Transmit, Wire, first_host, second_host, price, int_in, blob_in, pair_with, pair_of, pair_in, said_to, heard_by, acked_by, makes, first_pays, second_pays, ack_event, message_event, acks, hears_message, hears_ack, hears_note, hears_line, hears, after, offers_one, transmits, happens_at, port_run, port_begun}
+use Rattle.port_run.specs.Ports.{PortState, PortEvent, Offer, Transmit, Wire, first_host, second_host, price, int_in, blob_in, pair_with, pair_in, said_to, heard_by, makes, first_pays, second_pays, ack_event, message_event, acks, hears_message, hears_ack, hears_note, hears_line, hears, after, offers_one, transmits, happens_at, port_run, port_begun}
 use Rattle.port_run.specs.Allowed.{numbered, PortChunk, PortNote, port_allowed, NoNote, PortServes, IsWire}
 
 -- ---- what is allowed grows

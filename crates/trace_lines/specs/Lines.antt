@@ -84,9 +84,13 @@ paid_text evals rest = codes " evals " ++ (decimal evals ++ (codes " left " ++ d
 abbrev pub end_text : Family → List ℕ → ℕ → ℕ → List ℕ
 end_text f how evals rest = codes " " ++ (family_text f ++ (codes " " ++ (how ++ paid_text evals rest)))
 
+-- a name with the bound that is told to it
+abbrev pub told_text : List ℕ → ℕ → List ℕ
+told_text n bound = n ++ (codes " bound " ++ decimal bound)
+
 -- a handler that is called, with the bound that it has
 abbrev pub called_text : Family → List ℕ → ℕ → List ℕ
-called_text f n bound = codes " " ++ (family_text f ++ (codes " " ++ (n ++ (codes " bound " ++ decimal bound))))
+called_text f n bound = codes " " ++ (family_text f ++ (codes " " ++ told_text n bound))
 
 abbrev pub what_text : What → List ℕ
 what_text (what.Packet f) = family_text f

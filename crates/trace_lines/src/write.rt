@@ -72,6 +72,15 @@ fn put_spent(alloc: Global, out: &mut Bytes, f: Family, left: u32) -> Result<(),
     put_number(alloc, out, u64::from(left))
 }
 
+/// A name with the bound that is told to it.
+fn put_told(alloc: Global, out: &mut Bytes, name: &[u8], bound: u32) -> Result<(), NoMemory>
+    ensures { OnOk result (out.new ≡ out.old ++ spec.told_text name.now bound) }
+{
+    out.add_all(name)?;
+    out.add_all(b" bound ")?;
+    put_number(alloc, out, u64::from(bound))
+}
+
 /// A handler that is called, with the bound that it has.
 fn put_called(
     alloc: Global,
@@ -85,9 +94,7 @@ fn put_called(
     out.add_all(b" ")?;
     put_family(alloc, out, f)?;
     out.add_all(b" ")?;
-    out.add_all(name)?;
-    out.add_all(b" bound ")?;
-    put_number(alloc, out, u64::from(bound))
+    put_told(alloc, out, name, bound)
 }
 
 /// The word of a reason.

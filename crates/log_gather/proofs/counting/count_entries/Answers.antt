@@ -1,4 +1,4 @@
-use Rattle.std.proofs.Common.{take, refl, sym, ap, ◌∙◌, subst, arith}
+use Rattle.std.proofs.Common.{take, refl, sym, ◌∙◌, subst, arith}
 use Rattle.std.proofs.lemmas.List.Elements.{All-get_or}
 use Rattle.network_plan.specs.NodeRules.{KeepsEntry}
 use Rattle.node_core.specs.Stands.{version_of}

@@ -1,6 +1,4 @@
-use Rattle.std.proofs.Common.{◌∙◌, ◌+◌, ◌++◌, sym, ap, subst}
-use Rattle.std.specs.Prelude.{map}
-use Rattle.world_model.specs.World.{entry_at}
+use Rattle.std.proofs.Common.{◌∙◌, ◌+◌, ◌++◌, ap, subst}
 use Rattle.world_model.specs.Texts.{entries_text}
 use Rattle.world_model.specs.Counts.{late_in}
 use Rattle.run_ledger.specs.Stands.{Stands}

@@ -1,4 +1,4 @@
-use Rattle.std.proofs.Common.{[], sym, ap, ◌∙◌, subst}
+use Rattle.std.proofs.Common.{[], sym, ◌∙◌, subst}
 use Rattle.node_io.specs.Sinks.{Writes, FailsIn}
 use Rattle.run_ledger.specs.Stands.{Stands}
 use Rattle.run_ledger.proofs.LineLaws.{nothing_stands}

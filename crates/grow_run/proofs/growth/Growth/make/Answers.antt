@@ -1,4 +1,4 @@
-use Rattle.std.proofs.Common.{◌∙◌, ◌+◌, ◌++◌, refl, sym, ap, subst}
+use Rattle.std.proofs.Common.{◌∙◌, ◌+◌, ◌++◌, refl, ap, subst}
 use Rattle.world_model.specs.Counts.{late_in}
 use Rattle.run_ledger.specs.Stands.{Stands}
 use Rattle.grow_run.specs.Summaries.{summary_of}

@@ -1,9 +1,24 @@
+use Rattle.std.proofs.Common.{sym, subst}
 use Rattle.network_laws.proofs.Balance.{event_balances}
 use Rattle.network_laws.proofs.Fitting.{event_sound}
 use Rattle.network_laws.proofs.Visits.{event_ends}
 use Rattle.world_routes.proofs.Reaching.{event_keeps_routes}
+use Rattle.world_model.specs.World.{acted}
+use Rattle.net_world.specs.Stands.{WorldStands}
 use Rattle.net_world.proofs.StandLaws.{fits_there}
 use Rattle.net_world.proofs.world.World.step.Goals as goal
+
+pub returns-clause-ok : goal.returns-clause-ok
+returns-clause-ok g c = λ w h.
+    let here = subst (λ n. WorldStands g.S.Services.stands n w) (sym c.self.view_is) h in
+    let done = c.in_ok-lines.ensures.ok w here in
+    record {
+      list = done.list;
+      world = record {
+        is = c.count.ensures.stands (acted w c.args.event.now).world done.network;
+        sound = event_sound w c.args.event.now (fits_there w c.args.event.now c.args.self.now (sym h.is.version) c.requires.fits) h.sound;
+      };
+    }
 
 pub returns-in_err-lines-clause-balance : goal.returns-in_err-lines-clause-balance
 returns-in_err-lines-clause-balance g c = λ f w s. event_balances f w c.args.event.now s
