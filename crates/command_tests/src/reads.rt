@@ -5,8 +5,8 @@ use crate::fleets::{REPORTED, starts};
 use crate::objects::{Failing, NONE, Task};
 use crate::requests::{SENT, asks};
 use crate::rows::{
-    FLEET, FRAME, LOG, MESSAGE, PART_HELD, PART_LOG, PARTED, PROGRAM, REQUEST, RUN, SCHEDULE, SHOWN,
-    SIZES, TRACE,
+    FLEET, FRAME, LOG, MESSAGE, PART_HELD, PART_LOG, PARTED, PROGRAM, REQUEST, RUN, SCHEDULE,
+    SHOWN, SIZES, TRACE,
 };
 use std::alloc::Global;
 use std::process::Abort;

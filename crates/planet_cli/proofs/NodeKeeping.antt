@@ -23,7 +23,7 @@ use Rattle.network_plan.specs.Hosts.{is_listed}
 use Rattle.network_plan.specs.NodeRules.{KeepsNodeEvent, KeepsEntry, KeepsLog}
 use Rattle.node_files.proofs.LogLaws.{log_rules}
 use Rattle.node_io.specs.FileStates.{FilesState}
-use Rattle.node_model.specs.State.{NodeState}
+use Rattle.node_model.specs.State.{NodeState, new_node}
 use Rattle.node_model.specs.Fits.{NodeFits, comes_fit}
 use Rattle.node_model.specs.declared.acts.Act.{Act}
 use Rattle.node_model.specs.declared.acts.Act.TheVariants.{Injected, Asked, SerialsSpent}
@@ -136,6 +136,7 @@ begins l keeps =
     new_node_fits l.node (opening_standing (present_without l.missing)) (listed_small l.node.here l.node.hosts keeps.node.here keeps.node.numbers) (subst (λ n. n < 2 ^ 64) (sym keeps.serial) (omega arith)) (may_begin l.node keeps.node) (services_fit (record { host = l.node.here; missing = l.missing }))
 
 run_keeps : (l : Log) → KeepsLog l → KeepsNodeRun (log_node l) l.events
+unfolding new_node
 run_keeps l keeps = record {
   fits = λ k. (at k).fits;
   balance = λ k e f is. step_balances f (node_at (log_node l) l.events k) e;
