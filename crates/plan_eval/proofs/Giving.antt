@@ -1,8 +1,7 @@
 -- A value that a frame is given, by what is decided for it.
-use Rattle.std.proofs.Common.{◌≡◌, ℕ, ◌+◌, drop, slice_get, List, [], ◌∷◌, ◌++◌, Some, IsSome, Result}
+use Rattle.std.proofs.Common.{◌≡◌, ℕ, ◌+◌, drop, List, [], ◌∷◌, ◌++◌, Result}
 use Rattle.plan_base.specs.declared.name.Name.{Name}
 use Rattle.plan_base.specs.declared.tree.Expr.{Expr, Expr-F, out-Expr}
-use Rattle.plan_base.specs.declared.tree.Fun.{Fun}
 use Rattle.plan_base.specs.declared.tree.Program.{Program}
 use Rattle.plan_base.specs.declared.tree.Value.{Value}
 use Rattle.plan_base.specs.Trees.{ExprLayer}
@@ -13,17 +12,14 @@ use Rattle.plan_meaning.specs.State.{VisitState, Own, joined}
 use Rattle.plan_meaning.specs.Run.{gave, quiet, weighed}
 use Rattle.plan_meaning.specs.Safe.{IsSafe}
 use Rattle.plan_eval.specs.declared.stack_frame.StackFrame.TheVariants as frame
-use Rattle.plan_eval.specs.declared.stack_frame.Activation.{Activation}
 use Rattle.plan_eval.specs.declared.next.Next.{Next}
-use Rattle.plan_eval.specs.Stack.{Spot, resume, spot_in}
+use Rattle.plan_eval.specs.Stack.{Spot, resume}
 use Rattle.plan_eval.specs.Leads.{Leads}
 use Rattle.plan_eval.specs.Nexts.{Decides, part_gave, fold_on, call_of, RemoteIsSafe, NeighbourIsSafe}
-use Rattle.plan_eval.specs.Turns.{IsAt, spot_at}
 use Rattle.plan_eval.proofs.Leading.{given_on}
 use Rattle.plan_eval.proofs.Delivering.{part_given, item_given}
 use Rattle.plan_eval.proofs.Deciding.{last_of_call}
 use Rattle.plan_eval.proofs.Gathering.{carries_from}
-use Rattle.plan_eval.proofs.Naming.{stands_at}
 
 -- a form without parts, or a `try`
 abbrev pub IsLeaf : ExprLayer → Type 0
@@ -69,16 +65,6 @@ pub by_item : (code : Program) (seen : ℕ) (at : Spot) (left : List Value) (v :
 by_item code seen at left v s r t h = carries_from code seen at _ _ r t (item_given code seen at s left v) h
 
 -- ---- what a part that gave a value lets its expression do
-
--- where the frame's evaluation is safe, so is the expression's
-pub safe_part : (codes : List Program) (a : Activation) (code : Program) (g : Fun) (e : Expr) (n : ℕ) (held : List Value) (v : Value) (s : VisitState)
-    → IsAt codes a code g e → IsSome (spot_in codes a)
-    → ((c : Program) (at : Spot) → slice_get codes a.code ≡ Some c → spot_in codes a ≡ Some at → IsSafe (resume c a.fun at (frame.Part n held) (quiet (gave v s))).asks)
-    → (env : Env) × IsSafe (part_gave code a.fun (record { expr = e; env = env }) n held v s).asks
-safe_part codes a code g e n held v s here linked safe =
-    let stands = stands_at codes a code g e here linked in
-    let at = spot_at g a.frames stands.0 e in
-    (at.env, (part_given code a.fun at s (out-Expr e) n held v).safe (safe code at here.program stands.2))
 
 module _ (code : Program) (seen : ℕ) (e : Expr) (n : ℕ) (held : List Value) (v : Value) (o : Own) (t : ServiceState)
     (safe : (env : Env) × IsSafe (part_gave code seen (record { expr = e; env = env }) n held v (joined o t)).asks) where

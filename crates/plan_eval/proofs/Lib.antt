@@ -22,3 +22,4 @@ mod Waiting
 mod Backs
 mod Diving
 mod Hot
+mod Counted

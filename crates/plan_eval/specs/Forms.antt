@@ -52,3 +52,10 @@ IsKind l (kind.Calls f) = l ≡ Expr-F.Call f.now []
 IsKind l (kind.Packs f) = l ≡ Expr-F.ChunkOf f.now []
 IsKind l kind.Untyped = l ≡ Expr-F.Nil None
 IsKind l kind.Opens = HasParts l
+
+-- a form whose parts are all evaluated first, in order
+abbrev pub IsRow : ExprLayer → Type 0
+IsRow (Expr-F.Tuple es) = Unit {0}
+IsRow (Expr-F.Call f es) = Unit {0}
+IsRow (Expr-F.ChunkOf f es) = Unit {0}
+IsRow _ = ⊥

@@ -1,5 +1,5 @@
 -- What an open expression does next, and that it leads on.
-use Rattle.std.specs.Prelude.{◌≡◌, ℕ, ℤ, List, slice_get, Option, Some, None, IsSome, Result, Ok, Err}
+use Rattle.std.specs.Prelude.{◌≡◌, ℕ, ℤ, List, slice_get, Option, Some, None, Result}
 use Rattle.plan_base.specs.declared.name.Name.{Name}
 use Rattle.plan_base.specs.declared.ids.Host.{Host}
 use Rattle.plan_base.specs.declared.ids.Dev.{Dev}
@@ -87,15 +87,3 @@ pub record Enters (code : Program) (fun : ℕ) (args : List Value) : Type 0 wher
   pub env : Env
   pub has : slice_get code.funs fun ≡ Some function
   pub binds : bound function.params args ≡ Some env
-
--- what was decided can be done at a spot
-abbrev pub CanDo : Program → Spot → Next → Type 0
-CanDo code at (next.Give v) = Unit {0}
-CanDo code at (next.Open f) = IsSome (deeper at f)
-CanDo code at (next.Call fun args) = Enters code fun args
-CanDo code at (next.Step fun args left) = Enters code fun args
-CanDo code at (next.Visit k) = Unit {0}
-
-abbrev pub IsDone : Program → Spot → Result Next Stop → Type 0
-IsDone code at (Ok n) = CanDo code at n
-IsDone code at (Err e) = Unit {0}

@@ -83,6 +83,25 @@ pub fn last_back(
     }
 }
 
+/// What sees a value under a name came so far.
+pub fn bound_back(
+    alloc: Global,
+    v: Value,
+    flow: Result<Flow, Stop>,
+    state: &mut State,
+) -> Result<Flow, Stop>
+    ensures flows { (codes : List Code) (code : Code) (seen : ℕ) (at inner : Spot) (c : Step AValue) (m : ServiceState) → deeper at (frame.Bound v) ≡ Some inner
+        → Flows codes code seen inner c flow (joined state.old m)
+        → Flows codes code seen at (resume code seen at (frame.Bound v) c) result (joined state.new m) }
+    ensures lasts { (depth old : ℕ) → Spends depth old flow state.old.work → Lasts 3 old result state.new.work }
+{
+    match flow {
+        Ok(Flow::Done(value)) => ended(alloc, value, state),
+        Ok(Flow::Wait(rest)) => Ok(inside(alloc, rest, StackFrame::Bound(v))?),
+        Err(stop) => Err(stop),
+    }
+}
+
 /// A function that was called came so far.
 pub fn called_back(alloc: Global, flow: Result<Flow, Stop>) -> Result<Turn, Stop>
     ensures advances { (codes : List Code) (code : Code) (seen : ℕ) (at : Spot) (c : Step AValue) (s : VisitState) → Enters codes c flow s
@@ -105,6 +124,19 @@ pub fn body_back(alloc: Global, flow: Result<Flow, Stop>, state: &mut State) -> 
     match flow {
         Ok(Flow::Done(v)) => ended(alloc, v, state),
         Ok(Flow::Wait(rest)) => Ok(inside(alloc, rest, StackFrame::Body)?),
+        Err(stop) => Err(stop),
+    }
+}
+
+/// The chunk of an `eval` of this program came so far.
+pub fn chunk_back(alloc: Global, flow: Result<Flow, Stop>, state: &mut State) -> Result<Flow, Stop>
+    ensures flows { (codes : List Code) (code : Code) (seen : ℕ) (at : Spot) (c : Step AValue) (m : ServiceState) → Enters codes c flow (joined state.old m)
+        → Flows codes code seen at (resume code seen at frame.Chunk c) result (joined state.new m) }
+    ensures lasts { (old : ℕ) → Goes old flow state.old.work → Lasts 3 old result state.new.work }
+{
+    match flow {
+        Ok(Flow::Done(_)) => ended(alloc, Value::Unit, state),
+        Ok(Flow::Wait(rest)) => Ok(inside(alloc, rest, StackFrame::Chunk)?),
         Err(stop) => Err(stop),
     }
 }

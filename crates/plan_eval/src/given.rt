@@ -1,21 +1,19 @@
 //! What an open expression does when a part has given a value, or an activation on top has.
-ghost use Rattle.std.specs.Prelude.{◌≡◌, ◌≤◌, IsSome, Some, slice_get};
-ghost use Rattle.plan_base.specs.declared.tree.Program.{Program};
+ghost use Rattle.std.specs.Prelude.{◌≡◌, ◌≤◌, IsSome};
 ghost use Rattle.plan_meaning.specs.State.{joined};
 ghost use Rattle.plan_meaning.specs.Run.{gave, quiet};
 ghost use Rattle.plan_meaning.specs.Meaning.{Env};
 ghost use Rattle.plan_meaning.specs.Safe.{IsSafe};
-ghost use Rattle.plan_eval.specs.Stack.{Spot, resume, spot_in};
-ghost use Rattle.plan_eval.specs.Nexts.{Decides, IsDone, part_gave};
+ghost use Rattle.plan_eval.specs.Stack.{resume};
+ghost use Rattle.plan_eval.specs.Nexts.{Decides, part_gave};
 
 use crate::fold::{item_gave, left_part, right_part};
 use crate::gather::{call_part, chunk_part, tuple_part};
 use crate::next::Next;
 use crate::operand::{operand, selected};
-use crate::place::{can_do, place_in};
 use crate::pure::{both, choose, either, turn};
 use crate::send::{evaluated, neighbour_part, remote_part};
-use crate::stack_frame::{Activation, Codes, StackFrame};
+use crate::stack_frame::StackFrame;
 use plan_base::{Expr, Program, Value, Values};
 use plan_items::Shared;
 use plan_meaning::Stop;
@@ -94,48 +92,6 @@ pub fn frame_given<S: Services>(
         StackFrame::Last(_) | StackFrame::Body => Ok(Next::Give(v)),
         StackFrame::Bound(_) => Ok(Next::Give(v)),
         StackFrame::Items(left) => item_gave(alloc, code, seen, e, v, left),
-        StackFrame::Chunk => Ok(Next::Give(Value::Unit)),
-    }
-}
-
-/// What an activation does when its innermost frame, which is off it, is given a value.
-#[tactic(auto, using(crate::proofs::Naming::at_place, crate::proofs::Giving::by_part, crate::proofs::Delivering::last_given, crate::proofs::Delivering::bound_given, crate::proofs::Delivering::body_given, crate::proofs::Delivering::chunk_given, crate::proofs::Giving::by_item))]
-pub fn give_top<S: Services>(
-    alloc: Global,
-    codes: &Codes,
-    top: &Activation,
-    frame: StackFrame,
-    v: Value,
-    state: &mut State,
-    svc: &mut S,
-) -> Result<Next, Stop>
-    requires open { IsSome (S.stands svc.old).begun }
-    requires linked { IsSome (spot_in codes.now top.now) }
-    requires safe { (code : Program) (at : Spot) → slice_get codes.now top.now.code ≡ Some code → spot_in codes.now top.now ≡ Some at
-        → IsSafe (resume code top.now.fun at frame (quiet (gave v (joined state.old (S.stands svc.old))))).asks }
-    ensures decides { (code : Program) (at : Spot) → slice_get codes.now top.now.code ≡ Some code → spot_in codes.now top.now ≡ Some at
-        → Decides code top.now.fun at (resume code top.now.fun at frame (quiet (gave v (joined state.old (S.stands svc.old))))) result (joined state.new (S.stands svc.new))
-        × IsDone code at result }
-    ensures falls { state.new.work ≤ state.old.work }
-    ensures offer { (S.stands svc.new).offer ≡ (S.stands svc.old).offer }
-    ensures begun { (S.stands svc.new).begun ≡ (S.stands svc.old).begun }
-{
-    let Some(place) = place_in(codes, top) else {
-        return Err(Stop::Wrong);
-    };
-    match frame {
-        StackFrame::Part(n, held) => {
-            let decided = after_part(
-                alloc, place.code, top.fun, place.expr, n, held, v, state, svc,
-            );
-            can_do(place, decided)
-        }
-        StackFrame::Last(_) | StackFrame::Body => Ok(Next::Give(v)),
-        StackFrame::Bound(_) => Ok(Next::Give(v)),
-        StackFrame::Items(left) => {
-            let decided = item_gave(alloc, place.code, top.fun, place.expr, v, left);
-            can_do(place, decided)
-        }
         StackFrame::Chunk => Ok(Next::Give(Value::Unit)),
     }
 }

@@ -1,7 +1,16 @@
 //! Where an expression is evaluated.
 use crate::stack_frame::StackFrame;
-use plan_base::{Fun, Program, Value};
+use plan_base::{Fun, Name, Program, Value};
 use plan_items::Shared;
+
+/// A name that a `let` binds.
+#[derive(Clone, Copy)]
+pub struct Binding<'a> {
+    /// The name.
+    pub name: &'a Name,
+    /// Its value.
+    pub value: &'a Value,
+}
 
 /// The body in which an expression is evaluated.
 #[derive(Clone, Copy)]
@@ -18,4 +27,6 @@ pub struct Here<'a> {
     pub args: &'a [Value],
     /// The open expressions of the body that stand outside, the innermost last.
     pub frames: &'a [StackFrame],
+    /// The names that are bound inside those, the innermost last.
+    pub bindings: &'a [Binding<'a>],
 }

@@ -1,7 +1,6 @@
 //! Visits: the evaluation of a packet's chunk on an explicit stack.
 #![tactic(auto)]
 
-mod apply;
 mod back;
 mod begin;
 mod call;
@@ -13,14 +12,18 @@ mod here;
 mod kind;
 mod machine;
 mod next;
+mod numbers;
 mod operand;
+mod packed;
 mod parts;
 mod place;
 mod pure;
 mod raise;
 mod rest;
+mod row;
 mod send;
 mod stack_frame;
+mod task;
 mod turn;
 mod visiting;
 mod walk;

@@ -20,6 +20,7 @@ ghost use Rattle.plan_eval.specs.Nexts.{Continues, begins, part_gave};
 
 use crate::back::ended;
 use crate::next::Next;
+use crate::numbers::{ended_by_number, ended_by_test, number_given, order_given};
 use crate::rest::{Flow, inside};
 use crate::stack_frame::StackFrame;
 use plan_base::{NoMemory, Op, Value, Values};
@@ -68,8 +69,15 @@ fn computed(alloc: Global, op: Op, x: Value, v: Value) -> Result<Value, Stop>
     }
 }
 
-/// Both operands gave values.
-fn operate(alloc: Global, op: Op, x: Value, v: Value, state: &mut State) -> Result<Flow, Stop>
+/// Both operands gave values, of which an operator computes a value.
+#[inline(never)]
+fn operate_values(
+    alloc: Global,
+    op: Op,
+    x: Value,
+    v: Value,
+    state: &mut State,
+) -> Result<Flow, Stop>
     ensures flows { (codes : List Program) (code : Program) (seen : ℕ) (e a b : Expr) (env : Env) (m : ServiceState) → out-Expr e ≡ Expr-F.Binary op a b
         → Flows codes code seen (record { expr = e; env = env })
         (part_gave code seen (record { expr = e; env = env }) 1 (x ∷ []) v (joined state.old m)) result (joined state.new m) }
@@ -79,6 +87,22 @@ fn operate(alloc: Global, op: Op, x: Value, v: Value, state: &mut State) -> Resu
         Ok(value) => ended(alloc, value, state),
         Err(stop) => Err(stop),
     }
+}
+
+/// Both operands gave values.
+fn operate(alloc: Global, op: Op, x: Value, v: Value, state: &mut State) -> Result<Flow, Stop>
+    ensures flows { (codes : List Program) (code : Program) (seen : ℕ) (e a b : Expr) (env : Env) (m : ServiceState) → out-Expr e ≡ Expr-F.Binary op a b
+        → Flows codes code seen (record { expr = e; env = env })
+        (part_gave code seen (record { expr = e; env = env }) 1 (x ∷ []) v (joined state.old m)) result (joined state.new m) }
+    ensures lasts { Lasts 3 state.old.work result state.new.work }
+{
+    if let Some(n) = number_given(op, &x, &v) {
+        return ended_by_number(n, state);
+    }
+    if let Some(b) = order_given(op, &x, &v) {
+        return ended_by_test(b, state);
+    }
+    operate_values(alloc, op, x, v, state)
 }
 
 /// Spends what an expression spends that gives a number at once, or says no.

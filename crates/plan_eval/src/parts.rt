@@ -92,3 +92,13 @@ pub fn part_of(e: &Expr, n: usize) -> Option<&Expr>
         _ => None,
     }
 }
+
+/// The part with that number, from 0.
+pub fn part_at(es: &[Expr], n: usize) -> Option<&Expr>
+    ensures { option_copied result ≡ slice_get es.now n }
+{
+    match es.get(n) {
+        Some(e) => Some(e),
+        None => None,
+    }
+}

@@ -1,5 +1,5 @@
 //! What an open expression does when a part has raised an exception.
-ghost use Rattle.std.specs.Prelude.{◌≡◌, ◌+◌, ℕ, List, Some, slice_get};
+ghost use Rattle.std.specs.Prelude.{◌≡◌, ◌+◌, ℕ, List};
 ghost use Rattle.plan_base.specs.declared.tree.Expr.{Expr, Expr-F, out-Expr};
 ghost use Rattle.plan_base.specs.declared.tree.Program.{Program};
 ghost use Rattle.plan_base.specs.declared.tree.Value.{Value};
@@ -8,12 +8,11 @@ ghost use Rattle.plan_meaning.specs.State.{VisitState};
 ghost use Rattle.plan_meaning.specs.Run.{quiet, stopped};
 ghost use Rattle.plan_meaning.specs.Meaning.{Env};
 ghost use Rattle.plan_eval.specs.declared.stack_frame.StackFrame.TheVariants as frame;
-ghost use Rattle.plan_eval.specs.Stack.{Spot, resume, spot_in, first_from};
-ghost use Rattle.plan_eval.specs.Nexts.{Decides, IsDone};
+ghost use Rattle.plan_eval.specs.Stack.{resume, first_from};
+ghost use Rattle.plan_eval.specs.Nexts.{Decides};
 
 use crate::next::Next;
-use crate::place::{can_do, place_in};
-use crate::stack_frame::{Activation, Codes, StackFrame};
+use crate::stack_frame::StackFrame;
 use plan_base::{Clause, Clauses, Exn, Expr};
 use plan_meaning::Stop;
 use visit_state::catches;
@@ -66,25 +65,6 @@ pub fn frame_raised(e: &Expr, frame: &StackFrame, x: Exn) -> Result<Next, Stop>
 {
     match frame {
         StackFrame::Part(_, _) => part_raised(e, x),
-        StackFrame::Last(_) | StackFrame::Body | StackFrame::Chunk => Err(Stop::Raised(x)),
-        StackFrame::Bound(_) | StackFrame::Items(_) => Err(Stop::Raised(x)),
-    }
-}
-
-/// What an activation does when an exception reaches its innermost frame, which is off it.
-#[tactic(auto, using(crate::proofs::Naming::at_place, crate::proofs::Catching::passes_frame))]
-pub fn raise_top(codes: &Codes, top: &Activation, frame: &StackFrame, x: Exn) -> Result<Next, Stop>
-    ensures { (code : Program) (at : Spot) (s : VisitState) → slice_get codes.now top.now.code ≡ Some code → spot_in codes.now top.now ≡ Some at
-        → Decides code top.now.fun at (resume code top.now.fun at frame.now (quiet (stopped (Raised x) s))) result s × IsDone code at result }
-{
-    let Some(place) = place_in(codes, top) else {
-        return Err(Stop::Wrong);
-    };
-    match frame {
-        StackFrame::Part(_, _) => {
-            let decided = part_raised(place.expr, x);
-            can_do(place, decided)
-        }
         StackFrame::Last(_) | StackFrame::Body | StackFrame::Chunk => Err(Stop::Raised(x)),
         StackFrame::Bound(_) | StackFrame::Items(_) => Err(Stop::Raised(x)),
     }

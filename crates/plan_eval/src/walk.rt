@@ -1,12 +1,12 @@
 //! Where the frames of a body lead.
-ghost use Rattle.std.specs.Prelude.{◌≡◌, length, Option, Some, None, if◌then◌else◌};
+ghost use Rattle.std.specs.Prelude.{◌≡◌, Option, Some, None};
 ghost use Rattle.std.specs.Option.{option_copied};
 ghost use Rattle.std.specs.Str.{bytes_eq};
-ghost use Rattle.plan_base.specs.declared.tree.Expr.{out-Expr};
-ghost use Rattle.plan_meaning.specs.Meaning.{value_of, bound};
-ghost use Rattle.plan_eval.specs.Stack as spec;
+ghost use Rattle.plan_meaning.specs.Meaning.{bound};
+ghost use Rattle.plan_eval.specs.Direct.{bound_value};
 ghost use Rattle.plan_eval.specs.Stack.{part_number, part_or_self, expr_from, value_from, value_at};
 
+use crate::here::Binding;
 use crate::parts::part_of;
 use crate::stack_frame::StackFrame;
 use plan_base::{Expr, Name, Param, Value};
@@ -83,6 +83,25 @@ pub fn value_from<'a>(
             return found;
         };
         e = part;
+        left = more;
+    }
+    found
+}
+
+/// What a name stands for among those that are bound, where it stands for `before` outside.
+pub fn bound_value<'a>(
+    name: &Name,
+    before: Option<&'a Value>,
+    bindings: &[Binding<'a>],
+) -> Option<&'a Value>
+    ensures { option_copied result ≡ bound_value name.now (option_copied before.entry) bindings.now }
+{
+    let mut found = before;
+    let mut left = bindings;
+    while let [b, more @ ..] = left {
+        if same_name(b.name, name) {
+            found = Some(b.value);
+        }
         left = more;
     }
     found
