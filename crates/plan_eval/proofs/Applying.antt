@@ -8,12 +8,12 @@ use Rattle.plan_base.specs.declared.tree.Exn.{Exn}
 use Rattle.plan_meaning.specs.declared.stop.Stop.TheVariants.{Raised}
 use Rattle.plan_meaning.specs.State.{VisitState}
 use Rattle.plan_meaning.specs.Run.{Step, gave, stopped, quiet}
-use Rattle.plan_eval.specs.declared.stack_frame.StackFrame.{StackFrame}
-use Rattle.plan_eval.specs.declared.stack_frame.Activation.{Activation}
-use Rattle.plan_eval.specs.declared.stack_frame.Mode.TheVariants as mode
-use Rattle.plan_eval.specs.Stack.{Spot, code_spot, start_of, spot_from, spot_in, ended_in, ended, all_ended, AreLinked, innermost_run, innermost, stands_for}
-use Rattle.plan_eval.specs.Nexts.{run_at}
-use Rattle.plan_eval.proofs.Stacks.{all_ended_push}
+use Rattle.eval_steps.specs.declared.stack_frame.StackFrame.{StackFrame}
+use Rattle.eval_steps.specs.declared.stack_frame.Activation.{Activation}
+use Rattle.eval_steps.specs.declared.stack_frame.Mode.TheVariants as mode
+use Rattle.eval_steps.specs.Stack.{Spot, code_spot, start_of, spot_from, spot_in, ended_in, ended, all_ended, AreLinked, innermost_run, innermost, stands_for}
+use Rattle.eval_steps.specs.Nexts.{run_at}
+use Rattle.eval_steps.proofs.Stacks.{all_ended_push}
 
 -- the innermost activation
 pub innermost_top : (codes : List Program) (outer : List Activation) (a : Activation) → innermost codes (outer ++ a ∷ []) ≡ innermost_run (slice_get codes a.code) a.fun (spot_in codes a)

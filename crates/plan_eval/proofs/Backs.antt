@@ -12,24 +12,24 @@ use Rattle.plan_meaning.specs.declared.stop.Stop.TheVariants.{Raised, Wrong, Wor
 use Rattle.plan_meaning.specs.State.{VisitState}
 use Rattle.plan_meaning.specs.Run.{Step, gave, stopped, quiet}
 use Rattle.plan_meaning.specs.Meaning.{Env, binds, bound, value_of}
-use Rattle.plan_eval.specs.declared.stack_frame.StackFrame.{StackFrame}
-use Rattle.plan_eval.specs.declared.stack_frame.StackFrame.TheVariants as frame
-use Rattle.plan_eval.specs.declared.stack_frame.Activation.{Activation}
-use Rattle.plan_eval.specs.declared.stack_frame.Mode.TheVariants as mode
+use Rattle.eval_steps.specs.declared.stack_frame.StackFrame.{StackFrame}
+use Rattle.eval_steps.specs.declared.stack_frame.StackFrame.TheVariants as frame
+use Rattle.eval_steps.specs.declared.stack_frame.Activation.{Activation}
+use Rattle.eval_steps.specs.declared.stack_frame.Mode.TheVariants as mode
 use Rattle.plan_eval.specs.declared.rest.Rest.{Rest}
 use Rattle.plan_eval.specs.declared.rest.Flow.{Flow}
 use Rattle.plan_eval.specs.declared.rest.Flow.TheVariants as flow
 use Rattle.plan_eval.specs.declared.turn.Turn.{Turn}
 use Rattle.plan_eval.specs.declared.turn.Turn.TheVariants as turn
 use Rattle.plan_eval.specs.declared.here.Binding.{Binding}
-use Rattle.plan_eval.specs.Stack.{Spot, deeper, resume, env_from, value_from}
-use Rattle.plan_eval.specs.Nexts.{fold_on}
-use Rattle.plan_eval.specs.Leads.{Leads}
+use Rattle.eval_steps.specs.Stack.{Spot, deeper, resume, env_from, value_from}
+use Rattle.eval_steps.specs.Nexts.{fold_on}
+use Rattle.eval_steps.specs.Leads.{Leads}
 use Rattle.plan_eval.specs.Turns.{argument_of, frames_in, load}
 use Rattle.plan_eval.specs.Direct.{base_of, bound_here, bound_value, env_of, Above, Flows, Enters, Advances, Lasts, Spends, burden}
-use Rattle.plan_eval.proofs.Leading.{onward}
-use Rattle.plan_eval.proofs.Stacks.{resume_leads}
-use Rattle.plan_eval.proofs.Delivering.{item_given}
+use Rattle.eval_steps.proofs.Leading.{onward}
+use Rattle.eval_steps.proofs.Stacks.{resume_leads}
+use Rattle.eval_steps.proofs.Delivering.{item_given}
 use Rattle.plan_eval.proofs.Naming.{name_at, value_snoc}
 use Rattle.plan_eval.proofs.Turning.{at_once, at_once_raised}
 use Rattle.plan_eval.proofs.Waiting.{some_base, waits_below}

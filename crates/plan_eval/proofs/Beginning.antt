@@ -13,14 +13,14 @@ use Rattle.plan_meaning.specs.declared.stop.Stop.TheVariants.{Raised, Wrong}
 use Rattle.plan_meaning.specs.State.{VisitState}
 use Rattle.plan_meaning.specs.Run.{Step, gave, stopped, pure, «next», spend, whole, weighed, ◌>>=◌}
 use Rattle.plan_meaning.specs.Meaning.{Env, meaning, node, opened, opened_at, value_of, tuple, call, packed, values, called, named}
-use Rattle.plan_eval.specs.declared.stack_frame.Activation.{Activation}
-use Rattle.plan_eval.specs.declared.stack_frame.Mode.TheVariants as mode
-use Rattle.plan_eval.specs.Stack.{Spot, spot_in, ended, all_ended, innermost, stands_for}
-use Rattle.plan_eval.specs.Forms.{literal}
-use Rattle.plan_eval.specs.Leads.{Leads}
-use Rattle.plan_eval.specs.Nexts.{begins, call_of}
-use Rattle.plan_eval.proofs.Leading.{onward, regrouped, gave_on, given_on, known_then}
-use Rattle.plan_eval.proofs.Stacks.{all_ended_push}
+use Rattle.eval_steps.specs.declared.stack_frame.Activation.{Activation}
+use Rattle.eval_steps.specs.declared.stack_frame.Mode.TheVariants as mode
+use Rattle.eval_steps.specs.Stack.{Spot, spot_in, ended, all_ended, innermost, stands_for}
+use Rattle.eval_steps.specs.Forms.{literal}
+use Rattle.eval_steps.specs.Leads.{Leads}
+use Rattle.eval_steps.specs.Nexts.{begins, call_of}
+use Rattle.eval_steps.proofs.Leading.{onward, regrouped, gave_on, given_on, known_then}
+use Rattle.eval_steps.proofs.Stacks.{all_ended_push}
 use Rattle.plan_eval.proofs.Applying.{innermost_top}
 use Rattle.meaning_laws.proofs.Within.{fixed}
 

@@ -15,25 +15,25 @@ use Rattle.plan_meaning.specs.State.{VisitState}
 use Rattle.plan_meaning.specs.Run.{Step, gave, stopped, quiet}
 use Rattle.plan_meaning.specs.Safe.{IsSafe}
 use Rattle.plan_meaning.specs.Meaning.{Env, meaning, bound, entered}
-use Rattle.plan_eval.specs.declared.stack_frame.StackFrame.{StackFrame}
-use Rattle.plan_eval.specs.declared.stack_frame.StackFrame.TheVariants as frame
-use Rattle.plan_eval.specs.declared.stack_frame.Activation.{Activation}
-use Rattle.plan_eval.specs.declared.stack_frame.Mode.{Mode}
-use Rattle.plan_eval.specs.declared.stack_frame.Mode.TheVariants as mode
+use Rattle.eval_steps.specs.declared.stack_frame.StackFrame.{StackFrame}
+use Rattle.eval_steps.specs.declared.stack_frame.StackFrame.TheVariants as frame
+use Rattle.eval_steps.specs.declared.stack_frame.Activation.{Activation}
+use Rattle.eval_steps.specs.declared.stack_frame.Mode.{Mode}
+use Rattle.eval_steps.specs.declared.stack_frame.Mode.TheVariants as mode
 use Rattle.plan_eval.specs.declared.here.Here.{Here}
 use Rattle.plan_eval.specs.declared.here.Binding.{Binding}
 use Rattle.plan_eval.specs.Turns.{IsAt, IsPlaced, Stands, Turned, under}
-use Rattle.plan_eval.specs.declared.next.Next.TheVariants as next
+use Rattle.eval_steps.specs.declared.next.Next.TheVariants as next
 use Rattle.plan_eval.specs.declared.rest.Flow.{Flow}
 use Rattle.plan_eval.specs.declared.rest.Flow.TheVariants as flow
-use Rattle.plan_eval.specs.Stack.{Spot, spot_of, env_at, deeper, part_or_self, part_number, resume, spot_in, ended, all_ended, AreLinked, stands_for}
-use Rattle.plan_eval.specs.Nexts.{next_step}
-use Rattle.plan_eval.specs.Leads.{Leads}
+use Rattle.eval_steps.specs.Stack.{Spot, spot_of, env_at, deeper, part_or_self, part_number, resume, spot_in, ended, all_ended, AreLinked, stands_for}
+use Rattle.eval_steps.specs.Nexts.{next_step}
+use Rattle.eval_steps.specs.Leads.{Leads}
 use Rattle.plan_eval.specs.Direct.{bound_here, env_of, IsHere, is_let, Flows, Bodies, Grows}
-use Rattle.plan_eval.proofs.Leading.{itself}
+use Rattle.eval_steps.proofs.Leading.{itself}
 use Rattle.plan_eval.proofs.Applying.{grown, program_of, spot_in_grown, ended_grown, all_ended_grown}
 use Rattle.plan_eval.proofs.Beginning.{runs_on}
-use Rattle.plan_eval.proofs.Delivering.{entered_on}
+use Rattle.eval_steps.proofs.Delivering.{entered_on}
 use Rattle.plan_eval.proofs.Entering.{last_one, linked_outer, linked_top, linked_grown}
 use Rattle.plan_eval.proofs.Naming.{binds_all, stands_at}
 use Rattle.plan_eval.proofs.Ending.{given_frame, raised_frame}

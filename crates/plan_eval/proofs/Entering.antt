@@ -5,8 +5,8 @@ use Rattle.plan_base.specs.declared.tree.Program.{Program}
 use Rattle.plan_base.specs.declared.tree.Value.{Value}
 use Rattle.plan_meaning.specs.Run.{Step}
 use Rattle.plan_meaning.specs.Meaning.{Env, bound}
-use Rattle.plan_eval.specs.declared.stack_frame.Activation.{Activation}
-use Rattle.plan_eval.specs.Stack.{Spot, start_of, spot_in, ended_in, ended, AreLinked}
+use Rattle.eval_steps.specs.declared.stack_frame.Activation.{Activation}
+use Rattle.eval_steps.specs.Stack.{Spot, start_of, spot_in, ended_in, ended, AreLinked}
 use Rattle.plan_eval.specs.Turns.{entry}
 use Rattle.plan_eval.proofs.Applying.{spot_in_grown}
 

@@ -21,20 +21,20 @@ use Rattle.plan_meaning.specs.Run.{Step, ◌>>=◌, gave, stopped, pure, «next�
 use Rattle.plan_meaning.specs.Safe.{IsSafe}
 use Rattle.plan_base.specs.declared.tree.Chunk.{Chunk}
 use Rattle.plan_meaning.specs.Meaning.{Env, binds, meaning, as_bool, as_chunk, value_of, called, tuple, call, packed, values, pay_eval}
-use Rattle.plan_eval.specs.declared.stack_frame.StackFrame.TheVariants as frame
-use Rattle.plan_eval.specs.declared.next.Next.TheVariants as next
-use Rattle.plan_eval.specs.Forms.{HasParts, IsRow}
-use Rattle.plan_eval.specs.Stack.{Spot, deeper, behind, parts_of, part_or_self, resumed, resume}
-use Rattle.plan_eval.specs.Nexts.{begins, next_step, part_gave, call_of}
+use Rattle.eval_steps.specs.declared.stack_frame.StackFrame.TheVariants as frame
+use Rattle.eval_steps.specs.declared.next.Next.TheVariants as next
+use Rattle.eval_steps.specs.Forms.{HasParts, IsRow}
+use Rattle.eval_steps.specs.Stack.{Spot, deeper, behind, parts_of, part_or_self, resumed, resume}
+use Rattle.eval_steps.specs.Nexts.{begins, next_step, part_gave, call_of}
 use Rattle.visit_state.specs.Meets.{Meets}
-use Rattle.plan_eval.specs.Leads.{Leads, Carries}
+use Rattle.eval_steps.specs.Leads.{Leads, Carries}
 use Rattle.plan_eval.specs.Direct.{bound_here, IsNumber, made_of, row_gave, pending}
-use Rattle.plan_eval.proofs.Leading.{itself, onward, known_then, given_on}
-use Rattle.plan_eval.proofs.Stacks.{resume_leads}
-use Rattle.plan_eval.proofs.Sending.{chunk_unpaid}
+use Rattle.eval_steps.proofs.Leading.{itself, onward, known_then, given_on}
+use Rattle.eval_steps.proofs.Stacks.{resume_leads}
+use Rattle.eval_steps.proofs.Sending.{chunk_unpaid}
 use Rattle.plan_eval.proofs.Beginning.{gives_literal, gives_name, begun_here, begun_spent}
-use Rattle.plan_eval.proofs.Delivering.{IsNoTry, part_given}
-use Rattle.plan_eval.proofs.Deciding.{bound as named_next, opens_part, chosen_true, chosen_false, chosen_none, second, front_of, rest_of, next_of_tuple, next_of_call, next_of_chunk, chunk_paid}
+use Rattle.eval_steps.proofs.Delivering.{IsNoTry, part_given}
+use Rattle.eval_steps.proofs.Deciding.{bound as named_next, opens_part, chosen_true, chosen_false, chosen_none, second, front_of, rest_of, next_of_tuple, next_of_call, next_of_chunk, chunk_paid}
 use Rattle.plan_eval.proofs.Taking.{resume_asks}
 use Rattle.plan_eval.proofs.Backs.{resume_gave}
 

@@ -15,14 +15,14 @@ use Rattle.plan_meaning.specs.declared.stop.Stop.TheVariants.{Wrong}
 use Rattle.plan_meaning.specs.State.{VisitState}
 use Rattle.plan_meaning.specs.Run.{Step, stopped}
 use Rattle.plan_meaning.specs.Meaning.{meaning, entered, Env, binds, value_if, value_of, bound, bound_behind}
-use Rattle.plan_eval.specs.declared.stack_frame.StackFrame.{StackFrame}
-use Rattle.plan_eval.specs.declared.stack_frame.StackFrame.TheVariants as frame
-use Rattle.plan_eval.specs.declared.stack_frame.Activation.{Activation}
-use Rattle.plan_eval.specs.declared.next.Next.TheVariants as next
-use Rattle.plan_eval.specs.Leads.{Leads}
-use Rattle.plan_eval.specs.Nexts.{Enters, run_at, next_step}
+use Rattle.eval_steps.specs.declared.stack_frame.StackFrame.{StackFrame}
+use Rattle.eval_steps.specs.declared.stack_frame.StackFrame.TheVariants as frame
+use Rattle.eval_steps.specs.declared.stack_frame.Activation.{Activation}
+use Rattle.eval_steps.specs.declared.next.Next.TheVariants as next
+use Rattle.eval_steps.specs.Leads.{Leads}
+use Rattle.eval_steps.specs.Nexts.{Enters, run_at, next_step}
 use Rattle.plan_eval.proofs.Ending.{resume_final}
-use Rattle.plan_eval.specs.Stack.{Spot, spot_of, deeper, part_or_self, part_number, inside_let, env_at, expr_from, env_from, spot_from, inside_value, value_at, value_from, body_spot, start_of, spot_in}
+use Rattle.eval_steps.specs.Stack.{Spot, spot_of, deeper, part_or_self, part_number, inside_let, env_at, expr_from, env_from, spot_from, inside_value, value_at, value_from, body_spot, start_of, spot_in}
 use Rattle.plan_eval.specs.Turns.{IsAt, spot_at, argument_of}
 
 -- one more binding, which is innermost

@@ -11,14 +11,14 @@ use Rattle.plan_meaning.specs.State.{VisitState}
 use Rattle.plan_meaning.specs.Run.{Step, gave, stopped, quiet}
 use Rattle.plan_meaning.specs.Meaning.{Env, meaning}
 use Rattle.plan_meaning.specs.Safe.{IsSafe}
-use Rattle.plan_eval.specs.declared.stack_frame.StackFrame.{StackFrame}
-use Rattle.plan_eval.specs.declared.stack_frame.StackFrame.TheVariants as frame
-use Rattle.plan_eval.specs.declared.stack_frame.Activation.{Activation}
-use Rattle.plan_eval.specs.declared.stack_frame.Mode.TheVariants as mode
-use Rattle.plan_eval.specs.Leads.{Leads}
-use Rattle.plan_eval.specs.Stack.{Spot, deeper, resumed, resume, through, start_of, spot_in, ended_in, ended, all_ended, AreLinked, stands_for}
+use Rattle.eval_steps.specs.declared.stack_frame.StackFrame.{StackFrame}
+use Rattle.eval_steps.specs.declared.stack_frame.StackFrame.TheVariants as frame
+use Rattle.eval_steps.specs.declared.stack_frame.Activation.{Activation}
+use Rattle.eval_steps.specs.declared.stack_frame.Mode.TheVariants as mode
+use Rattle.eval_steps.specs.Leads.{Leads}
+use Rattle.eval_steps.specs.Stack.{Spot, deeper, resumed, resume, through, start_of, spot_in, ended_in, ended, all_ended, AreLinked, stands_for}
 use Rattle.plan_eval.specs.Turns.{under}
-use Rattle.plan_eval.proofs.Leading.{itself}
+use Rattle.eval_steps.proofs.Leading.{itself}
 use Rattle.plan_eval.proofs.Entering.{linked_outer, linked_top}
 use Rattle.plan_eval.proofs.Ending.{spot_in_shorter, given_frame, raised_frame, given_bare, raised_bare}
 use Rattle.plan_eval.proofs.Beginning.{runs_on}

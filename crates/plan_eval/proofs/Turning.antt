@@ -10,13 +10,13 @@ use Rattle.plan_meaning.specs.declared.stop.Stop.TheVariants.{Raised, Wrong, NoM
 use Rattle.plan_meaning.specs.State.{VisitState}
 use Rattle.plan_meaning.specs.Run.{Step, gave, stopped, quiet}
 use Rattle.plan_meaning.specs.Meaning.{meaning, visited}
-use Rattle.plan_eval.specs.declared.stack_frame.Activation.{Activation}
-use Rattle.plan_eval.specs.declared.stack_frame.Mode.TheVariants as mode
-use Rattle.plan_eval.specs.Stack.{Spot, ended, all_ended, AreLinked, stands_for}
-use Rattle.plan_eval.specs.Leads.{Leads}
+use Rattle.eval_steps.specs.declared.stack_frame.Activation.{Activation}
+use Rattle.eval_steps.specs.declared.stack_frame.Mode.TheVariants as mode
+use Rattle.eval_steps.specs.Stack.{Spot, ended, all_ended, AreLinked, stands_for}
+use Rattle.eval_steps.specs.Leads.{Leads}
 use Rattle.plan_eval.specs.Turns.{Stands}
-use Rattle.plan_eval.proofs.Leading.{onward}
-use Rattle.plan_eval.proofs.Stacks.{all_ended_leads, ended_leads}
+use Rattle.eval_steps.proofs.Leading.{onward}
+use Rattle.eval_steps.proofs.Stacks.{all_ended_leads, ended_leads}
 use Rattle.plan_eval.proofs.Applying.{given_to, raised_in}
 use Rattle.plan_eval.proofs.Entering.{linked_push}
 use Rattle.plan_eval.proofs.Taking.{turn_bare}

@@ -10,10 +10,10 @@ use Rattle.plan_meaning.specs.declared.stop.Stop.TheVariants.{Raised, NoMemory}
 use Rattle.plan_meaning.specs.State.{VisitState}
 use Rattle.plan_meaning.specs.Run.{Run, Step, ◌>>=◌, gave, stopped, quiet, pure, wrong, weighed}
 use Rattle.plan_meaning.specs.Meaning.{Env, binds, bound, called, meaning}
-use Rattle.plan_eval.specs.declared.stack_frame.StackFrame.{StackFrame}
-use Rattle.plan_eval.specs.declared.stack_frame.StackFrame.TheVariants as frame
-use Rattle.plan_eval.specs.declared.stack_frame.Activation.{Activation}
-use Rattle.plan_eval.specs.declared.stack_frame.Mode.TheVariants as mode
+use Rattle.eval_steps.specs.declared.stack_frame.StackFrame.{StackFrame}
+use Rattle.eval_steps.specs.declared.stack_frame.StackFrame.TheVariants as frame
+use Rattle.eval_steps.specs.declared.stack_frame.Activation.{Activation}
+use Rattle.eval_steps.specs.declared.stack_frame.Mode.TheVariants as mode
 use Rattle.plan_eval.specs.declared.here.Here.{Here}
 use Rattle.plan_eval.specs.declared.here.Binding.{Binding}
 use Rattle.plan_base.specs.declared.name.Name.{Name}
@@ -27,10 +27,10 @@ use Rattle.plan_eval.specs.declared.task.Task.{Task}
 use Rattle.plan_eval.specs.declared.task.Task.TheVariants as task
 use Rattle.plan_eval.specs.declared.turn.Turn.{Turn}
 use Rattle.plan_eval.specs.declared.turn.Turn.TheVariants as turn
-use Rattle.plan_eval.specs.Stack.{Spot, env_from, spot_from, resume, through, AreLinked, stands_for}
+use Rattle.eval_steps.specs.Stack.{Spot, env_from, spot_from, resume, through, AreLinked, stands_for}
 use Rattle.plan_base.specs.Trees.{ExprLayer}
-use Rattle.plan_eval.specs.Nexts.{run_at, begins, next_step}
-use Rattle.plan_eval.specs.Leads.{Leads}
+use Rattle.eval_steps.specs.Nexts.{run_at, begins, next_step}
+use Rattle.eval_steps.specs.Leads.{Leads}
 use Rattle.plan_eval.specs.Turns.{frames_in}
 
 -- ---- where

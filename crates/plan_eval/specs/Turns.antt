@@ -12,12 +12,12 @@ use Rattle.plan_meaning.specs.declared.stop.Stop.TheVariants.{NoMemory}
 use Rattle.plan_meaning.specs.State.{VisitState}
 use Rattle.plan_meaning.specs.Run.{Step, stopped}
 use Rattle.plan_meaning.specs.Meaning.{Env}
-use Rattle.plan_eval.specs.declared.stack_frame.StackFrame.{StackFrame}
-use Rattle.plan_eval.specs.declared.stack_frame.Activation.{Activation}
-use Rattle.plan_eval.specs.declared.stack_frame.Mode.{Mode}
-use Rattle.plan_eval.specs.declared.stack_frame.Mode.TheVariants as mode
-use Rattle.plan_eval.specs.Leads.{Leads}
-use Rattle.plan_eval.specs.Stack.{Spot, expr_from, env_from, spot_in, AreLinked, stands_for}
+use Rattle.eval_steps.specs.declared.stack_frame.StackFrame.{StackFrame}
+use Rattle.eval_steps.specs.declared.stack_frame.Activation.{Activation}
+use Rattle.eval_steps.specs.declared.stack_frame.Mode.{Mode}
+use Rattle.eval_steps.specs.declared.stack_frame.Mode.TheVariants as mode
+use Rattle.eval_steps.specs.Leads.{Leads}
+use Rattle.eval_steps.specs.Stack.{Spot, expr_from, env_from, spot_in, AreLinked, stands_for}
 
 -- the program, the function and the innermost open expression of an activation
 pub record IsAt (codes : List Program) (a : Activation) (code : Program) (f : Fun) (e : Expr) : Type 0 where

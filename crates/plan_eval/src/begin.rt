@@ -8,19 +8,15 @@ ghost use Rattle.plan_base.specs.declared.tree.Program.{Program as AProgram};
 ghost use Rattle.service_api.specs.Services.{ServiceState};
 ghost use Rattle.plan_base.specs.declared.tree.Value as value;
 ghost use Rattle.plan_meaning.specs.Run.{weighed};
-ghost use Rattle.plan_eval.specs.Stack.{Spot};
+ghost use Rattle.eval_steps.specs.Stack.{Spot};
 ghost use Rattle.plan_eval.specs.Direct.{spot, env_at_here, Flows, IsNumber, Lasts};
-ghost use Rattle.plan_eval.specs.Nexts.{Decides, Starts, begins};
+ghost use Rattle.eval_steps.specs.Nexts.{Decides, Starts, begins};
 
 use crate::back::ended;
-use crate::call::called;
-use crate::here::Here;
-use crate::kind::{Kind, kind_of};
-use crate::next::Next;
+use crate::here::{Here, bound_value};
 use crate::place::argument_of;
 use crate::rest::Flow;
-use crate::stack_frame::StackFrame;
-use crate::walk::{bound_value, value_from};
+use eval_steps::{Kind, Next, StackFrame, called, kind_of, value_from};
 use plan_base::{Chunk, Exn, Expr, Name, Program, Value, Values};
 use plan_copies::Copied;
 use plan_items::{Boxed, Items, Shared};
@@ -150,7 +146,7 @@ fn bare_chunk(alloc: Global, code: &Shared<Program>, entry: &Name) -> Result<Nex
 }
 
 /// How an expression begins, once it spent 1.
-#[tactic(auto, using(crate::proofs::Beginning::gives_literal, crate::proofs::Beginning::no_type, crate::proofs::Beginning::raises_named, crate::proofs::Beginning::begins_call, crate::proofs::Deciding::opens_part))]
+#[tactic(auto, using(crate::proofs::Beginning::gives_literal, crate::proofs::Beginning::no_type, crate::proofs::Beginning::raises_named, crate::proofs::Beginning::begins_call, eval_steps::proofs::Deciding::opens_part))]
 pub fn begin<S: Services>(
     alloc: Global,
     here: &Here<'_>,

@@ -2,16 +2,16 @@
 ghost use Rattle.std.specs.Prelude.{◌≡◌, [], length, IsSome, Some, slice_get};
 ghost use Rattle.plan_base.specs.declared.tree.Expr.{Expr, Expr-F, out-Expr};
 ghost use Rattle.plan_base.specs.declared.tree.Ty.{Ty};
-ghost use Rattle.plan_eval.specs.declared.stack_frame.StackFrame.TheVariants as frame;
+ghost use Rattle.eval_steps.specs.declared.stack_frame.StackFrame.TheVariants as frame;
 ghost use Rattle.plan_base.specs.declared.tree.Value as value;
 ghost use Rattle.plan_meaning.specs.Run.{weighed};
-ghost use Rattle.plan_eval.specs.Forms.{IsRow};
-ghost use Rattle.plan_eval.specs.Stack.{part_or_self, parts_of, resume};
+ghost use Rattle.eval_steps.specs.Forms.{IsRow};
+ghost use Rattle.eval_steps.specs.Stack.{part_or_self, parts_of, resume};
 ghost use Rattle.plan_meaning.specs.State.{joined};
 ghost use Rattle.plan_meaning.specs.Meaning.{entered, meaning, visited};
 ghost use Rattle.plan_meaning.specs.Safe.{IsSafe};
-ghost use Rattle.plan_eval.specs.declared.next.Next.TheVariants as next;
-ghost use Rattle.plan_eval.specs.Nexts.{begins, call_of, next_step};
+ghost use Rattle.eval_steps.specs.declared.next.Next.TheVariants as next;
+ghost use Rattle.eval_steps.specs.Nexts.{begins, call_of, next_step};
 ghost use Rattle.plan_eval.specs.Direct.{spot, IsHere, Flows, Bodies, Enters, Advances, Grows, Goes, Lasts, RowLasts, Rows, Spends, Turns, named_spot, row_gave};
 
 use crate::back::{
@@ -19,18 +19,14 @@ use crate::back::{
     part_back, stepped_back, visited_back,
 };
 use crate::begin::{begin, leaf_number, number, packed, variable};
-use crate::call::called;
 use crate::here::{Binding, Here};
-use crate::next::Next;
-use crate::operand::{numbers, operands_back};
+use crate::operators::{numbers, operands_back};
 use crate::packed::pay_packed;
-use crate::parts::part_at;
 use crate::place::open_code;
 use crate::rest::{Flow, inside, pause, pause_in, stopped_in};
 use crate::row::Row;
-use crate::stack_frame::{Codes, StackFrame};
 use crate::turn::Turn;
-use crate::walk::part_or_self;
+use eval_steps::{Codes, Next, StackFrame, called, part_at, part_or_self};
 use plan_base::{Chunk, Expr, Exprs, Fun, Name, NoMemory, Op, Program, Value, Values};
 use plan_items::{Items, Shared};
 use plan_meaning::Stop;

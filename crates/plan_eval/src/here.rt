@@ -1,5 +1,9 @@
 //! Where an expression is evaluated.
-use crate::stack_frame::StackFrame;
+ghost use Rattle.std.specs.Prelude.{◌≡◌};
+ghost use Rattle.std.specs.Option.{option_copied};
+ghost use Rattle.plan_eval.specs.Direct.{bound_value};
+
+use eval_steps::{StackFrame, same_name};
 use plan_base::{Fun, Name, Program, Value};
 use plan_items::Shared;
 
@@ -29,4 +33,23 @@ pub struct Here<'a> {
     pub frames: &'a [StackFrame],
     /// The names that are bound inside those, the innermost last.
     pub bindings: &'a [Binding<'a>],
+}
+
+/// What a name stands for among those that are bound, where it stands for `before` outside.
+pub fn bound_value<'a>(
+    name: &Name,
+    before: Option<&'a Value>,
+    bindings: &[Binding<'a>],
+) -> Option<&'a Value>
+    ensures { option_copied result ≡ bound_value name.now (option_copied before.entry) bindings.now }
+{
+    let mut found = before;
+    let mut left = bindings;
+    while let [b, more @ ..] = left {
+        if same_name(b.name, name) {
+            found = Some(b.value);
+        }
+        left = more;
+    }
+    found
 }

@@ -3,20 +3,19 @@ ghost use Rattle.std.specs.Prelude.{◌≡◌, ◌+◌, ◌<◌, ◌≤◌, ◌�
 ghost use Rattle.plan_meaning.specs.State.{joined};
 ghost use Rattle.plan_meaning.specs.Safe.{IsSafe};
 ghost use Rattle.visit_state.specs.Meets.{Meets};
-ghost use Rattle.plan_eval.specs.declared.stack_frame.Mode.TheVariants as mode;
+ghost use Rattle.eval_steps.specs.declared.stack_frame.Mode.TheVariants as mode;
 ghost use Rattle.plan_base.specs.declared.tree.Program.{Program as Code};
 ghost use Rattle.plan_base.specs.declared.tree.Value.{Value as AValue};
 ghost use Rattle.plan_meaning.specs.State.{VisitState};
 ghost use Rattle.plan_meaning.specs.Run.{Step};
 ghost use Rattle.plan_eval.specs.Direct.{Flows, Grows, Lasts, Performs, Spends, task_step};
-ghost use Rattle.plan_eval.specs.Stack.{Spot, spot_in, ended, all_ended, AreLinked, stands_for};
+ghost use Rattle.eval_steps.specs.Stack.{Spot, spot_in, ended, all_ended, AreLinked, stands_for};
 ghost use Rattle.plan_eval.specs.Turns.{Stands, Turned, load};
 
 use crate::here::Here;
 use crate::rest::{Flow, stacked};
-use crate::stack_frame::{Activation, Activations, Codes, Mode};
 use crate::task::{Task, perform};
-use crate::walk::expr_from;
+use eval_steps::{Activation, Activations, Codes, Mode, expr_from};
 use plan_base::{Exn, Value};
 use plan_items::Items;
 use plan_meaning::Stop;

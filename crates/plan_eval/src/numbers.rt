@@ -6,7 +6,7 @@ ghost use Rattle.value_rules.specs.Rules as rules;
 ghost use Rattle.service_api.specs.Services.{ServiceState};
 ghost use Rattle.plan_meaning.specs.State.{joined};
 ghost use Rattle.plan_meaning.specs.Run.{weighed};
-ghost use Rattle.plan_eval.specs.Stack.{Spot};
+ghost use Rattle.eval_steps.specs.Stack.{Spot};
 ghost use Rattle.plan_eval.specs.Direct.{Flows, Lasts};
 
 use crate::rest::Flow;

@@ -8,11 +8,11 @@ ghost use Rattle.service_api.specs.Services.{ServiceState};
 ghost use Rattle.plan_meaning.specs.State.{joined};
 ghost use Rattle.plan_meaning.specs.Run.{weighed};
 ghost use Rattle.plan_meaning.specs.Meaning.{Env};
-ghost use Rattle.plan_eval.specs.declared.stack_frame.StackFrame.TheVariants as frame;
-ghost use Rattle.plan_eval.specs.declared.next.Next.TheVariants as next;
-ghost use Rattle.plan_eval.specs.Stack.{resume};
-ghost use Rattle.plan_eval.specs.Nexts.{next_step};
-ghost use Rattle.plan_eval.specs.Leads.{Carries};
+ghost use Rattle.eval_steps.specs.declared.stack_frame.StackFrame.TheVariants as frame;
+ghost use Rattle.eval_steps.specs.declared.next.Next.TheVariants as next;
+ghost use Rattle.eval_steps.specs.Stack.{resume};
+ghost use Rattle.eval_steps.specs.Nexts.{next_step};
+ghost use Rattle.eval_steps.specs.Leads.{Carries};
 
 use plan_base::{Name, Program, Value};
 use plan_items::Shared;

@@ -7,10 +7,9 @@ ghost use Rattle.plan_meaning.specs.declared.stop.Stop.TheVariants.{Wrong};
 ghost use Rattle.plan_meaning.specs.State.{VisitState};
 ghost use Rattle.plan_meaning.specs.Run.{stopped};
 ghost use Rattle.plan_meaning.specs.Meaning.{entered, meaning};
-ghost use Rattle.plan_eval.specs.Nexts.{Enters};
+ghost use Rattle.eval_steps.specs.Nexts.{Enters};
 
-use crate::stack_frame::Codes;
-use crate::walk::same_name;
+use eval_steps::{Codes, same_name};
 use plan_base::{Name, NoMemory, Param, Program, Value, Values};
 use plan_items::Shared;
 

@@ -4,7 +4,7 @@ ghost use Rattle.plan_eval.specs.declared.rest.Flow.TheVariants as flow;
 ghost use Rattle.plan_eval.specs.declared.row.Row.TheVariants as row;
 
 use crate::row::Row;
-use crate::stack_frame::{Activation, Activations, StackFrame, StackFrames};
+use eval_steps::{Activation, Activations, StackFrame, StackFrames};
 use plan_base::{NoMemory, Value, Values};
 use plan_items::Items;
 use std::alloc::Global;

@@ -4,15 +4,13 @@ ghost use Rattle.plan_meaning.specs.State.{joined};
 ghost use Rattle.plan_meaning.specs.Run.{gave, quiet, stopped};
 ghost use Rattle.plan_meaning.specs.Safe.{IsSafe};
 ghost use Rattle.plan_meaning.specs.declared.stop.Stop.TheVariants.{Raised};
-ghost use Rattle.plan_eval.specs.Stack.{resume};
+ghost use Rattle.eval_steps.specs.Stack.{resume};
 ghost use Rattle.plan_eval.specs.Direct.{spot, IsHere, Flows, Grows, Lasts, Performs, task_step};
 
 use crate::direct::{evaluate, proceed};
-use crate::given::frame_given;
 use crate::here::Here;
-use crate::raise::frame_raised;
 use crate::rest::Flow;
-use crate::stack_frame::{Codes, StackFrame};
+use eval_steps::{Codes, StackFrame, frame_given, frame_raised};
 use plan_base::{Exn, Expr, Value};
 use plan_meaning::Stop;
 use service_api::Services;

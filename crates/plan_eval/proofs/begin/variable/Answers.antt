@@ -2,8 +2,8 @@ use Rattle.std.proofs.Common.{rules}
 use Rattle.plan_meaning.specs.State.{joined}
 use Rattle.plan_meaning.specs.Run.{weighed}
 use Rattle.plan_eval.specs.Direct.{spot}
-use Rattle.plan_eval.specs.Leads.{Leads}
-use Rattle.plan_eval.specs.Nexts.{begins}
+use Rattle.eval_steps.specs.Leads.{Leads}
+use Rattle.eval_steps.specs.Nexts.{begins}
 use Rattle.plan_eval.proofs.Backs.{flows_from}
 use Rattle.plan_eval.proofs.Beginning.{gives_name}
 use Rattle.plan_eval.proofs.begin.variable.Goals as goal

@@ -8,24 +8,24 @@ use Rattle.plan_meaning.specs.State.{joined}
 use Rattle.plan_meaning.specs.Run.{gave}
 use Rattle.plan_meaning.specs.Safe.{IsSafe}
 use Rattle.plan_meaning.specs.Meaning.{meaning, as_bool, bound, entered, visited}
-use Rattle.plan_eval.specs.declared.stack_frame.StackFrame.TheVariants as frame
-use Rattle.plan_eval.specs.declared.next.Next.TheVariants as next
+use Rattle.eval_steps.specs.declared.stack_frame.StackFrame.TheVariants as frame
+use Rattle.eval_steps.specs.declared.next.Next.TheVariants as next
 use Rattle.plan_eval.specs.declared.rest.Flow.TheVariants as flow
 use Rattle.plan_eval.specs.declared.turn.Turn.TheVariants as turn
-use Rattle.plan_eval.specs.Forms.{IsRow}
-use Rattle.plan_eval.specs.Stack.{parts_of, part_or_self, part_number}
-use Rattle.plan_eval.specs.Nexts.{begins, next_step, call_of}
-use Rattle.plan_eval.specs.Leads.{Leads}
+use Rattle.eval_steps.specs.Forms.{IsRow}
+use Rattle.eval_steps.specs.Stack.{parts_of, part_or_self, part_number}
+use Rattle.eval_steps.specs.Nexts.{begins, next_step, call_of}
+use Rattle.eval_steps.specs.Leads.{Leads}
 use Rattle.plan_eval.specs.declared.here.Binding.{Binding}
 use Rattle.plan_eval.specs.Direct.{env_of, bound_here, named_spot, spot, row_gave, Waits}
-use Rattle.plan_eval.proofs.Leading.{itself, onward}
+use Rattle.eval_steps.proofs.Leading.{itself, onward}
 use Rattle.plan_eval.proofs.Beginning.{begun_here, begun_spent}
 use Rattle.plan_eval.proofs.Naming.{no_part, enters_none, enters_other}
 use Rattle.plan_eval.proofs.Taking.{resume_asks}
 use Rattle.plan_eval.proofs.Hot.{let_form, let_first, let_parts, let_no_try, let_body, let_leads, one_name, call_form, eval_part, eval_parts, eval_no_try, packing_leads, tuple_form, chunk_form, eval_form, row_no_try, row_begins, row_next, next_deep, next_safe, row_more, row_done, tuple_gave, chunk_gave, call_gave, if_form, binary_form, part_stops_so, first_leads, first_safe, if_test, if_yes, if_no, if_parts, if_no_try, if_true, if_false, if_wrong, left_part, right_part, operator_parts, operator_no_try, right_leads}
 use Rattle.plan_eval.proofs.Turning.{visited_nowhere}
 use Rattle.plan_eval.proofs.Ending.{resume_final}
-use Rattle.plan_eval.proofs.Delivering.{visited_on}
+use Rattle.eval_steps.proofs.Delivering.{visited_on}
 use Rattle.plan_eval.proofs.Waiting.{paused, waits_inside}
 use Rattle.plan_eval.proofs.Backs.{flows_from, enters_from}
 use Rattle.plan_eval.proofs.Diving.{grown_get, here_grown, grows_on, grows_none, deeper_here, opened_paused, opened_safe, part_safe, body_leads, body_binds, bodies_from}

@@ -1,8 +1,8 @@
 use Rattle.std.proofs.Common.{◌≡◌, ◌+◌, ◌*◌, ◌≤◌, drop, length}
 use Rattle.plan_meaning.specs.State.{joined}
 use Rattle.plan_eval.specs.Direct.{spot, IsHere, Grows, pending}
-use Rattle.plan_eval.specs.Leads.{Leads}
-use Rattle.plan_eval.specs.Nexts.{begins, next_step}
+use Rattle.eval_steps.specs.Leads.{Leads}
+use Rattle.eval_steps.specs.Nexts.{begins, next_step}
 use Rattle.plan_eval.proofs.direct.+evaluate.Given as goal
 
 abbrev pub decreases-evaluate : goal.decreases-evaluate

@@ -1,6 +1,6 @@
 use Rattle.std.proofs.Common.{List, ap}
 use Rattle.plan_meaning.specs.State.{joined}
-use Rattle.plan_eval.specs.declared.stack_frame.StackFrame.{StackFrame}
+use Rattle.eval_steps.specs.declared.stack_frame.StackFrame.{StackFrame}
 use Rattle.plan_eval.proofs.Taking.{turn_bare, stands_below, safe_given}
 use Rattle.plan_eval.proofs.Diving.{turn_given}
 use Rattle.plan_eval.proofs.machine.give.Goals as goal

@@ -1,6 +1,6 @@
 use Rattle.std.proofs.Common.{List, ap}
 use Rattle.plan_meaning.specs.State.{joined}
-use Rattle.plan_eval.specs.declared.stack_frame.StackFrame.{StackFrame}
+use Rattle.eval_steps.specs.declared.stack_frame.StackFrame.{StackFrame}
 use Rattle.plan_eval.proofs.Taking.{turn_bare_raised, stands_below, safe_raised}
 use Rattle.plan_eval.proofs.Diving.{turn_raises}
 use Rattle.plan_eval.proofs.machine.raise.Goals as goal

@@ -1,7 +1,7 @@
 use Rattle.std.proofs.Common.{◌≡◌, Some, slice_get, sym, ◌∙◌, ap}
 use Rattle.plan_base.specs.declared.tree.Program.{Program}
 use Rattle.plan_meaning.specs.State.{joined}
-use Rattle.plan_eval.specs.Stack.{Spot, expr_from}
+use Rattle.eval_steps.specs.Stack.{Spot, expr_from}
 use Rattle.plan_eval.specs.Direct.{Flows, task_step}
 use Rattle.plan_eval.specs.Turns.{IsAt}
 use Rattle.plan_eval.proofs.Diving.{here_binds, here_spot, here_only}
