@@ -43,7 +43,7 @@ use Rattle.node_model.specs.declared.acts.Lane.{Lane}
 use Rattle.node_model.specs.declared.acts.Sending.{Sending}
 use Rattle.node_model.specs.State.{Links, Queues, NodeState, routing_of, is_host, neighbour_on, is_the_host, leads_to}
 use Rattle.settled_visit.specs.Settles.{handed, telling}
-use Rattle.settled_visit.proofs.Tellings.{Tells}
+use Rattle.settled_visit.proofs.Tellings.{Tells as TellsSource}
 use Rattle.settled_visit.proofs.Sends.{all_settled}
 use Rattle.node_model.specs.Visits.{around, evaluated, visit_end, visit_of, visit_at, settled_at}
 use Rattle.spelled_frame.specs.Spelled.{what_of, numbered}
@@ -180,7 +180,7 @@ settled_is_led node p =
     let v = visit_at node p in
     all_settled P p (around node p) v (All-weaker P (λ s. P (handed p.handler s)) (λ s led. record { default = led.default; leads = led.leads }) v.outbox (visit_is_led node p)) (λ t k. tells_led t k)
   where
-    tells_led : (t : Sent) → Tells p (around node p) (visit_at node p) t → IsLed node.here node.neighbours (all_routes (routing_of node)) t
+    tells_led : (t : Sent) → TellsSource p (around node p) (visit_at node p) t → IsLed node.here node.neighbours (all_routes (routing_of node)) t
     tells_led t k =
         let led : IsLed node.here node.neighbours (all_routes (routing_of node)) (telling p k.name k.text (visit_at node p).left t.dev) = record { default = refl; leads = inl (k.via, k.way) } in
         subst (IsLed node.here node.neighbours (all_routes (routing_of node))) (sym k.is) led
