@@ -81,7 +81,7 @@ abbrev pub IsReadBy : Version → PlainStamped → Type 0
 IsReadBy One x = (x.stamp ≡ None) × IsPlain x.frame
 IsReadBy Two x = IsOfTwo x.stamp x.frame
 
--- all the bytes spell the frame in the version that a node of that version reads for its kind, and its chunk is typed
+-- the bytes spell the frame whole, as nodes of this version read its kind, and its chunk is typed
 pub record AcceptsBy (v : Version) (bytes : List ℕ) (x : PlainStamped) : Type 0 where
   pub short : length bytes ≤ 16512
   pub fits : FrameFits x.frame
