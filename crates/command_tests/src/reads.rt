@@ -4,7 +4,10 @@ use crate::calls::{End, NOTHING, fails};
 use crate::fleets::{REPORTED, starts};
 use crate::objects::{Failing, NONE, Task};
 use crate::requests::{SENT, asks};
-use crate::rows::{FLEET, FRAME, LOG, PROGRAM, REQUEST, RUN, SCHEDULE, SHOWN, SIZES, TRACE};
+use crate::rows::{
+    FLEET, FRAME, LOG, MESSAGE, PART_HELD, PART_LOG, PARTED, PROGRAM, REQUEST, RUN, SCHEDULE,
+    SHOWN, SIZES, TRACE,
+};
 use std::alloc::Global;
 use std::process::Abort;
 use std::test::Fail;
@@ -79,4 +82,21 @@ fn each_call_of_the_reading_fails(rt: HostRuntime) -> Result<(), Fail> {
     )?;
     reads_fail(&rt, alloc, &asks(REQUEST), SENT)?;
     reads_fail(&rt, alloc, &starts(FLEET, &[0, 2]), REPORTED)
+}
+
+#[test]
+fn each_call_of_the_reading_of_messages_fails(rt: HostRuntime) -> Result<(), Fail> {
+    let alloc = rt.alloc();
+    reads_fail(
+        &rt,
+        alloc,
+        &reads(&["cut", "file.txt"], MESSAGE),
+        writes(PARTED),
+    )?;
+    reads_fail(
+        &rt,
+        alloc,
+        &reads(&["gather", "7", "file.txt"], PART_LOG),
+        writes(PART_HELD),
+    )
 }

@@ -6,9 +6,13 @@ use Rattle.std.proofs.lemmas.List.{length-take}
 use Rattle.hex.specs.Hex.{decode_of, IsBytes}
 use Rattle.hex.proofs.HexLemmas.{decode_of-ok}
 use Rattle.packet_frame.specs.declared.fault.FrameFault.{FrameFault}
+use Rattle.link_window.specs.declared.window.Version.{Version}
+use Rattle.link_window.specs.declared.window.Version.TheVariants.{One, Two}
 use Rattle.packet_frame.specs.Typed.{FrameFirst}
-use Rattle.packet_frame.specs.Decoding.{frame_of}
+use Rattle.packet_frame.specs.Stamped.{StampedFirst}
+use Rattle.packet_frame.specs.Decoding.{unstamped, read_by}
 use Rattle.packet_frame.proofs.OneAnswer.{first_is}
+use Rattle.packet_frame.proofs.Versions.{refused_by_two}
 use Rattle.call_causes.specs.Memory.{cause_at}
 use Rattle.call_causes.specs.declared.status.Cause.{Cause}
 use Rattle.call_causes.specs.declared.status.Cause.TheVariants.{NoMemory}
@@ -48,9 +52,21 @@ decoded_bytes text bytes h = (decode_of-ok text bytes h).3
 
 -- ---- a frame that is refused
 
-pub frame_refused : (bytes : List ℕ) (e : FrameFault) (cause : Cause) → cause ≡ cause_at (Frame e) → IsBytes bytes → (e ≡ FrameFault.NoMemory) ⊎ FrameFirst e bytes
-    → Refuses (framed_said (frame_of bytes)) cause
-frame_refused bytes e cause is h (inl none) =
-    let wants : cause ≡ NoMemory = is ∙ ap (λ f. cause_at (Frame f)) none in
-    subst (Refuses (framed_said (frame_of bytes))) (sym wants) tt
-frame_refused bytes e cause is h (inr first) = refuses_told (framed_said (frame_of bytes)) (Frame e) cause is (ap framed_said (first_is bytes e h first))
+module _ (v : Version) (bytes : List ℕ) (e : FrameFault) (cause : Cause) (is : cause ≡ cause_at (Frame e)) where
+  no_room : e ≡ FrameFault.NoMemory → Refuses (framed_said (read_by v bytes)) cause
+  no_room none =
+      let wants : cause ≡ NoMemory = is ∙ ap (λ f. cause_at (Frame f)) none in
+      subst (Refuses (framed_said (read_by v bytes))) (sym wants) tt
+
+  judged : read_by v bytes ≡ Err e → Refuses (framed_said (read_by v bytes)) cause
+  judged first = refuses_told (framed_said (read_by v bytes)) (Frame e) cause is (ap framed_said first)
+
+pub first_refused : (bytes : List ℕ) (e : FrameFault) (cause : Cause) → cause ≡ cause_at (Frame e) → IsBytes bytes → (e ≡ FrameFault.NoMemory) ⊎ FrameFirst e bytes
+    → Refuses (framed_said (read_by One bytes)) cause
+first_refused bytes e cause is h (inl none) = no_room One bytes e cause is none
+first_refused bytes e cause is h (inr first) = judged One bytes e cause is (ap unstamped (first_is bytes e h first))
+
+pub second_refused : (bytes : List ℕ) (e : FrameFault) (cause : Cause) → cause ≡ cause_at (Frame e) → IsBytes bytes → (e ≡ FrameFault.NoMemory) ⊎ StampedFirst e bytes
+    → Refuses (framed_said (read_by Two bytes)) cause
+second_refused bytes e cause is h (inl none) = no_room Two bytes e cause is none
+second_refused bytes e cause is h (inr first) = judged Two bytes e cause is (refused_by_two bytes e h first)

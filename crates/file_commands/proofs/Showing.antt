@@ -5,26 +5,26 @@ use Rattle.hex.specs.Hex.{decode_of}
 use Rattle.hex.specs.declared.error.FromHexError.{FromHexError}
 use Rattle.hex.proofs.HexLemmas.{decode_of-ok}
 use Rattle.node_io.specs.FileMaps.{FileMap, file_at}
-use Rattle.packet_frame.specs.declared.frame.PlainFrame.{PlainFrame}
+use Rattle.packet_frame.specs.declared.frame.PlainStamped.{PlainStamped}
 use Rattle.packet_frame.specs.declared.fault.FrameFault.{FrameFault}
-use Rattle.packet_frame.specs.Typed.{Accepts}
+use Rattle.packet_frame.specs.Stamped.{AcceptsBy}
 use Rattle.frame_text.specs.Frames.{frame_text}
-use Rattle.packet_frame.specs.Decoding.{frame_of}
-use Rattle.packet_frame.proofs.OneAnswer.{accepts_is, found_is}
+use Rattle.packet_frame.specs.Decoding.{read_by}
+use Rattle.packet_frame.proofs.Versions.{accepted_by, found_by}
 use Rattle.call_causes.specs.declared.status.Refusal.TheVariants.{TooLong}
 use Rattle.file_commands.specs.Said.{Said, nothing, outside, says, said_at, IsSaid}
-use Rattle.file_commands.specs.Shows.{frame_limit, without_feed, bytes_said, framed_said, decoded_said, frame_said, show_said, HoldsFrame}
+use Rattle.file_commands.specs.Shows.{frame_limit, without_feed, version_shown, bytes_said, framed_said, decoded_said, frame_said, show_said, HoldsFrame}
 use Rattle.file_commands.proofs.ShowLemmas.{short_hex}
 
-text_said : (text bytes : List ℕ) (x : PlainFrame) → decode_of (without_feed text) ≡ Ok bytes → Accepts bytes x → frame_said text ≡ says (frame_text x)
+text_said : (text bytes : List ℕ) (x : PlainStamped) → decode_of (without_feed text) ≡ Ok bytes → AcceptsBy (version_shown bytes) bytes x → frame_said text ≡ says (frame_text x)
 unfolding frame_said
-text_said text bytes x d a = ap (λ r. decoded_said (bytes_said r)) d ∙ ap framed_said (accepts_is bytes x a)
+text_said text bytes x d a = ap (λ r. decoded_said (bytes_said r)) d ∙ ap framed_said (accepted_by (version_shown bytes) bytes x a)
 
 -- the hex of a frame is shown whole: what the frame says
-pub frame_shown : (files : FileMap) (file : List ℕ) (x : PlainFrame) → HoldsFrame files file x → show_said file files ≡ says (frame_text x)
+pub frame_shown : (files : FileMap) (file : List ℕ) (x : PlainStamped) → HoldsFrame files file x → show_said file files ≡ says (frame_text x)
 frame_shown files file x h =
     ap (λ f. said_at frame_limit frame_said f) h.there
-    ∙ ap (λ b. if b then outside TooLong else frame_said h.text) (short_hex h.text h.bytes h.decoded h.accepted.spells.short)
+    ∙ ap (λ b. if b then outside TooLong else frame_said h.text) (short_hex h.text h.bytes h.decoded h.accepted.short)
     ∙ text_said h.text h.bytes x h.decoded h.accepted
 
 -- ---- the other way
@@ -34,26 +34,26 @@ unrefused true s h = elim h [ ]
 unrefused false s h = h
 
 module _ (text : List ℕ) where
-  frame_found : (bytes : List ℕ) → decode_of (without_feed text) ≡ Ok bytes → (r : Result PlainFrame FrameFault) → frame_of bytes ≡ r → IsSaid (framed_said r)
-      → (x : PlainFrame) × Accepts bytes x
-  frame_found bytes d (Ok x) e h = (x, found_is bytes x (decode_of-ok (without_feed text) bytes d).3 e)
+  frame_found : (bytes : List ℕ) → decode_of (without_feed text) ≡ Ok bytes → (r : Result PlainStamped FrameFault) → read_by (version_shown bytes) bytes ≡ r → IsSaid (framed_said r)
+      → (x : PlainStamped) × AcceptsBy (version_shown bytes) bytes x
+  frame_found bytes d (Ok x) e h = (x, found_by (version_shown bytes) bytes x (decode_of-ok (without_feed text) bytes d).3 e)
   frame_found bytes d (Err f) e h = elim h [ ]
 
   hex_found : (r : Result (List ℕ) FromHexError) → decode_of (without_feed text) ≡ r → IsSaid (decoded_said (bytes_said r))
-      → (bytes : List ℕ) × (decode_of (without_feed text) ≡ Ok bytes) × ((x : PlainFrame) × Accepts bytes x)
-  hex_found (Ok bytes) e h = (bytes, e, frame_found bytes e (frame_of bytes) refl h)
+      → (bytes : List ℕ) × (decode_of (without_feed text) ≡ Ok bytes) × ((x : PlainStamped) × AcceptsBy (version_shown bytes) bytes x)
+  hex_found (Ok bytes) e h = (bytes, e, frame_found bytes e (read_by (version_shown bytes) bytes) refl h)
   hex_found (Err f) e h = elim h [ ]
 
-  text_found : IsSaid (frame_said text) → (bytes : List ℕ) × (decode_of (without_feed text) ≡ Ok bytes) × ((x : PlainFrame) × Accepts bytes x)
+  text_found : IsSaid (frame_said text) → (bytes : List ℕ) × (decode_of (without_feed text) ≡ Ok bytes) × ((x : PlainStamped) × AcceptsBy (version_shown bytes) bytes x)
   unfolding frame_said
   text_found h = hex_found (decode_of (without_feed text)) refl h
 
-file_found : (files : FileMap) (file : List ℕ) (o : Option (List ℕ)) → file_at files file ≡ o → IsSaid (said_at frame_limit frame_said o) → (x : PlainFrame) × HoldsFrame files file x
+file_found : (files : FileMap) (file : List ℕ) (o : Option (List ℕ)) → file_at files file ≡ o → IsSaid (said_at frame_limit frame_said o) → (x : PlainStamped) × HoldsFrame files file x
 file_found files file None e h = elim h [ ]
 file_found files file (Some text) e h =
     let found = text_found text (unrefused (nat_lt frame_limit (length text)) (frame_said text) h) in
     (found.2.0, record { text = text; bytes = found.0; there = e; decoded = found.1; accepted = found.2.1 })
 
 -- what says something is the hex of a frame
-pub frame_is_found : (files : FileMap) (file : List ℕ) → IsSaid (show_said file files) → (x : PlainFrame) × HoldsFrame files file x
+pub frame_is_found : (files : FileMap) (file : List ℕ) → IsSaid (show_said file files) → (x : PlainStamped) × HoldsFrame files file x
 frame_is_found files file h = file_found files file (file_at files file) refl h

@@ -18,6 +18,10 @@ Prints text LinkFault old new = ⊥
 Prints text SpawnFault old new = ⊥
 Prints text (NodesFailed h s) old new = ⊥
 
+-- a command that has a value to write writes this text of it
+abbrev pub PrintsBy : {A : Type 0} → (A → List ℕ) → A → Cause → SinkState → SinkState → Type 0
+PrintsBy text v cause old new = Prints (text v) cause old new
+
 -- the text that bytes say was written, or a prefix of it; or they are refused, or memory was, and nothing was written
 abbrev pub Renders : Said (List ℕ) → Cause → SinkState → SinkState → Type 0
 Renders said Done old new = SaysOf said (λ text. Writes old new text)

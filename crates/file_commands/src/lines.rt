@@ -4,9 +4,10 @@ ghost use Rattle.file_commands.specs.Said.{all_of, said_by, said_in, lines_said}
 ghost use Rattle.file_commands.specs.Takes.{Reads, Takes};
 
 use call_causes::{Cause, Refusal, stop_at};
+use cut_files::{CutFile, read_cut};
 use line_files::LineFault;
-use network_plan::{AskFile, Fleet, ServeConfig};
-use node_files::{read_ask, read_config, read_fleet};
+use network_plan::{AskFile, Fleet, Log, ServeConfig};
+use node_files::{read_ask, read_config, read_fleet, read_log};
 use node_io::{Files, ReadError, read_whole};
 use plan_base::Bytes;
 use std::alloc::Global;
@@ -85,6 +86,31 @@ impl LineValue for ServeConfig {
 
     fn read(alloc: Global, bytes: &[u8]) -> Result<ServeConfig, LineFault> {
         read_config(alloc, bytes)
+    }
+}
+
+impl LineValue for Log {
+    ghost use Rattle.network_plan.specs.NodeRules.{KeepsLog};
+    ghost use Rattle.node_files.specs.Logs.{log_of};
+
+    ghost said = { log_of };
+
+    ghost keeps = { KeepsLog };
+
+    fn read(alloc: Global, bytes: &[u8]) -> Result<Log, LineFault> {
+        read_log(alloc, bytes)
+    }
+}
+
+impl LineValue for CutFile {
+    ghost use Rattle.cut_files.specs.Cuts.{cut_of, KeepsCut};
+
+    ghost said = { cut_of };
+
+    ghost keeps = { KeepsCut };
+
+    fn read(alloc: Global, bytes: &[u8]) -> Result<CutFile, LineFault> {
+        read_cut(alloc, bytes)
     }
 }
 

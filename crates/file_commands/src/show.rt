@@ -1,17 +1,19 @@
 ghost use Rattle.std.specs.Prelude.{◌≡◌, IfOk, MatchResult, Ok};
 ghost use Rattle.hex.specs.Hex.{decode_of, IsBytes};
-ghost use Rattle.packet_frame.specs.Typed.{plain_of};
-ghost use Rattle.packet_frame.specs.Decoding.{frame_of};
+ghost use Rattle.link_window.specs.declared.window.Version.TheVariants.{One, Two};
+ghost use Rattle.packet_frame.specs.Stamped.{stamped_plain};
+ghost use Rattle.packet_frame.specs.Decoding.{read_by};
 ghost use Rattle.file_commands.specs.Said.{says};
 ghost use Rattle.file_commands.specs.Takes.{Refuses, Reads};
-ghost use Rattle.file_commands.specs.Shows.{frame_limit, without_feed, bytes_said, framed_said, frame_said};
+ghost use Rattle.file_commands.specs.Shows.{frame_limit, without_feed, bytes_said, version_shown, framed_said, frame_said};
 
 use crate::command::{FileCommand, print};
 use call_causes::{Cause, Refusal, cause_at};
 use frame_text::print_frame;
 use hex::FromHexError;
+use link_window::Version;
 use node_io::Sink;
-use packet_frame::{Frame, get_frame};
+use packet_frame::{Stamped, get_frame, get_frame2};
 use plan_base::Bytes;
 use std::alloc::Global;
 
@@ -50,21 +52,56 @@ fn decoded(alloc: Global, text: &[u8]) -> Result<Bytes, Cause>
     }
 }
 
-// The frame that the bytes spell.
-fn framed(alloc: Global, bytes: &[u8]) -> Result<Frame, Cause>
+// The version by which bytes are read.
+fn version_of(bytes: &[u8]) -> Version
+    ensures { result ≡ version_shown bytes.now }
+{
+    if bytes.starts_with(b"PLAN\x02") {
+        Version::Two
+    } else {
+        Version::One
+    }
+}
+
+// The frame that the bytes spell in version 1.
+fn first_framed(alloc: Global, bytes: &[u8]) -> Result<Stamped, Cause>
     requires { IsBytes bytes.now }
-    ensures { MatchResult result (λ x. frame_of bytes.now ≡ Ok (plain_of x))
-        (λ why. Refuses (framed_said (frame_of bytes.now)) why) }
+    ensures { MatchResult result (λ x. read_by One bytes.now ≡ Ok (stamped_plain x))
+        (λ why. Refuses (framed_said (read_by One bytes.now)) why) }
 {
     match get_frame(alloc, bytes, None) {
+        Ok(frame) => Ok(Stamped { stamp: None, frame }),
+        Err(refusal) => Err(cause_at(Refusal::Frame(refusal))),
+    }
+}
+
+// The frame that the bytes spell in version 2.
+fn second_framed(alloc: Global, bytes: &[u8]) -> Result<Stamped, Cause>
+    requires { IsBytes bytes.now }
+    ensures { MatchResult result (λ x. read_by Two bytes.now ≡ Ok (stamped_plain x))
+        (λ why. Refuses (framed_said (read_by Two bytes.now)) why) }
+{
+    match get_frame2(alloc, bytes, None) {
         Ok(frame) => Ok(frame),
         Err(refusal) => Err(cause_at(Refusal::Frame(refusal))),
     }
 }
 
+// The frame that the bytes spell in their version.
+fn framed(alloc: Global, bytes: &[u8]) -> Result<Stamped, Cause>
+    requires { IsBytes bytes.now }
+    ensures { MatchResult result (λ x. read_by (version_shown bytes.now) bytes.now ≡ Ok (stamped_plain x))
+        (λ why. Refuses (framed_said (read_by (version_shown bytes.now) bytes.now)) why) }
+{
+    match version_of(bytes) {
+        Version::One => first_framed(alloc, bytes),
+        Version::Two => second_framed(alloc, bytes),
+    }
+}
+
 // What a frame says.
-fn text_of(alloc: Global, frame: &Frame) -> Result<Bytes, Cause>
-    ensures { Reads (framed_said (Ok (plain_of frame.now))) result }
+fn text_of(alloc: Global, frame: &Stamped) -> Result<Bytes, Cause>
+    ensures { Reads (framed_said (Ok (stamped_plain frame.now))) result }
 {
     let mut text = Bytes::new(alloc);
     match print_frame(alloc, frame, &mut text) {
@@ -76,7 +113,7 @@ fn text_of(alloc: Global, frame: &Frame) -> Result<Bytes, Cause>
 // What the frame says that the bytes spell.
 fn bytes_text(alloc: Global, bytes: &[u8]) -> Result<Bytes, Cause>
     requires { IsBytes bytes.now }
-    ensures { Reads (framed_said (frame_of bytes.now)) result }
+    ensures { Reads (framed_said (read_by (version_shown bytes.now) bytes.now)) result }
 {
     match framed(alloc, bytes) {
         Ok(frame) => text_of(alloc, &frame),

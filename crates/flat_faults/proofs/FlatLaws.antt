@@ -205,7 +205,8 @@ later_step e i more next f g h b behind = by_kind (which i)
         let none = counted_none g l.took.count in
         subst (λ j. FlatFault e (j ∷ more) f) (sym c) (behind_chunk p.0 sp (subst (λ m. FlatFault e m g.front) (sym p.2) (behind g.front none (Took-bytes l.took b))))
 
-to_flat : {e : FrameFault} {now : List FrameItem} {s : Scan} → FirstFault frame_step e now s → (f : Front) → s ≡ from_front f → IsBytes f.rest → FlatFault e now f
+-- the first fault of any fields to read is the first of flat ones
+pub to_flat : {e : FrameFault} {now : List FrameItem} {s : Scan} → FirstFault frame_step e now s → (f : Front) → s ≡ from_front f → IsBytes f.rest → FlatFault e now f
 to_flat {e} (here i more s h) f q b = here_step e i more f (ap (frame_step i more) (sym q) ∙ h)
 to_flat {e} (later i more s next g h fault) f q b = later_step e i more next f g (ap (frame_step i more) (sym q) ∙ h) b (λ u k c. to_flat fault u k c)
 

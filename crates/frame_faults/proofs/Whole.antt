@@ -13,13 +13,14 @@ use Rattle.typing_order.proofs.ChunkOwn.{illness_own}
 use Rattle.packet_frame.specs.Forms.{FrameFits}
 use Rattle.packet_frame.specs.Frames.{SpellsFrame, SpellingFault, carried}
 use Rattle.packet_frame.specs.Typed.{Accepts, CarriesTyped, CarriesIll, FrameFirst, misspelled, ill_typed}
+use Rattle.packet_frame.specs.Stamped.{StampedFirst, spells_none, ill_typed as ill_stamped, ill_handled, too_long as long_stamped, misspelled as misspelled_stamped}
 use Rattle.packet_frame.specs.declared.fault.FrameFault.{FrameFault}
 use Rattle.packet_frame.specs.declared.fault.FrameFault.TheVariants as faults
 use Rattle.packet_frame.specs.declared.frame.PlainFrame.{PlainFrame}
 use Rattle.packet_frame.proofs.Carried.{chunk_is_formed, chunk_is_full}
 use Rattle.packet_frame.proofs.FrameLaws.{either_is}
 use Rattle.flat_faults.specs.Flat.{FlatSpellingFault, too_long, misspelled as flat}
-use Rattle.flat_faults.proofs.FlatLaws.{frame_is_flat}
+use Rattle.flat_faults.proofs.FlatLaws.{frame_is_flat, to_flat}
 use Rattle.packet_frame.specs.Decoding.{frame_of, illness_in}
 use Rattle.packet_frame.proofs.OneAnswer.{accepts_is, first_is as answered, found_typed}
 use Rattle.frame_faults.specs.Refusals.{FirstRefusal, of_spelling, of_types, IsFrameOrRefused, HoldsNoMemory}
@@ -74,3 +75,11 @@ module _ (bytes : List ℕ) (are : IsBytes bytes) where
       own e (of_spelling _ (too_long n q)) = subst HoldsNoMemory (sym q) tt
       own e (of_spelling _ (flat n f)) = flat_own f
       own _ (of_types x c i s q f) = illness_own c i ((ill_law x c i s.fits q).1 f)
+
+-- ---- what a node of version 2 reads
+
+pub stamped_own : (bytes : List ℕ) (e : FrameFault) → IsBytes bytes → StampedFirst e bytes → HoldsNoMemory e
+stamped_own bytes e are (spells_none (long_stamped n q)) = subst HoldsNoMemory (sym q) tt
+stamped_own bytes e are (spells_none (misspelled_stamped n f)) = flat_own (to_flat f (record { at = 0; rest = bytes }) refl are)
+stamped_own bytes e are (ill_stamped x s c) = subst HoldsNoMemory (sym c.is) (illness_own c.chunk c.ill c.first)
+stamped_own bytes e are (ill_handled x s c) = subst HoldsNoMemory (sym c.is) tt

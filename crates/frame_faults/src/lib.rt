@@ -11,6 +11,7 @@ ghost use Rattle.chunk_spelling.specs.Spelling.{FirstFaultAt};
 ghost use Rattle.chunk_spelling.specs.declared.fault.SpellFault.{SpellFault};
 ghost use Rattle.chunk_spelling.specs.declared.fault.SpellFault.TheVariants as spelling;
 ghost use Rattle.packet_frame.specs.Typed.{Accepts, FrameFirst};
+ghost use Rattle.packet_frame.specs.Stamped.{StampedFirst};
 ghost use Rattle.packet_frame.specs.declared.fault.FrameFault.{FrameFault};
 ghost use Rattle.packet_frame.specs.declared.frame.PlainFrame.{PlainFrame};
 ghost use Rattle.frame_faults.specs.Refusals.{FirstRefusal, IsFrameOrRefused, HoldsNoMemory};
@@ -24,8 +25,9 @@ pub fn frames_are_refused_first()
     ensures one { (bytes : List ℕ) (d e : FrameFault) → IsBytes bytes → FirstRefusal bytes d → FirstRefusal bytes e → d ≡ e }
 {}
 
-/// No first refusal of spelled parts, or of a frame, is or holds `NoMemory`.
+/// No first refusal of spelled parts, or of a frame of either version, is or holds `NoMemory`.
 pub fn refusals_hold_no_memory()
     ensures parts { (e : SpellFault) (i : Item) (f : Front) → FirstFaultAt e i f → e ≢ spelling.NoMemory }
     ensures frames { (bytes : List ℕ) (e : FrameFault) → IsBytes bytes → FrameFirst e bytes → HoldsNoMemory e }
+    ensures stamped { (bytes : List ℕ) (e : FrameFault) → IsBytes bytes → StampedFirst e bytes → HoldsNoMemory e }
 {}

@@ -1,15 +1,16 @@
-ghost use Rattle.std.specs.Prelude.{◌≡◌, ◌++◌, [], codes, IfOk, OnOk, OnErr};
+ghost use Rattle.std.specs.Prelude.{◌≡◌, ◌++◌, [], None, codes, IfOk, OnOk, OnErr};
 ghost use Rattle.std.specs.Fmt.{decimal};
 ghost use Rattle.std.specs.String.{string_bytes};
 ghost use Rattle.std.specs.List.{flat_map};
 ghost use Rattle.printed_forms.specs.Pieces.{listed, commas};
 ghost use Rattle.printed_forms.specs.Printed.{value_text, program_text};
-ghost use Rattle.packet_frame.specs.Typed.{plain_of};
+ghost use Rattle.packet_frame.specs.Stamped.{stamped_plain};
 ghost use Rattle.packet_frame.specs.declared.frame.PlainFrame.{PlainFrame as Plain};
-ghost use Rattle.frame_text.specs.Frames.{chunk_text, packet_head as head_text, packet_line, row_line, frame_text};
+ghost use Rattle.frame_text.specs.Frames.{chunk_text, packet_head as head_text, stamp_text, handler_text, packet_line, row_line, text_with, frame_text};
 
-use packet_frame::{Advert, AdvertRow, CheckedPacket, Frame};
-use plan_base::{Bytes, Chunk, NoMemory};
+use link_window::Stamp;
+use packet_frame::{Advert, AdvertRow, CheckedPacket, Frame, Stamped};
+use plan_base::{Bytes, Chunk, Name, NoMemory};
 use plan_printer::{print_program, put, put_values};
 use std::alloc::{AllocError, Global};
 
@@ -40,15 +41,50 @@ fn packet_head(
     format!(in alloc; "packet {source}.{serial} dest @{dest} bound {bound} route ")
 }
 
+/// A stamp, if there is one.
+#[tactic(auto, using(crate::proofs::Ends::nothing_behind, std::proofs::Common::append_assoc))]
+fn put_stamp(alloc: Global, stamp: &Option<Stamp>, out: &mut Bytes) -> Result<(), NoMemory>
+    ensures { OnOk result (out.new ≡ out.old ++ stamp_text stamp.now) }
+{
+    match stamp {
+        None => Ok(()),
+        Some(Stamp { boot, link }) => {
+            let text = format!(in alloc; " boot {boot} link {link}")?;
+            put(out, text.as_bytes())
+        }
+    }
+}
+
+/// A handler, if there is one.
+#[tactic(auto, using(crate::proofs::Ends::nothing_behind, std::proofs::Common::append_assoc))]
+fn put_handler(handler: &Option<Name>, out: &mut Bytes) -> Result<(), NoMemory>
+    ensures { OnOk result (out.new ≡ out.old ++ handler_text handler.now) }
+{
+    match handler {
+        None => Ok(()),
+        Some(name) => {
+            put(out, b" handler ")?;
+            put(out, name.as_slice())
+        }
+    }
+}
+
 /// The line of a packet.
 #[tactic(auto, using(std::proofs::Common::append_assoc))]
-fn put_packet_line(alloc: Global, p: &CheckedPacket, out: &mut Bytes) -> Result<(), NoMemory>
-    ensures { OnOk result (out.new ≡ out.old ++ packet_line p.now) }
+fn put_packet_line(
+    alloc: Global,
+    stamp: &Option<Stamp>,
+    p: &CheckedPacket,
+    out: &mut Bytes,
+) -> Result<(), NoMemory>
+    ensures { OnOk result (out.new ≡ out.old ++ packet_line stamp.now p.now) }
 {
     let family = p.family();
     let head = packet_head(alloc, family.source.0, family.serial, p.dest().0, p.bound())?;
     put(out, head.as_bytes())?;
     put(out, p.route().as_slice())?;
+    put_stamp(alloc, stamp, out)?;
+    put_handler(p.handler(), out)?;
     put(out, b"\n")
 }
 
@@ -73,20 +109,27 @@ fn put_rows(alloc: Global, rows: &[AdvertRow], out: &mut Bytes) -> Result<(), No
 }
 
 /// An advert.
-#[tactic(auto, unfolding(crate::specs::Frames::frame_text), using(std::proofs::Common::append_assoc))]
-fn put_advert(alloc: Global, a: &Advert, out: &mut Bytes) -> Result<(), NoMemory>
-    ensures { OnOk result (out.new ≡ out.old ++ frame_text (Plain.Advert a.now)) }
+#[tactic(auto, using(std::proofs::Common::append_assoc))]
+fn put_advert(
+    alloc: Global,
+    stamp: &Option<Stamp>,
+    a: &Advert,
+    out: &mut Bytes,
+) -> Result<(), NoMemory>
+    ensures { OnOk result (out.new ≡ out.old ++ text_with stamp.now (Plain.Advert a.now)) }
 {
     let host = a.host.0;
-    let line = format!(in alloc; "advert @{host}\n")?;
+    let line = format!(in alloc; "advert @{host}")?;
     put(out, line.as_bytes())?;
+    put_stamp(alloc, stamp, out)?;
+    put(out, b"\n")?;
     put_rows(alloc, a.rows.as_slice(), out)
 }
 
-/// An ask.
-#[tactic(auto, unfolding(crate::specs::Frames::frame_text), using(std::proofs::Common::append_assoc))]
+/// An ask, which bears no stamp.
+#[tactic(auto, using(std::proofs::Common::append_assoc))]
 fn put_ask(alloc: Global, bound: u32, c: &Chunk, out: &mut Bytes) -> Result<(), NoMemory>
-    ensures { OnOk result (out.new ≡ out.old ++ frame_text (Plain.Ask bound c.now)) }
+    ensures { OnOk result (out.new ≡ out.old ++ text_with None (Plain.Ask bound c.now)) }
 {
     let line = format!(in alloc; "ask bound {bound}\n")?;
     put(out, line.as_bytes())?;
@@ -95,27 +138,28 @@ fn put_ask(alloc: Global, bound: u32, c: &Chunk, out: &mut Bytes) -> Result<(), 
 
 /// A frame.
 #[tactic(auto, unfolding(crate::specs::Frames::frame_text), using(std::proofs::Common::append_assoc))]
-fn put_frame(alloc: Global, frame: &Frame, out: &mut Bytes) -> Result<(), NoMemory>
-    ensures { OnOk result (out.new ≡ out.old ++ frame_text (plain_of frame.now)) }
+fn put_frame(alloc: Global, x: &Stamped, out: &mut Bytes) -> Result<(), NoMemory>
+    ensures { OnOk result (out.new ≡ out.old ++ frame_text (stamped_plain x.now)) }
 {
-    match frame {
+    match &x.frame {
         Frame::Packet(p) => {
-            put_packet_line(alloc, p, out)?;
+            put_packet_line(alloc, &x.stamp, p, out)?;
             put_chunk(alloc, p.chunk().chunk(), out)
         }
-        Frame::Advert(a) => put_advert(alloc, a, out),
+        Frame::Advert(a) => put_advert(alloc, &x.stamp, a, out),
         Frame::Ask(bound, c) => put_ask(alloc, *bound, c.chunk(), out),
     }
 }
 
 /// Appends what a frame says: a packet or an ask with the call of its chunk and the printed program, an advert with its
-/// rows. Where memory is refused, `out` stays.
-pub fn print_frame(alloc: Global, frame: &Frame, out: &mut Bytes) -> Result<(), NoMemory>
-    ensures whole { OnOk result (out.new ≡ out.old ++ frame_text (plain_of frame.now)) }
+/// rows, and at the end of the first line its stamp, if it bears one, and its handler, if it has one. Where memory is
+/// refused, `out` stays.
+pub fn print_frame(alloc: Global, x: &Stamped, out: &mut Bytes) -> Result<(), NoMemory>
+    ensures whole { OnOk result (out.new ≡ out.old ++ frame_text (stamped_plain x.now)) }
     ensures stays { OnErr result (out.new ≡ out.old) }
 {
     let mut text = Bytes::new(alloc);
-    put_frame(alloc, frame, &mut text)?;
+    put_frame(alloc, x, &mut text)?;
     out.add_all(text.as_slice())?;
     Ok(())
 }

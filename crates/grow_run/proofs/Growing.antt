@@ -1,23 +1,26 @@
 -- A network with one event more, and with all of them.
-use Rattle.std.proofs.Common.{◌≡◌, ℕ, suc, ◌+◌, ◌-◌, ◌<◌, ◌≤◌, List, [], ◌∷◌, ◌++◌, length, Ok, refl, sym, ap, ◌∙◌, append_assoc, subst, arith}
+use Rattle.std.proofs.Common.{◌≡◌, ℕ, suc, ◌+◌, ◌-◌, ◌<◌, ◌≤◌, List, [], ◌∷◌, ◌++◌, length, refl, sym, ap, ◌∙◌, append_assoc, subst, arith}
 use Rattle.std.proofs.lemmas.List.{append-nil, length-append}
 use Rattle.std.proofs.lemmas.List.Elements.{All-nil, All-push}
 use Rattle.rand_pcg.specs.Lcg.{Lcg}
 use Rattle.plan_base.specs.declared.ids.Host.{Host}
 use Rattle.plan_base.specs.declared.tree.Chunk.{Chunk}
 use Rattle.plan_base.specs.declared.tree.Program.{Program}
-use Rattle.program_text.specs.Texts.{program_of}
 use Rattle.service_api.specs.Services.{ServiceState}
 use Rattle.network_plan.specs.declared.event.WorldEvent.{WorldEvent}
 use Rattle.world_model.specs.World.{WorldState, happens, entries, world_after, history_of, opening}
 use Rattle.world_model.specs.Sound.{event_fits, EventsFit}
+use Rattle.link_window.specs.declared.window.Version.TheVariants.{One}
+use Rattle.network_laws.proofs.Fitting.{run_version}
+use Rattle.network_laws.proofs.Handings.{opening_leaves}
+use Rattle.network_laws.proofs.Opening.{opening_version, opening_sound}
 use Rattle.run_ledger.specs.Stands.{Stands}
 use Rattle.run_ledger.proofs.Runs.{world_after-push, history_of-push, event_fits_ledger}
 use Rattle.grow_run.specs.Grow.{ring, next_event, grown, Grow}
 use Rattle.grow_run.specs.Summaries.{summary_of, grown_text, GrowText}
 use Rattle.grow_run.proofs.RingRules.{ring_keeps}
 use Rattle.net_world.specs.Stands.{WorldStands}
-use Rattle.net_world.specs.Running.{IsCountable}
+use Rattle.net_world.specs.Running.{AllLeave, IsCountable}
 use Rattle.net_world.proofs.RunLaws.{opening_made}
 use Rattle.grow_run.specs.Pings.{ping as ping_of, OfGrown}
 use Rattle.node_io.specs.Sinks.{SinkState, Writes, FailsIn}
@@ -32,7 +35,7 @@ pub record Grows {S : Type 0} (stands : S → ServiceState) (ping : Host → Hos
   pub events : List WorldEvent
   pub all : events ++ grown ping (n - made) g.words (world_after events (opening ring)) ≡ grown ping n first (opening ring)
   pub many : length events ≡ made
-  pub fits : EventsFit events
+  pub fits : EventsFit One events
   pub world : WorldStands stands g.world (world_after events (opening ring))
   pub number : g.world.made ≡ made
   pub ledger : Stands (history_of events (opening ring)) g.ledger
@@ -60,23 +63,33 @@ module _ {S : Type 0} (stands : S → ServiceState) (ping : Host → Host → Ch
     events = [];
     all = ap (λ k. grown ping k g.words (world_after [] start)) all_left ∙ (λ i. grown ping n (words i) (back i));
     many = refl;
-    fits = All-nil event_fits;
+    fits = All-nil (event_fits One);
     world = subst (WorldStands stands g.world) still_start world;
-    number = world.made ∙ opening_made ring;
+    number = world.is.made ∙ opening_made ring;
     ledger = subst (λ h. Stands h g.ledger) nothing_made ledger;
     summary = summary ∙ ap summary_of nothing_made;
   }
 
   -- the lines of the next event can be counted
-  pub grows_countable : (made : ℕ) (g : Growth S) (e : WorldEvent) → Grows stands ping n first made g → made < 50000 → event_fits e → IsCountable stands g.world e g.ledger
+  pub grows_countable : (made : ℕ) (g : Growth S) (e : WorldEvent) → Grows stands ping n first made g → made < 50000 → event_fits One e → IsCountable stands g.world e g.ledger
   grows_countable made g e grows few fits = record {
     state = world_after grows.events (opening ring);
     is = grows.world;
-    fits = event_fits_ledger ring grows.events e g.ledger ring_keeps.hosts grows.fits fits (subst (λ k. k < 50000) (sym grows.many) few) grows.ledger;
+    fits = event_fits_ledger ring grows.events e g.ledger ring_keeps grows.fits fits (subst (λ k. k < 50000) (sym grows.many) few) grows.ledger;
   }
 
+  -- what the next event leaves is what its lines leave by the wire
+  pub grows_leave : (made : ℕ) (g : Growth S) (e : WorldEvent) (grows : Grows stands ping n first made g) → AllLeave (history_of grows.events (opening ring)) (world_after grows.events (opening ring)) e
+  grows_leave made g e grows = λ f. opening_leaves f ring grows.events e ring_keeps grows.fits
+
+  -- the network stays one of version 1
+  pub grows_version : (made : ℕ) (g : Growth S) → Grows stands ping n first made g → g.world.version ≡ One
+  grows_version made g grows =
+      let there : EventsFit (opening ring).version grows.events = subst (λ v. EventsFit v grows.events) (sym (opening_version ring)) grows.fits in
+      grows.world.is.version ∙ run_version grows.events (opening ring) there (opening_sound ring ring_keeps) ∙ opening_version ring
+
   pub grows_next : (made : ℕ) (g new : Growth S) (after : Lcg) (e : WorldEvent) (grows : Grows stands ping n first made g) → made < n
-      → (e, after) ≡ next_event ping g.words (world_after grows.events (opening ring)) → new.words ≡ after → event_fits e
+      → (e, after) ≡ next_event ping g.words (world_after grows.events (opening ring)) → new.words ≡ after → event_fits One e
       → WorldStands stands new.world (happens (world_after grows.events (opening ring)) e).world
       → new.world.made ≡ g.world.made + 1
       → Stands (history_of grows.events (opening ring) ++ entries (world_after grows.events (opening ring)) e) new.ledger
@@ -94,7 +107,7 @@ module _ {S : Type 0} (stands : S → ServiceState) (ping : Host → Host → Ch
             ∙ ap (λ x. grows.events ++ x) (one_more ping (n - (made + 1)) g.words new.words w e (ap (λ x. (e, x)) words ∙ drawn) ∙ ap (λ k. grown ping k g.words w) left)
             ∙ grows.all;
         many = omega (arith, length-append grows.events (e ∷ []), grows.many);
-        fits = All-push event_fits grows.events e grows.fits fits;
+        fits = All-push (event_fits One) grows.events e grows.fits fits;
         world = subst (WorldStands stands new.world) (sym pushed) world;
         number = number ∙ ap (λ k. k + 1) grows.number;
         ledger = subst (λ h. Stands h new.ledger) (sym history) ledger;
@@ -108,6 +121,9 @@ module _ {S : Type 0} (stands : S → ServiceState) (ping : Host → Host → Ch
 
   pub grown_ledger : (made : ℕ) (g : Growth S) → Grows stands ping n first made g → n ≤ made → Stands (history_of (grown ping n first (opening ring)) (opening ring)) g.ledger
   grown_ledger made g grows done = subst (λ es. Stands (history_of es (opening ring)) g.ledger) (all_made made g grows done) grows.ledger
+
+  pub grown_fit : (made : ℕ) (g : Growth S) → Grows stands ping n first made g → n ≤ made → EventsFit One (grown ping n first (opening ring))
+  grown_fit made g grows done = subst (EventsFit One) (all_made made g grows done) grows.fits
 
   pub grown_summary : (made : ℕ) (g : Growth S) → Grows stands ping n first made g → n ≤ made → g.summary ≡ summary_of (history_of (grown ping n first (opening ring)) (opening ring))
   grown_summary made g grows done = grows.summary ∙ ap (λ es. summary_of (history_of es (opening ring))) (all_made made g grows done)

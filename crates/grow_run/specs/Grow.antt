@@ -1,5 +1,6 @@
 -- A network that grows by itself: its hosts and links, and each of its events.
-use Rattle.std.specs.Prelude.{ℕ, zero, suc, ◌+◌, nat_lt, if◌then◌else◌, List, [], ◌∷◌}
+use Rattle.std.specs.Prelude.{ℕ, zero, suc, ◌+◌, nat_lt, if◌then◌else◌, List, [], ◌∷◌, None}
+use Rattle.link_window.specs.declared.window.Version.TheVariants.{One}
 use Rattle.rand_pcg.specs.Lcg.{Lcg}
 use Rattle.plan_base.specs.declared.ids.Host.{Host}
 use Rattle.plan_base.specs.declared.tree.Chunk.{Chunk}
@@ -22,16 +23,17 @@ whole_host n = record { host = host_of n; missing = [] }
 abbrev pub ring_link : ℕ → ℕ → Cable
 ring_link n m = (host_of n, dev_of 1, host_of m, dev_of 2)
 
--- eight hosts in a ring
+-- eight hosts in a ring, of version 1
 abbrev pub ring : Topology
 ring = record {
   hosts = whole_host 1 ∷ whole_host 2 ∷ whole_host 3 ∷ whole_host 4 ∷ whole_host 5 ∷ whole_host 6 ∷ whole_host 7 ∷ whole_host 8 ∷ [];
   links = ring_link 1 2 ∷ ring_link 2 3 ∷ ring_link 3 4 ∷ ring_link 4 5 ∷ ring_link 5 6 ∷ ring_link 6 7 ∷ ring_link 7 8 ∷ ring_link 8 1 ∷ [];
+  version = One;
 }
 
 -- the event that was drawn; what is injected is the ping from one host to the other
 abbrev pub event_of : (Host → Host → Chunk) → Choice → WorldEvent
-event_of ping (choice.Inject h g) = event.Inject h (ping h g) 20
+event_of ping (choice.Inject h g) = event.Inject h (ping h g) 20 None
 event_of ping (choice.Send h d) = event.Send h d
 event_of ping (choice.Deliver n) = event.Deliver n
 event_of ping (choice.Lose n) = event.Lose n

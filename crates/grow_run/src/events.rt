@@ -1,6 +1,7 @@
 ghost use Rattle.std.specs.Prelude.{◌≡◌, ◌≤◌, IfOk};
 ghost use Rattle.world_model.specs.World.{WorldState};
 ghost use Rattle.world_model.specs.Sound.{event_fits};
+ghost use Rattle.link_window.specs.declared.window.Version.TheVariants.{One};
 ghost use Rattle.grow_run.specs.Grow as grow;
 ghost use Rattle.net_world.specs.Stands.{WorldStands};
 ghost use Rattle.grow_run.specs.Pings as spec;
@@ -26,12 +27,12 @@ const HOSTS: u32 = 8;
 fn event_of(alloc: Global, code: &Checked, choice: Choice) -> Result<WorldEvent, NoMemory>
     requires { choice_fits choice }
     ensures event { IfOk result (λ e. e ≡ grow.event_of (spec.ping code.now) choice) }
-    ensures fits { IfOk result event_fits }
+    ensures fits { IfOk result (event_fits One) }
 {
     match choice {
         Choice::Inject(from, to) => {
             let chunk = ping(alloc, code, from, to)?;
-            Ok(WorldEvent::Inject(from, chunk, BOUND))
+            Ok(WorldEvent::Inject(from, chunk, BOUND, None))
         }
         Choice::Send(host, dev) => Ok(WorldEvent::Send(host, dev)),
         Choice::Deliver(number) => Ok(WorldEvent::Deliver(number)),
@@ -49,7 +50,7 @@ fn drawn_event<S: Services>(
 ) -> Result<WorldEvent, NoMemory>
     ensures event { (w : WorldState) → WorldStands S.stands world.now w
         → IfOk result (λ e. (e, words.new) ≡ drawn_event (spec.ping code.now) words.old w) }
-    ensures fits { IfOk result event_fits }
+    ensures fits { IfOk result (event_fits One) }
 {
     let choice = choose(words, world.lowest(), world.highest());
     event_of(alloc, code, choice)
@@ -64,7 +65,7 @@ pub fn next_event<S: Services>(
 ) -> Result<WorldEvent, NoMemory>
     ensures event { (w : WorldState) → WorldStands S.stands world.now w
         → IfOk result (λ e. (e, words.new) ≡ grow.next_event (spec.ping code.now) words.old w) }
-    ensures fits { IfOk result event_fits }
+    ensures fits { IfOk result (event_fits One) }
 {
     let made = world.made();
     if made < HOSTS {

@@ -4,12 +4,13 @@ ghost use Rattle.grow_run.specs.Draws.{begun};
 ghost use Rattle.world_model.specs.declared.lines.Entry.{Entry};
 ghost use Rattle.world_model.specs.World.{WorldState, happens, entries, opening, opening_services};
 ghost use Rattle.world_model.specs.Counts.{Balanced};
-ghost use Rattle.world_model.specs.Sound.{event_fits};
+ghost use Rattle.world_model.specs.Sound.{event_fits, EventsFit};
+ghost use Rattle.link_window.specs.declared.window.Version.TheVariants.{One};
 ghost use Rattle.run_ledger.specs.Stands.{Stands};
 ghost use Rattle.grow_run.specs.Grow as grow;
 ghost use Rattle.grow_run.specs.Summaries.{summary_of, grown_text};
 ghost use Rattle.net_world.specs.Stands.{WorldStands};
-ghost use Rattle.net_world.specs.Running.{IsCountable};
+ghost use Rattle.net_world.specs.Running.{AllLeave, IsCountable};
 ghost use Rattle.grow_run.specs.Events.{grown_history};
 ghost use Rattle.grow_run.specs.Pings as spec;
 
@@ -58,21 +59,22 @@ impl<S: Services + Drop> Growth<S> {
 impl<S: Services> Growth<S> {
     /// Makes an event and counts its lines.
     fn make(&mut self, alloc: Global, event: &WorldEvent) -> Result<(), NoMemory>
-        requires fits { event_fits event.now }
+        requires fits { event_fits self.old.world.version event.now }
         requires few { self.old.world.made < 2 ^ 32 - 2 }
         requires counts { IsCountable S.stands self.old.world event.now self.old.ledger }
         ensures world { (w : WorldState) → WorldStands S.stands self.old.world w
             → OnOk result (WorldStands S.stands self.new.world (happens w event.now).world) }
         ensures counts { (w : WorldState) (h : List Entry) → WorldStands S.stands self.old.world w
-            → Stands h self.old.ledger
+            → AllLeave h w event.now → Stands h self.old.ledger
             → self.old.summary ≡ summary_of h
             → OnOk result (Stands (h ++ entries w event.now) self.new.ledger
             × (self.new.summary ≡ summary_of (h ++ entries w event.now))) }
         ensures made { (self.new.words ≡ self.old.words)
             × OnOk result (self.new.world.made ≡ self.old.world.made + 1) }
     {
+        let late = self.world.is_late(event);
         let lines = self.world.step(alloc, event)?;
-        count_lines(&mut self.ledger, lines.as_slice())?;
+        count_lines(&mut self.ledger, lines.as_slice(), late)?;
         self.summary.count(lines.as_slice());
         Ok(())
     }
@@ -87,6 +89,8 @@ impl<S: Services> Growth<S> {
             (Stands (grown_history (spec.ping code.now) events self.old.words) self.new.ledger) }
         ensures summary { OnOk result (self.new.summary
             ≡ summary_of (grown_history (spec.ping code.now) events self.old.words)) }
+        ensures fits { OnOk result (EventsFit One
+            (grow.grown (spec.ping code.now) events self.old.words (opening grow.ring))) }
     {
         for _made in 0..events {
             let event = next_event(alloc, code, &self.world, &mut self.words)?;

@@ -1,6 +1,7 @@
 ghost use Rattle.std.specs.Prelude.{◌≡◌, ◌++◌, ◌∷◌, [], IfOk, OnOk};
 ghost use Rattle.grow_run.specs.Grow as spec;
 
+use link_window::Version;
 use network_plan::{HostSpec, HostSpecs, Link, Links, Topology};
 use plan_base::{Dev, Host, NoMemory};
 use plan_items::Items;
@@ -54,13 +55,14 @@ fn ring_links(alloc: Global) -> Result<Links, NoMemory>
     Ok(links)
 }
 
-/// The network that grows: the hosts 1 to 8, device 1 of each linked to device 2 of the next, and that of
-/// host 8 to host 1.
+/// The network that grows, of version 1: the hosts 1 to 8, device 1 of each linked to device 2 of the next, and
+/// that of host 8 to host 1.
 pub fn ring(alloc: Global) -> Result<Topology, NoMemory>
     ensures { IfOk result (λ t. t ≡ spec.ring) }
 {
     Ok(Topology {
         hosts: ring_hosts(alloc)?,
         links: ring_links(alloc)?,
+        version: Version::One,
     })
 }

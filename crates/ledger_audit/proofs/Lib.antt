@@ -1,3 +1,4 @@
 pub mod Multisets
+pub mod Versions
 pub mod Refusals
 pub mod Balances

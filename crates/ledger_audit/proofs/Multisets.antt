@@ -1,6 +1,6 @@
 -- Lists of crossings by how often each stands in them.
-use Rattle.std.proofs.Common.{◌≡◌, ◌≢◌, ℕ, zero, suc, ◌+◌, ◌-◌, ◌≤◌, ◌<◌, Bool, true, false, ◌&&◌, if◌then◌else◌, List, [], ◌∷◌, ◌++◌, map, Option, Some, None, refl, sym, ap, subst, ◌∙◌, arith, true≢false}
-use Rattle.std.specs.Prelude.{nat_lt, ◌==◌, sum_by, ◌↔◌}
+use Rattle.std.proofs.Common.{◌≡◌, ℕ, suc, ◌+◌, ◌≤◌, Bool, true, false, ◌&&◌, if◌then◌else◌, List, [], ◌∷◌, Option, Some, None, refl, sym, ap, ◌∙◌, arith, true≢false}
+use Rattle.std.specs.Prelude.{nat_lt, ◌==◌, sum_by}
 use Rattle.std.specs.Str.{bytes_eq}
 use Rattle.std.proofs.lemmas.Slice.Eq.{bytes_eq-Decides}
 use Rattle.std.proofs.lemmas.Bool.{eqb-true}
@@ -8,7 +8,7 @@ use Rattle.std.proofs.lemmas.List.Sums.{sum_by-cons}
 use Rattle.std.proofs.lemmas.Bool.Decides.{nat_tests}
 use Rattle.small_laws.proofs.Bools.{both_true}
 use Rattle.world_model.specs.declared.lines.LinkEnd.{LinkEnd}
-use Rattle.ledger_audit.specs.Crossings.{Crossing, same_end, same_crossing, times, Arrival, Over, first_over, crossings, AtMost, less_one, less_each}
+use Rattle.ledger_audit.specs.Crossings.{Crossing, same_end, same_crossing, times, Arrival, first_over, crossings, AtMost, less_one, less_each}
 
 -- ---- the test
 

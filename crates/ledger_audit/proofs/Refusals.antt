@@ -1,15 +1,20 @@
 -- A packet that arrives is never refused, and only a taking gives a frame.
-use Rattle.std.proofs.Common.{◌≡◌, ℕ, ◌+◌, ◌-◌, Bool, true, false, not, ◌||◌, cond, if◌then◌else◌, List, [], ◌∷◌, ◌++◌, map, Option, Some, None, refl, sym, ap, ◌∙◌, arith, true≢false}
+use Rattle.std.proofs.Common.{◌≡◌, ℕ, Bool, true, false, not, ◌||◌, cond, if◌then◌else◌, List, [], ◌∷◌, ◌++◌, map, Option, Some, None, refl, sym, ap, ◌∙◌, true≢false}
 use Rattle.std.specs.Prelude.{◌==◌, Result, Ok, Err, slice_get}
 use Rattle.std.specs.List.{list_any}
-use Rattle.plan_base.specs.declared.ids.Host.{Host}
 use Rattle.plan_base.specs.declared.ids.Dev.{Dev}
 use Rattle.plan_base.specs.declared.ids.Family.{Family}
 use Rattle.plan_base.specs.declared.tree.Chunk.{Chunk}
 use Rattle.plan_base.specs.declared.tree.Packet.{Packet}
 use Rattle.packet_frame.specs.declared.frame.PlainFrame.{PlainFrame}
 use Rattle.packet_frame.specs.declared.fault.FrameFault.{FrameFault}
-use Rattle.packet_frame.specs.Decoding.{frame_of}
+use Rattle.packet_frame.specs.declared.frame.PlainStamped.{PlainStamped}
+use Rattle.packet_frame.specs.Decoding.{read_by}
+use Rattle.spelled_frame.specs.Spelled.{IsOnItsWay}
+use Rattle.link_window.specs.declared.window.Stamp.{Stamp}
+use Rattle.link_window.specs.declared.window.Took.{Took}
+use Rattle.link_window.specs.declared.window.Took.TheVariants.{Fresh, Repeated, TooOld}
+use Rattle.plan_base.specs.declared.name.Name.{Name}
 use Rattle.service_api.specs.declared.answer.Note.{Note}
 use Rattle.service_api.specs.declared.router.Hop.{Hop}
 use Rattle.service_api.specs.declared.router.Hop.TheVariants.{To, NoService, NoRoute}
@@ -17,17 +22,17 @@ use Rattle.service_api.specs.Routes.{hop}
 use Rattle.dv_routing.specs.Routing.{all_routes}
 use Rattle.service_api.specs.declared.advert.Advert.{Advert}
 use Rattle.plan_meaning.specs.declared.sent.Sent.{Sent}
-use Rattle.plan_meaning.specs.declared.outcome.Visit.{Visit}
 use Rattle.network_plan.specs.declared.event.Event.{Event}
 use Rattle.network_plan.specs.declared.event.Event.TheVariants as event
 use Rattle.node_model.specs.declared.acts.Act.{Act}
-use Rattle.node_model.specs.declared.acts.Act.TheVariants.{Arrived, Noted, Ended, Dropped, Misplaced, Bad, Asked, SerialsSpent, Injected, Heard}
+use Rattle.node_model.specs.declared.acts.Act.TheVariants.{Arrived, Noted, Ended, Dropped, Misplaced, Asked, SerialsSpent, Injected, Heard}
 use Rattle.node_model.specs.declared.acts.Reason.TheVariants as reason
-use Rattle.node_model.specs.declared.acts.Sending.{Sending}
+use Rattle.node_model.specs.declared.acts.Lane.{Lane}
 use Rattle.node_model.specs.State.{Queues, NodeState, routing_of, is_host, leads_to}
-use Rattle.node_model.specs.Visits.{visit_at}
-use Rattle.node_model.specs.Node.{Step, node_step, inject_step, arrive_step, arrived, asked, control_step, tick_step, take_step, packet_step, forward_step, forward_by, advert_step, frame_step, visited, visit_acts, visit_sends, sends_acts, send_act, send_queues, has_room, packet_sending, onward, only_acts, hearing, next_serial, injected_packet}
-use Rattle.node_model.specs.Counts.{came, frame_came}
+use Rattle.settled_visit.specs.declared.settling.Settled.{Settled}
+use Rattle.node_model.specs.Visits.{visit_at, settled_at}
+use Rattle.node_model.specs.Node.{Step, node_step, inject_step, arrive_step, arrived, asked_plain, asked, drop_act, lane_room, mark, takes_as, stamped_as, stamped_step, control_step, tick_step, take_step, packet_step, forward_step, forward_by, advert_step, frame_step, visited, handled_acts, visit_acts, visit_sends, sends_acts, send_act, send_queues, has_room, packet_sending, onward, only_acts, hearing, next_serial, injected_packet}
+use Rattle.node_model.specs.Counts.{came, frame_live, if_fresh, bytes_came}
 use Rattle.ledger_audit.specs.Runs.{is_refusal, is_accepted}
 
 abbrev Clean : List Act → Type 0
@@ -49,26 +54,45 @@ clean_notes : (ns : List Note) → Clean (map Noted ns)
 clean_notes [] = refl
 clean_notes (n ∷ ns) = clean_notes ns
 
-clean_send : (queues : Queues) (s : Sent) → is_refusal (send_act queues (packet_sending s)) ≡ false
+clean_send : (m : Option Stamp) (queues : Queues) (s : Sent) → is_refusal (send_act queues (packet_sending m s)) ≡ false
 unfolding send_act
-clean_send queues s = by (has_room queues (packet_sending s).dev)
+clean_send m queues s = by (has_room queues (packet_sending m s).dev (packet_sending m s).frame) (slice_get queues (packet_sending m s).dev.0)
   where
-    by : (t : Bool) → is_refusal (if t then (packet_sending s).queued else (packet_sending s).dropped) ≡ false
-    by true = refl
-    by false = refl
+    full : (t : Bool) → is_refusal (if t then (packet_sending m s).spent else (packet_sending m s).dropped) ≡ false
+    full true = refl
+    full false = refl
 
-clean_sends : (queues : Queues) (ss : List Sent) → Clean (sends_acts queues (map packet_sending ss))
+    unsent : (o : Option Lane) → is_refusal (drop_act o (packet_sending m s)) ≡ false
+    unsent None = refl
+    unsent (Some lane) = full (lane_room lane)
+
+    by : (t : Bool) (o : Option Lane) → is_refusal (if t then (packet_sending m s).queued else drop_act o (packet_sending m s)) ≡ false
+    by true o = refl
+    by false o = unsent o
+
+clean_sends : (m : Option Stamp) (queues : Queues) (ss : List Sent) → Clean (sends_acts queues (map (packet_sending m) ss))
 unfolding sends_acts
-clean_sends queues [] = refl
-clean_sends queues (s ∷ ss) = or_both (is_refusal (send_act queues (packet_sending s))) (list_any is_refusal (sends_acts (send_queues queues (packet_sending s)) (map packet_sending ss))) (clean_send queues s) (clean_sends (send_queues queues (packet_sending s)) ss)
+clean_sends m queues [] = refl
+clean_sends m queues (s ∷ ss) =
+    or_both (is_refusal (send_act queues (packet_sending m s))) (list_any is_refusal (sends_acts (send_queues queues (packet_sending m s)) (map (packet_sending m) ss)))
+    (clean_send m queues s) (clean_sends m (send_queues queues (packet_sending m s)) ss)
 
-clean_visit : (queues : Queues) (p : Packet) (v : Visit) → Clean (visit_acts queues p v)
+clean_handled : (g : Family) (h : Option Name) (bound : ℕ) → Clean (handled_acts g h bound)
+clean_handled g None bound = refl
+clean_handled g (Some n) bound = refl
+
+clean_visit : (m : Option Stamp) (queues : Queues) (p : Packet) (left : ℕ) (s : Settled) → Clean (visit_acts m queues p left s)
 unfolding visit_acts visit_sends
-clean_visit queues p v = clean_append (map Noted v.notes) (Ended p.family v.outcome v.evals v.left ∷ sends_acts queues (map packet_sending v.outbox)) (clean_notes v.notes) (clean_sends queues v.outbox)
+clean_visit m queues p left s =
+    let v = s.visit in
+    let handled = handled_acts p.family s.handled left in
+    let sent = sends_acts queues (map (packet_sending m) v.outbox) in
+    clean_append (map Noted v.notes) (Ended p.family v.outcome v.evals v.left ∷ (handled ++ sent)) (clean_notes v.notes)
+    (clean_append handled sent (clean_handled p.family s.handled left) (clean_sends m queues v.outbox))
 
 clean_by : (node : NodeState) (d : Dev) (p : Packet) (h : Hop) → Clean (forward_by node d p h).acts
 unfolding forward_by
-clean_by node d p (To host over) = or_both (is_refusal (send_act node.queues (packet_sending (record { dev = over; packet = p })))) false (clean_send node.queues (record { dev = over; packet = p })) refl
+clean_by node d p (To host over) = or_both (is_refusal (send_act node.queues (packet_sending (mark node) (record { dev = over; packet = p })))) false (clean_send (mark node) node.queues (record { dev = over; packet = p })) refl
 clean_by node d p NoService = refl
 clean_by node d p NoRoute = refl
 
@@ -85,19 +109,52 @@ unfolding packet_step visited
 clean_packet node d p = by (is_host p.dest node.here)
   where
     by : (t : Bool) → Clean (cond t (visited (Arrived d ∷ []) node p) (forward_step node d p)).acts
-    by true = clean_visit node.queues p (visit_at node p)
+    by true = clean_visit (mark node) node.queues p (visit_at node p).left (settled_at node p)
     by false = clean_forward node d p
 
 -- what is refused brings nothing
-pub refused_came : (f : Family) (node : NodeState) (d : Dev) (bytes : List ℕ) → is_accepted (node_step node (event.Frame d bytes)).acts ≡ false → came f (event.Frame d bytes) ≡ 0
-unfolding arrive_step
-refused_came f node d bytes e = by (frame_of bytes) e
+pub refused_came : (f : Family) (node : NodeState) (d : Dev) (bytes : List ℕ) → is_accepted (node_step node (event.Frame d bytes)).acts ≡ false → came f node (event.Frame d bytes) ≡ 0
+unfolding arrive_step stamped_step
+refused_came f node d bytes e = by (read_by node.version bytes) e
   where
-    by : (r : Result PlainFrame FrameFault) → is_accepted (arrived node d r).acts ≡ false → frame_came f r ≡ 0
+    fresh : (x : PlainFrame) → is_accepted (frame_step node d x).acts ≡ false → frame_live f x ≡ 0
+    fresh (PlainFrame.Packet p) q = absurd (true≢false (sym (ap not (clean_packet node d p)) ∙ q))
+    fresh (PlainFrame.Advert a) q = refl
+    fresh (PlainFrame.Ask b c) q = refl
+
+    among : (x : PlainStamped) (t : Took) → is_accepted (stamped_as node d x t).acts ≡ false → if_fresh t (frame_live f x.frame) ≡ 0
+    among x Fresh q = fresh x.frame q
+    among x Repeated q = refl
+    among x TooOld q = refl
+
+    by : (r : Result PlainStamped FrameFault) → is_accepted (arrived node d r).acts ≡ false → bytes_came f node d r ≡ 0
     by (Err e) q = refl
-    by (Ok (PlainFrame.Packet p)) q = absurd (true≢false (sym (ap not (clean_packet node d p)) ∙ q))
-    by (Ok (PlainFrame.Advert a)) q = refl
-    by (Ok (PlainFrame.Ask b c)) q = refl
+    by (Ok x) q = among x (takes_as node.seen d x.stamp) q
+
+-- what is accepted was read, is fresh, and may be on its way
+pub record IsTaken (node : NodeState) (d : Dev) (bytes : List ℕ) : Type 0 where
+  pub frame : PlainStamped
+  pub read : read_by node.version bytes ≡ Ok frame
+  pub fresh : takes_as node.seen d frame.stamp ≡ Fresh
+  pub way : IsOnItsWay frame.frame
+
+pub accepted_taken : (node : NodeState) (d : Dev) (bytes : List ℕ) → is_accepted (node_step node (event.Frame d bytes)).acts ≡ true → IsTaken node d bytes
+unfolding arrive_step stamped_step
+accepted_taken node d bytes e = by (read_by node.version bytes) refl e
+  where
+    way : (x : PlainFrame) → is_accepted (frame_step node d x).acts ≡ true → IsOnItsWay x
+    way (PlainFrame.Packet p) q = tt
+    way (PlainFrame.Advert a) q = tt
+    way (PlainFrame.Ask b c) q = absurd (true≢false (sym q))
+
+    among : (x : PlainStamped) (t : Took) → read_by node.version bytes ≡ Ok x → takes_as node.seen d x.stamp ≡ t → is_accepted (stamped_as node d x t).acts ≡ true → IsTaken node d bytes
+    among x Fresh r s q = record { frame = x; read = r; fresh = s; way = way x.frame q }
+    among x Repeated r s q = absurd (true≢false (sym q))
+    among x TooOld r s q = absurd (true≢false (sym q))
+
+    by : (r : Result PlainStamped FrameFault) → read_by node.version bytes ≡ r → is_accepted (arrived node d r).acts ≡ true → IsTaken node d bytes
+    by (Err e) r q = absurd (true≢false (sym q))
+    by (Ok x) r q = among x (takes_as node.seen d x.stamp) r refl q
 
 -- ---- frames
 
@@ -108,11 +165,11 @@ none_visited : (acts : List Act) (node : NodeState) (p : Packet) → NoFrame (vi
 unfolding visited
 none_visited acts node p = refl
 
-none_inject : (acts : List Act) (node : NodeState) (c : Chunk) (b : ℕ) → NoFrame (inject_step acts node c b)
+none_inject : (acts : List Act) (node : NodeState) (c : Chunk) (b : ℕ) (o : Option Name) → NoFrame (inject_step acts node c b o)
 unfolding inject_step visited
-none_inject acts node c b = by (node.serial == 18446744073709551615)
+none_inject acts node c b o = by (node.serial == 18446744073709551615)
   where
-    by : (t : Bool) → NoFrame (cond t (record { acts = acts ++ SerialsSpent ∷ []; frame = None; node = node }) (visited (acts ++ Injected (record { source = node.here; serial = node.serial }) b ∷ []) (next_serial node) (injected_packet node c b)))
+    by : (t : Bool) → NoFrame (cond t (record { acts = acts ++ SerialsSpent ∷ []; frame = None; node = node }) (visited (acts ++ Injected (record { source = node.here; serial = node.serial }) b ∷ []) (next_serial node) (injected_packet node c b o)))
     by true = refl
     by false = refl
 
@@ -139,23 +196,35 @@ none_advert node d a = by (leads_to node.neighbours d a.host)
     by true = refl
     by false = refl
 
-pub none_arrived : (node : NodeState) (d : Dev) (r : Result PlainFrame FrameFault) → NoFrame (arrived node d r)
-none_arrived node d (Err e) = refl
-none_arrived node d (Ok (PlainFrame.Packet p)) = none_packet node d p
-none_arrived node d (Ok (PlainFrame.Advert a)) = none_advert node d a
-none_arrived node d (Ok (PlainFrame.Ask b c)) = refl
+none_frame : (node : NodeState) (d : Dev) (x : PlainFrame) → NoFrame (frame_step node d x)
+none_frame node d (PlainFrame.Packet p) = none_packet node d p
+none_frame node d (PlainFrame.Advert a) = none_advert node d a
+none_frame node d (PlainFrame.Ask b c) = refl
 
-pub none_asked : (node : NodeState) (r : Result PlainFrame FrameFault) → NoFrame (asked node r)
+none_as : (node : NodeState) (d : Dev) (x : PlainStamped) (t : Took) → NoFrame (stamped_as node d x t)
+none_as node d x Fresh = none_frame node d x.frame
+none_as node d x Repeated = refl
+none_as node d x TooOld = refl
+
+pub none_arrived : (node : NodeState) (d : Dev) (r : Result PlainStamped FrameFault) → NoFrame (arrived node d r)
+unfolding stamped_step
+none_arrived node d (Err e) = refl
+none_arrived node d (Ok x) = none_as node d x (takes_as node.seen d x.stamp)
+
+none_asked_plain : (node : NodeState) (x : PlainFrame) → NoFrame (asked_plain node x)
+none_asked_plain node (PlainFrame.Packet p) = refl
+none_asked_plain node (PlainFrame.Advert a) = refl
+none_asked_plain node (PlainFrame.Ask b c) = none_inject (Asked ∷ []) node c b None
+
+pub none_asked : (node : NodeState) (r : Result PlainStamped FrameFault) → NoFrame (asked node r)
 none_asked node (Err e) = refl
-none_asked node (Ok (PlainFrame.Packet p)) = refl
-none_asked node (Ok (PlainFrame.Advert a)) = refl
-none_asked node (Ok (PlainFrame.Ask b c)) = none_inject (Asked ∷ []) node c b
+none_asked node (Ok x) = none_asked_plain node x.frame
 
 -- each event but a taking gives no frame
 pub none_event : (node : NodeState) (e : Event) → ((d : Dev) → e ≡ event.Take d → ⊥) → (node_step node e).frame ≡ None
 unfolding arrive_step control_step tick_step
-none_event node (event.Inject c b) n = none_inject [] node c b
-none_event node (event.Frame d bytes) n = none_arrived node d (frame_of bytes)
-none_event node (event.Control bytes) n = none_asked node (frame_of bytes)
+none_event node (event.Inject c b o) n = none_inject [] node c b o
+none_event node (event.Frame d bytes) n = none_arrived node d (read_by node.version bytes)
+none_event node (event.Control bytes) n = none_asked node (read_by node.version bytes)
 none_event node event.Tick n = refl
 none_event node (event.Take d) n = absurd (n d refl)

@@ -1,10 +1,15 @@
 -- What the audit of logs answers, and the counts of a family over them.
-use Rattle.std.specs.Prelude.{◌≡◌, ℕ, ◌+◌, List, [], ◌∷◌, ◌++◌, sum_by, Option, Some, None}
+use Rattle.std.specs.Prelude.{◌≡◌, ℕ, ◌+◌, List, [], ◌∷◌, ◌++◌, sum_by, codes, nat_eq, Option, Result, Ok, Err, if◌then◌else◌}
+use Rattle.std.specs.List.{starts_with}
 use Rattle.plan_base.specs.declared.ids.Family.{Family}
-use Rattle.packet_frame.specs.Decoding.{frame_of}
+use Rattle.link_window.specs.declared.window.Version.{Version}
+use Rattle.link_window.specs.declared.window.Version.TheVariants.{One, Two}
+use Rattle.packet_frame.specs.declared.frame.PlainStamped.{PlainStamped}
+use Rattle.packet_frame.specs.declared.fault.FrameFault.{FrameFault}
+use Rattle.packet_frame.specs.Decoding.{read_by}
 use Rattle.network_plan.specs.declared.event.LogEvent.{LogEvent}
 use Rattle.node_model.specs.State.{NodeState}
-use Rattle.node_model.specs.Counts.{act_sum, act_granted, act_hops, act_evals, act_left, node_live, frame_came}
+use Rattle.node_model.specs.Counts.{act_sum, act_granted, act_hops, act_evals, act_left, node_live, frame_live}
 use Rattle.serve_model.specs.Runs.{node_after}
 use Rattle.world_model.specs.World.{Cables}
 use Rattle.bound_ledger.specs.declared.row.Row.{Row}
@@ -32,9 +37,18 @@ misfit links ls = first_over (all_sent ls) [] (all_accepted links 0 ls)
 
 -- ---- counts of a family
 
+-- the version of a frame, by how its bytes begin
+abbrev pub version_in : List ℕ → Version
+version_in bytes = if starts_with nat_eq bytes (codes "PLAN" ++ 2 ∷ []) then Two else One
+
+-- the bound of what was read, where it is a packet of this family
+abbrev pub read_live : Family → Result PlainStamped FrameFault → ℕ
+read_live f (Ok x) = frame_live f x.frame
+read_live f (Err e) = 0
+
 -- the bound of a crossing's packet, where it is one of this family
 abbrev pub crossing_live : Family → Crossing → ℕ
-crossing_live f c = frame_came f (frame_of c.bytes)
+crossing_live f c = read_live f (read_by (version_in c.bytes) c.bytes)
 
 -- what it was granted, over the acts of all logs
 abbrev pub granted : Family → List Logged → ℕ

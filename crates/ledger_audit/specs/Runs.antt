@@ -1,20 +1,18 @@
 -- What the run of a log accepts and sends.
-use Rattle.std.specs.Prelude.{◌≡◌, ℕ, ◌+◌, Bool, true, false, not, if◌then◌else◌, List, [], ◌∷◌, ◌++◌, Option, Some, None}
+use Rattle.std.specs.Prelude.{ℕ, ◌+◌, Bool, true, false, not, if◌then◌else◌, List, [], ◌∷◌, ◌++◌, Option, Some, None}
 use Rattle.std.specs.List.{list_any}
 use Rattle.plan_base.specs.declared.ids.Host.{Host}
 use Rattle.plan_base.specs.declared.ids.Dev.{Dev}
-use Rattle.packet_frame.specs.declared.frame.PlainFrame.{PlainFrame}
-use Rattle.packet_frame.specs.Bytes.{frame_bytes}
-use Rattle.network_plan.specs.declared.event.Event.{Event}
+use Rattle.packet_frame.specs.declared.frame.PlainStamped.{PlainStamped}
+use Rattle.packet_frame.specs.Stamped.{stamped_bytes}
 use Rattle.network_plan.specs.declared.event.Event.TheVariants as event
 use Rattle.network_plan.specs.declared.event.LogEvent.{LogEvent}
-use Rattle.network_plan.specs.declared.event.LogEvent.TheVariants.{Step, Lost}
+use Rattle.network_plan.specs.declared.event.LogEvent.TheVariants.{Step}
 use Rattle.node_model.specs.declared.acts.Act.{Act}
-use Rattle.node_model.specs.declared.acts.Act.TheVariants.{Bad, Misplaced}
+use Rattle.node_model.specs.declared.acts.Act.TheVariants.{Bad, Misplaced, Stale}
 use Rattle.node_model.specs.State.{NodeState}
 use Rattle.node_model.specs.Node.{node_step}
 use Rattle.serve_model.specs.Runs.{acts_of, node_by}
-use Rattle.world_model.specs.declared.lines.LinkEnd.{LinkEnd}
 use Rattle.world_model.specs.World.{Cables, far_end}
 use Rattle.ledger_audit.specs.Crossings.{Crossing, Arrival}
 
@@ -22,6 +20,7 @@ use Rattle.ledger_audit.specs.Crossings.{Crossing, Arrival}
 abbrev pub is_refusal : Act → Bool
 is_refusal (Bad f) = true
 is_refusal Misplaced = true
+is_refusal (Stale t w) = true
 is_refusal _ = false
 
 -- whether an arrival with these acts was accepted
@@ -43,9 +42,9 @@ accepts links node (Step (event.Frame d bytes)) =
 accepts links node _ = []
 
 -- a frame that was taken
-abbrev pub sends_frame : Host → Dev → Option PlainFrame → List Crossing
+abbrev pub sends_frame : Host → Dev → Option PlainStamped → List Crossing
 sends_frame h d None = []
-sends_frame h d (Some x) = crossing_from h d (frame_bytes x) ∷ []
+sends_frame h d (Some x) = crossing_from h d (stamped_bytes x) ∷ []
 
 -- what an entry sends
 abbrev pub sends : NodeState → LogEvent → List Crossing

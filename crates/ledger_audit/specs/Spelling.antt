@@ -1,37 +1,42 @@
 -- Logs from their beginning whose frames are read again.
-use Rattle.std.specs.Prelude.{◌≡◌, List, [], ◌∷◌, Option, Some, None, Ok}
-use Rattle.std.specs.List.{AllByRecursion}
-use Rattle.plan_base.specs.declared.ids.Family.{Family}
-use Rattle.packet_frame.specs.declared.frame.PlainFrame.{PlainFrame}
-use Rattle.packet_frame.specs.Bytes.{frame_bytes}
-use Rattle.packet_frame.specs.Decoding.{frame_of}
+use Rattle.std.specs.Prelude.{◌≡◌, ℕ, List, [], ◌∷◌, Option, Some, None, Ok}
+use Rattle.wire_bytes.specs.Fields.{IsBytes}
+use Rattle.packet_frame.specs.declared.frame.PlainStamped.{PlainStamped}
+use Rattle.packet_frame.specs.Stamped.{stamped_bytes}
+use Rattle.packet_frame.specs.Decoding.{read_by}
+use Rattle.network_plan.specs.declared.event.Event.{Event}
 use Rattle.network_plan.specs.declared.event.Event.TheVariants as event
 use Rattle.network_plan.specs.declared.event.LogEvent.{LogEvent}
 use Rattle.network_plan.specs.declared.event.LogEvent.TheVariants.{Step, Lost}
 use Rattle.node_model.specs.State.{NodeState, no_queues}
 use Rattle.node_model.specs.Node.{node_step}
 use Rattle.serve_model.specs.Runs.{node_by}
-use Rattle.ledger_audit.specs.Audits.{Logged}
+use Rattle.ledger_audit.specs.Audits.{Logged, version_in}
 
 -- nothing is queued at first
 abbrev pub Begins : Logged → Type 0
-Begins l = l.node.queues ≡ no_queues
+Begins l = (link : ℕ) × (l.node.queues ≡ no_queues link)
 
 -- a frame that was taken, if one was, is read again
-abbrev pub FrameReads : Option PlainFrame → Type 0
+abbrev pub FrameReads : Option PlainStamped → Type 0
 FrameReads None = Unit {0}
-FrameReads (Some x) = frame_of (frame_bytes x) ≡ Ok x
+FrameReads (Some x) = read_by (version_in (stamped_bytes x)) (stamped_bytes x) ≡ Ok x
 
--- the frame of an entry, if it takes one
-abbrev pub TakenReads : NodeState → LogEvent → Type 0
-TakenReads node (Step e) = FrameReads (node_step node e).frame
-TakenReads node Lost = Unit {0}
+-- what arrives are bytes
+abbrev pub BytesCome : Event → Type 0
+BytesCome (event.Frame d bytes) = IsBytes bytes
+BytesCome _ = Unit {0}
 
--- the frames of all entries
+-- what an entry brings, and the frame that it takes, if any
+abbrev pub EntryReads : NodeState → LogEvent → Type 0
+EntryReads node (Step e) = BytesCome e × FrameReads (node_step node e).frame
+EntryReads node Lost = Unit {0}
+
+-- the same of all entries
 abbrev pub EntriesRead : NodeState → List LogEvent → Type 0
 EntriesRead node [] = Unit {0}
-EntriesRead node (e ∷ es) = TakenReads node e × EntriesRead (node_by node e) es
+EntriesRead node (e ∷ es) = EntryReads node e × EntriesRead (node_by node e) es
 
--- each frame that is taken is read again from its bytes
+-- what arrives are bytes, and each frame that is taken is read again from its own
 abbrev pub ReadsAgain : Logged → Type 0
 ReadsAgain l = EntriesRead l.node l.entries

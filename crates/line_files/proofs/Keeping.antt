@@ -9,6 +9,7 @@ use Rattle.small_laws.proofs.Bools.{both_true}
 use Rattle.plan_base.specs.declared.ids.Host.{Host}
 use Rattle.service_api.specs.declared.package.PackageName.{PackageName}
 use Rattle.service_api.specs.declared.package.PackageName.TheVariants as packages
+use Rattle.link_window.specs.declared.window.Version.{Version}
 use Rattle.network_plan.specs.Hosts.{host_of, is_listed}
 use Rattle.network_plan.specs.FileNames.{is_file_name}
 use Rattle.network_plan.specs.Rules.{PackagesDiffer}
@@ -17,8 +18,10 @@ use Rattle.hex.specs.Hex.{decode_of, IsBytes}
 use Rattle.hex.specs.declared.error.FromHexError.{FromHexError}
 use Rattle.hex.proofs.HexLemmas.{decode_of-ok}
 use Rattle.line_files.specs.declared.fault.LineReason.{LineReason}
-use Rattle.line_files.specs.declared.fault.LineReason.TheVariants.{BadWord, BadNumber, TwiceNamed, TooMany, BadArgument}
+use Rattle.line_files.specs.declared.fault.LineReason.TheVariants.{BadHeader, BadWord, BadNumber, TwiceNamed, TooMany, BadArgument}
 use Rattle.line_files.specs.declared.fault.LineFault.{LineFault}
+use Rattle.line_files.specs.declared.fault.LineFault.TheVariants as faults
+use Rattle.line_files.specs.Headers.{versioned}
 use Rattle.line_files.specs.Reads.{◌>>=◌, and_then, word_at, allowed}
 use Rattle.line_files.specs.Files.{Format, at_line, read_on}
 use Rattle.line_files.specs.Numbers.{spelled, within, number_in, number_at}
@@ -239,6 +242,10 @@ at_line_keeps P number (Err r) h y e = absurd cc
 pub either_keeps : {B : Type 0} (P : B → Type 0) (t : Bool) (a b : Result B LineFault) → IfStep P a → IfStep P b → IfStep P (cond t a b)
 either_keeps P true a b h k = h
 either_keeps P false a b h k = k
+
+pub version_keeps : {B : Type 0} (P : B → Type 0) (number : ℕ) (next : Version → B) (v : Option Version) → ((version : Version) → P (next version)) → IfStep P (versioned number next v)
+version_keeps P number next (Some version) h = step_done P (next version) (h version)
+version_keeps P number next None h = step_none P (faults.Line number BadHeader)
 
 -- what every line keeps is kept at the end of the file
 pub read_keeps : {S T : Type 0} (f : Format S T) (P : S → Type 0) (Q : T → Type 0) → ((number : ℕ) (line : List ℕ) (s : S) → P s → IfStep P (f.step number line s)) → ((number : ℕ) (s : S) → P s → IfStep Q (f.finish number s))

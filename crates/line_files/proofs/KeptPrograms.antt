@@ -12,13 +12,11 @@ use Rattle.plan_types.specs.Kept.{IsChecked}
 use Rattle.chunk_types.specs.Chunks.{refusal_of, IsCheckedChunk}
 use Rattle.program_text.specs.declared.fault.TextFault.{TextFault}
 use Rattle.program_text.specs.Texts.{program_of, args_of_text}
-use Rattle.network_plan.specs.Rules.{KeepsInjection}
 use Rattle.line_files.specs.declared.fault.LineReason.TheVariants.{TooMany, BadArgument}
 use Rattle.line_files.specs.Reads.{rest_at, allowed}
-use Rattle.line_files.specs.Numbers.{number_at}
-use Rattle.line_files.specs.Programs.{accepted, program_in, entry_at, args_at, chunk_with, typed_chunk, injection_at, call_at, weighed}
+use Rattle.line_files.specs.Programs.{accepted, program_in, entry_at, args_at, chunk_with, typed_chunk, call_at, weighed}
 use Rattle.line_files.proofs.TextLaws.{AreGood, program_checked, args_good, chunk_checked}
-use Rattle.line_files.proofs.Keeping.{IfRead, ok_is, then_keeps, done_keeps, allowed_true, ok_or_is, number_is}
+use Rattle.line_files.proofs.Keeping.{IfRead, ok_is, then_keeps, done_keeps, allowed_true, ok_or_is}
 
 accepted_is : (r : Result Program TextFault) (p : Program) → accepted r ≡ Ok p → r ≡ Ok p
 accepted_is (Ok q) p e = let same = ok_is q p e in ap (λ z. Ok z) same
@@ -31,33 +29,20 @@ program_is text =
     then_keeps IsChecked (allowed (leb (length text) 65536) TooMany) _ (λ u small p hp.
     program_checked text p (leb-true (length text) 65536 (allowed_true (leb (length text) 65536) TooMany u small)) (accepted_is (program_of text) p hp))
 
-args_are : (ws : List (List ℕ)) → IfRead AreGood (args_at ws)
+pub args_are : (ws : List (List ℕ)) → IfRead AreGood (args_at ws)
 unfolding args_at
 args_are ws =
     then_keeps AreGood (rest_at ws) _ (λ text ht.
     then_keeps AreGood (allowed (leb (length text) 65536) BadArgument) _ (λ u small vs e.
     args_good text vs (leb-true (length text) 65536 (allowed_true (leb (length text) 65536) BadArgument u small)) (ok_or_is (args_of_text text) BadArgument vs e)))
 
-chunk_is : (c : Chunk) → IsChecked c.code → AreGood c.args → IfRead IsCheckedChunk (typed_chunk c)
+pub chunk_is : (c : Chunk) → IsChecked c.code → AreGood c.args → IfRead IsCheckedChunk (typed_chunk c)
 unfolding typed_chunk
 chunk_is c code good =
     then_keeps IsCheckedChunk (allowed (not (is_some (refusal_of c))) BadArgument) _ (λ u hu.
     done_keeps IsCheckedChunk c (chunk_checked c code good.0 good.1 (allowed_true (not (is_some (refusal_of c))) BadArgument u hu)))
 
-abbrev pub KeepsBoth : Chunk × ℕ → Type 0
-KeepsBoth i = KeepsInjection i.0 i.1
-
--- what is injected is typed, with a bound of at most 65,535
-pub injection_is : (program : Program) (ws : List (List ℕ)) → IsChecked program → IfRead KeepsBoth (injection_at program ws)
-unfolding injection_at
-injection_is program ws checked =
-    then_keeps KeepsBoth (entry_at program.funs ws) _ (λ f hf.
-    then_keeps KeepsBoth (number_at 0 65535 f.1) _ (λ bound hb.
-    then_keeps KeepsBoth (args_at bound.1) _ (λ args ha.
-    then_keeps KeepsBoth (typed_chunk (chunk_with program f.0.name args)) _ (λ chunk hc.
-    done_keeps KeepsBoth (chunk, bound.0) ((number_is 0 65535 f.1 bound hb).1, chunk_is (chunk_with program f.0.name args) checked (args_are bound.1 args ha) chunk hc)))))
-
--- and so is a call
+-- a call is typed
 pub call_is : (program : Program) (ws : List (List ℕ)) → IsChecked program → IfRead IsCheckedChunk (call_at program ws)
 unfolding call_at
 call_is program ws checked =

@@ -6,5 +6,8 @@ pub mod HostRows
 pub mod FileLaws
 pub mod Keeping
 pub mod KeptPrograms
+pub mod KeptInjections
+pub mod LineLaws
+pub mod CountLaws
 pub mod Placing
 pub mod Again

@@ -1,30 +1,16 @@
 -- Where a refusal stands: at one of the lines or behind the last.
-use Rattle.std.proofs.Common.{◌≡◌, ℕ, ◌+◌, ◌≤◌, Bool, true, false, cond, List, [], ◌∷◌, length, Result, Ok, Err, refl, ap, subst, arith}
+use Rattle.std.proofs.Common.{◌≡◌, ℕ, ◌+◌, ◌≤◌, Bool, true, false, cond, List, [], ◌∷◌, length, Option, Some, None, Result, Ok, Err, refl, ap, subst, arith}
+use Rattle.link_window.specs.declared.window.Version.{Version}
 use Rattle.line_files.specs.declared.fault.LineReason.{LineReason}
+use Rattle.line_files.specs.declared.fault.LineReason.TheVariants.{BadHeader}
 use Rattle.line_files.specs.declared.fault.LineFault.{LineFault}
 use Rattle.line_files.specs.declared.fault.LineFault.TheVariants as faults
 use Rattle.line_files.specs.Reads.{and_then}
-use Rattle.line_files.specs.Files.{Format, at_line, read_on}
+use Rattle.line_files.specs.Files.{Format, at_line}
+use Rattle.line_files.specs.Headers.{versioned}
+use Rattle.line_files.specs.Inside.{after_lines, Placed, OnFault, RefusesRead}
 use Rattle.line_files.proofs.Keeping.{IfStep}
-
--- a refusal at a line up to one
-abbrev pub Placed : ℕ → LineFault → Type 0
-Placed high (faults.Line n r) = (1 ≤ n) × (n ≤ high)
-Placed high faults.NoMemory = ⊥
-
-placed_to : (high more : ℕ) (e : LineFault) → high ≤ more → Placed high e → Placed more e
-placed_to high more (faults.Line n r) le p = (p.0, omega (arith, p.1, le))
-placed_to high more faults.NoMemory le p = p
-
--- what holds of a refusal
-abbrev pub OnFault : {B : Type 0} → ℕ → Result B LineFault → Type 0
-OnFault {B} high r = (e : LineFault) → r ≡ Err e → Placed high e
-
-abbrev failed : {B : Type 0} → LineFault → Result B LineFault
-failed e = Err e
-
-pub err_is : {B : Type 0} (d e : LineFault) → failed {B = B} d ≡ failed e → d ≡ e
-err_is d e h = cc
+use Rattle.line_files.proofs.LineLaws.{err_is}
 
 pub fault_done : {B : Type 0} (high : ℕ) (x : B) → OnFault {B = B} high (Ok x)
 fault_done high x e h = absurd cc
@@ -40,9 +26,9 @@ pub either_placed : {B : Type 0} (high : ℕ) (t : Bool) (a b : Result B LineFau
 either_placed high true a b h k = h
 either_placed high false a b h k = k
 
-stopped_placed : {S T : Type 0} (number more : ℕ) (r : Result S LineFault) (f : S → Result T LineFault) → number ≤ more → OnFault number r → ((x : S) → r ≡ Ok x → OnFault more (f x)) → OnFault more (and_then r f)
-stopped_placed number more (Ok x) f le h k e q = k x refl e q
-stopped_placed {S} {T} number more (Err d) f le h k e q = placed_to number more e le (h e (ap failed (err_is {B = T} d e q)))
+pub version_placed : {B : Type 0} (number : ℕ) (next : Version → B) (v : Option Version) → 1 ≤ number → OnFault number (versioned number next v)
+version_placed number next (Some version) low = fault_done number (next version)
+version_placed {B} number next None low = fault_here {B = B} number number BadHeader low (omega arith)
 
 -- a format whose steps and ends refuse at lines read so far, where B says which lines a state may still refuse
 pub record Places {S T : Type 0} (f : Format S T) (B : ℕ → S → Type 0) : Type 0 where
@@ -51,9 +37,22 @@ pub record Places {S T : Type 0} (f : Format S T) (B : ℕ → S → Type 0) : T
   pub step : (number : ℕ) (line : List ℕ) (s : S) → 1 ≤ number → B number s → OnFault number (f.step number line s)
   pub finish : (number : ℕ) (s : S) → 1 ≤ number → B number s → OnFault number (f.finish number s)
 
-pub read_placed : {S T : Type 0} (f : Format S T) (B : ℕ → S → Type 0) → Places f B → (ls : List (List ℕ)) (number : ℕ) (s : S) → 1 ≤ number → B number s → OnFault (number + length ls) (read_on f number ls s)
-unfolding read_on
-read_placed f B p [] number s low b e h = placed_to number (number + length {A = List ℕ} []) e (omega arith) (p.finish number s low b e h)
-read_placed f B p (line ∷ ls) number s low b e h =
-    stopped_placed number (number + length (line ∷ ls)) (f.step number line s) _ (omega arith) (p.step number line s low b)
-    (λ t ht d q. placed_to (number + 1 + length ls) (number + length (line ∷ ls)) d (omega arith) (read_placed f B p ls (number + 1) t (omega (arith, low)) (p.later number t (p.kept number line s low b t ht)) d q)) e h
+-- what holds of a state holds behind lines
+kept_behind : {S T : Type 0} (f : Format S T) (B : ℕ → S → Type 0) → Places f B → (ls : List (List ℕ)) (number : ℕ) (s t : S) → 1 ≤ number → B number s → after_lines f number ls s ≡ Ok t → B (number + length ls) t
+unfolding after_lines
+kept_behind f B p [] number s t low b e =
+    let same : s ≡ t = cc in
+    let here : number ≡ number + length {A = List ℕ} [] = omega arith in
+    subst (λ n. B n t) here (subst (λ x. B number x) same b)
+kept_behind {S} {T} f B p (line ∷ ls) number s t low b e = by (f.step number line s) refl e (λ x q h. kept_behind f B p ls (number + 1) x t (omega arith) (p.later number x (p.kept number line s low b x q)) h)
+  where
+    by : (r : Result S LineFault) → f.step number line s ≡ r → and_then r (λ x. after_lines f (number + 1) ls x) ≡ Ok t → ((x : S) → f.step number line s ≡ Ok x → after_lines f (number + 1) ls x ≡ Ok t → B (number + 1 + length ls) t) → B (number + length (line ∷ ls)) t
+    by (Ok x) is q more = let there : number + 1 + length ls ≡ number + length (line ∷ ls) = omega arith in subst (λ n. B n t) there (more x is q)
+    by (Err d) is q more = absurd cc
+
+-- such a format refuses lines that were read
+pub refuses_read : {S T : Type 0} (f : Format S T) (begin : S) (B : ℕ → S → Type 0) → Places f B → B 1 begin → RefusesRead f begin
+refuses_read f begin B p b = record {
+  step = λ ls line s e. p.step (1 + length ls) line s (omega arith) (kept_behind f B p ls 1 begin s (omega arith) b e);
+  finish = λ ls s e. p.finish (1 + length ls) s (omega arith) (kept_behind f B p ls 1 begin s (omega arith) b e);
+}

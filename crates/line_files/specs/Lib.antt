@@ -1,9 +1,14 @@
 pub mod Lines
 pub mod Reads
 pub mod Files
+pub mod Inside
+pub mod Counting
+pub mod Headers
 pub mod Numbers
 pub mod Packages
 pub mod HostLists
 pub mod FileNames
 pub mod HexWords
 pub mod Programs
+pub mod Handlers
+pub mod Injections

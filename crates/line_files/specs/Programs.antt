@@ -17,7 +17,6 @@ use Rattle.line_files.specs.declared.fault.LineReason.{LineReason}
 use Rattle.line_files.specs.declared.fault.LineReason.TheVariants.{TooMany, ProgramRefused, BadArgument}
 use Rattle.line_files.specs.declared.programs.OpenProgram.{OpenProgram}
 use Rattle.line_files.specs.Reads.{◌>>=◌, Part, word_at, allowed, rest_at}
-use Rattle.line_files.specs.Numbers.{number_at}
 
 -- a program without text, begun at a line
 abbrev pub opened : ℕ → OpenProgram
@@ -69,15 +68,6 @@ unfoldable pub typed_chunk : Chunk → Result Chunk LineReason
 typed_chunk chunk = do
   _ ← allowed (not (is_some (refusal_of chunk))) BadArgument
   Ok chunk
-
--- `ENTRY BOUND ARGS` of a program: what is injected, and with which bound
-unfoldable pub injection_at : Program → List (List ℕ) → Result (Chunk × ℕ) LineReason
-injection_at program ws = do
-  f ← entry_at program.funs ws
-  bound ← number_at 0 65535 f.1
-  args ← args_at bound.1
-  chunk ← typed_chunk (chunk_with program f.0.name args)
-  Ok (chunk, bound.0)
 
 -- `ENTRY ARGS` of a program
 unfoldable pub call_at : Program → List (List ℕ) → Result Chunk LineReason

@@ -5,8 +5,11 @@
 mod fault;
 mod file_names;
 mod files;
+mod handlers;
+mod headers;
 mod hex_words;
 mod host_lists;
+mod laws;
 mod numbers;
 mod package_words;
 mod programs;
@@ -15,9 +18,14 @@ mod words;
 pub use fault::{LineFault, LineReason, Stop};
 pub use file_names::{as_file_name, file_name};
 pub use files::{LineFile, read_file};
+pub use handlers::handler;
+pub use headers::version_of;
 pub use hex_words::{decoded, hex_bytes};
 pub use host_lists::hosts;
-pub use numbers::{decimal, number, number_of};
+pub use laws::{
+    lines_before_a_refusal_are_inside, refusals_stand_at_lines, skipped_lines_only_count,
+};
+pub use numbers::{decimal, number, number_of, wide_number};
 pub use package_words::{package, packages};
 pub use programs::{OpenProgram, call, injection, name_of, program, weighed};
 pub use words::{Words, allow, is, says_nothing, stopped_at};

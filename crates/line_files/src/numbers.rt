@@ -50,6 +50,16 @@ pub fn decimal(word: &[u8]) -> Option<u64>
     digits(word)
 }
 
+/// The next word as a number below 2^64. Reasons: `BadWord` where the line has ended, else `BadNumber`.
+#[tactic(auto, unfolding(crate::specs::Numbers::number_at))]
+pub fn wide_number(words: &mut Words<'_>) -> Result<u64, LineReason>
+    ensures { Reads (λ n. n) result words.new (number_at 0 18446744073709551615 words.old) }
+{
+    let word = words.next()?;
+    let n = decimal(word).ok_or(LineReason::BadNumber)?;
+    Ok(n)
+}
+
 /// A number where it is from `low` to `high`.
 fn in_range(low: u32, high: u32, n: Option<u64>) -> Option<u32>
     ensures value { result ≡ within low high n }

@@ -6,13 +6,16 @@ ghost use Rattle.std.specs.Option.{option_copied};
 ghost use Rattle.plan_base.specs.WellFormed.{well_formed_value, value_has_types};
 ghost use Rattle.program_text.specs.Texts.{program_of};
 ghost use Rattle.line_files.specs.Programs as spec;
-ghost use Rattle.line_files.specs.Programs.{opened, with_line, accepted, program_in, named_word, has_name, entry_at, args_at, chunk_with, injection_at, call_at, weighed};
+ghost use Rattle.line_files.specs.Programs.{opened, with_line, accepted, program_in, named_word, has_name, entry_at, args_at, chunk_with, call_at, weighed};
+ghost use Rattle.line_files.specs.Injections.{injection_at};
 ghost use Rattle.line_files.specs.Reads.{Reads, Gives, Tells};
 
 use crate::fault::{LineReason, Stop};
+use crate::handlers::handler;
 use crate::numbers::number;
 use crate::words::{Words, allow, is};
 use chunk_types::{CheckedChunk, ChunkFault, chunk_of};
+use link_window::Version;
 use plan_base::{Bytes, Chunk, Fun, Name, NameFault, Values};
 use plan_sizes::chunk_weight;
 use plan_types::Checked;
@@ -134,20 +137,23 @@ fn typed_chunk(
     }
 }
 
-/// `ENTRY BOUND ARGS` of a program: a typed chunk and its bound. Reasons: `BadWord`, `BadNumber`, `BadArgument`.
-#[tactic(auto, unfolding(crate::specs::Programs::injection_at))]
+/// `ENTRY BOUND ARGS` of a program, or under version 2 `ENTRY BOUND handler NAME ARGS`: a typed chunk, its bound and its
+/// handler. Reasons: `BadWord`, `BadNumber`, `BadArgument`.
+#[tactic(auto, unfolding(crate::specs::Injections::injection_at))]
 pub fn injection(
     alloc: Global,
+    version: Version,
     program: &Checked,
     words: &mut Words<'_>,
-) -> Result<(CheckedChunk, u32), Stop>
-    ensures { Gives (λ i. i) result (injection_at program.now words.old) }
+) -> Result<(CheckedChunk, u32, Option<Name>), Stop>
+    ensures { Gives (λ i. i) result (injection_at version program.now words.old) }
 {
     let fun = known_entry(program.program().funs.as_slice(), words)?;
     let bound = number(words, 0, 65_535)?;
+    let handler = handler(alloc, version, program.program(), words)?;
     let args = arguments(alloc, words)?;
     let chunk = typed_chunk(alloc, program, &fun.name, args)?;
-    Ok((chunk, bound))
+    Ok((chunk, bound, handler))
 }
 
 /// `ENTRY ARGS` of a program as a typed chunk. Reasons: `BadWord`, `BadArgument`.

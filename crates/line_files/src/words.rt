@@ -3,6 +3,7 @@ ghost use Rattle.std.specs.List.{position, position_or_len};
 ghost use Rattle.std.specs.Str.{bytes_eq};
 ghost use Rattle.line_files.specs.Lines.{lines, left};
 ghost use Rattle.line_files.specs.Files.{is_skipped};
+ghost use Rattle.line_files.specs.Handlers.{comes};
 ghost use Rattle.line_files.specs.Reads.{Reads, word_at, rest_at, end_at, has_word, allowed, fault_at};
 
 use crate::fault::{LineFault, LineReason, Stop};
@@ -109,6 +110,20 @@ impl<'a> Words<'a> {
         ensures { result ≡ has_word self.now }
     {
         self.more
+    }
+
+    /// Whether this word comes next.
+    pub fn comes(&self, text: &[u8]) -> bool
+        ensures { result ≡ comes text.now self.now }
+    {
+        let mut ahead = Words {
+            rest: self.rest,
+            more: self.more,
+        };
+        match ahead.next() {
+            Ok(word) => is(word, text),
+            Err(_) => false,
+        }
     }
 
     #[tactic(auto, using(crate::proofs::Splits::rest_all))]

@@ -1,2 +1,3 @@
 pub mod Counting
 pub mod Texts
+pub mod Notes

@@ -3,7 +3,7 @@ ghost use Rattle.std.specs.List.{All};
 ghost use Rattle.network_plan.specs.NodeRules.{KeepsEntry, KeepsNodeEvent};
 ghost use Rattle.node_model.specs.State.{NodeState};
 ghost use Rattle.node_model.specs.Node.{node_step};
-ghost use Rattle.node_core.specs.Stands.{NodeStands};
+ghost use Rattle.node_core.specs.Stands.{version_of, NodeStands};
 ghost use Rattle.serve_model.specs.Runs.{acts_of, node_by};
 ghost use Rattle.log_gather.specs.Counting as spec;
 
@@ -68,13 +68,15 @@ fn count_acts(alloc: Global, acts: &[Act], counting: &mut Counting) -> Result<()
 }
 
 /// Makes a step again, and adds its notes.
+#[tactic(auto, using(log_replay::proofs::Within::comes_as))]
 fn count_event<S: Services>(
     alloc: Global,
     node: &mut Node<S>,
     event: &Event,
     counting: &mut Counting,
 ) -> Result<(), NoMemory>
-    requires { KeepsNodeEvent event.now }
+    requires { KeepsNodeEvent (version_of node.old) event.now }
+    ensures same { version_of node.new ≡ version_of node.old }
     ensures notes { (s : NodeState) → NodeStands S.stands node.old s
         → OnOk result (counting.new ≡ spec.with_acts (node_step s event.now).acts counting.old) }
     ensures after { (s : NodeState) → NodeStands S.stands node.old s
@@ -91,7 +93,8 @@ fn count_entry<S: Services>(
     entry: &LogEvent,
     counting: &mut Counting,
 ) -> Result<(), NoMemory>
-    requires { KeepsEntry entry.now }
+    requires { KeepsEntry (version_of node.old) entry.now }
+    ensures same { version_of node.new ≡ version_of node.old }
     ensures notes { (s : NodeState) → NodeStands S.stands node.old s
         → OnOk result (counting.new ≡ spec.with_acts (acts_of s entry.now) counting.old) }
     ensures after { (s : NodeState) → NodeStands S.stands node.old s
@@ -110,7 +113,7 @@ pub fn count_entries<S: Services>(
     entries: &[LogEvent],
     counting: &mut Counting,
 ) -> Result<(), NoMemory>
-    requires { All KeepsEntry entries.now }
+    requires { All (KeepsEntry (version_of node.old)) entries.now }
     ensures { (s : NodeState) → NodeStands S.stands node.old s
         → OnOk result (counting.new ≡ spec.with_entries s entries.now counting.old) }
 {

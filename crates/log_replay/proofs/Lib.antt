@@ -1,3 +1,4 @@
 pub mod LineLaws
 pub mod ReplayLaws
 pub mod Printing
+pub mod Within

@@ -7,4 +7,4 @@ mod replay;
 
 pub use fault::ReplayFault;
 pub use lines::{lost_lines, step_lines};
-pub use replay::{begin_node, run_log};
+pub use replay::{begin_node, config_again, run_log};

@@ -4,7 +4,7 @@ ghost use Rattle.network_plan.specs.NodeRules.{KeepsEntry, KeepsLog, KeepsNode, 
 ghost use Rattle.log_replay.specs.Replays.{Prints};
 ghost use Rattle.node_model.specs.State.{NodeState, new_node};
 ghost use Rattle.node_model.specs.Node.{node_step};
-ghost use Rattle.node_core.specs.Stands.{NodeStands, IsStep};
+ghost use Rattle.node_core.specs.Stands.{version_of, NodeStands, IsStep};
 ghost use Rattle.node_core.specs.Turns.{IsResting};
 ghost use Rattle.serve_model.specs.Runs.{acts_of, node_by, entries_at, played, node_after};
 ghost use Rattle.serve_model.specs.Texts.{lines_text, whole_trace};
@@ -14,47 +14,52 @@ use crate::lines::{lost_lines, step_lines};
 use network_plan::{Event, Log, LogEvent, NodeConfig};
 use node_core::Node;
 use node_io::{Sink, put_all};
-use plan_base::{Bytes, Host, NoMemory};
+use plan_base::{Bytes, NoMemory};
 use plan_items::Items;
 use service_api::Services;
 use std::alloc::Global;
 
 /// Makes a step again, and gives its lines.
+#[tactic(auto, using(crate::proofs::Within::comes_so))]
 fn event_lines<S: Services>(
     alloc: Global,
     node: &mut Node<S>,
-    here: Host,
+    config: &NodeConfig,
     number: u64,
     event: &Event,
 ) -> Result<Bytes, NoMemory>
-    requires { KeepsNodeEvent event.now }
+    requires event { KeepsNodeEvent config.now.version event.now }
+    requires version { version_of node.old ≡ config.now.version }
+    ensures same { version_of node.new ≡ version_of node.old }
     ensures text { (s : NodeState) → NodeStands S.stands node.old s
         → IfOk result
-        (λ text. text ≡ lines_text here (entries_at number (node_step s event.now).acts)) }
+        (λ text. text ≡ lines_text config.now.here (entries_at number (node_step s event.now).acts)) }
     ensures after { (s : NodeState) → NodeStands S.stands node.old s
         → OnOk result (NodeStands S.stands node.new (node_step s event.now).node) }
 {
     let acts = node.step(alloc, event)?;
-    step_lines(alloc, number, here, acts.list.as_slice())
+    step_lines(alloc, number, config.here, acts.list.as_slice())
 }
 
 /// Makes an entry again, and gives its lines.
 fn entry_lines<S: Services>(
     alloc: Global,
     node: &mut Node<S>,
-    here: Host,
+    config: &NodeConfig,
     number: u64,
     entry: &LogEvent,
 ) -> Result<Bytes, NoMemory>
-    requires { KeepsEntry entry.now }
+    requires entry { KeepsEntry config.now.version entry.now }
+    requires version { version_of node.old ≡ config.now.version }
+    ensures same { version_of node.new ≡ version_of node.old }
     ensures text { (s : NodeState) → NodeStands S.stands node.old s
-        → IfOk result (λ text. text ≡ lines_text here (entries_at number (acts_of s entry.now))) }
+        → IfOk result (λ text. text ≡ lines_text config.now.here (entries_at number (acts_of s entry.now))) }
     ensures after { (s : NodeState) → NodeStands S.stands node.old s
         → OnOk result (NodeStands S.stands node.new (node_by s entry.now)) }
 {
     match entry {
-        LogEvent::Step(event) => event_lines(alloc, node, here, number, event),
-        LogEvent::Lost => lost_lines(alloc, number, here),
+        LogEvent::Step(event) => event_lines(alloc, node, config, number, event),
+        LogEvent::Lost => lost_lines(alloc, number, config.here),
     }
 }
 
@@ -63,19 +68,21 @@ fn entry_lines<S: Services>(
 fn write_entry<S: Services, K: Sink>(
     alloc: Global,
     node: &mut Node<S>,
-    here: Host,
+    config: &NodeConfig,
     number: u64,
     entry: &LogEvent,
     out: &mut K,
 ) -> Result<(), ReplayFault>
-    requires { KeepsEntry entry.now }
+    requires entry { KeepsEntry config.now.version entry.now }
+    requires version { version_of node.old ≡ config.now.version }
+    ensures same { version_of node.new ≡ version_of node.old }
     ensures lines { (s : NodeState) → NodeStands S.stands node.old s
-        → Prints (lines_text here (entries_at number (acts_of s entry.now)))
+        → Prints (lines_text config.now.here (entries_at number (acts_of s entry.now)))
         (K.state out.old) (K.state out.new) result }
     ensures after { (s : NodeState) → NodeStands S.stands node.old s
         → OnOk result (NodeStands S.stands node.new (node_by s entry.now)) }
 {
-    let Ok(text) = entry_lines(alloc, node, here, number, entry) else {
+    let Ok(text) = entry_lines(alloc, node, config, number, entry) else {
         return Err(ReplayFault::NoMemory);
     };
     match put_all(out, text.as_slice()) {
@@ -88,20 +95,21 @@ fn write_entry<S: Services, K: Sink>(
 fn write_entries<S: Services, K: Sink>(
     alloc: Global,
     node: &mut Node<S>,
-    here: Host,
+    config: &NodeConfig,
     entries: &[LogEvent],
     out: &mut K,
 ) -> Result<(), ReplayFault>
-    requires keeps { All KeepsEntry entries.now }
+    requires keeps { All (KeepsEntry config.now.version) entries.now }
     requires few { length entries.now ≤ 50000 }
+    requires version { version_of node.old ≡ config.now.version }
     ensures { (s : NodeState) → NodeStands S.stands node.old s
-        → Prints (lines_text here (played 0 s entries.now))
+        → Prints (lines_text config.now.here (played 0 s entries.now))
         (K.state out.old) (K.state out.new) result }
 {
     let mut number = 0;
     for entry in entries {
         number += 1;
-        if let Err(fault) = write_entry(alloc, node, here, number, entry, out) {
+        if let Err(fault) = write_entry(alloc, node, config, number, entry, out) {
             return Err(fault);
         }
     }
@@ -109,7 +117,7 @@ fn write_entries<S: Services, K: Sink>(
 }
 
 /// How a node begins, once more.
-fn copy_of(alloc: Global, node: &NodeConfig) -> Result<NodeConfig, NoMemory>
+pub fn config_again(alloc: Global, node: &NodeConfig) -> Result<NodeConfig, NoMemory>
     ensures { IfOk result (λ copy. copy ≡ node.now) }
 {
     let hosts = Items::from_slice(alloc, node.hosts.as_slice())?;
@@ -119,6 +127,9 @@ fn copy_of(alloc: Global, node: &NodeConfig) -> Result<NodeConfig, NoMemory>
         hosts,
         neighbours,
         serial: node.serial,
+        version: node.version,
+        boot: node.boot,
+        link: node.link,
     })
 }
 
@@ -130,10 +141,11 @@ pub fn begin_node<S: Services + Drop>(
 ) -> Result<Node<S>, NoMemory>
     requires keeps { KeepsNode config.now }
     requires services { IsResting (S.stands services) }
-    ensures { IfOk result
+    ensures stands { IfOk result
         (λ node. NodeStands S.stands node (new_node config.now (S.stands services))) }
+    ensures version { IfOk result (λ node. version_of node ≡ config.now.version) }
 {
-    let config = copy_of(alloc, config)?;
+    let config = config_again(alloc, config)?;
     Node::new(alloc, config, services)
 }
 
@@ -160,7 +172,7 @@ pub fn run_log<S: Services + Drop, K: Sink>(
     let Ok(()) = put_all(out, b"planet trace 1\n") else {
         return Err(ReplayFault::WriteFault);
     };
-    if let Err(fault) = write_entries(alloc, &mut node, log.node.here, log.events.as_slice(), out) {
+    if let Err(fault) = write_entries(alloc, &mut node, &log.node, log.events.as_slice(), out) {
         return Err(fault);
     }
     match put_all(out, b"end\n") {

@@ -4,61 +4,63 @@ use Rattle.std.specs.Prelude.{slice_get, slice_set, remove, nat_lt, Option, Some
 use Rattle.std.proofs.lemmas.Bool.Decides.{nat_tests}
 use Rattle.plan_base.specs.declared.ids.Host.{Host}
 use Rattle.plan_base.specs.declared.ids.Dev.{Dev}
-use Rattle.packet_frame.specs.declared.frame.PlainFrame.{PlainFrame}
-use Rattle.packet_frame.specs.Bytes.{frame_bytes}
+use Rattle.packet_frame.specs.declared.frame.PlainStamped.{PlainStamped}
+use Rattle.packet_frame.specs.Stamped.{stamped_bytes}
 use Rattle.service_api.specs.Services.{ServiceState}
 use Rattle.spelled_frame.specs.Spelled.{what_of}
 use Rattle.node_model.specs.declared.acts.Acts.{Acts}
 use Rattle.node_model.specs.State.{NodeState}
-use Rattle.node_model.specs.Node.{Step, frame_step, take_step}
+use Rattle.node_model.specs.Node.{Step, stamped_step, take_step}
 use Rattle.node_core.specs.declared.node.Node.{Node}
 use Rattle.world_model.specs.declared.lines.Line.{Line}
 use Rattle.world_model.specs.declared.lines.Line.TheVariants.{Wire, Off, Lost, Nothing}
 use Rattle.world_model.specs.declared.lines.LinkEnd.{LinkEnd}
 use Rattle.world_model.specs.declared.lines.Wired.{Wired}
-use Rattle.world_model.specs.World.{WorldState, EventResult, nothing, lines_at, place_of, step_at, step_place, steps, steps_at, far_end, wire_place, send_taken, send_at, send_over, send_place, sends, deliver_at, deliver_to, deliver_frame, deliver_place, delivers, lose_frame, lose_place, loses}
+use Rattle.world_model.specs.declared.lines.Handing.{Handing}
+use Rattle.world_model.specs.World.{WorldState, EventResult, nothing, lines_at, place_of, step_at, step_place, steps, steps_at, far_end, wire_place, send_taken, send_at, send_over, send_place, sends, without_frame, with_wire, hand_line, wire_after, hand_at, hand_to, hand_frame, hand_place, hands, lose_frame, lose_place, loses}
 use Rattle.net_world.specs.declared.network.Network.{Network}
-use Rattle.net_world.specs.Stands.{AllStand, WorldStands, IsHappened, StepsAt}
+use Rattle.net_world.specs.Stands.{AllStand, NetworkStands, IsActed, StepsAt}
 
 module _ {S : Type 0} (stands : S → ServiceState) where
   -- nothing happens
-  nothing_happens : (n : Network S) (w : WorldState) (lines : List Line) → WorldStands stands n w → lines ≡ Nothing ∷ [] → IsHappened stands (nothing w) lines n
-  nothing_happens n w lines h e = record { list = e; world = h }
+  nothing_happens : (n : Network S) (w : WorldState) (lines : List Line) → NetworkStands stands n w → lines ≡ Nothing ∷ [] → IsActed stands (nothing w) lines n
+  nothing_happens n w lines h e = record { list = e; network = h }
 
-  as_event : (a b : EventResult) (lines : List Line) (n : Network S) → a ≡ b → IsHappened stands b lines n → IsHappened stands a lines n
-  as_event a b lines n e h = subst (λ x. IsHappened stands x lines n) (sym e) h
+  as_event : (a b : EventResult) (lines : List Line) (n : Network S) → a ≡ b → IsActed stands b lines n → IsActed stands a lines n
+  as_event a b lines n e h = subst (λ x. IsActed stands x lines n) (sym e) h
 
   -- the nodes, lent
-  pub placed : (n : Network S) (w : WorldState) (lent : List (Node S)) → WorldStands stands n w → lent ≡ n.nodes.items → AllStand stands lent w.nodes
+  pub placed : (n : Network S) (w : WorldState) (lent : List (Node S)) → NetworkStands stands n w → lent ≡ n.nodes.items → AllStand stands lent w.nodes
   placed n w lent h e = subst (λ x. AllStand stands x w.nodes) (sym e) h.nodes
 
   -- ---- a step of one node
 
-  no_step_at_host : (w : WorldState) (host : Host) (before : List Line) (step : NodeState → Step) → place_of w.nodes host ≡ None → steps w host before step ≡ nothing w
+  no_step_at_host : (w : WorldState) (host : Host) (before : NodeState → List Line) (step : NodeState → Step) → place_of w.nodes host ≡ None → steps w host before step ≡ nothing w
   unfolding steps step_place
   no_step_at_host w host before step e = ap (step_place w host before step) e
 
-  pub no_step : (n : Network S) (w : WorldState) (host : Host) (before lines : List Line) (step : NodeState → Step) → WorldStands stands n w → None ≡ place_of w.nodes host → lines ≡ Nothing ∷ []
-      → IsHappened stands (steps w host before step) lines n
+  pub no_step : (n : Network S) (w : WorldState) (host : Host) (before : NodeState → List Line) (lines : List Line) (step : NodeState → Step) → NetworkStands stands n w → None ≡ place_of w.nodes host → lines ≡ Nothing ∷ []
+      → IsActed stands (steps w host before step) lines n
   no_step n w host before lines step h e l = as_event _ (nothing w) lines n (no_step_at_host w host before step (sym e)) (nothing_happens n w lines h l)
 
-  one_step_at_host : (w : WorldState) (host : Host) (before : List Line) (step : NodeState → Step) (at : ℕ) (node : NodeState) → place_of w.nodes host ≡ Some at → slice_get w.nodes at ≡ Some node
-      → steps w host before step ≡ steps_at w host at before (step node)
+  one_step_at_host : (w : WorldState) (host : Host) (before : NodeState → List Line) (step : NodeState → Step) (at : ℕ) (node : NodeState) → place_of w.nodes host ≡ Some at → slice_get w.nodes at ≡ Some node
+      → steps w host before step ≡ steps_at w host at (before node) (step node)
   unfolding steps step_place step_at
   one_step_at_host w host before step at node e f = ap (step_place w host before step) e ∙ ap (step_at w host before step at) f
 
-  pub one_step : (old new : Network S) (w : WorldState) (host : Host) (before lines : List Line) (step : NodeState → Step) (at : ℕ) (acts : Acts) (nodes : List (Node S))
-      → WorldStands stands old w → Some at ≡ place_of w.nodes host → StepsAt stands step w.nodes at acts nodes → lines ≡ before ++ lines_at host acts.list
-      → new.nodes.items ≡ nodes → new.links ≡ old.links → new.wire ≡ old.wire → new.«next» ≡ old.«next» → new.made ≡ old.made
-      → IsHappened stands (steps w host before step) lines new
-  one_step old new w host before lines step at acts nodes h e s l a b c d m = as_event _ (steps_at w host at before (step s.node)) lines new (one_step_at_host w host before step at s.node (sym e) s.there) (record {
-    list = l ∙ ap (λ x. before ++ lines_at host x) s.list;
-    world = record {
+  pub one_step : (old new : Network S) (w : WorldState) (host : Host) (before : NodeState → List Line) (lines : List Line) (step : NodeState → Step) (at : ℕ) (acts : Acts) (nodes : List (Node S))
+      → NetworkStands stands old w → Some at ≡ place_of w.nodes host → (s : StepsAt stands step w.nodes at acts nodes) → lines ≡ before s.node ++ lines_at host acts.list
+      → new.nodes.items ≡ nodes → new.links ≡ old.links → new.wire ≡ old.wire → new.«next» ≡ old.«next» → new.made ≡ old.made → new.version ≡ old.version
+      → IsActed stands (steps w host before step) lines new
+  one_step old new w host before lines step at acts nodes h e s l a b c d m v = as_event _ (steps_at w host at (before s.node) (step s.node)) lines new (one_step_at_host w host before step at s.node (sym e) s.there) (record {
+    list = l ∙ ap (λ x. before s.node ++ lines_at host x) s.list;
+    network = record {
       nodes = subst (λ x. AllStand stands x (slice_set w.nodes at (step s.node).node)) (sym a) s.after;
       links = b ∙ h.links;
       wire = c ∙ h.wire;
       next = d ∙ h.next;
       made = m ∙ h.made;
+      version = v ∙ h.version;
     };
   })
 
@@ -91,39 +93,40 @@ module _ {S : Type 0} (stands : S → ServiceState) where
   roomy : (n : ℕ) → n < 4096 → nat_lt n 4096 ≡ true
   roomy n h = grind (arith, nat_tests)
 
-  module _ (old : Network S) (w : WorldState) (host : Host) (d : Dev) (h : WorldStands stands old w) (lines : List Line) where
-    pub no_node_sends : None ≡ place_of w.nodes host → lines ≡ Nothing ∷ [] → IsHappened stands (sends w host d) lines old
+  module _ (old : Network S) (w : WorldState) (host : Host) (d : Dev) (h : NetworkStands stands old w) (lines : List Line) where
+    pub no_node_sends : None ≡ place_of w.nodes host → lines ≡ Nothing ∷ [] → IsActed stands (sends w host d) lines old
     no_node_sends e l = as_event _ (nothing w) lines old (no_sender w host d (sym e)) (nothing_happens old w lines h l)
 
     -- the end to which the device leads, in the state
     end_there : (o : Option LinkEnd) → o ≡ far_end old.links host d → far_end w.links host d ≡ o
     end_there o e = ap (λ ls. far_end ls host d) (sym h.links) ∙ sym e
 
-    pub no_end_sends : (at : ℕ) → Some at ≡ place_of w.nodes host → None ≡ far_end old.links host d → lines ≡ Nothing ∷ [] → IsHappened stands (sends w host d) lines old
+    pub no_end_sends : (at : ℕ) → Some at ≡ place_of w.nodes host → None ≡ far_end old.links host d → lines ≡ Nothing ∷ [] → IsActed stands (sends w host d) lines old
     no_end_sends at e f l = as_event _ (nothing w) lines old (sender w host d at (sym e) ∙ no_end w host d at (far_end w.links host d) (end_there None f)) (nothing_happens old w lines h l)
 
     over_end : (at : ℕ) (to : LinkEnd) → Some at ≡ place_of w.nodes host → Some to ≡ far_end old.links host d → sends w host d ≡ send_over w host d at (Some to)
     over_end at to e f = sender w host d at (sym e) ∙ ap (send_over w host d at) (end_there (Some to) f)
 
-    pub no_room_sends : (at : ℕ) (to : LinkEnd) → Some at ≡ place_of w.nodes host → Some to ≡ far_end old.links host d → 4096 ≤ length old.wire → lines ≡ Nothing ∷ [] → IsHappened stands (sends w host d) lines old
+    pub no_room_sends : (at : ℕ) (to : LinkEnd) → Some at ≡ place_of w.nodes host → Some to ≡ far_end old.links host d → 4096 ≤ length old.wire → lines ≡ Nothing ∷ [] → IsActed stands (sends w host d) lines old
     no_room_sends at to e f r l = as_event _ (nothing w) lines old (over_end at to e f ∙ no_room w host d at to (full (length w.wire) (subst (λ x. 4096 ≤ length x) h.wire r))) (nothing_happens old w lines h l)
 
     taken : (at : ℕ) (to : LinkEnd) (acts : Acts) (nodes : List (Node S)) → Some at ≡ place_of w.nodes host → Some to ≡ far_end old.links host d → length old.wire < 4096
         → (s : StepsAt stands (λ node. take_step node d) w.nodes at acts nodes) → sends w host d ≡ send_taken w host d at to (take_step s.node d) (take_step s.node d).frame
     taken at to acts nodes e f r s = over_end at to e f ∙ some_room w host d at to s.node (roomy (length w.wire) (subst (λ x. length x < 4096) h.wire r)) s.there
 
-    none_taken : (at : ℕ) (to : LinkEnd) (step : Step) (o : Option PlainFrame) → o ≡ None → send_taken w host d at to step o ≡ nothing w
+    none_taken : (at : ℕ) (to : LinkEnd) (step : Step) (o : Option PlainStamped) → o ≡ None → send_taken w host d at to step o ≡ nothing w
     unfolding send_taken
     none_taken at to step o e = ap (send_taken w host d at to step) e
 
-    some_taken : (at : ℕ) (to : LinkEnd) (step : Step) (o : Option PlainFrame) (x : PlainFrame) → o ≡ Some x → send_taken w host d at to step o ≡ record {
-      lines = lines_at host step.acts ++ Wire w.«next» (frame_bytes x) ∷ [];
+    some_taken : (at : ℕ) (to : LinkEnd) (step : Step) (o : Option PlainStamped) (x : PlainStamped) → o ≡ Some x → send_taken w host d at to step o ≡ record {
+      lines = lines_at host step.acts ++ Wire w.«next» (stamped_bytes x) ∷ [];
       world = record {
         nodes = slice_set w.nodes at step.node;
         links = w.links;
-        wire = w.wire ++ record { number = w.«next»; from = record { host = host; dev = d }; to = to; frame = x } ∷ [];
+        wire = w.wire ++ record { number = w.«next»; from = record { host = host; dev = d }; to = to; frame = x; handed = false } ∷ [];
         «next» = w.«next» + 1;
         made = w.made;
+        version = w.version;
       };
     }
     unfolding send_taken
@@ -131,109 +134,107 @@ module _ {S : Type 0} (stands : S → ServiceState) where
 
     pub none_sent : (new : Network S) (at : ℕ) (to : LinkEnd) (acts : Acts) (nodes : List (Node S)) → Some at ≡ place_of w.nodes host → Some to ≡ far_end old.links host d → length old.wire < 4096
         → StepsAt stands (λ node. take_step node d) w.nodes at acts nodes → acts.frame ≡ None → AllStand stands nodes w.nodes → lines ≡ Nothing ∷ []
-        → new.nodes.items ≡ nodes → new.links ≡ old.links → new.wire ≡ old.wire → new.«next» ≡ old.«next» → new.made ≡ old.made → IsHappened stands (sends w host d) lines new
-    none_sent new at to acts nodes e f r s none same l a b c g m =
+        → new.nodes.items ≡ nodes → new.links ≡ old.links → new.wire ≡ old.wire → new.«next» ≡ old.«next» → new.made ≡ old.made → new.version ≡ old.version → IsActed stands (sends w host d) lines new
+    none_sent new at to acts nodes e f r s none same l a b c g m v =
         as_event _ (nothing w) lines new (taken at to acts nodes e f r s ∙ none_taken at to (take_step s.node d) (take_step s.node d).frame (sym s.frame ∙ none)) (record {
           list = l;
-          world = record { nodes = subst (λ x. AllStand stands x w.nodes) (sym a) same; links = b ∙ h.links; wire = c ∙ h.wire; next = g ∙ h.next; made = m ∙ h.made };
+          network = record { nodes = subst (λ x. AllStand stands x w.nodes) (sym a) same; links = b ∙ h.links; wire = c ∙ h.wire; next = g ∙ h.next; made = m ∙ h.made; version = v ∙ h.version };
         })
 
-    pub one_sent : (new : Network S) (at : ℕ) (to : LinkEnd) (acts : Acts) (nodes : List (Node S)) (x : PlainFrame) → Some at ≡ place_of w.nodes host → Some to ≡ far_end old.links host d → length old.wire < 4096
-        → StepsAt stands (λ node. take_step node d) w.nodes at acts nodes → acts.frame ≡ Some x → lines ≡ lines_at host acts.list ++ Wire old.«next» (frame_bytes x) ∷ []
-        → new.nodes.items ≡ nodes → new.links ≡ old.links → new.wire ≡ old.wire ++ record { number = old.«next»; from = record { host = host; dev = d }; to = to; frame = x } ∷ []
-        → new.«next» ≡ old.«next» + 1 → new.made ≡ old.made → IsHappened stands (sends w host d) lines new
-    one_sent new at to acts nodes x e f r s some l a b c g m =
+    pub one_sent : (new : Network S) (at : ℕ) (to : LinkEnd) (acts : Acts) (nodes : List (Node S)) (x : PlainStamped) → Some at ≡ place_of w.nodes host → Some to ≡ far_end old.links host d → length old.wire < 4096
+        → StepsAt stands (λ node. take_step node d) w.nodes at acts nodes → acts.frame ≡ Some x → lines ≡ lines_at host acts.list ++ Wire old.«next» (stamped_bytes x) ∷ []
+        → new.nodes.items ≡ nodes → new.links ≡ old.links → new.wire ≡ old.wire ++ record { number = old.«next»; from = record { host = host; dev = d }; to = to; frame = x; handed = false } ∷ []
+        → new.«next» ≡ old.«next» + 1 → new.made ≡ old.made → new.version ≡ old.version → IsActed stands (sends w host d) lines new
+    one_sent new at to acts nodes x e f r s some l a b c g m v =
         as_event _ _ lines new (taken at to acts nodes e f r s ∙ some_taken at to (take_step s.node d) (take_step s.node d).frame x (sym s.frame ∙ some)) (record {
-          list = l ∙ (λ i. lines_at host (s.list i) ++ Wire (h.next i) (frame_bytes x) ∷ []);
-          world = record {
+          list = l ∙ (λ i. lines_at host (s.list i) ++ Wire (h.next i) (stamped_bytes x) ∷ []);
+          network = record {
             nodes = subst (λ y. AllStand stands y (slice_set w.nodes at (take_step s.node d).node)) (sym a) s.after;
             links = b ∙ h.links;
-            wire = c ∙ (λ i. h.wire i ++ record { number = h.next i; from = record { host = host; dev = d }; to = to; frame = x } ∷ []);
+            wire = c ∙ (λ i. h.wire i ++ record { number = h.next i; from = record { host = host; dev = d }; to = to; frame = x; handed = false } ∷ []);
             next = g ∙ ap (λ k. k + 1) h.next;
             made = m ∙ h.made;
+            version = v ∙ h.version;
           };
         })
 
-  -- ---- deliveries and losses
+  -- ---- handings and losses
 
-  no_frame : (w : WorldState) (number : ℕ) → wire_place w.wire number ≡ None → delivers w number ≡ nothing w
-  unfolding delivers deliver_place
-  no_frame w number e = ap (deliver_place w) e
+  no_frame : (w : WorldState) (how : Handing) (number : ℕ) → wire_place w.wire number ≡ None → hands w how number ≡ nothing w
+  unfolding hands hand_place
+  no_frame w how number e = ap (hand_place w how) e
 
-  some_frame : (w : WorldState) (number place : ℕ) (x : Wired) → wire_place w.wire number ≡ Some place → slice_get w.wire place ≡ Some x → delivers w number ≡ deliver_to w place x (place_of w.nodes x.to.host)
-  unfolding delivers deliver_place deliver_frame
-  some_frame w number place x e f = ap (deliver_place w) e ∙ ap (deliver_frame w place) f
+  some_frame : (w : WorldState) (how : Handing) (number place : ℕ) (x : Wired) → wire_place w.wire number ≡ Some place → slice_get w.wire place ≡ Some x
+      → hands w how number ≡ hand_to w how place x (place_of w.nodes x.to.host)
+  unfolding hands hand_place hand_frame
+  some_frame w how number place x e f = ap (hand_place w how) e ∙ ap (hand_frame w how place) f
 
-  no_receiver : (w : WorldState) (place : ℕ) (x : Wired) (o : Option ℕ) → o ≡ None → deliver_to w place x o ≡ nothing w
-  unfolding deliver_to
-  no_receiver w place x o e = ap (deliver_to w place x) e
+  no_receiver : (w : WorldState) (how : Handing) (place : ℕ) (x : Wired) (o : Option ℕ) → o ≡ None → hand_to w how place x o ≡ nothing w
+  unfolding hand_to
+  no_receiver w how place x o e = ap (hand_to w how place x) e
 
-  some_receiver : (w : WorldState) (place : ℕ) (x : Wired) (o : Option ℕ) (at : ℕ) (node : NodeState) → o ≡ Some at → slice_get w.nodes at ≡ Some node
-      → deliver_to w place x o ≡ steps_at (record w { wire = remove w.wire place }) x.to.host at (Off x.number ∷ []) (frame_step node x.to.dev x.frame)
-  unfolding deliver_to deliver_at
-  some_receiver w place x o at node e f = ap (deliver_to w place x) e ∙ ap (deliver_at w place x at) f
+  some_receiver : (w : WorldState) (how : Handing) (place : ℕ) (x : Wired) (o : Option ℕ) (at : ℕ) (node : NodeState) → o ≡ Some at → slice_get w.nodes at ≡ Some node
+      → hand_to w how place x o ≡ steps_at (with_wire w (wire_after how w.wire place x)) x.to.host at (hand_line how x.number ∷ []) (stamped_step node x.to.dev x.frame)
+  unfolding hand_to hand_at
+  some_receiver w how place x o at node e f = ap (hand_to w how place x) e ∙ ap (hand_at w how place x at) f
 
   no_loss : (w : WorldState) (number : ℕ) → wire_place w.wire number ≡ None → loses w number ≡ nothing w
   unfolding loses lose_place
   no_loss w number e = ap (lose_place w) e
 
   some_loss : (w : WorldState) (number place : ℕ) (x : Wired) → wire_place w.wire number ≡ Some place → slice_get w.wire place ≡ Some x
-      → loses w number ≡ record { lines = Off x.number ∷ Lost (what_of x.frame) ∷ []; world = record w { wire = remove w.wire place } }
+      → loses w number ≡ record { lines = Off x.number ∷ Lost (what_of x.frame.frame) ∷ []; world = without_frame w place }
   unfolding loses lose_place lose_frame
   some_loss w number place x e f = ap (lose_place w) e ∙ ap (lose_frame w place) f
 
-  module _ (old : Network S) (w : WorldState) (number : ℕ) (h : WorldStands stands old w) (lines : List Line) where
+  module _ (old : Network S) (w : WorldState) (number : ℕ) (h : NetworkStands stands old w) (lines : List Line) where
     place_there : (o : Option ℕ) → o ≡ wire_place old.wire number → wire_place w.wire number ≡ o
     place_there o e = ap (λ x. wire_place x number) (sym h.wire) ∙ sym e
 
     frame_there : (place : ℕ) (x : Wired) → slice_get old.wire place ≡ Some x → slice_get w.wire place ≡ Some x
     frame_there place x e = ap (λ y. slice_get y place) (sym h.wire) ∙ e
 
-    pub none_delivered : None ≡ wire_place old.wire number → lines ≡ Nothing ∷ [] → IsHappened stands (delivers w number) lines old
-    none_delivered e l = as_event _ (nothing w) lines old (no_frame w number (place_there None e)) (nothing_happens old w lines h l)
+    pub none_handed : (how : Handing) → None ≡ wire_place old.wire number → lines ≡ Nothing ∷ [] → IsActed stands (hands w how number) lines old
+    none_handed how e l = as_event _ (nothing w) lines old (no_frame w how number (place_there None e)) (nothing_happens old w lines h l)
 
-    pub none_there : (place : ℕ) (x : Wired) → Some place ≡ wire_place old.wire number → slice_get old.wire place ≡ Some x → None ≡ place_of w.nodes x.to.host → lines ≡ Nothing ∷ []
-        → IsHappened stands (delivers w number) lines old
-    none_there place x e f g l =
-        as_event _ (nothing w) lines old (some_frame w number place x (place_there (Some place) e) (frame_there place x f) ∙ no_receiver w place x (place_of w.nodes x.to.host) (sym g)) (nothing_happens old w lines h l)
+    pub none_there : (how : Handing) (place : ℕ) (x : Wired) → Some place ≡ wire_place old.wire number → slice_get old.wire place ≡ Some x → None ≡ place_of w.nodes x.to.host → lines ≡ Nothing ∷ []
+        → IsActed stands (hands w how number) lines old
+    none_there how place x e f g l =
+        as_event _ (nothing w) lines old (some_frame w how number place x (place_there (Some place) e) (frame_there place x f) ∙ no_receiver w how place x (place_of w.nodes x.to.host) (sym g)) (nothing_happens old w lines h l)
 
-    one_frame : (a b : Wired) → Some a ≡ Some b → a ≡ b
-    one_frame a b e = cc
-
-    -- y is the frame as it was looked up, x as it was taken off
-    pub one_delivered : (new : Network S) (place : ℕ) (y x : Wired) (at : ℕ) (acts : Acts) (nodes : List (Node S)) → Some place ≡ wire_place old.wire number → slice_get old.wire place ≡ Some y → slice_get old.wire place ≡ Some x
-        → Some at ≡ place_of w.nodes y.to.host → StepsAt stands (λ node. frame_step node y.to.dev x.frame) w.nodes at acts nodes → lines ≡ (Off x.number ∷ []) ++ lines_at y.to.host acts.list
-        → new.nodes.items ≡ nodes → new.links ≡ old.links → new.wire ≡ remove old.wire place → new.«next» ≡ old.«next» → new.made ≡ old.made → IsHappened stands (delivers w number) lines new
-    one_delivered new place y x at acts nodes e k f g s l a b c n m =
-        let same : y ≡ x = one_frame y x (sym k ∙ f) in
+    pub one_handed : (how : Handing) (new : Network S) (place : ℕ) (x : Wired) (at : ℕ) (acts : Acts) (nodes : List (Node S)) → Some place ≡ wire_place old.wire number → slice_get old.wire place ≡ Some x
+        → Some at ≡ place_of w.nodes x.to.host → StepsAt stands (λ node. stamped_step node x.to.dev x.frame) w.nodes at acts nodes → lines ≡ (hand_line how x.number ∷ []) ++ lines_at x.to.host acts.list
+        → new.nodes.items ≡ nodes → new.links ≡ old.links → new.wire ≡ wire_after how old.wire place x → new.«next» ≡ old.«next» → new.made ≡ old.made → new.version ≡ old.version
+        → IsActed stands (hands w how number) lines new
+    one_handed how new place x at acts nodes e f g s l a b c n m v =
         as_event _ _ lines new
-        (some_frame w number place x (place_there (Some place) e) (frame_there place x f)
-        ∙ some_receiver w place x (place_of w.nodes x.to.host) at s.node (ap (λ (z : Wired). place_of w.nodes z.to.host) (sym same) ∙ sym g) s.there
-        ∙ ap (λ (z : Wired). steps_at (record w { wire = remove w.wire place }) z.to.host at (Off x.number ∷ []) (frame_step s.node z.to.dev x.frame)) (sym same))
+        (some_frame w how number place x (place_there (Some place) e) (frame_there place x f) ∙ some_receiver w how place x (place_of w.nodes x.to.host) at s.node (sym g) s.there)
         (record {
-          list = l ∙ ap (λ z. (Off x.number ∷ []) ++ lines_at y.to.host z) s.list;
-          world = record {
-            nodes = subst (λ z. AllStand stands z (slice_set w.nodes at (frame_step s.node y.to.dev x.frame).node)) (sym a) s.after;
+          list = l ∙ ap (λ z. (hand_line how x.number ∷ []) ++ lines_at x.to.host z) s.list;
+          network = record {
+            nodes = subst (λ z. AllStand stands z (slice_set w.nodes at (stamped_step s.node x.to.dev x.frame).node)) (sym a) s.after;
             links = b ∙ h.links;
-            wire = c ∙ ap (λ z. remove z place) h.wire;
+            wire = c ∙ ap (λ z. wire_after how z place x) h.wire;
             next = n ∙ h.next;
             made = m ∙ h.made;
+            version = v ∙ h.version;
           };
         })
 
-    pub none_lost : None ≡ wire_place old.wire number → lines ≡ Nothing ∷ [] → IsHappened stands (loses w number) lines old
+    pub none_lost : None ≡ wire_place old.wire number → lines ≡ Nothing ∷ [] → IsActed stands (loses w number) lines old
     none_lost e l = as_event _ (nothing w) lines old (no_loss w number (place_there None e)) (nothing_happens old w lines h l)
 
-    pub one_lost : (new : Network S) (place : ℕ) (x : Wired) → Some place ≡ wire_place old.wire number → slice_get old.wire place ≡ Some x → lines ≡ Off x.number ∷ Lost (what_of x.frame) ∷ []
-        → new.nodes.items ≡ old.nodes.items → new.links ≡ old.links → new.wire ≡ remove old.wire place → new.«next» ≡ old.«next» → new.made ≡ old.made → IsHappened stands (loses w number) lines new
-    one_lost new place x e f l a b c n m =
+    pub one_lost : (new : Network S) (place : ℕ) (x : Wired) → Some place ≡ wire_place old.wire number → slice_get old.wire place ≡ Some x → lines ≡ Off x.number ∷ Lost (what_of x.frame.frame) ∷ []
+        → new.nodes.items ≡ old.nodes.items → new.links ≡ old.links → new.wire ≡ remove old.wire place → new.«next» ≡ old.«next» → new.made ≡ old.made → new.version ≡ old.version → IsActed stands (loses w number) lines new
+    one_lost new place x e f l a b c n m v =
         as_event _ _ lines new (some_loss w number place x (place_there (Some place) e) (frame_there place x f)) (record {
           list = l;
-          world = record {
+          network = record {
             nodes = subst (λ y. AllStand stands y w.nodes) (sym a) h.nodes;
             links = b ∙ h.links;
             wire = c ∙ ap (λ y. remove y place) h.wire;
             next = n ∙ h.next;
             made = m ∙ h.made;
+            version = v ∙ h.version;
           };
         })

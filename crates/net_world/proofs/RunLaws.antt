@@ -1,15 +1,15 @@
 -- Runs of one event more, prefixes of what they write, and what holds after each prefix.
-use Rattle.std.proofs.Common.{◌≡◌, ℕ, ◌+◌, ◌<◌, ◌≤◌, List, [], ◌∷◌, ◌++◌, length, take, drop, get_or, refl, sym, ap, ◌∙◌, append_assoc, arith, subst}
-use Rattle.std.specs.Prelude.{Bool, min, codes, map, All}
+use Rattle.std.proofs.Common.{◌≡◌, ℕ, ◌+◌, ◌<◌, ◌≤◌, List, [], ◌∷◌, ◌++◌, length, take, drop, get_or, refl, sym, ap, ◌∙◌, append_assoc, subst}
+use Rattle.std.specs.Prelude.{Bool, codes, map, All}
 use Rattle.std.proofs.lemmas.List.Concat.{flat_map-append}
-use Rattle.std.proofs.lemmas.List.{append-nil, take-append-le, take_min, take-append-drop, take_all}
+use Rattle.std.proofs.lemmas.List.{append-nil, take-append-drop, take_all}
 use Rattle.std.proofs.lemmas.List.Elements.{All-take, All-weaker}
-use Rattle.std.proofs.Math.Seq.{take-append-add, take-append_seam}
 use Rattle.std.proofs.lemmas.Grind.{take_at_read}
 use Rattle.plan_base.specs.declared.ids.Family.{Family}
 use Rattle.service_api.specs.Services.{ServiceState}
+use Rattle.link_window.specs.declared.window.Version.{Version}
 use Rattle.network_plan.specs.declared.event.WorldEvent.{WorldEvent}
-use Rattle.network_plan.specs.declared.event.WorldEvent.TheVariants.{Inject, Send, Deliver, Lose, Tick, Raw}
+use Rattle.network_plan.specs.declared.event.WorldEvent.TheVariants.{Inject, Send, Deliver, Repeat, Lose, Tick, Raw}
 use Rattle.network_plan.specs.declared.schedule.HostSpec.{HostSpec}
 use Rattle.network_plan.specs.declared.schedule.Schedule.{Schedule}
 use Rattle.network_plan.specs.declared.schedule.Topology.{Topology}
@@ -21,18 +21,20 @@ use Rattle.world_model.specs.declared.lines.Line.{Line}
 use Rattle.world_model.specs.declared.lines.Entry.{Entry}
 use Rattle.world_model.specs.World.{WorldState, happens, entry_at, entries, world_after, history_of, opening}
 use Rattle.world_model.specs.Texts.{entry_text, entries_text, trace_text, ledger_text, run_text}
-use Rattle.world_model.specs.Counts.{IsBounded, IsGranted}
+use Rattle.world_model.specs.Counts.{line_left, line_sum, left, is_late, Balanced, IsBounded, IsGranted}
 use Rattle.world_model.specs.Sound.{IsSound, event_fits, EventsFit}
 use Rattle.world_model.specs.Visits.{EndsWell, visits_after}
-use Rattle.network_laws.proofs.Fitting.{run_sound}
+use Rattle.network_laws.proofs.Fitting.{run_sound, run_version}
+use Rattle.network_laws.proofs.Handings.{opening_leaves, opening_balances}
 use Rattle.network_laws.proofs.Giving.{opening_bounded, opening_grants}
-use Rattle.network_laws.proofs.Opening.{opening_sound}
+use Rattle.network_laws.proofs.Opening.{opening_version, opening_sound}
 use Rattle.network_laws.proofs.Visits.{run_ends}
+use Rattle.run_ledger.specs.Counting.{LinesFit, Leaves}
 use Rattle.run_ledger.specs.Stands.{Stands}
 use Rattle.run_ledger.proofs.Runs.{event_fits_at, history_of-push, world_after-push}
 use Rattle.net_world.specs.declared.network.Network.{Network}
 use Rattle.net_world.specs.Stands.{WorldStands}
-use Rattle.net_world.specs.Running.{IsCountable}
+use Rattle.net_world.specs.Running.{AllLeave, IsCountable}
 use Rattle.net_world.specs.Printing.{IsWaiting, Stops}
 use Rattle.net_world.specs.declared.runs.RunFault.{RunFault}
 use Rattle.net_world.specs.declared.runs.RunFault.TheVariants.{WriteFault, NoMemory}
@@ -158,16 +160,31 @@ opening_made t = refl
 
 -- ---- the rules of a schedule
 
-event_keeps : (hosts : List HostSpec) (e : WorldEvent) → KeepsEvent hosts e → event_fits e
-event_keeps hosts (Inject h chunk bound) k = k.1
-event_keeps hosts (Send h d) k = k.1
-event_keeps hosts (Deliver n) k = tt
-event_keeps hosts (Lose n) k = tt
-event_keeps hosts (Tick h) k = tt
-event_keeps hosts (Raw h d bytes) k = (k.1, k.2.are_bytes)
+event_keeps : (v : Version) (hosts : List HostSpec) (e : WorldEvent) → KeepsEvent v hosts e → event_fits v e
+event_keeps v hosts (Inject h chunk bound handler) k = k.1
+event_keeps v hosts (Send h d) k = k.1
+event_keeps v hosts (Deliver n) k = tt
+event_keeps v hosts (Repeat n) k = k.0
+event_keeps v hosts (Lose n) k = tt
+event_keeps v hosts (Tick h) k = tt
+event_keeps v hosts (Raw h d bytes) k = (k.1, k.2.are_bytes)
 
-pub events_fit : (s : Schedule) → KeepsRules s → EventsFit s.events
-events_fit s k = All-weaker (KeepsEvent s.topology.hosts) event_fits (event_keeps s.topology.hosts) s.events k.events
+pub events_fit : (s : Schedule) → KeepsRules s → EventsFit s.topology.version s.events
+events_fit s k =
+    let v = s.topology.version in
+    All-weaker (KeepsEvent v s.topology.hosts) (event_fits v) (event_keeps v s.topology.hosts) s.events k.events
+
+-- the first events fit, too
+events_fit_to : (s : Schedule) → KeepsRules s → (k : ℕ) → EventsFit s.topology.version (take k s.events)
+events_fit_to s r k = All-take (event_fits s.topology.version) k s.events (events_fit s r)
+
+-- the first events of a network at its beginning fit it
+events_fit_there : (s : Schedule) → KeepsRules s → (k : ℕ) → EventsFit (opening s.topology).version (take k s.events)
+events_fit_there s r k = subst (λ v. EventsFit v (take k s.events)) (sym (opening_version s.topology)) (events_fit_to s r k)
+
+-- a network keeps its version
+pub version_at : (s : Schedule) → KeepsRules s → (k : ℕ) → (world_after (take k s.events) (opening s.topology)).version ≡ s.topology.version
+version_at s r k = run_version (take k s.events) (opening s.topology) (events_fit_there s r k) (opening_sound s.topology r.network) ∙ opening_version s.topology
 
 -- the lines of the next event can be counted
 pub countable : {S : Type 0} (stands : S → ServiceState) (n : Network S) (s : Schedule) (i : ℕ) (e : WorldEvent) (rows : List FamilyRow) → i < length s.events → e ≡ get_or s.events i e → KeepsRules s
@@ -175,26 +192,45 @@ pub countable : {S : Type 0} (stands : S → ServiceState) (n : Network S) (s : 
 countable stands n s i e rows within is k h c = record {
   state = world_after (take i s.events) (opening s.topology);
   is = h;
-  fits = event_fits_at s.topology s.events i e rows k.network.hosts (events_fit s k) k.few within is c;
+  fits = event_fits_at s.topology s.events i e rows k.network (events_fit s k) k.few within is c;
 }
+
+-- what the next event leaves is what its lines leave by the wire
+pub all_leave : (s : Schedule) (i : ℕ) (e : WorldEvent) → KeepsRules s → AllLeave (history_of (take i s.events) (opening s.topology)) (world_after (take i s.events) (opening s.topology)) e
+all_leave s i e k = λ f. opening_leaves f s.topology (take i s.events) e k.network (events_fit_to s k i)
 
 -- an event's entries are its lines with its number
 pub entries_are : (w : WorldState) (e : WorldEvent) (lines : List Line) (number made : ℕ) → number ≡ made + 1 → made ≡ w.made → lines ≡ (happens w e).lines → map (entry_at number) lines ≡ entries w e
 unfolding entries
 entries_are w e lines number made n m l = (λ i. map (entry_at (n i)) (l i)) ∙ ap (λ k. map (entry_at (k + 1)) (happens w e).lines) m
 
+-- lines that can be counted as those of an event, whether its frame was handed before
+pub fits_as : (rows : List FamilyRow) (late now : Bool) (lines own : List Line) → late ≡ now → lines ≡ own → LinesFit now rows own → LinesFit late rows lines
+fits_as rows late now lines own l e h = subst (λ b. LinesFit b rows lines) (sym l) (subst (LinesFit now rows) (sym e) h)
+
+-- what an event's lines leave, as they are counted
+pub leaves_as : (h : List Entry) (w : WorldState) (e : WorldEvent) (late : Bool) (n : ℕ) (lines : List Line) → late ≡ is_late w e → map (entry_at n) lines ≡ entries w e → lines ≡ (happens w e).lines → AllLeave h w e → Leaves late h n lines
+leaves_as h w e late n lines l own is all f =
+    ap (λ x. left f (h ++ x)) own ∙ all f ∙ (λ i. left f h + line_sum (line_left f (sym l i)) (sym is i))
+
 -- after each prefix of the events
 pub prefix_bounded : (s : Schedule) → KeepsRules s → (k : ℕ) (f : Family) → IsBounded f (history_of (take k s.events) (opening s.topology)) (world_after (take k s.events) (opening s.topology))
-prefix_bounded s r k f = opening_bounded f s.topology (take k s.events) r.network.hosts (All-take event_fits k s.events (events_fit s r))
+prefix_bounded s r k f = opening_bounded f s.topology (take k s.events) r.network (events_fit_to s r k)
 
 pub prefix_granted : (s : Schedule) → KeepsRules s → (k : ℕ) (f : Family) → IsGranted f (history_of (take k s.events) (opening s.topology)) (world_after (take k s.events) (opening s.topology))
-prefix_granted s r k f = opening_grants f s.topology (take k s.events) r.network.hosts (All-take event_fits k s.events (events_fit s r))
+prefix_granted s r k f = opening_grants f s.topology (take k s.events) r.network.hosts (events_fit_to s r k)
+
+pub prefix_balances : (s : Schedule) → KeepsRules s → (k : ℕ) (f : Family) → Balanced f (history_of (take k s.events) (opening s.topology)) (world_after (take k s.events) (opening s.topology))
+prefix_balances s r k f = opening_balances f s.topology (take k s.events) r.network (events_fit_to s r k)
+
+pub whole_balances : (s : Schedule) → KeepsRules s → (f : Family) → Balanced f (history_of s.events (opening s.topology)) (world_after s.events (opening s.topology))
+whole_balances s r f = opening_balances f s.topology s.events r.network (events_fit s r)
 
 pub prefix_sound : (s : Schedule) → KeepsRules s → (k : ℕ) → IsSound (world_after (take k s.events) (opening s.topology))
-prefix_sound s r k = run_sound (take k s.events) (opening s.topology) (All-take event_fits k s.events (events_fit s r)) (opening_sound s.topology r.network)
+prefix_sound s r k = run_sound (take k s.events) (opening s.topology) (events_fit_there s r k) (opening_sound s.topology r.network)
 
 pub prefix_ends : (s : Schedule) → KeepsRules s → (k : ℕ) → All EndsWell (visits_after k s.events (opening s.topology))
-prefix_ends s r k = run_ends k s.events (opening s.topology) (events_fit s r) (opening_sound s.topology r.network)
+prefix_ends s r k = run_ends k s.events (opening s.topology) (subst (λ v. EventsFit v s.events) (sym (opening_version s.topology)) (events_fit s r)) (opening_sound s.topology r.network)
 
 abbrev header : List ℕ
 header = codes "planet trace 1\n"

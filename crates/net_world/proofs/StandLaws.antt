@@ -9,20 +9,35 @@ use Rattle.std.proofs.lemmas.Option.{slice_get-get_or}
 use Rattle.plan_base.specs.declared.ids.Host.{Host}
 use Rattle.plan_base.specs.declared.ids.Dev.{Dev}
 use Rattle.plan_base.specs.declared.memory.NoMemory.{NoMemory}
-use Rattle.packet_frame.specs.declared.frame.PlainFrame.{PlainFrame}
-use Rattle.packet_frame.specs.Typed.{Accepts}
-use Rattle.packet_frame.proofs.OneAnswer.{accepts_is}
+use Rattle.plan_base.specs.declared.name.Name.{Name}
+use Rattle.plan_base.specs.declared.tree.Chunk.{Chunk}
+use Rattle.typing_rules.specs.Handlers.{MayHandle}
+use Rattle.link_window.specs.declared.window.Stamp.{Stamp}
+use Rattle.link_window.specs.declared.window.Version.{Version}
+use Rattle.link_window.specs.declared.window.Version.TheVariants.{One, Two}
+use Rattle.packet_frame.specs.declared.frame.PlainStamped.{PlainStamped}
+use Rattle.packet_frame.specs.Stamped.{AcceptsBy}
+use Rattle.packet_frame.proofs.Versions.{accepted_by}
+use Rattle.network_plan.specs.Rules.{MayName}
+use Rattle.spelled_frame.specs.Spelled.{version_of}
 use Rattle.service_api.specs.Services.{ServiceState}
 use Rattle.node_model.specs.declared.acts.Act.{Act}
 use Rattle.node_model.specs.declared.acts.Acts.{Acts}
+use Rattle.node_model.specs.declared.acts.Lane.{Lane}
 use Rattle.node_model.specs.State.{NodeState, is_host}
-use Rattle.node_model.specs.Node.{Step, frame_step, arrived, arrive_step, take_from, take_step}
+use Rattle.node_model.specs.Node.{Step, stamped_step, arrived, arrive_step, inject_step, take_first, take_from, take_step}
+use Rattle.node_model.specs.Fits.{IsMarked}
 use Rattle.node_core.specs.declared.node.Node.{Node}
 use Rattle.node_core.specs.Stands.{NodeStands, IsStep}
 use Rattle.world_model.specs.declared.lines.Line.{Line}
 use Rattle.world_model.specs.declared.lines.Line.TheVariants.{At}
-use Rattle.world_model.specs.World.{Cables, place_of, lines_at, peer_of, neighbour_at, neighbours_to}
-use Rattle.net_world.specs.Stands.{AllStand, StepsAt}
+use Rattle.world_model.specs.World.{Cables, WorldState, place_of, lines_at, peer_of, neighbour_at, neighbours_to}
+use Rattle.world_model.specs.declared.lines.Wired.{Wired}
+use Rattle.network_plan.specs.declared.event.WorldEvent.{WorldEvent}
+use Rattle.world_model.specs.Sound.{DevicesFit, event_fits}
+use Rattle.network_laws.proofs.Fitting.{at_place, wired_of}
+use Rattle.net_world.specs.declared.network.Network.{Network}
+use Rattle.net_world.specs.Stands.{AllStand, WorldStands, StepsAt, MayNameAt, IsMarkedAt}
 
 -- ---- lines and neighbours
 
@@ -53,23 +68,60 @@ set_same_item [] i x e = refl
 set_same_item (y ∷ xs) zero x e = let h : y ≡ x = cc in ap (λ z. z ∷ xs) (sym h)
 set_same_item (y ∷ xs) (suc i) x e = ap (λ zs. y ∷ zs) (set_same_item xs i x e)
 
-take_from_nothing : (node : NodeState) (d : Dev) (o : Option (List PlainFrame)) → (take_from node d o).frame ≡ None → (take_from node d o).node ≡ node
+take_first_nothing : (node : NodeState) (d : Dev) (n : ℕ) (frames : List PlainStamped) → (take_first node d n frames).frame ≡ None → (take_first node d n frames).node ≡ node
+take_first_nothing node d n [] e = refl
+take_first_nothing node d n (x ∷ queue) e = cc
+
+take_from_nothing : (node : NodeState) (d : Dev) (o : Option Lane) → (take_from node d o).frame ≡ None → (take_from node d o).node ≡ node
 take_from_nothing node d None e = refl
-take_from_nothing node d (Some []) e = refl
-take_from_nothing node d (Some (p ∷ queue)) e = cc
+take_from_nothing node d (Some lane) e = take_first_nothing node d lane.number lane.frames e
 
 take_nothing : (node : NodeState) (d : Dev) → (take_step node d).frame ≡ None → (take_step node d).node ≡ node
 unfolding take_step
 take_nothing node d e = take_from_nothing node d (slice_get node.queues d.0) e
 
--- a frame that arrives by its bytes
-by_bytes : (bytes : List ℕ) (x : PlainFrame) (node : NodeState) (d : Dev) → Accepts bytes x → arrive_step node d bytes ≡ frame_step node d x
+-- the version whose frames bear this
+marked_version : (v : Version) (o : Option Stamp) → IsMarked v o → version_of o ≡ v
+marked_version One None m = refl
+marked_version One (Some s) m = cc
+marked_version Two None m = absurd m
+marked_version Two (Some s) m = refl
+
+-- a frame of the node's version that arrives by its bytes
+by_bytes : (bytes : List ℕ) (x : PlainStamped) (node : NodeState) (d : Dev) → AcceptsBy (version_of x.stamp) bytes x → IsMarked node.version x.stamp → arrive_step node d bytes ≡ stamped_step node d x
 unfolding arrive_step
-by_bytes bytes x node d h = ap (arrived node d) (accepts_is bytes x h)
+by_bytes bytes x node d h m = ap (arrived node d) (accepted_by node.version bytes x (subst (λ v. AcceptsBy v bytes x) (marked_version node.version x.stamp m) h))
+
+-- ---- handlers
+
+-- what may be named under version 1 is nothing
+pub none_named : (v : Version) (chunk : Chunk) (handler : Option Name) → v ≡ One → MayName v chunk handler → handler ≡ None
+none_named One chunk handler e m = m
+none_named Two chunk handler e m = cc
+
+-- and nothing may be named there
+pub may_none : (v : Version) (chunk : Chunk) → v ≡ One → MayName v chunk None
+may_none One chunk e = refl
+may_none Two chunk e = cc
+
+-- one that may handle may be named under version 2
+pub may_name : (v : Version) (chunk : Chunk) (handler : Option Name) → v ≡ Two → MayHandle chunk handler → MayName v chunk handler
+may_name One chunk handler e m = cc
+may_name Two chunk handler e m = m
+
+-- what may be named may handle
+pub named_handles : (v : Version) (chunk : Chunk) (handler : Option Name) → MayName v chunk handler → MayHandle chunk handler
+named_handles One chunk None m = tt
+named_handles One chunk (Some n) m = cc
+named_handles Two chunk handler m = m
 
 pub if_ok : {T E : Type 0} (P Q : T → Type 0) (r : Result T E) → ((x : T) → P x → Q x) → IfOk r P → IfOk r Q
 if_ok P Q (Ok x) f h = f x h
 if_ok P Q (Err e) f h = h
+
+-- an event that fits a network fits each state of its version
+pub fits_there : {S : Type 0} (w : WorldState) (e : WorldEvent) (n : Network S) → w.version ≡ n.version → event_fits n.version e → event_fits w.version e
+fits_there w e n v f = subst (λ u. event_fits u e) (sym v) f
 
 module _ {S : Type 0} (stands : S → ServiceState) where
   -- the state at a place of a node
@@ -134,13 +186,47 @@ module _ {S : Type 0} (stands : S → ServiceState) where
   }
 
   -- a step of the node at a place, where it finds memory
+  pub stepped_where : (step : NodeState → Step) (nodes : List (Node S)) (at : ℕ) (d after : Node S) (r : Result Acts NoMemory) (states : List NodeState) → at < length nodes → AllStand stands nodes states
+      → ((s : NodeState) → slice_get states at ≡ Some s → NodeStands stands (get_or nodes at d) s → IfOk r (λ acts. IsStep stands (step s) acts after))
+      → IfOk r (λ acts. StepsAt stands step states at acts (slice_set nodes at after))
+  stepped_where step nodes at d after r states h a each =
+      let f = found nodes states at (get_or nodes at d) a (slice_get-get_or nodes at d h) in
+      if_ok (λ acts. IsStep stands (step f.state) acts after) (λ acts. StepsAt stands step states at acts (slice_set nodes at after)) r
+      (λ acts done. steps_at step nodes states at acts after (get_or nodes at d) a f done) (each f.state f.there f.is)
+
   pub stepped_at : (step : NodeState → Step) (nodes : List (Node S)) (at : ℕ) (d after : Node S) (r : Result Acts NoMemory) → at < length nodes
       → ((s : NodeState) → NodeStands stands (get_or nodes at d) s → IfOk r (λ acts. IsStep stands (step s) acts after))
       → (states : List NodeState) → AllStand stands nodes states → IfOk r (λ acts. StepsAt stands step states at acts (slice_set nodes at after))
-  stepped_at step nodes at d after r h each states a =
+  stepped_at step nodes at d after r h each states a = stepped_where step nodes at d after r states h a (λ s e n. each s n)
+
+  -- the version of the node at a place
+  pub version_is : (nodes : List (Node S)) (states : List NodeState) (at : ℕ) (d : Node S) (s : NodeState) → at < length nodes → AllStand stands nodes states → slice_get states at ≡ Some s
+      → (get_or nodes at d).version ≡ s.version
+  version_is nodes states at d s h a e =
       let f = found nodes states at (get_or nodes at d) a (slice_get-get_or nodes at d h) in
-      if_ok (λ acts. IsStep stands (step f.state) acts after) (λ acts. StepsAt stands step states at acts (slice_set nodes at after)) r
-      (λ acts done. steps_at step nodes states at acts after (get_or nodes at d) a f done) (each f.state f.is)
+      let same : f.state ≡ s = some_state f.state s (sym f.there ∙ e) in
+      f.is.version ∙ ap (λ (x : NodeState). x.version) same
+    where
+      some_state : (x y : NodeState) → Some x ≡ Some y → x ≡ y
+      some_state x y q = cc
+
+  -- what may be named in a network may be named at each of its nodes
+  pub named_there : (n : Network S) (w : WorldState) (chunk : Chunk) (handler : Option Name) → WorldStands stands n w → MayName n.version chunk handler → (at : ℕ) → MayNameAt w.nodes at chunk handler
+  named_there n w chunk handler h m at s e =
+      subst (λ v. MayName v chunk handler) (h.is.version ∙ sym (at_place (DevicesFit w.version) w.nodes at s e h.sound.devices).version) m
+
+  -- a frame on the wire is one of each node's version
+  pub marked_there : (n : Network S) (w : WorldState) (place : ℕ) (x : Wired) → WorldStands stands n w → slice_get n.wire place ≡ Some x → (at : ℕ) → IsMarkedAt w.nodes at x.frame.stamp
+  marked_there n w place x h there at s e =
+      let on = wired_of w.version w.«next» w.wire place x (ap (λ wire. slice_get wire place) (sym h.is.wire) ∙ there) h.sound.wire in
+      subst (λ v. IsMarked v x.frame.stamp) (sym (at_place (DevicesFit w.version) w.nodes at s e h.sound.devices).version) on.frame.mark
+
+  -- an injection without a handler, where none may be named
+  pub unnamed : (node after : Node S) (s : NodeState) (chunk : Chunk) (bound : ℕ) (handler : Option Name) (r : Result Acts NoMemory) → node.version ≡ One → NodeStands stands node s → MayName s.version chunk handler
+      → IfOk r (λ acts. IsStep stands (inject_step [] s chunk bound None) acts after) → IfOk r (λ acts. IsStep stands (inject_step [] s chunk bound handler) acts after)
+  unnamed node after s chunk bound handler r v n m done =
+      let none : handler ≡ None = none_named s.version chunk handler (sym n.version ∙ v) m in
+      subst (λ o. IfOk r (λ acts. IsStep stands (inject_step [] s chunk bound o) acts after)) (sym none) done
 
   nothing_taken : (d : Dev) (states : List NodeState) (at : ℕ) (acts : Acts) (new : List (Node S)) → StepsAt stands (λ node. take_step node d) states at acts new → acts.frame ≡ None → AllStand stands new states
   nothing_taken d states at acts new s e =
@@ -153,13 +239,15 @@ module _ {S : Type 0} (stands : S → ServiceState) where
       (λ acts s e. nothing_taken dev states at acts new s e) h
 
   -- what arrives as the bytes of a frame arrives as that frame
-  pub handed_at : (dev : Dev) (bytes : List ℕ) (x : PlainFrame) (new : List (Node S)) (at : ℕ) (r : Result Acts NoMemory) (states : List NodeState) → Accepts bytes x
-      → IfOk r (λ acts. StepsAt stands (λ node. arrive_step node dev bytes) states at acts new) → IfOk r (λ acts. StepsAt stands (λ node. frame_step node dev x) states at acts new)
-  handed_at dev bytes x new at r states h done = if_ok (λ acts. StepsAt stands (λ node. arrive_step node dev bytes) states at acts new) (λ acts. StepsAt stands (λ node. frame_step node dev x) states at acts new) r
-      (λ acts s. record {
+  pub handed_at : (dev : Dev) (bytes : List ℕ) (x : PlainStamped) (new : List (Node S)) (at : ℕ) (r : Result Acts NoMemory) (states : List NodeState) → AcceptsBy (version_of x.stamp) bytes x → IsMarkedAt states at x.stamp
+      → IfOk r (λ acts. StepsAt stands (λ node. arrive_step node dev bytes) states at acts new) → IfOk r (λ acts. StepsAt stands (λ node. stamped_step node dev x) states at acts new)
+  handed_at dev bytes x new at r states h marked done = if_ok (λ acts. StepsAt stands (λ node. arrive_step node dev bytes) states at acts new) (λ acts. StepsAt stands (λ node. stamped_step node dev x) states at acts new) r
+      (λ acts s.
+      let e = by_bytes bytes x s.node dev h (marked s.node s.there) in
+      record {
         node = s.node;
         there = s.there;
-        list = s.list ∙ ap (λ (t : Step). t.acts) (by_bytes bytes x s.node dev h);
-        frame = s.frame ∙ ap (λ (t : Step). t.frame) (by_bytes bytes x s.node dev h);
-        after = subst (AllStand stands new) (ap (λ (t : Step). slice_set states at t.node) (by_bytes bytes x s.node dev h)) s.after;
+        list = s.list ∙ ap (λ (t : Step). t.acts) e;
+        frame = s.frame ∙ ap (λ (t : Step). t.frame) e;
+        after = subst (AllStand stands new) (ap (λ (t : Step). slice_set states at t.node) e) s.after;
       }) done

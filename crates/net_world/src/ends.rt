@@ -1,4 +1,6 @@
-ghost use Rattle.std.specs.Prelude.{◌≡◌, ◌++◌, ◌<◌, length, position, IfOk, IfSome, OnOk};
+ghost use Rattle.std.specs.Prelude.{◌≡◌, ◌++◌, ◌<◌, length, position, slice_get, slice_set, Some, IfOk, IfSome, OnOk};
+ghost use Rattle.world_model.specs.declared.lines.Wired.{Wired as WiredOf};
+ghost use Rattle.world_model.specs.Counts.{late_at};
 ghost use Rattle.world_model.specs.World as spec;
 
 use network_plan::Link;
@@ -6,7 +8,8 @@ use plan_base::{Dev, Host, NoMemory};
 use plan_items::Items;
 use service_api::Neighbours;
 use std::alloc::Global;
-use world_model::{LinkEnd, Wired};
+use std::mem;
+use world_model::{Handing, LinkEnd, Wire, Wired};
 
 /// The number of devices of a node that links may use.
 const LINK_DEVICES: u32 = 8;
@@ -84,6 +87,41 @@ pub fn neighbours_of(alloc: Global, links: &[Link], host: Host) -> Result<Neighb
         add_neighbour(&mut neighbours, links, host, Dev(before + 1))?;
     }
     Ok(neighbours)
+}
+
+/// Marks the frame at a place of the wire as one that was handed. Takes no memory.
+fn mark_handed(alloc: Global, wire: &mut Wire, place: usize)
+    requires { place < length wire.old }
+    ensures { (x : WiredOf) → slice_get wire.old place ≡ Some x
+        → wire.new ≡ slice_set wire.old place (spec.as_handed x) }
+{
+    let mut frames = mem::replace(wire, Items::new(alloc)).into_vec();
+    frames[place].handed = true;
+    *wire = Items::from_vec(frames);
+}
+
+/// Takes a frame that is handed off the wire, or leaves it there as one that was handed. Takes no memory.
+pub fn hand_off(alloc: Global, wire: &mut Wire, how: Handing, place: usize)
+    requires { place < length wire.old }
+    ensures { (x : WiredOf) → slice_get wire.old place ≡ Some x
+        → wire.new ≡ spec.wire_after how wire.old place x }
+{
+    match how {
+        Handing::Taking => {
+            let _taken = wire.remove(place);
+        }
+        Handing::Leaving => mark_handed(alloc, wire, place),
+    }
+}
+
+/// Whether the frame of a number is on the wire and was handed before. Takes no memory.
+pub fn was_handed(wire: &[Wired], number: u32) -> bool
+    ensures { result ≡ late_at wire.now (spec.wire_place wire.now number) }
+{
+    let Some(place) = wire_place(wire, number) else {
+        return false;
+    };
+    wire[place].handed
 }
 
 /// The place of a frame number on the wire.

@@ -1,19 +1,18 @@
-ghost use Rattle.std.specs.Prelude.{◌≡◌, ◌∷◌, ◌++◌, ◌⊎◌, [], IfOk, IfErr, Ok, Err};
-ghost use Rattle.wire_bytes.specs.Fields.{IsBytes};
-ghost use Rattle.packet_frame.specs.Bytes.{frame_bytes};
+ghost use Rattle.std.specs.Prelude.{◌≡◌, ◌∷◌, ◌++◌, [], IfOk};
 ghost use Rattle.packet_frame.specs.Typed.{plain_of};
-ghost use Rattle.packet_frame.specs.declared.fault.FrameFault.{FrameFault};
-ghost use Rattle.packet_frame.specs.Decoding.{frame_of};
+ghost use Rattle.packet_frame.specs.Stamped.{stamped_bytes};
+ghost use Rattle.packet_frame.specs.Decoding.{read_by};
 ghost use Rattle.world_model.specs.World as spec;
 ghost use Rattle.world_model.specs.declared.lines.Line.TheVariants as line;
 
+use node_core::{Version, read_as};
 use node_model::ActList;
-use packet_frame::{Frame, FrameFault, get_frame};
+use packet_frame::{Frame, FrameFault};
 use plan_base::{Bytes, Host, NoMemory};
 use plan_items::Items;
 use spelled_frame::SpelledFrame;
 use std::alloc::Global;
-use world_model::{Line, Lines};
+use world_model::{Handing, Line, Lines};
 
 /// No lines.
 pub fn no_lines(alloc: Global) -> Lines
@@ -42,18 +41,9 @@ pub fn with_acts(before: Lines, host: Host, acts: ActList) -> Result<Lines, NoMe
     Ok(lines)
 }
 
-/// Reads a frame; the answer is that of the definition, where memory is there.
-fn read_frame(alloc: Global, bytes: &[u8]) -> Result<Frame, FrameFault>
-    requires { IsBytes bytes.now }
-    ensures found { IfOk result (λ x. frame_of bytes.now ≡ Ok (plain_of x)) }
-    ensures fault { IfErr result (λ e. (e ≡ FrameFault.NoMemory) ⊎ (frame_of bytes.now ≡ Err e)) }
-{
-    get_frame(alloc, bytes, None)
-}
-
 /// The lines of a frame from outside before it arrives: a packet grants its bound.
 fn lines_of(alloc: Global, host: Host, frame: &Frame) -> Result<Lines, NoMemory>
-    ensures { IfOk result (λ lines. lines ≡ spec.forged host (Ok (plain_of frame.now))) }
+    ensures { IfOk result (λ lines. lines ≡ spec.forged_frame host (plain_of frame.now)) }
 {
     match frame {
         Frame::Packet(p) => one_line(alloc, Line::Forged(host, p.family(), p.bound())),
@@ -61,13 +51,18 @@ fn lines_of(alloc: Global, host: Host, frame: &Frame) -> Result<Lines, NoMemory>
     }
 }
 
-/// The lines of bytes from outside before they arrive: those that are accepted as a packet grant its bound.
-pub fn forged_lines(alloc: Global, host: Host, bytes: &[u8]) -> Result<Lines, NoMemory>
-    requires { IsBytes bytes.now }
-    ensures { IfOk result (λ lines. lines ≡ spec.forged host (frame_of bytes.now)) }
+/// The lines of bytes from outside before they arrive at a node of a version: those that it accepts as a packet grant its
+/// bound.
+pub fn forged_lines(
+    alloc: Global,
+    host: Host,
+    version: Version,
+    bytes: &[u8],
+) -> Result<Lines, NoMemory>
+    ensures { IfOk result (λ lines. lines ≡ spec.forged host (read_by version bytes.now)) }
 {
-    match read_frame(alloc, bytes) {
-        Ok(frame) => lines_of(alloc, host, &frame),
+    match read_as(alloc, bytes, version, None) {
+        Ok(stamped) => lines_of(alloc, host, &stamped.frame),
         Err(FrameFault::NoMemory) => Err(NoMemory),
         Err(_) => Ok(no_lines(alloc)),
     }
@@ -75,7 +70,7 @@ pub fn forged_lines(alloc: Global, host: Host, bytes: &[u8]) -> Result<Lines, No
 
 /// The bytes of a frame.
 fn bytes_of(alloc: Global, frame: &SpelledFrame) -> Result<Bytes, NoMemory>
-    ensures { IfOk result (λ bytes. bytes ≡ frame_bytes frame.now) }
+    ensures { IfOk result (λ bytes. bytes ≡ stamped_bytes frame.now) }
 {
     let mut bytes = Bytes::new(alloc);
     bytes.add_all(frame.bytes())?;
@@ -90,10 +85,20 @@ pub fn with_wire(
     frame: &SpelledFrame,
 ) -> Result<Lines, NoMemory>
     ensures { IfOk result
-        (λ lines. lines ≡ before ++ line.Wire number (frame_bytes frame.now) ∷ []) }
+        (λ lines. lines ≡ before ++ line.Wire number (stamped_bytes frame.now) ∷ []) }
 {
     let mut lines = before;
     let bytes = bytes_of(alloc, frame)?;
     lines.add(Line::Wire(number, bytes))?;
     Ok(lines)
+}
+
+/// The line of a frame that is handed to its receiving end.
+pub fn hand_line(how: Handing, number: u32) -> Line
+    ensures { result ≡ spec.hand_line how number }
+{
+    match how {
+        Handing::Taking => Line::Off(number),
+        Handing::Leaving => Line::Again(number),
+    }
 }

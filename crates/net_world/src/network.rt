@@ -1,34 +1,34 @@
 ghost use Rattle.std.specs.Prelude.{◌≡◌, ◌≤◌, ◌<◌, ◌+◌, ◌-◌, ◌^◌, ◌∷◌, [], map, IfOk, OnErr};
-ghost use Rattle.network_plan.specs.Rules.{KeepsNetwork};
+ghost use Rattle.network_plan.specs.Rules.{KeepsNetwork, MayName};
 ghost use Rattle.world_model.specs.World as spec;
 ghost use Rattle.world_model.specs.World.{WorldState};
-ghost use Rattle.wire_bytes.specs.Fields.{IsBytes};
 ghost use Rattle.world_model.specs.Sound.{event_fits};
+ghost use Rattle.world_model.specs.Counts.{late_in};
 ghost use Rattle.world_model.specs.declared.lines.Line.TheVariants as line;
 ghost use Rattle.wire_numbers.specs.Numbers as numbers;
-ghost use Rattle.net_world.specs.Stands.{WorldStands, IsHappened};
+ghost use Rattle.net_world.specs.Stands.{NetworkStands, WorldStands, IsActed};
 
-use crate::ends::{far_end, wire_place};
-use crate::lines::{forged_lines, no_lines, one_line, with_acts, with_wire};
-use crate::nodes::{arrive_at, hand_to, inject_at, node_place, take_at, tick_at};
+use crate::ends::{far_end, hand_off, was_handed, wire_place};
+use crate::lines::{forged_lines, hand_line, no_lines, one_line, with_acts, with_wire};
+use crate::nodes::{arrive_at, hand_to, inject_at, node_place, take_at, tick_at, version_at};
 use crate::opening::open_nodes;
 use chunk_types::CheckedChunk;
 use network_plan::{Links, Topology, WorldEvent};
-use node_core::Node;
+use node_core::{Node, Version};
 use node_model::Acts;
-use plan_base::{Dev, Host, NoMemory};
+use plan_base::{Dev, Host, Name, NoMemory};
 use plan_items::Items;
 use service_api::Services;
 use spelled_frame::SpelledFrame;
 use std::alloc::Global;
 use wire_numbers::{highest, lowest};
-use world_model::{Line, Lines, LinkEnd, Wire, Wired};
+use world_model::{Handing, Line, Lines, LinkEnd, Wire, Wired};
 
 /// The number of frames that the wire holds.
 const WIRE_ROOM: usize = 4096;
 
-/// The parts of a network: its nodes, its links, the frames on the wire, the number of the next frame and
-/// the number of events so far.
+/// The parts of a network: its nodes, its links, the frames on the wire, the number of the next frame, the
+/// number of events so far and its version.
 #[derive(Drop)]
 pub struct Network<S: Services> {
     nodes: Vec<Node<S>>,
@@ -36,6 +36,7 @@ pub struct Network<S: Services> {
     wire: Wire,
     next: u32,
     made: u32,
+    version: Version,
 }
 
 /// The line of an event that changes nothing.
@@ -56,7 +57,7 @@ impl<S: Services + Drop> Network<S> {
     ) -> Result<Network<S>, NoMemory>
         requires rules { KeepsNetwork topology.now }
         requires services { map S.stands services ≡ map spec.opening_services topology.now.hosts }
-        ensures stands { IfOk result (λ n. WorldStands S.stands n (spec.opening topology.now)) }
+        ensures stands { IfOk result (λ n. NetworkStands S.stands n (spec.opening topology.now)) }
         ensures next { IfOk result (λ n. n.«next» ≤ n.made + 1) }
     {
         let links = Items::from_slice(alloc, topology.links.as_slice())?;
@@ -67,6 +68,7 @@ impl<S: Services + Drop> Network<S> {
             wire: Items::new(alloc),
             next: 1,
             made: 0,
+            version: topology.version,
         })
     }
 }
@@ -78,24 +80,25 @@ impl<S: Services> Network<S> {
         host: Host,
         chunk: &CheckedChunk,
         bound: u32,
+        handler: &Option<Name>,
     ) -> Result<Lines, NoMemory>
         requires small { bound ≤ 65535 }
-        ensures ok { (w : WorldState) → WorldStands S.stands self.old w
-            → IfOk result
-            (λ lines. IsHappened S.stands (spec.injects w host chunk.now bound) lines self.new) }
+        requires handler { MayName self.old.version chunk.now handler.now }
+        ensures ok { (w : WorldState) → WorldStands S.stands self.old w → IfOk result (λ lines.
+            IsActed S.stands (spec.injects w host chunk.now bound handler.now) lines self.new) }
         ensures next { self.new.next ≡ self.old.next }
         ensures made { self.new.made ≡ self.old.made }
     {
         let Some(at) = node_place(self.nodes.as_slice(), host) else {
             return nothing(alloc);
         };
-        let acts = inject_at(alloc, &mut self.nodes, at, chunk, bound)?;
+        let acts = inject_at(alloc, &mut self.nodes, at, chunk, bound, handler)?;
         with_acts(no_lines(alloc), host, acts.list)
     }
 
     fn tick(&mut self, alloc: Global, host: Host) -> Result<Lines, NoMemory>
         ensures ok { (w : WorldState) → WorldStands S.stands self.old w
-            → IfOk result (λ lines. IsHappened S.stands (spec.ticks w host) lines self.new) }
+            → IfOk result (λ lines. IsActed S.stands (spec.ticks w host) lines self.new) }
         ensures next { self.new.next ≡ self.old.next }
         ensures made { self.new.made ≡ self.old.made }
     {
@@ -107,17 +110,17 @@ impl<S: Services> Network<S> {
     }
 
     fn raw(&mut self, alloc: Global, host: Host, dev: Dev, bytes: &[u8]) -> Result<Lines, NoMemory>
-        requires { IsBytes bytes.now }
         ensures ok { (w : WorldState) → WorldStands S.stands self.old w
             → IfOk result
-            (λ lines. IsHappened S.stands (spec.raws w host dev bytes.now) lines self.new) }
+            (λ lines. IsActed S.stands (spec.raws w host dev bytes.now) lines self.new) }
         ensures next { self.new.next ≡ self.old.next }
         ensures made { self.new.made ≡ self.old.made }
     {
         let Some(at) = node_place(self.nodes.as_slice(), host) else {
             return nothing(alloc);
         };
-        let before = forged_lines(alloc, host, bytes)?;
+        let version = version_at(self.nodes.as_slice(), at);
+        let before = forged_lines(alloc, host, version, bytes)?;
         let acts = arrive_at(alloc, &mut self.nodes, at, dev, bytes)?;
         with_acts(before, host, acts.list)
     }
@@ -125,7 +128,7 @@ impl<S: Services> Network<S> {
     fn send(&mut self, alloc: Global, host: Host, dev: Dev) -> Result<Lines, NoMemory>
         requires few { self.old.next < 2 ^ 32 - 1 }
         ensures ok { (w : WorldState) → WorldStands S.stands self.old w
-            → IfOk result (λ lines. IsHappened S.stands (spec.sends w host dev) lines self.new) }
+            → IfOk result (λ lines. IsActed S.stands (spec.sends w host dev) lines self.new) }
         ensures next { self.new.next ≤ self.old.next + 1 }
         ensures still { OnErr result (self.new.next ≡ self.old.next) }
         ensures made { self.new.made ≡ self.old.made }
@@ -152,33 +155,36 @@ impl<S: Services> Network<S> {
             from,
             to,
             frame,
+            handed: false,
         })?;
         self.next += 1;
         Ok(lines)
     }
 
-    fn deliver(&mut self, alloc: Global, number: u32) -> Result<Lines, NoMemory>
+    fn hand(&mut self, alloc: Global, how: Handing, number: u32) -> Result<Lines, NoMemory>
         ensures ok { (w : WorldState) → WorldStands S.stands self.old w
-            → IfOk result (λ lines. IsHappened S.stands (spec.delivers w number) lines self.new) }
+            → IfOk result (λ lines. IsActed S.stands (spec.hands w how number) lines self.new) }
         ensures next { self.new.next ≡ self.old.next }
         ensures made { self.new.made ≡ self.old.made }
     {
         let Some(place) = wire_place(self.wire.as_slice(), number) else {
             return nothing(alloc);
         };
-        let to = self.wire.at(place).to;
+        let x = self.wire.at(place);
+        let to = x.to;
         let Some(at) = node_place(self.nodes.as_slice(), to.host) else {
             return nothing(alloc);
         };
-        let x = self.wire.remove(place);
+        let line = hand_line(how, x.number);
         let acts = hand_to(alloc, &mut self.nodes, at, to.dev, &x.frame)?;
-        let before = one_line(alloc, Line::Off(x.number))?;
+        hand_off(alloc, &mut self.wire, how, place);
+        let before = one_line(alloc, line)?;
         with_acts(before, to.host, acts.list)
     }
 
     fn lose(&mut self, alloc: Global, number: u32) -> Result<Lines, NoMemory>
         ensures ok { (w : WorldState) → WorldStands S.stands self.old w
-            → IfOk result (λ lines. IsHappened S.stands (spec.loses w number) lines self.new) }
+            → IfOk result (λ lines. IsActed S.stands (spec.loses w number) lines self.new) }
         ensures next { self.new.next ≡ self.old.next }
         ensures made { self.new.made ≡ self.old.made }
     {
@@ -193,18 +199,21 @@ impl<S: Services> Network<S> {
 
     /// An event, which isn't counted yet, and its lines.
     pub fn act(&mut self, alloc: Global, event: &WorldEvent) -> Result<Lines, NoMemory>
-        requires fits { event_fits event.now }
+        requires fits { event_fits self.old.version event.now }
         requires few { self.old.next < 2 ^ 32 - 1 }
         ensures ok { (w : WorldState) → WorldStands S.stands self.old w
-            → IfOk result (λ lines. IsHappened S.stands (spec.acted w event.now) lines self.new) }
+            → IfOk result (λ lines. IsActed S.stands (spec.acted w event.now) lines self.new) }
         ensures next { self.new.next ≤ self.old.next + 1 }
         ensures still { OnErr result (self.new.next ≡ self.old.next) }
         ensures made { self.new.made ≡ self.old.made }
     {
         match event {
-            WorldEvent::Inject(host, chunk, bound) => self.inject(alloc, *host, chunk, *bound),
+            WorldEvent::Inject(host, chunk, bound, handler) => {
+                self.inject(alloc, *host, chunk, *bound, handler)
+            }
             WorldEvent::Send(host, dev) => self.send(alloc, *host, *dev),
-            WorldEvent::Deliver(number) => self.deliver(alloc, *number),
+            WorldEvent::Deliver(number) => self.hand(alloc, Handing::Taking, *number),
+            WorldEvent::Repeat(number) => self.hand(alloc, Handing::Leaving, *number),
             WorldEvent::Lose(number) => self.lose(alloc, *number),
             WorldEvent::Tick(host) => self.tick(alloc, *host),
             WorldEvent::Raw(host, dev, bytes) => self.raw(alloc, *host, *dev, bytes.as_slice()),
@@ -216,10 +225,22 @@ impl<S: Services> Network<S> {
         requires { self.old.made < 2 ^ 32 - 1 }
         ensures made { self.new.made ≡ self.old.made + 1 }
         ensures next { self.new.next ≡ self.old.next }
-        ensures stands { (w : WorldState) → WorldStands S.stands self.old w
-            → WorldStands S.stands self.new (spec.counted w) }
+        ensures stands { (w : WorldState) → NetworkStands S.stands self.old w
+            → NetworkStands S.stands self.new (spec.counted w) }
     {
         self.made += 1;
+    }
+
+    /// Whether an event hands or loses a frame that was handed before.
+    pub fn is_late(&self, event: &WorldEvent) -> bool
+        ensures { result ≡ late_in self.now.wire event.now }
+    {
+        match event {
+            WorldEvent::Deliver(number) => was_handed(self.wire.as_slice(), *number),
+            WorldEvent::Repeat(number) => was_handed(self.wire.as_slice(), *number),
+            WorldEvent::Lose(number) => was_handed(self.wire.as_slice(), *number),
+            _ => false,
+        }
     }
 
     /// The number of events so far.

@@ -1,14 +1,18 @@
 ghost use Rattle.std.specs.Prelude.{◌≡◌, ◌≤◌, ◌<◌, [], List, length, IfOk, IfSome, None};
 ghost use Rattle.std.specs.List.{position_from};
+ghost use Rattle.std.specs.Prelude.{slice_get, Some};
+ghost use Rattle.typing_rules.specs.Handlers.{MayHandle};
+ghost use Rattle.network_plan.specs.Rules.{MayName};
 ghost use Rattle.node_model.specs.State.{NodeState, is_host};
-ghost use Rattle.node_model.specs.Node.{inject_step, frame_step, arrive_step, tick_step, take_step};
+ghost use Rattle.node_model.specs.Node.{inject_step, stamped_step, arrive_step, tick_step, take_step};
+ghost use Rattle.node_core.specs.Stands.{NodeStands, IsStep};
 ghost use Rattle.world_model.specs.World as spec;
-ghost use Rattle.net_world.specs.Stands.{AllStand, StepsAt};
+ghost use Rattle.net_world.specs.Stands.{AllStand, StepsAt, MayNameAt, IsMarkedAt};
 
 use chunk_types::CheckedChunk;
-use node_core::Node;
+use node_core::{Node, Version};
 use node_model::Acts;
-use plan_base::{Dev, Host, NoMemory};
+use plan_base::{Dev, Host, Name, NoMemory};
 use service_api::Services;
 use spelled_frame::SpelledFrame;
 use std::alloc::Global;
@@ -39,6 +43,35 @@ pub fn node_place<S: Services>(nodes: &[Node<S>], host: Host) -> Option<usize>
     host_place(nodes, host)
 }
 
+/// The version of the node at this place.
+pub fn version_at<S: Services>(nodes: &[Node<S>], at: usize) -> Version
+    requires { at < length nodes.now }
+    ensures { (states : List NodeState) (s : NodeState) → AllStand S.stands nodes.now states
+        → slice_get states at ≡ Some s → result ≡ s.version }
+{
+    nodes[at].version()
+}
+
+/// An injection at a node, with a bound of at most 65,535; a node of version 1 takes no handler.
+fn inject_one<S: Services>(
+    alloc: Global,
+    node: &mut Node<S>,
+    chunk: &CheckedChunk,
+    bound: u32,
+    handler: &Option<Name>,
+) -> Result<Acts, NoMemory>
+    requires small { bound ≤ 65535 }
+    requires handler { MayHandle chunk.now handler.now }
+    ensures { (s : NodeState) → NodeStands S.stands node.old s
+        → MayName s.version chunk.now handler.now → IfOk result
+        (λ acts. IsStep S.stands (inject_step [] s chunk.now bound handler.now) acts node.new) }
+{
+    match node.version() {
+        Version::One => node.inject(alloc, chunk, bound, &None),
+        Version::Two => node.inject(alloc, chunk, bound, handler),
+    }
+}
+
 /// An injection at the node at this place, with a bound of at most 65,535.
 pub fn inject_at<S: Services>(
     alloc: Global,
@@ -46,14 +79,16 @@ pub fn inject_at<S: Services>(
     at: usize,
     chunk: &CheckedChunk,
     bound: u32,
+    handler: &Option<Name>,
 ) -> Result<Acts, NoMemory>
     requires within { at < length nodes.old }
     requires small { bound ≤ 65535 }
+    requires handler { MayHandle chunk.now handler.now }
     ensures { (states : List NodeState) → AllStand S.stands nodes.old states
-        → IfOk result (λ acts. StepsAt S.stands
-        (λ node. inject_step [] node chunk.now bound) states at acts nodes.new) }
+        → MayNameAt states at chunk.now handler.now → IfOk result (λ acts. StepsAt S.stands
+        (λ node. inject_step [] node chunk.now bound handler.now) states at acts nodes.new) }
 {
-    nodes[at].inject(alloc, chunk, bound)
+    inject_one(alloc, &mut nodes[at], chunk, bound, handler)
 }
 
 /// Bytes arrive at the node at this place.
@@ -72,7 +107,7 @@ pub fn arrive_at<S: Services>(
     nodes[at].arrive(alloc, dev, bytes)
 }
 
-/// A frame arrives at the node at this place, by its bytes.
+/// A frame of its version arrives at the node at this place, by its bytes.
 pub fn hand_to<S: Services>(
     alloc: Global,
     nodes: &mut [Node<S>],
@@ -82,8 +117,8 @@ pub fn hand_to<S: Services>(
 ) -> Result<Acts, NoMemory>
     requires { at < length nodes.old }
     ensures { (states : List NodeState) → AllStand S.stands nodes.old states
-        → IfOk result (λ acts. StepsAt S.stands
-        (λ node. frame_step node dev frame.now) states at acts nodes.new) }
+        → IsMarkedAt states at frame.now.stamp → IfOk result (λ acts. StepsAt S.stands
+        (λ node. stamped_step node dev frame.now) states at acts nodes.new) }
 {
     arrive_at(alloc, nodes, at, dev, frame.bytes())
 }

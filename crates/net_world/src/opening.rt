@@ -6,7 +6,7 @@ ghost use Rattle.net_world.specs.Stands.{AllStand};
 
 use crate::ends::neighbours_of;
 use network_plan::{HostSpec, Hosts, NodeConfig, Topology};
-use node_core::Node;
+use node_core::{Node, Version};
 use plan_base::NoMemory;
 use plan_items::Items;
 use service_api::Services;
@@ -23,16 +23,30 @@ fn hosts_of(alloc: Global, hosts: &[HostSpec]) -> Result<Hosts, NoMemory>
     Ok(own)
 }
 
+/// The moment at which a node of a network begins, and the number of its devices' first frames.
+fn first_moment(version: Version) -> u64
+    ensures { result ≡ spec.first_moment version }
+{
+    match version {
+        Version::One => 0,
+        Version::Two => 1,
+    }
+}
+
 /// How the node of a host begins.
 fn config_of(alloc: Global, topology: &Topology, host: &HostSpec) -> Result<NodeConfig, NoMemory>
     ensures { IfOk result (λ config. config ≡ spec.config_of topology.now host.now) }
 {
     let here = host.host;
+    let first = first_moment(topology.version);
     Ok(NodeConfig {
         here,
         hosts: hosts_of(alloc, topology.hosts.as_slice())?,
         neighbours: neighbours_of(alloc, topology.links.as_slice(), here)?,
         serial: 1,
+        version: topology.version,
+        boot: first,
+        link: first,
     })
 }
 

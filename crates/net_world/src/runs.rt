@@ -9,7 +9,7 @@ ghost use Rattle.run_ledger.specs.Stands.{Stands};
 ghost use Rattle.net_world.specs.Stands.{WorldStands};
 ghost use Rattle.world_model.specs.Counts.{Balanced};
 ghost use Rattle.world_model.specs.Sound.{event_fits};
-ghost use Rattle.net_world.specs.Running.{IsCountable};
+ghost use Rattle.net_world.specs.Running.{AllLeave, IsCountable};
 ghost use Rattle.net_world.specs.Printing.{Prints, WaitsFor, PutsPiece};
 ghost use Rattle.net_world.specs.Keeping.{KeepsRun};
 
@@ -45,7 +45,7 @@ fn make_event<S: Services>(
     event: &WorldEvent,
     text: &mut Bytes,
 ) -> Result<(), NoMemory>
-    requires fits { event_fits event.now }
+    requires fits { event_fits world.old.version event.now }
     requires few { world.old.made < 2 ^ 32 - 2 }
     requires counts { IsCountable S.stands world.old event.now ledger.old }
     ensures text { (w : WorldState) → WorldStands S.stands world.old w
@@ -53,12 +53,14 @@ fn make_event<S: Services>(
     ensures world { (w : WorldState) → WorldStands S.stands world.old w
         → OnOk result (WorldStands S.stands world.new (spec.happens w event.now).world) }
     ensures ledger { (w : WorldState) (h : List EntryOf) → WorldStands S.stands world.old w
-        → Stands h ledger.old → OnOk result (Stands (h ++ spec.entries w event.now) ledger.new) }
+        → AllLeave h w event.now → Stands h ledger.old
+        → OnOk result (Stands (h ++ spec.entries w event.now) ledger.new) }
     ensures made { OnOk result (world.new.made ≡ world.old.made + 1) }
 {
     let number = world.made() + 1;
+    let late = world.is_late(event);
     let lines = world.step(alloc, event)?;
-    count_lines(ledger, lines.as_slice())?;
+    count_lines(ledger, lines.as_slice(), late)?;
     put_lines(alloc, text, frames, number, lines.as_slice())?;
     Ok(())
 }
@@ -88,7 +90,7 @@ fn run_event<S: Services, K: Sink>(
     text: Bytes,
     out: &mut K,
 ) -> Result<Bytes, RunFault>
-    requires fits { event_fits event.now }
+    requires fits { event_fits world.old.version event.now }
     requires few { world.old.made < 2 ^ 32 - 2 }
     requires counts { IsCountable S.stands world.old event.now ledger.old }
     ensures waits { (w : WorldState) → WorldStands S.stands world.old w
@@ -97,7 +99,8 @@ fn run_event<S: Services, K: Sink>(
     ensures world { (w : WorldState) → WorldStands S.stands world.old w
         → OnOk result (WorldStands S.stands world.new (spec.happens w event.now).world) }
     ensures ledger { (w : WorldState) (h : List EntryOf) → WorldStands S.stands world.old w
-        → Stands h ledger.old → OnOk result (Stands (h ++ spec.entries w event.now) ledger.new) }
+        → AllLeave h w event.now → Stands h ledger.old
+        → OnOk result (Stands (h ++ spec.entries w event.now) ledger.new) }
     ensures made { OnOk result (world.new.made ≡ world.old.made + 1) }
 {
     let mut waiting = text;

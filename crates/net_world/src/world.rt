@@ -3,7 +3,7 @@ ghost use Rattle.plan_base.specs.declared.ids.Family.{Family};
 ghost use Rattle.network_plan.specs.Rules.{KeepsNetwork};
 ghost use Rattle.world_model.specs.World as spec;
 ghost use Rattle.world_model.specs.World.{WorldState};
-ghost use Rattle.world_model.specs.Counts.{GrowsInBalance};
+ghost use Rattle.world_model.specs.Counts.{late_in, EventInBalance};
 ghost use Rattle.world_model.specs.Sound.{IsSound, event_fits};
 ghost use Rattle.world_model.specs.Visits.{EndsWell, event_visits};
 ghost use Rattle.world_routes.specs.Roads.{NotRaw};
@@ -20,8 +20,8 @@ use std::alloc::Global;
 use std::marker::Model;
 use world_model::Lines;
 
-/// A network of nodes, which contracts see as its nodes, its links, the frames on the wire, the number of the
-/// next frame and the number of events so far. An event sends one frame at most.
+/// A network of nodes of one version, which contracts see as its nodes, its links, the frames on the wire, the
+/// number of the next frame, the number of events so far and its version. An event sends one frame at most.
 #[derive(Drop)]
 pub struct World<S: Services> {
     network: Network<S>,
@@ -44,8 +44,9 @@ impl<S: Services> Model for World<S> {
 }
 
 impl<S: Services + Drop> World<S> {
-    /// The network of a topology: every node has serial 1, no rows and nothing queued, and nothing is on the
-    /// wire. `services`: one for each host, in the order of hosts. Condition: the topology keeps its rules.
+    /// The network of a topology: every node has serial 1, no rows and nothing queued, nothing is on the wire, and
+    /// under version 2 every node began at moment 1 and numbers its frames from 1. `services`: one for each host, in
+    /// the order of hosts. Condition: the topology keeps its rules.
     pub fn new(alloc: Global, topology: &Topology, services: Items<S>) -> Result<World<S>, NoMemory>
         requires rules { KeepsNetwork topology.now }
         requires services { map S.stands services ≡ map spec.opening_services topology.now.hosts }
@@ -64,6 +65,13 @@ impl<S: Services> World<S> {
         self.network.made()
     }
 
+    /// Whether an event would hand or lose a frame that was handed before. Takes no memory.
+    pub fn is_late(&self, event: &WorldEvent) -> bool
+        ensures { result ≡ late_in self.now.wire event.now }
+    {
+        self.network.is_late(event)
+    }
+
     /// The lowest number of a frame on the wire, or `None` where it is empty. Takes no memory.
     pub fn lowest(&self) -> Option<u32>
         ensures { result ≡ numbers.lowest self.now.wire }
@@ -80,18 +88,22 @@ impl<S: Services> World<S> {
 
     /// One event, as the definition has it for each state for which the network stands, and its lines: in balance
     /// for each family, and keeping what every network keeps, where no visit is without a case and each would end
-    /// by itself; and, in a run without bytes from outside, keeping the law of routes. After `NoMemory` the network isn't used again. Conditions: an injected bound is at most 65,535,
-    /// a device at most 8, and fewer than 2^32 - 2 events were made.
+    /// by itself; and, in a run without bytes from outside, keeping the law of routes. After `NoMemory` the network
+    /// isn't used again. Conditions: an injected bound is at most 65,535, and an injection has a handler under
+    /// version 2 alone, one that may handle; a device is at most 8; a frame is repeated under version 2 alone; and
+    /// fewer than 2^32 - 2 events were made.
     pub fn step(&mut self, alloc: Global, event: &WorldEvent) -> Result<Lines, NoMemory>
-        requires fits { event_fits event.now }
+        requires fits { event_fits self.old.version event.now }
         requires few { self.old.made < 2 ^ 32 - 2 }
         ensures ok { (w : WorldState) → WorldStands S.stands self.old w
             → IfOk result (λ lines. IsHappened S.stands (spec.happens w event.now) lines self.new) }
         ensures made { OnOk result (self.new.made ≡ self.old.made + 1) }
-        ensures balance { (f : Family) (w : WorldState)
-            → GrowsInBalance f w (spec.entries w event.now) (spec.happens w event.now).world }
-        ensures sound { (w : WorldState) → IsSound w → IsSound (spec.happens w event.now).world }
-        ensures visits { (w : WorldState) → IsSound w → All EndsWell (event_visits w event.now) }
+        ensures balance { (f : Family) (w : WorldState) → IsSound w
+            → EventInBalance f (late_in w.wire event.now) w (spec.happens w event.now) }
+        ensures sound { (w : WorldState) → w.version ≡ self.old.version → IsSound w
+            → IsSound (spec.happens w event.now).world }
+        ensures visits { (w : WorldState) → w.version ≡ self.old.version → IsSound w
+            → All EndsWell (event_visits w event.now) }
         ensures routes { (w : WorldState) → Reached w → NotRaw event.now
             → KeepsRoutes w (spec.happens w event.now) }
     {

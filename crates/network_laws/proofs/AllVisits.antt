@@ -1,15 +1,20 @@
 -- An event's lines have one end of a visit for each of its visits.
-use Rattle.std.proofs.Common.{◌≡◌, ℕ, Bool, true, false, cond, List, [], ◌∷◌, length, refl, ◌∙◌, arith}
+use Rattle.std.proofs.Common.{◌≡◌, ℕ, Bool, true, false, cond, List, [], ◌∷◌, ◌++◌, length, refl, ◌∙◌, arith}
 use Rattle.std.specs.Prelude.{map, slice_get, nat_lt, ◌==◌, Option, Some, None, Result, Ok, Err, All}
 use Rattle.std.proofs.lemmas.List.Elements.{All-nil, All-cons, All-head, All-tail}
 use Rattle.plan_base.specs.declared.ids.Host.{Host}
 use Rattle.plan_base.specs.declared.ids.Dev.{Dev}
+use Rattle.plan_base.specs.declared.name.Name.{Name}
 use Rattle.plan_base.specs.declared.tree.Chunk.{Chunk}
 use Rattle.plan_base.specs.declared.tree.Packet.{Packet}
 use Rattle.packet_frame.specs.declared.frame.PlainFrame.{PlainFrame}
 use Rattle.packet_frame.specs.declared.fault.FrameFault.{FrameFault}
-use Rattle.packet_frame.specs.Bytes.{frame_bytes}
-use Rattle.packet_frame.specs.Decoding.{frame_of}
+use Rattle.packet_frame.specs.declared.frame.PlainStamped.{PlainStamped}
+use Rattle.packet_frame.specs.Stamped.{stamped_bytes}
+use Rattle.packet_frame.specs.Decoding.{read_by}
+use Rattle.link_window.specs.declared.window.Stamp.{Stamp}
+use Rattle.link_window.specs.declared.window.Took.{Took}
+use Rattle.link_window.specs.declared.window.Took.TheVariants.{Fresh, Repeated, TooOld}
 use Rattle.service_api.specs.declared.advert.Advert.{Advert}
 use Rattle.service_api.specs.declared.answer.Note.{Note}
 use Rattle.service_api.specs.declared.router.Hop.{Hop}
@@ -17,26 +22,30 @@ use Rattle.service_api.specs.declared.router.Hop.TheVariants.{To, NoService, NoR
 use Rattle.service_api.specs.Routes.{hop}
 use Rattle.dv_routing.specs.Routing.{all_routes, own_advert}
 use Rattle.plan_meaning.specs.declared.sent.Sent.{Sent}
-use Rattle.plan_meaning.specs.declared.outcome.Visit.{Visit}
 use Rattle.network_plan.specs.declared.event.WorldEvent.{WorldEvent}
-use Rattle.network_plan.specs.declared.event.WorldEvent.TheVariants.{Inject, Send, Deliver, Lose, Tick, Raw}
+use Rattle.network_plan.specs.declared.event.WorldEvent.TheVariants.{Inject, Send, Deliver, Repeat, Lose, Tick, Raw}
 use Rattle.spelled_frame.specs.Spelled.{what_of}
 use Rattle.node_model.specs.declared.acts.Act.{Act}
-use Rattle.node_model.specs.declared.acts.Act.TheVariants.{Injected, Arrived, Noted, Ended, Dropped, Bad, Misplaced, Heard, Ticked, Taken, SerialsSpent}
+use Rattle.node_model.specs.declared.acts.Act.TheVariants.{Injected, Arrived, Noted, Ended, Handled, Dropped, Bad, Misplaced, Stale, Heard, Ticked, Taken, SerialsSpent}
 use Rattle.node_model.specs.declared.acts.Reason.TheVariants as reason
+use Rattle.node_model.specs.declared.acts.Lane.{Lane}
 use Rattle.node_model.specs.declared.acts.Sending.{Sending}
 use Rattle.node_model.specs.State.{Links, Queues, NodeState, routing_of, is_host, leads_to}
-use Rattle.node_model.specs.Visits.{visit_at}
-use Rattle.node_model.specs.Node.{Step, stepped, packet_sending, advert_sending, visit_sends, tick_sends, has_room, send_act, send_queues, sends_acts, visit_acts, visited, next_serial, injected_packet, inject_step, forward_by, forward_step, packet_step, hearing, advert_step, frame_step, arrived, arrive_step, next_tick, tick_step, take_from, take_step}
+use Rattle.settled_visit.specs.declared.settling.Settled.{Settled}
+use Rattle.plan_base.specs.declared.ids.Family.{Family}
+use Rattle.node_model.specs.Visits.{visit_at, settled_at}
+use Rattle.node_model.specs.Node.{Step, stepped, lane_room, mark, packet_sending, advert_sending, visit_sends, tick_sends, has_room, drop_act, send_act, send_queues, sends_acts, handled_acts, visit_acts, visited, next_serial, injected_packet, inject_step, forward_by, forward_step, packet_step, hearing, advert_step, frame_step, takes_as, stamped_as, stamped_step, arrived, arrive_step, next_tick, tick_step, take_first, take_from, take_step}
 use Rattle.node_model.specs.Counts.{act_sum}
 use Rattle.node_laws.proofs.CountLaws.{act_sum-nil, act_sum-cons, act_sum-append}
 use Rattle.world_model.specs.declared.lines.Line.{Line}
-use Rattle.world_model.specs.declared.lines.Line.TheVariants.{Forged, Wire, Off, Lost, Nothing}
+use Rattle.world_model.specs.declared.lines.Line.TheVariants.{Forged, Wire, Off, Again, Lost, Nothing}
 use Rattle.world_model.specs.declared.lines.LinkEnd.{LinkEnd}
 use Rattle.world_model.specs.declared.lines.Wired.{Wired}
-use Rattle.world_model.specs.World.{WorldState, EventResult, nothing, lines_at, step_at, step_place, steps, forged, send_taken, send_at, send_over, send_place, sends, place_of, far_end, wire_place, deliver_at, deliver_to, deliver_frame, deliver_place, delivers, lose_frame, lose_place, loses, happens}
+use Rattle.world_model.specs.declared.lines.Handing.{Handing}
+use Rattle.world_model.specs.declared.lines.Handing.TheVariants.{Taking, Leaving}
+use Rattle.world_model.specs.World.{WorldState, EventResult, nothing, lines_at, step_at, step_place, steps, none_before, forged_frame, forged, forged_at, send_taken, send_at, send_over, send_place, sends, place_of, far_end, wire_place, hand_line, hand_at, hand_to, hand_frame, hand_place, hands, lose_frame, lose_place, loses, happens}
 use Rattle.world_model.specs.Counts.{line_sum}
-use Rattle.world_model.specs.Visits.{Visiting, one_visit, frame_visits, bytes_visits, chunk_visits, item_at, at_node, at_host, of_wired, delivered_visits, event_visits, act_ends, line_ends}
+use Rattle.world_model.specs.Visits.{Visiting, one_visit, frame_visits, visits_as, stamped_visits, read_visits, bytes_visits, chunk_visits, item_at, at_node, at_host, of_wired, delivered_visits, event_visits, act_ends, line_ends}
 use Rattle.network_laws.proofs.CountLaws.{line_sum-nil, line_sum-cons, line_sum-one, line_sum-append, line_sum-at}
 
 -- ---- steps
@@ -45,22 +54,27 @@ use Rattle.network_laws.proofs.CountLaws.{line_sum-nil, line_sum-cons, line_sum-
 record Quiet (s : Sending) : Type 0 where
   queued : act_ends s.queued ≡ 0
   dropped : act_ends s.dropped ≡ 0
+  spent : act_ends s.spent ≡ 0
 
-quiet_packets : (ss : List Sent) → All Quiet (map packet_sending ss)
-quiet_packets [] = All-nil Quiet
-quiet_packets (s ∷ ss) = All-cons Quiet (packet_sending s) (map packet_sending ss) (record { queued = refl; dropped = refl }) (quiet_packets ss)
+quiet_packets : (m : Option Stamp) (ss : List Sent) → All Quiet (map (packet_sending m) ss)
+quiet_packets m [] = All-nil Quiet
+quiet_packets m (s ∷ ss) = All-cons Quiet (packet_sending m s) (map (packet_sending m) ss) (record { queued = refl; dropped = refl; spent = refl }) (quiet_packets m ss)
 
-quiet_adverts : (a : Advert) (links : Links) → All Quiet (map (advert_sending a) links)
-quiet_adverts a [] = All-nil Quiet
-quiet_adverts a (l ∷ ls) = All-cons Quiet (advert_sending a l) (map (advert_sending a) ls) (record { queued = refl; dropped = refl }) (quiet_adverts a ls)
+quiet_adverts : (m : Option Stamp) (a : Advert) (links : Links) → All Quiet (map (advert_sending m a) links)
+quiet_adverts m a [] = All-nil Quiet
+quiet_adverts m a (l ∷ ls) = All-cons Quiet (advert_sending m a l) (map (advert_sending m a) ls) (record { queued = refl; dropped = refl; spent = refl }) (quiet_adverts m a ls)
 
 act_cases : (t : Bool) (a b : Act) → act_ends a ≡ 0 → act_ends b ≡ 0 → act_ends (cond t a b) ≡ 0
 act_cases true a b x y = x
 act_cases false a b x y = y
 
+drop_none : (o : Option Lane) (s : Sending) → Quiet s → act_ends (drop_act o s) ≡ 0
+drop_none None s q = q.dropped
+drop_none (Some lane) s q = act_cases (lane_room lane) s.spent s.dropped q.spent q.dropped
+
 send_none : (queues : Queues) (s : Sending) → Quiet s → act_ends (send_act queues s) ≡ 0
 unfolding send_act
-send_none queues s q = act_cases (has_room queues s.dev) s.queued s.dropped q.queued q.dropped
+send_none queues s q = act_cases (has_room queues s.dev s.frame) s.queued (drop_act (slice_get queues s.dev.0) s) q.queued (drop_none (slice_get queues s.dev.0) s q)
 
 sends_none : (queues : Queues) (ss : List Sending) → All Quiet ss → act_sum act_ends (sends_acts queues ss) ≡ 0
 unfolding sends_acts
@@ -72,15 +86,26 @@ notes_none : (ns : List Note) → act_sum act_ends (map Noted ns) ≡ 0
 notes_none [] = act_sum-nil act_ends
 notes_none (n ∷ ns) = omega (arith, act_sum-cons act_ends (Noted n) (map Noted ns), notes_none ns)
 
-visit_one : (queues : Queues) (p : Packet) (v : Visit) → act_sum act_ends (visit_acts queues p v) ≡ 1
+handled_none : (g : Family) (h : Option Name) (bound : ℕ) → act_sum act_ends (handled_acts g h bound) ≡ 0
+handled_none g None bound = act_sum-nil act_ends
+handled_none g (Some n) bound = omega (arith, act_sum-cons act_ends (Handled g n bound) [], act_sum-nil act_ends)
+
+visit_one : (m : Option Stamp) (queues : Queues) (p : Packet) (left : ℕ) (s : Settled) → act_sum act_ends (visit_acts m queues p left s) ≡ 1
 unfolding visit_acts visit_sends
-visit_one queues p v = omega (
-  arith,
-  act_sum-append act_ends (map Noted v.notes) (Ended p.family v.outcome v.evals v.left ∷ sends_acts queues (map packet_sending v.outbox)),
-  act_sum-cons act_ends (Ended p.family v.outcome v.evals v.left) (sends_acts queues (map packet_sending v.outbox)),
-  notes_none v.notes,
-  sends_none queues (map packet_sending v.outbox) (quiet_packets v.outbox),
-)
+visit_one m queues p left s =
+    let v = s.visit in
+    let ended = Ended p.family v.outcome v.evals v.left in
+    let handled = handled_acts p.family s.handled left in
+    let sent = sends_acts queues (map (packet_sending m) v.outbox) in
+    omega (
+      arith,
+      act_sum-append act_ends (map Noted v.notes) (ended ∷ (handled ++ sent)),
+      act_sum-cons act_ends ended (handled ++ sent),
+      act_sum-append act_ends handled sent,
+      notes_none v.notes,
+      handled_none p.family s.handled left,
+      sends_none queues (map (packet_sending m) v.outbox) (quiet_packets m v.outbox),
+    )
 
 -- a step with this many ends of visits
 abbrev Ends : Step → ℕ → Type 0
@@ -88,8 +113,10 @@ Ends step n = act_sum act_ends step.acts ≡ n
 
 visited_one : (act : Act) (node : NodeState) (p : Packet) → act_ends act ≡ 0 → Ends (visited (act ∷ []) node p) 1
 unfolding visited
-visited_one act node p z = let v = visit_at node p in
-    omega (arith, act_sum-append act_ends (act ∷ []) (visit_acts node.queues p v), act_sum-cons act_ends act [], act_sum-nil act_ends, visit_one node.queues p v)
+visited_one act node p z =
+    let left = (visit_at node p).left in
+    let s = settled_at node p in
+    omega (arith, act_sum-append act_ends (act ∷ []) (visit_acts (mark node) node.queues p left s), act_sum-cons act_ends act [], act_sum-nil act_ends, visit_one (mark node) node.queues p left s)
 
 two_none : (a b : Act) (node : NodeState) → act_ends a ≡ 0 → act_ends b ≡ 0 → Ends (stepped (a ∷ b ∷ []) None node) 0
 two_none a b node x y = omega (arith, act_sum-cons act_ends a (b ∷ []), act_sum-cons act_ends b [], act_sum-nil act_ends)
@@ -113,8 +140,8 @@ no_visits_length false node p = refl
 by_none : (node : NodeState) (d : Dev) (p : Packet) (o : Hop) → Ends (forward_by node d p o) 0
 unfolding forward_by
 by_none node d p (To host over) =
-    let s = packet_sending (record { dev = over; packet = p }) in
-    two_none (Arrived d) (send_act node.queues s) node refl (send_none node.queues s (record { queued = refl; dropped = refl }))
+    let s = packet_sending (mark node) (record { dev = over; packet = p }) in
+    two_none (Arrived d) (send_act node.queues s) node refl (send_none node.queues s (record { queued = refl; dropped = refl; spent = refl }))
 by_none node d p NoService = two_none (Arrived d) (Dropped reason.NoService p.family p.bound) node refl refl
 by_none node d p NoRoute = two_none (Arrived d) (Dropped reason.NoRoute p.family p.bound) node refl refl
 
@@ -135,33 +162,47 @@ frame_ends node d (PlainFrame.Packet p) = packet_ends node d p
 frame_ends node d (PlainFrame.Advert a) = advert_none node d a
 frame_ends node d (PlainFrame.Ask bound chunk) = two_none (Arrived d) Misplaced node refl refl
 
-arrived_ends : (node : NodeState) (d : Dev) (r : Result PlainFrame FrameFault) → Ends (arrived node d r) (length (bytes_visits r node))
-arrived_ends node d (Ok x) = frame_ends node d x
+-- a frame that is stale is not visited
+as_ends : (node : NodeState) (d : Dev) (x : PlainStamped) (t : Took) → Ends (stamped_as node d x t) (length (visits_as t x.frame node))
+as_ends node d x Fresh = frame_ends node d x.frame
+as_ends node d x Repeated = two_none (Arrived d) (Stale Repeated (what_of x.frame)) node refl refl
+as_ends node d x TooOld = two_none (Arrived d) (Stale TooOld (what_of x.frame)) node refl refl
+
+stamped_ends : (node : NodeState) (d : Dev) (x : PlainStamped) → Ends (stamped_step node d x) (length (stamped_visits d x node))
+unfolding stamped_step stamped_visits
+stamped_ends node d x = as_ends node d x (takes_as node.seen d x.stamp)
+
+arrived_ends : (node : NodeState) (d : Dev) (r : Result PlainStamped FrameFault) → Ends (arrived node d r) (length (read_visits d r node))
+arrived_ends node d (Ok x) = stamped_ends node d x
 arrived_ends node d (Err e) = two_none (Arrived d) (Bad e) node refl refl
 
-arrive_ends : (node : NodeState) (d : Dev) (bytes : List ℕ) → Ends (arrive_step node d bytes) (length (bytes_visits (frame_of bytes) node))
+arrive_ends : (node : NodeState) (d : Dev) (bytes : List ℕ) → Ends (arrive_step node d bytes) (length (bytes_visits d bytes node))
 unfolding arrive_step
-arrive_ends node d bytes = arrived_ends node d (frame_of bytes)
+arrive_ends node d bytes = arrived_ends node d (read_by node.version bytes)
 
 spent_none : (node : NodeState) → Ends (stepped (SerialsSpent ∷ []) None node) 0
 spent_none node = omega (arith, act_sum-cons act_ends SerialsSpent [], act_sum-nil act_ends)
 
-inject_ends : (node : NodeState) (chunk : Chunk) (bound : ℕ) → Ends (inject_step [] node chunk bound) (length (chunk_visits chunk bound node))
+inject_ends : (node : NodeState) (chunk : Chunk) (bound : ℕ) (handler : Option Name) → Ends (inject_step [] node chunk bound handler) (length (chunk_visits chunk bound handler node))
 unfolding inject_step
-inject_ends node chunk bound =
-    step_cases (node.serial == 18446744073709551615) _ _ 0 1 (spent_none node) (visited_one (Injected (record { source = node.here; serial = node.serial }) bound) (next_serial node) (injected_packet node chunk bound) refl)
-    ∙ no_visits_length (node.serial == 18446744073709551615) (next_serial node) (injected_packet node chunk bound)
+inject_ends node chunk bound handler =
+    step_cases (node.serial == 18446744073709551615) _ _ 0 1 (spent_none node) (visited_one (Injected (record { source = node.here; serial = node.serial }) bound) (next_serial node) (injected_packet node chunk bound handler) refl)
+    ∙ no_visits_length (node.serial == 18446744073709551615) (next_serial node) (injected_packet node chunk bound handler)
 
 tick_none : (node : NodeState) → Ends (tick_step node) 0
 unfolding tick_step tick_sends
 tick_none node =
     let a = own_advert (routing_of node) in
-    omega (arith, act_sum-cons act_ends (Ticked (next_tick node.now)) (sends_acts node.queues (map (advert_sending a) node.neighbours)), sends_none node.queues (map (advert_sending a) node.neighbours) (quiet_adverts a node.neighbours))
+    let ss = map (advert_sending (mark node) a) node.neighbours in
+    omega (arith, act_sum-cons act_ends (Ticked (next_tick node.now)) (sends_acts node.queues ss), sends_none node.queues ss (quiet_adverts (mark node) a node.neighbours))
 
-take_from_none : (node : NodeState) (d : Dev) (o : Option (List PlainFrame)) → Ends (take_from node d o) 0
+take_first_none : (node : NodeState) (d : Dev) (n : ℕ) (queue : List PlainStamped) → Ends (take_first node d n queue) 0
+take_first_none node d n [] = act_sum-nil act_ends
+take_first_none node d n (x ∷ queue) = omega (arith, act_sum-cons act_ends (Taken d (what_of x.frame)) [], act_sum-nil act_ends)
+
+take_from_none : (node : NodeState) (d : Dev) (o : Option Lane) → Ends (take_from node d o) 0
 take_from_none node d None = act_sum-nil act_ends
-take_from_none node d (Some []) = act_sum-nil act_ends
-take_from_none node d (Some (x ∷ queue)) = omega (arith, act_sum-cons act_ends (Taken d (what_of x)) [], act_sum-nil act_ends)
+take_from_none node d (Some lane) = take_first_none node d lane.number lane.frames
 
 take_none : (node : NodeState) (d : Dev) → Ends (take_step node d) 0
 unfolding take_step
@@ -179,18 +220,21 @@ acts_end h acts = line_sum-at line_ends h acts
 nothing_has : (w : WorldState) → Has (nothing w) 0
 nothing_has w = line_sum-one line_ends Nothing
 
-forged_none : (h : Host) (r : Result PlainFrame FrameFault) → line_sum line_ends (forged h r) ≡ 0
-forged_none h (Ok (PlainFrame.Packet p)) = line_sum-one line_ends (Forged h p.family p.bound)
-forged_none h (Ok (PlainFrame.Advert a)) = line_sum-nil line_ends
-forged_none h (Ok (PlainFrame.Ask bound chunk)) = line_sum-nil line_ends
+frame_none : (h : Host) (x : PlainFrame) → line_sum line_ends (forged_frame h x) ≡ 0
+frame_none h (PlainFrame.Packet p) = line_sum-one line_ends (Forged h p.family p.bound)
+frame_none h (PlainFrame.Advert a) = line_sum-nil line_ends
+frame_none h (PlainFrame.Ask bound chunk) = line_sum-nil line_ends
+
+forged_none : (h : Host) (r : Result PlainStamped FrameFault) → line_sum line_ends (forged h r) ≡ 0
+forged_none h (Ok x) = frame_none h x.frame
 forged_none h (Err e) = line_sum-nil line_ends
 
 -- a step of one node, and its visits
-module _ (w : WorldState) (h : Host) (before : List Line) (quiet : line_sum line_ends before ≡ 0) (step : NodeState → Step) (visits : NodeState → List Visiting) (each : (node : NodeState) → Ends (step node) (length (visits node))) where
+module _ (w : WorldState) (h : Host) (before : NodeState → List Line) (quiet : (node : NodeState) → line_sum line_ends (before node) ≡ 0) (step : NodeState → Step) (visits : NodeState → List Visiting) (each : (node : NodeState) → Ends (step node) (length (visits node))) where
   step_at_has : (at : ℕ) (o : Option NodeState) → Has (step_at w h before step at o) (length (at_node visits o))
   unfolding step_at
   step_at_has at None = nothing_has w
-  step_at_has at (Some node) = omega (arith, line_sum-append line_ends before (lines_at h (step node).acts), quiet, acts_end h (step node).acts, each node)
+  step_at_has at (Some node) = omega (arith, line_sum-append line_ends (before node) (lines_at h (step node).acts), quiet node, acts_end h (step node).acts, each node)
 
   step_place_has : (o : Option ℕ) → Has (step_place w h before step o) (length (at_node visits (item_at w.nodes o)))
   unfolding step_place
@@ -218,11 +262,11 @@ tick_visits : (node : NodeState) → Ends (tick_step node) (length (no_visits no
 unfolding no_visits
 tick_visits node = tick_none node
 
-send_taken_has : (w : WorldState) (h : Host) (d : Dev) (at : ℕ) (to : LinkEnd) (step : Step) (o : Option PlainFrame) → Ends step 0 → Has (send_taken w h d at to step o) 0
+send_taken_has : (w : WorldState) (h : Host) (d : Dev) (at : ℕ) (to : LinkEnd) (step : Step) (o : Option PlainStamped) → Ends step 0 → Has (send_taken w h d at to step o) 0
 unfolding send_taken
 send_taken_has w h d at to step None e = nothing_has w
 send_taken_has w h d at to step (Some x) e =
-    let line = Wire w.«next» (frame_bytes x) in
+    let line = Wire w.«next» (stamped_bytes x) in
     omega (arith, line_sum-append line_ends (lines_at h step.acts) (line ∷ []), line_sum-one line_ends line, acts_end h step.acts, e)
 
 send_at_has : (w : WorldState) (h : Host) (d : Dev) (at : ℕ) (to : LinkEnd) (o : Option NodeState) → Has (send_at w h d at to o) 0
@@ -248,36 +292,40 @@ sends_have : (w : WorldState) (h : Host) (d : Dev) → Has (sends w h d) 0
 unfolding sends
 sends_have w h d = send_place_has w h d (place_of w.nodes h)
 
-deliver_at_has : (w : WorldState) (place : ℕ) (x : Wired) (at : ℕ) (o : Option NodeState) → Has (deliver_at w place x at o) (length (at_node (frame_visits x.frame) o))
-unfolding deliver_at
-deliver_at_has w place x at None = nothing_has w
-deliver_at_has w place x at (Some node) =
-    let acts = (frame_step node x.to.dev x.frame).acts in
-    omega (arith, line_sum-append line_ends (Off x.number ∷ []) (lines_at x.to.host acts), line_sum-one line_ends (Off x.number), acts_end x.to.host acts, frame_ends node x.to.dev x.frame)
+hand_none : (how : Handing) (number : ℕ) → line_sum line_ends (hand_line how number ∷ []) ≡ 0
+hand_none Taking number = line_sum-one line_ends (Off number)
+hand_none Leaving number = line_sum-one line_ends (Again number)
 
-deliver_to_has : (w : WorldState) (place : ℕ) (x : Wired) (o : Option ℕ) → Has (deliver_to w place x o) (length (at_node (frame_visits x.frame) (item_at w.nodes o)))
-unfolding deliver_to
-deliver_to_has w place x None = nothing_has w
-deliver_to_has w place x (Some at) = deliver_at_has w place x at (slice_get w.nodes at)
+hand_at_has : (w : WorldState) (how : Handing) (place : ℕ) (x : Wired) (at : ℕ) (o : Option NodeState) → Has (hand_at w how place x at o) (length (at_node (stamped_visits x.to.dev x.frame) o))
+unfolding hand_at
+hand_at_has w how place x at None = nothing_has w
+hand_at_has w how place x at (Some node) =
+    let acts = (stamped_step node x.to.dev x.frame).acts in
+    omega (arith, line_sum-append line_ends (hand_line how x.number ∷ []) (lines_at x.to.host acts), hand_none how x.number, acts_end x.to.host acts, stamped_ends node x.to.dev x.frame)
 
-deliver_frame_has : (w : WorldState) (place : ℕ) (o : Option Wired) → Has (deliver_frame w place o) (length (of_wired w o))
-unfolding deliver_frame at_host
-deliver_frame_has w place None = nothing_has w
-deliver_frame_has w place (Some x) = deliver_to_has w place x (place_of w.nodes x.to.host)
+hand_to_has : (w : WorldState) (how : Handing) (place : ℕ) (x : Wired) (o : Option ℕ) → Has (hand_to w how place x o) (length (at_node (stamped_visits x.to.dev x.frame) (item_at w.nodes o)))
+unfolding hand_to
+hand_to_has w how place x None = nothing_has w
+hand_to_has w how place x (Some at) = hand_at_has w how place x at (slice_get w.nodes at)
 
-deliver_place_has : (w : WorldState) (o : Option ℕ) → Has (deliver_place w o) (length (of_wired w (item_at w.wire o)))
-unfolding deliver_place
-deliver_place_has w None = nothing_has w
-deliver_place_has w (Some place) = deliver_frame_has w place (slice_get w.wire place)
+hand_frame_has : (w : WorldState) (how : Handing) (place : ℕ) (o : Option Wired) → Has (hand_frame w how place o) (length (of_wired w o))
+unfolding hand_frame at_host
+hand_frame_has w how place None = nothing_has w
+hand_frame_has w how place (Some x) = hand_to_has w how place x (place_of w.nodes x.to.host)
 
-delivers_have : (w : WorldState) (number : ℕ) → Has (delivers w number) (length (delivered_visits w number))
-unfolding delivers delivered_visits
-delivers_have w number = deliver_place_has w (wire_place w.wire number)
+hand_place_has : (w : WorldState) (how : Handing) (o : Option ℕ) → Has (hand_place w how o) (length (of_wired w (item_at w.wire o)))
+unfolding hand_place
+hand_place_has w how None = nothing_has w
+hand_place_has w how (Some place) = hand_frame_has w how place (slice_get w.wire place)
+
+hands_have : (w : WorldState) (how : Handing) (number : ℕ) → Has (hands w how number) (length (delivered_visits w number))
+unfolding hands delivered_visits
+hands_have w how number = hand_place_has w how (wire_place w.wire number)
 
 lose_frame_has : (w : WorldState) (place : ℕ) (o : Option Wired) → Has (lose_frame w place o) 0
 unfolding lose_frame
 lose_frame_has w place None = nothing_has w
-lose_frame_has w place (Some x) = omega (arith, line_sum-cons line_ends (Off x.number) (Lost (what_of x.frame) ∷ []), line_sum-one line_ends (Lost (what_of x.frame)))
+lose_frame_has w place (Some x) = omega (arith, line_sum-cons line_ends (Off x.number) (Lost (what_of x.frame.frame) ∷ []), line_sum-one line_ends (Lost (what_of x.frame.frame)))
 
 lose_place_has : (w : WorldState) (o : Option ℕ) → Has (lose_place w o) 0
 unfolding lose_place
@@ -290,9 +338,12 @@ loses_have w number = lose_place_has w (wire_place w.wire number)
 
 -- one end for each visit
 pub event_has : (w : WorldState) (e : WorldEvent) → line_sum line_ends (happens w e).lines ≡ length (event_visits w e)
-event_has w (Inject h chunk bound) = steps_have w h [] (line_sum-nil line_ends) (λ node. inject_step [] node chunk bound) (chunk_visits chunk bound) (λ node. inject_ends node chunk bound)
+event_has w (Inject h chunk bound handler) =
+    steps_have w h none_before (λ node. line_sum-nil line_ends) (λ node. inject_step [] node chunk bound handler) (chunk_visits chunk bound handler) (λ node. inject_ends node chunk bound handler)
 event_has w (Send h d) = sends_have w h d
-event_has w (Deliver number) = delivers_have w number
+event_has w (Deliver number) = hands_have w Taking number
+event_has w (Repeat number) = hands_have w Leaving number
 event_has w (Lose number) = loses_have w number
-event_has w (Tick h) = steps_have w h [] (line_sum-nil line_ends) tick_step no_visits tick_visits ∙ none_there w h
-event_has w (Raw h d bytes) = steps_have w h (forged h (frame_of bytes)) (forged_none h (frame_of bytes)) (λ node. arrive_step node d bytes) (bytes_visits (frame_of bytes)) (λ node. arrive_ends node d bytes)
+event_has w (Tick h) = steps_have w h none_before (λ node. line_sum-nil line_ends) tick_step no_visits tick_visits ∙ none_there w h
+event_has w (Raw h d bytes) =
+    steps_have w h (forged_at h bytes) (λ node. forged_none h (read_by node.version bytes)) (λ node. arrive_step node d bytes) (bytes_visits d bytes) (λ node. arrive_ends node d bytes)

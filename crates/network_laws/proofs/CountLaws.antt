@@ -1,6 +1,6 @@
 -- Laws of the counts of a network.
 use Rattle.std.proofs.Common.{◌≡◌, ℕ, ◌+◌, List, [], ◌∷◌, ◌++◌, refl, sym, ap, ◌∙◌, arith}
-use Rattle.std.specs.Prelude.{map, remove, slice_set, slice_get, Some}
+use Rattle.std.specs.Prelude.{map, remove, slice_set, slice_get, Some, Bool, true, false, if◌then◌else◌}
 use Rattle.std.proofs.lemmas.List.Sums.{sum_by-cons, sum_by-append, sum_by_push, sum_by-set, sum_by-remove}
 use Rattle.std.proofs.lemmas.Option.{slice_get_within, get_or_from_slice_get}
 use Rattle.plan_base.specs.declared.ids.Host.{Host}
@@ -13,7 +13,7 @@ use Rattle.world_model.specs.declared.lines.Line.TheVariants.{At}
 use Rattle.world_model.specs.declared.lines.Entry.{Entry}
 use Rattle.world_model.specs.declared.lines.Wired.{Wired}
 use Rattle.world_model.specs.World.{entry_at, lines_at}
-use Rattle.world_model.specs.Counts.{line_sum, tally, nodes_sum, wire_sum}
+use Rattle.world_model.specs.Counts.{line_sum, tally, nodes_sum, wire_sum, unhanded, unhanded_sum}
 
 pub line_sum-nil : (c : Line → ℕ) → line_sum c [] ≡ 0
 unfolding line_sum
@@ -60,7 +60,7 @@ module _ (count : PlainFrame → ℕ) where
   of_node node = queues_sum count node.queues
 
   abbrev of_wired : Wired → ℕ
-  of_wired x = count x.frame
+  of_wired x = count x.frame.frame
 
   pub nodes_sum-nil : nodes_sum count [] ≡ 0
   unfolding nodes_sum
@@ -82,13 +82,43 @@ module _ (count : PlainFrame → ℕ) where
   unfolding wire_sum
   wire_sum-nil = refl
 
-  pub wire_sum-push : (wire : List Wired) (x : Wired) → wire_sum count (wire ++ x ∷ []) ≡ wire_sum count wire + count x.frame
+  pub wire_sum-push : (wire : List Wired) (x : Wired) → wire_sum count (wire ++ x ∷ []) ≡ wire_sum count wire + count x.frame.frame
   unfolding wire_sum
   wire_sum-push wire x = sum_by_push of_wired wire x
 
-  pub wire_sum-remove : (wire : List Wired) (at : ℕ) (x : Wired) → slice_get wire at ≡ Some x → wire_sum count (remove wire at) + count x.frame ≡ wire_sum count wire
+  pub wire_sum-remove : (wire : List Wired) (at : ℕ) (x : Wired) → slice_get wire at ≡ Some x → wire_sum count (remove wire at) + count x.frame.frame ≡ wire_sum count wire
   unfolding wire_sum
   wire_sum-remove wire at x e =
       let here = get_or_from_slice_get wire at x x e in
       let law = sum_by-remove of_wired wire at x (slice_get_within wire at x e) in
       omega (arith, ap of_wired here)
+
+  pub wire_sum-set : (wire : List Wired) (at : ℕ) (old new : Wired) → slice_get wire at ≡ Some old → wire_sum count (slice_set wire at new) + count old.frame.frame ≡ wire_sum count wire + count new.frame.frame
+  unfolding wire_sum
+  wire_sum-set wire at old new e =
+      let here = get_or_from_slice_get wire at old old e in
+      let law = sum_by-set of_wired wire at new old (slice_get_within wire at old e) in
+      omega (arith, ap of_wired here)
+
+  -- the same of frames that were never handed
+  pub unhanded_sum-nil : unhanded_sum count [] ≡ 0
+  unfolding unhanded_sum
+  unhanded_sum-nil = refl
+
+  pub unhanded_sum-push : (wire : List Wired) (x : Wired) → unhanded_sum count (wire ++ x ∷ []) ≡ unhanded_sum count wire + unhanded count x
+  unfolding unhanded_sum
+  unhanded_sum-push wire x = sum_by_push (unhanded count) wire x
+
+  pub unhanded_sum-remove : (wire : List Wired) (at : ℕ) (x : Wired) → slice_get wire at ≡ Some x → unhanded_sum count (remove wire at) + unhanded count x ≡ unhanded_sum count wire
+  unfolding unhanded_sum
+  unhanded_sum-remove wire at x e =
+      let here = get_or_from_slice_get wire at x x e in
+      let law = sum_by-remove (unhanded count) wire at x (slice_get_within wire at x e) in
+      omega (arith, ap (unhanded count) here)
+
+  pub unhanded_sum-set : (wire : List Wired) (at : ℕ) (old new : Wired) → slice_get wire at ≡ Some old → unhanded_sum count (slice_set wire at new) + unhanded count old ≡ unhanded_sum count wire + unhanded count new
+  unfolding unhanded_sum
+  unhanded_sum-set wire at old new e =
+      let here = get_or_from_slice_get wire at old old e in
+      let law = sum_by-set (unhanded count) wire at new old (slice_get_within wire at old e) in
+      omega (arith, ap (unhanded count) here)

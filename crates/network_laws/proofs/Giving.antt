@@ -8,37 +8,44 @@ use Rattle.std.proofs.lemmas.Bool.Decides.{nat_tests}
 use Rattle.plan_base.specs.declared.ids.Host.{Host}
 use Rattle.plan_base.specs.declared.ids.Dev.{Dev}
 use Rattle.plan_base.specs.declared.ids.Family.{Family}
+use Rattle.plan_base.specs.declared.name.Name.{Name}
 use Rattle.plan_base.specs.declared.tree.Chunk.{Chunk}
 use Rattle.packet_frame.specs.declared.frame.PlainFrame.{PlainFrame}
 use Rattle.packet_frame.specs.declared.fault.FrameFault.{FrameFault}
-use Rattle.packet_frame.specs.Bytes.{frame_bytes}
-use Rattle.packet_frame.specs.Decoding.{frame_of}
+use Rattle.packet_frame.specs.declared.frame.PlainStamped.{PlainStamped}
+use Rattle.packet_frame.specs.Stamped.{stamped_bytes}
+use Rattle.packet_frame.specs.Decoding.{read_by}
+use Rattle.link_window.specs.declared.window.Version.{Version}
 use Rattle.network_plan.specs.Hosts.{has_host}
-use Rattle.network_plan.specs.Rules.{HostsDiffer}
+use Rattle.network_plan.specs.Rules.{HostsDiffer, KeepsNetwork}
 use Rattle.network_plan.specs.declared.schedule.HostSpec.{HostSpec}
 use Rattle.network_plan.specs.declared.schedule.Topology.{Topology}
 use Rattle.network_plan.specs.declared.event.WorldEvent.{WorldEvent}
-use Rattle.network_plan.specs.declared.event.WorldEvent.TheVariants.{Inject, Send, Deliver, Lose, Tick, Raw}
+use Rattle.network_plan.specs.declared.event.WorldEvent.TheVariants.{Inject, Send, Deliver, Repeat, Lose, Tick, Raw}
 use Rattle.spelled_frame.specs.Spelled.{what_of}
 use Rattle.node_model.specs.State.{NodeState, new_node}
-use Rattle.node_model.specs.Node.{Step, inject_step, frame_step, arrive_step, tick_step, take_step}
+use Rattle.node_model.specs.Node.{Step, inject_step, stamped_step, arrive_step, tick_step, take_step}
 use Rattle.node_model.specs.Counts.{act_sum, queues_sum, frame_one, taken_sum}
 use Rattle.node_laws.proofs.CountLaws.{act_sum-nil, act_sum-cons, queues_sum-nil}
-use Rattle.node_laws.proofs.Fitting.{taken_in}
-use Rattle.packet_frame.proofs.OneAnswer.{found_is}
+use Rattle.node_laws.proofs.Fitting.{Taken, taken_in}
+use Rattle.packet_frame.proofs.Versions.{found_by}
 use Rattle.wire_bytes.specs.Fields.{IsBytes}
 use Rattle.node_model.specs.declared.acts.Act.{Act}
-use Rattle.node_laws.proofs.Giving.{may_give, only_limit, StepGives, inject_gives, frame_gives, arrive_gives, tick_gives, take_gives, came_one, inject_adds, frame_adds, arrive_adds, tick_adds, take_adds}
+use Rattle.node_laws.proofs.Giving.{may_give, only_limit, StepGives, inject_gives, stamped_gives, arrive_gives, tick_gives, take_gives, came_one, inject_adds, stamped_adds, arrive_adds, tick_adds, take_adds}
 use Rattle.world_model.specs.declared.lines.Line.{Line}
-use Rattle.world_model.specs.declared.lines.Line.TheVariants.{At, Forged, Wire, Off, Lost, Nothing}
+use Rattle.world_model.specs.declared.lines.Line.TheVariants.{At, Forged, Wire, Off, Again, Lost, Nothing}
 use Rattle.world_model.specs.declared.lines.LinkEnd.{LinkEnd}
 use Rattle.world_model.specs.declared.lines.Entry.{Entry}
 use Rattle.world_model.specs.declared.lines.Wired.{Wired}
-use Rattle.world_model.specs.World.{WorldState, EventResult, nothing, lines_at, step_at, step_place, steps, forged, send_taken, send_at, send_over, send_place, sends, place_of, far_end, wire_place, deliver_at, deliver_to, deliver_frame, deliver_place, delivers, lose_frame, lose_place, loses, acted, happens, entries, world_after, history_of, opening_node, opening}
-use Rattle.world_model.specs.Counts.{line_sum, line_granted, line_injections, line_forged, granted, injections, forgeries, nodes_sum, packets, IsBounded, IsGranted}
+use Rattle.world_model.specs.declared.lines.Handing.{Handing}
+use Rattle.world_model.specs.declared.lines.Handing.TheVariants.{Taking, Leaving}
+use Rattle.world_model.specs.World.{WorldState, EventResult, nothing, lines_at, step_at, step_place, steps, none_before, forged_frame, forged, forged_at, send_taken, send_at, send_over, send_place, sends, place_of, far_end, wire_place, hand_line, as_handed, wire_after, hand_at, hand_to, hand_frame, hand_place, hands, lose_frame, lose_place, loses, acted, happens, entries, world_after, history_of, opening_node, opening}
+use Rattle.world_model.specs.Counts.{line_sum, line_granted, line_injections, line_forged, granted, injections, forgeries, nodes_sum, wire_sum, packets, IsBounded, IsGranted}
 use Rattle.world_model.specs.Sound.{event_fits, EventsFit}
-use Rattle.network_laws.proofs.CountLaws.{line_sum-nil, line_sum-cons, line_sum-one, line_sum-append, line_sum-at, tally-nil, tally-append, tally-entries, nodes_sum-set, wire_sum-push, wire_sum-remove}
-use Rattle.network_laws.proofs.Balance.{opening_frames, opening_balances}
+use Rattle.network_laws.proofs.CountLaws.{line_sum-nil, line_sum-cons, line_sum-one, line_sum-append, line_sum-at, tally-nil, tally-append, tally-entries, nodes_sum-set, wire_sum-push, wire_sum-remove, wire_sum-set}
+use Rattle.network_laws.proofs.Balance.{opening_frames}
+use Rattle.network_laws.proofs.Handings.{opening_balances}
+use Rattle.network_laws.proofs.Opening.{opening_sound}
 
 module _ (f : Family) where
   unfoldable may_give_all : List NodeState → ℕ
@@ -100,44 +107,52 @@ module _ (f : Family) where
         ),
       )
 
-  step_at_gives : (w : WorldState) (h : Host) (before : List Line) (step : NodeState → Step) (at : ℕ) (o : Option NodeState) → Begins before → ((node : NodeState) → StepGives f node (step node)) → slice_get w.nodes at ≡ o
+  -- steps of a node in a network, behind what is said before
+  record Gives (before : NodeState → List Line) (step : NodeState → Step) : Type 0 where
+    begins : (node : NodeState) → Begins (before node)
+    gives : (node : NodeState) → StepGives f node (step node)
+
+  step_at_gives : (w : WorldState) (h : Host) (before : NodeState → List Line) (step : NodeState → Step) (at : ℕ) (o : Option NodeState) → Gives before step → slice_get w.nodes at ≡ o
       → EventGives w (step_at w h before step at o)
   unfolding step_at
-  step_at_gives w h before step at None b g e = nothing_gives w
-  step_at_gives w h before step at (Some node) b g e =
-      let l = step_lines h before node (step node) (may_give_all w.nodes) (may_give_all (slice_set w.nodes at (step node).node)) b (g node) (may_give_all-set w.nodes at node (step node).node e) in
+  step_at_gives w h before step at None g e = nothing_gives w
+  step_at_gives w h before step at (Some node) g e =
+      let l = step_lines h (before node) node (step node) (may_give_all w.nodes) (may_give_all (slice_set w.nodes at (step node).node)) (g.begins node) (g.gives node) (may_give_all-set w.nodes at node (step node).node e) in
       record { once = l.0; limit = l.1 }
 
-  step_place_gives : (w : WorldState) (h : Host) (before : List Line) (step : NodeState → Step) (o : Option ℕ) → Begins before → ((node : NodeState) → StepGives f node (step node)) → EventGives w (step_place w h before step o)
+  step_place_gives : (w : WorldState) (h : Host) (before : NodeState → List Line) (step : NodeState → Step) (o : Option ℕ) → Gives before step → EventGives w (step_place w h before step o)
   unfolding step_place
-  step_place_gives w h before step None b g = nothing_gives w
-  step_place_gives w h before step (Some at) b g = step_at_gives w h before step at (slice_get w.nodes at) b g refl
+  step_place_gives w h before step None g = nothing_gives w
+  step_place_gives w h before step (Some at) g = step_at_gives w h before step at (slice_get w.nodes at) g refl
 
-  steps_give : (w : WorldState) (h : Host) (before : List Line) (step : NodeState → Step) → Begins before → ((node : NodeState) → StepGives f node (step node)) → EventGives w (steps w h before step)
+  steps_give : (w : WorldState) (h : Host) (before : NodeState → List Line) (step : NodeState → Step) → Gives before step → EventGives w (steps w h before step)
   unfolding steps
-  steps_give w h before step b g = step_place_gives w h before step (place_of w.nodes h) b g
+  steps_give w h before step g = step_place_gives w h before step (place_of w.nodes h) g
 
-  forged_begins : (h : Host) (bytes : List ℕ) (r : Result PlainFrame FrameFault) → IsBytes bytes → frame_of bytes ≡ r → Begins (forged h r)
-  forged_begins h bytes (Ok (PlainFrame.Packet p)) b e = record {
+  frame_begins : (h : Host) (x : PlainFrame) → Taken x → Begins (forged_frame h x)
+  frame_begins h (PlainFrame.Packet p) t = record {
     none = line_sum-one (line_injections f) (Forged h p.family p.bound);
     limit = omega (
       arith,
       line_sum-one (line_granted f) (Forged h p.family p.bound),
       line_sum-one (line_forged f) (Forged h p.family p.bound),
-      only_limit f p.family p.bound (taken_in bytes (PlainFrame.Packet p) (found_is bytes (PlainFrame.Packet p) b e)).bound,
+      only_limit f p.family p.bound t.bound,
     );
   }
-  forged_begins h bytes (Ok (PlainFrame.Advert a)) b e = no_lines
-  forged_begins h bytes (Ok (PlainFrame.Ask bound chunk)) b e = no_lines
-  forged_begins h bytes (Err x) b e = no_lines
+  frame_begins h (PlainFrame.Advert a) t = no_lines
+  frame_begins h (PlainFrame.Ask bound chunk) t = no_lines
 
-  send_taken_gives : (w : WorldState) (h : Host) (d : Dev) (at : ℕ) (to : LinkEnd) (node : NodeState) (step : Step) (o : Option PlainFrame)
+  forged_begins : (h : Host) (v : Version) (bytes : List ℕ) (r : Result PlainStamped FrameFault) → IsBytes bytes → read_by v bytes ≡ r → Begins (forged h r)
+  forged_begins h v bytes (Ok x) b e = frame_begins h x.frame (taken_in bytes v x (found_by v bytes x b e))
+  forged_begins h v bytes (Err x) b e = no_lines
+
+  send_taken_gives : (w : WorldState) (h : Host) (d : Dev) (at : ℕ) (to : LinkEnd) (node : NodeState) (step : Step) (o : Option PlainStamped)
       → slice_get w.nodes at ≡ Some node → StepGives f node step → EventGives w (send_taken w h d at to step o)
   unfolding send_taken
   send_taken_gives w h d at to node step None e g = nothing_gives w
   send_taken_gives w h d at to node step (Some x) e g =
       let lines = lines_at h step.acts in
-      let wire = Wire w.«next» (frame_bytes x) in
+      let wire = Wire w.«next» (stamped_bytes x) in
       let l = step_lines h [] node step (may_give_all w.nodes) (may_give_all (slice_set w.nodes at step.node)) no_lines g (may_give_all-set w.nodes at node step.node e) in
       record {
         once = omega (arith, l.0, line_sum-append (line_injections f) lines (wire ∷ []), line_sum-one (line_injections f) wire);
@@ -176,40 +191,44 @@ module _ (f : Family) where
   unfolding sends
   sends_gives w h d = send_place_gives w h d (place_of w.nodes h)
 
-  deliver_at_gives : (w : WorldState) (place : ℕ) (x : Wired) (at : ℕ) (o : Option NodeState) → slice_get w.nodes at ≡ o → EventGives w (deliver_at w place x at o)
-  unfolding deliver_at
-  deliver_at_gives w place x at None e = nothing_gives w
-  deliver_at_gives w place x at (Some node) e =
-      let step = frame_step node x.to.dev x.frame in
-      let l = step_lines x.to.host (Off x.number ∷ []) node step (may_give_all w.nodes) (may_give_all (slice_set w.nodes at step.node)) (quiet_line (Off x.number) refl refl)
-      (frame_gives f node x.to.dev x.frame) (may_give_all-set w.nodes at node step.node e) in
+  hand_begins : (how : Handing) (number : ℕ) → Begins (hand_line how number ∷ [])
+  hand_begins Taking number = quiet_line (Off number) refl refl
+  hand_begins Leaving number = quiet_line (Again number) refl refl
+
+  hand_at_gives : (w : WorldState) (how : Handing) (place : ℕ) (x : Wired) (at : ℕ) (o : Option NodeState) → slice_get w.nodes at ≡ o → EventGives w (hand_at w how place x at o)
+  unfolding hand_at
+  hand_at_gives w how place x at None e = nothing_gives w
+  hand_at_gives w how place x at (Some node) e =
+      let step = stamped_step node x.to.dev x.frame in
+      let l = step_lines x.to.host (hand_line how x.number ∷ []) node step (may_give_all w.nodes) (may_give_all (slice_set w.nodes at step.node)) (hand_begins how x.number)
+      (stamped_gives f node x.to.dev x.frame) (may_give_all-set w.nodes at node step.node e) in
       record { once = l.0; limit = l.1 }
 
-  deliver_to_gives : (w : WorldState) (place : ℕ) (x : Wired) (o : Option ℕ) → EventGives w (deliver_to w place x o)
-  unfolding deliver_to
-  deliver_to_gives w place x None = nothing_gives w
-  deliver_to_gives w place x (Some at) = deliver_at_gives w place x at (slice_get w.nodes at) refl
+  hand_to_gives : (w : WorldState) (how : Handing) (place : ℕ) (x : Wired) (o : Option ℕ) → EventGives w (hand_to w how place x o)
+  unfolding hand_to
+  hand_to_gives w how place x None = nothing_gives w
+  hand_to_gives w how place x (Some at) = hand_at_gives w how place x at (slice_get w.nodes at) refl
 
-  deliver_frame_gives : (w : WorldState) (place : ℕ) (o : Option Wired) → EventGives w (deliver_frame w place o)
-  unfolding deliver_frame
-  deliver_frame_gives w place None = nothing_gives w
-  deliver_frame_gives w place (Some x) = deliver_to_gives w place x (place_of w.nodes x.to.host)
+  hand_frame_gives : (w : WorldState) (how : Handing) (place : ℕ) (o : Option Wired) → EventGives w (hand_frame w how place o)
+  unfolding hand_frame
+  hand_frame_gives w how place None = nothing_gives w
+  hand_frame_gives w how place (Some x) = hand_to_gives w how place x (place_of w.nodes x.to.host)
 
-  deliver_place_gives : (w : WorldState) (o : Option ℕ) → EventGives w (deliver_place w o)
-  unfolding deliver_place
-  deliver_place_gives w None = nothing_gives w
-  deliver_place_gives w (Some place) = deliver_frame_gives w place (slice_get w.wire place)
+  hand_place_gives : (w : WorldState) (how : Handing) (o : Option ℕ) → EventGives w (hand_place w how o)
+  unfolding hand_place
+  hand_place_gives w how None = nothing_gives w
+  hand_place_gives w how (Some place) = hand_frame_gives w how place (slice_get w.wire place)
 
-  delivers_gives : (w : WorldState) (number : ℕ) → EventGives w (delivers w number)
-  unfolding delivers
-  delivers_gives w number = deliver_place_gives w (wire_place w.wire number)
+  hands_give : (w : WorldState) (how : Handing) (number : ℕ) → EventGives w (hands w how number)
+  unfolding hands
+  hands_give w how number = hand_place_gives w how (wire_place w.wire number)
 
   lose_frame_gives : (w : WorldState) (place : ℕ) (o : Option Wired) → EventGives w (lose_frame w place o)
   unfolding lose_frame
   lose_frame_gives w place None = nothing_gives w
   lose_frame_gives w place (Some x) =
       let off = Off x.number in
-      let lost = Lost (what_of x.frame) in
+      let lost = Lost (what_of x.frame.frame) in
       let i = line_sum-cons (line_injections f) off (lost ∷ []) in
       let j = line_sum-one (line_injections f) lost in
       record { once = omega (arith, i, j); limit = omega (arith, i, j, line_sum-cons (line_granted f) off (lost ∷ []), line_sum-one (line_granted f) lost) }
@@ -223,23 +242,26 @@ module _ (f : Family) where
   unfolding loses
   loses_gives w number = lose_place_gives w (wire_place w.wire number)
 
-  acted_gives : (w : WorldState) (e : WorldEvent) → event_fits e → EventGives w (acted w e)
-  acted_gives w (Inject h chunk bound) b = steps_give w h [] (λ node. inject_step [] node chunk bound) no_lines (λ node. inject_gives f node chunk bound b.0)
-  acted_gives w (Send h d) b = sends_gives w h d
-  acted_gives w (Deliver number) b = delivers_gives w number
-  acted_gives w (Lose number) b = loses_gives w number
-  acted_gives w (Tick h) b = steps_give w h [] tick_step no_lines (tick_gives f)
-  acted_gives w (Raw h d bytes) b = steps_give w h (forged h (frame_of bytes)) (λ node. arrive_step node d bytes) (forged_begins h bytes (frame_of bytes) b.1 refl) (λ node. arrive_gives f node d bytes)
+  acted_gives : (v : Version) (w : WorldState) (e : WorldEvent) → event_fits v e → EventGives w (acted w e)
+  acted_gives v w (Inject h chunk bound handler) b = steps_give w h none_before (λ node. inject_step [] node chunk bound handler)
+      (record { begins = λ node. no_lines; gives = λ node. inject_gives f node chunk bound handler b.0.0 })
+  acted_gives v w (Send h d) b = sends_gives w h d
+  acted_gives v w (Deliver number) b = hands_give w Taking number
+  acted_gives v w (Repeat number) b = hands_give w Leaving number
+  acted_gives v w (Lose number) b = loses_gives w number
+  acted_gives v w (Tick h) b = steps_give w h none_before tick_step (record { begins = λ node. no_lines; gives = tick_gives f })
+  acted_gives v w (Raw h d bytes) b = steps_give w h (forged_at h bytes) (λ node. arrive_step node d bytes)
+      (record { begins = λ node. forged_begins h node.version bytes (read_by node.version bytes) b.1 refl; gives = λ node. arrive_gives f node d bytes })
 
   -- the same for a run
   record RunGives (history : List Entry) (old new : WorldState) : Type 0 where
     once : injections f history + may_give_all new.nodes ≤ may_give_all old.nodes
     limit : granted f history ≤ 65535 * (injections f history + forgeries f history)
 
-  event_gives : (w : WorldState) (e : WorldEvent) → event_fits e → RunGives (entries w e) w (happens w e).world
+  event_gives : (v : Version) (w : WorldState) (e : WorldEvent) → event_fits v e → RunGives (entries w e) w (happens w e).world
   unfolding entries
-  event_gives w e b =
-      let g = acted_gives w e b in
+  event_gives v w e b =
+      let g = acted_gives v w e b in
       let lines = (acted w e).lines in
       let i = tally-entries (line_injections f) (w.made + 1) lines in
       record {
@@ -247,12 +269,12 @@ module _ (f : Family) where
         limit = omega (arith, g.limit, i, tally-entries (line_granted f) (w.made + 1) lines, tally-entries (line_forged f) (w.made + 1) lines);
       }
 
-  run_gives : (es : List WorldEvent) (w : WorldState) → EventsFit es → RunGives (history_of es w) w (world_after es w)
+  run_gives : (v : Version) (es : List WorldEvent) (w : WorldState) → EventsFit v es → RunGives (history_of es w) w (world_after es w)
   unfolding history_of world_after
-  run_gives [] w b = record { once = omega (arith, tally-nil (line_injections f)); limit = omega (arith, tally-nil (line_granted f)) }
-  run_gives (e ∷ es) w b =
-      let one = event_gives w e (All-head event_fits e es b) in
-      let more = run_gives es (happens w e).world (All-tail event_fits e es b) in
+  run_gives v [] w b = record { once = omega (arith, tally-nil (line_injections f)); limit = omega (arith, tally-nil (line_granted f)) }
+  run_gives v (e ∷ es) w b =
+      let one = event_gives v w e (All-head (event_fits v) e es b) in
+      let more = run_gives v es (happens w e).world (All-tail (event_fits v) e es b) in
       let first = entries w e in
       let rest = history_of es (happens w e).world in
       let i = tally-append (line_injections f) first rest in
@@ -318,11 +340,11 @@ module _ (f : Family) where
 
   -- ---- from the beginning on
 
-  pub opening_bounded : (t : Topology) (es : List WorldEvent) → HostsDiffer t.hosts → EventsFit es → IsBounded f (history_of es (opening t)) (world_after es (opening t))
-  opening_bounded t es d b =
-      let g = run_gives es (opening t) b in
-      let o = opening_nodes_give t d in
-      let law = (opening_balances f t es).law in
+  pub opening_bounded : (t : Topology) (es : List WorldEvent) → KeepsNetwork t → EventsFit t.version es → IsBounded f (history_of es (opening t)) (world_after es (opening t))
+  opening_bounded t es k b =
+      let g = run_gives t.version es (opening t) b in
+      let o = opening_nodes_give t k.hosts in
+      let law = (opening_balances f t es k b).law in
       record { once = omega (arith, g.once, o); limit = g.limit; within = omega arith }
 
   later_one : (h fh s fs : ℕ) → ◌≡◌ {A = ℕ} (cond ((h == fh) && nat_le s fs) 1 0) 0 → h ≡ fh → fs < s
@@ -338,10 +360,10 @@ module _ (f : Family) where
       let split = may_give_all-cons n ns in
       All-cons (λ node. node.here.0 ≡ f.source.0 → f.serial < node.serial) n ns (gives_later n (omega arith)) (later_serials ns (omega arith))
 
-  opening_later : (t : Topology) (es : List WorldEvent) → HostsDiffer t.hosts → EventsFit es → 0 < injections f (history_of es (opening t))
+  opening_later : (t : Topology) (es : List WorldEvent) → HostsDiffer t.hosts → EventsFit t.version es → 0 < injections f (history_of es (opening t))
       → All (λ node. node.here.0 ≡ f.source.0 → f.serial < node.serial) (world_after es (opening t)).nodes
   opening_later t es d b h =
-      let g = run_gives es (opening t) b in
+      let g = run_gives t.version es (opening t) b in
       let o = opening_nodes_give t d in
       later_serials (world_after es (opening t)).nodes (omega (arith, g.once))
 
@@ -360,7 +382,7 @@ module _ (f : Family) where
   abbrev StepLeaves : Host → List Line → NodeState → Step → Type 0
   StepLeaves h before node step = ungranted (before ++ lines_at h step.acts) ≡ 0 → queues_sum (frame_one f) node.queues ≡ 0 → queues_sum (frame_one f) step.node.queues ≡ 0
 
-  step_at_leaves : (w : WorldState) (h : Host) (before : List Line) (step : NodeState → Step) (at : ℕ) (o : Option NodeState) → ((node : NodeState) → StepLeaves h before node (step node)) → slice_get w.nodes at ≡ o
+  step_at_leaves : (w : WorldState) (h : Host) (before : NodeState → List Line) (step : NodeState → Step) (at : ℕ) (o : Option NodeState) → ((node : NodeState) → StepLeaves h (before node) node (step node)) → slice_get w.nodes at ≡ o
       → Leaves w (step_at w h before step at o)
   unfolding step_at
   step_at_leaves w h before step at None k e z q = q
@@ -368,40 +390,43 @@ module _ (f : Family) where
       let one = k node z (node_none w.nodes at node e (omega arith)) in
       omega (arith, nodes_sum-set (frame_one f) w.nodes at node (step node).node e)
 
-  step_place_leaves : (w : WorldState) (h : Host) (before : List Line) (step : NodeState → Step) (o : Option ℕ) → ((node : NodeState) → StepLeaves h before node (step node)) → Leaves w (step_place w h before step o)
+  step_place_leaves : (w : WorldState) (h : Host) (before : NodeState → List Line) (step : NodeState → Step) (o : Option ℕ) → ((node : NodeState) → StepLeaves h (before node) node (step node)) → Leaves w (step_place w h before step o)
   unfolding step_place
   step_place_leaves w h before step None k z q = q
   step_place_leaves w h before step (Some at) k z q = step_at_leaves w h before step at (slice_get w.nodes at) k refl z q
 
-  steps_leave : (w : WorldState) (h : Host) (before : List Line) (step : NodeState → Step) → ((node : NodeState) → StepLeaves h before node (step node)) → Leaves w (steps w h before step)
+  steps_leave : (w : WorldState) (h : Host) (before : NodeState → List Line) (step : NodeState → Step) → ((node : NodeState) → StepLeaves h (before node) node (step node)) → Leaves w (steps w h before step)
   unfolding steps
   steps_leave w h before step k z q = step_place_leaves w h before step (place_of w.nodes h) k z q
 
-  inject_leaves : (h : Host) (chunk : Chunk) (bound : ℕ) (node : NodeState) → StepLeaves h [] node (inject_step [] node chunk bound)
-  inject_leaves h chunk bound node z q =
-      let acts = (inject_step [] node chunk bound).acts in
+  inject_leaves : (h : Host) (chunk : Chunk) (bound : ℕ) (handler : Option Name) (node : NodeState) → StepLeaves h [] node (inject_step [] node chunk bound handler)
+  inject_leaves h chunk bound handler node z q =
+      let acts = (inject_step [] node chunk bound handler).acts in
       let i = line_sum-at (line_injections f) h acts in
-      inject_adds f node chunk bound q (omega arith)
+      inject_adds f node chunk bound handler q (omega arith)
 
-  forged_one : (h : Host) (r : Result PlainFrame FrameFault) → line_sum (line_forged f) (forged h r) ≡ came_one f r
-  forged_one h (Ok (PlainFrame.Packet p)) = line_sum-one (line_forged f) (Forged h p.family p.bound)
-  forged_one h (Ok (PlainFrame.Advert a)) = line_sum-nil (line_forged f)
-  forged_one h (Ok (PlainFrame.Ask bound chunk)) = line_sum-nil (line_forged f)
+  frame_forged : (h : Host) (x : PlainFrame) → line_sum (line_forged f) (forged_frame h x) ≡ frame_one f x
+  frame_forged h (PlainFrame.Packet p) = line_sum-one (line_forged f) (Forged h p.family p.bound)
+  frame_forged h (PlainFrame.Advert a) = line_sum-nil (line_forged f)
+  frame_forged h (PlainFrame.Ask bound chunk) = line_sum-nil (line_forged f)
+
+  forged_one : (h : Host) (r : Result PlainStamped FrameFault) → line_sum (line_forged f) (forged h r) ≡ came_one f r
+  forged_one h (Ok x) = frame_forged h x.frame
   forged_one h (Err e) = line_sum-nil (line_forged f)
 
-  raw_leaves : (h : Host) (d : Dev) (bytes : List ℕ) (node : NodeState) → StepLeaves h (forged h (frame_of bytes)) node (arrive_step node d bytes)
+  raw_leaves : (h : Host) (d : Dev) (bytes : List ℕ) (node : NodeState) → StepLeaves h (forged_at h bytes node) node (arrive_step node d bytes)
   raw_leaves h d bytes node z q =
-      let i = line_sum-append (line_forged f) (forged h (frame_of bytes)) (lines_at h (arrive_step node d bytes).acts) in
-      let j = forged_one h (frame_of bytes) in
+      let i = line_sum-append (line_forged f) (forged_at h bytes node) (lines_at h (arrive_step node d bytes).acts) in
+      let j = forged_one h (read_by node.version bytes) in
       arrive_adds f node d bytes (omega arith) q
 
-  send_taken_leaves : (w : WorldState) (h : Host) (d : Dev) (at : ℕ) (to : LinkEnd) (node : NodeState) (step : Step) (o : Option PlainFrame) → slice_get w.nodes at ≡ Some node
+  send_taken_leaves : (w : WorldState) (h : Host) (d : Dev) (at : ℕ) (to : LinkEnd) (node : NodeState) (step : Step) (o : Option PlainStamped) → slice_get w.nodes at ≡ Some node
       → (queues_sum (frame_one f) node.queues ≡ 0 → queues_sum (frame_one f) step.node.queues + taken_sum (frame_one f) o ≡ 0) → packets f w ≡ 0 → packets f (send_taken w h d at to step o).world ≡ 0
   unfolding send_taken
   send_taken_leaves w h d at to node step None e k q = q
   send_taken_leaves w h d at to node step (Some x) e k q =
       let one = k (node_none w.nodes at node e (omega arith)) in
-      omega (arith, nodes_sum-set (frame_one f) w.nodes at node step.node e, wire_sum-push (frame_one f) w.wire (record { number = w.«next»; from = record { host = h; dev = d }; to = to; frame = x }))
+      omega (arith, nodes_sum-set (frame_one f) w.nodes at node step.node e, wire_sum-push (frame_one f) w.wire (record { number = w.«next»; from = record { host = h; dev = d }; to = to; frame = x; handed = false }))
 
   send_at_leaves : (w : WorldState) (h : Host) (d : Dev) (at : ℕ) (to : LinkEnd) (o : Option NodeState) → slice_get w.nodes at ≡ o → packets f w ≡ 0 → packets f (send_at w h d at to o).world ≡ 0
   unfolding send_at
@@ -426,32 +451,38 @@ module _ (f : Family) where
   unfolding sends
   sends_leave w h d q = send_place_leaves w h d (place_of w.nodes h) q
 
-  deliver_at_leaves : (w : WorldState) (place : ℕ) (x : Wired) (at : ℕ) (o : Option NodeState) → slice_get w.wire place ≡ Some x → slice_get w.nodes at ≡ o → packets f w ≡ 0 → packets f (deliver_at w place x at o).world ≡ 0
-  unfolding deliver_at
-  deliver_at_leaves w place x at None r e q = q
-  deliver_at_leaves w place x at (Some node) r e q =
-      let gone = wire_sum-remove (frame_one f) w.wire place x r in
-      let one = frame_adds f node x.to.dev x.frame (omega arith) (node_none w.nodes at node e (omega arith)) in
-      omega (arith, nodes_sum-set (frame_one f) w.nodes at node (frame_step node x.to.dev x.frame).node e)
+  -- a frame that is taken off the wire, or stays there, leaves no more on it
+  wire_leaves : (how : Handing) (wire : List Wired) (place : ℕ) (x : Wired) → slice_get wire place ≡ Some x → wire_sum (frame_one f) (wire_after how wire place x) ≤ wire_sum (frame_one f) wire
+  wire_leaves Taking wire place x r = omega (arith, wire_sum-remove (frame_one f) wire place x r)
+  wire_leaves Leaving wire place x r = omega (arith, wire_sum-set (frame_one f) wire place x (as_handed x) r)
 
-  deliver_to_leaves : (w : WorldState) (place : ℕ) (x : Wired) (o : Option ℕ) → slice_get w.wire place ≡ Some x → packets f w ≡ 0 → packets f (deliver_to w place x o).world ≡ 0
-  unfolding deliver_to
-  deliver_to_leaves w place x None r q = q
-  deliver_to_leaves w place x (Some at) r q = deliver_at_leaves w place x at (slice_get w.nodes at) r refl q
+  hand_at_leaves : (w : WorldState) (how : Handing) (place : ℕ) (x : Wired) (at : ℕ) (o : Option NodeState) → slice_get w.wire place ≡ Some x → slice_get w.nodes at ≡ o → packets f w ≡ 0
+      → packets f (hand_at w how place x at o).world ≡ 0
+  unfolding hand_at
+  hand_at_leaves w how place x at None r e q = q
+  hand_at_leaves w how place x at (Some node) r e q =
+      let there = wire_sum-remove (frame_one f) w.wire place x r in
+      let one = stamped_adds f node x.to.dev x.frame (omega arith) (node_none w.nodes at node e (omega arith)) in
+      omega (arith, wire_leaves how w.wire place x r, nodes_sum-set (frame_one f) w.nodes at node (stamped_step node x.to.dev x.frame).node e)
 
-  deliver_frame_leaves : (w : WorldState) (place : ℕ) (o : Option Wired) → slice_get w.wire place ≡ o → packets f w ≡ 0 → packets f (deliver_frame w place o).world ≡ 0
-  unfolding deliver_frame
-  deliver_frame_leaves w place None r q = q
-  deliver_frame_leaves w place (Some x) r q = deliver_to_leaves w place x (place_of w.nodes x.to.host) r q
+  hand_to_leaves : (w : WorldState) (how : Handing) (place : ℕ) (x : Wired) (o : Option ℕ) → slice_get w.wire place ≡ Some x → packets f w ≡ 0 → packets f (hand_to w how place x o).world ≡ 0
+  unfolding hand_to
+  hand_to_leaves w how place x None r q = q
+  hand_to_leaves w how place x (Some at) r q = hand_at_leaves w how place x at (slice_get w.nodes at) r refl q
 
-  deliver_place_leaves : (w : WorldState) (o : Option ℕ) → packets f w ≡ 0 → packets f (deliver_place w o).world ≡ 0
-  unfolding deliver_place
-  deliver_place_leaves w None q = q
-  deliver_place_leaves w (Some place) q = deliver_frame_leaves w place (slice_get w.wire place) refl q
+  hand_frame_leaves : (w : WorldState) (how : Handing) (place : ℕ) (o : Option Wired) → slice_get w.wire place ≡ o → packets f w ≡ 0 → packets f (hand_frame w how place o).world ≡ 0
+  unfolding hand_frame
+  hand_frame_leaves w how place None r q = q
+  hand_frame_leaves w how place (Some x) r q = hand_to_leaves w how place x (place_of w.nodes x.to.host) r q
 
-  delivers_leave : (w : WorldState) (number : ℕ) → packets f w ≡ 0 → packets f (delivers w number).world ≡ 0
-  unfolding delivers
-  delivers_leave w number q = deliver_place_leaves w (wire_place w.wire number) q
+  hand_place_leaves : (w : WorldState) (how : Handing) (o : Option ℕ) → packets f w ≡ 0 → packets f (hand_place w how o).world ≡ 0
+  unfolding hand_place
+  hand_place_leaves w how None q = q
+  hand_place_leaves w how (Some place) q = hand_frame_leaves w how place (slice_get w.wire place) refl q
+
+  hands_leave : (w : WorldState) (how : Handing) (number : ℕ) → packets f w ≡ 0 → packets f (hands w how number).world ≡ 0
+  unfolding hands
+  hands_leave w how number q = hand_place_leaves w how (wire_place w.wire number) q
 
   lose_frame_leaves : (w : WorldState) (place : ℕ) (o : Option Wired) → slice_get w.wire place ≡ o → packets f w ≡ 0 → packets f (lose_frame w place o).world ≡ 0
   unfolding lose_frame
@@ -468,12 +499,13 @@ module _ (f : Family) where
   loses_leave w number q = lose_place_leaves w (wire_place w.wire number) q
 
   acted_leaves : (w : WorldState) (e : WorldEvent) → Leaves w (acted w e)
-  acted_leaves w (Inject h chunk bound) z q = steps_leave w h [] (λ node. inject_step [] node chunk bound) (inject_leaves h chunk bound) z q
+  acted_leaves w (Inject h chunk bound handler) z q = steps_leave w h none_before (λ node. inject_step [] node chunk bound handler) (inject_leaves h chunk bound handler) z q
   acted_leaves w (Send h d) z q = sends_leave w h d q
-  acted_leaves w (Deliver number) z q = delivers_leave w number q
+  acted_leaves w (Deliver number) z q = hands_leave w Taking number q
+  acted_leaves w (Repeat number) z q = hands_leave w Leaving number q
   acted_leaves w (Lose number) z q = loses_leave w number q
-  acted_leaves w (Tick h) z q = steps_leave w h [] tick_step (λ node y n. tick_adds f node n) z q
-  acted_leaves w (Raw h d bytes) z q = steps_leave w h (forged h (frame_of bytes)) (λ node. arrive_step node d bytes) (raw_leaves h d bytes) z q
+  acted_leaves w (Tick h) z q = steps_leave w h none_before tick_step (λ node y n. tick_adds f node n) z q
+  acted_leaves w (Raw h d bytes) z q = steps_leave w h (forged_at h bytes) (λ node. arrive_step node d bytes) (raw_leaves h d bytes) z q
 
   entries_none : (w : WorldState) (e : WorldEvent) → injections f (entries w e) + forgeries f (entries w e) ≡ 0 → ungranted (acted w e).lines ≡ 0
   unfolding entries
@@ -488,5 +520,5 @@ module _ (f : Family) where
       run_leaves es (happens w e).world (omega arith) (acted_leaves w e (entries_none w e (omega arith)) q)
 
   -- from the beginning on, only granted families have packets, and serial numbers only grow
-  pub opening_grants : (t : Topology) (es : List WorldEvent) → HostsDiffer t.hosts → EventsFit es → IsGranted f (history_of es (opening t)) (world_after es (opening t))
+  pub opening_grants : (t : Topology) (es : List WorldEvent) → HostsDiffer t.hosts → EventsFit t.version es → IsGranted f (history_of es (opening t)) (world_after es (opening t))
   opening_grants t es d b = record { packet = λ z. run_leaves es (opening t) z (opening_frames (frame_one f) t); serial = opening_later t es d b }

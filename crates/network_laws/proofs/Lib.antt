@@ -3,7 +3,10 @@ pub mod Balance
 pub mod CountLaws
 pub mod Fitting
 pub mod Giving
+pub mod Handings
+pub mod Numbers
 pub mod Opening
 pub mod Orders
+pub mod Places
 pub mod Wires
 pub mod Visits

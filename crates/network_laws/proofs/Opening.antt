@@ -1,24 +1,27 @@
 -- A network keeps its limits at the beginning.
-use Rattle.std.proofs.Common.{ℕ, zero, suc, ◌+◌, ◌<◌, ◌≤◌, ◌^◌, List, [], ◌∷◌, ◌++◌, refl, sym, ◌∙◌, subst, arith, length}
+use Rattle.std.proofs.Common.{◌≡◌, ℕ, Bool, true, false, cond, ap, zero, suc, ◌+◌, ◌<◌, ◌≤◌, ◌^◌, List, [], ◌∷◌, ◌++◌, refl, sym, ◌∙◌, subst, arith}
 use Rattle.std.specs.Prelude.{map, Option, Some, None, All}
-use Rattle.std.proofs.lemmas.List.Elements.{All-nil, All-cons, All-head, All-tail, All-append, All-weaker}
-use Rattle.std.proofs.lemmas.List.{append-nil, length-append, length-map}
+use Rattle.std.proofs.lemmas.List.Elements.{All-nil, All-cons, All-head, All-tail, All-append, All-weaker, All-replicate}
+use Rattle.std.proofs.lemmas.List.{append-nil, length-map}
 use Rattle.plan_base.specs.declared.ids.Host.{Host}
 use Rattle.plan_base.specs.declared.ids.Dev.{Dev}
 use Rattle.service_api.specs.Services.{AreGoodRows, IsGoodValue}
 use Rattle.service_meaning.specs.Beginning.{no_rows, present_without}
 use Rattle.service_meaning.proofs.Goods.{serve_good}
-use Rattle.network_plan.specs.Rules.{HostsDiffer, KeepsNetwork}
+use Rattle.network_plan.specs.NodeRules.{DevicesAscend}
+use Rattle.network_plan.specs.Rules.{HostsDiffer, KeepsLink, KeepsNetwork}
 use Rattle.network_plan.specs.declared.schedule.HostSpec.{HostSpec}
 use Rattle.network_plan.specs.declared.schedule.Topology.{Topology}
 use Rattle.dv_routing.specs.Sorted as sorted
-use Rattle.node_model.specs.State.{Links, new_node}
-use Rattle.node_model.specs.Fits.{FrameKeeps, NetworkFits, ConfigFits, ServicesFit, NodeFits}
+use Rattle.node_model.specs.State.{Links, NodeState, is_host, no_lane, no_queues, new_node}
+use Rattle.node_model.specs.Numbers.{NumbersFit, FitsAt}
+use Rattle.read_laws.proofs.Binds.{some_inj}
+use Rattle.node_model.specs.Fits.{StampedKeeps, NetworkFits, ConfigFits, ServicesFit, NodeFits}
 use Rattle.node_laws.proofs.HostLaws.{same_among, new_node_fits}
 use Rattle.world_model.specs.declared.lines.LinkEnd.{LinkEnd}
-use Rattle.world_model.specs.World.{Cables, peer_of, neighbour_at, neighbours_to, opening_services, config_of, opening_node, opening}
-use Rattle.world_model.specs.Sound.{WiredFits, Rise, DevicesFit, IsSound}
-use Rattle.network_laws.proofs.Fitting.{rise-push}
+use Rattle.world_model.specs.World.{Cables, peer_of, neighbour_at, neighbours_to, opening_services, first_moment, config_of, opening_node, opening}
+use Rattle.world_model.specs.Sound.{WiredFits, Rise, DevicesFit, node_of, IsStaleAt, NumbersDiffer, LinkFits, IsSound}
+use Rattle.network_laws.proofs.Fitting.{at_place, rise-push}
 
 -- ---- hosts
 
@@ -35,16 +38,10 @@ network_fits t k = record { few = omega (arith, k.few, length-map t.hosts (λ s.
 
 -- ---- neighbours
 
-one_neighbour : (d : Dev) (o : Option LinkEnd) → length (neighbour_at d o) ≤ 1
-one_neighbour d None = omega arith
-one_neighbour d (Some far) = omega arith
-
-near_to : (links : Cables) (h : Host) (n : ℕ) → length (neighbours_to links h n) ≤ n
-unfolding neighbours_to
-near_to links h zero = omega arith
-near_to links h (suc n) =
-    let o = peer_of links h (record { 0 = n + 1 }) in
-    omega (arith, length-append (neighbours_to links h n) (neighbour_at (record { 0 = n + 1 }) o), one_neighbour (record { 0 = n + 1 }) o, near_to links h n)
+-- devices that rise ascend
+ascends : (links : Links) → Rise (λ link. link.1.0) links → DevicesAscend links
+ascends [] r = tt
+ascends (l ∷ ls) r = (r.0, ascends ls r.1)
 
 abbrev Within : ℕ → Host × Dev → Type 0
 Within n link = (1 ≤ link.1.0) × (link.1.0 ≤ n)
@@ -84,24 +81,52 @@ pub services_fit : (h : HostSpec) → ServicesFit (opening_services h)
 services_fit h = record { good = record { serve = serve_good (present_without h.missing); rows = no_rows_good }; closed = refl; waits = refl }
 
 pub config_fits : (t : Topology) (h : HostSpec) → KeepsNetwork t → ConfigFits (config_of t h)
-config_fits t h k = record { hosts = network_fits t k; near = near_to t.links h.host 8 }
+config_fits t h k = let n = near t.links h.host 8 in record { hosts = network_fits t k; devices = n.within; ordered = ascends (neighbours_to t.links h.host 8) n.rise }
 
 opening_node_fits : (t : Topology) (h : HostSpec) → h.host.0 < 2 ^ 32 → KeepsNetwork t → NodeFits (opening_node t h)
 unfolding opening_node
 opening_node_fits t h n k = new_node_fits (config_of t h) (opening_services h) n (omega arith) (config_fits t h k) (services_fit h)
 
-opening_devices : (t : Topology) (h : HostSpec) → DevicesFit (opening_node t h)
+opening_devices : (t : Topology) (h : HostSpec) → DevicesFit t.version (opening_node t h)
 unfolding opening_node new_node
-opening_devices t h = let k = near t.links h.host 8 in record { queues = refl; devices = k.within; once = k.rise }
+opening_devices t h = record { version = refl; windows = refl; queues = refl; devices = (near t.links h.host 8).within }
 
 nodes_fit : (t : Topology) (hs : List HostSpec) → KeepsNetwork t → All (λ s. s.host.0 < 2 ^ 32) hs → All NodeFits (map (opening_node t) hs)
 nodes_fit t [] k a = All-nil NodeFits
 nodes_fit t (h ∷ hs) k a = All-cons NodeFits (opening_node t h) (map (opening_node t) hs) (opening_node_fits t h (All-head (λ s. s.host.0 < 2 ^ 32) h hs a) k)
     (nodes_fit t hs k (All-tail (λ s. s.host.0 < 2 ^ 32) h hs a))
 
-devices_fit : (t : Topology) (hs : List HostSpec) → All DevicesFit (map (opening_node t) hs)
-devices_fit t [] = All-nil DevicesFit
-devices_fit t (h ∷ hs) = All-cons DevicesFit (opening_node t h) (map (opening_node t) hs) (opening_devices t h) (devices_fit t hs)
+devices_fit : (t : Topology) (hs : List HostSpec) → All (DevicesFit t.version) (map (opening_node t) hs)
+devices_fit t [] = All-nil (DevicesFit t.version)
+devices_fit t (h ∷ hs) = All-cons (DevicesFit t.version) (opening_node t h) (map (opening_node t) hs) (opening_devices t h) (devices_fit t hs)
+
+links_fit : (hosts : List HostSpec) (links : Cables) → All (KeepsLink hosts) links → All LinkFits links
+links_fit hosts links h = All-weaker (KeepsLink hosts) LinkFits (λ l k. (k.from_device, k.to_device)) links h
+
+-- ---- numbers: nothing is queued or on the wire
+
+none_fit : (link d : ℕ) → FitsAt [] d (no_queues link)
+none_fit link d lane e = at_place (NumbersFit []) (no_queues link) d lane e (All-replicate (NumbersFit []) 9 (no_lane link) (record { ascend = tt; below = All-nil (λ n. n < link) }))
+
+opening_lanes : (t : Topology) (h : HostSpec) → (opening_node t h).queues ≡ no_queues (first_moment t.version)
+unfolding opening_node new_node
+opening_lanes t h = refl
+
+lanes_cases : (t : Topology) (h : HostSpec) (rest : Option NodeState) (node : NodeState) (b : Bool) → cond b (Some (opening_node t h)) rest ≡ Some node → (rest ≡ Some node → node.queues ≡ no_queues (first_moment t.version))
+    → node.queues ≡ no_queues (first_moment t.version)
+lanes_cases t h rest node true e k = sym (ap (λ (n : NodeState). n.queues) (some_inj e)) ∙ opening_lanes t h
+lanes_cases t h rest node false e k = k e
+
+lanes_of : (t : Topology) (hs : List HostSpec) (at : Host) (node : NodeState) → node_of (map (opening_node t) hs) at ≡ Some node → node.queues ≡ no_queues (first_moment t.version)
+lanes_of t [] at node e = cc
+lanes_of t (h ∷ hs) at node e = lanes_cases t h (node_of (map (opening_node t) hs) at) node (is_host (opening_node t h).here at) e (lanes_of t hs at node)
+
+opening_differ : (t : Topology) → NumbersDiffer (map (opening_node t) t.hosts) []
+opening_differ t h node e d = subst (λ queues. FitsAt [] d queues) (sym (lanes_of t t.hosts h node e)) (none_fit (first_moment t.version) d)
+
+pub opening_version : (t : Topology) → (opening t).version ≡ t.version
+unfolding opening
+opening_version t = refl
 
 -- the limits stand at the beginning
 pub opening_sound : (t : Topology) → KeepsNetwork t → IsSound (opening t)
@@ -109,7 +134,10 @@ unfolding opening
 opening_sound t k = record {
   nodes = nodes_fit t t.hosts k k.numbers;
   devices = devices_fit t t.hosts;
-  wire = All-nil (WiredFits FrameKeeps 1);
+  links = links_fit t.hosts t.links k.links;
+  wire = All-nil (WiredFits (StampedKeeps t.version) 1);
+  stale = All-nil (IsStaleAt (map (opening_node t) t.hosts));
+  differ = opening_differ t;
   once = tt;
   room = omega arith;
   numbers = omega arith;

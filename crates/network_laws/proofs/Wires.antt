@@ -1,35 +1,38 @@
 -- Each number goes onto the wire at most once, and off it at most once; each frame on the wire leads to the other end of its link.
 use Rattle.std.proofs.Common.{◌≡◌, ℕ, ◌+◌, ◌≤◌, Bool, true, false, cond, List, [], ◌∷◌, ◌++◌, refl, sym, ap, ◌∙◌, subst, arith, length}
-use Rattle.std.specs.Prelude.{map, slice_get, remove, nat_lt, nat_le, Option, Some, None, Result, Ok, Err}
-use Rattle.std.proofs.lemmas.List.Sums.{sum_by_push, sum_by-remove}
-use Rattle.std.proofs.lemmas.List.Elements.{All-nil, All-push}
+use Rattle.std.specs.Prelude.{map, slice_get, slice_set, remove, nat_lt, nat_le, Option, Some, None, Result, Ok, Err}
+use Rattle.std.proofs.lemmas.List.Sums.{sum_by_push, sum_by-set, sum_by-remove}
+use Rattle.std.proofs.lemmas.List.Elements.{All-nil, All-push, All-set}
 use Rattle.std.proofs.lemmas.Option.{slice_get_within, get_or_from_slice_get}
 use Rattle.std.proofs.lemmas.Bool.Decides.{nat_tests}
 use Rattle.plan_base.specs.declared.ids.Host.{Host}
 use Rattle.plan_base.specs.declared.ids.Dev.{Dev}
 use Rattle.packet_frame.specs.declared.frame.PlainFrame.{PlainFrame}
 use Rattle.packet_frame.specs.declared.fault.FrameFault.{FrameFault}
-use Rattle.packet_frame.specs.Bytes.{frame_bytes}
-use Rattle.packet_frame.specs.Decoding.{frame_of}
+use Rattle.packet_frame.specs.declared.frame.PlainStamped.{PlainStamped}
+use Rattle.packet_frame.specs.Stamped.{stamped_bytes}
+use Rattle.packet_frame.specs.Decoding.{read_by}
 use Rattle.network_plan.specs.declared.schedule.Topology.{Topology}
 use Rattle.network_plan.specs.declared.event.WorldEvent.{WorldEvent}
-use Rattle.network_plan.specs.declared.event.WorldEvent.TheVariants.{Inject, Send, Deliver, Lose, Tick, Raw}
+use Rattle.network_plan.specs.declared.event.WorldEvent.TheVariants.{Inject, Send, Deliver, Repeat, Lose, Tick, Raw}
 use Rattle.spelled_frame.specs.Spelled.{what_of}
 use Rattle.node_model.specs.declared.acts.Act.{Act}
 use Rattle.node_model.specs.State.{NodeState}
-use Rattle.node_model.specs.Node.{Step, inject_step, frame_step, arrive_step, tick_step, take_step}
+use Rattle.node_model.specs.Node.{Step, inject_step, stamped_step, arrive_step, tick_step, take_step}
 use Rattle.node_model.specs.Counts.{act_sum}
 use Rattle.node_laws.proofs.CountLaws.{act_sum-nil, act_sum-cons}
 use Rattle.world_model.specs.declared.lines.Line.{Line}
-use Rattle.world_model.specs.declared.lines.Line.TheVariants.{At, Forged, Wire, Off, Lost, Nothing}
+use Rattle.world_model.specs.declared.lines.Line.TheVariants.{At, Forged, Wire, Off, Again, Lost, Nothing}
 use Rattle.world_model.specs.declared.lines.LinkEnd.{LinkEnd}
 use Rattle.world_model.specs.declared.lines.Entry.{Entry}
 use Rattle.world_model.specs.declared.lines.Wired.{Wired}
-use Rattle.world_model.specs.World.{Cables, WorldState, EventResult, nothing, lines_at, step_at, step_place, steps, forged, send_taken, send_at, send_over, send_place, sends, place_of, far_end, wire_place, deliver_at, deliver_to, deliver_frame, deliver_place, delivers, lose_frame, lose_place, loses, acted, happens, entry_at, entries, world_after, history_of, opening}
+use Rattle.world_model.specs.declared.lines.Handing.{Handing}
+use Rattle.world_model.specs.declared.lines.Handing.TheVariants.{Taking, Leaving}
+use Rattle.world_model.specs.World.{Cables, WorldState, EventResult, nothing, lines_at, step_at, step_place, steps, none_before, forged_frame, forged, forged_at, send_taken, send_at, send_over, send_place, sends, place_of, far_end, wire_place, as_handed, wire_after, hand_at, hand_to, hand_frame, hand_place, hands, lose_frame, lose_place, loses, acted, happens, entry_at, entries, world_after, history_of, opening}
 use Rattle.world_model.specs.Counts.{line_sum}
 use Rattle.world_model.specs.Wires.{one_if, line_sent, line_off, times_sent, times_off, on_wire, IsOnce, WireLeads}
 use Rattle.network_laws.proofs.CountLaws.{line_sum-nil, line_sum-cons, line_sum-one, line_sum-append, line_sum-at, tally-nil, tally-append, tally-entries}
-use Rattle.network_laws.proofs.Fitting.{All-remove}
+use Rattle.network_laws.proofs.Fitting.{All-remove, at_place}
 
 module _ (n : ℕ) where
   on_wire-nil : on_wire n [] ≡ 0
@@ -45,6 +48,14 @@ module _ (n : ℕ) where
   on_wire-remove wire at x e =
       let here = get_or_from_slice_get wire at x x e in
       let law = sum_by-remove (λ (y : Wired). one_if n y.number) wire at x (slice_get_within wire at x e) in
+      omega (arith, ap (λ (y : Wired). one_if n y.number) here)
+
+  -- a frame that was handed keeps its number
+  on_wire-handed : (wire : List Wired) (at : ℕ) (x : Wired) → slice_get wire at ≡ Some x → on_wire n (slice_set wire at (as_handed x)) ≡ on_wire n wire
+  unfolding on_wire
+  on_wire-handed wire at x e =
+      let here = get_or_from_slice_get wire at x x e in
+      let law = sum_by-set (λ (y : Wired). one_if n y.number) wire at (as_handed x) x (slice_get_within wire at x e) in
       omega (arith, ap (λ (y : Wired). one_if n y.number) here)
 
   -- whether the number may still be sent
@@ -90,34 +101,37 @@ module _ (n : ℕ) where
   nothing_moves : (w : WorldState) → Moves w (nothing w)
   nothing_moves w = let q = quiet_one Nothing refl refl in record { once = omega (arith, q.sent); account = omega (arith, q.sent, q.off) }
 
-  step_at_moves : (w : WorldState) (h : Host) (before : List Line) (step : NodeState → Step) (at : ℕ) (o : Option NodeState) → Quiet before → Moves w (step_at w h before step at o)
+  step_at_moves : (w : WorldState) (h : Host) (before : NodeState → List Line) (step : NodeState → Step) (at : ℕ) (o : Option NodeState) → ((node : NodeState) → Quiet (before node)) → Moves w (step_at w h before step at o)
   unfolding step_at
   step_at_moves w h before step at None b = nothing_moves w
   step_at_moves w h before step at (Some node) b =
-      let q = quiet_both before (lines_at h (step node).acts) b (quiet_acts h (step node).acts) in
+      let q = quiet_both (before node) (lines_at h (step node).acts) (b node) (quiet_acts h (step node).acts) in
       record { once = omega (arith, q.sent); account = omega (arith, q.sent, q.off) }
 
-  step_place_moves : (w : WorldState) (h : Host) (before : List Line) (step : NodeState → Step) (o : Option ℕ) → Quiet before → Moves w (step_place w h before step o)
+  step_place_moves : (w : WorldState) (h : Host) (before : NodeState → List Line) (step : NodeState → Step) (o : Option ℕ) → ((node : NodeState) → Quiet (before node)) → Moves w (step_place w h before step o)
   unfolding step_place
   step_place_moves w h before step None b = nothing_moves w
   step_place_moves w h before step (Some at) b = step_at_moves w h before step at (slice_get w.nodes at) b
 
-  steps_move : (w : WorldState) (h : Host) (before : List Line) (step : NodeState → Step) → Quiet before → Moves w (steps w h before step)
+  steps_move : (w : WorldState) (h : Host) (before : NodeState → List Line) (step : NodeState → Step) → ((node : NodeState) → Quiet (before node)) → Moves w (steps w h before step)
   unfolding steps
   steps_move w h before step b = step_place_moves w h before step (place_of w.nodes h) b
 
-  quiet_forged : (h : Host) (r : Result PlainFrame FrameFault) → Quiet (forged h r)
-  quiet_forged h (Ok (PlainFrame.Packet p)) = quiet_one (Forged h p.family p.bound) refl refl
-  quiet_forged h (Ok (PlainFrame.Advert a)) = quiet_none
-  quiet_forged h (Ok (PlainFrame.Ask bound chunk)) = quiet_none
+  frame_quiet : (h : Host) (x : PlainFrame) → Quiet (forged_frame h x)
+  frame_quiet h (PlainFrame.Packet p) = quiet_one (Forged h p.family p.bound) refl refl
+  frame_quiet h (PlainFrame.Advert a) = quiet_none
+  frame_quiet h (PlainFrame.Ask bound chunk) = quiet_none
+
+  quiet_forged : (h : Host) (r : Result PlainStamped FrameFault) → Quiet (forged h r)
+  quiet_forged h (Ok x) = frame_quiet h x.frame
   quiet_forged h (Err e) = quiet_none
 
-  send_taken_moves : (w : WorldState) (h : Host) (d : Dev) (at : ℕ) (to : LinkEnd) (step : Step) (o : Option PlainFrame) → Moves w (send_taken w h d at to step o)
+  send_taken_moves : (w : WorldState) (h : Host) (d : Dev) (at : ℕ) (to : LinkEnd) (step : Step) (o : Option PlainStamped) → Moves w (send_taken w h d at to step o)
   unfolding send_taken
   send_taken_moves w h d at to step None = nothing_moves w
   send_taken_moves w h d at to step (Some x) =
       let q = quiet_acts h step.acts in
-      let line = Wire w.«next» (frame_bytes x) in
+      let line = Wire w.«next» (stamped_bytes x) in
       let s = line_sum-append (line_sent n) (lines_at h step.acts) (line ∷ []) in
       let one = line_sum-one (line_sent n) line in
       record {
@@ -130,7 +144,7 @@ module _ (n : ℕ) where
           one,
           line_sum-append (line_off n) (lines_at h step.acts) (line ∷ []),
           line_sum-one (line_off n) line,
-          on_wire-push w.wire (record { number = w.«next»; from = record { host = h; dev = d }; to = to; frame = x }),
+          on_wire-push w.wire (record { number = w.«next»; from = record { host = h; dev = d }; to = to; frame = x; handed = false }),
         );
       }
 
@@ -167,34 +181,45 @@ module _ (n : ℕ) where
         account = omega (arith, q.sent, q.off, s, line_sum-cons (line_off n) (Off x.number) lines, on_wire-remove w.wire place x e, ap (on_wire n) wire);
       }
 
-  deliver_at_moves : (w : WorldState) (place : ℕ) (x : Wired) (at : ℕ) (o : Option NodeState) → slice_get w.wire place ≡ Some x → Moves w (deliver_at w place x at o)
-  unfolding deliver_at
-  deliver_at_moves w place x at None e = nothing_moves w
-  deliver_at_moves w place x at (Some node) e = off_moves w place x (lines_at x.to.host (frame_step node x.to.dev x.frame).acts) _ e (quiet_acts x.to.host (frame_step node x.to.dev x.frame).acts) refl refl
+  -- a line that hands a frame which stays there, and lines behind it
+  again_moves : (w : WorldState) (place : ℕ) (x : Wired) (lines : List Line) (new : WorldState) → slice_get w.wire place ≡ Some x → Quiet lines → new.«next» ≡ w.«next» → new.wire ≡ slice_set w.wire place (as_handed x)
+      → Moves w (record { lines = Again x.number ∷ lines; world = new })
+  again_moves w place x lines new e q same wire =
+      let s = line_sum-cons (line_sent n) (Again x.number) lines in
+      record {
+        once = omega (arith, q.sent, s, ap may_go same);
+        account = omega (arith, q.sent, q.off, s, line_sum-cons (line_off n) (Again x.number) lines, on_wire-handed w.wire place x e, ap (on_wire n) wire);
+      }
 
-  deliver_to_moves : (w : WorldState) (place : ℕ) (x : Wired) (o : Option ℕ) → slice_get w.wire place ≡ Some x → Moves w (deliver_to w place x o)
-  unfolding deliver_to
-  deliver_to_moves w place x None e = nothing_moves w
-  deliver_to_moves w place x (Some at) e = deliver_at_moves w place x at (slice_get w.nodes at) e
+  hand_at_moves : (w : WorldState) (how : Handing) (place : ℕ) (x : Wired) (at : ℕ) (o : Option NodeState) → slice_get w.wire place ≡ Some x → Moves w (hand_at w how place x at o)
+  unfolding hand_at
+  hand_at_moves w how place x at None e = nothing_moves w
+  hand_at_moves w Taking place x at (Some node) e = let acts = (stamped_step node x.to.dev x.frame).acts in off_moves w place x (lines_at x.to.host acts) _ e (quiet_acts x.to.host acts) refl refl
+  hand_at_moves w Leaving place x at (Some node) e = let acts = (stamped_step node x.to.dev x.frame).acts in again_moves w place x (lines_at x.to.host acts) _ e (quiet_acts x.to.host acts) refl refl
 
-  deliver_frame_moves : (w : WorldState) (place : ℕ) (o : Option Wired) → slice_get w.wire place ≡ o → Moves w (deliver_frame w place o)
-  unfolding deliver_frame
-  deliver_frame_moves w place None e = nothing_moves w
-  deliver_frame_moves w place (Some x) e = deliver_to_moves w place x (place_of w.nodes x.to.host) e
+  hand_to_moves : (w : WorldState) (how : Handing) (place : ℕ) (x : Wired) (o : Option ℕ) → slice_get w.wire place ≡ Some x → Moves w (hand_to w how place x o)
+  unfolding hand_to
+  hand_to_moves w how place x None e = nothing_moves w
+  hand_to_moves w how place x (Some at) e = hand_at_moves w how place x at (slice_get w.nodes at) e
 
-  deliver_place_moves : (w : WorldState) (o : Option ℕ) → Moves w (deliver_place w o)
-  unfolding deliver_place
-  deliver_place_moves w None = nothing_moves w
-  deliver_place_moves w (Some place) = deliver_frame_moves w place (slice_get w.wire place) refl
+  hand_frame_moves : (w : WorldState) (how : Handing) (place : ℕ) (o : Option Wired) → slice_get w.wire place ≡ o → Moves w (hand_frame w how place o)
+  unfolding hand_frame
+  hand_frame_moves w how place None e = nothing_moves w
+  hand_frame_moves w how place (Some x) e = hand_to_moves w how place x (place_of w.nodes x.to.host) e
 
-  delivers_move : (w : WorldState) (number : ℕ) → Moves w (delivers w number)
-  unfolding delivers
-  delivers_move w number = deliver_place_moves w (wire_place w.wire number)
+  hand_place_moves : (w : WorldState) (how : Handing) (o : Option ℕ) → Moves w (hand_place w how o)
+  unfolding hand_place
+  hand_place_moves w how None = nothing_moves w
+  hand_place_moves w how (Some place) = hand_frame_moves w how place (slice_get w.wire place) refl
+
+  hands_move : (w : WorldState) (how : Handing) (number : ℕ) → Moves w (hands w how number)
+  unfolding hands
+  hands_move w how number = hand_place_moves w how (wire_place w.wire number)
 
   lose_frame_moves : (w : WorldState) (place : ℕ) (o : Option Wired) → slice_get w.wire place ≡ o → Moves w (lose_frame w place o)
   unfolding lose_frame
   lose_frame_moves w place None e = nothing_moves w
-  lose_frame_moves w place (Some x) e = off_moves w place x (Lost (what_of x.frame) ∷ []) _ e (quiet_one (Lost (what_of x.frame)) refl refl) refl refl
+  lose_frame_moves w place (Some x) e = off_moves w place x (Lost (what_of x.frame.frame) ∷ []) _ e (quiet_one (Lost (what_of x.frame.frame)) refl refl) refl refl
 
   lose_place_moves : (w : WorldState) (o : Option ℕ) → Moves w (lose_place w o)
   unfolding lose_place
@@ -206,12 +231,13 @@ module _ (n : ℕ) where
   loses_move w number = lose_place_moves w (wire_place w.wire number)
 
   acted_moves : (w : WorldState) (e : WorldEvent) → Moves w (acted w e)
-  acted_moves w (Inject h chunk bound) = steps_move w h [] (λ node. inject_step [] node chunk bound) quiet_none
+  acted_moves w (Inject h chunk bound handler) = steps_move w h none_before (λ node. inject_step [] node chunk bound handler) (λ node. quiet_none)
   acted_moves w (Send h d) = sends_move w h d
-  acted_moves w (Deliver number) = delivers_move w number
+  acted_moves w (Deliver number) = hands_move w Taking number
+  acted_moves w (Repeat number) = hands_move w Leaving number
   acted_moves w (Lose number) = loses_move w number
-  acted_moves w (Tick h) = steps_move w h [] tick_step quiet_none
-  acted_moves w (Raw h d bytes) = steps_move w h (forged h (frame_of bytes)) (λ node. arrive_step node d bytes) (quiet_forged h (frame_of bytes))
+  acted_moves w (Tick h) = steps_move w h none_before tick_step (λ node. quiet_none)
+  acted_moves w (Raw h d bytes) = steps_move w h (forged_at h bytes) (λ node. arrive_step node d bytes) (λ node. quiet_forged h (read_by node.version bytes))
 
   -- a run
   record RunMoves (history : List Entry) (old new : WorldState) : Type 0 where
@@ -256,26 +282,26 @@ record Leads (w : WorldState) (h : EventResult) : Type 0 where
 nothing_leads : (w : WorldState) → WireLeads w.links w.wire → Leads w (nothing w)
 nothing_leads w k = record { links = refl; wire = k }
 
-step_at_leads : (w : WorldState) (h : Host) (before : List Line) (step : NodeState → Step) (at : ℕ) (o : Option NodeState) → WireLeads w.links w.wire → Leads w (step_at w h before step at o)
+step_at_leads : (w : WorldState) (h : Host) (before : NodeState → List Line) (step : NodeState → Step) (at : ℕ) (o : Option NodeState) → WireLeads w.links w.wire → Leads w (step_at w h before step at o)
 unfolding step_at
 step_at_leads w h before step at None k = nothing_leads w k
 step_at_leads w h before step at (Some node) k = record { links = refl; wire = k }
 
-step_place_leads : (w : WorldState) (h : Host) (before : List Line) (step : NodeState → Step) (o : Option ℕ) → WireLeads w.links w.wire → Leads w (step_place w h before step o)
+step_place_leads : (w : WorldState) (h : Host) (before : NodeState → List Line) (step : NodeState → Step) (o : Option ℕ) → WireLeads w.links w.wire → Leads w (step_place w h before step o)
 unfolding step_place
 step_place_leads w h before step None k = nothing_leads w k
 step_place_leads w h before step (Some at) k = step_at_leads w h before step at (slice_get w.nodes at) k
 
-steps_lead : (w : WorldState) (h : Host) (before : List Line) (step : NodeState → Step) → WireLeads w.links w.wire → Leads w (steps w h before step)
+steps_lead : (w : WorldState) (h : Host) (before : NodeState → List Line) (step : NodeState → Step) → WireLeads w.links w.wire → Leads w (steps w h before step)
 unfolding steps
 steps_lead w h before step k = step_place_leads w h before step (place_of w.nodes h) k
 
-send_taken_leads : (w : WorldState) (h : Host) (d : Dev) (at : ℕ) (to : LinkEnd) (step : Step) (o : Option PlainFrame) → far_end w.links h d ≡ Some to → WireLeads w.links w.wire → Leads w (send_taken w h d at to step o)
+send_taken_leads : (w : WorldState) (h : Host) (d : Dev) (at : ℕ) (to : LinkEnd) (step : Step) (o : Option PlainStamped) → far_end w.links h d ≡ Some to → WireLeads w.links w.wire → Leads w (send_taken w h d at to step o)
 unfolding send_taken
 send_taken_leads w h d at to step None e k = nothing_leads w k
 send_taken_leads w h d at to step (Some x) e k = record {
   links = refl;
-  wire = All-push (λ (y : Wired). far_end w.links y.from.host y.from.dev ≡ Some y.to) w.wire (record { number = w.«next»; from = record { host = h; dev = d }; to = to; frame = x }) k e;
+  wire = All-push (λ (y : Wired). far_end w.links y.from.host y.from.dev ≡ Some y.to) w.wire (record { number = w.«next»; from = record { host = h; dev = d }; to = to; frame = x; handed = false }) k e;
 }
 
 send_at_leads : (w : WorldState) (h : Host) (d : Dev) (at : ℕ) (to : LinkEnd) (o : Option NodeState) → far_end w.links h d ≡ Some to → WireLeads w.links w.wire → Leads w (send_at w h d at to o)
@@ -304,29 +330,33 @@ sends_lead w h d k = send_place_leads w h d (place_of w.nodes h) k
 abbrev LeadsOn : Cables → Wired → Type 0
 LeadsOn links x = far_end links x.from.host x.from.dev ≡ Some x.to
 
-deliver_at_leads : (w : WorldState) (place : ℕ) (x : Wired) (at : ℕ) (o : Option NodeState) → WireLeads w.links w.wire → Leads w (deliver_at w place x at o)
-unfolding deliver_at
-deliver_at_leads w place x at None k = nothing_leads w k
-deliver_at_leads w place x at (Some node) k = record { links = refl; wire = All-remove (LeadsOn w.links) w.wire place k }
+wire_leads : (links : Cables) (how : Handing) (wire : List Wired) (place : ℕ) (x : Wired) → slice_get wire place ≡ Some x → WireLeads links wire → WireLeads links (wire_after how wire place x)
+wire_leads links Taking wire place x e k = All-remove (LeadsOn links) wire place k
+wire_leads links Leaving wire place x e k = All-set (LeadsOn links) wire place (as_handed x) (at_place (LeadsOn links) wire place x e k) k
 
-deliver_to_leads : (w : WorldState) (place : ℕ) (x : Wired) (o : Option ℕ) → WireLeads w.links w.wire → Leads w (deliver_to w place x o)
-unfolding deliver_to
-deliver_to_leads w place x None k = nothing_leads w k
-deliver_to_leads w place x (Some at) k = deliver_at_leads w place x at (slice_get w.nodes at) k
+hand_at_leads : (w : WorldState) (how : Handing) (place : ℕ) (x : Wired) (at : ℕ) (o : Option NodeState) → slice_get w.wire place ≡ Some x → WireLeads w.links w.wire → Leads w (hand_at w how place x at o)
+unfolding hand_at
+hand_at_leads w how place x at None e k = nothing_leads w k
+hand_at_leads w how place x at (Some node) e k = record { links = refl; wire = wire_leads w.links how w.wire place x e k }
 
-deliver_frame_leads : (w : WorldState) (place : ℕ) (o : Option Wired) → WireLeads w.links w.wire → Leads w (deliver_frame w place o)
-unfolding deliver_frame
-deliver_frame_leads w place None k = nothing_leads w k
-deliver_frame_leads w place (Some x) k = deliver_to_leads w place x (place_of w.nodes x.to.host) k
+hand_to_leads : (w : WorldState) (how : Handing) (place : ℕ) (x : Wired) (o : Option ℕ) → slice_get w.wire place ≡ Some x → WireLeads w.links w.wire → Leads w (hand_to w how place x o)
+unfolding hand_to
+hand_to_leads w how place x None e k = nothing_leads w k
+hand_to_leads w how place x (Some at) e k = hand_at_leads w how place x at (slice_get w.nodes at) e k
 
-deliver_place_leads : (w : WorldState) (o : Option ℕ) → WireLeads w.links w.wire → Leads w (deliver_place w o)
-unfolding deliver_place
-deliver_place_leads w None k = nothing_leads w k
-deliver_place_leads w (Some place) k = deliver_frame_leads w place (slice_get w.wire place) k
+hand_frame_leads : (w : WorldState) (how : Handing) (place : ℕ) (o : Option Wired) → slice_get w.wire place ≡ o → WireLeads w.links w.wire → Leads w (hand_frame w how place o)
+unfolding hand_frame
+hand_frame_leads w how place None e k = nothing_leads w k
+hand_frame_leads w how place (Some x) e k = hand_to_leads w how place x (place_of w.nodes x.to.host) e k
 
-delivers_lead : (w : WorldState) (number : ℕ) → WireLeads w.links w.wire → Leads w (delivers w number)
-unfolding delivers
-delivers_lead w number k = deliver_place_leads w (wire_place w.wire number) k
+hand_place_leads : (w : WorldState) (how : Handing) (o : Option ℕ) → WireLeads w.links w.wire → Leads w (hand_place w how o)
+unfolding hand_place
+hand_place_leads w how None k = nothing_leads w k
+hand_place_leads w how (Some place) k = hand_frame_leads w how place (slice_get w.wire place) refl k
+
+hands_lead : (w : WorldState) (how : Handing) (number : ℕ) → WireLeads w.links w.wire → Leads w (hands w how number)
+unfolding hands
+hands_lead w how number k = hand_place_leads w how (wire_place w.wire number) k
 
 lose_frame_leads : (w : WorldState) (place : ℕ) (o : Option Wired) → WireLeads w.links w.wire → Leads w (lose_frame w place o)
 unfolding lose_frame
@@ -343,12 +373,13 @@ unfolding loses
 loses_lead w number k = lose_place_leads w (wire_place w.wire number) k
 
 acted_leads : (w : WorldState) (e : WorldEvent) → WireLeads w.links w.wire → Leads w (acted w e)
-acted_leads w (Inject h chunk bound) k = steps_lead w h [] (λ node. inject_step [] node chunk bound) k
+acted_leads w (Inject h chunk bound handler) k = steps_lead w h none_before (λ node. inject_step [] node chunk bound handler) k
 acted_leads w (Send h d) k = sends_lead w h d k
-acted_leads w (Deliver number) k = delivers_lead w number k
+acted_leads w (Deliver number) k = hands_lead w Taking number k
+acted_leads w (Repeat number) k = hands_lead w Leaving number k
 acted_leads w (Lose number) k = loses_lead w number k
-acted_leads w (Tick h) k = steps_lead w h [] tick_step k
-acted_leads w (Raw h d bytes) k = steps_lead w h (forged h (frame_of bytes)) (λ node. arrive_step node d bytes) k
+acted_leads w (Tick h) k = steps_lead w h none_before tick_step k
+acted_leads w (Raw h d bytes) k = steps_lead w h (forged_at h bytes) (λ node. arrive_step node d bytes) k
 
 run_leads : (es : List WorldEvent) (w : WorldState) → WireLeads w.links w.wire → ((world_after es w).links ≡ w.links) × WireLeads w.links (world_after es w).wire
 unfolding world_after

@@ -5,6 +5,7 @@
 mod laws;
 
 pub use laws::{
-    contexts_are_ordered, events_keep, frames_lead_over_links, numbers_go_once, openings_are_sound,
-    runs_are_bounded, runs_are_granted, runs_balance, visits_end_well,
+    contexts_are_ordered, events_balance, events_keep, frames_lead_over_links, numbers_go_once,
+    openings_are_sound, runs_are_bounded, runs_are_granted, runs_balance, runs_tell_handings,
+    visits_end_well,
 };

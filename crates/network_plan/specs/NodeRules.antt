@@ -1,10 +1,13 @@
 -- What plans of nodes keep.
-use Rattle.std.specs.Prelude.{◌≡◌, ◌≢◌, ℕ, ◌+◌, ◌≤◌, ◌<◌, ◌^◌, true, List, [], ◌∷◌, length, map}
+use Rattle.std.specs.Prelude.{◌≡◌, ◌≢◌, ℕ, ◌+◌, ◌≤◌, ◌<◌, ◌^◌, true, List, [], ◌∷◌, Option, length, map}
 use Rattle.std.specs.List.{All}
 use Rattle.plan_base.specs.declared.ids.Host.{Host}
 use Rattle.plan_base.specs.declared.ids.Dev.{Dev}
+use Rattle.plan_base.specs.declared.name.Name.{Name}
 use Rattle.plan_base.specs.declared.tree.Chunk.{Chunk}
 use Rattle.plan_base.specs.Sizes.{chunk_weight}
+use Rattle.link_window.specs.declared.window.Version.{Version}
+use Rattle.link_window.specs.declared.window.Version.TheVariants.{One, Two}
 use Rattle.network_plan.specs.declared.event.Event.{Event}
 use Rattle.network_plan.specs.declared.event.Event.TheVariants as events
 use Rattle.network_plan.specs.declared.event.LogEvent.{LogEvent}
@@ -18,7 +21,7 @@ use Rattle.network_plan.specs.declared.fleet.Kid.{Kid}
 use Rattle.network_plan.specs.declared.fleet.Kid.TheVariants as kids
 use Rattle.network_plan.specs.Hosts.{is_listed}
 use Rattle.network_plan.specs.FileNames.{is_file_name}
-use Rattle.network_plan.specs.Rules.{PackagesDiffer, IsLinkDevice, KeepsInjection, MayArrive}
+use Rattle.network_plan.specs.Rules.{PackagesDiffer, IsLinkDevice, IsInjection, KeepsInjection, MayArrive}
 
 -- each host is above all before it
 abbrev pub Ascend : List Host → Type 0
@@ -36,6 +39,16 @@ pub record IsNeighbour (here : Host) (hosts : List Host) (n : Host × Dev) : Typ
   pub apart : n.0.0 ≢ here.0
   pub device : IsLinkDevice n.1
 
+-- the number of the first frame of each device, where a file begins a node
+abbrev pub first_link : Version → ℕ
+first_link One = 0
+first_link Two = 1
+
+-- a node of version 2 begins at a moment, one of version 1 at none
+abbrev pub KeepsBoot : Version → ℕ → Type 0
+KeepsBoot One boot = boot ≡ 0
+KeepsBoot Two boot = boot < 2 ^ 64
+
 -- how a node may begin
 pub record KeepsNode (n : NodeConfig) : Type 0 where
   pub few : length n.hosts ≤ 32
@@ -45,27 +58,30 @@ pub record KeepsNode (n : NodeConfig) : Type 0 where
   pub neighbours : All (IsNeighbour n.here n.hosts) n.neighbours
   pub devices : DevicesAscend n.neighbours
   pub serial : n.serial < 2 ^ 64
+  pub boot : KeepsBoot n.version n.boot
+  pub link : n.link < 2 ^ 64
 
--- an event of a node keeps the limits
-abbrev pub KeepsNodeEvent : Event → Type 0
-KeepsNodeEvent (events.Inject chunk bound) = KeepsInjection chunk bound
-KeepsNodeEvent (events.Frame d bytes) = (d.0 ≤ 8) × MayArrive bytes
-KeepsNodeEvent (events.Control bytes) = MayArrive bytes
-KeepsNodeEvent events.Tick = Unit {0}
-KeepsNodeEvent (events.Take d) = d.0 ≤ 8
+-- an event of a node of this version keeps the limits
+abbrev pub KeepsNodeEvent : Version → Event → Type 0
+KeepsNodeEvent version (events.Inject chunk bound handler) = KeepsInjection version chunk bound handler
+KeepsNodeEvent version (events.Frame d bytes) = (d.0 ≤ 8) × MayArrive bytes
+KeepsNodeEvent version (events.Control bytes) = MayArrive bytes
+KeepsNodeEvent version events.Tick = Unit {0}
+KeepsNodeEvent version (events.Take d) = d.0 ≤ 8
 
 -- an entry of a log keeps the limits
-abbrev pub KeepsEntry : LogEvent → Type 0
-KeepsEntry (logged.Step e) = KeepsNodeEvent e
-KeepsEntry logged.Lost = Unit {0}
+abbrev pub KeepsEntry : Version → LogEvent → Type 0
+KeepsEntry version (logged.Step e) = KeepsNodeEvent version e
+KeepsEntry version logged.Lost = Unit {0}
 
 -- a log within its limits
 pub record KeepsLog (l : Log) : Type 0 where
   pub node : KeepsNode l.node
   pub serial : l.node.serial ≡ 1
+  pub link : l.node.link ≡ first_link l.node.version
   pub missing : PackagesDiffer l.missing
   pub few : length l.events ≤ 50000
-  pub events : All KeepsEntry l.events
+  pub events : All (KeepsEntry l.node.version) l.events
 
 -- a port is not 0
 abbrev pub IsPort : ℕ → Type 0
@@ -77,11 +93,11 @@ PortsDiffer [] = Unit {0}
 PortsDiffer (p ∷ ps) = All (λ q. q ≢ p) ps × PortsDiffer ps
 
 -- an injection at a turn keeps the limits
-abbrev pub KeepsInject : ℕ × ℕ × Chunk → Type 0
-KeepsInject i = (1 ≤ i.0) × (i.0 ≤ 1000000) × KeepsInjection i.2 i.1
+abbrev pub KeepsInject : Version → ℕ × ℕ × Chunk × Option Name → Type 0
+KeepsInject version i = (1 ≤ i.0) × (i.0 ≤ 1000000) × KeepsInjection version i.2 i.1 i.3
 
 -- the weights of what is injected in sum, each chunk as a value, its tag counted
-abbrev pub weights : List (ℕ × ℕ × Chunk) → ℕ
+abbrev pub weights : List (ℕ × ℕ × Chunk × Option Name) → ℕ
 weights [] = 0
 weights (i ∷ is) = 1 + chunk_weight i.2 + weights is
 
@@ -89,20 +105,21 @@ weights (i ∷ is) = 1 + chunk_weight i.2 + weights is
 pub record KeepsServe (c : ServeConfig) : Type 0 where
   pub node : KeepsNode c.node
   pub serial : c.node.serial ≡ 1
+  pub link : c.node.link ≡ first_link c.node.version
   pub missing : PackagesDiffer c.missing
   pub period : (1 ≤ c.period) × (c.period ≤ 60000)
   pub log : is_file_name c.log ≡ true
   pub devices : map (λ d. d.0) c.devs ≡ map (λ n. n.1) c.node.neighbours
   pub ports : All IsPort (c.port ∷ c.control ∷ map (λ d. d.1) c.devs)
   pub apart : PortsDiffer (c.port ∷ c.control ∷ map (λ d. d.1) c.devs)
-  pub injects : All KeepsInject c.at
+  pub injects : All (KeepsInject c.node.version) c.at
   pub weight : weights c.at ≤ 16777216
 
 -- a request within its limits
 pub record KeepsAsk (a : AskFile) : Type 0 where
   pub to : IsPort a.to
   pub from : IsPort a.from
-  pub injection : KeepsInjection a.chunk a.bound
+  pub injection : IsInjection a.chunk a.bound
 
 -- a child of a fleet
 abbrev pub KeepsKid : Kid → Type 0

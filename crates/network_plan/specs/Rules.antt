@@ -1,11 +1,15 @@
 -- What plans of networks keep.
-use Rattle.std.specs.Prelude.{◌≡◌, ◌≢◌, ℕ, ◌+◌, ◌≤◌, ◌<◌, ◌^◌, true, false, List, [], ◌∷◌, length, get_or}
+use Rattle.std.specs.Prelude.{◌≡◌, ◌≢◌, ℕ, ◌+◌, ◌≤◌, ◌<◌, ◌^◌, true, false, List, [], ◌∷◌, Option, None, length, get_or}
 use Rattle.std.specs.List.{All}
 use Rattle.plan_base.specs.declared.ids.Dev.{Dev}
+use Rattle.plan_base.specs.declared.name.Name.{Name}
 use Rattle.plan_base.specs.declared.tree.Chunk.{Chunk}
+use Rattle.typing_rules.specs.Handlers.{MayHandle}
 use Rattle.plan_base.specs.Sizes.{chunk_weight}
 use Rattle.chunk_types.specs.Chunks.{IsCheckedChunk}
 use Rattle.service_api.specs.declared.package.PackageName.{PackageName}
+use Rattle.link_window.specs.declared.window.Version.{Version}
+use Rattle.link_window.specs.declared.window.Version.TheVariants.{One, Two}
 use Rattle.network_plan.specs.declared.schedule.HostSpec.{HostSpec}
 use Rattle.network_plan.specs.declared.schedule.Topology.{Topology}
 use Rattle.network_plan.specs.declared.schedule.Schedule.{Schedule}
@@ -49,9 +53,18 @@ pub record KeepsNetwork (t : Topology) : Type 0 where
   pub links : All (KeepsLink t.hosts) t.links
   pub apart : LinksApart t.links
 
--- what is injected: a typed chunk with a bound of at most 65,535
-abbrev pub KeepsInjection : Chunk → ℕ → Type 0
-KeepsInjection chunk bound = (bound ≤ 65535) × IsCheckedChunk chunk
+-- a typed chunk with a bound of at most 65,535
+abbrev pub IsInjection : Chunk → ℕ → Type 0
+IsInjection chunk bound = (bound ≤ 65535) × IsCheckedChunk chunk
+
+-- version 1 has no handlers; under version 2 one may be named that may handle
+abbrev pub MayName : Version → Chunk → Option Name → Type 0
+MayName One chunk handler = handler ≡ None
+MayName Two chunk handler = MayHandle chunk handler
+
+-- what is injected: a typed chunk with a bound of at most 65,535, and its handler
+abbrev pub KeepsInjection : Version → Chunk → ℕ → Option Name → Type 0
+KeepsInjection version chunk bound handler = IsInjection chunk bound × MayName version chunk handler
 
 -- bytes that may arrive: the longest frame and one byte more, so that a frame that is too long is seen
 pub record MayArrive (bytes : List ℕ) : Type 0 where
@@ -59,24 +72,25 @@ pub record MayArrive (bytes : List ℕ) : Type 0 where
   pub few : length bytes ≤ 16513
   pub are_bytes : (i : ℕ) → get_or bytes i 0 < 256
 
--- an event of a network is at one of its hosts, and what it hands in keeps the limits
-abbrev pub KeepsEvent : List HostSpec → WorldEvent → Type 0
-KeepsEvent hosts (happens.Inject h chunk bound) = (has_host h hosts ≡ true) × KeepsInjection chunk bound
-KeepsEvent hosts (happens.Send h d) = (has_host h hosts ≡ true) × (d.0 ≤ 8)
-KeepsEvent hosts (happens.Deliver k) = k < 2 ^ 32
-KeepsEvent hosts (happens.Lose k) = k < 2 ^ 32
-KeepsEvent hosts (happens.Tick h) = has_host h hosts ≡ true
-KeepsEvent hosts (happens.Raw h d bytes) = (has_host h hosts ≡ true) × (d.0 ≤ 8) × MayArrive bytes
+-- an event is at a host of its network, what it hands in keeps the limits, and version 2 alone repeats
+abbrev pub KeepsEvent : Version → List HostSpec → WorldEvent → Type 0
+KeepsEvent version hosts (happens.Inject h chunk bound handler) = (has_host h hosts ≡ true) × KeepsInjection version chunk bound handler
+KeepsEvent version hosts (happens.Send h d) = (has_host h hosts ≡ true) × (d.0 ≤ 8)
+KeepsEvent version hosts (happens.Deliver k) = k < 2 ^ 32
+KeepsEvent version hosts (happens.Repeat k) = (version ≡ Two) × (k < 2 ^ 32)
+KeepsEvent version hosts (happens.Lose k) = k < 2 ^ 32
+KeepsEvent version hosts (happens.Tick h) = has_host h hosts ≡ true
+KeepsEvent version hosts (happens.Raw h d bytes) = (has_host h hosts ≡ true) × (d.0 ≤ 8) × MayArrive bytes
 
 -- the weights of all injected chunks as values, in sum
 abbrev pub weights : List WorldEvent → ℕ
 weights [] = 0
-weights (happens.Inject h chunk bound ∷ es) = 1 + chunk_weight chunk + weights es
+weights (happens.Inject h chunk bound handler ∷ es) = 1 + chunk_weight chunk + weights es
 weights (_ ∷ es) = weights es
 
 -- a schedule within its limits
 pub record KeepsRules (s : Schedule) : Type 0 where
   pub network : KeepsNetwork s.topology
   pub few : length s.events ≤ 50000
-  pub events : All (KeepsEvent s.topology.hosts) s.events
+  pub events : All (KeepsEvent s.topology.version s.topology.hosts) s.events
   pub weight : weights s.events ≤ 16777216

@@ -1,5 +1,5 @@
 use chunk_types::CheckedChunk;
-use plan_base::{Bytes, Dev, Host};
+use plan_base::{Bytes, Dev, Host, Name};
 use plan_items::Items;
 
 /// A list of events of a network.
@@ -8,12 +8,14 @@ pub type WorldEvents = Items<WorldEvent>;
 /// What happens to a network at one moment.
 #[derive(Drop)]
 pub enum WorldEvent {
-    /// A typed chunk is injected at a host with a bound of at most 65,535.
-    Inject(Host, CheckedChunk, u32),
+    /// A typed chunk is injected at a host with a bound of at most 65,535 and its handler, under version 2 alone.
+    Inject(Host, CheckedChunk, u32, Option<Name>),
     /// A host sends the first frame queued on a device, from 0 to 8.
     Send(Host, Dev),
     /// The frame with this number is taken off the wire and arrives.
     Deliver(u32),
+    /// The frame with this number arrives, and stays on the wire: in a network of version 2 alone.
+    Repeat(u32),
     /// The frame with this number is taken off the wire and is lost.
     Lose(u32),
     /// A host's time goes on by one.
@@ -25,8 +27,8 @@ pub enum WorldEvent {
 /// What happens to one node at one moment.
 #[derive(Drop)]
 pub enum Event {
-    /// A typed chunk is injected with a bound of at most 65,535.
-    Inject(CheckedChunk, u32),
+    /// A typed chunk is injected with a bound of at most 65,535 and its handler, under version 2 alone.
+    Inject(CheckedChunk, u32, Option<Name>),
     /// These bytes, 1 to 16,513, arrive on a device, from 0 to 8.
     Frame(Dev, Bytes),
     /// These bytes, 1 to 16,513, arrive from the node's owner.

@@ -1,4 +1,8 @@
+ghost use Rattle.std.specs.Prelude.{◌≡◌};
+ghost use Rattle.network_plan.specs.NodeRules as spec;
+
 use crate::event::LogEvents;
+use link_window::Version;
 use plan_base::Host;
 use plan_items::Items;
 use service_api::{Neighbours, Packages};
@@ -17,6 +21,22 @@ pub struct NodeConfig {
     pub neighbours: Neighbours,
     /// The serial number of its next injection.
     pub serial: u64,
+    /// Its version.
+    pub version: Version,
+    /// The moment at which it begins, 0 under version 1.
+    pub boot: u64,
+    /// The number of the first frame of each device, 0 under version 1.
+    pub link: u64,
+}
+
+/// The number of the first frame of each device, where a file begins a node.
+pub fn first_link(version: Version) -> u64
+    ensures { result ≡ spec.first_link version }
+{
+    match version {
+        Version::One => 0,
+        Version::Two => 1,
+    }
 }
 
 /// The log of a node: how it began, with serial number 1, and what happened to it.

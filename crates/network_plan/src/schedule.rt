@@ -1,4 +1,5 @@
 use crate::event::WorldEvents;
+use link_window::Version;
 use plan_base::{Dev, Host};
 use plan_items::Items;
 use service_api::Packages;
@@ -21,6 +22,8 @@ pub struct Topology {
     pub hosts: HostSpecs,
     /// The links in the order of their lines.
     pub links: Links,
+    /// The version of its nodes.
+    pub version: Version,
 }
 
 /// A list of hosts.

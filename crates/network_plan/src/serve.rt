@@ -1,14 +1,15 @@
 use crate::node::NodeConfig;
 use chunk_types::CheckedChunk;
-use plan_base::{Dev, Text};
+use plan_base::{Dev, Name, Text};
 use plan_items::Items;
 use service_api::Packages;
 
 /// The ports at which the neighbours listen, each with its device, by device.
 pub type DevPorts = Items<(Dev, u16)>;
 
-/// An injection of a serving node: the turn, from 1 to 1,000,000, the bound, at most 65,535, and what is injected.
-pub type Inject = (u32, u32, CheckedChunk);
+/// An injection of a serving node: the turn, from 1 to 1,000,000, the bound, at most 65,535, what is injected, and its
+/// handler, under version 2 alone.
+pub type Inject = (u32, u32, CheckedChunk, Option<Name>);
 
 /// A list of injections of a serving node.
 pub type Injects = Items<Inject>;

@@ -1,5 +1,8 @@
--- One frame more to be queued.
-use Rattle.std.proofs.Common.{◌≡◌, ℕ, List, [], ◌∷◌, ◌++◌, refl, ap}
+-- One frame more to be queued, and what any frame may carry.
+use Rattle.std.proofs.Common.{◌≡◌, ℕ, List, [], ◌∷◌, ◌++◌, Option, Some, None, refl, ap}
+use Rattle.link_window.specs.declared.window.Stamp.{Stamp}
+use Rattle.plan_base.specs.declared.name.Name.{Name}
+use Rattle.spelled_frame.specs.Spelled.{MayCarry}
 use Rattle.node_model.specs.declared.acts.Sending.{Sending}
 use Rattle.node_model.specs.State.{Queues}
 use Rattle.node_model.specs.Node.{send_act, send_queues, sends_acts, sends_queues}
@@ -21,3 +24,8 @@ pub sends_queues_more : (queues : Queues) (ss : List Sending) (s : Sending) → 
 unfolding sends_queues
 sends_queues_more queues [] s = refl
 sends_queues_more queues (x ∷ ss) s = sends_queues_more (send_queues queues x) ss s
+
+-- a packet without a handler goes in a frame with a stamp and in one without
+pub plain_carried : (m : Option Stamp) (h : Option Name) → h ≡ None → MayCarry m h
+plain_carried None h e = e
+plain_carried (Some s) h e = tt

@@ -1,18 +1,31 @@
--- The node after an injection, and what a reading answers.
-use Rattle.std.proofs.Common.{◌≡◌, ◌≢◌, ◌+◌, ◌≤◌, ◌<◌, ◌++◌, ℕ, List, [], ◌∷◌, Bool, true, false, cond, ap, refl, sym, ◌∙◌, subst, arith, inl, inr}
+-- The node after an injection and after an arrival, and what a reading answers.
+use Rattle.std.proofs.Common.{◌≡◌, ◌≢◌, ◌+◌, ◌≤◌, ◌<◌, ◌++◌, ℕ, List, [], ◌∷◌, Bool, true, false, cond, Option, Some, ap, refl, sym, ◌∙◌, subst, arith, inl, inr}
 use Rattle.std.proofs.lemmas.Bool.Decides.{nat_tests}
 use Rattle.std.specs.Prelude.{◌==◌, ◌⊎◌, Result, Ok, Err, IfOk, IfErr, None}
 use Rattle.plan_base.specs.declared.ids.Host.{Host}
+use Rattle.plan_base.specs.declared.ids.Dev.{Dev}
+use Rattle.plan_base.specs.declared.name.Name.{Name}
 use Rattle.plan_base.specs.declared.tree.Chunk.{Chunk}
 use Rattle.plan_base.specs.declared.tree.Packet.{Packet}
+use Rattle.typing_rules.specs.Handlers.{MayHandle}
 use Rattle.wire_bytes.specs.Fields.{IsBytes}
-use Rattle.packet_frame.specs.declared.checked.Frame.{Frame}
+use Rattle.link_window.specs.declared.window.Stamp.{Stamp}
+use Rattle.link_window.specs.declared.window.Version.{Version}
+use Rattle.link_window.specs.declared.window.Version.TheVariants.{One, Two}
+use Rattle.link_window.specs.declared.window.Took.{Took}
+use Rattle.link_window.specs.declared.window.Took.TheVariants.{Fresh}
+use Rattle.packet_frame.specs.declared.checked.Stamped.{Stamped}
 use Rattle.packet_frame.specs.declared.frame.PlainFrame.{PlainFrame}
+use Rattle.packet_frame.specs.declared.frame.PlainStamped.{PlainStamped}
 use Rattle.packet_frame.specs.declared.fault.FrameFault.{FrameFault}
-use Rattle.packet_frame.specs.Forms.{IsPlain}
+use Rattle.packet_frame.specs.Forms.{FrameFits}
 use Rattle.packet_frame.specs.Typed.{plain_of, Accepts, FrameFirst}
-use Rattle.packet_frame.specs.Decoding.{frame_of}
-use Rattle.packet_frame.proofs.OneAnswer.{accepts_is, first_is}
+use Rattle.packet_frame.specs.Stamped.{AcceptsBy, StampedFirst, stamped_plain}
+use Rattle.packet_frame.specs.Decoding.{unstamped, read_by}
+use Rattle.packet_frame.proofs.OneAnswer.{first_is}
+use Rattle.packet_frame.proofs.Versions.{accepted_by, refused_by_two}
+use Rattle.spelled_frame.specs.Spelled.{what_of, MayCarry}
+use Rattle.spelled_frame.proofs.Reading.{one_accepted}
 use Rattle.service_api.specs.declared.advert.Advert.{Advert}
 use Rattle.service_api.specs.Adverts.{AdvertFits}
 use Rattle.service_api.specs.Services.{ServiceState}
@@ -21,14 +34,16 @@ use Rattle.dv_routing.specs.declared.table.Table.{Table}
 use Rattle.dv_routing.specs.Routing.{Routing, own_advert}
 use Rattle.dv_routing.specs.Stands.{Stands}
 use Rattle.dv_routing.proofs.Rows.{advert_fits}
+use Rattle.network_plan.specs.Rules.{MayName}
 use Rattle.node_model.specs.declared.acts.Act.{Act}
-use Rattle.node_model.specs.declared.acts.Act.TheVariants.{Injected, SerialsSpent}
+use Rattle.node_model.specs.declared.acts.Act.TheVariants.{Injected, Arrived, Stale, SerialsSpent}
 use Rattle.node_model.specs.declared.acts.Acts.{Acts}
 use Rattle.node_model.specs.State.{NodeState}
-use Rattle.node_model.specs.Node.{next_serial, injected_packet, visited, inject_step, stepped}
-use Rattle.node_core.specs.declared.node.Node.{Node}
+use Rattle.node_model.specs.Node.{next_serial, injected_packet, visited, inject_step, stepped, mark_of, mark, takes_as, seen_then, with_seen, frame_step, only_acts, stamped_as, stamped_step}
+use Rattle.node_laws.proofs.Staying.{frame_stays}
 use Rattle.node_core.specs.Heard.{IsHeard}
-use Rattle.node_core.specs.Stands.{NodeStands, IsStep, own_family, own_packet, asks_within}
+use Rattle.node_core.specs.Stands.{NodeStands, IsStep, MayGoOn, mark_on, own_family, own_packet, asks_within}
+use Rattle.node_core.specs.declared.node.Node.{Node}
 
 -- ---- injections
 
@@ -39,6 +54,10 @@ last_false : (n : ℕ) → n ≢ 18446744073709551615 → (n == 1844674407370955
 last_false n e = grind (arith, nat_tests)
 
 module _ {S : Type 0} (stands : S → ServiceState) where
+  -- what a node's frames bear is what those of its state bear
+  pub mark_stands : (n : Node S) (s : NodeState) → NodeStands stands n s → mark_on n ≡ mark s
+  mark_stands n s h = λ i. mark_of (h.version i) (h.boot i)
+
   -- a visit, and then the next serial number
   pub injected : (before : List Act) (s : NodeState) (p : Packet) (acts : Acts) (mid : Node S) (serial : ℕ) → serial ≡ mid.serial + 1
       → IsStep stands (visited before s p) acts mid → IsStep stands (visited before (next_serial s) p) acts (record mid { serial = serial })
@@ -51,72 +70,139 @@ module _ {S : Type 0} (stands : S → ServiceState) where
       routes = h.node.routes;
       neighbours = h.node.neighbours;
       services = h.node.services;
+      version = h.node.version;
+      boot = h.node.boot;
       queues = h.node.queues;
+      windows = h.node.windows;
       serial = e ∙ ap (λ n. n + 1) h.node.serial;
       time = h.node.time;
     };
   }
 
   -- the injection of the definition, where a serial number is left
-  pub own_injection : (before list : List Act) (old new : Node S) (s : NodeState) (chunk : Chunk) (bound : ℕ) (p : Packet) (acts : Acts) → NodeStands stands old s
-      → old.serial ≢ 18446744073709551615 → list ≡ before ++ Injected (own_family old.here old.serial) bound ∷ [] → p ≡ own_packet old.here old.serial chunk bound
-      → IsStep stands (visited list (next_serial s) p) acts new → IsStep stands (inject_step before s chunk bound) acts new
+  pub own_injection : (before list : List Act) (old new : Node S) (s : NodeState) (chunk : Chunk) (bound : ℕ) (handler : Option Name) (p : Packet) (acts : Acts) → NodeStands stands old s
+      → old.serial ≢ 18446744073709551615 → list ≡ before ++ Injected (own_family old.here old.serial) bound ∷ [] → p ≡ own_packet old.here old.serial chunk bound handler
+      → IsStep stands (visited list (next_serial s) p) acts new → IsStep stands (inject_step before s chunk bound handler) acts new
   unfolding inject_step
-  own_injection before list old new s chunk bound p acts n d l q h =
+  own_injection before list old new s chunk bound handler p acts n d l q h =
       let e = last_false old.serial d in
       let P : Bool → Type 0 = λ t. IsStep stands (cond t (stepped (before ++ SerialsSpent ∷ []) None s)
-      (visited (before ++ Injected (own_family s.here s.serial) bound ∷ []) (next_serial s) (injected_packet s chunk bound))) acts new in
+      (visited (before ++ Injected (own_family s.here s.serial) bound ∷ []) (next_serial s) (injected_packet s chunk bound handler))) acts new in
       let lists : list ≡ before ++ Injected (own_family s.here s.serial) bound ∷ [] = l ∙ (λ i. before ++ Injected (own_family (n.here i) (n.serial i)) bound ∷ []) in
-      let packets : p ≡ injected_packet s chunk bound = q ∙ (λ i. own_packet (n.here i) (n.serial i) chunk bound) in
-      let R : List Act → Type 0 = λ begun. IsStep stands (visited begun (next_serial s) (injected_packet s chunk bound)) acts new in
+      let packets : p ≡ injected_packet s chunk bound handler = q ∙ (λ i. own_packet (n.here i) (n.serial i) chunk bound handler) in
+      let R : List Act → Type 0 = λ begun. IsStep stands (visited begun (next_serial s) (injected_packet s chunk bound handler)) acts new in
       let Q : Packet → Type 0 = λ x. IsStep stands (visited list (next_serial s) x) acts new in
       subst P (sym (ap (λ m. m == 18446744073709551615) (sym n.serial) ∙ e)) (subst R lists (subst Q packets h))
 
-  pub own_result : (before list : List Act) (old new : Node S) (s : NodeState) (chunk : Chunk) (bound : ℕ) (p : Packet) (r : Result Acts NoMemory) → NodeStands stands old s
-      → old.serial ≢ 18446744073709551615 → list ≡ before ++ Injected (own_family old.here old.serial) bound ∷ [] → p ≡ own_packet old.here old.serial chunk bound
-      → IfOk r (λ acts. IsStep stands (visited list (next_serial s) p) acts new) → IfOk r (λ acts. IsStep stands (inject_step before s chunk bound) acts new)
-  own_result before list old new s chunk bound p (Ok acts) n e l q h = own_injection before list old new s chunk bound p acts n e l q h
-  own_result before list old new s chunk bound p (Err x) n e l q h = h
+  pub own_result : (before list : List Act) (old new : Node S) (s : NodeState) (chunk : Chunk) (bound : ℕ) (handler : Option Name) (p : Packet) (r : Result Acts NoMemory) → NodeStands stands old s
+      → old.serial ≢ 18446744073709551615 → list ≡ before ++ Injected (own_family old.here old.serial) bound ∷ [] → p ≡ own_packet old.here old.serial chunk bound handler
+      → IfOk r (λ acts. IsStep stands (visited list (next_serial s) p) acts new) → IfOk r (λ acts. IsStep stands (inject_step before s chunk bound handler) acts new)
+  own_result before list old new s chunk bound handler p (Ok acts) n e l q h = own_injection before list old new s chunk bound handler p acts n e l q h
+  own_result before list old new s chunk bound handler p (Err x) n e l q h = h
 
   -- where none is left
-  pub own_spent : (before list : List Act) (old : Node S) (s : NodeState) (chunk : Chunk) (bound : ℕ) → NodeStands stands old s
-      → old.serial ≡ 18446744073709551615 → list ≡ before ++ SerialsSpent ∷ [] → IsStep stands (inject_step before s chunk bound) (record { list = list; frame = None }) old
+  pub own_spent : (before list : List Act) (old : Node S) (s : NodeState) (chunk : Chunk) (bound : ℕ) (handler : Option Name) → NodeStands stands old s
+      → old.serial ≡ 18446744073709551615 → list ≡ before ++ SerialsSpent ∷ [] → IsStep stands (inject_step before s chunk bound handler) (record { list = list; frame = None }) old
   unfolding inject_step
-  own_spent before list old s chunk bound n d l =
+  own_spent before list old s chunk bound handler n d l =
       let e = last_true old.serial d in
       let P : Bool → Type 0 = λ t. IsStep stands (cond t (stepped (before ++ SerialsSpent ∷ []) None s)
-      (visited (before ++ Injected (own_family s.here s.serial) bound ∷ []) (next_serial s) (injected_packet s chunk bound))) (record { list = list; frame = None }) old in
+      (visited (before ++ Injected (own_family s.here s.serial) bound ∷ []) (next_serial s) (injected_packet s chunk bound handler))) (record { list = list; frame = None }) old in
       subst P (sym (ap (λ m. m == 18446744073709551615) (sym n.serial) ∙ e)) (record { list = l; frame = refl; node = n })
+
+  -- ---- arrivals
+
+  -- a fresh frame arrived, and its stamp was taken
+  pub freshly : (s : NodeState) (d : Dev) (x : PlainStamped) (acts : Acts) (mid new : Node S) → IsStep stands (frame_step s d x.frame) acts mid
+      → ((t : NodeState) → NodeStands stands mid t → takes_as t.seen d x.stamp ≡ Fresh → NodeStands stands new (with_seen (seen_then t.seen d x.stamp) t))
+      → takes_as s.seen d x.stamp ≡ Fresh → IsStep stands (stamped_as s d x Fresh) acts new
+  freshly s d x acts mid new h k f =
+      let t = (frame_step s d x.frame).node in
+      let e : t.seen ≡ s.seen = (frame_stays s d x.frame).seen in
+      record {
+        list = h.list;
+        frame = h.frame;
+        node = subst (λ q. NodeStands stands new (with_seen (seen_then q d x.stamp) t)) e (k t h.node (ap (λ q. takes_as q d x.stamp) e ∙ f));
+      }
+
+  -- what a device takes a frame as tells the step
+  pub stamped_so : (s : NodeState) (d : Dev) (x : PlainStamped) (t : Took) (acts : Acts) (new : Node S) → t ≡ takes_as s.seen d x.stamp
+      → IsStep stands (stamped_as s d x t) acts new → IsStep stands (stamped_step s d x) acts new
+  unfolding stamped_step
+  stamped_so s d x t acts new e h = subst (λ u. IsStep stands (stamped_as s d x u) acts new) e h
+
+  pub fresh_result : (s : NodeState) (d : Dev) (x : PlainStamped) (r : Result Acts NoMemory) (new : Node S) → Fresh ≡ takes_as s.seen d x.stamp
+      → (takes_as s.seen d x.stamp ≡ Fresh → IfOk r (λ acts. IsStep stands (stamped_as s d x Fresh) acts new)) → IfOk r (λ acts. IsStep stands (stamped_step s d x) acts new)
+  fresh_result s d x (Ok acts) new e h = stamped_so s d x Fresh acts new e (h (sym e))
+  fresh_result s d x (Err f) new e h = h (sym e)
+
+  pub stale_result : (s : NodeState) (d : Dev) (x : PlainStamped) (t : Took) (r : Result Acts NoMemory) (old : Node S) → NodeStands stands old s → t ≡ takes_as s.seen d x.stamp
+      → stamped_as s d x t ≡ only_acts (Arrived d) (Stale t (what_of x.frame)) s → IfOk r (λ acts. acts.list ≡ Arrived d ∷ Stale t (what_of x.frame) ∷ []) → IfOk r (λ acts. acts.frame ≡ None)
+      → IfOk r (λ acts. IsStep stands (stamped_step s d x) acts old)
+  stale_result s d x t (Ok acts) old n q e l f = stamped_so s d x t acts old q (subst (λ step. IsStep stands step acts old) (sym e) (record { list = l; frame = f; node = n }))
+  stale_result s d x t (Err k) old n q e l f = l
+
+-- what a version lets be named may handle
+none_handles : (c : Chunk) (o : Option Name) → o ≡ None → MayHandle c o
+none_handles c None e = tt
+none_handles c (Some n) e = cc
+
+pub named_handles : (v : Version) (c : Chunk) (o : Option Name) → MayName v c o → MayHandle c o
+named_handles One c o h = none_handles c o h
+named_handles Two c o h = h
+
+-- what a version lets be named may go on from its nodes
+pub named_carries : (v : Version) (boot : ℕ) (c : Chunk) (o : Option Name) → MayName v c o → MayCarry (mark_of v boot) o
+named_carries One boot c o h = h
+named_carries Two boot c o h = tt
+
+-- each version lets none be named
+pub none_named : (v : Version) (c : Chunk) (o : Option Name) → o ≡ None → MayName v c o
+none_named One c o e = e
+none_named Two c o e = none_handles c o e
 
 -- ---- readings
 
-pub read_found : (bytes : List ℕ) (r : Result Frame FrameFault) → IfOk r (λ x. Accepts bytes (plain_of x)) → IfOk r (λ x. frame_of bytes ≡ Ok (plain_of x))
-read_found bytes (Ok x) h = accepts_is bytes (plain_of x) h
-read_found bytes (Err e) h = h
+-- what is read in a version is what the definition reads
+pub read_found : (v : Version) (bytes : List ℕ) (r : Result Stamped FrameFault) → IfOk r (λ x. AcceptsBy v bytes (stamped_plain x)) → IfOk r (λ x. read_by v bytes ≡ Ok (stamped_plain x))
+read_found v bytes (Ok x) h = accepted_by v bytes (stamped_plain x) h
+read_found v bytes (Err e) h = h
 
-refused_so : (bytes : List ℕ) (e : FrameFault) → IsBytes bytes → (e ≡ FrameFault.NoMemory) ⊎ FrameFirst e bytes → (e ≡ FrameFault.NoMemory) ⊎ (frame_of bytes ≡ Err e)
-refused_so bytes e b (inl h) = inl h
-refused_so bytes e b (inr h) = inr (first_is bytes e b h)
+-- a frame of version 1 is read without a stamp
+pub first_accepted : (bytes : List ℕ) (x : PlainFrame) → Accepts bytes x → AcceptsBy One bytes (record { stamp = None; frame = x })
+first_accepted bytes x h = one_accepted bytes x h.spells h.typed
 
-pub read_fault : (bytes : List ℕ) (r : Result Frame FrameFault) → IsBytes bytes → IfErr r (λ e. (e ≡ FrameFault.NoMemory) ⊎ FrameFirst e bytes) → IfErr r (λ e. (e ≡ FrameFault.NoMemory) ⊎ (frame_of bytes ≡ Err e))
-read_fault bytes (Ok x) b h = h
-read_fault bytes (Err e) b h = refused_so bytes e b h
+pub first_refused : (bytes : List ℕ) (e : FrameFault) → IsBytes bytes → (e ≡ FrameFault.NoMemory) ⊎ FrameFirst e bytes → (e ≡ FrameFault.NoMemory) ⊎ (read_by One bytes ≡ Err e)
+first_refused bytes e b (inl h) = inl h
+first_refused bytes e b (inr h) = inr (ap unstamped (first_is bytes e b h))
 
-asked_so : (bytes : List ℕ) (x : PlainFrame) → Accepts bytes x → asks_within x
-asked_so bytes (PlainFrame.Packet p) h = tt
-asked_so bytes (PlainFrame.Advert a) h = tt
-asked_so bytes (PlainFrame.Ask bound chunk) h = h.spells.fits.0
+second_so : (bytes : List ℕ) (e : FrameFault) → IsBytes bytes → (e ≡ FrameFault.NoMemory) ⊎ StampedFirst e bytes → (e ≡ FrameFault.NoMemory) ⊎ (read_by Two bytes ≡ Err e)
+second_so bytes e b (inl h) = inl h
+second_so bytes e b (inr h) = inr (refused_by_two bytes e b h)
 
-pub read_within : (bytes : List ℕ) (r : Result Frame FrameFault) → IfOk r (λ x. Accepts bytes (plain_of x)) → IfOk r (λ x. asks_within (plain_of x))
-read_within bytes (Ok x) h = asked_so bytes (plain_of x) h
-read_within bytes (Err e) h = h
+pub second_refused : (bytes : List ℕ) (r : Result Stamped FrameFault) → IsBytes bytes → IfErr r (λ e. (e ≡ FrameFault.NoMemory) ⊎ StampedFirst e bytes) → IfErr r (λ e. (e ≡ FrameFault.NoMemory) ⊎ (read_by Two bytes ≡ Err e))
+second_refused bytes (Ok x) b h = h
+second_refused bytes (Err e) b h = second_so bytes e b h
 
-plain_so : (bytes : List ℕ) (x : PlainFrame) → Accepts bytes x → IsPlain x
-plain_so bytes x h = h.spells.plain
+asked_so : (x : PlainFrame) → FrameFits x → asks_within x
+asked_so (PlainFrame.Packet p) h = tt
+asked_so (PlainFrame.Advert a) h = tt
+asked_so (PlainFrame.Ask bound chunk) h = h.0
 
-pub read_plain : (bytes : List ℕ) (r : Result Frame FrameFault) → IfOk r (λ x. Accepts bytes (plain_of x)) → IfOk r (λ x. IsPlain (plain_of x))
-read_plain bytes (Ok x) h = plain_so bytes (plain_of x) h
-read_plain bytes (Err e) h = h
+pub read_within : (v : Version) (bytes : List ℕ) (r : Result Stamped FrameFault) → IfOk r (λ x. AcceptsBy v bytes (stamped_plain x)) → IfOk r (λ x. asks_within (plain_of x.frame))
+read_within v bytes (Ok x) h = asked_so (plain_of x.frame) h.fits
+read_within v bytes (Err e) h = h
+
+goes_on : (v : Version) (boot : ℕ) (bytes : List ℕ) (o : Option Stamp) (x : PlainFrame) → AcceptsBy v bytes (record { stamp = o; frame = x }) → MayGoOn (mark_of v boot) x
+goes_on One boot bytes o (PlainFrame.Packet p) h = h.read.1
+goes_on Two boot bytes o (PlainFrame.Packet p) h = tt
+goes_on v boot bytes o (PlainFrame.Advert a) h = tt
+goes_on v boot bytes o (PlainFrame.Ask bound chunk) h = tt
+
+-- a packet that was read may go on
+pub read_carried : (v : Version) (bytes : List ℕ) (r : Result Stamped FrameFault) → IfOk r (λ x. AcceptsBy v bytes (stamped_plain x)) → (boot : ℕ) → IfOk r (λ x. MayGoOn (mark_of v boot) (plain_of x.frame))
+read_carried v bytes (Ok x) h boot = goes_on v boot bytes x.stamp (plain_of x.frame) h
+read_carried v bytes (Err e) h boot = h
 
 -- ---- adverts
 

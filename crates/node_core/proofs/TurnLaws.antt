@@ -1,17 +1,23 @@
 -- What a visit ends with, by its definition; and how services are closed after it.
-use Rattle.std.proofs.Common.{◌≡◌, ℕ, Bool, true, false, refl, sym, ap, ◌∙◌, subst}
-use Rattle.std.specs.Prelude.{Option, Some, None, IsSome}
+use Rattle.std.proofs.Common.{◌≡◌, ℕ, Bool, true, false, List, [], ◌∷◌, refl, sym, ap, ◌∙◌, subst}
+use Rattle.std.specs.Prelude.{Option, Some, None, IsSome, All}
+use Rattle.std.proofs.lemmas.List.Elements.{All-nil, All-cons}
+use Rattle.link_window.specs.declared.window.Stamp.{Stamp}
 use Rattle.plan_base.specs.declared.tree.Packet.{Packet}
 use Rattle.plan_base.specs.declared.tree.Value.{Value}
 use Rattle.service_api.specs.declared.ctx.Ctx.{Ctx}
 use Rattle.service_api.specs.Services.{Rows, Offer, ServiceState, begun_now, made_ready, kept, abandoned, rows_at}
 use Rattle.plan_meaning.specs.declared.stop.Stop.TheVariants.{Raised, WorkSpent, Wrong, NoMemory}
 use Rattle.plan_meaning.specs.declared.outcome.Visit.{Visit}
+use Rattle.plan_meaning.specs.declared.sent.Sent.{Sent}
+use Rattle.spelled_frame.specs.Spelled.{MayCarry}
 use Rattle.plan_meaning.specs.Run.{After, gave, stopped}
 use Rattle.plan_meaning.specs.Meaning.{meaning, visited}
 use Rattle.plan_meaning.specs.Visit.{IsVisit, Ends, allowance, begun}
 use Rattle.node_model.specs.Visits.{evaluated, visit_end, visit_of, services_end, services_after}
-use Rattle.node_core.specs.Turns.{closed, is_spent, IsResting}
+use Rattle.settled_visit.specs.Settles.{IsPlain, settled}
+use Rattle.settled_visit.proofs.Sends.{settled_plain}
+use Rattle.node_core.specs.Turns.{closed, is_spent, IsResting, Carries}
 
 visit_is : (bound : ℕ) (a : After Value) (r : Visit) (new : ServiceState) → Ends allowance bound a r new → r ≡ visit_end bound a
 visit_is bound (gave v s) r new e = e.0
@@ -77,3 +83,12 @@ rests_closed t n m e = subst IsResting (sym e) (rests_so t n)
 
 pub rests_abandoned : (n m : ServiceState) → m ≡ abandoned n → IsResting m
 rests_abandoned n m e = subst IsResting (sym e) (record { closed = refl; waits = refl })
+
+all_carry : (s : Stamp) (ss : List Sent) → All (Carries (Some s)) ss
+all_carry s [] = All-nil (Carries (Some s))
+all_carry s (x ∷ xs) = All-cons (Carries (Some s)) x xs tt (all_carry s xs)
+
+-- what the settled visit of such a packet sends may bear the mark as well
+pub settled_carries : (m : Option Stamp) (p : Packet) (ctx : Ctx) (v : Visit) → MayCarry m p.handler → All (Carries m) (settled p ctx v).visit.outbox
+settled_carries None p ctx v h = settled_plain p ctx v h
+settled_carries (Some s) p ctx v h = all_carry s (settled p ctx v).visit.outbox

@@ -1,5 +1,8 @@
 -- Which state of the definition a node stands for.
-use Rattle.std.specs.Prelude.{◌≡◌, ℕ, ◌≤◌, None}
+use Rattle.std.specs.Prelude.{◌≡◌, ℕ, ◌≤◌, Option}
+use Rattle.link_window.specs.declared.window.Stamp.{Stamp}
+use Rattle.link_window.specs.declared.window.Version.{Version}
+use Rattle.plan_base.specs.declared.name.Name.{Name}
 use Rattle.plan_base.specs.declared.ids.Host.{Host}
 use Rattle.plan_base.specs.declared.ids.Family.{Family}
 use Rattle.plan_base.specs.declared.tree.Chunk.{Chunk}
@@ -10,17 +13,30 @@ use Rattle.service_api.specs.Services.{ServiceState}
 use Rattle.dv_routing.specs.Stands.{Stands}
 use Rattle.node_model.specs.declared.acts.Acts.{Acts}
 use Rattle.node_model.specs.State.{NodeState, routing_of}
-use Rattle.node_model.specs.Node.{Step}
+use Rattle.node_model.specs.Node.{Step, mark_of}
+use Rattle.spelled_frame.specs.Spelled.{MayCarry}
+use Rattle.node_core.specs.Windows.{AllSeen}
 use Rattle.node_core.specs.declared.node.Node.{Node}
 
--- a node stands for a state: its routes for the adverts heard, its queued bytes for the frames that they spell, its services for
--- what they stand for; all else is equal
+-- the version of a node
+abbrev pub version_of : {S : Type 0} → Node S → Version
+version_of n = n.version
+
+-- what the frames of a node bear
+abbrev pub mark_on : {S : Type 0} → Node S → Option Stamp
+mark_on n = mark_of n.version n.boot
+
+-- a node stands for a state: its routes for the adverts heard, its queued bytes for the frames that they spell, its windows for
+-- the numbers taken, its services for what they stand for; all else is equal
 pub record NodeStands {S : Type 0} (stands : S → ServiceState) (n : Node S) (s : NodeState) : Type 0 where
   pub here : n.here ≡ s.here
   pub routes : Stands (routing_of s) n.routes
   pub neighbours : n.neighbours ≡ s.neighbours
   pub services : stands n.services ≡ s.services
-  pub queues : n.queues.items ≡ s.queues
+  pub version : n.version ≡ s.version
+  pub boot : n.boot ≡ s.boot
+  pub queues : n.lanes.items ≡ s.queues
+  pub windows : AllSeen s.seen n.windows.items
   pub serial : n.serial ≡ s.serial
   pub time : n.time ≡ s.now
 
@@ -34,8 +50,13 @@ pub record IsStep {S : Type 0} (stands : S → ServiceState) (step : Step) (acts
 abbrev pub own_family : Host → ℕ → Family
 own_family here serial = record { source = here; serial = serial }
 
-abbrev pub own_packet : Host → ℕ → Chunk → ℕ → Packet
-own_packet here serial chunk bound = record { family = own_family here serial; dest = here; bound = bound; route = default_route; chunk = chunk; handler = None }
+abbrev pub own_packet : Host → ℕ → Chunk → ℕ → Option Name → Packet
+own_packet here serial chunk bound handler = record { family = own_family here serial; dest = here; bound = bound; route = default_route; chunk = chunk; handler = handler }
+
+-- a packet that may go on from a node whose frames bear this
+abbrev pub MayGoOn : Option Stamp → PlainFrame → Type 0
+MayGoOn m (PlainFrame.Packet p) = MayCarry m p.handler
+MayGoOn m _ = Unit {0}
 
 -- the bound of an ask is at most 65,535
 abbrev pub asks_within : PlainFrame → Type 0

@@ -1,13 +1,16 @@
 -- A visit that was made, of which nothing stands yet.
-use Rattle.std.specs.Prelude.{◌≡◌, ◌+◌, ◌≤◌, Bool, true, false, if◌then◌else◌, List, None, ◌∷◌, ◌++◌, length, map, vec_len, vec_capacity, []}
+use Rattle.std.specs.Prelude.{◌≡◌, ℕ, ◌+◌, ◌≤◌, Bool, true, false, if◌then◌else◌, List, Option, None, ◌∷◌, ◌++◌, length, map, vec_len, vec_capacity, []}
+use Rattle.link_window.specs.declared.window.Stamp.{Stamp}
 use Rattle.plan_base.specs.declared.tree.Packet.{Packet}
 use Rattle.service_api.specs.Services.{ServiceState, kept, abandoned}
 use Rattle.plan_meaning.specs.declared.outcome.Outcome.{Outcome}
 use Rattle.plan_meaning.specs.declared.outcome.Outcome.TheVariants.{WorkSpent}
-use Rattle.plan_meaning.specs.declared.outcome.Visit.{Visit}
 use Rattle.node_model.specs.declared.acts.Act.{Act}
 use Rattle.node_model.specs.declared.acts.Act.TheVariants.{Noted, Ended}
-use Rattle.node_model.specs.Node.{visit_sends}
+use Rattle.node_model.specs.Node.{handled_acts, visit_sends}
+use Rattle.settled_visit.specs.declared.settling.Settled.{Settled}
+use Rattle.spelled_frame.specs.Spelled.{MayCarry}
+use Rattle.plan_meaning.specs.declared.sent.Sent.{Sent}
 use Rattle.node_core.specs.declared.idle_services.Turn.{Turn}
 
 -- no visit is open
@@ -24,8 +27,13 @@ is_spent _ = false
 abbrev pub closed : Bool → ServiceState → ServiceState
 closed spent n = if spent then abandoned n else kept n
 
--- the acts of a visit up to its end, its sends, and room for their acts
-pub record IsOpen (before : List Act) (p : Packet) (v : Visit) (turn : Turn) : Type 0 where
-  pub acts : turn.acts.items ≡ before ++ (map Noted v.notes ++ Ended p.family v.outcome v.evals v.left ∷ [])
-  pub sends : turn.sends ≡ visit_sends v
+-- the acts of a settled visit up to its sends, these, and room for their acts
+pub record IsOpen (m : Option Stamp) (before : List Act) (p : Packet) (left : ℕ) (s : Settled) (turn : Turn) : Type 0 where
+  pub acts : turn.acts.items
+      ≡ before ++ (map Noted s.visit.notes ++ (Ended p.family s.visit.outcome s.visit.evals s.visit.left ∷ handled_acts p.family s.handled left))
+  pub sends : turn.sends ≡ visit_sends m s.visit
   pub room : vec_len turn.acts + length turn.sends ≤ vec_capacity turn.acts
+
+-- a packet that is sent may bear this mark
+abbrev pub Carries : Option Stamp → Sent → Type 0
+Carries m s = MayCarry m s.packet.handler

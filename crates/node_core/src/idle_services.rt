@@ -1,20 +1,24 @@
-ghost use Rattle.std.specs.Prelude.{◌≡◌, ◌≤◌, ◌∷◌, ◌++◌, [], length, IfOk, OnOk, OnErr, IsSome, IsTrue, None, false};
+ghost use Rattle.std.specs.Prelude.{◌≡◌, ◌≤◌, ◌+◌, ◌∷◌, ◌++◌, map, All, length, vec_len, vec_capacity, IfOk, OnOk, OnErr, IsSome, IsTrue, None, false};
+ghost use Rattle.std.specs.Option.{option_to_list};
 ghost use Rattle.service_api.specs.Services.{AreGoodRows, begun_now, expired};
 ghost use Rattle.node_model.specs.Visits.{visit_of, services_after};
 ghost use Rattle.node_model.specs.Node as spec;
-ghost use Rattle.node_core.specs.Turns.{IsOpen, IsResting, closed, is_spent as spent};
+ghost use Rattle.node_model.specs.declared.acts.Act.TheVariants.{Noted, Ended};
+ghost use Rattle.spelled_frame.specs.Spelled.{MayCarry};
+ghost use Rattle.settled_visit.specs.Settles as settles;
+ghost use Rattle.node_core.specs.Turns.{Carries, IsOpen, IsResting, closed, is_spent as spent};
 
 use crate::outgoing::visit_sendings;
 use crate::sends::{begin_acts, send_all};
 use chunk_types::CheckedPacket;
-use link_queue::Queue;
-use node_model::{Act, ActList, Sendings};
-use plan_base::NoMemory;
+use link_window::Stamp;
+use node_model::{Act, ActList, Lane, Sendings};
+use plan_base::{Family, Name, NoMemory};
 use plan_eval::visit;
 use plan_items::Items;
 use plan_meaning::{Outcome, Visit};
 use service_api::{Ctx, Services};
-use spelled_frame::SpelledFrame;
+use settled_visit::{Settled, settle};
 use std::alloc::Global;
 use std::marker::Model;
 
@@ -36,8 +40,8 @@ impl<S: Services> Model for IdleServices<S> {
     ghost invariant = { λ r. IsResting (S.stands r.services) };
 }
 
-/// A visit that was made, of which nothing stands yet: the acts up to its end with room for those of
-/// its sends, its sends as they go on, and whether its work was spent.
+/// A settled visit that was made, of which nothing stands yet: the acts up to its sends with room for theirs, the sends as they
+/// go on, and whether its work was spent.
 #[derive(Drop)]
 struct Turn {
     acts: Vec<Act>,
@@ -55,38 +59,77 @@ fn is_spent(outcome: &Outcome) -> bool
     }
 }
 
-/// Visits a packet and takes all the room that its end needs.
-#[tactic(auto, unfolding(node_model::specs::Node::visit_sends), using(crate::proofs::TurnLaws::turn_visit, crate::proofs::TurnLaws::turn_closes))]
+/// The act of a handler that is called with this bound.
+fn handled_act(family: Family, handled: Option<Name>, bound: u32) -> Option<Act>
+    ensures { option_to_list result ≡ spec.handled_acts family handled bound }
+{
+    match handled {
+        None => None,
+        Some(name) => Some(Act::Handled(family, name, bound)),
+    }
+}
+
+/// What a settled visit lists and sends, with all the room that it needs. Condition: without a mark nothing that it sends has a
+/// handler.
+#[tactic(auto, unfolding(node_model::specs::Node::visit_sends))]
+fn turn_of(
+    alloc: Global,
+    mark: Option<Stamp>,
+    family: Family,
+    left: u32,
+    settled: Settled,
+    before: ActList,
+) -> Result<(Vec<Act>, Sendings), NoMemory>
+    requires { All (Carries mark) settled.visit.outbox }
+    ensures acts { IfOk result (λ t. t.0.items ≡ before ++ (map Noted settled.visit.notes ++ (Ended family settled.visit.outcome settled.visit.evals settled.visit.left ∷ spec.handled_acts family settled.handled left))) }
+    ensures sends { IfOk result (λ t. t.1 ≡ spec.visit_sends mark settled.visit) }
+    ensures room { IfOk result (λ t. vec_len t.0 + length t.1 ≤ vec_capacity t.0) }
+{
+    let Settled { visit, handled } = settled;
+    let Visit {
+        outcome,
+        evals,
+        left: rest,
+        outbox,
+        notes,
+        work: _work,
+    } = visit;
+    let end = Act::Ended(family, outcome, evals, rest);
+    let handled = handled_act(family, handled, left);
+    let sends = visit_sendings(alloc, mark, outbox)?;
+    let acts = begin_acts(before, notes, end, handled, sends.len())?;
+    Ok((acts, sends))
+}
+
+/// Visits a packet, settles the visit, and takes all the room that its end needs. Condition: without a mark the packet has no
+/// handler.
+#[tactic(auto, using(crate::proofs::TurnLaws::turn_visit, crate::proofs::TurnLaws::turn_closes, settled_visit::proofs::Sends::sent_plain, crate::proofs::TurnLaws::settled_carries))]
 fn open_turn<S: Services>(
     alloc: Global,
     services: &mut S,
     ctx: &Ctx,
+    mark: Option<Stamp>,
     packet: &CheckedPacket,
     before: ActList,
 ) -> Result<Turn, NoMemory>
     requires bound { ctx.now.purse ≡ packet.now.bound }
     requires source { ctx.now.source ≡ packet.now.family.source }
+    requires carried { MayCarry mark packet.now.handler }
     requires near { length ctx.now.neighbours ≤ 8 }
     requires rows { AreGoodRows (S.stands services.old).rows }
     requires open { IsSome (S.stands services.old).begun }
-    ensures turn { IfOk result (λ turn. IsOpen before packet.now (visit_of ctx.entry.now (S.stands services.old) packet.now) turn) }
+    ensures turn { IfOk result (λ turn. IsOpen mark before packet.now (visit_of ctx.entry.now (S.stands services.old) packet.now).left (settles.settled packet.now ctx.entry.now (visit_of ctx.entry.now (S.stands services.old) packet.now)) turn) }
     ensures closing { IfOk result (λ turn. closed turn.is_spent (S.stands services.new) ≡ services_after ctx.entry.now (S.stands services.old) packet.now) }
     ensures ready { OnOk result (IsTrue (S.stands services.new).ready) }
     ensures offer { (S.stands services.new).offer ≡ (S.stands services.old).offer }
     ensures begun { (S.stands services.new).begun ≡ (S.stands services.old).begun }
 {
-    let Visit {
-        outcome,
-        evals,
-        left,
-        outbox,
-        notes,
-        work: _work,
-    } = visit(alloc, packet, services, ctx)?;
-    let is_spent = is_spent(&outcome);
-    let end = Act::Ended(packet.family(), outcome, evals, left);
-    let sends = visit_sendings(alloc, outbox)?;
-    let acts = begin_acts(before, notes, end, sends.len())?;
+    let made = visit(alloc, packet, services, ctx)?;
+    let is_spent = is_spent(&made.outcome);
+    let left = made.left;
+    let _bound = packet.bound();
+    let settled = settle(alloc, packet, made, ctx)?;
+    let (acts, sends) = turn_of(alloc, mark, packet.family(), left, settled, before)?;
     services.ready(alloc)?;
     Ok(Turn {
         acts,
@@ -109,29 +152,31 @@ fn close<S: Services>(services: &mut S, is_spent: bool)
 }
 
 /// The visit of a packet, after some acts: its acts, with its sends queued. Where memory is refused, the
-/// queues and the services stay.
+/// lanes and the services stay.
 #[tactic(auto, unfolding(node_model::specs::Node::visit_acts), using(crate::proofs::TurnLaws::undone, crate::proofs::TurnLaws::rests_closed, crate::proofs::TurnLaws::rests_abandoned))]
 fn visit_turn<S: Services>(
     alloc: Global,
     services: &mut S,
     ctx: &Ctx,
-    queues: &mut [Queue<SpelledFrame>],
+    mark: Option<Stamp>,
+    lanes: &mut [Lane],
     before: ActList,
     packet: &CheckedPacket,
 ) -> Result<ActList, NoMemory>
     requires bound { ctx.now.purse ≡ packet.now.bound }
     requires source { ctx.now.source ≡ packet.now.family.source }
+    requires carried { MayCarry mark packet.now.handler }
     requires near { length ctx.now.neighbours ≤ 8 }
     requires rests { IsResting (S.stands services.old) }
-    ensures acts { IfOk result (λ acts. acts ≡ before ++ spec.visit_acts queues.old packet.now (visit_of ctx.entry.now (begun_now (S.stands services.old)) packet.now)) }
-    ensures queues { OnOk result (queues.new ≡ spec.sends_queues queues.old (spec.visit_sends (visit_of ctx.entry.now (begun_now (S.stands services.old)) packet.now))) }
+    ensures acts { IfOk result (λ acts. acts ≡ before ++ spec.visit_acts mark lanes.old packet.now (visit_of ctx.entry.now (begun_now (S.stands services.old)) packet.now).left (settles.settled packet.now ctx.entry.now (visit_of ctx.entry.now (begun_now (S.stands services.old)) packet.now))) }
+    ensures lanes { OnOk result (lanes.new ≡ spec.sends_queues lanes.old (spec.visit_sends mark (settles.settled packet.now ctx.entry.now (visit_of ctx.entry.now (begun_now (S.stands services.old)) packet.now)).visit)) }
     ensures services { OnOk result (S.stands services.new ≡ services_after ctx.entry.now (begun_now (S.stands services.old)) packet.now) }
-    ensures same { OnErr result (queues.new ≡ queues.old) }
+    ensures same { OnErr result (lanes.new ≡ lanes.old) }
     ensures undone { OnErr result (S.stands services.new ≡ S.stands services.old) }
     ensures rests { IsResting (S.stands services.new) }
 {
     services.begin(alloc)?;
-    match open_turn(alloc, services, ctx, packet, before) {
+    match open_turn(alloc, services, ctx, mark, packet, before) {
         Ok(turn) => {
             let Turn {
                 mut acts,
@@ -139,7 +184,7 @@ fn visit_turn<S: Services>(
                 is_spent,
             } = turn;
             close(services, is_spent);
-            send_all(&mut acts, queues, sends);
+            send_all(&mut acts, lanes, sends);
             Ok(Items::from_vec(acts))
         }
         Err(refused) => {
@@ -159,25 +204,27 @@ impl<S: Services> IdleServices<S> {
     }
 
     /// The visit of a packet, after some acts: its acts, with its sends queued. Where memory is refused, the
-    /// queues and the services stay.
+    /// lanes and the services stay.
     pub fn turn(
         &mut self,
         alloc: Global,
         ctx: &Ctx,
-        queues: &mut [Queue<SpelledFrame>],
+        mark: Option<Stamp>,
+        lanes: &mut [Lane],
         before: ActList,
         packet: &CheckedPacket,
     ) -> Result<ActList, NoMemory>
         requires bound { ctx.now.purse ≡ packet.now.bound }
         requires source { ctx.now.source ≡ packet.now.family.source }
+    requires carried { MayCarry mark packet.now.handler }
         requires near { length ctx.now.neighbours ≤ 8 }
-        ensures acts { IfOk result (λ acts. acts ≡ before ++ spec.visit_acts queues.old packet.now (visit_of ctx.entry.now (begun_now (S.stands self.old)) packet.now)) }
-        ensures queues { OnOk result (queues.new ≡ spec.sends_queues queues.old (spec.visit_sends (visit_of ctx.entry.now (begun_now (S.stands self.old)) packet.now))) }
+        ensures acts { IfOk result (λ acts. acts ≡ before ++ spec.visit_acts mark lanes.old packet.now (visit_of ctx.entry.now (begun_now (S.stands self.old)) packet.now).left (settles.settled packet.now ctx.entry.now (visit_of ctx.entry.now (begun_now (S.stands self.old)) packet.now))) }
+        ensures lanes { OnOk result (lanes.new ≡ spec.sends_queues lanes.old (spec.visit_sends mark (settles.settled packet.now ctx.entry.now (visit_of ctx.entry.now (begun_now (S.stands self.old)) packet.now)).visit)) }
         ensures services { OnOk result (S.stands self.new ≡ services_after ctx.entry.now (begun_now (S.stands self.old)) packet.now) }
-        ensures same { OnErr result (queues.new ≡ queues.old) }
+        ensures same { OnErr result (lanes.new ≡ lanes.old) }
         ensures undone { OnErr result (S.stands self.new ≡ S.stands self.old) }
     {
-        visit_turn(alloc, &mut self.services, ctx, queues, before, packet)
+        visit_turn(alloc, &mut self.services, ctx, mark, lanes, before, packet)
     }
 
     /// Takes the rows away that have expired at `now`. Takes no memory.

@@ -2,12 +2,17 @@
 #![tactic(auto)]
 
 mod idle_services;
+mod lanes;
 mod neighbour_list;
 mod node;
 mod outgoing;
+mod reading;
 mod routes;
 mod sends;
 mod text;
+mod windows;
 
-pub use node::{Node, are_bytes};
+pub use link_window::{Stamp, Took, Version, Window};
+pub use node::Node;
+pub use reading::{are_bytes, read_as};
 pub use text::{put_act, put_act_text, put_bound, put_family, put_number};

@@ -1,51 +1,56 @@
-ghost use Rattle.std.specs.Prelude.{◌≡◌, ◌≤◌, ◌<◌, length, ◌++◌, ◌⊎◌, IfOk, IfErr, OnErr, [], ◌∷◌, slice_get, IsTrue, None, Ok, Err};
-ghost use Rattle.node_model.specs.State.{NodeState, no_queues, new_node, neighbour_on, leads_to};
+ghost use Rattle.std.specs.Prelude.{◌≡◌, ◌≤◌, ◌<◌, length, ◌++◌, IfOk, OnErr, [], ◌∷◌, slice_get, None};
+ghost use Rattle.node_model.specs.State.{NodeState, new_node, neighbour_on, leads_to};
 ghost use Rattle.node_model.specs.Visits.{around};
 ghost use Rattle.node_model.specs.declared.acts.Act.TheVariants as act;
 ghost use Rattle.node_model.specs.Node as spec;
 ghost use Rattle.plan_base.specs.declared.ids.Family.{Family as FamilyOf};
-ghost use Rattle.node_model.specs.Counts.{came, StepBalances};
+ghost use Rattle.typing_rules.specs.Handlers.{MayHandle};
+ghost use Rattle.link_window.specs.declared.window.Took.TheVariants.{Fresh as FreshOne};
+ghost use Rattle.network_plan.specs.Rules.{MayName};
+ghost use Rattle.spelled_frame.specs.Spelled as spelled;
+ghost use Rattle.spelled_frame.specs.Spelled.{MayCarry};
+ghost use Rattle.node_model.specs.Counts.{came, stale, StepBalances};
 ghost use Rattle.node_model.specs.Fits.{ConfigFits, NodeFits, comes_fit, comes_within};
-ghost use Rattle.node_core.specs.Queued.{has_first, queued_at, TakesFirst};
-ghost use Rattle.wire_bytes.specs.Fields.{IsBytes};
-ghost use Rattle.packet_frame.specs.Forms.{IsPlain};
+ghost use Rattle.node_core.specs.Queued.{queued_at};
 ghost use Rattle.packet_frame.specs.Typed.{plain_of};
-ghost use Rattle.packet_frame.specs.declared.fault.FrameFault.{FrameFault};
-ghost use Rattle.packet_frame.specs.Decoding.{frame_of};
+ghost use Rattle.packet_frame.specs.Stamped.{stamped_plain};
 ghost use Rattle.node_core.specs.Turns.{IsResting};
-ghost use Rattle.node_core.specs.Stands.{NodeStands, IsStep, own_family, own_packet, asks_within};
+ghost use Rattle.node_core.specs.Stands.{NodeStands, IsStep, MayGoOn, version_of, mark_on, own_family, own_packet, asks_within};
 
 use crate::idle_services::IdleServices;
+use crate::lanes::{count_frames, has_frame, open_lanes, take_first};
 use crate::neighbour_list::NeighbourList;
 use crate::outgoing::{advert_sendings, packet_sending};
+use crate::reading::{code_of, read_as, what_of};
 use crate::routes::Routes;
 use crate::sends::{send_all, send_one};
+use crate::windows::{judge, note, open_windows};
 use chunk_types::{CheckedChunk, CheckedPacket};
-use link_queue::Queue;
+use link_window::{Stamp, Took, Version, Window};
 use network_plan::{Event, NodeConfig};
-use node_model::{Act, ActList, Acts, Reason};
-use packet_frame::{Frame, FrameFault, get_frame};
-use plan_base::{Dev, Family, Host, NoMemory};
+use node_model::{Act, ActList, Acts, Lane, Reason};
+use packet_frame::{Frame, FrameFault, Stamped};
+use plan_base::{Dev, Family, Host, Name, NoMemory};
+use plan_copies::copy_handler;
 use plan_items::Items;
 use plan_types::Checked;
 use remote_calls::default_route;
 use service_api::{Advert, Ctx, Hop, Services};
-use spelled_frame::SpelledFrame;
 use std::alloc::Global;
 
-/// The number of devices of a node, with device 0.
-const DEVICES: usize = 9;
-
-/// A node: its host, its neighbours by device, its routes, its services, a queue for each device from
-/// 0 to 8, the serial number of its next injection, its time in ticks, and the program of the last chunk
-/// that arrived, so that the same program isn't checked again.
+/// A node: its host, its version, the moment at which it began, its neighbours by device, its routes, its services, for each
+/// device from 0 to 8 its queue with the number of its next frame and its window, the serial number of its next injection, its
+/// time in ticks, and the program of the last chunk that arrived, so that the same program isn't checked again.
 #[derive(Drop)]
 pub struct Node<S: Services> {
     here: Host,
+    version: Version,
+    boot: u64,
     neighbours: NeighbourList<(Host, Dev)>,
     routes: Routes,
     services: IdleServices<S>,
-    queues: Vec<Queue<SpelledFrame>>,
+    lanes: Vec<Lane>,
+    windows: Vec<Window>,
     serial: u64,
     time: u64,
     known: Option<Checked>,
@@ -79,35 +84,6 @@ fn two_acts(alloc: Global, first: Act, second: Act) -> Result<ActList, NoMemory>
     Ok(acts)
 }
 
-/// A queue for each device, with nothing queued.
-fn open_queues(alloc: Global) -> Result<Vec<Queue<SpelledFrame>>, NoMemory>
-    ensures { IfOk result (λ queues. queues.items ≡ no_queues) }
-{
-    let mut queues = Items::new(alloc);
-    while queues.len() < DEVICES {
-        queues.add(Queue::with_room(alloc)?)?;
-    }
-    Ok(queues.into_vec())
-}
-
-/// Whether a frame is queued on a device.
-fn has_frame(queues: &[Queue<SpelledFrame>], at: usize) -> bool
-    ensures { result ≡ has_first (slice_get queues.now at) }
-{
-    match queues.get(at) {
-        None => false,
-        Some(queue) => !queue.is_empty(),
-    }
-}
-
-/// Takes the first frame of a device off. Condition: a frame is queued there.
-fn take_first(queues: &mut [Queue<SpelledFrame>], at: usize) -> SpelledFrame
-    requires { IsTrue (has_first (slice_get queues.old at)) }
-    ensures { TakesFirst queues.old at result queues.new }
-{
-    queues[at].pop().unwrap()
-}
-
 /// The neighbour on a device.
 fn neighbour_on(links: &[(Host, Dev)], dev: Dev) -> Option<Host>
     ensures { result ≡ neighbour_on links.now dev }
@@ -135,30 +111,15 @@ fn leads_to(links: &[(Host, Dev)], dev: Dev, host: Host) -> bool
     }
 }
 
-/// Shows that bytes are numbers below 256, and changes nothing. Takes no memory.
-pub fn are_bytes(bytes: &[u8])
-    ensures { IsBytes bytes.now }
+/// The packet with this handler, if there is one. Conditions: it has none, and the handler may handle. Takes no memory.
+fn handled(packet: CheckedPacket, handler: Option<Name>) -> CheckedPacket
+    requires plain { packet.handler ≡ None }
+    requires handler { MayHandle packet.chunk handler }
+    ensures { result ≡ record packet { handler = handler } }
 {
-    let _count = bytes.len();
-}
-
-/// Reads a frame; the answer is that of the definition, where memory is there, whatever program is known.
-fn read_frame(alloc: Global, bytes: &[u8], known: Option<&Checked>) -> Result<Frame, FrameFault>
-    ensures found { IfOk result (λ x. frame_of bytes.now ≡ Ok (plain_of x)) }
-    ensures fault { IfErr result (λ e. (e ≡ FrameFault.NoMemory) ⊎ (frame_of bytes.now ≡ Err e)) }
-    ensures within { IfOk result (λ x. asks_within (plain_of x)) }
-    ensures plain { IfOk result (λ x. IsPlain (plain_of x)) }
-{
-    are_bytes(bytes);
-    get_frame(alloc, bytes, known)
-}
-
-/// The program of a frame's chunk, for one more owner, or `None` where there is none or it has too many owners.
-fn code_of(frame: &Frame) -> Option<Checked> {
-    match frame {
-        Frame::Packet(packet) => packet.chunk().code().ok(),
-        Frame::Advert(_) => None,
-        Frame::Ask(_, chunk) => chunk.code().ok(),
+    match handler {
+        None => packet,
+        Some(name) => packet.handled_by(name),
     }
 }
 
@@ -170,28 +131,36 @@ fn next_tick(now: u64) -> u64
 }
 
 impl<S: Services + Drop> Node<S> {
-    /// A node at its beginning: it has heard nothing, nothing is queued, and its time is 0. Conditions: at
-    /// most 32 hosts, none twice; at most 8 neighbours; no `begin` of the services is open.
-    #[tactic(auto, unfolding(node_model::specs::State::new_node))]
+    /// A node at its beginning: it has heard nothing, nothing is queued, nothing was taken, and its time is 0. Conditions: at
+    /// most 32 hosts, none twice; neighbours on devices from 1 to 8, each once, in order; no `begin` of the services is open.
+    #[tactic(auto, unfolding(node_model::specs::State::new_node), using(node_laws::proofs::Contexts::near_by_devices))]
     pub fn new(alloc: Global, config: NodeConfig, services: S) -> Result<Node<S>, NoMemory>
         requires config { ConfigFits config }
         requires services { IsResting (S.stands services) }
-        ensures { IfOk result (λ node. NodeStands S.stands node (new_node config (S.stands services))) }
+        ensures stands { IfOk result (λ node. NodeStands S.stands node (new_node config (S.stands services))) }
+        ensures version { IfOk result (λ node. version_of node ≡ config.version) }
     {
         let NodeConfig {
             here,
             hosts,
             neighbours,
             serial,
+            version,
+            boot,
+            link,
         } = config;
         let routes = Routes::open(alloc, here, hosts.as_slice(), &neighbours)?;
-        let queues = open_queues(alloc)?;
+        let lanes = open_lanes(alloc, link)?;
+        let windows = open_windows(alloc)?;
         Ok(Node {
             here,
+            version,
+            boot,
             neighbours: NeighbourList::of(neighbours),
             routes,
             services: IdleServices::of(services),
-            queues,
+            lanes,
+            windows,
             serial,
             time: 0,
             known: None,
@@ -207,13 +176,32 @@ impl<S: Services> Node<S> {
         self.here
     }
 
+    /// The node's version. Takes no memory.
+    pub fn version(&self) -> Version
+        ensures { result ≡ version_of self.now }
+    {
+        self.version
+    }
+
     /// The number of frames that are queued on a device, 0 for one that isn't there. Takes no memory.
     pub fn queued(&self, dev: Dev) -> u32
         ensures { (s : NodeState) → NodeStands S.stands self.now s → result ≡ queued_at (slice_get s.queues dev.0) }
     {
-        match self.queues.get(dev.0 as usize) {
-            None => 0,
-            Some(queue) => queue.len(),
+        count_frames(&self.lanes, dev.0 as usize)
+    }
+
+    /// What its frames bear: a stamp under version 2, with the number 0 until they are queued.
+    #[tactic(auto, using(crate::proofs::StepLaws::mark_stands))]
+    fn mark(&self) -> Option<Stamp>
+        ensures value { result ≡ mark_on self.now }
+        ensures stands { (s : NodeState) → NodeStands S.stands self.now s → result ≡ spec.mark s }
+    {
+        match self.version {
+            Version::One => None,
+            Version::Two => Some(Stamp {
+                boot: self.boot,
+                link: 0,
+            }),
         }
     }
 
@@ -234,7 +222,7 @@ impl<S: Services> Node<S> {
         })
     }
 
-    /// The visit of a packet, after some acts.
+    /// The settled visit of a packet, after some acts. Condition: under version 1 it has no handler.
     #[tactic(auto, unfolding(node_model::specs::Node::visited))]
     fn visit(
         &mut self,
@@ -242,14 +230,17 @@ impl<S: Services> Node<S> {
         before: ActList,
         packet: &CheckedPacket,
     ) -> Result<Acts, NoMemory>
+        requires carried { MayCarry (mark_on self.old) packet.now.handler }
         ensures ok { (s : NodeState) → NodeStands S.stands self.old s → IfOk result (λ acts. IsStep S.stands (spec.visited before s packet.now) acts self.new) }
         ensures err { (s : NodeState) → NodeStands S.stands self.old s → OnErr result (NodeStands S.stands self.new s) }
+        ensures same { version_of self.new ≡ version_of self.old }
         ensures serial { self.new.serial ≡ self.old.serial }
     {
         let ctx = self.around(alloc, packet)?;
+        let mark = self.mark();
         let list = self
             .services
-            .turn(alloc, &ctx, &mut self.queues, before, packet)?;
+            .turn(alloc, &ctx, mark, &mut self.lanes, before, packet)?;
         Ok(Acts { list, frame: None })
     }
 
@@ -263,48 +254,60 @@ impl<S: Services> Node<S> {
         }
     }
 
-    /// The packet of the next injection. Condition: the bound is at most 65,535.
+    /// The packet of the next injection. Conditions: the bound is at most 65,535, and the handler, if there is one, may handle.
     fn next_packet(
         &self,
         alloc: Global,
         chunk: &CheckedChunk,
         bound: u32,
+        handler: &Option<Name>,
     ) -> Result<CheckedPacket, NoMemory>
-        requires { bound ≤ 65535 }
-        ensures { IfOk result (λ p. p ≡ own_packet self.now.here self.now.serial chunk.now bound) }
+        requires bound { bound ≤ 65535 }
+        requires handler { MayHandle chunk.now handler.now }
+        ensures { IfOk result (λ p. p ≡ own_packet self.now.here self.now.serial chunk.now bound handler.now) }
     {
         let route = default_route(alloc)?;
+        let name = copy_handler(alloc, handler)?;
         let chunk = chunk.copy(alloc)?;
-        Ok(CheckedPacket::of(self.next_family(), self.here, bound, route, chunk))
+        let packet = CheckedPacket::of(self.next_family(), self.here, bound, route, chunk);
+        Ok(handled(packet, name))
     }
 
-    /// The visit of an injected packet, after some acts; the next injection gets the next serial number.
+    /// The visit of an injected packet, after some acts; the next injection gets the next serial number. Conditions: a serial
+    /// number is left, and under version 1 the packet has no handler.
     fn visit_own(
         &mut self,
         alloc: Global,
         before: ActList,
         packet: &CheckedPacket,
     ) -> Result<Acts, NoMemory>
-        requires { self.old.serial < 18446744073709551615 }
+        requires left { self.old.serial < 18446744073709551615 }
+        requires carried { MayCarry (mark_on self.old) packet.now.handler }
         ensures ok { (s : NodeState) → NodeStands S.stands self.old s → IfOk result (λ acts. IsStep S.stands (spec.visited before (spec.next_serial s) packet.now) acts self.new) }
         ensures err { (s : NodeState) → NodeStands S.stands self.old s → OnErr result (NodeStands S.stands self.new s) }
+        ensures same { version_of self.new ≡ version_of self.old }
     {
         let acts = self.visit(alloc, before, packet)?;
         self.serial += 1;
         Ok(acts)
     }
 
-    /// An injection after some acts, with a bound of at most 65,535.
+    /// An injection after some acts. Conditions: the bound is at most 65,535; the handler is none under version 1, and one that may
+    /// handle or none under version 2.
+    #[tactic(auto, using(crate::proofs::StepLaws::named_handles, crate::proofs::StepLaws::named_carries))]
     fn admit(
         &mut self,
         alloc: Global,
         before: ActList,
         chunk: &CheckedChunk,
         bound: u32,
+        handler: &Option<Name>,
     ) -> Result<Acts, NoMemory>
         requires small { bound ≤ 65535 }
-        ensures ok { (s : NodeState) → NodeStands S.stands self.old s → IfOk result (λ acts. IsStep S.stands (spec.inject_step before s chunk.now bound) acts self.new) }
+        requires handler { MayName (version_of self.old) chunk.now handler.now }
+        ensures ok { (s : NodeState) → NodeStands S.stands self.old s → IfOk result (λ acts. IsStep S.stands (spec.inject_step before s chunk.now bound handler.now) acts self.new) }
         ensures err { (s : NodeState) → NodeStands S.stands self.old s → OnErr result (NodeStands S.stands self.new s) }
+        ensures same { version_of self.new ≡ version_of self.old }
     {
         if self.serial == u64::MAX {
             let list = with_act(before, Act::SerialsSpent)?;
@@ -312,26 +315,30 @@ impl<S: Services> Node<S> {
         }
         let injected = Act::Injected(self.next_family(), bound);
         let list = with_act(before, injected)?;
-        let packet = self.next_packet(alloc, chunk, bound)?;
+        let packet = self.next_packet(alloc, chunk, bound, handler)?;
         self.visit_own(alloc, list, &packet)
     }
 
-    /// The step of an injection with a bound of at most 65,535.
+    /// The step of an injection. Conditions: the bound is at most 65,535; the handler is none under version 1, and one that may
+    /// handle or none under version 2.
     pub fn inject(
         &mut self,
         alloc: Global,
         chunk: &CheckedChunk,
         bound: u32,
+        handler: &Option<Name>,
     ) -> Result<Acts, NoMemory>
         requires small { bound ≤ 65535 }
-        ensures ok { (s : NodeState) → NodeStands S.stands self.old s → IfOk result (λ acts. IsStep S.stands (spec.inject_step [] s chunk.now bound) acts self.new) }
+        requires handler { MayName (version_of self.old) chunk.now handler.now }
+        ensures ok { (s : NodeState) → NodeStands S.stands self.old s → IfOk result (λ acts. IsStep S.stands (spec.inject_step [] s chunk.now bound handler.now) acts self.new) }
         ensures err { (s : NodeState) → NodeStands S.stands self.old s → OnErr result (NodeStands S.stands self.new s) }
+        ensures same { version_of self.new ≡ version_of self.old }
     {
         let before = Items::new(alloc);
-        self.admit(alloc, before, chunk, bound)
+        self.admit(alloc, before, chunk, bound, handler)
     }
 
-    /// A packet without a handler that goes on over a device.
+    /// A packet that goes on over a device. Condition: under version 1 it has no handler.
     fn send_on(
         &mut self,
         alloc: Global,
@@ -339,13 +346,15 @@ impl<S: Services> Node<S> {
         packet: &CheckedPacket,
         over: Dev,
     ) -> Result<Acts, NoMemory>
-        requires plain { packet.now.handler ≡ None }
-        ensures ok { (s : NodeState) → NodeStands S.stands self.old s → IfOk result (λ acts. IsStep S.stands (spec.onward s dev (spec.packet_sending (record { dev = over; packet = packet.now }))) acts self.new) }
+        requires carried { MayCarry (mark_on self.old) packet.now.handler }
+        ensures ok { (s : NodeState) → NodeStands S.stands self.old s → IfOk result (λ acts. IsStep S.stands (spec.onward s dev (spec.packet_sending (spec.mark s) (record { dev = over; packet = packet.now }))) acts self.new) }
         ensures err { (s : NodeState) → NodeStands S.stands self.old s → OnErr result (NodeStands S.stands self.new s) }
+        ensures same { version_of self.new ≡ version_of self.old }
     {
         let mut list = Vec::with_capacity(alloc, 2)?;
-        let sending = packet_sending(alloc, over, packet)?;
-        let act = send_one(&mut self.queues, sending);
+        let mark = self.mark();
+        let sending = packet_sending(alloc, mark, over, packet)?;
+        let act = send_one(&mut self.lanes, sending);
         list.push_reserved(Act::Arrived(dev));
         list.push_reserved(act);
         Ok(Acts {
@@ -363,7 +372,7 @@ impl<S: Services> Node<S> {
         Ok(Acts { list, frame: None })
     }
 
-    /// A packet without a handler that goes on by a hop.
+    /// A packet that goes on by a hop. Condition: under version 1 it has no handler.
     #[tactic(auto, unfolding(node_model::specs::Node::forward_by))]
     fn forward_by(
         &mut self,
@@ -372,9 +381,10 @@ impl<S: Services> Node<S> {
         packet: &CheckedPacket,
         hop: Hop,
     ) -> Result<Acts, NoMemory>
-        requires plain { packet.now.handler ≡ None }
+        requires carried { MayCarry (mark_on self.old) packet.now.handler }
         ensures ok { (s : NodeState) → NodeStands S.stands self.old s → IfOk result (λ acts. IsStep S.stands (spec.forward_by s dev packet.now hop) acts self.new) }
         ensures err { (s : NodeState) → NodeStands S.stands self.old s → OnErr result (NodeStands S.stands self.new s) }
+        ensures same { version_of self.new ≡ version_of self.old }
     {
         let reason = match hop {
             Hop::To(_, over) => return self.send_on(alloc, dev, packet, over),
@@ -385,12 +395,13 @@ impl<S: Services> Node<S> {
         self.only_acts(alloc, Act::Arrived(dev), dropped)
     }
 
-    /// A packet without a handler for another host.
+    /// A packet for another host. Condition: under version 1 it has no handler.
     #[tactic(auto, unfolding(node_model::specs::Node::forward_step))]
     fn forward(&mut self, alloc: Global, dev: Dev, packet: &CheckedPacket) -> Result<Acts, NoMemory>
-        requires plain { packet.now.handler ≡ None }
+        requires carried { MayCarry (mark_on self.old) packet.now.handler }
         ensures ok { (s : NodeState) → NodeStands S.stands self.old s → IfOk result (λ acts. IsStep S.stands (spec.forward_step s dev packet.now) acts self.new) }
         ensures err { (s : NodeState) → NodeStands S.stands self.old s → OnErr result (NodeStands S.stands self.new s) }
+        ensures same { version_of self.new ≡ version_of self.old }
     {
         if packet.bound() == 0 {
             let dropped = Act::Dropped(Reason::NoBound, packet.family(), 0);
@@ -401,12 +412,13 @@ impl<S: Services> Node<S> {
         self.forward_by(alloc, dev, packet, hop)
     }
 
-    /// A packet without a handler arrives: one for this host is visited.
+    /// A packet arrives: one for this host is visited. Condition: under version 1 it has no handler.
     #[tactic(auto, unfolding(node_model::specs::Node::packet_step))]
     fn take_in(&mut self, alloc: Global, dev: Dev, packet: &CheckedPacket) -> Result<Acts, NoMemory>
-        requires plain { packet.now.handler ≡ None }
+        requires carried { MayCarry (mark_on self.old) packet.now.handler }
         ensures ok { (s : NodeState) → NodeStands S.stands self.old s → IfOk result (λ acts. IsStep S.stands (spec.packet_step s dev packet.now) acts self.new) }
         ensures err { (s : NodeState) → NodeStands S.stands self.old s → OnErr result (NodeStands S.stands self.new s) }
+        ensures same { version_of self.new ≡ version_of self.old }
     {
         if packet.dest().0 != self.here.0 {
             return self.forward(alloc, dev, packet);
@@ -424,7 +436,8 @@ impl<S: Services> Node<S> {
 
     /// Hears an advert on a device. Takes no memory.
     fn learn(&mut self, dev: Dev, advert: &Advert)
-        ensures { (s : NodeState) → NodeStands S.stands self.old s → NodeStands S.stands self.new (spec.hearing s dev advert.now) }
+        ensures stands { (s : NodeState) → NodeStands S.stands self.old s → NodeStands S.stands self.new (spec.hearing s dev advert.now) }
+        ensures same { version_of self.new ≡ version_of self.old }
     {
         self.routes.hear(dev, advert);
     }
@@ -434,6 +447,7 @@ impl<S: Services> Node<S> {
     fn hear(&mut self, alloc: Global, dev: Dev, advert: &Advert) -> Result<Acts, NoMemory>
         ensures ok { (s : NodeState) → NodeStands S.stands self.old s → IfOk result (λ acts. IsStep S.stands (spec.advert_step s dev advert.now) acts self.new) }
         ensures err { (s : NodeState) → NodeStands S.stands self.old s → OnErr result (NodeStands S.stands self.new s) }
+        ensures same { version_of self.new ≡ version_of self.old }
     {
         if !self.knows(dev, advert.host) {
             return self.only_acts(alloc, Act::Arrived(dev), Act::Misplaced);
@@ -443,11 +457,12 @@ impl<S: Services> Node<S> {
         Ok(acts)
     }
 
-    /// A frame of version 1 arrives.
+    /// A frame arrives. Condition: under version 1 a packet has no handler.
     fn arrive_frame(&mut self, alloc: Global, dev: Dev, frame: &Frame) -> Result<Acts, NoMemory>
-        requires { IsPlain (plain_of frame.now) }
+        requires { MayGoOn (mark_on self.old) (plain_of frame.now) }
         ensures ok { (s : NodeState) → NodeStands S.stands self.old s → IfOk result (λ acts. IsStep S.stands (spec.frame_step s dev (plain_of frame.now)) acts self.new) }
         ensures err { (s : NodeState) → NodeStands S.stands self.old s → OnErr result (NodeStands S.stands self.new s) }
+        ensures same { version_of self.new ≡ version_of self.old }
     {
         match frame {
             Frame::Packet(packet) => self.take_in(alloc, dev, packet),
@@ -456,9 +471,82 @@ impl<S: Services> Node<S> {
         }
     }
 
+    /// What a device takes a frame with this stamp as. Takes no memory.
+    #[tactic(auto, unfolding(node_model::specs::Node::takes_as))]
+    fn judge(&self, dev: Dev, stamp: Option<Stamp>) -> Took
+        ensures { (s : NodeState) → NodeStands S.stands self.now s → result ≡ spec.takes_as s.seen dev stamp }
+    {
+        match stamp {
+            None => Took::Fresh,
+            Some(stamp) => judge(&self.windows, dev, stamp),
+        }
+    }
+
+    /// Takes a fresh stamp on a device. Takes no memory.
+    #[tactic(auto, unfolding(node_model::specs::Node::takes_as, node_model::specs::Node::seen_then))]
+    fn note(&mut self, dev: Dev, stamp: Option<Stamp>)
+        ensures stands { (s : NodeState) → NodeStands S.stands self.old s → spec.takes_as s.seen dev stamp ≡ FreshOne → NodeStands S.stands self.new (spec.with_seen (spec.seen_then s.seen dev stamp) s) }
+        ensures same { version_of self.new ≡ version_of self.old }
+    {
+        let Some(stamp) = stamp else {
+            return;
+        };
+        note(&mut self.windows, dev, stamp);
+    }
+
+    /// A fresh frame arrives, and its stamp is taken. Condition: under version 1 a packet has no handler.
+    fn arrive_fresh(&mut self, alloc: Global, dev: Dev, stamped: &Stamped) -> Result<Acts, NoMemory>
+        requires { MayGoOn (mark_on self.old) (plain_of stamped.now.frame) }
+        ensures ok { (s : NodeState) → NodeStands S.stands self.old s → spec.takes_as s.seen dev stamped.now.stamp ≡ FreshOne → IfOk result (λ acts. IsStep S.stands (spec.stamped_as s dev (stamped_plain stamped.now) FreshOne) acts self.new) }
+        ensures err { (s : NodeState) → NodeStands S.stands self.old s → OnErr result (NodeStands S.stands self.new s) }
+        ensures same { version_of self.new ≡ version_of self.old }
+    {
+        let acts = self.arrive_frame(alloc, dev, &stamped.frame)?;
+        self.note(dev, stamped.stamp);
+        Ok(acts)
+    }
+
+    /// A stale frame arrives.
+    fn arrive_stale(
+        &self,
+        alloc: Global,
+        dev: Dev,
+        took: Took,
+        frame: &Frame,
+    ) -> Result<Acts, NoMemory>
+        ensures list { IfOk result (λ acts. acts.list ≡ act.Arrived dev ∷ act.Stale took (spelled.what_of (plain_of frame.now)) ∷ []) }
+        ensures frame { IfOk result (λ acts. acts.frame ≡ None) }
+    {
+        let stale = Act::Stale(took, what_of(frame));
+        self.only_acts(alloc, Act::Arrived(dev), stale)
+    }
+
+    /// A frame with its stamp arrives: it is stale where its stamp isn't fresh on its device. Condition: under version 1 a packet
+    /// has no handler.
+    #[tactic(auto, unfolding(node_model::specs::Node::stamped_step))]
+    fn arrive_stamped(
+        &mut self,
+        alloc: Global,
+        dev: Dev,
+        stamped: &Stamped,
+    ) -> Result<Acts, NoMemory>
+        requires { MayGoOn (mark_on self.old) (plain_of stamped.now.frame) }
+        ensures ok { (s : NodeState) → NodeStands S.stands self.old s → IfOk result (λ acts. IsStep S.stands (spec.stamped_step s dev (stamped_plain stamped.now)) acts self.new) }
+        ensures err { (s : NodeState) → NodeStands S.stands self.old s → OnErr result (NodeStands S.stands self.new s) }
+        ensures same { version_of self.new ≡ version_of self.old }
+    {
+        match self.judge(dev, stamped.stamp) {
+            Took::Fresh => self.arrive_fresh(alloc, dev, stamped),
+            Took::Repeated => self.arrive_stale(alloc, dev, Took::Repeated, &stamped.frame),
+            Took::TooOld => self.arrive_stale(alloc, dev, Took::TooOld, &stamped.frame),
+        }
+    }
+
     /// Keeps the program of a frame's chunk, where it has one. Takes no memory.
     fn remember(&mut self, frame: &Frame)
-        ensures { (s : NodeState) → NodeStands S.stands self.old s → NodeStands S.stands self.new s }
+        ensures stands { (s : NodeState) → NodeStands S.stands self.old s → NodeStands S.stands self.new s }
+        ensures same { version_of self.new ≡ version_of self.old }
+        ensures mark { mark_on self.new ≡ mark_on self.old }
     {
         if let Some(program) = code_of(frame) {
             self.known = Some(program);
@@ -470,11 +558,12 @@ impl<S: Services> Node<S> {
     pub fn arrive(&mut self, alloc: Global, dev: Dev, bytes: &[u8]) -> Result<Acts, NoMemory>
         ensures ok { (s : NodeState) → NodeStands S.stands self.old s → IfOk result (λ acts. IsStep S.stands (spec.arrive_step s dev bytes.now) acts self.new) }
         ensures err { (s : NodeState) → NodeStands S.stands self.old s → OnErr result (NodeStands S.stands self.new s) }
+        ensures same { version_of self.new ≡ version_of self.old }
     {
-        match read_frame(alloc, bytes, self.known.as_ref()) {
-            Ok(frame) => {
-                self.remember(&frame);
-                self.arrive_frame(alloc, dev, &frame)
+        match read_as(alloc, bytes, self.version, self.known.as_ref()) {
+            Ok(stamped) => {
+                self.remember(&stamped.frame);
+                self.arrive_stamped(alloc, dev, &stamped)
             }
             Err(FrameFault::NoMemory) => Err(NoMemory),
             Err(refusal) => self.only_acts(alloc, Act::Arrived(dev), Act::Bad(refusal)),
@@ -482,15 +571,17 @@ impl<S: Services> Node<S> {
     }
 
     /// What the owner asked.
+    #[tactic(auto, using(crate::proofs::StepLaws::none_named))]
     fn ask_frame(&mut self, alloc: Global, frame: &Frame) -> Result<Acts, NoMemory>
         requires { asks_within (plain_of frame.now) }
-        ensures ok { (s : NodeState) → NodeStands S.stands self.old s → IfOk result (λ acts. IsStep S.stands (spec.asked s (Ok (plain_of frame.now))) acts self.new) }
+        ensures ok { (s : NodeState) → NodeStands S.stands self.old s → IfOk result (λ acts. IsStep S.stands (spec.asked_plain s (plain_of frame.now)) acts self.new) }
         ensures err { (s : NodeState) → NodeStands S.stands self.old s → OnErr result (NodeStands S.stands self.new s) }
+        ensures same { version_of self.new ≡ version_of self.old }
     {
         match frame {
             Frame::Ask(bound, chunk) => {
                 let before = one_act(alloc, Act::Asked)?;
-                self.admit(alloc, before, chunk, *bound)
+                self.admit(alloc, before, chunk, *bound, &None)
             }
             _ => self.only_acts(alloc, Act::Asked, Act::Misplaced),
         }
@@ -501,11 +592,12 @@ impl<S: Services> Node<S> {
     fn control(&mut self, alloc: Global, bytes: &[u8]) -> Result<Acts, NoMemory>
         ensures ok { (s : NodeState) → NodeStands S.stands self.old s → IfOk result (λ acts. IsStep S.stands (spec.control_step s bytes.now) acts self.new) }
         ensures err { (s : NodeState) → NodeStands S.stands self.old s → OnErr result (NodeStands S.stands self.new s) }
+        ensures same { version_of self.new ≡ version_of self.old }
     {
-        match read_frame(alloc, bytes, self.known.as_ref()) {
-            Ok(frame) => {
-                self.remember(&frame);
-                self.ask_frame(alloc, &frame)
+        match read_as(alloc, bytes, self.version, self.known.as_ref()) {
+            Ok(stamped) => {
+                self.remember(&stamped.frame);
+                self.ask_frame(alloc, &stamped.frame)
             }
             Err(FrameFault::NoMemory) => Err(NoMemory),
             Err(refusal) => self.only_acts(alloc, Act::Asked, Act::Bad(refusal)),
@@ -517,15 +609,16 @@ impl<S: Services> Node<S> {
     pub fn tick(&mut self, alloc: Global) -> Result<Acts, NoMemory>
         ensures ok { (s : NodeState) → NodeStands S.stands self.old s → IfOk result (λ acts. IsStep S.stands (spec.tick_step s) acts self.new) }
         ensures err { (s : NodeState) → NodeStands S.stands self.old s → OnErr result (NodeStands S.stands self.new s) }
+        ensures same { version_of self.new ≡ version_of self.old }
     {
         let now = next_tick(self.time);
         let advert = self.routes.advert(alloc)?;
-        let sends = advert_sendings(alloc, &advert, self.neighbours.as_slice())?;
+        let sends = advert_sendings(alloc, self.mark(), &advert, self.neighbours.as_slice())?;
         let mut acts = Vec::with_capacity(alloc, sends.len() + 1)?;
         acts.push_reserved(Act::Ticked(now));
         self.services.expire(now);
         self.time = now;
-        send_all(&mut acts, &mut self.queues, sends);
+        send_all(&mut acts, &mut self.lanes, sends);
         Ok(Acts {
             list: Items::from_vec(acts),
             frame: None,
@@ -537,16 +630,17 @@ impl<S: Services> Node<S> {
     pub fn take(&mut self, alloc: Global, dev: Dev) -> Result<Acts, NoMemory>
         ensures ok { (s : NodeState) → NodeStands S.stands self.old s → IfOk result (λ acts. IsStep S.stands (spec.take_step s dev) acts self.new) }
         ensures err { (s : NodeState) → NodeStands S.stands self.old s → OnErr result (NodeStands S.stands self.new s) }
+        ensures same { version_of self.new ≡ version_of self.old }
     {
         let mut list = Vec::with_capacity(alloc, 1)?;
         let at = dev.0 as usize;
-        if !has_frame(self.queues.as_slice(), at) {
+        if !has_frame(&self.lanes, at) {
             return Ok(Acts {
                 list: Items::from_vec(list),
                 frame: None,
             });
         }
-        let frame = take_first(&mut self.queues, at);
+        let frame = take_first(&mut self.lanes, at);
         list.push_reserved(Act::Taken(dev, frame.what()));
         Ok(Acts {
             list: Items::from_vec(list),
@@ -556,12 +650,13 @@ impl<S: Services> Node<S> {
 
     /// The step of an event, by its case.
     fn step_by_case(&mut self, alloc: Global, event: &Event) -> Result<Acts, NoMemory>
-        requires { comes_within event.now }
+        requires { comes_within (version_of self.old) event.now }
         ensures ok { (s : NodeState) → NodeStands S.stands self.old s → IfOk result (λ acts. IsStep S.stands (spec.node_step s event.now) acts self.new) }
         ensures err { (s : NodeState) → NodeStands S.stands self.old s → OnErr result (NodeStands S.stands self.new s) }
+        ensures same { version_of self.new ≡ version_of self.old }
     {
         match event {
-            Event::Inject(chunk, bound) => self.inject(alloc, chunk, *bound),
+            Event::Inject(chunk, bound, handler) => self.inject(alloc, chunk, *bound, handler),
             Event::Frame(dev, bytes) => self.arrive(alloc, *dev, bytes.as_slice()),
             Event::Control(bytes) => self.control(alloc, bytes.as_slice()),
             Event::Tick => self.tick(alloc),
@@ -570,13 +665,15 @@ impl<S: Services> Node<S> {
     }
 
     /// One step, as the definition has it for each state that the node stands for: in balance for each family, and
-    /// keeping what every node keeps. Where memory is refused, the node stays. Conditions: an injected bound is at most 65,535, and a device at most 8.
+    /// keeping what every node keeps. Where memory is refused, the node stays. Conditions: an injected bound is at most 65,535 and
+    /// its handler none under version 1, and one that may handle or none under version 2; a device is at most 8.
     pub fn step(&mut self, alloc: Global, event: &Event) -> Result<Acts, NoMemory>
-        requires { comes_within event.now }
+        requires { comes_within (version_of self.old) event.now }
         ensures ok { (s : NodeState) → NodeStands S.stands self.old s → IfOk result (λ acts. IsStep S.stands (spec.node_step s event.now) acts self.new) }
         ensures err { (s : NodeState) → NodeStands S.stands self.old s → OnErr result (NodeStands S.stands self.new s) }
-        ensures balance { (f : FamilyOf) (s : NodeState) → StepBalances f (came f event.now) s (spec.node_step s event.now) }
-        ensures keeps { (s : NodeState) → comes_fit event.now → NodeFits s → NodeFits (spec.node_step s event.now).node }
+        ensures same { version_of self.new ≡ version_of self.old }
+        ensures balance { (f : FamilyOf) (s : NodeState) → StepBalances f (came f s event.now) (stale f s event.now) s (spec.node_step s event.now) }
+        ensures keeps { (s : NodeState) → comes_fit s.version event.now → NodeFits s → NodeFits (spec.node_step s event.now).node }
     {
         self.step_by_case(alloc, event)
     }

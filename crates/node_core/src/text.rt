@@ -6,7 +6,7 @@ ghost use Rattle.node_model.specs.Texts as spec;
 
 use frame_text::put_reason;
 use itoa::Buffer;
-use node_model::{Act, Reason, What};
+use node_model::{Act, Reason, Took, What};
 use packet_frame::FrameFault;
 use plan_base::{Bytes, Dev, Family, Host, NoMemory, Value};
 use plan_meaning::Outcome;
@@ -187,6 +187,26 @@ fn put_spent(out: &mut Bytes, host: Host, f: Family, left: u32) -> Result<(), No
     Ok(())
 }
 
+/// A handler that is called, with the bound that it has.
+fn put_handled(
+    out: &mut Bytes,
+    host: Host,
+    f: Family,
+    name: &[u8],
+    bound: u32,
+) -> Result<(), NoMemory>
+    ensures { OnOk result (out.new ≡ out.old ++ (spec.head_text (codes "handler") host ++ (codes " " ++ (spec.family_text f ++ (codes " " ++ (name.now ++ (codes " bound " ++ decimal bound))))))) }
+{
+    put_head(out, b"handler", host)?;
+    out.add_all(b" ")?;
+    put_family(out, f)?;
+    out.add_all(b" ")?;
+    out.add_all(name)?;
+    out.add_all(b" bound ")?;
+    put_number(out, u64::from(bound))?;
+    Ok(())
+}
+
 /// The word of a reason.
 fn reason_word(reason: Reason) -> &'static [u8]
     ensures { result.now ≡ spec.reason_text reason }
@@ -196,6 +216,7 @@ fn reason_word(reason: Reason) -> &'static [u8]
         Reason::NoService => b"NoService",
         Reason::NoRoute => b"NoRoute",
         Reason::QueueFull => b"QueueFull",
+        Reason::LinkSpent => b"LinkSpent",
     }
 }
 
@@ -280,6 +301,38 @@ fn put_dropped(
     Ok(())
 }
 
+/// The word of what a stamp was taken as.
+fn took_word(took: Took) -> &'static [u8]
+    ensures { result.now ≡ spec.took_text took }
+{
+    match took {
+        Took::Fresh => b"Fresh",
+        Took::Repeated => b"Repeated",
+        Took::TooOld => b"TooOld",
+    }
+}
+
+/// What a stale frame held: the family of a packet with its bound, or that it is an advert.
+fn put_held(out: &mut Bytes, what: What) -> Result<(), NoMemory>
+    ensures { OnOk result (out.new ≡ out.old ++ spec.stale_text what) }
+{
+    match what {
+        What::Packet(f, bound) => put_bound(out, f, bound)?,
+        What::Advert => out.add_all(b" advert")?,
+    }
+    Ok(())
+}
+
+fn put_stale(out: &mut Bytes, host: Host, took: Took, what: What) -> Result<(), NoMemory>
+    ensures { OnOk result (out.new ≡ out.old ++ (spec.head_text (codes "drop") host ++ (codes " " ++ (spec.took_text took ++ spec.stale_text what)))) }
+{
+    put_head(out, b"drop", host)?;
+    out.add_all(b" ")?;
+    out.add_all(took_word(took))?;
+    put_held(out, what)?;
+    Ok(())
+}
+
 fn put_taken(out: &mut Bytes, host: Host, dev: Dev, what: What) -> Result<(), NoMemory>
     ensures { OnOk result (out.new ≡ out.old ++ (spec.head_text (codes "send") host ++ (spec.device_text dev ++ (codes " " ++ spec.sent_text what)))) }
 {
@@ -302,6 +355,7 @@ pub fn put_act_text(alloc: Global, out: &mut Bytes, host: Host, act: &Act) -> Re
         Act::Ended(f, outcome, evals, left) => put_end(
             alloc, out, host, *f, outcome, *evals, *left,
         )?,
+        Act::Handled(f, name, bound) => put_handled(out, host, *f, name.as_slice(), *bound)?,
         Act::Queued(dev, f, bound) => put_queued(out, host, *dev, *f, *bound)?,
         Act::Dropped(reason, f, bound) => put_dropped(out, host, *reason, *f, *bound)?,
         Act::Bad(refusal) => put_bad(alloc, out, host, refusal)?,
@@ -312,6 +366,8 @@ pub fn put_act_text(alloc: Global, out: &mut Bytes, host: Host, act: &Act) -> Re
         Act::Asked => put_plain(out, b"arrive", host, b" control")?,
         Act::Misplaced => put_plain(out, b"drop", host, b" BadFrame Misplaced")?,
         Act::AdvertDropped(_) => put_plain(out, b"drop", host, b" QueueFull advert")?,
+        Act::AdvertSpent(_) => put_plain(out, b"drop", host, b" LinkSpent advert")?,
+        Act::Stale(took, what) => put_stale(out, host, *took, *what)?,
         Act::SerialsSpent => put_plain(out, b"drop", host, b" SerialsSpent")?,
         Act::NoMemory => put_plain(out, b"drop", host, b" NoMemory")?,
     }

@@ -15,7 +15,8 @@ use Rattle.line_files.specs.Programs.{with_line, program_in, call_at}
 use Rattle.line_files.proofs.FileLaws.{is_keeping}
 use Rattle.line_files.proofs.Keeping.{IfRead, then_keeps, done_keeps, none_keeps, IfStep, step_done, at_line_keeps, either_keeps, read_keeps}
 use Rattle.line_files.proofs.KeptPrograms.{program_is, call_is}
-use Rattle.line_files.proofs.Placing.{OnFault, fault_done, fault_here, at_line_placed, either_placed, Places}
+use Rattle.line_files.specs.Inside.{OnFault, RefusesRead}
+use Rattle.line_files.proofs.Placing.{fault_done, fault_here, at_line_placed, either_placed, Places, refuses_read}
 use Rattle.node_files.specs.declared.ask.AskWord.{AskWord}
 use Rattle.node_files.specs.declared.ask.AskWord.TheVariants as word
 use Rattle.node_files.specs.declared.ask.AskStage.{AskStage}
@@ -225,5 +226,9 @@ ask_places = record {
   finish = λ number s low b. end_placed s.checked number s low b;
 }
 
+-- they refuse lines that were read
+pub ask_refuses : RefusesRead ask_format nothing_asked
+ask_refuses = refuses_read ask_format nothing_asked Begun ask_places (record { entry = (omega arith, omega arith); program = (omega arith, omega arith) })
+
 pub ask_answered : (bytes : List ℕ) → Accepted ask_of bytes ⊎ Refused ask_of bytes
-ask_answered bytes = answered ask_format nothing_asked Begun ask_places (record { entry = (omega arith, omega arith); program = (omega arith, omega arith) }) bytes
+ask_answered bytes = answered ask_format nothing_asked ask_refuses bytes

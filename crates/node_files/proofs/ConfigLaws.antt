@@ -9,15 +9,18 @@ use Rattle.std.proofs.lemmas.Bool.{eqb-false}
 use Rattle.std.proofs.lemmas.List.Elements.{All-nil, All-cons, All-head, All-tail, All-push}
 use Rattle.plan_base.specs.declared.ids.Host.{Host}
 use Rattle.plan_base.specs.declared.ids.Dev.{Dev}
+use Rattle.plan_base.specs.declared.name.Name.{Name}
 use Rattle.plan_base.specs.declared.tree.Chunk.{Chunk}
 use Rattle.plan_base.specs.declared.tree.Program.{Program}
 use Rattle.plan_base.specs.Sizes.{chunk_weight}
 use Rattle.plan_types.specs.Kept.{IsChecked}
 use Rattle.service_api.specs.declared.package.PackageName.{PackageName}
+use Rattle.link_window.specs.declared.window.Version.{Version}
+use Rattle.link_window.specs.declared.window.Version.TheVariants.{One, Two}
 use Rattle.network_plan.specs.declared.serve.ServeConfig.{ServeConfig}
 use Rattle.network_plan.specs.FileNames.{is_file_name}
 use Rattle.network_plan.specs.Rules.{PackagesDiffer}
-use Rattle.network_plan.specs.NodeRules.{IsNeighbour, DevicesAscend, IsPort, PortsDiffer, KeepsInject, weights, KeepsServe}
+use Rattle.network_plan.specs.NodeRules.{IsNeighbour, DevicesAscend, IsPort, PortsDiffer, KeepsBoot, KeepsInject, weights, KeepsServe}
 use Rattle.line_files.specs.declared.fault.LineReason.TheVariants.{BadHeader, BadWord, UnknownProgram, TwiceNamed}
 use Rattle.line_files.specs.declared.fault.LineFault.{LineFault}
 use Rattle.line_files.specs.Lines.{lines}
@@ -25,11 +28,15 @@ use Rattle.line_files.specs.Reads.{word_at, end_at, allowed, FileGives}
 use Rattle.line_files.specs.Numbers.{number_at}
 use Rattle.line_files.specs.Packages.{package_at}
 use Rattle.line_files.specs.FileNames.{file_name_at}
-use Rattle.line_files.specs.Programs.{opened, with_line, program_in, injection_at, weighed}
+use Rattle.line_files.specs.Headers.{version_in}
+use Rattle.line_files.specs.Programs.{opened, with_line, program_in, weighed}
+use Rattle.line_files.specs.Injections.{injection_at}
+use Rattle.line_files.specs.Inside.{OnFault, RefusesRead}
 use Rattle.line_files.proofs.FileLaws.{is_keeping}
-use Rattle.line_files.proofs.Keeping.{IfRead, InRange, then_keeps, done_keeps, allowed_not, ok_or_is, number_is, file_name_is, package_is, either_false, AreHosts, IfStep, step_done, at_line_keeps, either_keeps, read_keeps}
-use Rattle.line_files.proofs.KeptPrograms.{program_is, injection_is, weighed_is}
-use Rattle.line_files.proofs.Placing.{OnFault, fault_done, fault_here, at_line_placed, either_placed, Places}
+use Rattle.line_files.proofs.Keeping.{IfRead, InRange, then_keeps, done_keeps, allowed_not, ok_or_is, number_is, file_name_is, package_is, either_false, AreHosts, IfStep, step_done, at_line_keeps, either_keeps, version_keeps, read_keeps}
+use Rattle.line_files.proofs.KeptPrograms.{program_is, weighed_is}
+use Rattle.line_files.proofs.KeptInjections.{injection_is}
+use Rattle.line_files.proofs.Placing.{fault_done, fault_here, at_line_placed, either_placed, version_placed, Places, refuses_read}
 use Rattle.node_files.specs.declared.config.HeadWord.{HeadWord}
 use Rattle.node_files.specs.declared.config.HeadWord.TheVariants as head
 use Rattle.node_files.specs.declared.config.TailWord.{TailWord}
@@ -41,24 +48,24 @@ use Rattle.node_files.specs.declared.config.ConfigStage.TheVariants as stages
 use Rattle.node_files.specs.declared.config.ConfigReading.{ConfigReading}
 use Rattle.node_files.specs.Parts.{behind_word, last_number}
 use Rattle.node_files.specs.Nodes.{host_line, hosts_line, neighbour_at, placed, device_of, port_device}
-use Rattle.node_files.specs.Configs.{port_line, is_used, free_port, control_line, period_line, log_line, wanted_line, tail_word, may_come, with_device, device_line, missing_line, program_line, inject_line, tail_rest, tail_line, close_program, config_step_at, config_said, config_end, config_format, nothing_read, config_of}
+use Rattle.node_files.specs.Configs.{port_line, is_used, free_port, control_line, period_line, log_line, wanted_line, tail_word, may_come, with_device, device_line, missing_line, program_line, inject_line, tail_rest, tail_line, close_program, begun_by, config_step_at, config_said, config_end, config_format, nothing_read, config_of}
 use Rattle.node_files.specs.Answers.{Accepted, Refused}
-use Rattle.node_files.proofs.PartLaws.{HasChecked, last_number_is, header_keeps, usual_keeps, header_placed, usual_placed, answered}
+use Rattle.node_files.proofs.PartLaws.{HasChecked, last_number_is, link_small, usual_keeps, usual_placed, answered}
 use Rattle.node_files.proofs.Placed.{all_placed, same_devices, ascend_placed, all_ports, ports_differ}
 use Rattle.node_files.proofs.NodeLaws.{hosts_line_is, neighbour_is, IsNew}
 
 -- ---- what the lines so far keep
 
 -- packages, the program and what is injected
-record KeepsTail (lacks : List PackageName) (program : Option Program) (at : List (ℕ × ℕ × Chunk)) (weight : ℕ) : Type 0 where
+record KeepsTail (version : Version) (lacks : List PackageName) (program : Option Program) (at : List (ℕ × ℕ × Chunk × Option Name)) (weight : ℕ) : Type 0 where
   missing : PackagesDiffer lacks
   checked : HasChecked program
-  injects : All KeepsInject at
+  injects : All (KeepsInject version) at
   sum : weight ≡ weights at
   few : weight ≤ 16777216
 
 abbrev Tail : ConfigReading → Type 0
-Tail s = KeepsTail s.missing s.checked s.at s.weight
+Tail s = KeepsTail s.version s.missing s.checked s.at s.weight
 
 abbrev ports_of : ℕ → ℕ → List (Dev × ℕ) → List ℕ
 ports_of port control devs = port ∷ control ∷ map (λ d. d.1) devs
@@ -85,7 +92,7 @@ abbrev Whole : ConfigReading → Type 0
 Whole s = AreHosts s.here s.hosts × Devices s × Tail s × InRange 1 60000 s.period × (is_file_name s.log ≡ true)
 
 abbrev KeptAt : ConfigStage → ConfigReading → Type 0
-KeptAt stages.Header s = Fresh s
+KeptAt stages.Header s = Fresh s × (s.at ≡ [])
 KeptAt (stages.Wants head.Host) s = Fresh s
 KeptAt (stages.Wants head.Hosts) s = Fresh s
 KeptAt (stages.Wants head.Port) s = Fresh s × AreHosts s.here s.hosts
@@ -244,7 +251,7 @@ program_keeps number ws s k =
     then_keeps Kept (end_at ws) _ (λ u hu.
     done_keeps Kept (record s { stage = stages.Inside; program = opened number }) k)
 
-weights_push : (is : List (ℕ × ℕ × Chunk)) (i : ℕ × ℕ × Chunk) → weights (is ++ i ∷ []) ≡ weights is + (1 + chunk_weight i.2)
+weights_push : (is : List (ℕ × ℕ × Chunk × Option Name)) (i : ℕ × ℕ × Chunk × Option Name) → weights (is ++ i ∷ []) ≡ weights is + (1 + chunk_weight i.2)
 weights_push [] i = omega arith
 weights_push (j ∷ js) i = omega (arith, weights_push js i)
 
@@ -257,21 +264,21 @@ inject_keeps ws s l k =
     then_keeps Kept (ok_or s.checked UnknownProgram) _ (λ program hp.
     then_keeps Kept (number_at 1 1000000 ws) _ (λ turn ht.
     then_keeps Kept (behind_word (codes "inject") turn.1) _ (λ more hm.
-    then_keeps Kept (injection_at program more) _ (λ i hi.
+    then_keeps Kept (injection_at s.version program more) _ (λ i hi.
     then_keeps Kept (weighed s.weight i.0) _ (λ total hw.
     let t = k.2 in
     let turns = number_is 1 1000000 ws turn ht in
     let in_all = weighed_is s.weight i.0 total hw in
     let program_is_checked = checked_is s.checked program t.checked (ok_or_is s.checked UnknownProgram program hp) in
-    let next : ConfigReading = record s { at = s.at ++ (turn.0, i.1, i.0) ∷ []; weight = total } in
+    let next : ConfigReading = record s { at = s.at ++ (turn.0, i.1, i.0, i.2) ∷ []; weight = total } in
     done_keeps Kept next (late_is s.stage next l (
       k.0,
       k.1,
       record {
         missing = t.missing;
         checked = t.checked;
-        injects = All-push KeepsInject s.at (turn.0, i.1, i.0) t.injects (turns.0, turns.1, injection_is program more program_is_checked i hi);
-        sum = omega (arith, in_all.0, t.sum, weights_push s.at (turn.0, i.1, i.0));
+        injects = All-push (KeepsInject s.version) s.at (turn.0, i.1, i.0, i.2) t.injects (turns.0, turns.1, injection_is s.version program more program_is_checked i hi);
+        sum = omega (arith, in_all.0, t.sum, weights_push s.at (turn.0, i.1, i.0, i.2));
         few = in_all.1;
       },
       k.3,
@@ -301,11 +308,26 @@ close_keeps s k =
     done_keeps Kept (record s { stage = stages.Tail parts.Behind; checked = Some p })
     (k.0, k.1, record { missing = t.missing; checked = program_is s.program.text p hp; injects = t.injects; sum = t.sum; few = t.few }, k.3, k.4))
 
+-- behind the header nothing is injected yet
+as_version : (version : Version) (s : ConfigReading) → KeptAt stages.Header s → Kept (begun_by s version)
+as_version version s k =
+    let t = k.0.2 in (
+      k.0.0,
+      k.0.1,
+      record {
+        missing = t.missing;
+        checked = t.checked;
+        injects = subst (λ at. All (KeepsInject version) at) (sym k.1) (All-nil (KeepsInject version));
+        sum = t.sum;
+        few = t.few;
+      },
+    )
+
 step_keeps : (stage : ConfigStage) (number : ℕ) (line : List ℕ) (s : ConfigReading) → s.stage ≡ stage → Kept s → IfStep Kept (config_step_at stage number line s)
 unfolding config_step_at
 step_keeps stages.Header number line s e k =
     let here : KeptAt stages.Header s = subst (λ t. KeptAt t s) e k in
-    header_keeps Kept (codes "planet node 1") number line (record s { stage = stages.Wants head.Host }) here
+    version_keeps Kept number (begun_by s) (version_in (codes "planet node ") line) (λ version. as_version version s here)
 step_keeps (stages.Wants w) number line s e k = usual_keeps Kept number line s (λ ws. wanted_line w ws s) k (λ ws. wanted_keeps w ws s (subst (λ t. KeptAt t s) e k))
 step_keeps (stages.Tail part) number line s e k =
     let here : Whole s = subst (λ t. KeptAt t s) e k in
@@ -317,14 +339,19 @@ step_keeps stages.Inside number line s e k =
     (at_line_keeps Kept s.program.line (close_program s) (close_keeps s here))
     (step_done Kept next (late_is s.stage next (subst IsLate (sym e) tt) here))
 
+no_boot : (version : Version) → KeepsBoot version 0
+no_boot One = refl
+no_boot Two = omega arith
+
 said_keeps : (s : ConfigReading) → Whole s → KeepsServe (config_said s)
 said_keeps s k =
     let h = k.0 in
     let d = k.1 in
     let t = k.2 in
     record {
-      node = record { few = h.rises.few; ascend = h.rises.ascend; numbers = h.rises.numbers; here = h.listed; neighbours = d.neighbours; devices = d.ascend; serial = omega arith };
+      node = record { few = h.rises.few; ascend = h.rises.ascend; numbers = h.rises.numbers; here = h.listed; neighbours = d.neighbours; devices = d.ascend; serial = omega arith; boot = no_boot s.version; link = link_small s.version };
       serial = refl;
+      link = refl;
       missing = t.missing;
       period = k.3;
       log = k.4;
@@ -342,7 +369,7 @@ end_keeps (stages.Tail part) number s e k y h = step_done KeepsServe (config_sai
 end_keeps stages.Inside number s e k y h = absurd cc
 
 nothing_keeps : Kept nothing_read
-nothing_keeps = (refl, refl, record { missing = tt; checked = tt; injects = All-nil KeepsInject; sum = refl; few = omega arith })
+nothing_keeps = ((refl, refl, record { missing = tt; checked = tt; injects = All-nil (KeepsInject One); sum = refl; few = omega arith }), refl)
 
 config_keeps : (bytes : List ℕ) → IfStep KeepsServe (config_of bytes)
 config_keeps bytes =
@@ -400,9 +427,9 @@ rest_begun number ws s low b tail.At =
     then_keeps (Begun number) (ok_or s.checked UnknownProgram) _ (λ program hp.
     then_keeps (Begun number) (number_at 1 1000000 ws) _ (λ turn ht.
     then_keeps (Begun number) (behind_word (codes "inject") turn.1) _ (λ more hm.
-    then_keeps (Begun number) (injection_at program more) _ (λ i hi.
+    then_keeps (Begun number) (injection_at s.version program more) _ (λ i hi.
     then_keeps (Begun number) (weighed s.weight i.0) _ (λ total hw.
-    done_keeps (Begun number) (record s { at = s.at ++ (turn.0, i.1, i.0) ∷ []; weight = total }) b)))))
+    done_keeps (Begun number) (record s { at = s.at ++ (turn.0, i.1, i.0, i.2) ∷ []; weight = total }) b)))))
 
 tail_begun : (part : TailPart) (number : ℕ) (ws : List (List ℕ)) (s : ConfigReading) → 1 ≤ number → Begun number s → IfRead (Begun number) (tail_line part number ws s)
 unfolding tail_line
@@ -420,7 +447,7 @@ close_begun number s b =
 
 step_begun : (stage : ConfigStage) (number : ℕ) (line : List ℕ) (s : ConfigReading) → 1 ≤ number → Begun number s → IfStep (Begun number) (config_step_at stage number line s)
 unfolding config_step_at
-step_begun stages.Header number line s low b = header_keeps (Begun number) (codes "planet node 1") number line (record s { stage = stages.Wants head.Host }) b
+step_begun stages.Header number line s low b = version_keeps (Begun number) number (begun_by s) (version_in (codes "planet node ") line) (λ version. b)
 step_begun (stages.Wants w) number line s low b = usual_keeps (Begun number) number line s (λ ws. wanted_line w ws s) b (λ ws. host_begun number ws s b w)
 step_begun (stages.Tail part) number line s low b = usual_keeps (Begun number) number line s (λ ws. tail_line part number ws s) b (λ ws. tail_begun part number ws s low b)
 step_begun stages.Inside number line s low b =
@@ -430,7 +457,7 @@ step_begun stages.Inside number line s low b =
 
 step_placed : (stage : ConfigStage) (number : ℕ) (line : List ℕ) (s : ConfigReading) → 1 ≤ number → Begun number s → OnFault number (config_step_at stage number line s)
 unfolding config_step_at
-step_placed stages.Header number line s low b = header_placed (codes "planet node 1") number line (record s { stage = stages.Wants head.Host }) low
+step_placed stages.Header number line s low b = version_placed number (begun_by s) (version_in (codes "planet node ") line) low
 step_placed (stages.Wants w) number line s low b = usual_placed number line s (λ ws. wanted_line w ws s) low
 step_placed (stages.Tail part) number line s low b = usual_placed number line s (λ ws. tail_line part number ws s) low
 step_placed stages.Inside number line s low b =
@@ -452,5 +479,9 @@ config_places = record {
   finish = λ number s low b. end_placed s.stage number s low;
 }
 
+-- configurations refuse lines that were read
+pub config_refuses : RefusesRead config_format nothing_read
+config_refuses = refuses_read config_format nothing_read Begun config_places (omega arith, omega arith)
+
 pub config_answered : (bytes : List ℕ) → Accepted config_of bytes ⊎ Refused config_of bytes
-config_answered bytes = answered config_format nothing_read Begun config_places (omega arith, omega arith) bytes
+config_answered bytes = answered config_format nothing_read config_refuses bytes

@@ -18,7 +18,8 @@ use Rattle.line_files.specs.Numbers.{number_at}
 use Rattle.line_files.specs.FileNames.{file_name_at}
 use Rattle.line_files.proofs.FileLaws.{is_keeping}
 use Rattle.line_files.proofs.Keeping.{IfRead, then_keeps, done_keeps, allowed_below, number_is, file_name_is, IfStep, step_done, read_keeps}
-use Rattle.line_files.proofs.Placing.{OnFault, fault_done, fault_here, Places}
+use Rattle.line_files.specs.Inside.{OnFault, RefusesRead}
+use Rattle.line_files.proofs.Placing.{fault_done, fault_here, Places, refuses_read}
 use Rattle.node_files.specs.declared.fleet.KidWord.{KidWord}
 use Rattle.node_files.specs.declared.fleet.KidWord.TheVariants as word
 use Rattle.node_files.specs.declared.fleet.FleetReading.{FleetReading}
@@ -113,5 +114,9 @@ fleet_places = record {
   finish = λ number s low b. end_placed s.begun (ltb 0 (length s.children)) number s low;
 }
 
+-- they refuse lines that were read
+pub fleet_refuses : RefusesRead fleet_format no_children
+fleet_refuses = refuses_read fleet_format no_children Anywhere fleet_places tt
+
 pub fleet_answered : (bytes : List ℕ) → Accepted fleet_of bytes ⊎ Refused fleet_of bytes
-fleet_answered bytes = answered fleet_format no_children Anywhere fleet_places tt bytes
+fleet_answered bytes = answered fleet_format no_children fleet_refuses bytes

@@ -1,8 +1,11 @@
 -- What the shared lines of node files keep, and where they refuse.
-use Rattle.std.proofs.Common.{◌≡◌, ◌⊎◌, inl, inr, ℕ, ◌+◌, ◌≤◌, List, length, Option, Some, None, Result, Ok, Err, refl, arith}
+use Rattle.std.proofs.Common.{◌≡◌, ◌⊎◌, inl, inr, ℕ, ◌+◌, ◌≤◌, ◌<◌, ◌^◌, List, length, Option, Some, None, Result, Ok, Err, refl, arith}
 use Rattle.std.specs.Str.{bytes_eq}
 use Rattle.plan_base.specs.declared.tree.Program.{Program}
 use Rattle.plan_types.specs.Kept.{IsChecked}
+use Rattle.link_window.specs.declared.window.Version.{Version}
+use Rattle.link_window.specs.declared.window.Version.TheVariants.{One, Two}
+use Rattle.network_plan.specs.NodeRules.{first_link}
 use Rattle.line_files.specs.declared.fault.LineReason.{LineReason}
 use Rattle.line_files.specs.declared.fault.LineReason.TheVariants.{BadHeader}
 use Rattle.line_files.specs.declared.fault.LineFault.{LineFault}
@@ -12,7 +15,9 @@ use Rattle.line_files.specs.Files.{Format, is_skipped, file_of}
 use Rattle.line_files.specs.Reads.{end_at}
 use Rattle.line_files.specs.Numbers.{number_at}
 use Rattle.line_files.proofs.Keeping.{IfRead, InRange, then_keeps, done_keeps, number_is, IfStep, step_done, step_none, at_line_keeps, either_keeps}
-use Rattle.line_files.proofs.Placing.{OnFault, fault_done, fault_here, at_line_placed, either_placed, Places, read_placed}
+use Rattle.line_files.specs.Inside.{OnFault, RefusesRead}
+use Rattle.line_files.proofs.LineLaws.{refused_placed}
+use Rattle.line_files.proofs.Placing.{fault_done, fault_here, at_line_placed, either_placed}
 use Rattle.node_files.specs.Parts.{last_number, header_line, usual_line}
 use Rattle.node_files.specs.Answers.{Accepted, Refused}
 
@@ -20,6 +25,11 @@ use Rattle.node_files.specs.Answers.{Accepted, Refused}
 abbrev pub HasChecked : Option Program → Type 0
 HasChecked None = Unit {0}
 HasChecked (Some p) = IsChecked p
+
+-- the number of a node's first frames is below 2^64
+pub link_small : (version : Version) → first_link version < 2 ^ 64
+link_small One = omega arith
+link_small Two = omega arith
 
 pub last_number_is : (low high : ℕ) (ws : List (List ℕ)) → IfRead (InRange low high) (last_number low high ws)
 unfolding last_number
@@ -48,5 +58,5 @@ answered_by answer bytes (Err (faults.Line n r)) e h =
 answered_by answer bytes (Err faults.NoMemory) e h = absurd (h faults.NoMemory refl)
 
 -- a file has a value or a first refusal
-pub answered : {S T : Type 0} (f : Format S T) (begin : S) (B : ℕ → S → Type 0) → Places f B → B 1 begin → (bytes : List ℕ) → Accepted (file_of f begin) bytes ⊎ Refused (file_of f begin) bytes
-answered f begin B places start bytes = answered_by (file_of f begin) bytes (file_of f begin bytes) refl (read_placed f B places (lines bytes) 1 begin (omega arith) start)
+pub answered : {S T : Type 0} (f : Format S T) (begin : S) → RefusesRead f begin → (bytes : List ℕ) → Accepted (file_of f begin) bytes ⊎ Refused (file_of f begin) bytes
+answered f begin places bytes = answered_by (file_of f begin) bytes (file_of f begin bytes) refl (λ e h. refused_placed f begin bytes e places h)

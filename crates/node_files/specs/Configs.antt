@@ -6,8 +6,11 @@ use Rattle.std.specs.Str.{bytes_eq}
 use lib.Chars.{codes}
 use Rattle.plan_base.specs.declared.ids.Host.{Host}
 use Rattle.plan_base.specs.declared.ids.Dev.{Dev}
+use Rattle.link_window.specs.declared.window.Version.{Version}
+use Rattle.link_window.specs.declared.window.Version.TheVariants.{One}
 use Rattle.network_plan.specs.declared.serve.ServeConfig.{ServeConfig}
 use Rattle.network_plan.specs.Hosts.{host_of}
+use Rattle.network_plan.specs.NodeRules.{first_link}
 use Rattle.line_files.specs.declared.fault.LineReason.{LineReason}
 use Rattle.line_files.specs.declared.fault.LineReason.TheVariants.{BadHeader, BadWord, UnknownProgram, TwiceNamed}
 use Rattle.line_files.specs.declared.fault.LineFault.{LineFault}
@@ -17,7 +20,9 @@ use Rattle.line_files.specs.Reads.{◌>>=◌, Part, word_at, end_at, allowed}
 use Rattle.line_files.specs.Numbers.{number_at}
 use Rattle.line_files.specs.Packages.{package_at}
 use Rattle.line_files.specs.FileNames.{file_name_at}
-use Rattle.line_files.specs.Programs.{opened, with_line, program_in, injection_at, weighed}
+use Rattle.line_files.specs.Headers.{version_line}
+use Rattle.line_files.specs.Programs.{opened, with_line, program_in, weighed}
+use Rattle.line_files.specs.Injections.{injection_at}
 use Rattle.node_files.specs.declared.config.HeadWord.{HeadWord}
 use Rattle.node_files.specs.declared.config.HeadWord.TheVariants as head
 use Rattle.node_files.specs.declared.config.TailWord.{TailWord}
@@ -27,7 +32,7 @@ use Rattle.node_files.specs.declared.config.TailPart.TheVariants as parts
 use Rattle.node_files.specs.declared.config.ConfigStage.{ConfigStage}
 use Rattle.node_files.specs.declared.config.ConfigStage.TheVariants as stages
 use Rattle.node_files.specs.declared.config.ConfigReading.{ConfigReading}
-use Rattle.node_files.specs.Parts.{behind_word, last_number, header_line, usual_line}
+use Rattle.node_files.specs.Parts.{behind_word, last_number, usual_line}
 use Rattle.node_files.specs.Nodes.{host_line, hosts_line, neighbour_at, placed, device_of, port_device}
 
 -- ---- the lines in front of the devices, in their order
@@ -133,15 +138,15 @@ program_line number ws s = do
   _ ← end_at ws
   Ok (record s { stage = stages.Inside; program = opened number })
 
--- `at TURN inject ENTRY BOUND ARGS` behind its first word
+-- `at TURN inject ENTRY BOUND ARGS` behind its first word, under version 2 with a handler or without
 unfoldable pub inject_line : List (List ℕ) → ConfigReading → Result ConfigReading LineReason
 inject_line ws s = do
   program ← ok_or s.checked UnknownProgram
   turn ← number_at 1 1000000 ws
   more ← behind_word (codes "inject") turn.1
-  i ← injection_at program more
+  i ← injection_at s.version program more
   total ← weighed s.weight i.0
-  Ok (record s { at = s.at ++ (turn.0, i.1, i.0) ∷ []; weight = total })
+  Ok (record s { at = s.at ++ (turn.0, i.1, i.0, i.2) ∷ []; weight = total })
 
 -- a line behind its first word
 unfoldable pub tail_rest : TailWord → ℕ → List (List ℕ) → ConfigReading → Result ConfigReading LineReason
@@ -170,16 +175,20 @@ inside_line line s = if bytes_eq line (codes "end program") then at_line s.progr
 
 -- ---- the whole file
 
+-- what the header says
+abbrev pub begun_by : ConfigReading → Version → ConfigReading
+begun_by s version = record s { stage = stages.Wants head.Host; version = version }
+
 -- what a line adds where it stands
 unfoldable pub config_step_at : ConfigStage → ℕ → List ℕ → ConfigReading → Result ConfigReading LineFault
-config_step_at stages.Header number line s = header_line (codes "planet node 1") number line (record s { stage = stages.Wants head.Host })
+config_step_at stages.Header number line s = version_line (codes "planet node ") number line (begun_by s)
 config_step_at (stages.Wants w) number line s = usual_line number line s (λ ws. wanted_line w ws s)
 config_step_at (stages.Tail part) number line s = usual_line number line s (λ ws. tail_line part number ws s)
 config_step_at stages.Inside number line s = inside_line line s
 
--- how the node serves, with serial number 1
+-- how the node serves, with serial number 1 and no moment yet
 abbrev pub config_said : ConfigReading → ServeConfig
-config_said s = record { node = record { here = s.here; hosts = s.hosts; neighbours = s.neighbours; serial = 1 }; missing = s.missing; port = s.port; control = s.control; period = s.period; log = s.log; devs = s.devs; at = s.at }
+config_said s = record { node = record { here = s.here; hosts = s.hosts; neighbours = s.neighbours; serial = 1; version = s.version; boot = 0; link = first_link s.version }; missing = s.missing; port = s.port; control = s.control; period = s.period; log = s.log; devs = s.devs; at = s.at }
 
 -- what the lines so far say where the file ends in front of the line with a number
 abbrev pub config_end : ConfigStage → ℕ → ConfigReading → Result ServeConfig LineFault
@@ -193,7 +202,7 @@ config_format = record { step = λ number line s. config_step_at s.stage number 
 
 -- nothing read yet; a port is 0 until its line is read
 abbrev pub nothing_read : ConfigReading
-nothing_read = record { stage = stages.Header; here = host_of 0; hosts = []; port = 0; control = 0; period = 0; log = []; neighbours = []; devs = []; missing = []; program = opened 1; checked = None; at = []; weight = 0 }
+nothing_read = record { stage = stages.Header; version = One; here = host_of 0; hosts = []; port = 0; control = 0; period = 0; log = []; neighbours = []; devs = []; missing = []; program = opened 1; checked = None; at = []; weight = 0 }
 
 -- what the bytes of a file say: how a node serves, or the first line outside the format with the reason
 abbrev pub config_of : List ℕ → Result ServeConfig LineFault

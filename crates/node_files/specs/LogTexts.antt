@@ -10,13 +10,15 @@ use Rattle.wire_bytes.specs.Fields.{IsBytes}
 use Rattle.service_api.specs.declared.package.PackageName.{PackageName}
 use Rattle.chunk_spelling.specs.Values.{chunk_bytes}
 use Rattle.chunk_spelling.specs.Spelling.{a_whole_chunk}
+use Rattle.link_window.specs.declared.window.Version.{Version}
+use Rattle.link_window.specs.declared.window.Version.TheVariants.{One, Two}
 use Rattle.network_plan.specs.declared.event.Event.{Event}
 use Rattle.network_plan.specs.declared.event.Event.TheVariants as events
 use Rattle.network_plan.specs.declared.event.LogEvent.{LogEvent}
 use Rattle.network_plan.specs.declared.event.LogEvent.TheVariants as logged
 use Rattle.network_plan.specs.declared.node.NodeConfig.{NodeConfig}
 use Rattle.network_plan.specs.declared.node.Log.{Log}
-use Rattle.schedule_laws.specs.Written.{package_word}
+use Rattle.schedule_laws.specs.Written.{package_word, handler_words, IsNamed}
 use Rattle.hex.specs.Hex.{encode_lower}
 
 -- words behind others, each behind a space, up to the end of the line
@@ -31,7 +33,7 @@ line_text (w ∷ ws) = w ++ closing ws
 
 -- the words of an event
 abbrev pub event_words : Event → List (List ℕ)
-event_words (events.Inject chunk bound) = codes "inject" ∷ decimal bound ∷ encode_lower (chunk_bytes chunk) ∷ []
+event_words (events.Inject chunk bound handler) = codes "inject" ∷ decimal bound ∷ encode_lower (chunk_bytes chunk) ∷ handler_words handler
 event_words (events.Frame d bytes) = codes "frame" ∷ decimal d.0 ∷ encode_lower bytes ∷ []
 event_words (events.Control bytes) = codes "control" ∷ encode_lower bytes ∷ []
 event_words events.Tick = codes "tick" ∷ []
@@ -68,15 +70,29 @@ missing_words p = codes "without" ∷ package_word p ∷ []
 abbrev pub missing_line : PackageName → List ℕ
 missing_line p = line_text (missing_words p)
 
+-- the first line
+abbrev pub header_text : Version → List ℕ
+header_text One = codes "planet log 1\n"
+header_text Two = codes "planet log 2\n"
+
+-- the moment at which a node of version 2 began
+abbrev pub boot_words : ℕ → List (List ℕ)
+boot_words boot = codes "boot" ∷ decimal boot ∷ []
+
+abbrev pub boot_text : Version → ℕ → List ℕ
+boot_text One boot = []
+boot_text Two boot = line_text (boot_words boot)
+
 -- the lines up to `events`: how the node begins, and what it lacks
 unfoldable pub head_text : NodeConfig → List PackageName → List ℕ
 head_text n missing =
-    codes "planet log 1\n"
+    header_text n.version
     ++ (line_text (host_words n.here)
+    ++ (boot_text n.version n.boot
     ++ (line_text (hosts_words n.hosts)
     ++ (flat_map device_line n.neighbours
     ++ (flat_map missing_line missing
-    ++ line_text (codes "events" ∷ [])))))
+    ++ line_text (codes "events" ∷ []))))))
 
 -- the whole text
 abbrev pub log_text : Log → List ℕ
@@ -87,7 +103,7 @@ pub record CanSpell (c : Chunk) : Type 0 where
   pub fits : a_whole_chunk.Fits c
   pub are_bytes : IsBytes (chunk_bytes c)
 
--- the chunk of an entry, if it has one, can be spelled
+-- the chunk of an entry, if it has one, can be spelled, and so can its handler
 abbrev pub IsSpellable : LogEvent → Type 0
-IsSpellable (logged.Step (events.Inject chunk bound)) = CanSpell chunk
+IsSpellable (logged.Step (events.Inject chunk bound handler)) = CanSpell chunk × IsNamed handler
 IsSpellable _ = Unit {0}

@@ -9,9 +9,10 @@ use crate::nodes::{host_line, hosts_line, neighbour, put_neighbour, put_port};
 use crate::parts::{expect, last_number};
 use line_files::{
     LineFault, LineFile, LineReason, OpenProgram, Stop, Words, allow, file_name, injection, is,
-    number, package, program, read_file, says_nothing, stopped_at, weighed,
+    number, package, program, read_file, says_nothing, stopped_at, version_of, weighed,
 };
-use network_plan::{DevPorts, Hosts, Injects, NodeConfig, ServeConfig};
+use link_window::Version;
+use network_plan::{DevPorts, Hosts, Injects, NodeConfig, ServeConfig, first_link};
 use plan_base::{Dev, Host, NoMemory, Text};
 use plan_items::Items;
 use plan_types::Checked;
@@ -111,6 +112,8 @@ pub enum ConfigStage {
 pub struct ConfigReading {
     /// Which line comes next.
     pub stage: ConfigStage,
+    /// The version, 1 until the header is read.
+    pub version: Version,
     /// The node's own host.
     pub here: Host,
     /// The hosts of the network.
@@ -152,6 +155,7 @@ impl ConfigReading {
     {
         ConfigReading {
             stage: ConfigStage::Header,
+            version: Version::One,
             here: Host(0),
             hosts: Items::new(alloc),
             port: 0,
@@ -312,8 +316,8 @@ impl ConfigReading {
         Ok(())
     }
 
-    /// `at TURN inject ENTRY BOUND ARGS` behind its first word. Reasons: `UnknownProgram`, `BadWord`, `BadNumber`,
-    /// `BadArgument`, `TooMany`.
+    /// `at TURN inject ENTRY BOUND ARGS` behind its first word, under version 2 with `handler NAME` in front of ARGS or
+    /// without. Reasons: `UnknownProgram`, `BadWord`, `BadNumber`, `BadArgument`, `TooMany`.
     #[tactic(auto, unfolding(crate::specs::Configs::inject_line))]
     fn inject(&mut self, alloc: Global, words: &mut Words<'_>) -> Result<(), Stop>
         ensures { Leaves result self.new (spec.inject_line words.old self.old) }
@@ -323,9 +327,9 @@ impl ConfigReading {
         };
         let turn = number(words, 1, 1_000_000)?;
         expect(words, b"inject")?;
-        let (chunk, bound) = injection(alloc, program, words)?;
+        let (chunk, bound, handler) = injection(alloc, self.version, program, words)?;
         let weight = weighed(self.weight, chunk.chunk())?;
-        self.at.add((turn, bound, chunk))?;
+        self.at.add((turn, bound, chunk, handler))?;
         self.weight = weight;
         Ok(())
     }
@@ -366,16 +370,19 @@ impl ConfigReading {
         self.rest(alloc, word, number, words)
     }
 
-    /// The header.
+    /// The header, which gives the version.
     #[tactic(auto, unfolding(crate::specs::Configs::config_step_at))]
     fn header(&mut self, number: u32, line: &[u8]) -> Result<(), LineFault>
         ensures { FileLeaves result self.new (config_step_at ConfigStage.Header number line.now self.old) }
     {
-        if !is(line, b"planet node 1") {
-            return Err(LineFault::Line(number, LineReason::BadHeader));
+        match version_of(line, b"planet node 1", b"planet node 2") {
+            None => Err(LineFault::Line(number, LineReason::BadHeader)),
+            Some(version) => {
+                self.version = version;
+                self.stage = ConfigStage::Wants(HeadWord::Host);
+                Ok(())
+            }
         }
-        self.stage = ConfigStage::Wants(HeadWord::Host);
-        Ok(())
     }
 
     /// A line up to the name of the log.
@@ -456,6 +463,9 @@ impl ConfigReading {
                 hosts: self.hosts,
                 neighbours: self.neighbours,
                 serial: 1,
+                version: self.version,
+                boot: 0,
+                link: first_link(self.version),
             },
             missing: self.missing,
             port: self.port,

@@ -12,7 +12,7 @@ mod log_text;
 mod nodes;
 mod parts;
 
-pub use answers::one_answer;
+pub use answers::{one_answer, refusals_are_of_lines_read};
 pub use ask::read_ask;
 pub use config::read_config;
 pub use fleet::read_fleet;

@@ -7,12 +7,13 @@ ghost use Rattle.node_files.specs.Logs.{node_word, may_come, node_rest, entry_wo
 
 use crate::chunk_words::chunk;
 use crate::nodes::{host_line, hosts_line, neighbour, put_neighbour};
-use crate::parts::last_number;
+use crate::parts::{expect, last_number, last_wide_number};
 use line_files::{
-    LineFault, LineFile, LineReason, Stop, Words, allow, hex_bytes, is, number, package, read_file,
-    says_nothing, stopped_at,
+    LineFault, LineFile, LineReason, Stop, Words, allow, handler, hex_bytes, is, number, package,
+    read_file, says_nothing, stopped_at, version_of,
 };
-use network_plan::{Event, Hosts, Log, LogEvent, LogEvents, NodeConfig};
+use link_window::Version;
+use network_plan::{Event, Hosts, Log, LogEvent, LogEvents, NodeConfig, first_link};
 use plan_base::{Dev, Host};
 use plan_items::Items;
 use service_api::{Neighbours, Packages};
@@ -103,6 +104,8 @@ pub enum LogStage {
     Header,
     /// The node's own host.
     Host,
+    /// The moment at which it began, under version 2.
+    Boot,
     /// The hosts of its network.
     Hosts,
     /// A line between the hosts and the entries, and whether a missing package was named.
@@ -116,6 +119,10 @@ pub enum LogStage {
 pub struct LogReading {
     /// Which line comes next.
     pub stage: LogStage,
+    /// The version, 1 until the header is read.
+    pub version: Version,
+    /// The moment at which the node began, 0 under version 1.
+    pub boot: u64,
     /// The node's own host.
     pub here: Host,
     /// The hosts of the network.
@@ -128,15 +135,17 @@ pub struct LogReading {
     pub events: LogEvents,
 }
 
-/// `inject BOUND HEX` behind its first word. Reasons: `BadWord`, `BadNumber`, `BadArgument`.
+/// `inject BOUND HEX` behind its first word, under version 2 with `handler NAME` at its end or without. Reasons:
+/// `BadWord`, `BadNumber`, `BadArgument`.
 #[tactic(auto, unfolding(crate::specs::Logs::inject_entry))]
-fn inject_entry(alloc: Global, words: &mut Words<'_>) -> Result<LogEvent, Stop>
-    ensures { Gives (λ e. e) result (spec.inject_entry words.old) }
+fn inject_entry(alloc: Global, version: Version, words: &mut Words<'_>) -> Result<LogEvent, Stop>
+    ensures { Gives (λ e. e) result (spec.inject_entry version words.old) }
 {
     let bound = number(words, 0, 65_535)?;
     let chunk = chunk(alloc, words)?;
+    let handler = handler(alloc, version, chunk.chunk().code.get(), words)?;
     words.end()?;
-    Ok(LogEvent::Step(Event::Inject(chunk, bound)))
+    Ok(LogEvent::Step(Event::Inject(chunk, bound, handler)))
 }
 
 /// `frame D HEX` behind its first word. Reasons: `BadWord`, `BadNumber`, `BadArgument`.
@@ -171,11 +180,16 @@ fn take_entry(words: &mut Words<'_>) -> Result<LogEvent, Stop>
 
 /// An entry behind its first word. Reasons: `BadWord`, `BadNumber`, `BadArgument`.
 #[tactic(auto, unfolding(crate::specs::Logs::entry_rest))]
-fn entry(alloc: Global, word: EntryWord, words: &mut Words<'_>) -> Result<LogEvent, Stop>
-    ensures { Gives (λ e. e) result (entry_rest word words.old) }
+fn entry(
+    alloc: Global,
+    version: Version,
+    word: EntryWord,
+    words: &mut Words<'_>,
+) -> Result<LogEvent, Stop>
+    ensures { Gives (λ e. e) result (entry_rest version word words.old) }
 {
     match word {
-        EntryWord::Inject => inject_entry(alloc, words),
+        EntryWord::Inject => inject_entry(alloc, version, words),
         EntryWord::Frame => frame_entry(alloc, words),
         EntryWord::Control => control_entry(alloc, words),
         EntryWord::Tick => {
@@ -190,6 +204,16 @@ fn entry(alloc: Global, word: EntryWord, words: &mut Words<'_>) -> Result<LogEve
     }
 }
 
+/// What comes behind the node's own host.
+fn behind_host(version: Version) -> LogStage
+    ensures { result ≡ spec.behind_host version }
+{
+    match version {
+        Version::One => LogStage::Hosts,
+        Version::Two => LogStage::Boot,
+    }
+}
+
 impl LogReading {
     /// Nothing read yet. Takes no memory.
     fn nothing(alloc: Global) -> LogReading
@@ -197,6 +221,8 @@ impl LogReading {
     {
         LogReading {
             stage: LogStage::Header,
+            version: Version::One,
+            boot: 0,
             here: Host(0),
             hosts: Items::new(alloc),
             neighbours: Items::new(alloc),
@@ -211,6 +237,17 @@ impl LogReading {
         ensures { Leaves result self.new (spec.own_line words.old self.old) }
     {
         self.here = host_line(words)?;
+        self.stage = behind_host(self.version);
+        Ok(())
+    }
+
+    /// The moment at which it began. Reasons: `BadWord`, `BadNumber`.
+    #[tactic(auto, unfolding(crate::specs::Logs::boot_line))]
+    fn boot(&mut self, words: &mut Words<'_>) -> Result<(), Stop>
+        ensures { Leaves result self.new (spec.boot_line words.old self.old) }
+    {
+        expect(words, b"boot")?;
+        self.boot = last_wide_number(words)?;
         self.stage = LogStage::Hosts;
         Ok(())
     }
@@ -298,21 +335,24 @@ impl LogReading {
         let word = words.next()?;
         let word = EntryWord::of(word).ok_or(LineReason::BadWord)?;
         allow(self.events.len() < 50_000, LineReason::TooMany)?;
-        let event = entry(alloc, word, words)?;
+        let event = entry(alloc, self.version, word, words)?;
         self.events.add(event)?;
         Ok(())
     }
 
-    /// The header.
+    /// The header, which gives the version.
     #[tactic(auto, unfolding(crate::specs::Logs::log_step_at))]
     fn header(&mut self, number: u32, line: &[u8]) -> Result<(), LineFault>
         ensures { FileLeaves result self.new (log_step_at LogStage.Header number line.now self.old) }
     {
-        if !is(line, b"planet log 1") {
-            return Err(LineFault::Line(number, LineReason::BadHeader));
+        match version_of(line, b"planet log 1", b"planet log 2") {
+            None => Err(LineFault::Line(number, LineReason::BadHeader)),
+            Some(version) => {
+                self.version = version;
+                self.stage = LogStage::Host;
+                Ok(())
+            }
         }
-        self.stage = LogStage::Host;
-        Ok(())
     }
 
     /// The line of the node's own host.
@@ -325,6 +365,21 @@ impl LogReading {
         }
         let mut words = Words::of(line);
         match self.own(&mut words) {
+            Ok(()) => Ok(()),
+            Err(stop) => Err(stopped_at(number, stop)),
+        }
+    }
+
+    /// The line of the moment at which it began.
+    #[tactic(auto, unfolding(crate::specs::Logs::log_step_at))]
+    fn boot_step(&mut self, number: u32, line: &[u8]) -> Result<(), LineFault>
+        ensures { FileLeaves result self.new (log_step_at LogStage.Boot number line.now self.old) }
+    {
+        if says_nothing(line) {
+            return Ok(());
+        }
+        let mut words = Words::of(line);
+        match self.boot(&mut words) {
             Ok(()) => Ok(()),
             Err(stop) => Err(stopped_at(number, stop)),
         }
@@ -391,6 +446,9 @@ impl LogReading {
                 hosts: self.hosts,
                 neighbours: self.neighbours,
                 serial: 1,
+                version: self.version,
+                boot: self.boot,
+                link: first_link(self.version),
             },
             missing: self.missing,
             events: self.events,
@@ -409,6 +467,7 @@ impl LineFile for LogReading {
         match self.stage {
             LogStage::Header => self.header(number, line),
             LogStage::Host => self.host_step(number, line),
+            LogStage::Boot => self.boot_step(number, line),
             LogStage::Hosts => self.hosts_step(alloc, number, line),
             LogStage::Node(lacks) => self.node_step(alloc, lacks, number, line),
             LogStage::Events => self.entry_step(alloc, number, line),
@@ -420,7 +479,7 @@ impl LineFile for LogReading {
         match self.stage {
             LogStage::Header => Err(LineFault::Line(number, LineReason::BadHeader)),
             LogStage::Events => Ok(self.said()),
-            LogStage::Host | LogStage::Hosts | LogStage::Node(_) => {
+            LogStage::Host | LogStage::Boot | LogStage::Hosts | LogStage::Node(_) => {
                 Err(LineFault::Line(number, LineReason::BadWord))
             }
         }

@@ -1,4 +1,4 @@
-ghost use Rattle.std.specs.Prelude.{◌≡◌, ◌++◌, ◌≤◌, length, codes, IfOk, OnOk, OnErr, Ok};
+ghost use Rattle.std.specs.Prelude.{◌≡◌, ◌++◌, ◌≤◌, length, codes, IfOk, OnOk, OnErr, Ok, Some};
 ghost use Rattle.std.specs.List.{All, flat_map};
 ghost use Rattle.std.specs.Fmt.{decimal};
 ghost use Rattle.hex.specs.Hex.{encode_lower};
@@ -8,17 +8,18 @@ ghost use Rattle.chunk_spelling.specs.Spelling.{a_whole_chunk};
 ghost use Rattle.network_plan.specs.NodeRules.{KeepsLog};
 ghost use Rattle.network_plan.specs.declared.node.Log.{Log as Logged};
 ghost use Rattle.network_plan.specs.declared.event.LogEvent.{LogEvent as Entry};
-ghost use Rattle.schedule_laws.specs.Written.{package_word};
+ghost use Rattle.schedule_laws.specs.Written.{package_word, handler_words, IsNamed};
 ghost use Rattle.node_files.specs.Logs.{log_of};
 ghost use Rattle.node_files.specs.LogTexts as spec;
-ghost use Rattle.node_files.specs.LogTexts.{line_text, event_words, entry_text, hosts_words, device_words, missing_words, CanSpell, IsSpellable, log_text};
+ghost use Rattle.node_files.specs.LogTexts.{closing, line_text, event_words, entry_text, hosts_words, device_words, missing_words, CanSpell, IsSpellable, log_text};
 
 use chunk_ranges::may_be_spelled;
 use chunk_types::CheckedChunk;
 use chunk_writer::put_chunk;
 use hex::encode;
+use link_window::Version;
 use network_plan::{Event, NodeConfig};
-use plan_base::{Bytes, Chunk, Dev, Host, NoMemory};
+use plan_base::{Bytes, Chunk, Dev, Host, Name, NoMemory};
 use plan_sizes::chunk_weight;
 use service_api::PackageName;
 use std::alloc::Global;
@@ -61,15 +62,42 @@ fn are_bytes(bytes: &[u8])
     let _begin = Cursor::over(bytes).at();
 }
 
+/// The end of the line of an injection that has a handler.
+fn put_name(name: &Name, out: &mut Bytes) -> Result<(), NoMemory>
+    ensures line { OnOk result (out.new ≡ out.old ++ closing (handler_words (Some name.now))) }
+    ensures again { IsNamed (Some name.now) }
+{
+    let bytes = name.as_slice();
+    out.add_all(b" handler ")?;
+    out.add_all(bytes)?;
+    out.add_all(b"\n")?;
+    Ok(())
+}
+
+/// The end of the line of an injection.
+fn put_handler(handler: &Option<Name>, out: &mut Bytes) -> Result<(), NoMemory>
+    ensures line { OnOk result (out.new ≡ out.old ++ closing (handler_words handler.now)) }
+    ensures again { IsNamed handler.now }
+{
+    match handler {
+        None => {
+            out.add_all(b"\n")?;
+            Ok(())
+        }
+        Some(name) => put_name(name, out),
+    }
+}
+
 /// The line of an injection.
 fn put_inject(
     alloc: Global,
     chunk: &CheckedChunk,
     bound: u32,
+    handler: &Option<Name>,
     out: &mut Bytes,
 ) -> Result<(), NoMemory>
-    ensures line { OnOk result (out.new ≡ out.old ++ line_text (event_words (Event.Inject chunk.now bound))) }
-    ensures again { OnOk result (CanSpell chunk.now) }
+    ensures line { OnOk result (out.new ≡ out.old ++ line_text (event_words (Event.Inject chunk.now bound handler.now))) }
+    ensures again { OnOk result (CanSpell chunk.now × IsNamed handler.now) }
 {
     let chunk = chunk.chunk();
     may_be_spelled(chunk);
@@ -79,8 +107,7 @@ fn put_inject(
     put_number(alloc, u64::from(bound), out)?;
     out.add_all(b" ")?;
     put_hex(alloc, bytes.as_slice(), out)?;
-    out.add_all(b"\n")?;
-    Ok(())
+    put_handler(handler, out)
 }
 
 /// The line of a frame.
@@ -121,7 +148,7 @@ fn put_event(alloc: Global, event: &Event, out: &mut Bytes) -> Result<(), NoMemo
     ensures again { OnOk result (IsSpellable (Entry.Step event.now)) }
 {
     match event {
-        Event::Inject(chunk, bound) => put_inject(alloc, chunk, *bound, out),
+        Event::Inject(chunk, bound, handler) => put_inject(alloc, chunk, *bound, handler, out),
         Event::Frame(dev, bytes) => put_frame(alloc, *dev, bytes.as_slice(), out),
         Event::Control(bytes) => put_control(alloc, bytes.as_slice(), out),
         Event::Tick => {
@@ -248,6 +275,31 @@ fn put_all_missing(missing: &[PackageName], out: &mut Bytes) -> Result<(), NoMem
     Ok(())
 }
 
+/// The first line of a log.
+fn header_of(version: Version) -> &'static [u8]
+    ensures { result.now ≡ spec.header_text version }
+{
+    match version {
+        Version::One => b"planet log 1\n",
+        Version::Two => b"planet log 2\n",
+    }
+}
+
+/// The line of the moment at which a node of version 2 began; of version 1 there is none.
+fn put_boot(alloc: Global, version: Version, boot: u64, out: &mut Bytes) -> Result<(), NoMemory>
+    ensures { OnOk result (out.new ≡ out.old ++ spec.boot_text version boot) }
+{
+    match version {
+        Version::One => Ok(()),
+        Version::Two => {
+            out.add_all(b"boot ")?;
+            put_number(alloc, boot, out)?;
+            out.add_all(b"\n")?;
+            Ok(())
+        }
+    }
+}
+
 /// The lines of a log up to `events`.
 #[tactic(auto, unfolding(crate::specs::LogTexts::head_text))]
 fn put_head(
@@ -258,8 +310,9 @@ fn put_head(
 ) -> Result<(), NoMemory>
     ensures { OnOk result (out.new ≡ out.old ++ spec.head_text node.now missing.now) }
 {
-    out.add_all(b"planet log 1\n")?;
+    out.add_all(header_of(node.version))?;
     put_host(alloc, node.here, out)?;
+    put_boot(alloc, node.version, node.boot, out)?;
     put_hosts(alloc, node.hosts.as_slice(), out)?;
     put_devices(alloc, node.neighbours.as_slice(), out)?;
     put_all_missing(missing, out)?;

@@ -3,7 +3,7 @@ ghost use Rattle.line_files.specs.Reads.{ReadsOn, Tells};
 ghost use Rattle.node_files.specs.Parts as spec;
 ghost use Rattle.node_files.specs.Parts.{behind_word};
 
-use line_files::{LineReason, Words, allow, is, number};
+use line_files::{LineReason, Words, allow, is, number, wide_number};
 
 /// Goes behind the word that must stand next. Reason: `BadWord`.
 #[tactic(auto, unfolding(crate::specs::Parts::behind_word))]
@@ -22,6 +22,16 @@ pub fn last_number(words: &mut Words<'_>, low: u32, high: u32) -> Result<u32, Li
     ensures range { IfOk result (λ n. (low ≤ n) × (n ≤ high)) }
 {
     let n = number(words, low, high)?;
+    words.end()?;
+    Ok(n)
+}
+
+/// The next word as a number below 2^64, which ends its line. Reasons: `BadWord`, `BadNumber`.
+#[tactic(auto, unfolding(crate::specs::Parts::last_number))]
+pub fn last_wide_number(words: &mut Words<'_>) -> Result<u64, LineReason>
+    ensures { Tells (λ n. n) result (spec.last_number 0 18446744073709551615 words.old) }
+{
+    let n = wide_number(words)?;
     words.end()?;
     Ok(n)
 }

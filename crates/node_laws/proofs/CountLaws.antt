@@ -1,15 +1,18 @@
 -- Laws of the counts of a node.
-use Rattle.std.proofs.Common.{◌≡◌, ℕ, zero, suc, ◌+◌, ◌-◌, ◌<◌, ◌≤◌, Bool, true, false, cond, List, [], ◌∷◌, ◌++◌, refl, sym, ap, ◌∙◌, arith, replicate}
+use Rattle.std.proofs.Common.{◌≡◌, ℕ, zero, suc, ◌+◌, ◌-◌, ◌<◌, ◌≤◌, Bool, true, false, cond, List, [], ◌∷◌, ◌++◌, refl, sym, ap, ◌∙◌, arith, replicate, Option}
 use Rattle.std.specs.Prelude.{sum_by, map, All, slice_set, slice_get, Some}
 use Rattle.std.proofs.lemmas.List.Sums.{sum_by-cons, sum_by-append, sum_by_push, sum_by-set}
 use Rattle.std.proofs.lemmas.List.Elements.{All-head, All-tail}
 use Rattle.std.proofs.lemmas.Option.{slice_get_within, get_or_from_slice_get}
 use Rattle.plan_base.specs.declared.ids.Family.{Family}
 use Rattle.packet_frame.specs.declared.frame.PlainFrame.{PlainFrame}
+use Rattle.packet_frame.specs.declared.frame.PlainStamped.{PlainStamped}
+use Rattle.link_window.specs.declared.window.Stamp.{Stamp}
+use Rattle.node_model.specs.declared.acts.Lane.{Lane}
 use Rattle.plan_meaning.specs.declared.sent.Sent.{Sent}
 use Rattle.node_model.specs.declared.acts.Act.{Act}
 use Rattle.node_model.specs.declared.acts.Sending.{Sending}
-use Rattle.node_model.specs.State.{Queues, no_queues}
+use Rattle.node_model.specs.State.{Queues, no_lane, no_queues}
 use Rattle.node_model.specs.Node.{packet_sending}
 use Rattle.node_model.specs.Counts.{only, is_family, act_sum, act_left, queue_sum, queues_sum}
 
@@ -58,13 +61,19 @@ abbrev pub dropped_left : Family → Sending → ℕ
 dropped_left f s = act_left f s.dropped
 
 module _ (count : PlainFrame → ℕ) where
-  pub queue_sum-push : (queue : List PlainFrame) (x : PlainFrame) → queue_sum count (queue ++ x ∷ []) ≡ queue_sum count queue + count x
-  unfolding queue_sum
-  queue_sum-push queue x = sum_by_push count queue x
+  abbrev of_frame : PlainStamped → ℕ
+  of_frame x = count x.frame
 
-  pub queue_sum-cons : (x : PlainFrame) (queue : List PlainFrame) → queue_sum count (x ∷ queue) ≡ count x + queue_sum count queue
+  abbrev of_lane : Lane → ℕ
+  of_lane lane = queue_sum count lane.frames
+
+  pub queue_sum-push : (queue : List PlainStamped) (x : PlainStamped) → queue_sum count (queue ++ x ∷ []) ≡ queue_sum count queue + count x.frame
   unfolding queue_sum
-  queue_sum-cons x queue = sum_by-cons count x queue
+  queue_sum-push queue x = sum_by_push of_frame queue x
+
+  pub queue_sum-cons : (x : PlainStamped) (queue : List PlainStamped) → queue_sum count (x ∷ queue) ≡ count x.frame + queue_sum count queue
+  unfolding queue_sum
+  queue_sum-cons x queue = sum_by-cons of_frame x queue
 
   pub queue_sum-nil : queue_sum count [] ≡ 0
   unfolding queue_sum
@@ -74,33 +83,33 @@ module _ (count : PlainFrame → ℕ) where
   unfolding queues_sum
   queues_sum-nil = refl
 
-  pub queues_sum-cons : (queue : List PlainFrame) (queues : Queues) → queues_sum count (queue ∷ queues) ≡ queue_sum count queue + queues_sum count queues
+  pub queues_sum-cons : (lane : Lane) (queues : Queues) → queues_sum count (lane ∷ queues) ≡ queue_sum count lane.frames + queues_sum count queues
   unfolding queues_sum
-  queues_sum-cons queue queues = sum_by-cons (queue_sum count) queue queues
+  queues_sum-cons lane queues = sum_by-cons of_lane lane queues
 
-  pub queues_sum-set : (queues : Queues) (d : ℕ) (old new : List PlainFrame) → slice_get queues d ≡ Some old
-      → queues_sum count (slice_set queues d new) + queue_sum count old ≡ queues_sum count queues + queue_sum count new
+  pub queues_sum-set : (queues : Queues) (d : ℕ) (old new : Lane) → slice_get queues d ≡ Some old
+      → queues_sum count (slice_set queues d new) + queue_sum count old.frames ≡ queues_sum count queues + queue_sum count new.frames
   unfolding queues_sum
   queues_sum-set queues d old new e =
       let at = get_or_from_slice_get queues d old old e in
-      let law = sum_by-set (queue_sum count) queues d new old (slice_get_within queues d old e) in
-      omega (arith, ap (queue_sum count) at)
+      let law = sum_by-set of_lane queues d new old (slice_get_within queues d old e) in
+      omega (arith, ap of_lane at)
 
   -- nothing is queued at the beginning
-  none_queued : (n : ℕ) → queues_sum count (replicate n []) ≡ 0
-  none_queued zero = queues_sum-nil
-  none_queued (suc n) = omega (arith, queues_sum-cons [] (replicate n []), queue_sum-nil, none_queued n)
+  none_queued : (link n : ℕ) → queues_sum count (replicate n (no_lane link)) ≡ 0
+  none_queued link zero = queues_sum-nil
+  none_queued link (suc n) = omega (arith, queues_sum-cons (no_lane link) (replicate n (no_lane link)), queue_sum-nil, none_queued link n)
 
-  pub no_queues_sum : queues_sum count no_queues ≡ 0
-  no_queues_sum = none_queued 9
+  pub no_queues_sum : (link : ℕ) → queues_sum count (no_queues link) ≡ 0
+  no_queues_sum link = none_queued link 9
 
 -- what packets of one family have is their sum, counted for that family
-pub sent_live : (f g : Family) (outbox : List Sent) → All (λ s. s.packet.family ≡ g) outbox
-    → sum_by (dropped_left f) (map packet_sending outbox) ≡ only f g (sum_by (λ s. s.packet.bound) outbox)
-sent_live f g [] h = sym (only-zero f g)
-sent_live f g (s ∷ ss) h =
-    let e : dropped_left f (packet_sending s) ≡ only f g s.packet.bound = ap (λ x. only f x s.packet.bound) (All-head (λ s. s.packet.family ≡ g) s ss h) in
-    let rest = sent_live f g ss (All-tail (λ s. s.packet.family ≡ g) s ss h) in
-    let sums = sum_by-cons (dropped_left f) (packet_sending s) (map packet_sending ss) in
+pub sent_live : (m : Option Stamp) (f g : Family) (outbox : List Sent) → All (λ s. s.packet.family ≡ g) outbox
+    → sum_by (dropped_left f) (map (packet_sending m) outbox) ≡ only f g (sum_by (λ s. s.packet.bound) outbox)
+sent_live m f g [] h = sym (only-zero f g)
+sent_live m f g (s ∷ ss) h =
+    let e : dropped_left f (packet_sending m s) ≡ only f g s.packet.bound = ap (λ x. only f x s.packet.bound) (All-head (λ s. s.packet.family ≡ g) s ss h) in
+    let rest = sent_live m f g ss (All-tail (λ s. s.packet.family ≡ g) s ss h) in
+    let sums = sum_by-cons (dropped_left f) (packet_sending m s) (map (packet_sending m) ss) in
     let bounds = ap (only f g) (sum_by-cons (λ s. s.packet.bound) s ss) in
     omega (arith, only-plus f g s.packet.bound (sum_by (λ s. s.packet.bound) ss))

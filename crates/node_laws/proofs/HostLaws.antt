@@ -11,7 +11,8 @@ use Rattle.dv_routing.specs.Routing.{is_among}
 use Rattle.dv_routing.specs.Sorted.{place_of, with_host, sorted_into}
 use Rattle.dv_routing.proofs.Sorting.{sorted_length, sorted_ascends}
 use Rattle.node_model.specs.State.{new_node}
-use Rattle.node_model.specs.Fits.{FrameKeeps, HostsFit, NetworkFits, ConfigFits, ServicesFit, NodeFits}
+use Rattle.node_model.specs.Fits.{StampedKeeps, HostsFit, NetworkFits, ConfigFits, ServicesFit, NodeFits}
+use Rattle.node_laws.proofs.Contexts.{near_by_devices}
 use Rattle.node_laws.proofs.Keeping.{none_kept}
 
 pub same_among : (x : Host) (hs : List HostSpec) → is_among (map (λ s. s.host) hs) x ≡ has_host x hs
@@ -39,9 +40,10 @@ unfolding new_node
 new_node_fits c n h s k f = record {
   here = h;
   hosts = sorted_fit c.hosts k.hosts;
-  near = k.near;
+  near = near_by_devices c.neighbours k.devices k.ordered;
+  ordered = k.ordered;
   services = f;
-  queues = none_kept FrameKeeps;
+  queues = none_kept (StampedKeeps c.version) c.link;
   serial = s;
   now = omega arith;
 }

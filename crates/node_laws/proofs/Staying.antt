@@ -3,14 +3,19 @@ use Rattle.std.proofs.Common.{◌≡◌, ℕ, zero, suc, ◌+◌, ◌-◌, ◌*�
 use Rattle.std.specs.Prelude.{sum_by, map, slice_set, slice_get, nat_lt, nat_le, ◌==◌, ◌&&◌, Option, Some, None, Result, Ok, Err}
 use Rattle.std.proofs.lemmas.List.{length-set}
 use Rattle.std.proofs.lemmas.Bool.Decides.{nat_tests}
+use Rattle.plan_base.specs.declared.name.Name.{Name}
 use Rattle.plan_base.specs.declared.ids.Host.{Host}
 use Rattle.plan_base.specs.declared.ids.Dev.{Dev}
 use Rattle.plan_base.specs.declared.ids.Family.{Family}
 use Rattle.plan_base.specs.declared.tree.Chunk.{Chunk}
 use Rattle.plan_base.specs.declared.tree.Packet.{Packet}
 use Rattle.packet_frame.specs.declared.frame.PlainFrame.{PlainFrame}
+use Rattle.packet_frame.specs.declared.frame.PlainStamped.{PlainStamped}
+use Rattle.link_window.specs.declared.window.Took.{Took}
+use Rattle.link_window.specs.declared.window.Took.TheVariants.{Fresh, Repeated, TooOld}
+use Rattle.node_model.specs.declared.acts.Lane.{Lane}
 use Rattle.packet_frame.specs.declared.fault.FrameFault.{FrameFault}
-use Rattle.packet_frame.specs.Decoding.{frame_of}
+use Rattle.packet_frame.specs.Decoding.{read_by}
 use Rattle.service_api.specs.declared.advert.Advert.{Advert}
 use Rattle.service_api.specs.declared.router.Hop.{Hop}
 use Rattle.service_api.specs.declared.router.Hop.TheVariants.{To, NoService, NoRoute}
@@ -20,8 +25,10 @@ use Rattle.node_model.specs.declared.acts.Act.{Act}
 use Rattle.node_model.specs.declared.acts.Act.TheVariants.{Injected, Arrived, SerialsSpent, Heard, Misplaced}
 use Rattle.node_model.specs.declared.acts.Sending.{Sending}
 use Rattle.node_model.specs.State.{Links, Queues, NodeState, routing_of, is_host, leads_to}
-use Rattle.node_model.specs.Visits.{visit_at}
-use Rattle.node_model.specs.Node.{Step, stepped, queue_room, has_room, queue_push, packet_sending, advert_sending, visit_sends, tick_sends, send_queues, sends_queues, visited, next_serial, injected_packet, inject_step, only_acts, onward, forward_by, forward_step, packet_step, hearing, advert_step, frame_step, arrived, arrive_step, tick_step, take_from, take_step}
+use Rattle.node_model.specs.Visits.{settled_at}
+use Rattle.link_window.specs.declared.window.Stamp.{Stamp}
+use Rattle.link_window.specs.Seen.{Seen, seen_with}
+use Rattle.node_model.specs.Node.{Step, stepped, queue_room, has_room, lane_with, queue_push, mark, takes_as, seen_at, seen_then, noting, stamped_as, stamped_step, take_first, packet_sending, advert_sending, visit_sends, tick_sends, send_queues, sends_queues, visited, next_serial, injected_packet, inject_step, only_acts, onward, forward_by, forward_step, packet_step, hearing, advert_step, frame_step, arrived, arrive_step, tick_step, take_from, take_step}
 
 -- a node with the same host, hosts and neighbours, and as many queues
 pub record Stays (old new : NodeState) : Type 0 where
@@ -29,20 +36,31 @@ pub record Stays (old new : NodeState) : Type 0 where
   pub hosts : new.hosts ≡ old.hosts
   pub neighbours : new.neighbours ≡ old.neighbours
   pub count : length new.queues ≡ length old.queues
+  pub version : new.version ≡ old.version
+  pub boot : new.boot ≡ old.boot
+  pub windows : length new.seen ≡ length old.seen
 
 itself : (node : NodeState) → Stays node node
-itself node = record { here = refl; hosts = refl; neighbours = refl; count = refl }
+itself node = record { here = refl; hosts = refl; neighbours = refl; count = refl; version = refl; boot = refl; windows = refl }
 
 after : (a b c : NodeState) → Stays a b → Stays b c → Stays a c
-after a b c x y = record { here = y.here ∙ x.here; hosts = y.hosts ∙ x.hosts; neighbours = y.neighbours ∙ x.neighbours; count = y.count ∙ x.count }
+after a b c x y = record {
+  here = y.here ∙ x.here;
+  hosts = y.hosts ∙ x.hosts;
+  neighbours = y.neighbours ∙ x.neighbours;
+  count = y.count ∙ x.count;
+  version = y.version ∙ x.version;
+  boot = y.boot ∙ x.boot;
+  windows = y.windows ∙ x.windows;
+}
 
-push_count : (t : Bool) (queues : Queues) (d : Dev) (x : PlainFrame) (queue : List PlainFrame) → length (cond t (queue_push queues d x (Some queue)) queues) ≡ length queues
-push_count true queues d x queue = length-set queues d.0 (queue ++ x ∷ [])
-push_count false queues d x queue = refl
+push_count : (t : Bool) (queues : Queues) (d : Dev) (x : PlainStamped) (lane : Lane) → length (cond t (queue_push queues d x (Some lane)) queues) ≡ length queues
+push_count true queues d x lane = length-set queues d.0 (lane_with lane x)
+push_count false queues d x lane = refl
 
-place_count : (o : Option (List PlainFrame)) (queues : Queues) (d : Dev) (x : PlainFrame) → length (cond (queue_room o) (queue_push queues d x o) queues) ≡ length queues
+place_count : (o : Option Lane) (queues : Queues) (d : Dev) (x : PlainStamped) → length (cond (queue_room o x) (queue_push queues d x o) queues) ≡ length queues
 place_count None queues d x = refl
-place_count (Some queue) queues d x = push_count (nat_lt (length queue) 64) queues d x queue
+place_count (Some lane) queues d x = push_count (queue_room (Some lane) x) queues d x lane
 
 send_count : (queues : Queues) (s : Sending) → length (send_queues queues s) ≡ length queues
 unfolding send_queues has_room
@@ -53,30 +71,33 @@ unfolding sends_queues
 sends_count queues [] = refl
 sends_count queues (s ∷ ss) = sends_count (send_queues queues s) ss ∙ send_count queues s
 
--- a step that changes none of them, nor the serial number
+-- a step that changes none of them, nor the serial number, nor what was taken
 pub record StepStays (old : NodeState) (step : Step) : Type 0 where
   pub node : Stays old step.node
   pub serial : step.node.serial ≡ old.serial
+  pub seen : step.node.seen ≡ old.seen
 
 cases : (t : Bool) (old : NodeState) (a b : Step) → StepStays old a → StepStays old b → StepStays old (cond t a b)
 cases true old a b x y = x
 cases false old a b x y = y
 
 still : (acts : List Act) (node : NodeState) → StepStays node (stepped acts None node)
-still acts node = record { node = itself node; serial = refl }
+still acts node = record { node = itself node; serial = refl; seen = refl }
 
 pub visited_stays : (acts : List Act) (node : NodeState) (p : Packet) → StepStays node (visited acts node p)
 unfolding visited
 visited_stays acts node p = record {
-  node = record { here = refl; hosts = refl; neighbours = refl; count = sends_count node.queues (visit_sends (visit_at node p)) };
+  node = record { here = refl; hosts = refl; neighbours = refl; count = sends_count node.queues (visit_sends (mark node) (settled_at node p).visit); version = refl; boot = refl; windows = refl };
   serial = refl;
+  seen = refl;
 }
 
 by_stays : (node : NodeState) (d : Dev) (p : Packet) (o : Hop) → StepStays node (forward_by node d p o)
 unfolding forward_by
 by_stays node d p (To host over) = record {
-  node = record { here = refl; hosts = refl; neighbours = refl; count = send_count node.queues (packet_sending (record { dev = over; packet = p })) };
+  node = record { here = refl; hosts = refl; neighbours = refl; count = send_count node.queues (packet_sending (mark node) (record { dev = over; packet = p })); version = refl; boot = refl; windows = refl };
   serial = refl;
+  seen = refl;
 }
 by_stays node d p NoService = still _ node
 by_stays node d p NoRoute = still _ node
@@ -91,45 +112,93 @@ packet_stays node d p = cases (is_host p.dest node.here) node _ _ (visited_stays
 
 advert_stays : (node : NodeState) (d : Dev) (a : Advert) → StepStays node (advert_step node d a)
 unfolding advert_step
-advert_stays node d a = cases (leads_to node.neighbours d a.host) node _ _ (record { node = record { here = refl; hosts = refl; neighbours = refl; count = refl }; serial = refl }) (still _ node)
+advert_stays node d a = cases (leads_to node.neighbours d a.host) node _ _ (record { node = record { here = refl; hosts = refl; neighbours = refl; count = refl; version = refl; boot = refl; windows = refl }; serial = refl; seen = refl }) (still _ node)
 
 pub frame_stays : (node : NodeState) (d : Dev) (x : PlainFrame) → StepStays node (frame_step node d x)
 frame_stays node d (PlainFrame.Packet p) = packet_stays node d p
 frame_stays node d (PlainFrame.Advert a) = advert_stays node d a
 frame_stays node d (PlainFrame.Ask bound chunk) = still _ node
 
-arrived_stays : (node : NodeState) (d : Dev) (r : Result PlainFrame FrameFault) → StepStays node (arrived node d r)
-arrived_stays node d (Ok x) = frame_stays node d x
-arrived_stays node d (Err e) = still _ node
+-- a stamp that is taken
+seen_count : (seen : List Seen) (d : Dev) (stamp : Option Stamp) → length (seen_then seen d stamp) ≡ length seen
+unfolding seen_then
+seen_count seen d None = refl
+seen_count seen d (Some s) = place (slice_get seen d.0)
+  where
+    place : (o : Option Seen) → length (seen_at seen d s o) ≡ length seen
+    place None = refl
+    place (Some old) = length-set seen d.0 (seen_with old s)
 
-pub arrive_stays : (node : NodeState) (d : Dev) (bytes : List ℕ) → StepStays node (arrive_step node d bytes)
+-- a step that changes none of them but what was taken
+pub record StampedStays (old : NodeState) (step : Step) : Type 0 where
+  pub node : Stays old step.node
+  pub serial : step.node.serial ≡ old.serial
+
+noting_stays : (node : NodeState) (d : Dev) (stamp : Option Stamp) (step : Step) → StepStays node step → StampedStays node (noting node d stamp step)
+noting_stays node d stamp step s = record {
+  node = record {
+    here = s.node.here;
+    hosts = s.node.hosts;
+    neighbours = s.node.neighbours;
+    count = s.node.count;
+    version = s.node.version;
+    boot = s.node.boot;
+    windows = seen_count node.seen d stamp;
+  };
+  serial = s.serial;
+}
+
+unstamped_stays : (node : NodeState) (step : Step) → StepStays node step → StampedStays node step
+unstamped_stays node step s = record { node = s.node; serial = s.serial }
+
+as_stays : (node : NodeState) (d : Dev) (x : PlainStamped) (t : Took) → StampedStays node (stamped_as node d x t)
+as_stays node d x Fresh = noting_stays node d x.stamp _ (frame_stays node d x.frame)
+as_stays node d x Repeated = unstamped_stays node _ (still _ node)
+as_stays node d x TooOld = unstamped_stays node _ (still _ node)
+
+pub stamped_stays : (node : NodeState) (d : Dev) (x : PlainStamped) → StampedStays node (stamped_step node d x)
+unfolding stamped_step
+stamped_stays node d x = as_stays node d x (takes_as node.seen d x.stamp)
+
+arrived_stays : (node : NodeState) (d : Dev) (r : Result PlainStamped FrameFault) → StampedStays node (arrived node d r)
+arrived_stays node d (Ok x) = stamped_stays node d x
+arrived_stays node d (Err e) = unstamped_stays node _ (still _ node)
+
+pub arrive_stays : (node : NodeState) (d : Dev) (bytes : List ℕ) → StampedStays node (arrive_step node d bytes)
 unfolding arrive_step
-arrive_stays node d bytes = arrived_stays node d (frame_of bytes)
+arrive_stays node d bytes = arrived_stays node d (read_by node.version bytes)
 
 pub tick_stays : (node : NodeState) → StepStays node (tick_step node)
 unfolding tick_step
-tick_stays node = record { node = record { here = refl; hosts = refl; neighbours = refl; count = sends_count node.queues (tick_sends node) }; serial = refl }
+tick_stays node = record { node = record { here = refl; hosts = refl; neighbours = refl; count = sends_count node.queues (tick_sends node); version = refl; boot = refl; windows = refl }; serial = refl; seen = refl }
 
-take_from_stays : (node : NodeState) (d : Dev) (o : Option (List PlainFrame)) → StepStays node (take_from node d o)
+take_first_stays : (node : NodeState) (d : Dev) (n : ℕ) (queue : List PlainStamped) → StepStays node (take_first node d n queue)
+take_first_stays node d n [] = still [] node
+take_first_stays node d n (x ∷ queue) = record {
+  node = record { here = refl; hosts = refl; neighbours = refl; count = length-set node.queues d.0 (record { frames = queue; number = n }); version = refl; boot = refl; windows = refl };
+  serial = refl;
+  seen = refl;
+}
+
+take_from_stays : (node : NodeState) (d : Dev) (o : Option Lane) → StepStays node (take_from node d o)
 take_from_stays node d None = still [] node
-take_from_stays node d (Some []) = still [] node
-take_from_stays node d (Some (x ∷ queue)) = record { node = record { here = refl; hosts = refl; neighbours = refl; count = length-set node.queues d.0 queue }; serial = refl }
+take_from_stays node d (Some lane) = take_first_stays node d lane.number lane.frames
 
 pub take_stays : (node : NodeState) (d : Dev) → StepStays node (take_step node d)
 unfolding take_step
 take_stays node d = take_from_stays node d (slice_get node.queues d.0)
 
 -- an injection changes the serial number alone
-inject_cases : (t : Bool) (node : NodeState) (chunk : Chunk) (bound : ℕ)
-    → Stays node (cond t (stepped ([] ++ SerialsSpent ∷ []) None node) (visited ([] ++ Injected (record { source = node.here; serial = node.serial }) bound ∷ []) (next_serial node) (injected_packet node chunk bound))).node
-inject_cases true node chunk bound = itself node
-inject_cases false node chunk bound =
-    let s = visited_stays ([] ++ Injected (record { source = node.here; serial = node.serial }) bound ∷ []) (next_serial node) (injected_packet node chunk bound) in
-    after node (next_serial node) _ (record { here = refl; hosts = refl; neighbours = refl; count = refl }) s.node
+inject_cases : (t : Bool) (node : NodeState) (chunk : Chunk) (bound : ℕ) (handler : Option Name)
+    → Stays node (cond t (stepped ([] ++ SerialsSpent ∷ []) None node) (visited ([] ++ Injected (record { source = node.here; serial = node.serial }) bound ∷ []) (next_serial node) (injected_packet node chunk bound handler))).node
+inject_cases true node chunk bound handler = itself node
+inject_cases false node chunk bound handler =
+    let s = visited_stays ([] ++ Injected (record { source = node.here; serial = node.serial }) bound ∷ []) (next_serial node) (injected_packet node chunk bound handler) in
+    after node (next_serial node) _ (record { here = refl; hosts = refl; neighbours = refl; count = refl; version = refl; boot = refl; windows = refl }) s.node
 
-pub inject_stays : (node : NodeState) (chunk : Chunk) (bound : ℕ) → Stays node (inject_step [] node chunk bound).node
+pub inject_stays : (node : NodeState) (chunk : Chunk) (bound : ℕ) (handler : Option Name) → Stays node (inject_step [] node chunk bound handler).node
 unfolding inject_step
-inject_stays node chunk bound = inject_cases (node.serial == 18446744073709551615) node chunk bound
+inject_stays node chunk bound handler = inject_cases (node.serial == 18446744073709551615) node chunk bound handler
 
 -- ---- only a take takes a frame
 
@@ -144,9 +213,9 @@ visited_frame : (acts : List Act) (node : NodeState) (p : Packet) → NoFrame (v
 unfolding visited
 visited_frame acts node p = refl
 
-pub inject_frame : (acts : List Act) (node : NodeState) (chunk : Chunk) (bound : ℕ) → NoFrame (inject_step acts node chunk bound)
+pub inject_frame : (acts : List Act) (node : NodeState) (chunk : Chunk) (bound : ℕ) (handler : Option Name) → NoFrame (inject_step acts node chunk bound handler)
 unfolding inject_step
-inject_frame acts node chunk bound = none_cases (node.serial == 18446744073709551615) _ _ refl (visited_frame _ (next_serial node) (injected_packet node chunk bound))
+inject_frame acts node chunk bound handler = none_cases (node.serial == 18446744073709551615) _ _ refl (visited_frame _ (next_serial node) (injected_packet node chunk bound handler))
 
 by_frame : (node : NodeState) (d : Dev) (p : Packet) (o : Hop) → NoFrame (forward_by node d p o)
 unfolding forward_by
@@ -171,13 +240,22 @@ frame_frame node d (PlainFrame.Packet p) = packet_frame node d p
 frame_frame node d (PlainFrame.Advert a) = advert_frame node d a
 frame_frame node d (PlainFrame.Ask bound chunk) = refl
 
-arrived_frame : (node : NodeState) (d : Dev) (r : Result PlainFrame FrameFault) → NoFrame (arrived node d r)
-arrived_frame node d (Ok x) = frame_frame node d x
+as_frame : (node : NodeState) (d : Dev) (x : PlainStamped) (t : Took) → NoFrame (stamped_as node d x t)
+as_frame node d x Fresh = frame_frame node d x.frame
+as_frame node d x Repeated = refl
+as_frame node d x TooOld = refl
+
+pub stamped_frame : (node : NodeState) (d : Dev) (x : PlainStamped) → NoFrame (stamped_step node d x)
+unfolding stamped_step
+stamped_frame node d x = as_frame node d x (takes_as node.seen d x.stamp)
+
+arrived_frame : (node : NodeState) (d : Dev) (r : Result PlainStamped FrameFault) → NoFrame (arrived node d r)
+arrived_frame node d (Ok x) = stamped_frame node d x
 arrived_frame node d (Err e) = refl
 
 pub arrive_frame : (node : NodeState) (d : Dev) (bytes : List ℕ) → NoFrame (arrive_step node d bytes)
 unfolding arrive_step
-arrive_frame node d bytes = arrived_frame node d (frame_of bytes)
+arrive_frame node d bytes = arrived_frame node d (read_by node.version bytes)
 
 pub tick_frame : (node : NodeState) → NoFrame (tick_step node)
 unfolding tick_step

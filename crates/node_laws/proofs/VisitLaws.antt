@@ -1,5 +1,5 @@
 -- Each visit keeps its balance; with good services and a typed chunk it never is without a case, and what it sends and leaves is good.
-use Rattle.std.proofs.Common.{◌≡◌, ℕ, ◌+◌, ◌<◌, ◌≤◌, [], refl, subst, arith}
+use Rattle.std.proofs.Common.{◌≡◌, ℕ, ◌+◌, ◌<◌, ◌≤◌, [], refl, ap, ◌∙◌, subst, arith}
 use Rattle.std.specs.Prelude.{length}
 use Rattle.std.proofs.lemmas.List.Elements.{All-nil}
 use Rattle.plan_base.specs.declared.tree.Chunk.{Chunk}
@@ -10,6 +10,7 @@ use Rattle.plan_base.specs.WellFormed.{IsWellFormedChunk}
 use Rattle.service_api.specs.Services.{ServiceState, IsGood, IsGoodChunk, IsGoodNote, kept, abandoned, begun_now}
 use Rattle.plan_meaning.specs.declared.stop.Stop.TheVariants.{Raised, WorkSpent, Wrong, NoMemory}
 use Rattle.plan_meaning.specs.declared.outcome.Visit.{Visit}
+use Rattle.plan_meaning.specs.declared.sent.Sent.{Sent}
 use Rattle.plan_meaning.specs.State.{VisitState}
 use Rattle.plan_meaning.specs.Run.{After, gave, stopped}
 use Rattle.plan_meaning.specs.Meaning.{meaning, visited}
@@ -19,7 +20,9 @@ use Rattle.meaning_laws.specs.Laws.{left_by, total}
 use Rattle.meaning_laws.proofs.Even as even
 use Rattle.meaning_laws.proofs.Sound.{visit_soundness}
 use Rattle.node_model.specs.State.{NodeState}
-use Rattle.node_model.specs.Visits.{around, evaluated, visit_end, visit_of, visit_at, services_end, services_after, VisitKeeps, HasCase}
+use Rattle.settled_visit.proofs.Sums.{settled_balance}
+use Rattle.settled_visit.proofs.Sends.{all_settled}
+use Rattle.node_model.specs.Visits.{around, evaluated, visit_end, visit_of, visit_at, settled_at, services_end, services_after, VisitKeeps, HasCase}
 use Rattle.node_model.specs.Fits.{ServicesFit}
 use Rattle.node_laws.proofs.Outgoing.{Outgoing, Out, visit_sends}
 
@@ -46,6 +49,18 @@ none_sent p = record { same = refl; family = All-nil (λ s. s.packet.family ≡ 
 pub visit_keeps : (node : NodeState) (p : Packet) → VisitKeeps p (visit_at node p)
 unfolding visit_of evaluated
 visit_keeps node p = end_keeps p (visited meaning p.chunk (start node p)).after (even.visit_balance p.chunk (start node p)) (visit_sends p.family p.chunk (start node p) (none_sent p))
+
+-- a settled visit keeps it too
+pub settled_keeps : (node : NodeState) (p : Packet) → VisitKeeps p (settled_at node p).visit
+settled_keeps node p =
+    let k = visit_keeps node p in
+    let ctx = around node p in
+    let v = visit_at node p in
+    record {
+      balance = settled_balance p ctx v ∙ k.balance;
+      family = all_settled (λ s. s.packet.family ≡ p.family) p ctx v k.family (λ t h. ap (λ (x : Sent). x.packet.family) h.is);
+      paid_each = all_settled (λ s. 0 < s.packet.bound) p ctx v k.paid_each (λ t h. omega (arith, h.some, ap (λ (x : Sent). x.packet.bound) h.is));
+    }
 
 -- ---- good services and a good chunk
 

@@ -3,4 +3,7 @@
 
 mod laws;
 
-pub use laws::{queues_move_in_order, step_balance, step_keeps, visit_balance, visit_has_case};
+pub use laws::{
+    contexts_are_ordered, queues_move_in_order, settled_visit_balance, step_balance, step_keeps,
+    visit_balance, visit_has_case, windows_only_close,
+};

@@ -1,18 +1,23 @@
 -- What the acts of a step count for a family, and the balance of a step.
 use Rattle.std.specs.Prelude.{◌≡◌, ℕ, ◌+◌, Bool, ◌==◌, ◌&&◌, if◌then◌else◌, List, sum_by, Option, Some, None, Result, Ok, Err}
+use Rattle.plan_base.specs.declared.ids.Dev.{Dev}
 use Rattle.plan_base.specs.declared.ids.Family.{Family}
 use Rattle.plan_base.specs.declared.tree.Packet.{Packet}
 use Rattle.packet_frame.specs.declared.frame.PlainFrame.{PlainFrame}
+use Rattle.packet_frame.specs.declared.frame.PlainStamped.{PlainStamped}
+use Rattle.link_window.specs.declared.window.Took.{Took}
+use Rattle.link_window.specs.declared.window.Took.TheVariants.{Fresh}
 use Rattle.packet_frame.specs.declared.fault.FrameFault.{FrameFault}
-use Rattle.packet_frame.specs.Decoding.{frame_of}
+use Rattle.packet_frame.specs.Decoding.{read_by}
 use Rattle.network_plan.specs.declared.event.Event.{Event}
 use Rattle.network_plan.specs.declared.event.Event.TheVariants as event
 use Rattle.node_model.specs.declared.acts.Act.{Act}
-use Rattle.node_model.specs.declared.acts.Act.TheVariants.{Injected, Ended, Queued, Dropped}
+use Rattle.node_model.specs.declared.acts.Act.TheVariants.{Injected, Ended, Queued, Dropped, Stale}
+use Rattle.node_model.specs.declared.acts.Lane.{Lane}
 use Rattle.spelled_frame.specs.declared.spelled.What.{What}
 use Rattle.spelled_frame.specs.declared.spelled.What.TheVariants as what
 use Rattle.node_model.specs.State.{Queues, NodeState}
-use Rattle.node_model.specs.Node.{Step}
+use Rattle.node_model.specs.Node.{Step, takes_as}
 
 -- whether these are the same family
 unfoldable pub is_family : Family → Family → Bool
@@ -51,6 +56,11 @@ abbrev pub what_left : Family → What → ℕ
 what_left f (what.Packet g bound) = only f g bound
 what_left f what.Advert = 0
 
+-- the bound of a frame that was stale
+abbrev pub act_stale : Family → Act → ℕ
+act_stale f (Stale t w) = what_left f w
+act_stale f _ = 0
+
 -- a count over the acts of a step
 unfoldable pub act_sum : (Act → ℕ) → List Act → ℕ
 act_sum count acts = sum_by count acts
@@ -63,15 +73,15 @@ frame_count count (PlainFrame.Packet p) = count p
 frame_count count _ = 0
 
 -- a count over the frames of a queue, and over queues
-unfoldable pub queue_sum : (PlainFrame → ℕ) → List PlainFrame → ℕ
-queue_sum count queue = sum_by count queue
+unfoldable pub queue_sum : (PlainFrame → ℕ) → List PlainStamped → ℕ
+queue_sum count queue = sum_by (λ x. count x.frame) queue
 
 unfoldable pub queues_sum : (PlainFrame → ℕ) → Queues → ℕ
-queues_sum count queues = sum_by (queue_sum count) queues
+queues_sum count queues = sum_by (λ lane. queue_sum count lane.frames) queues
 
-abbrev pub taken_sum : (PlainFrame → ℕ) → Option PlainFrame → ℕ
+abbrev pub taken_sum : (PlainFrame → ℕ) → Option PlainStamped → ℕ
 taken_sum count None = 0
-taken_sum count (Some x) = count x
+taken_sum count (Some x) = count x.frame
 
 abbrev pub packet_live : Family → Packet → ℕ
 packet_live f p = only f p.family p.bound
@@ -97,17 +107,44 @@ node_packets f node = queues_sum (frame_one f) node.queues
 
 -- ---- the balance of a step
 
--- what comes in with bytes that are accepted as a packet
-abbrev pub frame_came : Family → Result PlainFrame FrameFault → ℕ
-frame_came f (Ok x) = frame_live f x
-frame_came f (Err e) = 0
+-- a count of a frame where it was taken as fresh, and where it wasn't
+abbrev pub if_fresh : Took → ℕ → ℕ
+if_fresh Fresh n = n
+if_fresh _ n = 0
 
--- the bound that comes in with an event, other than by an injection
-abbrev pub came : Family → Event → ℕ
-came f (event.Frame d bytes) = frame_came f (frame_of bytes)
-came f _ = 0
+abbrev pub if_stale : Took → ℕ → ℕ
+if_stale Fresh n = 0
+if_stale _ n = n
 
--- a step of a node: what was granted and what came in is what was paid and left, the growth of the queues, and the frame taken
-pub record StepBalances (f : Family) (arrived : ℕ) (old : NodeState) (step : Step) : Type 0 where
+-- what comes in with a frame, and what is stale of it
+abbrev pub stamped_came : Family → NodeState → Dev → PlainStamped → ℕ
+stamped_came f node d x = if_fresh (takes_as node.seen d x.stamp) (frame_live f x.frame)
+
+abbrev pub stamped_stale : Family → NodeState → Dev → PlainStamped → ℕ
+stamped_stale f node d x = if_stale (takes_as node.seen d x.stamp) (frame_live f x.frame)
+
+-- the same for bytes
+abbrev pub bytes_came : Family → NodeState → Dev → Result PlainStamped FrameFault → ℕ
+bytes_came f node d (Ok x) = stamped_came f node d x
+bytes_came f node d (Err e) = 0
+
+abbrev pub bytes_stale : Family → NodeState → Dev → Result PlainStamped FrameFault → ℕ
+bytes_stale f node d (Ok x) = stamped_stale f node d x
+bytes_stale f node d (Err e) = 0
+
+-- the bound that comes in with an event, other than by an injection: that of a packet which is accepted and isn't stale
+abbrev pub came : Family → NodeState → Event → ℕ
+came f node (event.Frame d bytes) = bytes_came f node d (read_by node.version bytes)
+came f node _ = 0
+
+-- the bound of a packet that an event brings and that is stale
+abbrev pub stale : Family → NodeState → Event → ℕ
+stale f node (event.Frame d bytes) = bytes_stale f node d (read_by node.version bytes)
+stale f node _ = 0
+
+-- a step of a node: what was granted and what came in is what was paid and left, the growth of the queues, and the frame taken;
+-- and what is stale is in its acts
+pub record StepBalances (f : Family) (arrived late : ℕ) (old : NodeState) (step : Step) : Type 0 where
   pub law : act_sum (act_granted f) step.acts + arrived + node_live f old
       ≡ act_sum (act_hops f) step.acts + act_sum (act_evals f) step.acts + act_sum (act_left f) step.acts + node_live f step.node + taken_sum (frame_live f) step.frame
+  pub stale : act_sum (act_stale f) step.acts ≡ late

@@ -5,3 +5,5 @@ pub mod Counts
 pub mod Fits
 pub mod Texts
 pub mod Orders
+pub mod Contexts
+pub mod Numbers

@@ -1,17 +1,18 @@
 -- How a device's queue changes at a step.
 use Rattle.std.specs.Prelude.{◌≡◌, ℕ, List, [], ◌∷◌, ◌++◌, slice_get, Option, Some, None}
-use Rattle.packet_frame.specs.declared.frame.PlainFrame.{PlainFrame}
+use Rattle.packet_frame.specs.declared.frame.PlainStamped.{PlainStamped}
+use Rattle.node_model.specs.declared.acts.Lane.{Lane}
 use Rattle.node_model.specs.State.{Queues}
 
 -- the frames queued on a device, none where it isn't there
-abbrev pub frames_of : Option (List PlainFrame) → List PlainFrame
+abbrev pub frames_of : Option Lane → List PlainStamped
 frames_of None = []
-frames_of (Some queue) = queue
+frames_of (Some lane) = lane.frames
 
-abbrev pub queue_at : Queues → ℕ → List PlainFrame
+abbrev pub queue_at : Queues → ℕ → List PlainStamped
 queue_at queues d = frames_of (slice_get queues d)
 
 -- frames join a queue at its end, and leave it at its front
-pub data MovesInOrder (old new : List PlainFrame) : Type 0 where
-  joined : (more : List PlainFrame) → new ≡ old ++ more → MovesInOrder old new
-  taken : (first : PlainFrame) → old ≡ first ∷ new → MovesInOrder old new
+pub data MovesInOrder (old new : List PlainStamped) : Type 0 where
+  joined : (more : List PlainStamped) → new ≡ old ++ more → MovesInOrder old new
+  taken : (first : PlainStamped) → old ≡ first ∷ new → MovesInOrder old new

@@ -2,10 +2,12 @@
 use Rattle.std.specs.Prelude.{ℕ, Bool, ◌==◌, ◌&&◌, not, false, List, [], Option, Some, None, ◌∷◌, replicate, if◌then◌else◌}
 use Rattle.plan_base.specs.declared.ids.Host.{Host}
 use Rattle.plan_base.specs.declared.ids.Dev.{Dev}
-use Rattle.packet_frame.specs.declared.frame.PlainFrame.{PlainFrame}
+use Rattle.link_window.specs.declared.window.Version.{Version}
+use Rattle.link_window.specs.Seen.{Seen, nothing_seen}
 use Rattle.service_api.specs.declared.advert.Advert.{Advert}
 use Rattle.service_api.specs.Services.{ServiceState}
 use Rattle.network_plan.specs.declared.node.NodeConfig.{NodeConfig}
+use Rattle.node_model.specs.declared.acts.Lane.{Lane}
 use Rattle.dv_routing.specs.Routing.{Routing}
 use Rattle.dv_routing.specs.Sorted.{sorted_into}
 
@@ -17,12 +19,13 @@ is_host a b = a.0 == b.0
 abbrev pub Links : Type 0
 Links = List (Host × Dev)
 
--- the frames queued on each device, from device 0
+-- the frames queued on each device, from device 0, and the number of the next one
 abbrev pub Queues : Type 0
-Queues = List (List PlainFrame)
+Queues = List Lane
 
 -- a node: its host, the hosts of its network, its neighbours by device, all adverts that it heard with their devices, what its
--- services stand for, its queues, the serial number of its next injection, and its time in ticks
+-- services stand for, its queues, the serial number of its next injection, its time in ticks, its version, the moment at which it
+-- began, and what each device has taken, from device 0
 pub record NodeState : Type 0 where
   pub here : Host
   pub hosts : List Host
@@ -32,6 +35,9 @@ pub record NodeState : Type 0 where
   pub queues : Queues
   pub serial : ℕ
   pub now : ℕ
+  pub version : Version
+  pub boot : ℕ
+  pub seen : List Seen
 
 -- what the node's routes come from
 abbrev pub routing_of : NodeState → Routing
@@ -50,9 +56,17 @@ is_the_host (Some g) h = is_host g h
 abbrev pub leads_to : Links → Dev → Host → Bool
 leads_to links d h = not (d.0 == 0) && is_the_host (neighbour_on links d) h
 
+-- a device with nothing queued, and the number of its first frame
+abbrev pub no_lane : ℕ → Lane
+no_lane link = record { frames = []; number = link }
+
 -- nine devices with nothing queued
-abbrev pub no_queues : Queues
-no_queues = replicate 9 []
+abbrev pub no_queues : ℕ → Queues
+no_queues link = replicate 9 (no_lane link)
+
+-- nine devices that have taken nothing
+abbrev pub none_seen : List Seen
+none_seen = replicate 9 nothing_seen
 
 -- a node at the beginning: it has heard nothing, nothing is queued, and its time is 0
 unfoldable pub new_node : NodeConfig → ServiceState → NodeState
@@ -62,7 +76,10 @@ new_node config services = record {
   neighbours = config.neighbours;
   heard = [];
   services = services;
-  queues = no_queues;
+  queues = no_queues config.link;
   serial = config.serial;
   now = 0;
+  version = config.version;
+  boot = config.boot;
+  seen = none_seen;
 }

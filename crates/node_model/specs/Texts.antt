@@ -11,8 +11,10 @@ use Rattle.service_api.specs.declared.answer.Note.{Note}
 use Rattle.service_api.specs.declared.answer.Note.TheVariants.{Print, Port}
 use Rattle.plan_meaning.specs.declared.outcome.Outcome.{Outcome}
 use Rattle.plan_meaning.specs.declared.outcome.Outcome.TheVariants as outcome
+use Rattle.link_window.specs.declared.window.Took.{Took}
+use Rattle.link_window.specs.declared.window.Took.TheVariants.{Fresh, Repeated, TooOld}
 use Rattle.node_model.specs.declared.acts.Act.{Act}
-use Rattle.node_model.specs.declared.acts.Act.TheVariants.{Injected, Arrived, Asked, Noted, Ended, Queued, Dropped, Bad, Misplaced, AdvertQueued, AdvertDropped, Heard, Ticked, Taken, SerialsSpent, NoMemory}
+use Rattle.node_model.specs.declared.acts.Act.TheVariants.{Injected, Arrived, Asked, Noted, Ended, Handled, Queued, Dropped, Bad, Misplaced, AdvertQueued, AdvertDropped, AdvertSpent, Stale, Heard, Ticked, Taken, SerialsSpent, NoMemory}
 use Rattle.node_model.specs.declared.acts.Reason.{Reason}
 use Rattle.node_model.specs.declared.acts.Reason.TheVariants as reason
 use Rattle.spelled_frame.specs.declared.spelled.What.{What}
@@ -28,6 +30,7 @@ reason_text reason.NoBound = codes "NoBound"
 reason_text reason.NoService = codes "NoService"
 reason_text reason.NoRoute = codes "NoRoute"
 reason_text reason.QueueFull = codes "QueueFull"
+reason_text reason.LinkSpent = codes "LinkSpent"
 
 -- the head of a line, such as `queue @1`
 abbrev pub head_text : List ℕ → Host → List ℕ
@@ -53,6 +56,17 @@ end_text h f (outcome.Value v) evals rest = head_text (codes "value") h ++ (code
 end_text h f (outcome.Raised x) evals rest = head_text (codes "raised") h ++ (codes " " ++ (family_text f ++ (codes " " ++ (x.0 ++ rest_text evals rest))))
 end_text h f outcome.WorkSpent evals rest = head_text (codes "spent") h ++ (codes " " ++ (family_text f ++ (codes " left " ++ decimal rest)))
 
+-- what a stale frame was taken as
+abbrev pub took_text : Took → List ℕ
+took_text Fresh = codes "Fresh"
+took_text Repeated = codes "Repeated"
+took_text TooOld = codes "TooOld"
+
+-- what a stale frame held
+abbrev pub stale_text : What → List ℕ
+stale_text (what.Packet f bound) = bound_text f bound
+stale_text what.Advert = codes " advert"
+
 -- what was sent
 abbrev pub sent_text : What → List ℕ
 sent_text (what.Packet f bound) = family_text f
@@ -65,12 +79,15 @@ act_text h (Arrived d) = head_text (codes "arrive") h ++ device_text d
 act_text h Asked = head_text (codes "arrive") h ++ codes " control"
 act_text h (Noted note) = note_text h note
 act_text h (Ended f o evals rest) = end_text h f o evals rest
+act_text h (Handled f n bound) = head_text (codes "handler") h ++ (codes " " ++ (family_text f ++ (codes " " ++ (n ++ (codes " bound " ++ decimal bound)))))
 act_text h (Queued d f bound) = head_text (codes "queue") h ++ (device_text d ++ bound_text f bound)
 act_text h (Dropped r f bound) = head_text (codes "drop") h ++ (codes " " ++ (reason_text r ++ bound_text f bound))
 act_text h (Bad e) = head_text (codes "drop") h ++ (codes " BadFrame " ++ refusal_text e)
 act_text h Misplaced = head_text (codes "drop") h ++ codes " BadFrame Misplaced"
 act_text h (AdvertQueued d) = head_text (codes "advert") h ++ device_text d
 act_text h (AdvertDropped d) = head_text (codes "drop") h ++ codes " QueueFull advert"
+act_text h (AdvertSpent d) = head_text (codes "drop") h ++ codes " LinkSpent advert"
+act_text h (Stale t w) = head_text (codes "drop") h ++ (codes " " ++ (took_text t ++ stale_text w))
 act_text h (Heard d) = head_text (codes "heard") h ++ device_text d
 act_text h (Ticked now) = head_text (codes "tick") h ++ (codes " now " ++ decimal now)
 act_text h (Taken d w) = head_text (codes "send") h ++ (device_text d ++ (codes " " ++ sent_text w))

@@ -11,6 +11,8 @@ use Rattle.plan_meaning.specs.State.{VisitState}
 use Rattle.plan_meaning.specs.Run.{After, gave, stopped}
 use Rattle.plan_meaning.specs.Meaning.{meaning, visited}
 use Rattle.plan_meaning.specs.Visit.{allowance, begun, ended, spent, bounds}
+use Rattle.settled_visit.specs.declared.settling.Settled.{Settled}
+use Rattle.settled_visit.specs.Settles.{settled}
 use Rattle.dv_routing.specs.Routing.{all_routes}
 use Rattle.node_model.specs.State.{NodeState, routing_of}
 
@@ -45,6 +47,10 @@ around node p = record { here = node.here; source = p.family.source; purse = p.b
 -- the visit of a packet at a node
 abbrev pub visit_at : NodeState → Packet → Visit
 visit_at node p = visit_of (around node p) (begun_now node.services) p
+
+-- that visit, settled
+abbrev pub settled_at : NodeState → Packet → Settled
+settled_at node p = settled p (around node p) (visit_at node p)
 
 -- what every visit keeps: the packet's bound is what it paid, left and sent, each send has the
 -- packet's family, and each paid at least 1

@@ -1,5 +1,7 @@
+use link_queue::Queue;
+use link_window::Took;
 use packet_frame::FrameFault;
-use plan_base::{Dev, Family};
+use plan_base::{Dev, Family, Name};
 use plan_items::Items;
 use plan_meaning::Outcome;
 use service_api::Note;
@@ -16,6 +18,8 @@ pub enum Reason {
     NoRoute,
     /// 64 frames are queued on its device.
     QueueFull,
+    /// All numbers of its device were given.
+    LinkSpent,
 }
 
 /// A list of acts.
@@ -34,6 +38,8 @@ pub enum Act {
     Noted(Note),
     /// A visit of a packet of this family ended so, with these evals paid and this rest of the purse.
     Ended(Family, Outcome, u32, u32),
+    /// Its source is told of that visit by a call of this handler, with this bound.
+    Handled(Family, Name, u32),
     /// A packet of this family was queued on this device with this bound.
     Queued(Dev, Family, u32),
     /// A packet of this family was dropped with this bound.
@@ -46,6 +52,10 @@ pub enum Act {
     AdvertQueued(Dev),
     /// Its advert was dropped, since 64 frames are queued on this device.
     AdvertDropped(Dev),
+    /// Its advert was dropped, since all numbers of this device were given.
+    AdvertSpent(Dev),
+    /// The frame that arrived was taken before, or is too old, as its stamp says; it held this.
+    Stale(Took, What),
     /// It heard the advert of the neighbour on this device.
     Heard(Dev),
     /// Its time went on to this tick.
@@ -81,4 +91,15 @@ pub struct Sending {
     pub queued: Act,
     /// The act where the device has none.
     pub dropped: Act,
+    /// The act where all numbers of the device were given.
+    pub spent: Act,
+}
+
+/// A device of a node: the frames that are queued on it, and the number of the next one.
+#[derive(Drop)]
+pub struct Lane {
+    /// The frames.
+    pub frames: Queue<SpelledFrame>,
+    /// The number of the next one.
+    pub number: u64,
 }

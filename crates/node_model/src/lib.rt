@@ -3,6 +3,7 @@
 
 mod acts;
 
-pub use acts::{Act, ActList, Acts, Reason, Sending, Sendings};
+pub use acts::{Act, ActList, Acts, Lane, Reason, Sending, Sendings};
+pub use link_window::Took;
 pub use network_plan::Event;
 pub use spelled_frame::What;

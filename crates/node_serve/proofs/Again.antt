@@ -20,7 +20,7 @@ again cfg node turns old new s k few =
       bytes = run_log cfg run;
       log = log;
       there = s.log.here;
-      reads = log_again log (record { node = k.node; serial = k.serial; missing = k.missing; few = few; events = λ i d h. (s.readable i d h).keeps }) (λ i d h. (s.readable i d h).spells);
+      reads = log_again log (record { node = k.node; serial = k.serial; link = k.link; missing = k.missing; few = few; events = λ i d h. (s.readable i d h).keeps }) (λ i d h. (s.readable i d h).spells);
       begins = refl;
       missing = refl;
       trace = s.out ∙ ap (λ es. old.out.taken ++ whole_trace cfg.node.here es) (lines_of_run cfg node old.link.script old.clock.last old.clock.answers turns s.refused);

@@ -54,7 +54,7 @@ module _ (cfg : ServeConfig) (old new : Desk) where
       target = is_log;
       out = out ∙ ap (λ l. old.out.taken ++ l) (sym (first_is node));
       sent = sent ∙ sym (append-nil old.link.sent);
-      readable = All-nil IsReadable;
+      readable = All-nil (IsReadable cfg.node.version);
     };
     binds = binds;
     script = script;
@@ -135,7 +135,7 @@ module _ (cfg : ServeConfig) (node : NodeState) (n : ℕ) (first : Desk) (mid la
         binds = binds ∙ b.binds;
         script = script ∙ ap (drop n) b.script;
         answers = answers;
-        readable = subst (λ r. All IsReadable r.events) same a.shows.readable;
+        readable = subst (λ r. All (IsReadable cfg.node.version) r.events) same a.shows.readable;
       }
 
   -- a prefix of it

@@ -1,7 +1,7 @@
 -- How actions that were followed join.
 use Rattle.std.proofs.Common.{◌≡◌, ℕ, ◌+◌, Bool, true, false, if◌then◌else◌, List, Option, Some, None, Result, Ok, Err, IsErrAnd, MatchResult, nat_le, refl, sym, ◌∙◌, ap, subst}
 use Rattle.plan_base.specs.declared.ids.Dev.{Dev}
-use Rattle.packet_frame.specs.declared.frame.PlainFrame.{PlainFrame}
+use Rattle.packet_frame.specs.declared.frame.PlainStamped.{PlainStamped}
 use Rattle.network_plan.specs.Hosts.{dev_of}
 use Rattle.network_plan.specs.declared.event.Event.{Event}
 use Rattle.network_plan.specs.declared.event.Event.TheVariants.{Tick, Take}
@@ -121,7 +121,7 @@ back_is refused r d x f =
     let taken = with_entry (Step (Take (dev_of 0))) r in
     sym (if_false (is_refused refused r) (with_entry Lost r) (come_back (first_on r.node (dev_of 0)) refused taken) (entry_fits refused (Step (Take (dev_of 0))) r (fits_before refused taken d x f)))
 
-pub back_took : {T E : Type 0} (stands : Running → Type 0) (cfg : ServeConfig) (base seen : Seen) (r : Running) (x : Option PlainFrame) (result : Result T E) → x ≡ first_on r.node (dev_of 0)
+pub back_took : {T E : Type 0} (stands : Running → Type 0) (cfg : ServeConfig) (base seen : Seen) (r : Running) (x : Option PlainStamped) (result : Result T E) → x ≡ first_on r.node (dev_of 0)
     → Leaves stands cfg base seen (with_entry (Step (Take (dev_of 0))) r) (come_back x) result → Leaves stands cfg base seen r take_back result
 back_took stands cfg base seen r x (Ok y) e a =
     let taken = with_entry (Step (Take (dev_of 0))) r in
@@ -207,12 +207,12 @@ send_lost stands cfg base seen r d h st s = record {
 took_is : (d : Dev) (r : Running) → r.held ≡ false → (refused : List ℕ) → Fits refused (with_entry (Step (Take d)) r).events → send_taken d (first_on r.node d) (with_entry (Step (Take d)) r) ≡ take_send d refused r
 took_is d r h refused f = sym (free_is d r h refused ∙ if_false (is_refused refused r) (holding true (with_entry Lost r)) (send_taken d (first_on r.node d) (with_entry (Step (Take d)) r)) (entry_fits refused (Step (Take d)) r f))
 
-sent_events : (d : Dev) (x : Option PlainFrame) (r : Running) → (send_taken d x r).events ≡ r.events
+sent_events : (d : Dev) (x : Option PlainStamped) (r : Running) → (send_taken d x r).events ≡ r.events
 sent_events d None r = refl
 sent_events d (Some x) r = refl
 
 -- the frame was taken, and sent
-pub send_took : (stands : Running → Type 0) (cfg : ServeConfig) (base seen : Seen) (r : Running) (d : Dev) (x : Option PlainFrame) → r.held ≡ false → x ≡ first_on r.node d
+pub send_took : (stands : Running → Type 0) (cfg : ServeConfig) (base seen : Seen) (r : Running) (d : Dev) (x : Option PlainStamped) → r.held ≡ false → x ≡ first_on r.node d
     → stands (send_taken d x (with_entry (Step (Take d)) r)) → Shows cfg base seen (send_taken d x (with_entry (Step (Take d)) r)) → Reached stands cfg base seen r (take_send d)
 send_took stands cfg base seen r d x h e st s =
     let taken = with_entry (Step (Take d)) r in

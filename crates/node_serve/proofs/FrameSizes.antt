@@ -1,12 +1,16 @@
 -- The bytes of a frame may arrive.
-use Rattle.std.proofs.Common.{ℕ, ◌≤◌, List, [], ◌∷◌, ◌++◌, length, length-append, ap, arith}
-use Rattle.std.specs.Int.{w32, to_be_bytes}
+use Rattle.std.proofs.Common.{ℕ, ◌≤◌, List, [], ◌∷◌, ◌++◌, length, length-append, Option, Some, None, ap, arith}
+use Rattle.std.specs.Int.{w32, w64, to_be_bytes}
 use Rattle.wire_bytes.specs.Fields.{IsBytes}
+use Rattle.plan_base.specs.declared.name.Name.{Name}
+use Rattle.link_window.specs.declared.window.Stamp.{Stamp}
+use Rattle.link_window.specs.declared.window.Version.{Version}
 use Rattle.network_plan.specs.Rules.{MayArrive}
 use Rattle.chunk_spelling.specs.Values.{chunk_bytes}
 use Rattle.packet_frame.specs.declared.frame.PlainFrame.{PlainFrame}
+use Rattle.packet_frame.specs.declared.frame.PlainStamped.{PlainStamped}
 use Rattle.packet_frame.specs.Bytes.{letters, head_bytes, packet_bytes, rows_bytes, frame_bytes}
-use Rattle.packet_frame.specs.Typed.{Accepts}
+use Rattle.packet_frame.specs.Stamped.{stamped_head, handled_bytes, packet_with, bytes_with, stamped_bytes, AcceptsBy}
 
 front_some : (xs ys : List ℕ) → 1 ≤ length xs → 1 ≤ length (xs ++ ys)
 front_some xs ys h = omega (arith, h, length-append xs ys)
@@ -17,15 +21,31 @@ back_some xs ys h = omega (arith, h, length-append xs ys)
 headed : (kind : ℕ) (rest : List ℕ) → 1 ≤ length (head_bytes kind ++ rest)
 headed kind rest = front_some (head_bytes kind) rest (back_some (to_be_bytes w32 letters) (1 ∷ kind ∷ []) (omega arith))
 
-some_bytes : (x : PlainFrame) → 1 ≤ length (frame_bytes x)
+some_plain : (x : PlainFrame) → 1 ≤ length (frame_bytes x)
 unfolding frame_bytes
-some_bytes (PlainFrame.Packet p) = headed 1 (packet_bytes p)
-some_bytes (PlainFrame.Advert a) = headed 2 (to_be_bytes w32 a.host.0 ++ rows_bytes a.rows)
-some_bytes (PlainFrame.Ask bound c) = headed 3 (to_be_bytes w32 bound ++ chunk_bytes c)
+some_plain (PlainFrame.Packet p) = headed 1 (packet_bytes p)
+some_plain (PlainFrame.Advert a) = headed 2 (to_be_bytes w32 a.host.0 ++ rows_bytes a.rows)
+some_plain (PlainFrame.Ask bound c) = headed 3 (to_be_bytes w32 bound ++ chunk_bytes c)
 
-pub frame_arrives : (bytes : List ℕ) (x : PlainFrame) → Accepts bytes x → IsBytes bytes → MayArrive bytes
-frame_arrives bytes x a b = record {
-  some = omega (arith, some_bytes x, ap length a.spells.is);
-  few = omega (arith, a.spells.short);
+stamped : (kind : ℕ) (s : Stamp) (rest : List ℕ) → 1 ≤ length (stamped_head kind s ++ rest)
+stamped kind s rest =
+    front_some (stamped_head kind s) rest (front_some (to_be_bytes w32 letters ++ (2 ∷ kind ∷ [])) (to_be_bytes w64 s.boot ++ to_be_bytes w64 s.link)
+    (back_some (to_be_bytes w32 letters) (2 ∷ kind ∷ []) (omega arith)))
+
+some_bytes : (o : Option Stamp) (x : PlainFrame) → 1 ≤ length (bytes_with o x)
+some_bytes None x = some_plain x
+some_bytes (Some s) (PlainFrame.Packet p) = by p.handler
+  where
+    by : (h : Option Name) → 1 ≤ length (packet_with s p h)
+    by None = stamped 1 s (packet_bytes p)
+    by (Some n) = stamped 4 s (handled_bytes p n)
+some_bytes (Some s) (PlainFrame.Advert a) = stamped 2 s (to_be_bytes w32 a.host.0 ++ rows_bytes a.rows)
+some_bytes (Some s) (PlainFrame.Ask bound c) = some_plain (PlainFrame.Ask bound c)
+
+pub frame_arrives : (v : Version) (bytes : List ℕ) (x : PlainStamped) → AcceptsBy v bytes x → IsBytes bytes → MayArrive bytes
+unfolding stamped_bytes
+frame_arrives v bytes x a b = record {
+  some = omega (arith, some_bytes x.stamp x.frame, ap length a.is);
+  few = omega (arith, a.short);
   are_bytes = b;
 }

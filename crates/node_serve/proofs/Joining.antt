@@ -160,7 +160,7 @@ pub unmade_same : {S : Type 0} (stands : S → ServiceState) (cfg : ServeConfig)
 unmade_same stands cfg e server after d = record { keeps = keeps_same d; faults = tt; run = λ seen base r st sh. stopped_same cfg base (seen_at d) r (make e) (make_grows e) sh }
 
 module _ {S : Type 0} (stands : S → ServiceState) (cfg : ServeConfig) (e : Event) (server after : Server S) (fo fn : FilesState) (oo on : SinkState) (l : LinkState) (texts : StepTexts) (node : Node S) (n : ℕ) (line lines : List ℕ)
-    (number : n ≡ server.steps + 1) (w : (s : NodeState) → NodeStands stands server.node s → Written stands cfg.node.here n s e texts node) (il : line ≡ texts.line) (im : lines ≡ texts.lines) where
+    (number : n ≡ server.steps + 1) (w : (s : NodeState) → NodeStands stands server.node s → Written stands cfg.node n s e texts node) (il : line ≡ texts.line) (im : lines ≡ texts.lines) where
   added_keeps : (bytes : List ℕ) → Adds fo fn bytes → on.observable ≡ oo.observable → oo.faults ≤ on.faults → KeepsDesk (desk fo oo l) (desk fn on l)
   added_keeps bytes a same later = record {
     only = record { files = a.only; out = same; out_later = later; link = refl; link_later = omega arith };

@@ -12,3 +12,5 @@ pub mod LogNames
 pub mod StepLaws
 pub mod MakeLaws
 pub mod Again
+pub mod Moments
+pub mod Injecting

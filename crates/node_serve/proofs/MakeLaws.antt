@@ -1,11 +1,12 @@
 -- A step that was made and written, or not.
 use Rattle.std.proofs.Common.{◌≡◌, ◌≢◌, ℕ, suc, ◌+◌, ◌<◌, ◌==◌, ◌⊎◌, inl, inr, get_or, Bool, true, false, if◌then◌else◌, nat_le, List, [], ◌∷◌, ◌++◌, length, drop, slice_get, Option, Some, None, Result, Ok, Err, MatchResult, refl, sym, ◌∙◌, ap, subst, arith, length-append, append-nil}
 use Rattle.std.proofs.lemmas.Bool.Decides.{nat_tests}
+use Rattle.plan_base.specs.declared.name.Name.{Name}
 use Rattle.plan_base.specs.declared.ids.Dev.{Dev}
 use Rattle.plan_base.specs.declared.ids.Host.{Host}
 use Rattle.plan_base.specs.declared.tree.Chunk.{Chunk}
-use Rattle.packet_frame.specs.declared.frame.PlainFrame.{PlainFrame}
-use Rattle.packet_frame.specs.Bytes.{frame_bytes}
+use Rattle.packet_frame.specs.declared.frame.PlainStamped.{PlainStamped}
+use Rattle.packet_frame.specs.Stamped.{stamped_bytes}
 use Rattle.network_plan.specs.Hosts.{dev_of}
 use Rattle.network_plan.specs.declared.event.Event.{Event}
 use Rattle.network_plan.specs.declared.event.Event.TheVariants.{Inject, Frame, Take}
@@ -18,6 +19,7 @@ use Rattle.node_serve.specs.Fronts.{AppendsFront, WritesFront}
 use Rattle.node_io.specs.declared.link.Peer.{Peer}
 use Rattle.node_io.specs.declared.link.Arrival.{Arrival}
 use Rattle.node_io.specs.Links.{Heard, has_peer, next_heard}
+use Rattle.node_model.specs.declared.acts.Lane.{Lane}
 use Rattle.node_model.specs.State.{NodeState}
 use Rattle.node_core.specs.declared.node.Node.{Node}
 use Rattle.node_core.specs.Stands.{NodeStands}
@@ -44,7 +46,7 @@ lines_are : (here : Host) (n k : ℕ) (r : Running) (e : LogEvent) → n ≡ k +
 lines_are here n k r e number steps = ap (λ m. lines_text here (entries_at m (acts_of r.node e))) (number ∙ ap (λ m. m + 1) steps)
 
 module _ {S : Type 0} (stands : S → ServiceState) (cfg : ServeConfig) (base old new : Seen) (r : Running) (e : Event) (n : ℕ) (texts : StepTexts) (server : Server S) (node : Node S)
-    (st : StandsFor stands server r) (sh : Shows cfg base old r) (number : n ≡ server.steps + 1) (w : Written stands cfg.node.here n r.node e texts node) where
+    (st : StandsFor stands server r) (sh : Shows cfg base old r) (number : n ≡ server.steps + 1) (w : Written stands cfg.node n r.node e texts node) where
   pub step_stopped : (line lines : List ℕ) → line ≡ texts.line → lines ≡ texts.lines → WrittenFront old.files new.files old.target line old.taken new.taken lines → new.sent ≡ old.sent → Stopped cfg base new r (make e)
   step_stopped line lines l m (in_log front same) sent =
       stopped_make cfg base new r e (was_lost texts.made)
@@ -90,15 +92,15 @@ pub send_refused : {S : Type 0} (stands : S → ServiceState) (cfg : ServeConfig
     → after.node ≡ server.node → after.last ≡ server.last → after.held ≡ true → after.steps ≡ server.steps → Reached (StandsFor stands after) cfg base seen r (take_send d)
 send_refused stands cfg base seen r d server after h m n l k s = send_lost (StandsFor stands after) cfg base seen r d h (stands_holding stands server after (with_entry entry.Lost r) true m.stands_for n l k s) m.shows
 
-sent_by : (d : Dev) (x : Option PlainFrame) (r : Running) → (send_taken d x r).sent ≡ r.sent ++ sending d x
+sent_by : (d : Dev) (x : Option PlainStamped) (r : Running) → (send_taken d x r).sent ≡ r.sent ++ sending d x
 sent_by d None r = sym (append-nil r.sent)
 sent_by d (Some x) r = refl
 
-stands_sent : {S : Type 0} (stands : S → ServiceState) (server : Server S) (d : Dev) (x : Option PlainFrame) (r : Running) → StandsFor stands server r → StandsFor stands server (send_taken d x r)
+stands_sent : {S : Type 0} (stands : S → ServiceState) (server : Server S) (d : Dev) (x : Option PlainStamped) (r : Running) → StandsFor stands server r → StandsFor stands server (send_taken d x r)
 stands_sent stands server d None r st = st
 stands_sent stands server d (Some x) r st = record { node = st.node; last = st.last; held = st.held; steps = st.steps }
 
-shows_taken : (cfg : ServeConfig) (base old new : Seen) (d : Dev) (x : Option PlainFrame) (r : Running) → Shows cfg base old r → new.files ≡ old.files → new.target ≡ old.target → new.taken ≡ old.taken → new.sent ≡ old.sent ++ sending d x → Shows cfg base new (send_taken d x r)
+shows_taken : (cfg : ServeConfig) (base old new : Seen) (d : Dev) (x : Option PlainStamped) (r : Running) → Shows cfg base old r → new.files ≡ old.files → new.target ≡ old.target → new.taken ≡ old.taken → new.sent ≡ old.sent ++ sending d x → Shows cfg base new (send_taken d x r)
 shows_taken cfg base old new d None r h f t k s = record {
   log = subst (λ y. ChangesOnly base.files y cfg.log (run_log cfg r)) (sym f) h.log;
   target = t ∙ h.target;
@@ -106,10 +108,10 @@ shows_taken cfg base old new d None r h f t k s = record {
   sent = s ∙ append-nil old.sent ∙ h.sent;
   readable = h.readable;
 }
-shows_taken cfg base old new d (Some x) r h f t k s = shows_sent cfg base old new d x (frame_bytes x) r h refl f t k s
+shows_taken cfg base old new d (Some x) r h f t k s = shows_sent cfg base old new d x (stamped_bytes x) r h refl f t k s
 
 -- a frame that was taken, and sent or not
-pub send_result : {S T E : Type 0} (stands : S → ServiceState) (cfg : ServeConfig) (base old new : Seen) (r : Running) (d : Dev) (x : Option PlainFrame) (server : Server S) (result : Result T E) → r.held ≡ false → Makes stands cfg base old r (Take d) (Took x) server
+pub send_result : {S T E : Type 0} (stands : S → ServiceState) (cfg : ServeConfig) (base old new : Seen) (r : Running) (d : Dev) (x : Option PlainStamped) (server : Server S) (result : Result T E) → r.held ≡ false → Makes stands cfg base old r (Take d) (Took x) server
     → MatchResult result (λ _. new.sent ≡ old.sent ++ sending d x) (λ _. new.sent ≡ old.sent) → new.files ≡ old.files → new.target ≡ old.target → new.taken ≡ old.taken → Leaves (StandsFor stands server) cfg base new r (take_send d) result
 send_result stands cfg base old new r d x server (Ok y) h m s f t k =
     let taken = with_entry (entry.Step (Take d)) r in
@@ -135,18 +137,18 @@ if_is b c x y h = ap (λ d. if d then x else y) h
 pub over_is : {S : Type 0} (stands : S → ServiceState) (server : Server S) (r : Running) (period now : ℕ) (b : Bool) → StandsFor stands server r → b ≡ nat_le (server.last + period) now → nat_le (r.last + period) now ≡ b
 over_is stands server r period now b st e = ap (λ k. nat_le (k + period) now) (sym st.last) ∙ sym e
 
-pub inject_stay : (turn : ℕ) (x : ℕ × ℕ × Chunk) (r : Running) → (x.0 == turn) ≡ false → (refused : List ℕ) → inject_one turn (Some x) refused r ≡ r
-inject_stay turn x r h refused = if_is (x.0 == turn) false (make (Inject x.2 x.1) refused r) r h
+pub inject_stay : (turn : ℕ) (x : ℕ × ℕ × Chunk × Option Name) (r : Running) → (x.0 == turn) ≡ false → (refused : List ℕ) → inject_one turn (Some x) refused r ≡ r
+inject_stay turn x r h refused = if_is (x.0 == turn) false (make (Inject x.2 x.1 x.3) refused r) r h
 
-pub inject_makes : (turn : ℕ) (x : ℕ × ℕ × Chunk) (r : Running) → (x.0 == turn) ≡ true → (refused : List ℕ) → make (Inject x.2 x.1) refused r ≡ inject_one turn (Some x) refused r
-inject_makes turn x r h refused = sym (if_is (x.0 == turn) true (make (Inject x.2 x.1) refused r) r h)
+pub inject_makes : (turn : ℕ) (x : ℕ × ℕ × Chunk × Option Name) (r : Running) → (x.0 == turn) ≡ true → (refused : List ℕ) → make (Inject x.2 x.1 x.3) refused r ≡ inject_one turn (Some x) refused r
+inject_makes turn x r h refused = sym (if_is (x.0 == turn) true (make (Inject x.2 x.1 x.3) refused r) r h)
 
 -- one more injection
-pub inject_next : (turn : ℕ) (at : List (ℕ × ℕ × Chunk)) (i : ℕ) (x : ℕ × ℕ × Chunk) (r : Running) → slice_get at i ≡ Some x → (refused : List ℕ) → then_do (inject_to turn at i) (inject_one turn (Some x)) refused r ≡ inject_to turn at (i + 1) refused r
+pub inject_next : (turn : ℕ) (at : List (ℕ × ℕ × Chunk × Option Name)) (i : ℕ) (x : ℕ × ℕ × Chunk × Option Name) (r : Running) → slice_get at i ≡ Some x → (refused : List ℕ) → then_do (inject_to turn at i) (inject_one turn (Some x)) refused r ≡ inject_to turn at (i + 1) refused r
 unfolding inject_to
 inject_next turn at i x r h refused = ap (λ o. inject_one turn o refused (inject_to turn at i refused r)) (sym h) ∙ ap (λ n. inject_to turn at n refused r) (add_one i)
 
-pub inject_none : (turn : ℕ) (at : List (ℕ × ℕ × Chunk)) (r : Running) (refused : List ℕ) → inject_to turn at 0 refused r ≡ r
+pub inject_none : (turn : ℕ) (at : List (ℕ × ℕ × Chunk × Option Name)) (r : Running) (refused : List ℕ) → inject_to turn at 0 refused r ≡ r
 unfolding inject_to
 inject_none turn at r refused = refl
 
@@ -157,9 +159,9 @@ hear_stay h r e refused = ap (λ o. hear o refused r) e
 pub hear_as : (h : Option Heard) (x : Heard) (r : Running) → h ≡ Some x → (refused : List ℕ) → hear (Some x) refused r ≡ hear h refused r
 hear_as h x r e refused = ap (λ o. hear o refused r) (sym e)
 
-same_count : (o : Option (List PlainFrame)) → queued_at o ≡ frames_in o
+same_count : (o : Option Lane) → queued_at o ≡ frames_in o
 same_count None = refl
-same_count (Some queue) = refl
+same_count (Some lane) = refl
 
 -- the frames queued on a device
 pub count_is : {S : Type 0} (stands : S → ServiceState) (server : Server S) (r : Running) (d : Dev) (n : ℕ) → StandsFor stands server r → ((s : NodeState) → NodeStands stands server.node s → n ≡ queued_at (slice_get s.queues d.0)) → n ≡ queued_on r.node d
@@ -214,10 +216,10 @@ pub made_as : {S : Type 0} (stands : S → ServiceState) (cfg : ServeConfig) (ba
 made_as stands cfg base seen r e made now server same m = subst (λ x. Makes stands cfg base seen r e x server) same m
 
 -- no frame was queued for the node itself
-pub back_stay : (x : Option PlainFrame) (r : Running) → x ≡ None → (refused : List ℕ) → come_back x refused r ≡ r
+pub back_stay : (x : Option PlainStamped) (r : Running) → x ≡ None → (refused : List ℕ) → come_back x refused r ≡ r
 back_stay x r e refused = ap (λ o. come_back o refused r) e
 
-pub back_makes : (x : Option PlainFrame) (p : PlainFrame) (r : Running) → x ≡ Some p → (refused : List ℕ) → make (Frame (dev_of 0) (frame_bytes p)) refused r ≡ come_back x refused r
+pub back_makes : (x : Option PlainStamped) (p : PlainStamped) (r : Running) → x ≡ Some p → (refused : List ℕ) → make (Frame (dev_of 0) (stamped_bytes p)) refused r ≡ come_back x refused r
 back_makes x p r e refused = ap (λ o. come_back o refused r) (sym e)
 
 -- ---- turns

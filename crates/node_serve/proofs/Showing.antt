@@ -5,11 +5,12 @@ use Rattle.std.proofs.lemmas.List.Elements.{All-nil, All-cons, All-append}
 use Rattle.std.proofs.lemmas.Bool.{false≢true}
 use Rattle.std.proofs.lemmas.Grind.{flat_map-append}
 use Rattle.std.proofs.Math.Seq.{take-append-add, take-length}
+use Rattle.link_window.specs.declared.window.Version.{Version}
 use Rattle.network_plan.specs.declared.event.LogEvent.{LogEvent}
 use Rattle.network_plan.specs.declared.serve.ServeConfig.{ServeConfig}
 use Rattle.plan_base.specs.declared.ids.Dev.{Dev}
-use Rattle.packet_frame.specs.declared.frame.PlainFrame.{PlainFrame}
-use Rattle.packet_frame.specs.Bytes.{frame_bytes}
+use Rattle.packet_frame.specs.declared.frame.PlainStamped.{PlainStamped}
+use Rattle.packet_frame.specs.Stamped.{stamped_bytes}
 use Rattle.node_files.specs.LogTexts.{head_text, entry_text}
 use Rattle.node_io.specs.FileMaps.{FileMap, file_at, contents, ChangesOnly, WritesMore}
 use Rattle.node_serve.specs.Fronts.{AppendsFront, WritesFront}
@@ -57,11 +58,11 @@ sent_same : (e : LogEvent) (r : Running) → (with_entry e r).sent ≡ r.sent
 unfolding with_entry
 sent_same e r = refl
 
-readable_more : (e : LogEvent) (r : Running) → All IsReadable r.events → IsReadable e → All IsReadable (with_entry e r).events
+readable_more : (v : Version) (e : LogEvent) (r : Running) → All (IsReadable v) r.events → IsReadable v e → All (IsReadable v) (with_entry e r).events
 unfolding with_entry
-readable_more e r h k = All-append IsReadable r.events (e ∷ []) h (All-cons IsReadable e [] k (All-nil IsReadable))
+readable_more v e r h k = All-append (IsReadable v) r.events (e ∷ []) h (All-cons (IsReadable v) e [] k (All-nil (IsReadable v)))
 
-pub shows_entry : (cfg : ServeConfig) (base old new : Seen) (e : LogEvent) (r : Running) → Shows cfg base old r → IsReadable e
+pub shows_entry : (cfg : ServeConfig) (base old new : Seen) (e : LogEvent) (r : Running) → Shows cfg base old r → IsReadable cfg.node.version e
     → WritesMore old.files new.files old.target (entry_text e) → new.target ≡ old.target → new.taken ≡ old.taken ++ next_lines cfg e r → new.sent ≡ old.sent
     → Shows cfg base new (with_entry e r)
 shows_entry cfg base old new e r h k log target out sent = record {
@@ -69,7 +70,7 @@ shows_entry cfg base old new e r h k log target out sent = record {
   target = target ∙ h.target;
   out = out ∙ ap (λ l. l ++ next_lines cfg e r) h.out ∙ append_assoc base.taken (run_trace cfg r) (next_lines cfg e r) ∙ ap (λ l. base.taken ++ l) (sym (trace_more cfg e r));
   sent = sent ∙ h.sent ∙ ap (λ l. base.sent ++ l) (sym (sent_same e r));
-  readable = readable_more e r h.readable k;
+  readable = readable_more cfg.node.version e r h.readable k;
 }
 
 -- all of it is a prefix
@@ -113,8 +114,8 @@ fronts_lines cfg base old new e r h log out sent =
     }
 
 -- a frame that was sent
-pub shows_sent : (cfg : ServeConfig) (base old new : Seen) (d : Dev) (x : PlainFrame) (bytes : List ℕ) (r : Running) → Shows cfg base old r
-    → bytes ≡ frame_bytes x → new.files ≡ old.files → new.target ≡ old.target → new.taken ≡ old.taken → new.sent ≡ old.sent ++ (d, bytes) ∷ []
+pub shows_sent : (cfg : ServeConfig) (base old new : Seen) (d : Dev) (x : PlainStamped) (bytes : List ℕ) (r : Running) → Shows cfg base old r
+    → bytes ≡ stamped_bytes x → new.files ≡ old.files → new.target ≡ old.target → new.taken ≡ old.taken → new.sent ≡ old.sent ++ (d, bytes) ∷ []
     → Shows cfg base new (with_sent d x r)
 shows_sent cfg base old new d x bytes r h spelled files target out sent = record {
   log = subst (λ f. ChangesOnly base.files f cfg.log (run_log cfg r)) (sym files) h.log;

@@ -1,8 +1,8 @@
 -- Frames that are taken: those that come back to the node, and those that are sent.
 use Rattle.std.proofs.Common.{◌≡◌, ◌++◌, ◌∷◌, [], true, false, IsTrue, ℕ, List, Option, Some, None, Result, Ok, Err, MatchResult, refl, sym, ap, ◌∙◌, arith, append-nil}
 use Rattle.plan_base.specs.declared.ids.Dev.{Dev}
-use Rattle.packet_frame.specs.declared.frame.PlainFrame.{PlainFrame}
-use Rattle.packet_frame.specs.Bytes.{frame_bytes}
+use Rattle.packet_frame.specs.declared.frame.PlainStamped.{PlainStamped}
+use Rattle.packet_frame.specs.Stamped.{stamped_bytes}
 use Rattle.network_plan.specs.Hosts.{dev_of}
 use Rattle.network_plan.specs.declared.event.Event.TheVariants.{Take}
 use Rattle.network_plan.specs.declared.event.LogEvent.TheVariants.{Step}
@@ -38,7 +38,7 @@ module _ {S : Type 0} (stands : S → ServiceState) (cfg : ServeConfig) (first m
   }
 
   -- the frame was taken, and comes back
-  pub back_comes : {T : Type 0} (made : StepOutcome) (x : Option PlainFrame) (last : Server S) (c : Desk) (result : Result T ServeFault) → made ≡ Took x → MakesStep stands cfg (Take (dev_of 0)) first mid a b (Ok made)
+  pub back_comes : {T : Type 0} (made : StepOutcome) (x : Option PlainStamped) (last : Server S) (c : Desk) (result : Result T ServeFault) → made ≡ Took x → MakesStep stands cfg (Take (dev_of 0)) first mid a b (Ok made)
       → Goes stands cfg (come_back x) mid last b c result → Goes stands cfg take_back first last a c result
   back_comes made x last c result is m u = record {
     keeps = keeps_both a b c m.keeps u.keeps;
@@ -56,7 +56,7 @@ module _ {S : Type 0} (stands : S → ServiceState) (cfg : ServeConfig) (first m
 -- ---- a frame to a neighbour
 
 -- none was there
-pub sends_none : (d : Dev) (x : Option PlainFrame) (l : LinkState) → x ≡ None → SendsTaken {T = Unit {0}} d x l l (Ok tt)
+pub sends_none : (d : Dev) (x : Option PlainStamped) (l : LinkState) → x ≡ None → SendsTaken {T = Unit {0}} d x l l (Ok tt)
 sends_none d x l is = record {
   observable = refl;
   script = refl;
@@ -67,7 +67,7 @@ sends_none d x l is = record {
 }
 
 -- it was sent
-pub sends_one : {T E : Type 0} (d : Dev) (x : Option PlainFrame) (p : PlainFrame) (bytes : List ℕ) (old new : LinkState) (y : T) → x ≡ Some p → bytes ≡ frame_bytes p → Sends {T = T} {E = E} (d, bytes) old new (Ok y) → SendsTaken {T = Unit {0}} d x old new (Ok tt)
+pub sends_one : {T E : Type 0} (d : Dev) (x : Option PlainStamped) (p : PlainStamped) (bytes : List ℕ) (old new : LinkState) (y : T) → x ≡ Some p → bytes ≡ stamped_bytes p → Sends {T = T} {E = E} (d, bytes) old new (Ok y) → SendsTaken {T = Unit {0}} d x old new (Ok tt)
 sends_one d x p bytes old new y is spelled s = record {
   observable = s.observable;
   script = s.script;
@@ -78,10 +78,10 @@ sends_one d x p bytes old new y is spelled s = record {
 }
 
 -- the link failed
-pub sends_fail : {T E : Type 0} (d : Dev) (x : Option PlainFrame) (bytes : List ℕ) (old new : LinkState) (e : E) → Sends {T = T} {E = E} (d, bytes) old new (Err e) → SendsTaken {T = Unit {0}} d x old new (Err LinkFault)
+pub sends_fail : {T E : Type 0} (d : Dev) (x : Option PlainStamped) (bytes : List ℕ) (old new : LinkState) (e : E) → Sends {T = T} {E = E} (d, bytes) old new (Err e) → SendsTaken {T = Unit {0}} d x old new (Err LinkFault)
 sends_fail d x bytes old new e s = record { observable = s.observable; script = s.script; binds = s.binds; bound = s.bound; later = s.later; did = s.did }
 
-module _ {T : Type 0} (d : Dev) (x : Option PlainFrame) (fs : FilesState) (o : SinkState) (old new : LinkState) where
+module _ {T : Type 0} (d : Dev) (x : Option PlainStamped) (fs : FilesState) (o : SinkState) (old new : LinkState) where
   sent_keeps : (result : Result T ServeFault) → SendsTaken d x old new result → KeepsDesk (desk fs o old) (desk fs o new)
   sent_keeps result s = record {
     only = record { files = only_same fs; out = refl; out_later = omega arith; link = s.observable; link_later = s.later };
@@ -128,7 +128,7 @@ module _ {S : Type 0} (stands : S → ServiceState) (cfg : ServeConfig) (d : Dev
   }
 
   -- the frame was taken, and sent or not
-  pub send_took : {T : Type 0} (a : Desk) (fs : FilesState) (o : SinkState) (old new : LinkState) (made : StepOutcome) (x : Option PlainFrame) (result : Result T ServeFault) → first.held ≡ false → made ≡ Took x
+  pub send_took : {T : Type 0} (a : Desk) (fs : FilesState) (o : SinkState) (old new : LinkState) (made : StepOutcome) (x : Option PlainStamped) (result : Result T ServeFault) → first.held ≡ false → made ≡ Took x
       → MakesStep stands cfg (Take d) first mid a (desk fs o old) (Ok made) → SendsTaken d x old new result → Goes stands cfg (take_send d) first mid a (desk fs o new) result
   send_took a fs o old new made x result free is m s = record {
     keeps = keeps_both a (desk fs o old) (desk fs o new) m.keeps (sent_keeps d x fs o old new result s);

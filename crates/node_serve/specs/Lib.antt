@@ -8,3 +8,4 @@ pub mod Served
 pub mod Openings
 pub mod Serves
 pub mod Again
+pub mod Moments

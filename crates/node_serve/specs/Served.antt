@@ -53,7 +53,7 @@ pub record Served (cfg : ServeConfig) (node : NodeState) (turns : ℕ) (old new 
   pub binds : IsBound cfg old.link new.link
   pub script : new.link.script ≡ drop turns old.link.script
   pub answers : new.clock.answers ≡ drop turns old.clock.answers
-  pub readable : All IsReadable (run_in cfg node turns old refused).events
+  pub readable : All (IsReadable cfg.node.version) (run_in cfg node turns old refused).events
 
 -- a prefix of some frames was sent
 pub record SendsFront (old new frames : List Heard) : Type 0 where

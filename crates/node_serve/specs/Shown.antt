@@ -1,6 +1,7 @@
 -- What stands outside while a run goes on.
 use Rattle.std.specs.Prelude.{◌≡◌, ℕ, ◌≤◌, ◌⊎◌, List, ◌++◌, take, drop, Result, MatchResult}
 use Rattle.std.specs.List.{All}
+use Rattle.link_window.specs.declared.window.Version.{Version}
 use Rattle.network_plan.specs.declared.serve.ServeConfig.{ServeConfig}
 use Rattle.network_plan.specs.declared.event.LogEvent.{LogEvent}
 use Rattle.network_plan.specs.NodeRules.{KeepsEntry}
@@ -26,9 +27,9 @@ run_log cfg r = log_text (record { node = cfg.node; missing = cfg.missing; event
 abbrev pub run_trace : ServeConfig → Running → List ℕ
 run_trace cfg r = begun_trace cfg.node.here r.entries
 
--- an entry keeps the limits of logs, and its line can be read again
-pub record IsReadable (e : LogEvent) : Type 0 where
-  pub keeps : KeepsEntry e
+-- an entry keeps the limits of a log of this version, and its line can be read again
+pub record IsReadable (v : Version) (e : LogEvent) : Type 0 where
+  pub keeps : KeepsEntry v e
   pub spells : IsSpellable e
 
 -- since the beginning, the log is that of the run so far, the trace was written, and the frames were sent
@@ -37,7 +38,7 @@ pub record Shows (cfg : ServeConfig) (base seen : Seen) (r : Running) : Type 0 w
   pub target : seen.target ≡ cfg.log
   pub out : seen.taken ≡ base.taken ++ run_trace cfg r
   pub sent : seen.sent ≡ base.sent ++ r.sent
-  pub readable : All IsReadable r.events
+  pub readable : All (IsReadable cfg.node.version) r.events
 
 -- the log and what was written are prefixes of those of the run so far, and its frames were sent
 pub record Fronts (cfg : ServeConfig) (base seen : Seen) (r : Running) : Type 0 where

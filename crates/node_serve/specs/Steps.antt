@@ -1,15 +1,15 @@
 -- What a step of a serving node gives.
 use Rattle.std.specs.Prelude.{◌≡◌, ℕ, ◌≤◌, ◌⊎◌, Bool, true, false, IsTrue, List, [], ◌∷◌, ◌++◌, Option, Some, None, Result, Ok, Err}
-use Rattle.plan_base.specs.declared.ids.Host.{Host}
 use Rattle.plan_base.specs.declared.ids.Dev.{Dev}
-use Rattle.packet_frame.specs.Bytes.{frame_bytes}
+use Rattle.packet_frame.specs.Stamped.{stamped_bytes}
 use Rattle.node_io.specs.FileMaps.{FileMap, WritesMore}
 use Rattle.node_serve.specs.Fronts.{AppendsFront, WritesFront}
 use Rattle.node_io.specs.Causes.{HasRisen}
 use Rattle.node_io.specs.Sinks.{SinkState, Writes, FailsIn}
 use Rattle.node_io.specs.FileStates.{FilesState, Adds, FailsAdding}
 use Rattle.node_io.specs.Links.{Heard, LinkState}
-use Rattle.packet_frame.specs.declared.frame.PlainFrame.{PlainFrame}
+use Rattle.packet_frame.specs.declared.frame.PlainStamped.{PlainStamped}
+use Rattle.network_plan.specs.declared.node.NodeConfig.{NodeConfig}
 use Rattle.network_plan.specs.declared.event.Event.{Event}
 use Rattle.service_api.specs.Services.{ServiceState}
 use Rattle.node_files.specs.LogTexts.{entry_text}
@@ -33,17 +33,17 @@ was_lost Lost = true
 was_lost (Took frame) = false
 
 -- the frame that a step took
-abbrev pub frame_of : StepOutcome → Option PlainFrame
+abbrev pub frame_of : StepOutcome → Option PlainStamped
 frame_of Lost = None
 frame_of (Took frame) = frame
 
--- a step with this number: its log line, its lines, the node afterwards, and the frame that it took
-pub record Written {S : Type 0} (stands : S → ServiceState) (here : Host) (number : ℕ) (s : NodeState) (e : Event) (texts : StepTexts) (new : Node S) : Type 0 where
+-- a step with this number of a node that began so: its log line, its lines, the node afterwards, and the frame that it took
+pub record Written {S : Type 0} (stands : S → ServiceState) (config : NodeConfig) (number : ℕ) (s : NodeState) (e : Event) (texts : StepTexts) (new : Node S) : Type 0 where
   pub line : texts.line ≡ entry_text (entry_of (was_lost texts.made) e)
-  pub lines : texts.lines ≡ lines_text here (entries_at number (acts_of s (entry_of (was_lost texts.made) e)))
+  pub lines : texts.lines ≡ lines_text config.here (entries_at number (acts_of s (entry_of (was_lost texts.made) e)))
   pub node : NodeStands stands new (node_by s (entry_of (was_lost texts.made) e))
   pub frame : was_lost texts.made ≡ false → frame_of texts.made ≡ (node_step s e).frame
-  pub readable : IsReadable (entry_of (was_lost texts.made) e)
+  pub readable : IsReadable config.version (entry_of (was_lost texts.made) e)
 
 -- a line of the log and its lines of the trace were written, or prefixes of them, the log first
 pub data WrittenFront (old new : FileMap) (target line taken grown lines : List ℕ) : Type 0 where
@@ -57,18 +57,18 @@ WritesStep line lines files files_new out out_new (Err e) =
     (FailsAdding files files_new line × (out_new ≡ out)) ⊎ (Adds files files_new line × FailsIn out out_new lines)
 
 -- a frame that was taken is sent, where there is one
-abbrev pub sending : Dev → Option PlainFrame → List Heard
+abbrev pub sending : Dev → Option PlainStamped → List Heard
 sending d None = []
-sending d (Some x) = (d, frame_bytes x) ∷ []
+sending d (Some x) = (d, stamped_bytes x) ∷ []
 
 -- the frame that was taken was sent, or none where the link failed
-abbrev pub SendResult : {T : Type 0} → Dev → Option PlainFrame → LinkState → LinkState → Result T ServeFault → Type 0
+abbrev pub SendResult : {T : Type 0} → Dev → Option PlainStamped → LinkState → LinkState → Result T ServeFault → Type 0
 SendResult d frame old new (Ok x) = IsTrue old.observable → new.sent ≡ old.sent ++ sending d frame
 SendResult d frame old new (Err LinkFault) = (new.sent ≡ old.sent) × HasRisen old.faults new.faults
 SendResult d frame old new (Err WriteFault) = ⊥
 SendResult d frame old new (Err NoMemory) = ⊥
 
-pub record SendsTaken {T : Type 0} (d : Dev) (frame : Option PlainFrame) (old new : LinkState) (result : Result T ServeFault) : Type 0 where
+pub record SendsTaken {T : Type 0} (d : Dev) (frame : Option PlainStamped) (old new : LinkState) (result : Result T ServeFault) : Type 0 where
   pub observable : new.observable ≡ old.observable
   pub script : new.script ≡ old.script
   pub binds : new.binds ≡ old.binds

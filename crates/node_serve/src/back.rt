@@ -1,8 +1,9 @@
+ghost use Rattle.link_window.specs.declared.window.Version.{Version};
 ghost use Rattle.std.specs.Prelude.{◌≡◌, IsTrue};
 ghost use Rattle.network_plan.specs.NodeRules.{KeepsNodeEvent};
 ghost use Rattle.network_plan.specs.Hosts.{dev_of};
 ghost use Rattle.network_plan.specs.declared.event.Event.TheVariants as event;
-ghost use Rattle.packet_frame.specs.Bytes.{frame_bytes};
+ghost use Rattle.packet_frame.specs.Stamped.{stamped_bytes};
 ghost use Rattle.node_io.specs.Links.{LinkState};
 ghost use Rattle.serve_model.specs.Runs as spec;
 ghost use Rattle.node_serve.specs.Desks.{desk};
@@ -21,8 +22,8 @@ use std::alloc::Global;
 
 /// The event of a frame that the node sent to itself.
 fn arrived(frame: SpelledFrame) -> Event
-    ensures event { result ≡ event.Frame (dev_of 0) (frame_bytes frame) }
-    ensures keeps { KeepsNodeEvent result }
+    ensures event { result ≡ event.Frame (dev_of 0) (stamped_bytes frame) }
+    ensures keeps { (v : Version) → KeepsNodeEvent v result }
 {
     let bytes = frame.into_bytes();
     are_bytes(bytes.as_slice());

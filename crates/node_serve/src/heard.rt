@@ -1,3 +1,4 @@
+ghost use Rattle.link_window.specs.declared.window.Version.{Version};
 ghost use Rattle.std.specs.Prelude.{◌≡◌, ◌≤◌, ◌<◌, Some, IsTrue, IfSome, length};
 ghost use Rattle.network_plan.specs.NodeRules.{KeepsNodeEvent, KeepsServe};
 ghost use Rattle.node_io.specs.Links.{LinkState, next_heard};
@@ -20,7 +21,7 @@ fn arrival(alloc: Global, dev: Dev, bytes: &[u8]) -> Option<Event>
     requires some { 0 < length bytes.now }
     requires few { length bytes.now ≤ 16513 }
     ensures event { IfSome result (λ e. e ≡ spec.arrival (dev, bytes.now)) }
-    ensures keeps { IfSome result KeepsNodeEvent }
+    ensures keeps { (v : Version) → IfSome result (KeepsNodeEvent v) }
 {
     let bytes = Bytes::of(Vec::from_slice(alloc, bytes).ok()?);
     if dev.0 == 0 {

@@ -1,6 +1,8 @@
 ghost use Rattle.std.specs.Prelude.{◌≡◌, ◌+◌, IsTrue, IfSome, IfOk};
 ghost use Rattle.network_plan.specs.declared.event.Event.{Event as EventOf};
 ghost use Rattle.network_plan.specs.NodeRules.{KeepsNodeEvent};
+ghost use Rattle.node_core.specs.Stands.{version_of};
+ghost use Rattle.node_model.specs.Fits.{comes_within};
 ghost use Rattle.node_io.specs.Links.{LinkState};
 ghost use Rattle.serve_model.specs.Runs as spec;
 ghost use Rattle.node_serve.specs.Desks.{desk};
@@ -62,7 +64,8 @@ impl<S: Services> Server<S> {
         event: &Option<Event>,
     ) -> Result<StepOutcome, ServeFault>
         requires writing { IsTrue (F.state files.old).writing }
-        requires event { IfSome event.now KeepsNodeEvent }
+        requires event { IfSome event.now (KeepsNodeEvent cfg.now.node.version) }
+        requires within { IfSome event.now (comes_within (version_of self.old.node)) }
         ensures { (l : LinkState) (e : EventOf) → IfSome event.now (λ x. x ≡ e)
             → MakesStep S.stands cfg.now e self.old self.new
             (desk (F.state files.old) (K.state out.old) l)
@@ -71,7 +74,7 @@ impl<S: Services> Server<S> {
         let Ok(number) = next_number(self.steps) else {
             return Err(ServeFault::NoMemory);
         };
-        let Ok(texts) = try_step(alloc, &mut self.node, number, cfg.node.here, event) else {
+        let Ok(texts) = try_step(alloc, &mut self.node, number, &cfg.node, event) else {
             return Err(ServeFault::NoMemory);
         };
         let Ok(()) = write_step(files, out, texts.line.as_slice(), texts.lines.as_slice()) else {
@@ -91,7 +94,8 @@ impl<S: Services> Server<S> {
         event: &Option<Event>,
     ) -> Result<(), ServeFault>
         requires writing { IsTrue (F.state files.old).writing }
-        requires event { IfSome event.now KeepsNodeEvent }
+        requires event { IfSome event.now (KeepsNodeEvent cfg.now.node.version) }
+        requires within { IfSome event.now (comes_within (version_of self.old.node)) }
         ensures { (l : LinkState) (e : EventOf) → IfSome event.now (λ x. x ≡ e)
             → Goes S.stands cfg.now (spec.make e) self.old self.new
             (desk (F.state files.old) (K.state out.old) l)

@@ -1,19 +1,25 @@
 ghost use Rattle.std.specs.Prelude.{◌≡◌, IfOk, IsTrue, length};
+ghost use Rattle.link_window.specs.declared.window.Version.TheVariants as version;
 ghost use Rattle.network_plan.specs.NodeRules.{KeepsServe};
 ghost use Rattle.node_core.specs.Turns.{IsResting};
 ghost use Rattle.node_model.specs.State.{new_node};
 ghost use Rattle.serve_model.specs.Runs.{opened, peers_of};
 ghost use Rattle.node_serve.specs.Desks.{serving};
+ghost use Rattle.node_serve.specs.Moments as moments;
+ghost use Rattle.node_serve.specs.Moments.{ServesFrom};
 ghost use Rattle.node_serve.specs.Serves.{Finishes, Serves};
 ghost use Rattle.node_serve.specs.Stays.{StandsFor};
 
 use crate::fault::ServeFault;
 use crate::opening::{begin, room};
 use crate::server::Server;
-use log_replay::begin_node;
-use network_plan::ServeConfig;
+use link_window::Version;
+use log_replay::{begin_node, config_again};
+use network_plan::{Inject, Injects, ServeConfig};
 use node_io::{Clock, Files, Link, Sink, put_all};
 use plan_base::NoMemory;
+use plan_copies::copy_handler;
+use plan_items::Items;
 use service_api::Services;
 use std::alloc::Global;
 
@@ -68,14 +74,8 @@ fn open<S: Services + Drop>(
     })
 }
 
-/// Serves as a node for so many turns. Before the first one the link is bound at the node's port with its owner and its
-/// neighbours as peers, the log is begun, and the trace's first line is written; after the last one `end`. In each turn the
-/// node ticks where its period is over, takes the injections of this turn, hears one frame, takes what it sent to itself, and
-/// sends what is queued for its neighbours. Each step writes its line of the log, and then its lines of the trace. A step that
-/// finds no memory is logged as lost, changes nothing, and doesn't end the run. Conditions: the configuration keeps its rules,
-/// and no `begin` of the services is open. Where it fails, what was written and sent are prefixes of what the run writes and
-/// sends.
-pub fn serve<S: Services + Drop, L: Link, C: Clock, F: Files, K: Sink>(
+/// Serves with this configuration as it stands: what `serve` does, behind the moment at which the node begins.
+fn serve_as<S: Services + Drop, L: Link, C: Clock, F: Files, K: Sink>(
     alloc: Global,
     cfg: &ServeConfig,
     services: S,
@@ -103,4 +103,96 @@ pub fn serve<S: Services + Drop, L: Link, C: Clock, F: Files, K: Sink>(
         return Err(fault);
     }
     server.finish(alloc, cfg, link, clock, files, out, &mut room, turns)
+}
+
+/// The injections of a configuration once more.
+fn injects_again(alloc: Global, at: &[Inject]) -> Result<Injects, NoMemory>
+    ensures { IfOk result (λ copy. copy ≡ at.now) }
+{
+    let mut copy = Items::new(alloc);
+    for inject in at {
+        let chunk = inject.2.copy(alloc)?;
+        let handler = copy_handler(alloc, &inject.3)?;
+        copy.add((inject.0, inject.1, chunk, handler))?;
+    }
+    Ok(copy)
+}
+
+/// This configuration with another moment at which the node begins. Conditions: it keeps the rules, and is of version 2.
+fn booted(alloc: Global, cfg: &ServeConfig, boot: u64) -> Result<ServeConfig, NoMemory>
+    requires keeps { KeepsServe cfg.now }
+    requires two { cfg.now.node.version ≡ version.Two }
+    ensures is { IfOk result (λ c. c ≡ moments.booted boot cfg.now) }
+    ensures keeps { IfOk result KeepsServe }
+{
+    let mut node = config_again(alloc, &cfg.node)?;
+    node.boot = boot;
+    Ok(ServeConfig {
+        node,
+        missing: Items::from_slice(alloc, cfg.missing.as_slice())?,
+        port: cfg.port,
+        control: cfg.control,
+        period: cfg.period,
+        log: cfg.log.copy(alloc)?,
+        devs: Items::from_slice(alloc, cfg.devs.as_slice())?,
+        at: injects_again(alloc, cfg.at.as_slice())?,
+    })
+}
+
+/// Serves as a node of version 2.
+fn serve_booted<S: Services + Drop, L: Link, C: Clock, F: Files, K: Sink>(
+    alloc: Global,
+    cfg: &ServeConfig,
+    services: S,
+    link: &mut L,
+    clock: &mut C,
+    files: &mut F,
+    out: &mut K,
+    turns: u32,
+) -> Result<(), ServeFault>
+    requires keeps { KeepsServe cfg.now }
+    requires two { cfg.now.node.version ≡ version.Two }
+    requires services { IsResting (S.stands services) }
+    ensures { ServesFrom cfg.now (S.stands services) turns
+        (serving (F.state files.old) (K.state out.old) (L.state link.old) (C.state clock.old))
+        (serving (F.state files.new) (K.state out.new) (L.state link.new) (C.state clock.new))
+        result }
+{
+    let boot = clock.now();
+    let Ok(cfg) = booted(alloc, cfg, boot) else {
+        return Err(ServeFault::NoMemory);
+    };
+    serve_as(alloc, &cfg, services, link, clock, files, out, turns)
+}
+
+/// Serves as a node for so many turns. A node of version 2 begins at the clock's first answer, for which the clock is asked
+/// before all else. Before the first turn the link is bound at the node's port with its owner and its
+/// neighbours as peers, the log is begun, and the trace's first line is written; after the last one `end`. In each turn the
+/// node ticks where its period is over, takes the injections of this turn, hears one frame, takes what it sent to itself, and
+/// sends what is queued for its neighbours. Each step writes its line of the log, and then its lines of the trace. A step that
+/// finds no memory is logged as lost, changes nothing, and doesn't end the run. Conditions: the configuration keeps its rules,
+/// and no `begin` of the services is open. Where it fails, what was written and sent are prefixes of what the run writes and
+/// sends.
+pub fn serve<S: Services + Drop, L: Link, C: Clock, F: Files, K: Sink>(
+    alloc: Global,
+    cfg: &ServeConfig,
+    services: S,
+    link: &mut L,
+    clock: &mut C,
+    files: &mut F,
+    out: &mut K,
+    turns: u32,
+) -> Result<(), ServeFault>
+    requires keeps { KeepsServe cfg.now }
+    requires services { IsResting (S.stands services) }
+    // The run of the node, or a prefix of it; only the log is made and written, and a fault comes only where its count rose.
+    ensures { ServesFrom cfg.now (S.stands services) turns
+        (serving (F.state files.old) (K.state out.old) (L.state link.old) (C.state clock.old))
+        (serving (F.state files.new) (K.state out.new) (L.state link.new) (C.state clock.new))
+        result }
+{
+    match cfg.node.version {
+        Version::One => serve_as(alloc, cfg, services, link, clock, files, out, turns),
+        Version::Two => serve_booted(alloc, cfg, services, link, clock, files, out, turns),
+    }
 }

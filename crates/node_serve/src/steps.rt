@@ -1,9 +1,11 @@
+ghost use Rattle.link_window.specs.declared.window.Version.{Version};
 ghost use Rattle.std.specs.Prelude.{◌≡◌, ◌∷◌, [], IfOk, IfSome, OnOk};
 ghost use Rattle.network_plan.specs.declared.event.Event.{Event as EventOf};
 ghost use Rattle.network_plan.specs.NodeRules.{KeepsNodeEvent};
 ghost use Rattle.node_model.specs.State.{NodeState};
 ghost use Rattle.node_model.specs.declared.acts.Act.TheVariants as act;
-ghost use Rattle.node_core.specs.Stands.{NodeStands};
+ghost use Rattle.node_core.specs.Stands.{version_of, NodeStands};
+ghost use Rattle.node_model.specs.Fits.{comes_within};
 ghost use Rattle.network_plan.specs.declared.event.LogEvent.TheVariants as entry;
 ghost use Rattle.node_files.specs.LogTexts.{entry_text};
 ghost use Rattle.serve_model.specs.Runs.{entries_at};
@@ -13,7 +15,7 @@ ghost use Rattle.node_serve.specs.Steps.{Written};
 ghost use Rattle.node_serve.specs.declared.steps.StepOutcome.TheVariants as stepped;
 
 use log_replay::{lost_lines, step_lines};
-use network_plan::Event;
+use network_plan::{Event, NodeConfig};
 use node_core::Node;
 use node_files::{put_log_line, put_lost_line};
 use node_model::Acts;
@@ -41,9 +43,8 @@ pub(crate) struct StepTexts {
 
 /// The line of the log of an event.
 fn event_text(alloc: Global, event: &Event) -> Result<Bytes, NoMemory>
-    requires { KeepsNodeEvent event.now }
     ensures text { IfOk result (λ text. text ≡ entry_text (entry.Step event.now)) }
-    ensures readable { OnOk result (IsReadable (entry.Step event.now)) }
+    ensures readable { (v : Version) → KeepsNodeEvent v event.now → OnOk result (IsReadable v (entry.Step event.now)) }
 {
     let mut text = Bytes::new(alloc);
     put_log_line(alloc, event, &mut text)?;
@@ -79,20 +80,20 @@ fn lost_texts(alloc: Global, number: u64, here: Host) -> Result<StepTexts, NoMem
 fn took_texts(
     alloc: Global,
     number: u64,
-    here: Host,
+    config: &NodeConfig,
     event: &Event,
     acts: Acts,
 ) -> Result<StepTexts, NoMemory>
-    requires { KeepsNodeEvent event.now }
+    requires { KeepsNodeEvent config.now.version event.now }
     ensures line { IfOk result (λ texts. (texts.line ≡ entry_text (entry.Step event.now))
-        × IsReadable (entry.Step event.now)) }
+        × IsReadable config.now.version (entry.Step event.now)) }
     ensures lines { IfOk result
-        (λ texts. texts.lines ≡ lines_text here (entries_at number acts.list)) }
+        (λ texts. texts.lines ≡ lines_text config.now.here (entries_at number acts.list)) }
     ensures made { IfOk result (λ texts. texts.made ≡ stepped.Took acts.frame) }
 {
     let Acts { list, frame } = acts;
     let line = event_text(alloc, event)?;
-    let lines = step_lines(alloc, number, here, list.as_slice())?;
+    let lines = step_lines(alloc, number, config.here, list.as_slice())?;
     Ok(StepTexts {
         line,
         lines,
@@ -105,19 +106,20 @@ pub(crate) fn try_step<S: Services>(
     alloc: Global,
     node: &mut Node<S>,
     number: u64,
-    here: Host,
+    config: &NodeConfig,
     event: &Option<Event>,
 ) -> Result<StepTexts, NoMemory>
-    requires { IfSome event.now KeepsNodeEvent }
+    requires event { IfSome event.now (KeepsNodeEvent config.now.version) }
+    requires within { IfSome event.now (comes_within (version_of node.old)) }
     ensures { (s : NodeState) (e : EventOf) → NodeStands S.stands node.old s
         → IfSome event.now (λ x. x ≡ e)
-        → IfOk result (λ texts. Written S.stands here number s e texts node.new) }
+        → IfOk result (λ texts. Written S.stands config.now number s e texts node.new) }
 {
     let Some(event) = event else {
-        return lost_texts(alloc, number, here);
+        return lost_texts(alloc, number, config.here);
     };
     match node.step(alloc, event) {
-        Ok(acts) => took_texts(alloc, number, here, event, acts),
-        Err(NoMemory) => lost_texts(alloc, number, here),
+        Ok(acts) => took_texts(alloc, number, config, event, acts),
+        Err(NoMemory) => lost_texts(alloc, number, config.here),
     }
 }

@@ -1,15 +1,21 @@
+ghost use Rattle.link_window.specs.declared.window.Version.{Version as VersionOf};
 ghost use Rattle.std.specs.Prelude.{◌≡◌, ◌+◌, Some, IsTrue, IfSome, length, nat_le};
 ghost use Rattle.network_plan.specs.NodeRules.{KeepsNodeEvent, KeepsServe, KeepsInject};
 ghost use Rattle.network_plan.specs.declared.event.Event.TheVariants as event;
 ghost use Rattle.node_io.specs.Links.{LinkState};
 ghost use Rattle.serve_model.specs.Runs as spec;
 ghost use Rattle.node_serve.specs.Desks.{desk};
+ghost use Rattle.node_model.specs.Fits.{comes_within};
 ghost use Rattle.node_serve.specs.Goes.{Goes};
+ghost use Rattle.node_serve.specs.Moments.{takes_handler};
 
 use crate::fault::ServeFault;
 use crate::server::Server;
+use link_window::Version;
 use network_plan::{Event, Inject, ServeConfig};
 use node_io::{Files, Sink};
+use plan_base::Name;
+use plan_copies::copy_handler;
 use service_api::Services;
 use std::alloc::Global;
 
@@ -20,14 +26,29 @@ fn is_over(last: u64, period: u32, now: u64) -> bool
     now >= last && now - last >= u64::from(period)
 }
 
-/// The event of an injection, where its chunk finds memory.
-fn injection(alloc: Global, inject: &Inject) -> Option<Event>
-    requires { KeepsInject inject.now }
-    ensures event { IfSome result (λ e. e ≡ event.Inject inject.now.2 inject.now.1) }
-    ensures keeps { IfSome result KeepsNodeEvent }
+/// Whether a node of this version may take a handler, if there is one.
+fn may_take(version: Version, handler: &Option<Name>) -> bool
+    ensures { result ≡ takes_handler version handler.now }
 {
+    match version {
+        Version::One => handler.is_none(),
+        Version::Two => true,
+    }
+}
+
+/// The event of an injection, where its chunk finds memory, and a node of this version may take it.
+#[tactic(auto, using(crate::proofs::Injecting::may_come))]
+fn injection(alloc: Global, version: Version, inject: &Inject) -> Option<Event>
+    ensures event { IfSome result (λ e. e ≡ event.Inject inject.now.2 inject.now.1 inject.now.3) }
+    ensures keeps { (v : VersionOf) → KeepsInject v inject.now → IfSome result (KeepsNodeEvent v) }
+    ensures within { (v : VersionOf) → KeepsInject v inject.now → IfSome result (comes_within version) }
+{
+    if !may_take(version, &inject.3) {
+        return None;
+    }
     let chunk = inject.2.copy(alloc).ok()?;
-    Some(Event::Inject(chunk, inject.1))
+    let handler = copy_handler(alloc, &inject.3).ok()?;
+    Some(Event::Inject(chunk, inject.1, handler))
 }
 
 impl<S: Services> Server<S> {
@@ -67,7 +88,7 @@ impl<S: Services> Server<S> {
         inject: &Inject,
     ) -> Result<(), ServeFault>
         requires writing { IsTrue (F.state files.old).writing }
-        requires keeps { KeepsInject inject.now }
+        requires keeps { KeepsInject cfg.now.node.version inject.now }
         ensures { (l : LinkState)
             → Goes S.stands cfg.now (spec.inject_one turn (Some inject.now)) self.old self.new
             (desk (F.state files.old) (K.state out.old) l)
@@ -76,7 +97,7 @@ impl<S: Services> Server<S> {
         if inject.0 != turn {
             return Ok(());
         }
-        let event = injection(alloc, inject);
+        let event = injection(alloc, self.node.version(), inject);
         self.step(alloc, cfg, files, out, &event)
     }
 

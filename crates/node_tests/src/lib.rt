@@ -4,6 +4,10 @@
 #[cfg(test)]
 mod logs;
 #[cfg(test)]
+mod settles;
+#[cfg(test)]
 mod steps;
 #[cfg(test)]
 mod tables;
+#[cfg(test)]
+mod windows;

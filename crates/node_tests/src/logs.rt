@@ -22,6 +22,19 @@ const PING: &[u8] =
 const EACH_KIND: &[u8] =
     b"planet log 1\nhost 2\nhosts 1 2 3 4294967295\ndev 1 3\ndev 8 4294967295\nwithout resident\nwithout net\nevents\ninject 65535 0000010166000020016600\ntick\nlost\ntake 0\ntake 8\nframe 8 00ff10\ncontrol 0a\n";
 
+/// The log of a node of version 2, with an injection that has a handler.
+const SECOND: &[u8] =
+    b"planet log 2\nhost 1\nboot 18446744073709551615\nhosts 1 2\ndev 1 2\nevents\ninject 3 00000201660000200168010178040020016600 handler h\ninject 0 0000010166000020016600\ntake 0\n";
+
+/// Logs whose third or last line is outside the format of their version.
+const OUTSIDE: [&[u8]; 5] = [
+    b"planet log 1\nhost 1\nboot 7\nhosts 1\nevents\n",
+    b"planet log 2\nhost 1\nhosts 1\nevents\n",
+    b"planet log 2\nhost 1\nboot 18446744073709551616\nhosts 1\nevents\n",
+    b"planet log 1\nhost 1\nhosts 1\nevents\ninject 3 00000201660000200168010178040020016600 handler h\n",
+    b"planet log 2\nhost 1\nboot 7\nhosts 1\nevents\ninject 3 00000201660000200168010178040020016600 handler f\n",
+];
+
 fn put_entries(alloc: Global, entries: &[LogEvent], out: &mut Bytes) -> Result<(), Fail> {
     for e in entries {
         match e {
@@ -56,8 +69,16 @@ fn is_written_again(alloc: Global, text: &[u8]) -> Result<bool, Fail> {
 
 #[test]
 fn logs_are_written_as_they_were_read(rt: HostRuntime) -> Result<(), Fail> {
-    for text in [SERVING, ASK, PING, EACH_KIND] {
+    for text in [SERVING, ASK, PING, EACH_KIND, SECOND] {
         assert!(rt; is_written_again(rt.alloc(), text)?);
+    }
+    Ok(())
+}
+
+#[test]
+fn logs_keep_to_the_format_of_their_version(rt: HostRuntime) -> Result<(), Fail> {
+    for text in OUTSIDE {
+        assert!(rt; !is_written_again(rt.alloc(), text)?);
     }
     Ok(())
 }

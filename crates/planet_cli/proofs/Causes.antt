@@ -18,15 +18,17 @@ use Rattle.call_causes.specs.declared.status.Cause.{Cause}
 use Rattle.call_causes.specs.declared.status.Cause.TheVariants.{Done, Usage, Refused, ReadFault, WriteFault, LinkFault, SpawnFault, NoMemory, NodesFailed}
 use Rattle.file_commands.specs.Said.{Said}
 use Rattle.file_commands.specs.Takes.{Untaken}
-use Rattle.file_commands.specs.Renders.{Prints}
+use Rattle.file_commands.specs.Renders.{Prints, PrintsBy}
 use Rattle.file_commands.specs.Checks.{check_said}
 use Rattle.file_commands.specs.Shows.{show_said}
 use Rattle.run_commands.specs.Schedules.{replay_said}
 use Rattle.run_commands.specs.Grown.{GrowsAs}
+use Rattle.cut_files.specs.Texts.{cut_output}
+use Rattle.message_commands.specs.Messages.{cut_said, gather_said, messages_text}
 use Rattle.live_commands.specs.Asks.{AsksAs, ask_said, ask_cause}
 use Rattle.live_commands.specs.Fleets.{RunsAs, fleet_said, fleet_cause}
 use Rattle.live_commands.specs.Nodes.{ServesAs, config_said, serve_cause}
-use Rattle.planet_cli.specs.Requests.{Request, replay, check, show, inject, fleet, node, grow}
+use Rattle.planet_cli.specs.Requests.{Request, replay, check, show, inject, fleet, node, grow, cut, gather}
 use Rattle.planet_cli.specs.Does.{Does, wire_in, shop_in, serving_in}
 use Rattle.planet_cli.specs.Calls.{Calls}
 use Rattle.planet_cli.specs.Laws.{UnlessLinked, UnlessFleet, IfNodesFailed}
@@ -98,9 +100,12 @@ served (Err serves.LinkFault) = tt
 served (Err serves.WriteFault) = tt
 served (Err serves.NoMemory) = tt
 
+texts_so : {A : Type 0} (text : A → List ℕ) (said : FileMap → Said A) (files read : FilesState) (c : Cause) (a b : SinkState) → Took said (PrintsBy text) files read c a b → Unlinked c × Unstarted c
+texts_so text said files read c a b (took v own p) = printed (text v) c a b p
+texts_so text said files read c a b (left u same) = untaken said files read c u
+
 prints_so : (said : FileMap → Said (List ℕ)) (files read : FilesState) (c : Cause) (a b : SinkState) → Took said Prints files read c a b → Unlinked c × Unstarted c
-prints_so said files read c a b (took text own p) = printed text c a b p
-prints_so said files read c a b (left u same) = untaken said files read c u
+prints_so said files read c a b t = texts_so (λ text. text) said files read c a b t
 
 module _ (c : Cause) (old new : Outside) where
   asks_so : (file : List ℕ) → Took (ask_said file) AsksAs old.files new.files c (wire_in old) (wire_in new) → Unstarted c
@@ -124,6 +129,8 @@ module _ (c : Cause) (old new : Outside) where
   kinds (Some (fleet file)) d = (runs_so file (view (fleet_said file) RunsAs file old.files new.files c (shop_in old) (shop_in new) d.1), tt)
   kinds (Some (node file turns)) d = (tt, serves_so file turns d.1.read (view (config_said file) (ServesAs turns) file old.files d.1.read c (record (serving_in old) { files = d.1.read }) (serving_in new) d.1.did))
   kinds (Some (grow seed k)) d = grown seed k c old.out new.out d.1
+  kinds (Some (cut file)) d = texts_so cut_output (cut_said file) old.files new.files c old.out new.out (view (cut_said file) (PrintsBy cut_output) file old.files new.files c old.out new.out d.1)
+  kinds (Some (gather port file)) d = texts_so (messages_text port) (gather_said file) old.files new.files c old.out new.out (view (gather_said file) (PrintsBy (messages_text port)) file old.files new.files c old.out new.out d.1)
 
 -- ---- calls
 
@@ -136,6 +143,8 @@ unless_linked (Some (inject file)) P Q f h = tt
 unless_linked (Some (fleet file)) P Q f h = f h
 unless_linked (Some (node file turns)) P Q f h = tt
 unless_linked (Some (grow seed n)) P Q f h = f h
+unless_linked (Some (cut file)) P Q f h = f h
+unless_linked (Some (gather port file)) P Q f h = f h
 
 unless_fleet : (q : Option Request) (P Q : Type 0) → (P → Q) → UnlessFleet q P → UnlessFleet q Q
 unless_fleet None P Q f h = f h
@@ -146,6 +155,8 @@ unless_fleet (Some (inject file)) P Q f h = f h
 unless_fleet (Some (fleet file)) P Q f h = tt
 unless_fleet (Some (node file turns)) P Q f h = f h
 unless_fleet (Some (grow seed n)) P Q f h = f h
+unless_fleet (Some (cut file)) P Q f h = f h
+unless_fleet (Some (gather port file)) P Q f h = f h
 
 none_failed : (c : Cause) → Unstarted c → IfNodesFailed c (λ h s. ⊥)
 none_failed Done u = tt

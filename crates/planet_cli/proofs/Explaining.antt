@@ -17,7 +17,7 @@ use Rattle.fleet_run.specs.declared.fault.FleetFault.TheVariants as fleets
 use Rattle.fleet_run.specs.declared.reports.FleetEnd.{FleetEnd}
 use Rattle.fleet_run.specs.declared.reports.FleetEnd.TheVariants.{Well, Failed}
 use Rattle.node_serve.specs.Desks.{Serving, desk_of}
-use Rattle.node_serve.specs.Serves.{Serves}
+use Rattle.node_serve.specs.Moments.{ServesFrom}
 use Rattle.node_serve.specs.declared.fault.ServeFault.{ServeFault}
 use Rattle.node_serve.specs.declared.fault.ServeFault.TheVariants as serves
 use Rattle.call_causes.specs.Causes.{WriteRose, Explains}
@@ -25,15 +25,17 @@ use Rattle.call_causes.specs.declared.status.Cause.{Cause}
 use Rattle.call_causes.specs.declared.status.Cause.TheVariants.{Done, Usage, Refused, ReadFault, WriteFault, LinkFault, SpawnFault, NoMemory, NodesFailed}
 use Rattle.file_commands.specs.Said.{Said}
 use Rattle.file_commands.specs.Takes.{Untaken}
-use Rattle.file_commands.specs.Renders.{Prints}
+use Rattle.file_commands.specs.Renders.{Prints, PrintsBy}
 use Rattle.file_commands.specs.Checks.{check_said}
 use Rattle.file_commands.specs.Shows.{show_said}
 use Rattle.run_commands.specs.Schedules.{replay_said}
 use Rattle.run_commands.specs.Grown.{GrowsAs}
+use Rattle.cut_files.specs.Texts.{cut_output}
+use Rattle.message_commands.specs.Messages.{cut_said, gather_said, messages_text}
 use Rattle.live_commands.specs.Asks.{AsksAs, ask_said, ask_cause}
 use Rattle.live_commands.specs.Fleets.{RunsAs, fleet_said, fleet_cause}
-use Rattle.live_commands.specs.Nodes.{ServesAs, config_said, own_node, serve_cause}
-use Rattle.planet_cli.specs.Requests.{Request, replay, check, show, inject, fleet, node, grow}
+use Rattle.live_commands.specs.Nodes.{ServesAs, config_said, own_services, serve_cause}
+use Rattle.planet_cli.specs.Requests.{Request, replay, check, show, inject, fleet, node, grow, cut, gather}
 use Rattle.planet_cli.specs.Does.{Does, wire_in, shop_in, serving_in}
 use Rattle.planet_cli.specs.Calls.{Calls}
 use Rattle.call_causes.specs.Notes.{Notes, told, no_memory, failed}
@@ -77,10 +79,10 @@ module _ (old new : Outside) (n m : SinkState) where
   ran f (Err fleets.NoMemory) p = tt
 
   served : (cfg : ServeConfig) (turns : ℕ) (read : FilesState) (result : Result (Unit {0}) ServeFault) → read.write_faults ≡ old.files.write_faults
-      → Serves cfg (own_node cfg) turns (record (serving_in old) { files = read }) (serving_in new) result → Explains (serve_cause result) old new n m
+      → ServesFrom cfg (own_services cfg) turns (record (serving_in old) { files = read }) (serving_in new) result → Explains (serve_cause result) old new n m
   served cfg turns read (Ok x) same p = tt
-  served cfg turns read (Err serves.LinkFault) same p = p.faults
-  served cfg turns read (Err serves.WriteFault) same p = elim p.faults [ inl rose ↦ inr (inl (subst (λ k. HasRisen k new.files.write_faults) same rose)) | inr rose ↦ inl rose ]
+  served cfg turns read (Err serves.LinkFault) same p = p.serves.faults
+  served cfg turns read (Err serves.WriteFault) same p = elim p.serves.faults [ inl rose ↦ inr (inl (subst (λ k. HasRisen k new.files.write_faults) same rose)) | inr rose ↦ inl rose ]
   served cfg turns read (Err serves.NoMemory) same p = tt
 
   -- where nothing was taken
@@ -95,9 +97,12 @@ module _ (old new : Outside) (n m : SinkState) where
   untaken said SpawnFault u = elim u [ ]
   untaken said (NodesFailed h s) u = tt
 
+  texts_so : {A : Type 0} (text : A → List ℕ) (said : FileMap → Said A) (c : Cause) → Took said (PrintsBy text) old.files new.files c old.out new.out → Explains c old new n m
+  texts_so text said c (took v own p) = printed (text v) c p
+  texts_so text said c (left u same) = untaken said c u
+
   prints_so : (said : FileMap → Said (List ℕ)) (c : Cause) → Took said Prints old.files new.files c old.out new.out → Explains c old new n m
-  prints_so said c (took text own p) = printed text c p
-  prints_so said c (left u same) = untaken said c u
+  prints_so said c t = texts_so (λ text. text) said c t
 
   asks_so : (file : List ℕ) (c : Cause) → Took (ask_said file) AsksAs old.files new.files c (wire_in old) (wire_in new) → Explains c old new n m
   asks_so file c (took a own p) = subst (λ k. Explains k old new n m) (sym p.is) (asked a p.result p.asks)
@@ -122,6 +127,8 @@ module _ (old new : Outside) (n m : SinkState) where
   explains (Some (fleet file)) c d = runs_so file c (view (fleet_said file) RunsAs file old.files new.files c (shop_in old) (shop_in new) d.1)
   explains (Some (node file turns)) c d = serves_so file turns c d.1.read d.1.did.takes.only.write_faults (view (config_said file) (ServesAs turns) file old.files d.1.read c (record (serving_in old) { files = d.1.read }) (serving_in new) d.1.did)
   explains (Some (grow seed k)) c d = grown seed k c d.1
+  explains (Some (cut file)) c d = texts_so cut_output (cut_said file) c (view (cut_said file) (PrintsBy cut_output) file old.files new.files c old.out new.out d.1)
+  explains (Some (gather port file)) c d = texts_so (messages_text port) (gather_said file) c (view (gather_said file) (PrintsBy (messages_text port)) file old.files new.files c old.out new.out d.1)
 
   by_notes : (found cause : Cause) → Notes found n m cause → Explains found old new n m → Explains cause old new n m
   by_notes found cause (told w) h = h

@@ -18,7 +18,7 @@ use Rattle.file_commands.specs.Shows.{show_said}
 use Rattle.live_commands.specs.Asks.{AsksAs, ask_said}
 use Rattle.live_commands.specs.Fleets.{RunsAs, fleet_said}
 use Rattle.live_commands.specs.Nodes.{ServesAs, config_said}
-use Rattle.planet_cli.specs.Requests.{Request, replay, check, show, inject, fleet, node, grow}
+use Rattle.planet_cli.specs.Requests.{Request, replay, check, show, inject, fleet, node, grow, cut, gather}
 use Rattle.planet_cli.specs.Does.{Does, wire_in, shop_in, serving_in}
 use Rattle.planet_cli.specs.Calls.{Calls}
 use Rattle.planet_cli.specs.Outcomes.{outcome_of, IsAccepted}
@@ -35,6 +35,8 @@ module _ (c : Cause) (old new : Outside) where
   link_stays (Some (fleet file)) d = ap (λ o. o.link) d.0
   link_stays (Some (node file turns)) d = tt
   link_stays (Some (grow seed n)) d = ap (λ o. o.link) d.0
+  link_stays (Some (cut file)) d = ap (λ o. o.link) d.0
+  link_stays (Some (gather port file)) d = ap (λ o. o.link) d.0
 
   pub clock_stays : (q : Option Request) → Does q c old new → UnlessNode q (new.clock ≡ old.clock)
   clock_stays None d = ap (λ o. o.clock) d.1
@@ -45,6 +47,8 @@ module _ (c : Cause) (old new : Outside) where
   clock_stays (Some (fleet file)) d = ap (λ o. o.clock) d.0
   clock_stays (Some (node file turns)) d = tt
   clock_stays (Some (grow seed n)) d = ap (λ o. o.clock) d.0
+  clock_stays (Some (cut file)) d = ap (λ o. o.clock) d.0
+  clock_stays (Some (gather port file)) d = ap (λ o. o.clock) d.0
 
   pub children_stay : (q : Option Request) → Does q c old new → UnlessFleet q (new.children ≡ old.children)
   children_stay None d = ap (λ o. o.children) d.1
@@ -55,6 +59,8 @@ module _ (c : Cause) (old new : Outside) where
   children_stay (Some (fleet file)) d = tt
   children_stay (Some (node file turns)) d = d.0
   children_stay (Some (grow seed n)) d = ap (λ o. o.children) d.0
+  children_stay (Some (cut file)) d = ap (λ o. o.children) d.0
+  children_stay (Some (gather port file)) d = ap (λ o. o.children) d.0
 
   script_asked : (file : List ℕ) → Took (ask_said file) AsksAs old.files new.files c (wire_in old) (wire_in new) → new.link.script ≡ old.link.script
   script_asked file (took a own p) = p.asks.script
@@ -69,6 +75,8 @@ module _ (c : Cause) (old new : Outside) where
   script_stays (Some (fleet file)) d = ap (λ o. o.link.script) d.0
   script_stays (Some (node file turns)) d = tt
   script_stays (Some (grow seed n)) d = ap (λ o. o.link.script) d.0
+  script_stays (Some (cut file)) d = ap (λ o. o.link.script) d.0
+  script_stays (Some (gather port file)) d = ap (λ o. o.link.script) d.0
 
   statuses_run : (file : List ℕ) → Took (fleet_said file) RunsAs old.files new.files c (shop_in old) (shop_in new) → new.children.statuses ≡ old.children.statuses
   statuses_run file (took f own p) = p.runs.kept.statuses
@@ -83,6 +91,8 @@ module _ (c : Cause) (old new : Outside) where
   statuses_stay (Some (fleet file)) d = statuses_run file (view (fleet_said file) RunsAs file old.files new.files c (shop_in old) (shop_in new) d.1)
   statuses_stay (Some (node file turns)) d = ap (λ k. k.statuses) d.0
   statuses_stay (Some (grow seed n)) d = ap (λ o. o.children.statuses) d.0
+  statuses_stay (Some (cut file)) d = ap (λ o. o.children.statuses) d.0
+  statuses_stay (Some (gather port file)) d = ap (λ o. o.children.statuses) d.0
 
   -- ---- files
 
@@ -95,10 +105,12 @@ module _ (c : Cause) (old new : Outside) where
   files_stay (Some (fleet file)) d = d.1.takes.only.held
   files_stay (Some (node file turns)) d = tt
   files_stay (Some (grow seed n)) d = ap (λ o. o.files.held) d.0
+  files_stay (Some (cut file)) d = d.1.takes.only.held
+  files_stay (Some (gather port file)) d = d.1.takes.only.held
 
   node_asked : (file : List ℕ) (turns : ℕ) (read : FilesState) → MayName old.files.asked read.asked file
       → Took (config_said file) (ServesAs turns) old.files read c (record (serving_in old) { files = read }) (serving_in new) → MayName old.files.asked new.files.asked file
-  node_asked file turns read named (took cfg own p) = subst (λ k. MayName old.files.asked k file) (sym p.serves.only.asked) named
+  node_asked file turns read named (took cfg own p) = subst (λ k. MayName old.files.asked k file) (sym p.serves.serves.only.asked) named
   node_asked file turns read named (left u same) = subst (λ k. MayName old.files.asked k file) (sym (ap (λ w. w.files.asked) same)) named
 
   pub files_asked : (q : Option Request) → Does q c old new → AsksFor q old.files.asked new.files.asked
@@ -110,6 +122,8 @@ module _ (c : Cause) (old new : Outside) where
   files_asked (Some (fleet file)) d = d.1.takes.asked
   files_asked (Some (node file turns)) d = node_asked file turns d.1.read d.1.did.takes.asked (view (config_said file) (ServesAs turns) file old.files d.1.read c (record (serving_in old) { files = d.1.read }) (serving_in new) d.1.did)
   files_asked (Some (grow seed n)) d = ap (λ o. o.files.asked) d.0
+  files_asked (Some (cut file)) d = d.1.takes.asked
+  files_asked (Some (gather port file)) d = d.1.takes.asked
 
   none_made : (s : Said ServeConfig) → new.files.made ≡ old.files.made → LogsAtMost s old.files.made new.files.made
   none_made nothing is = is
@@ -120,7 +134,7 @@ module _ (c : Cause) (old new : Outside) where
       → Took (config_said file) (ServesAs turns) old.files read c (record (serving_in old) { files = read }) (serving_in new)
       → IsTrue old.files.observable → LogsAtMost (config_said file old.files.held) old.files.made new.files.made
   node_made file turns read same (took cfg own p) seen =
-      subst (λ s. LogsAtMost s old.files.made new.files.made) (sym (own seen)) (subst (λ k. MayName k new.files.made cfg.log) same p.serves.made.0)
+      subst (λ s. LogsAtMost s old.files.made new.files.made) (sym (own seen)) (subst (λ k. MayName k new.files.made cfg.log) same p.serves.serves.made.0)
   node_made file turns read same (left u is) seen = none_made (config_said file old.files.held) (ap (λ w. w.files.made) is ∙ same)
 
   pub files_made : (q : Option Request) → Does q c old new → MakesAtMost q old new
@@ -132,6 +146,8 @@ module _ (c : Cause) (old new : Outside) where
   files_made (Some (fleet file)) d = d.1.takes.only.made
   files_made (Some (node file turns)) d = node_made file turns d.1.read d.1.did.takes.only.made (view (config_said file) (ServesAs turns) file old.files d.1.read c (record (serving_in old) { files = d.1.read }) (serving_in new) d.1.did)
   files_made (Some (grow seed n)) d = ap (λ o. o.files.made) d.0
+  files_made (Some (cut file)) d = d.1.takes.only.made
+  files_made (Some (gather port file)) d = d.1.takes.only.made
 
 -- ---- calls
 

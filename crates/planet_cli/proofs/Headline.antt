@@ -1,4 +1,4 @@
--- A replay that is done wrote the run of its schedule, or the trace of its log.
+-- A replay that is done wrote the run of its schedule, or the trace of its log; a cut its parts, and a gathering its messages.
 use Rattle.std.proofs.Common.{◌≡◌, ℕ, List, subst}
 use Rattle.network_plan.specs.declared.schedule.Schedule.{Schedule}
 use Rattle.network_plan.specs.declared.node.Log.{Log}
@@ -9,18 +9,22 @@ use Rattle.world_model.specs.Texts.{run_text}
 use Rattle.call_causes.specs.declared.status.Cause.{Cause}
 use Rattle.call_causes.specs.declared.status.Cause.TheVariants.{Done}
 use Rattle.run_commands.specs.Schedules.{log_trace}
+use Rattle.cut_files.specs.declared.cut.CutFile.{CutFile}
+use Rattle.cut_files.specs.Texts.{cut_output}
+use Rattle.message_commands.specs.Messages.{messages_text}
 use Rattle.planet_cli.specs.Requests.{request_of}
 use Rattle.call_causes.specs.Causes.{Explains}
 use Rattle.call_causes.specs.Notes.{Notes}
 use Rattle.planet_cli.specs.Does.{Does}
 use Rattle.planet_cli.specs.Calls.{Calls}
 use Rattle.planet_cli.specs.Replays.{Replays, ReplaysLog}
-use Rattle.planet_cli.proofs.Writing.{schedule_written, log_written}
+use Rattle.planet_cli.specs.Gathers.{Cuts, Gathers}
+use Rattle.planet_cli.proofs.Writing.{schedule_written, log_written, cut_written, messages_written}
 use Rattle.planet_cli.proofs.Explaining.{call_explains}
 
--- the words ask for a replay
+-- by what the words ask for
 module _ (words : List (List ℕ)) (cause : Cause) (old new : Outside) (n m : SinkState) (call : Calls (request_of words) cause old new n m) where
-  -- of a schedule
+  -- a replay of a schedule
   pub replay_writes : (s : Schedule) → Replays words old.files s → cause ≡ Done → Writes old.out new.out (run_text s.frames s.events (opening s.topology))
   replay_writes s r done =
       schedule_written r.file r.bytes s cause old new n m (subst (λ q. Calls q cause old new n m) r.asked call) r.seen r.there r.says done
@@ -29,6 +33,16 @@ module _ (words : List (List ℕ)) (cause : Cause) (old new : Outside) (n m : Si
   pub log_writes : (l : Log) (r : ReplaysLog words old.files l) → cause ≡ Done → Writes old.out new.out (log_trace l)
   log_writes l r done =
       log_written r.file r.bytes l cause old new n m (subst (λ q. Calls q cause old new n m) r.asked call) r.seen r.there r.says done
+
+  -- a cut
+  pub cut_writes : (c : CutFile) → Cuts words old.files c → cause ≡ Done → Writes old.out new.out (cut_output c)
+  cut_writes c r done =
+      cut_written r.file r.bytes c cause old new n m (subst (λ q. Calls q cause old new n m) r.asked call) r.seen r.there r.says done
+
+  -- a gathering
+  pub gather_writes : (port : ℕ) (l : Log) → Gathers words old.files port l → cause ≡ Done → Writes old.out new.out (messages_text port l)
+  gather_writes port l r done =
+      messages_written r.file r.bytes port l cause old new n m (subst (λ q. Calls q cause old new n m) r.asked call) r.seen r.there r.says done
 
 -- of what was found, with its notes
 module _ (words : List (List ℕ)) (found cause : Cause) (old new : Outside) (n m : SinkState) (does : Does (request_of words) found old new) (notes : Notes found n m cause) where

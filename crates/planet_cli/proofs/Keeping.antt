@@ -4,17 +4,16 @@ use Rattle.network_plan.specs.declared.schedule.Schedule.{Schedule}
 use Rattle.network_plan.specs.Rules.{KeepsRules}
 use Rattle.schedule_text.proofs.RuleLaws.{schedule_keeps}
 use Rattle.node_io.specs.FileStates.{FilesState}
-use Rattle.network_laws.proofs.Balance.{opening_balances}
 use Rattle.network_laws.proofs.Wires.{opening_leads, opening_once}
 use Rattle.world_routes.proofs.Reaching.{run_keeps_routes}
 use Rattle.net_world.specs.Keeping.{KeepsRun}
-use Rattle.net_world.proofs.RunLaws.{prefix_bounded, prefix_granted, prefix_sound, prefix_ends}
+use Rattle.net_world.proofs.RunLaws.{prefix_balances, prefix_bounded, prefix_granted, prefix_sound, prefix_ends}
 use Rattle.planet_cli.specs.Replays.{Replays}
 
 -- the run of a schedule that keeps the rules
 run_keeps : (s : Schedule) → KeepsRules s → KeepsRun s
 run_keeps s keeps = record {
-  balance = λ k f. opening_balances f s.topology (take k s.events);
+  balance = prefix_balances s keeps;
   bounded = prefix_bounded s keeps;
   granted = prefix_granted s keeps;
   once = λ k n. opening_once n s.topology (take k s.events);

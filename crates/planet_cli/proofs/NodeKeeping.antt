@@ -1,9 +1,19 @@
 -- The run of a log that a file says keeps what every run of a node keeps.
-use Rattle.std.proofs.Common.{◌≡◌, ◌<◌, ◌^◌, ◌||◌, Bool, true, false, ℕ, zero, suc, List, [], ◌∷◌, take, Ok, refl, sym, subst, arith, eqb}
+use Rattle.std.proofs.Common.{◌≡◌, ◌<◌, ◌^◌, ◌||◌, Bool, true, false, ℕ, zero, suc, List, [], ◌∷◌, ◌++◌, cond, Option, take, None, Some, Result, Ok, Err, refl, sym, ◌∙◌, subst, arith, eqb}
+use Rattle.std.specs.Prelude.{◌==◌, slice_get}
 use Rattle.std.specs.List.{All}
 use Rattle.std.proofs.lemmas.Bool.{eqb-true}
-use Rattle.std.proofs.lemmas.List.Elements.{All-head, All-tail}
+use Rattle.std.proofs.lemmas.List.Elements.{All-nil, All-head, All-tail}
 use Rattle.plan_base.specs.declared.ids.Host.{Host}
+use Rattle.plan_base.specs.declared.name.Name.{Name}
+use Rattle.plan_base.specs.declared.tree.Chunk.{Chunk}
+use Rattle.link_window.specs.declared.window.Version.{Version}
+use Rattle.wire_bytes.specs.Fields.{IsBytes}
+use Rattle.packet_frame.specs.declared.frame.PlainFrame.{PlainFrame}
+use Rattle.packet_frame.specs.declared.frame.PlainStamped.{PlainStamped}
+use Rattle.packet_frame.specs.declared.fault.FrameFault.{FrameFault}
+use Rattle.packet_frame.specs.Decoding.{read_by}
+use Rattle.packet_frame.proofs.Versions.{found_by}
 use Rattle.network_plan.specs.declared.node.Log.{Log}
 use Rattle.network_plan.specs.declared.event.Event.{Event}
 use Rattle.network_plan.specs.declared.event.Event.TheVariants as event
@@ -13,36 +23,103 @@ use Rattle.network_plan.specs.Hosts.{is_listed}
 use Rattle.network_plan.specs.NodeRules.{KeepsNodeEvent, KeepsEntry, KeepsLog}
 use Rattle.node_files.proofs.LogLaws.{log_rules}
 use Rattle.node_io.specs.FileStates.{FilesState}
-use Rattle.node_model.specs.State.{NodeState}
+use Rattle.node_model.specs.State.{NodeState, new_node}
 use Rattle.node_model.specs.Fits.{NodeFits, comes_fit}
-use Rattle.node_laws.proofs.Fitting.{step_fits}
+use Rattle.node_model.specs.declared.acts.Act.{Act}
+use Rattle.node_model.specs.declared.acts.Act.TheVariants.{Injected, Asked, SerialsSpent}
+use Rattle.node_model.specs.Node.{stepped, visited, next_serial, injected_packet, inject_step, asked_plain, asked, control_step, node_step}
+use Rattle.node_laws.proofs.Fitting.{Taken, taken_in, step_fits}
+use Rattle.node_laws.proofs.Staying.{arrive_stays, tick_stays, take_stays}
 use Rattle.node_laws.proofs.HostLaws.{new_node_fits}
 use Rattle.node_laws.proofs.NodeBalance.{step_balances}
 use Rattle.network_laws.proofs.Opening.{services_fit}
+use Rattle.network_laws.proofs.Visits.{ends_well, cases, chunk_ends, bytes_end}
 use Rattle.service_meaning.specs.Beginning.{opening_standing, present_without}
 use Rattle.serve_model.specs.Runs.{node_by, node_after}
 use Rattle.serve_model.proofs.Beginning.{may_begin}
 use Rattle.run_commands.specs.Schedules.{log_node}
-use Rattle.run_commands.specs.Keeping.{node_at, KeepsNodeRun}
+use Rattle.world_model.specs.Visits.{one_visit, EndsWell}
+use Rattle.run_commands.specs.Keeping.{node_at, asked_visits, control_visits, step_visits, KeepsNodeRun}
 use Rattle.planet_cli.specs.Replays.{ReplaysLog}
 
-event_fits : (e : Event) → KeepsNodeEvent e → comes_fit e
-event_fits (event.Inject chunk bound) k = k
-event_fits (event.Frame d bytes) k = k.1.are_bytes
-event_fits (event.Control bytes) k = k.are_bytes
-event_fits event.Tick k = tt
-event_fits (event.Take d) k = tt
+event_fits : (v : Version) (e : Event) → KeepsNodeEvent v e → comes_fit v e
+event_fits v (event.Inject chunk bound handler) k = k
+event_fits v (event.Frame d bytes) k = k.1.are_bytes
+event_fits v (event.Control bytes) k = k.are_bytes
+event_fits v event.Tick k = tt
+event_fits v (event.Take d) k = tt
 
-entry_fits : (node : NodeState) (e : LogEvent) → KeepsEntry e → NodeFits node → NodeFits (node_by node e)
-entry_fits node (Step e) k fits = (step_fits node e (event_fits e k) fits).node
-entry_fits node Lost k fits = fits
+-- ---- no step changes a node's version
 
-run_fits : (es : List LogEvent) (node : NodeState) → All KeepsEntry es → NodeFits node → (k : ℕ) → NodeFits (node_at node es k)
+inject_version : (acts : List Act) (node : NodeState) (chunk : Chunk) (bound : ℕ) (handler : Option Name) → (inject_step acts node chunk bound handler).node.version ≡ node.version
+unfolding inject_step visited
+inject_version acts node chunk bound handler = by (node.serial == 18446744073709551615)
+  where
+    by : (t : Bool) → (cond t (stepped (acts ++ SerialsSpent ∷ []) None node)
+        (visited (acts ++ Injected (record { source = node.here; serial = node.serial }) bound ∷ []) (next_serial node) (injected_packet node chunk bound handler))).node.version ≡ node.version
+    by true = refl
+    by false = refl
+
+asked_version : (node : NodeState) (r : Result PlainStamped FrameFault) → (asked node r).node.version ≡ node.version
+asked_version node (Err e) = refl
+asked_version node (Ok x) = by x.frame
+  where
+    by : (x : PlainFrame) → (asked_plain node x).node.version ≡ node.version
+    by (PlainFrame.Packet p) = refl
+    by (PlainFrame.Advert a) = refl
+    by (PlainFrame.Ask bound chunk) = inject_version (Asked ∷ []) node chunk bound None
+
+step_version : (node : NodeState) (e : Event) → (node_step node e).node.version ≡ node.version
+unfolding control_step
+step_version node (event.Inject chunk bound handler) = inject_version [] node chunk bound handler
+step_version node (event.Frame d bytes) = (arrive_stays node d bytes).node.version
+step_version node (event.Control bytes) = asked_version node (read_by node.version bytes)
+step_version node event.Tick = (tick_stays node).node.version
+step_version node (event.Take d) = (take_stays node d).node.version
+
+-- a node of a version that keeps its limits
+record FitsAs (v : Version) (node : NodeState) : Type 0 where
+  version : node.version ≡ v
+  fits : NodeFits node
+
+entry_fits : (v : Version) (node : NodeState) (e : LogEvent) → KeepsEntry v e → FitsAs v node → FitsAs v (node_by node e)
+entry_fits v node (Step e) k f = record {
+  version = step_version node e ∙ f.version;
+  fits = (step_fits node e (event_fits node.version e (subst (λ w. KeepsNodeEvent w e) (sym f.version) k)) f.fits).node;
+}
+entry_fits v node Lost k f = f
+
+run_fits : (v : Version) (es : List LogEvent) (node : NodeState) → All (KeepsEntry v) es → FitsAs v node → (k : ℕ) → FitsAs v (node_at node es k)
 unfolding node_after
-run_fits [] node a fits zero = fits
-run_fits [] node a fits (suc k) = fits
-run_fits (e ∷ es) node a fits zero = fits
-run_fits (e ∷ es) node a fits (suc k) = run_fits es (node_by node e) (All-tail KeepsEntry e es a) (entry_fits node e (All-head KeepsEntry e es a) fits) k
+run_fits v [] node a f zero = f
+run_fits v [] node a f (suc k) = f
+run_fits v (e ∷ es) node a f zero = f
+run_fits v (e ∷ es) node a f (suc k) = run_fits v es (node_by node e) (All-tail (KeepsEntry v) e es a) (entry_fits v node e (All-head (KeepsEntry v) e es a) f) k
+
+-- ---- visits
+
+asked_end : (x : PlainFrame) (node : NodeState) → Taken x → NodeFits node → All EndsWell (asked_visits x node)
+asked_end (PlainFrame.Packet p) node h n = All-nil EndsWell
+asked_end (PlainFrame.Advert a) node h n = All-nil EndsWell
+asked_end (PlainFrame.Ask bound chunk) node h n =
+    cases (node.serial == 18446744073709551615) [] (one_visit (next_serial node) (injected_packet node chunk bound None)) (All-nil EndsWell)
+    (ends_well (next_serial node) (injected_packet node chunk bound None) n.services.good n.near h.1)
+
+control_end : (bytes : List ℕ) (node : NodeState) (r : Result PlainStamped FrameFault) → IsBytes bytes → read_by node.version bytes ≡ r → NodeFits node → All EndsWell (control_visits r node)
+control_end bytes node (Ok x) b e n = asked_end x.frame node (taken_in bytes node.version x (found_by node.version bytes x b e)) n
+control_end bytes node (Err f) b e n = All-nil EndsWell
+
+step_end : (node : NodeState) (e : Event) → KeepsNodeEvent node.version e → NodeFits node → All EndsWell (step_visits node e)
+step_end node (event.Inject chunk bound handler) k n = chunk_ends chunk bound handler node k.0.1 n
+step_end node (event.Frame d bytes) k n = bytes_end d bytes node k.1.are_bytes n
+step_end node (event.Control bytes) k n = control_end bytes node (read_by node.version bytes) k.are_bytes refl n
+step_end node event.Tick k n = All-nil EndsWell
+step_end node (event.Take d) k n = All-nil EndsWell
+
+entry_keeps : (v : Version) (es : List LogEvent) (k : ℕ) (e : Event) → All (KeepsEntry v) es → slice_get es k ≡ Some (Step e) → KeepsNodeEvent v e
+entry_keeps v [] k e a is = absurd cc
+entry_keeps v (x ∷ es) zero e a is = let same : x ≡ Step e = cc in subst (KeepsEntry v) same (All-head (KeepsEntry v) x es a)
+entry_keeps v (x ∷ es) (suc k) e a is = entry_keeps v es k e (All-tail (KeepsEntry v) x es a) is
 
 listed_by : (t b : Bool) (h here : Host) → eqb h.0 here.0 ≡ t → (t || b) ≡ true → h.0 < 2 ^ 32 → (b ≡ true → here.0 < 2 ^ 32) → here.0 < 2 ^ 32
 listed_by true b h here q r small again = omega (arith, eqb-true h.0 here.0 q, small)
@@ -59,10 +136,17 @@ begins l keeps =
     new_node_fits l.node (opening_standing (present_without l.missing)) (listed_small l.node.here l.node.hosts keeps.node.here keeps.node.numbers) (subst (λ n. n < 2 ^ 64) (sym keeps.serial) (omega arith)) (may_begin l.node keeps.node) (services_fit (record { host = l.node.here; missing = l.missing }))
 
 run_keeps : (l : Log) → KeepsLog l → KeepsNodeRun (log_node l) l.events
+unfolding new_node
 run_keeps l keeps = record {
-  fits = run_fits l.events (log_node l) keeps.events (begins l keeps);
+  fits = λ k. (at k).fits;
   balance = λ k e f is. step_balances f (node_at (log_node l) l.events k) e;
+  visits = λ k e is.
+      step_end (node_at (log_node l) l.events k) e
+      (subst (λ w. KeepsNodeEvent w e) (sym (at k).version) (entry_keeps l.node.version l.events k e keeps.events is)) (at k).fits;
 }
+  where
+    at : (k : ℕ) → FitsAs l.node.version (node_at (log_node l) l.events k)
+    at = run_fits l.node.version l.events (log_node l) keeps.events (record { version = refl; fits = begins l keeps })
 
 pub log_keeps : (words : List (List ℕ)) (files : FilesState) (l : Log) → ReplaysLog words files l → KeepsNodeRun (log_node l) l.events
 log_keeps words files l r = run_keeps l (log_rules r.bytes (Ok l) r.says)

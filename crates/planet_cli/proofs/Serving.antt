@@ -11,10 +11,13 @@ use Rattle.node_io.specs.Sinks.{SinkState}
 use Rattle.node_model.specs.State.{NodeState}
 use Rattle.serve_model.specs.Follow.{lost_after}
 use Rattle.fleet_run.specs.Asks.{ask_line}
+use Rattle.link_window.specs.declared.window.Version.{Version}
+use Rattle.link_window.specs.declared.window.Version.TheVariants.{One, Two}
+use Rattle.node_io.specs.Clocks.{ClockState, Tells}
 use Rattle.node_serve.specs.Desks.{Serving, IsSeen, desk_of}
 use Rattle.node_serve.specs.Shown.{run_log}
 use Rattle.node_serve.specs.Served.{Served, Begun, Ends, run_in}
-use Rattle.node_serve.specs.Serves.{Serves}
+use Rattle.node_serve.specs.Moments.{booted, Asks, ServesFrom}
 use Rattle.node_serve.specs.declared.fault.ServeFault.{ServeFault}
 use Rattle.node_serve.specs.declared.fault.ServeFault.TheVariants as faults
 use Rattle.call_causes.specs.Causes.{Gives}
@@ -23,8 +26,8 @@ use Rattle.call_causes.specs.declared.status.Cause.TheVariants.{Done, Usage, Ref
 use Rattle.file_commands.specs.Said.{Said, nothing, outside, says}
 use Rattle.file_commands.specs.Takes.{Untaken}
 use Rattle.live_commands.specs.Asks.{AsksAs, ask_said}
-use Rattle.live_commands.specs.Nodes.{ServesAs, config_said, own_node, serve_cause}
-use Rattle.planet_cli.specs.Requests.{Request, replay, check, show, inject, fleet, node, grow}
+use Rattle.live_commands.specs.Nodes.{ServesAs, config_said, own_services, own_node, moment, behind_moment, begun_config, begun_with, serve_cause}
+use Rattle.planet_cli.specs.Requests.{Request, replay, check, show, inject, fleet, node, grow, cut, gather}
 use Rattle.planet_cli.specs.Does.{Does, wire_in, serving_in}
 use Rattle.planet_cli.specs.Calls.{Calls}
 use Rattle.planet_cli.specs.Outcomes.{Outcome, whole, runs, outcome_by, outcome_of, IsAccepted}
@@ -66,39 +69,47 @@ module _ (cfg : ServeConfig) (n : NodeState) (turns : ℕ) (old new : Serving) (
   ended_before (Ok x) e = inl (served_before e)
   ended_before (Err f) e = inr (begun_before e)
 
-  -- where nothing was served
-  not_begun : Begun cfg n turns old (record old { files = read })
-  unfolding lost_after
-  not_begun = record {
-    refused = [];
-    steps = 0;
-    places = refl;
-    log = untouched held;
-    out = record { count = 0; is = sym (append-nil old.out.taken) };
-    sent = record { count = 0; is = sym (append-nil old.link.sent) };
-    binds = inl refl;
-    script = record { count = 0; few = omega (arith); is = refl };
-    answers = record { count = 0; few = omega (arith); is = refl };
-  }
+or_none : {A B C : Type 0} → A ⊎ B → A ⊎ (B ⊎ C)
+or_none (inl a) = inl a
+or_none (inr b) = inr (inl b)
 
 none_served : (s : Said ServeConfig) (turns : ℕ) (old : Serving) (read : FilesState) → read.held ≡ old.files.held → ServesAtMost s turns old (record old { files = read })
 none_served nothing turns old read held = (refl, held)
 none_served (outside r) turns old read held = (refl, held)
-none_served (says cfg) turns old read held = inr (not_begun cfg (own_node cfg) turns old (record old { files = read }) read held)
+none_served (says cfg) turns old read held = inr (inr (refl, held))
+
+-- ---- the moment
+
+asked_is : (v : Version) (old new : ClockState) (boot : ℕ) → IsTrue old.observable → Asks v old new boot → (boot ≡ moment v old) × (new ≡ behind_moment v old)
+asked_is One old new boot seen a = (a.1, a.0)
+asked_is Two old new boot seen a =
+    (a.told seen, λ i. record { observable = a.observable i; answers = a.answers seen i; last = (a.last seen ∙ a.told seen) i })
+
+asked_seen : (v : Version) (old new : ClockState) (boot : ℕ) → IsTrue old.observable → Asks v old new boot → IsTrue new.observable
+asked_seen One old new boot seen a = subst (λ c. IsTrue c.observable) (sym a.0) seen
+asked_seen Two old new boot seen a = subst IsTrue (sym a.observable) seen
+
+-- what holds of a run from a moment on that the clock told
+from_moment : (P : ServeConfig → Serving → Type 0) (cfg : ServeConfig) (old : Serving) (boot : ℕ) (clock : ClockState) → IsTrue old.clock.observable → Asks cfg.node.version old.clock clock boot
+    → P (booted boot cfg) (record old { clock = clock }) → P (begun_config cfg old) (begun_with cfg old)
+from_moment P cfg old boot clock seen a h =
+    let e = asked_is cfg.node.version old.clock clock boot seen a in
+    subst (λ b. P (booted b cfg) (begun_with cfg old)) e.0 (subst (λ k. P (booted boot cfg) (record old { clock = k })) e.1 h)
 
 -- ---- causes
 
-served_well : (old new : Serving) (cfg : ServeConfig) (turns : ℕ) (result : Result (Unit {0}) ServeFault) → serve_cause result ≡ Done → Ends cfg (own_node cfg) turns old new result → Served cfg (own_node cfg) turns old new
+served_well : (old new : Serving) (cfg : ServeConfig) (turns : ℕ) (result : Result (Unit {0}) ServeFault) → serve_cause result ≡ Done → Ends cfg (own_node cfg) turns old new result
+    → Served cfg (own_node cfg) turns old new
 served_well old new cfg turns (Ok x) e h = h
 served_well old new cfg turns (Err faults.LinkFault) e h = absurd (cc)
 served_well old new cfg turns (Err faults.WriteFault) e h = absurd (cc)
 served_well old new cfg turns (Err faults.NoMemory) e h = absurd (cc)
 
-done_or_poor : (cfg : ServeConfig) (turns : ℕ) (old new : Serving) (result : Result (Unit {0}) ServeFault) → Serves cfg (own_node cfg) turns old new result
+done_or_poor : (cfg : ServeConfig) (turns : ℕ) (old new : Serving) (result : Result (Unit {0}) ServeFault) → ServesFrom cfg (own_services cfg) turns old new result
     → ¬ (HasRisen old.files.write_faults new.files.write_faults) → ¬ (HasRisen old.link.faults new.link.faults) → ¬ (HasRisen old.out.faults new.out.faults) → (serve_cause result ≡ Done) ⊎ (serve_cause result ≡ NoMemory)
 done_or_poor cfg turns old new (Ok x) p w l o = inl refl
-done_or_poor cfg turns old new (Err faults.LinkFault) p w l o = absurd (l p.faults)
-done_or_poor cfg turns old new (Err faults.WriteFault) p w l o = elim p.faults [ inl rose ↦ absurd (w rose) | inr rose ↦ absurd (o rose) ]
+done_or_poor cfg turns old new (Err faults.LinkFault) p w l o = absurd (l p.serves.faults)
+done_or_poor cfg turns old new (Err faults.WriteFault) p w l o = elim p.serves.faults [ inl rose ↦ absurd (w rose) | inr rose ↦ absurd (o rose) ]
 done_or_poor cfg turns old new (Err faults.NoMemory) p w l o = inr refl
 
 says_one : {A : Type 0} (a b : A) → says a ≡ says b → a ≡ b
@@ -118,21 +129,29 @@ module _ (file : List ℕ) (turns : ℕ) (cause : Cause) (old new : Outside) (n 
 
   module _ (seen : IsSeen (desk_of (serving_in old))) (clock : IsTrue old.clock.observable) where
     served_so : (c : Cause) (cfg : ServeConfig) → Took (config_said file) (ServesAs turns) old.files call.does.1.read c (record (serving_in old) { files = call.does.1.read }) (serving_in new)
-        → config_said file old.files.held ≡ says cfg → c ≡ Done → Served cfg (own_node cfg) turns (serving_in old) (serving_in new)
+        → config_said file old.files.held ≡ says cfg → c ≡ Done → Served (begun_config cfg (serving_in old)) (own_node (begun_config cfg (serving_in old))) turns (begun_with cfg (serving_in old)) (serving_in new)
     served_so c cfg (took own_cfg own p) e done =
-        subst (λ k. Served k (own_node k) turns (serving_in old) (serving_in new)) (says_one own_cfg cfg (sym (own seen.0) ∙ e))
-        (served_before own_cfg (own_node own_cfg) turns (serving_in old) (serving_in new) call.does.1.read still_held
-        (served_well (record (serving_in old) { files = call.does.1.read }) (serving_in new) own_cfg turns p.result (sym p.is ∙ done) (p.serves.runs (still_seen seen) clock)))
+        let s = p.serves in
+        let first : Serving = record (serving_in old) { clock = s.clock } in
+        subst (λ k. Served (begun_config k (serving_in old)) (own_node (begun_config k (serving_in old))) turns (begun_with k (serving_in old)) (serving_in new)) (says_one own_cfg cfg (sym (own seen.0) ∙ e))
+        (from_moment (λ k a. Served k (own_node k) turns a (serving_in new)) own_cfg (serving_in old) s.boot s.clock clock s.asked
+        (served_before (booted s.boot own_cfg) (own_node (booted s.boot own_cfg)) turns first (serving_in new) call.does.1.read still_held
+        (served_well (record first { files = call.does.1.read }) (serving_in new) (booted s.boot own_cfg) turns p.result (sym p.is ∙ done)
+        (s.serves.runs (still_seen seen) (asked_seen own_cfg.node.version old.clock s.clock s.boot clock s.asked)))))
     served_so c cfg (left u same) e done = elim (subst (Untaken (config_said file) old.files call.does.1.read) done u) [ ]
 
-    pub node_serves : (cfg : ServeConfig) → config_said file old.files.held ≡ says cfg → cause ≡ Done → Served cfg (own_node cfg) turns (serving_in old) (serving_in new)
+    pub node_serves : (cfg : ServeConfig) → config_said file old.files.held ≡ says cfg → cause ≡ Done → Served (begun_config cfg (serving_in old)) (own_node (begun_config cfg (serving_in old))) turns (begun_with cfg (serving_in old)) (serving_in new)
     node_serves cfg e done = served_so call.found cfg node_view e (done_found (Some (node file turns)) cause old new n m call done)
 
     at_most : (c : Cause) → Took (config_said file) (ServesAs turns) old.files call.does.1.read c (record (serving_in old) { files = call.does.1.read }) (serving_in new)
         → ServesAtMost (config_said file old.files.held) turns (serving_in old) (serving_in new)
     at_most c (took cfg own p) =
-        subst (λ s. ServesAtMost s turns (serving_in old) (serving_in new)) (sym (own seen.0))
-        (ended_before cfg (own_node cfg) turns (serving_in old) (serving_in new) call.does.1.read still_held p.result (p.serves.runs (still_seen seen) clock))
+        let s = p.serves in
+        let first : Serving = record (serving_in old) { clock = s.clock } in
+        subst (λ x. ServesAtMost x turns (serving_in old) (serving_in new)) (sym (own seen.0))
+        (or_none (from_moment (λ k a. Served k (own_node k) turns a (serving_in new) ⊎ Begun k (own_node k) turns a (serving_in new)) cfg (serving_in old) s.boot s.clock clock s.asked
+        (ended_before (booted s.boot cfg) (own_node (booted s.boot cfg)) turns first (serving_in new) call.does.1.read still_held p.result
+        (s.serves.runs (still_seen seen) (asked_seen cfg.node.version old.clock s.clock s.boot clock s.asked)))))
     at_most c (left u same) =
         subst (λ s. ServesAtMost (config_said file old.files.held) turns (serving_in old) s) (sym same)
         (none_served (config_said file old.files.held) turns (serving_in old) call.does.1.read still_held)
@@ -183,6 +202,8 @@ module _ (c : Cause) (old new : Outside) (seen : IsTrue old.files.observable) wh
   kept (Some (fleet file)) d h = (ap (λ o. o.link) d.0, ap (λ o. o.clock) d.0, d.1.takes.only.held)
   kept (Some (node file turns)) d h = node_kept file turns d.1.read d.1.did.takes.only.held h (view (config_said file) (ServesAs turns) file old.files d.1.read c (record (serving_in old) { files = d.1.read }) (serving_in new) d.1.did)
   kept (Some (grow seed k)) d h = (ap (λ o. o.link) d.0, ap (λ o. o.clock) d.0, ap (λ o. o.files.held) d.0)
+  kept (Some (cut file)) d h = (ap (λ o. o.link) d.0, ap (λ o. o.clock) d.0, d.1.takes.only.held)
+  kept (Some (gather port file)) d h = (ap (λ o. o.link) d.0, ap (λ o. o.clock) d.0, d.1.takes.only.held)
 
 pub none_kept : (q : Option Request) (cause : Cause) (old new : Outside) (n m : SinkState) → Calls q cause old new n m → IsTrue old.files.observable → ¬ (IsAccepted (outcome_of q old.files.held))
     → (new.link ≡ old.link) × (new.clock ≡ old.clock) × (new.files.held ≡ old.files.held)

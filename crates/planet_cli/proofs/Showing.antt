@@ -2,7 +2,7 @@
 use Rattle.std.proofs.Common.{◌≡◌, ℕ, IsTrue, List, Option, Some, subst}
 use Rattle.node_io.specs.Outsides.{Outside}
 use Rattle.node_io.specs.Sinks.{SinkState, Writes}
-use Rattle.packet_frame.specs.declared.frame.PlainFrame.{PlainFrame}
+use Rattle.packet_frame.specs.declared.frame.PlainStamped.{PlainStamped}
 use Rattle.frame_text.specs.Frames.{frame_text}
 use Rattle.call_causes.specs.declared.status.Cause.{Cause}
 use Rattle.call_causes.specs.declared.status.Cause.TheVariants.{Done}
@@ -21,11 +21,11 @@ said_so (says text) h = tt
 
 module _ (file : List ℕ) (cause : Cause) (old new : Outside) (n m : SinkState) (call : Calls (Some (show file)) cause old new n m) (seen : IsTrue old.files.observable) where
   -- a show that is done is that of a frame
-  pub show_found : cause ≡ Done → (x : PlainFrame) × HoldsFrame old.files.held file x
+  pub show_found : cause ≡ Done → (x : PlainStamped) × HoldsFrame old.files.held file x
   show_found done = frame_is_found old.files.held file (said_so (show_said file old.files.held) (is_accepted (Some (show file)) cause old new n m call seen done))
 
   -- and wrote what the frame says
-  pub show_written : (x : PlainFrame) → HoldsFrame old.files.held file x → cause ≡ Done → Writes old.out new.out (frame_text x)
+  pub show_written : (x : PlainStamped) → HoldsFrame old.files.held file x → cause ≡ Done → Writes old.out new.out (frame_text x)
   show_written x h done =
       subst (λ s. WritesOut (outcome_by whole s) old.out new.out) (frame_shown old.files.held file x h)
       (is_written (Some (show file)) cause old new n m call seen done)

@@ -14,41 +14,45 @@ use Rattle.call_causes.specs.declared.status.Cause.{Cause}
 use Rattle.call_causes.specs.declared.status.Cause.TheVariants.{Done}
 use Rattle.call_causes.specs.declared.status.Refusal.{Refusal}
 use Rattle.call_causes.specs.declared.status.Refusal.TheVariants.{TooLong}
-use Rattle.file_commands.specs.Said.{Said, outside, says, said_at, said_in}
+use Rattle.file_commands.specs.Said.{Said, outside, says, said_at, said_by, line_limit}
 use Rattle.file_commands.specs.Checks.{program_limit, program_said, check_said, sizes_text, sizes_of}
 use Rattle.run_commands.specs.Schedules.{schedule_limit, schedule_said, replay_said, replay_text, log_trace}
 use Rattle.run_commands.proofs.Logs.{replay_said_is, log_said}
-use Rattle.planet_cli.specs.Requests.{Request, replay, check}
+use Rattle.cut_files.specs.declared.cut.CutFile.{CutFile}
+use Rattle.cut_files.specs.Cuts.{cut_of}
+use Rattle.cut_files.specs.Texts.{cut_output}
+use Rattle.message_commands.specs.Messages.{messages_text}
+use Rattle.planet_cli.specs.Requests.{Request, replay, check, cut, gather}
 use Rattle.planet_cli.specs.Calls.{Calls}
 use Rattle.planet_cli.specs.Outcomes.{Outcome, whole, outcome_by, outcome_of, IsAccepted, WritesOut}
 use Rattle.planet_cli.proofs.Giving.{is_accepted, is_written}
 
 -- what a file says that isn't too long
-unlimited : (long : Bool) (said : Said (List ℕ)) (text : List ℕ) (a b : SinkState) → said ≡ says text → IsAccepted (outcome_by whole (cond long (outside TooLong) said))
-    → WritesOut (outcome_by whole (cond long (outside TooLong) said)) a b → Writes a b text
-unlimited true said text a b e h w = elim h [ ]
-unlimited false said text a b e h w = subst (λ s. WritesOut (outcome_by whole s) a b) e w
+unlimited : {A : Type 0} (text : A → List ℕ) (long : Bool) (said : Said A) (v : A) (a b : SinkState) → said ≡ says v → IsAccepted (outcome_by (λ x. whole (text x)) (cond long (outside TooLong) said))
+    → WritesOut (outcome_by (λ x. whole (text x)) (cond long (outside TooLong) said)) a b → Writes a b (text v)
+unlimited text true said v a b e h w = elim h [ ]
+unlimited text false said v a b e h w = subst (λ s. WritesOut (outcome_by (λ x. whole (text x)) s) a b) e w
 
-at_file : (limit : ℕ) (read : List ℕ → Said (List ℕ)) (file : Option (List ℕ)) (bytes text : List ℕ) (a b : SinkState) → file ≡ Some bytes → read bytes ≡ says text
-    → IsAccepted (outcome_by whole (said_at limit read file)) → WritesOut (outcome_by whole (said_at limit read file)) a b → Writes a b text
-at_file limit read file bytes text a b there e h w =
-    unlimited (nat_lt limit (length bytes)) (read bytes) text a b e
-    (subst (λ f. IsAccepted (outcome_by whole (said_at limit read f))) there h)
-    (subst (λ f. WritesOut (outcome_by whole (said_at limit read f)) a b) there w)
+at_file : {A : Type 0} (text : A → List ℕ) (limit : ℕ) (read : List ℕ → Said A) (file : Option (List ℕ)) (bytes : List ℕ) (v : A) (a b : SinkState) → file ≡ Some bytes → read bytes ≡ says v
+    → IsAccepted (outcome_by (λ x. whole (text x)) (said_at limit read file)) → WritesOut (outcome_by (λ x. whole (text x)) (said_at limit read file)) a b → Writes a b (text v)
+at_file text limit read file bytes v a b there e h w =
+    unlimited text (nat_lt limit (length bytes)) (read bytes) v a b e
+    (subst (λ f. IsAccepted (outcome_by (λ x. whole (text x)) (said_at limit read f))) there h)
+    (subst (λ f. WritesOut (outcome_by (λ x. whole (text x)) (said_at limit read f)) a b) there w)
 
 module _ (file bytes : List ℕ) where
   -- a replay of a schedule
   pub schedule_written : (s : Schedule) (cause : Cause) (old new : Outside) (n m : SinkState) → Calls (Some (replay file)) cause old new n m → IsTrue old.files.observable
       → file_at old.files.held file ≡ Some bytes → schedule_of bytes ≡ Ok s → cause ≡ Done → Writes old.out new.out (replay_text s)
   schedule_written s cause old new n m call seen there e done =
-      at_file schedule_limit schedule_said (file_at old.files.held file) bytes (replay_text s) old.out new.out there (replay_said_is bytes s e)
+      at_file (λ text. text) schedule_limit schedule_said (file_at old.files.held file) bytes (replay_text s) old.out new.out there (replay_said_is bytes s e)
       (is_accepted (Some (replay file)) cause old new n m call seen done) (is_written (Some (replay file)) cause old new n m call seen done)
 
   -- of a log
   pub log_written : (l : Log) (cause : Cause) (old new : Outside) (n m : SinkState) → Calls (Some (replay file)) cause old new n m → IsTrue old.files.observable
       → file_at old.files.held file ≡ Some bytes → log_of bytes ≡ Ok l → cause ≡ Done → Writes old.out new.out (log_trace l)
   log_written l cause old new n m call seen there e done =
-      at_file schedule_limit schedule_said (file_at old.files.held file) bytes (log_trace l) old.out new.out there (log_said bytes l e)
+      at_file (λ text. text) schedule_limit schedule_said (file_at old.files.held file) bytes (log_trace l) old.out new.out there (log_said bytes l e)
       (is_accepted (Some (replay file)) cause old new n m call seen done) (is_written (Some (replay file)) cause old new n m call seen done)
 
   sizes_said : (p : Program) → program_of bytes ≡ Ok p → program_said bytes ≡ says (sizes_text p)
@@ -59,5 +63,19 @@ module _ (file bytes : List ℕ) where
   pub check_written : (p : Program) (cause : Cause) (old new : Outside) (n m : SinkState) → Calls (Some (check file)) cause old new n m → IsTrue old.files.observable
       → file_at old.files.held file ≡ Some bytes → program_of bytes ≡ Ok p → cause ≡ Done → Writes old.out new.out (sizes_text p)
   check_written p cause old new n m call seen there e done =
-      at_file program_limit program_said (file_at old.files.held file) bytes (sizes_text p) old.out new.out there (sizes_said p e)
+      at_file (λ text. text) program_limit program_said (file_at old.files.held file) bytes (sizes_text p) old.out new.out there (sizes_said p e)
       (is_accepted (Some (check file)) cause old new n m call seen done) (is_written (Some (check file)) cause old new n m call seen done)
+
+  -- a cut of a message
+  pub cut_written : (m : CutFile) (cause : Cause) (old new : Outside) (n k : SinkState) → Calls (Some (cut file)) cause old new n k → IsTrue old.files.observable
+      → file_at old.files.held file ≡ Some bytes → cut_of bytes ≡ Ok m → cause ≡ Done → Writes old.out new.out (cut_output m)
+  cut_written m cause old new n k call seen there e done =
+      at_file cut_output line_limit (λ b. said_by (cut_of b)) (file_at old.files.held file) bytes m old.out new.out there (ap said_by e)
+      (is_accepted (Some (cut file)) cause old new n k call seen done) (is_written (Some (cut file)) cause old new n k call seen done)
+
+  -- the messages of a log
+  pub messages_written : (port : ℕ) (l : Log) (cause : Cause) (old new : Outside) (n m : SinkState) → Calls (Some (gather port file)) cause old new n m → IsTrue old.files.observable
+      → file_at old.files.held file ≡ Some bytes → log_of bytes ≡ Ok l → cause ≡ Done → Writes old.out new.out (messages_text port l)
+  messages_written port l cause old new n m call seen there e done =
+      at_file (messages_text port) line_limit (λ b. said_by (log_of b)) (file_at old.files.held file) bytes l old.out new.out there (ap said_by e)
+      (is_accepted (Some (gather port file)) cause old new n m call seen done) (is_written (Some (gather port file)) cause old new n m call seen done)

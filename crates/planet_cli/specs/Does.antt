@@ -5,15 +5,17 @@ use Rattle.node_serve.specs.Desks.{Serving}
 use Rattle.call_causes.specs.declared.status.Cause.{Cause}
 use Rattle.call_causes.specs.declared.status.Cause.TheVariants.{Usage}
 use Rattle.file_commands.specs.Takes.{TakesAndActs}
-use Rattle.file_commands.specs.Renders.{Prints}
+use Rattle.file_commands.specs.Renders.{Prints, PrintsBy}
 use Rattle.file_commands.specs.Checks.{check_said}
 use Rattle.file_commands.specs.Shows.{show_said}
 use Rattle.run_commands.specs.Schedules.{replay_said}
 use Rattle.run_commands.specs.Grown.{GrowsAs}
+use Rattle.cut_files.specs.Texts.{cut_output}
+use Rattle.message_commands.specs.Messages.{cut_said, gather_said, messages_text}
 use Rattle.live_commands.specs.Asks.{AsksAs, ask_said, Wire}
 use Rattle.live_commands.specs.Fleets.{RunsAs, fleet_said, Shop}
 use Rattle.live_commands.specs.Nodes.{ServesFile}
-use Rattle.planet_cli.specs.Requests.{Request, replay, check, show, inject, fleet, node, grow}
+use Rattle.planet_cli.specs.Requests.{Request, replay, check, show, inject, fleet, node, grow, cut, gather}
 
 -- nothing but the files and the output changed; or the link too, or the children
 abbrev pub OnlyOut : Outside → Outside → Type 0
@@ -45,6 +47,10 @@ Does (Some (check file)) cause old new =
 Does (Some (show file)) cause old new =
     OnlyOut old new × TakesAndActs (show_said file) Prints file old.files new.files cause old.out new.out
 Does (Some (grow seed n)) cause old new = (new ≡ record old { out = new.out }) × GrowsAs seed n cause old.out new.out
+Does (Some (cut file)) cause old new =
+    OnlyOut old new × TakesAndActs (cut_said file) (PrintsBy cut_output) file old.files new.files cause old.out new.out
+Does (Some (gather port file)) cause old new =
+    OnlyOut old new × TakesAndActs (gather_said file) (PrintsBy (messages_text port)) file old.files new.files cause old.out new.out
 Does (Some (inject file)) cause old new =
     OnlyLink old new × TakesAndActs (ask_said file) AsksAs file old.files new.files cause (wire_in old) (wire_in new)
 Does (Some (fleet file)) cause old new =

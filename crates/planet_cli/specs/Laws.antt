@@ -18,8 +18,8 @@ use Rattle.node_serve.specs.Served.{Served, Begun}
 use Rattle.call_causes.specs.declared.status.Cause.{Cause}
 use Rattle.call_causes.specs.declared.status.Cause.TheVariants.{Done, Usage, Refused, ReadFault, WriteFault, LinkFault, SpawnFault, NoMemory, NodesFailed}
 use Rattle.file_commands.specs.Said.{Said, nothing, outside, says}
-use Rattle.live_commands.specs.Nodes.{config_said, own_node}
-use Rattle.planet_cli.specs.Requests.{Request, replay, check, show, inject, fleet, node, grow}
+use Rattle.live_commands.specs.Nodes.{config_said, own_node, begun_config, begun_with}
+use Rattle.planet_cli.specs.Requests.{Request, replay, check, show, inject, fleet, node, grow, cut, gather}
 
 -- ---- by the request
 
@@ -53,6 +53,8 @@ AsksFor (Some (inject file)) old new = MayName old new file
 AsksFor (Some (fleet file)) old new = MayName old new file
 AsksFor (Some (node file turns)) old new = MayName old new file
 AsksFor (Some (grow seed n)) old new = new ≡ old
+AsksFor (Some (cut file)) old new = MayName old new file
+AsksFor (Some (gather port file)) old new = MayName old new file
 AsksFor None old new = new ≡ old
 
 -- ---- by the cause
@@ -94,11 +96,18 @@ RunsAtMost (says f) old new =
     StartsPrefix (fleet_starts f.children) old.children new.children
     × WritesPrefix old.out new.out (fleet_text f.children (drop old.children.started old.children.statuses))
 
--- the whole run of the node or a prefix of it, and nothing where the file says no configuration
+-- nothing but files was used, and they are as before
+abbrev pub Untouched : Serving → Serving → Type 0
+Untouched old new = (new ≡ record old { files = new.files }) × (new.files.held ≡ old.files.held)
+
+-- the whole run of the node or a prefix of it, and nothing where the file says no configuration or wasn't taken
 abbrev pub ServesAtMost : Said ServeConfig → ℕ → Serving → Serving → Type 0
-ServesAtMost nothing turns old new = (new ≡ record old { files = new.files }) × (new.files.held ≡ old.files.held)
-ServesAtMost (outside r) turns old new = (new ≡ record old { files = new.files }) × (new.files.held ≡ old.files.held)
-ServesAtMost (says cfg) turns old new = Served cfg (own_node cfg) turns old new ⊎ Begun cfg (own_node cfg) turns old new
+ServesAtMost nothing turns old new = Untouched old new
+ServesAtMost (outside r) turns old new = Untouched old new
+ServesAtMost (says cfg) turns old new =
+    Served (begun_config cfg old) (own_node (begun_config cfg old)) turns (begun_with cfg old) new
+    ⊎ (Begun (begun_config cfg old) (own_node (begun_config cfg old)) turns (begun_with cfg old) new
+    ⊎ Untouched old new)
 
 -- the names made grew at most by the log of a configuration, once
 abbrev pub LogsAtMost : Said ServeConfig → List (List ℕ) → List (List ℕ) → Type 0

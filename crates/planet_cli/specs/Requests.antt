@@ -14,6 +14,8 @@ pub data Request : Type 0 where
   fleet : List ℕ → Request
   node : List ℕ → ℕ → Request
   grow : ℕ → ℕ → Request
+  cut : List ℕ → Request
+  gather : ℕ → List ℕ → Request
 
 -- a command of one file
 abbrev pub with_file : List ℕ → List ℕ → Option Request
@@ -22,7 +24,8 @@ with_file command file = if bytes_eq command (codes "replay") then Some (replay 
     else (if bytes_eq command (codes "show") then Some (show file)
     else (if bytes_eq command (codes "inject") then Some (inject file)
     else (if bytes_eq command (codes "fleet") then Some (fleet file)
-    else None))))
+    else (if bytes_eq command (codes "cut") then Some (cut file)
+    else None)))))
 
 abbrev pub node_for : List ℕ → Option ℕ → Option Request
 node_for file None = None
@@ -33,10 +36,16 @@ grow_for None n = None
 grow_for (Some seed) None = None
 grow_for (Some seed) (Some n) = Some (grow seed n)
 
--- `node FILE TURNS` and `grow SEED N`
+abbrev pub gather_for : Option ℕ → List ℕ → Option Request
+gather_for None file = None
+gather_for (Some port) file = if is_file_name file then Some (gather port file) else None
+
+-- `node FILE TURNS`, `grow SEED N` and `gather PORT FILE`
 abbrev pub with_two : List ℕ → List ℕ → List ℕ → Option Request
 with_two command a b = if bytes_eq command (codes "grow") then grow_for (number_in 0 (2 ^ 64 - 1) a) (number_in 1 50000 b)
-    else (if bytes_eq command (codes "node") then (if is_file_name a then node_for a (number_in 1 1000000 b) else None) else None)
+    else (if bytes_eq command (codes "node") then (if is_file_name a then node_for a (number_in 1 1000000 b) else None)
+    else (if bytes_eq command (codes "gather") then gather_for (number_in 0 65535 a) b
+    else None))
 
 -- what words ask for, if they name a command
 abbrev pub request_of : List (List ℕ) → Option Request

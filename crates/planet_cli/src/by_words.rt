@@ -6,6 +6,7 @@ use crate::words::{Command, read_words};
 use call_causes::Cause;
 use file_commands::{Check, Show, on_file};
 use live_commands::{on_ask, on_fleet, on_node};
+use message_commands::{on_cut, on_gather};
 use node_io::{Clock, Files, Link, Sink, Spawner};
 use plan_base::Texts;
 use run_commands::{Replay, on_seed};
@@ -36,5 +37,7 @@ pub fn run<F: Files, K: Sink, L: Link, C: Clock, P: Spawner>(
         Some(Command::Fleet(file)) => on_fleet(alloc, files, file, spawn, out),
         Some(Command::Node(file, turns)) => on_node(alloc, files, file, turns, link, clock, out),
         Some(Command::Grow(seed, events)) => on_seed(alloc, seed, events, out),
+        Some(Command::Cut(file)) => on_cut(alloc, files, file, out),
+        Some(Command::Gather(port, file)) => on_gather(alloc, files, port, file, out),
     }
 }

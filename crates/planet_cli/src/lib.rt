@@ -7,6 +7,7 @@ mod call_laws;
 mod fault_laws;
 mod frame_laws;
 mod live_laws;
+mod message_laws;
 mod top;
 mod words;
 mod writing_laws;
@@ -29,6 +30,7 @@ pub use live_laws::{
     fleet, fleet_complete, fleet_front, fleet_only, fleet_starts, injected, injected_line, injects,
     node_complete, served, serves, waited,
 };
+pub use message_laws::{gathered, messages, parted};
 pub use top::planet;
 pub use words::{Command, read_words};
 pub use writing_laws::{

@@ -15,7 +15,7 @@ ghost use Rattle.call_causes.specs.declared.status.Cause.{Cause as Why};
 ghost use Rattle.file_commands.specs.Said.{says, IsSaid};
 ghost use Rattle.live_commands.specs.Asks.{ask_said};
 ghost use Rattle.live_commands.specs.Fleets.{fleet_said};
-ghost use Rattle.live_commands.specs.Nodes.{config_said, own_node};
+ghost use Rattle.live_commands.specs.Nodes.{config_said, own_node, begun_config, begun_with};
 ghost use Rattle.planet_cli.specs.Requests.{inject, fleet, node};
 ghost use Rattle.planet_cli.specs.Does.{serving_in};
 ghost use Rattle.planet_cli.specs.Calls.{Calls};
@@ -114,7 +114,8 @@ pub fn fleet_complete()
         → IsEnded cause ⊎ (cause ≡ Cause.NoMemory) }
 {}
 
-/// A node that is done made the run of so many turns, with the steps refused that its log says.
+/// A node that is done made the run of so many turns from the moment at which it began, with the steps refused that its log
+/// says.
 pub fn served()
     ensures { (file : List ℕ) (turns : ℕ) (cause : Why) (old new : Outside) (n m : SinkState)
         → Calls (Some (node file turns)) cause old new n m
@@ -123,7 +124,8 @@ pub fn served()
         → (cfg : Config)
         → config_said file old.files.held ≡ says cfg
         → cause ≡ Cause.Done
-        → Served cfg (own_node cfg) turns (serving_in old) (serving_in new) }
+        → Served (begun_config cfg (serving_in old)) (own_node (begun_config cfg (serving_in old))) turns
+        (begun_with cfg (serving_in old)) (serving_in new) }
 {}
 
 /// After every answer what stands are prefixes of such a run, and nothing where the file says no configuration.

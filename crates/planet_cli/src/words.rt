@@ -23,6 +23,10 @@ pub enum Command<'a> {
     Node(&'a str, u32),
     /// `grow SEED N`, with N from 1 to 50,000
     Grow(u64, u32),
+    /// `cut FILE`
+    Cut(&'a str),
+    /// `gather PORT FILE`
+    Gather(u16, &'a str),
 }
 
 fn is(word: &[u8], name: &[u8]) -> bool
@@ -51,11 +55,14 @@ fn command_on<'a>(name: &[u8], file: &'a str) -> Option<Command<'a>>
     if is(name, b"fleet") {
         return Some(Command::Fleet(file));
     }
+    if is(name, b"cut") {
+        return Some(Command::Cut(file));
+    }
     None
 }
 
 // The command of that name with two words, or `None` where there is none that takes them.
-fn command_with<'a>(name: &[u8], first: &'a [u8], second: &[u8]) -> Option<Command<'a>>
+fn command_with<'a>(name: &[u8], first: &'a [u8], second: &'a [u8]) -> Option<Command<'a>>
     ensures named { MatchOption result (with_two name.now first.now second.now ≡ None)
         (λ c. with_two name.now first.now second.now ≡ Some (request_for c)) }
     ensures fits { IfSome result command_fits }
@@ -65,6 +72,9 @@ fn command_with<'a>(name: &[u8], first: &'a [u8], second: &[u8]) -> Option<Comma
     }
     if is(name, b"node") {
         return Some(Command::Node(as_file_name(first)?, number_of(second, 1, 1_000_000)?));
+    }
+    if is(name, b"gather") {
+        return Some(Command::Gather(number_of(first, 0, 65_535)? as u16, as_file_name(second)?));
     }
     None
 }

@@ -3,7 +3,7 @@ ghost use Rattle.std.specs.Prelude.{◌≡◌, ◌⊎◌, IsTrue, List, ℕ, Som
 ghost use Rattle.plan_base.specs.declared.tree.Program.{Program};
 ghost use Rattle.network_plan.specs.declared.schedule.Schedule.{Schedule};
 ghost use Rattle.network_plan.specs.declared.node.Log.{Log};
-ghost use Rattle.packet_frame.specs.declared.frame.PlainFrame.{PlainFrame};
+ghost use Rattle.packet_frame.specs.declared.frame.PlainStamped.{PlainStamped};
 ghost use Rattle.frame_text.specs.Frames.{frame_text};
 ghost use Rattle.program_text.specs.Texts.{program_of};
 ghost use Rattle.node_io.specs.Causes.{HasRisen};
@@ -67,7 +67,7 @@ pub fn checked()
 
 /// The hex of a frame whose chunk is typed is shown whole: what the frame says.
 pub fn shown_whole()
-    ensures { (files : FileMap) (file : List ℕ) (x : PlainFrame)
+    ensures { (files : FileMap) (file : List ℕ) (x : PlainStamped)
         → HoldsFrame files file x
         → show_said file files ≡ says (frame_text x) }
 {}
@@ -78,7 +78,7 @@ pub fn shown_only()
         → Calls (Some (show file)) cause old new n m
         → IsTrue old.files.observable
         → cause ≡ Cause.Done
-        → (x : PlainFrame) × HoldsFrame old.files.held file x }
+        → (x : PlainStamped) × HoldsFrame old.files.held file x }
 {}
 
 /// And a show that is done wrote it.
@@ -86,7 +86,7 @@ pub fn shown()
     ensures { (file : List ℕ) (cause : Why) (old new : Outside) (n m : SinkState)
         → Calls (Some (show file)) cause old new n m
         → IsTrue old.files.observable
-        → (x : PlainFrame)
+        → (x : PlainStamped)
         → HoldsFrame old.files.held file x
         → cause ≡ Cause.Done
         → Writes old.out new.out (frame_text x) }

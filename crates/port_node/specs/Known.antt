@@ -1,8 +1,9 @@
 -- Networks whose packets carry known chunks only.
-use Rattle.std.specs.Prelude.{◌≡◌, ℕ, List, [], ◌∷◌, Option, Some, None, All}
+use Rattle.std.specs.Prelude.{◌≡◌, Option, Some, None}
 use Rattle.std.specs.List.{AllByRecursion}
 use Rattle.plan_base.specs.declared.tree.Chunk.{Chunk}
 use Rattle.packet_frame.specs.declared.frame.PlainFrame.{PlainFrame}
+use Rattle.packet_frame.specs.declared.frame.PlainStamped.{PlainStamped}
 use Rattle.network_plan.specs.declared.event.WorldEvent.{WorldEvent}
 use Rattle.network_plan.specs.declared.event.WorldEvent.TheVariants as event
 use Rattle.plan_meaning.specs.State.{VisitState}
@@ -22,14 +23,18 @@ use Rattle.port_visits.specs.Visits.{VisitIsGood}
 abbrev pub IsClosed : Allowed → Type 0
 IsClosed a = (k : Chunk) → a.chunk k → (s : VisitState) → Good a s → VisitIsGood a k s
 
--- a packet carries an allowed chunk
+-- a packet carries an allowed chunk, and no handler
 abbrev pub FrameKnown : Allowed → PlainFrame → Type 0
-FrameKnown a (PlainFrame.Packet p) = a.chunk p.chunk
+FrameKnown a (PlainFrame.Packet p) = a.chunk p.chunk × (p.handler ≡ None)
 FrameKnown a _ = Unit {0}
+
+-- the same of a frame on its way, whatever it bears
+abbrev pub StampedKnown : Allowed → PlainStamped → Type 0
+StampedKnown a x = FrameKnown a x.frame
 
 -- a node has such frames queued, and its services are those
 pub record NodeKnown (a : Allowed) (node : NodeState) : Type 0 where
-  pub queues : QueuesKeep (FrameKnown a) node.queues
+  pub queues : QueuesKeep (StampedKnown a) node.queues
   pub offer : node.services.offer ≡ a.offer
 
 -- an act notes what is allowed, if it notes anything
@@ -38,9 +43,9 @@ ActKnown a (Noted n) = a.note n
 ActKnown a _ = Unit {0}
 
 -- a frame that was taken, if one was, carries an allowed chunk
-abbrev pub TakenKnown : Allowed → Option PlainFrame → Type 0
+abbrev pub TakenKnown : Allowed → Option PlainStamped → Type 0
 TakenKnown a None = Unit {0}
-TakenKnown a (Some x) = FrameKnown a x
+TakenKnown a (Some x) = StampedKnown a x
 
 -- a step notes what is allowed, and leaves such a node
 pub record StepKnown (a : Allowed) (step : Step) : Type 0 where
@@ -51,7 +56,7 @@ pub record StepKnown (a : Allowed) (step : Step) : Type 0 where
 -- a network of such nodes, with such frames on the wire
 pub record WorldKnown (a : Allowed) (w : WorldState) : Type 0 where
   pub nodes : AllByRecursion (NodeKnown a) w.nodes
-  pub wire : AllByRecursion (λ (x : Wired). FrameKnown a x.frame) w.wire
+  pub wire : AllByRecursion (λ (x : Wired). StampedKnown a x.frame) w.wire
 
 -- a line of a trace notes what is allowed, if it notes anything
 abbrev pub LineKnown : Allowed → Line → Type 0
@@ -63,8 +68,8 @@ pub record EventKnown (a : Allowed) (e : EventResult) : Type 0 where
   pub world : WorldKnown a e.world
   pub lines : AllByRecursion (LineKnown a) e.lines
 
--- an injected chunk is allowed, and no bytes come from outside
+-- an injected chunk is allowed and has no handler, and no bytes come from outside
 abbrev pub ComesKnown : Allowed → WorldEvent → Type 0
-ComesKnown a (event.Inject h chunk bound) = a.chunk chunk
+ComesKnown a (event.Inject h chunk bound handler) = a.chunk chunk × (handler ≡ None)
 ComesKnown a (event.Raw h d bytes) = ⊥
 ComesKnown a _ = Unit {0}

@@ -1,4 +1,4 @@
-ghost use Rattle.std.specs.Prelude.{◌≡◌, ℤ, ℕ, List};
+ghost use Rattle.std.specs.Prelude.{◌≡◌, ℤ, ℕ, List, None};
 ghost use Rattle.plan_base.specs.declared.ids.Host.{Host};
 ghost use Rattle.service_api.specs.Services.{Offer};
 ghost use Rattle.port_tree.specs.Programs.{data_chunk};
@@ -11,11 +11,12 @@ ghost use Rattle.node_model.specs.Node.{packet_step};
 ghost use Rattle.world_model.specs.World.{WorldState, happens};
 ghost use Rattle.port_node.specs.Known.{IsClosed, NodeKnown, StepKnown, WorldKnown, EventKnown, ComesKnown};
 
-/// A packet that arrives and carries an allowed chunk leaves a node with allowed ones, and notes what is allowed.
+/// A packet that arrives, carries an allowed chunk and has no handler leaves a node with allowed ones, and notes what is
+/// allowed.
 pub fn steps_stay_known()
     ensures { (offer : Offer) (dest : Host) (seq : ℤ) (body : List ℕ)
         → (node : NodeState) (d : Dev) (p : Packet)
-        → IsClosed (data_allowed offer dest seq body) → p.chunk ≡ data_chunk dest seq body
+        → IsClosed (data_allowed offer dest seq body) → p.chunk ≡ data_chunk dest seq body → p.handler ≡ None
         → NodeKnown (data_allowed offer dest seq body) node
         → StepKnown (data_allowed offer dest seq body) (packet_step node d p) }
 {}

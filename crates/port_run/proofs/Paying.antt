@@ -1,27 +1,25 @@
 -- Families pay no more than the ends' purses.
-use Rattle.std.proofs.Common.{◌≡◌, ℕ, zero, suc, ◌+◌, ◌-◌, ◌≤◌, Bool, true, false, cond, ◌&&◌, if◌then◌else◌, List, [], ◌∷◌, ◌++◌, map, length, Option, Some, None, refl, sym, ap, subst, ◌∙◌, arith, true≢false}
-use Rattle.std.specs.Prelude.{◌==◌, nat_lt, pos, ℤ}
+use Rattle.std.proofs.Common.{◌≡◌, ℕ, ◌+◌, ◌≤◌, Bool, true, false, if◌then◌else◌, List, [], ◌∷◌, map, refl, sym, subst, ◌∙◌, arith, true≢false}
+use Rattle.std.specs.Prelude.{◌==◌}
 use Rattle.std.specs.List.{AllByRecursion}
-use Rattle.std.proofs.lemmas.Bool.Decides.{nat_tests}
-use Rattle.plan_base.specs.declared.ids.Host.{Host}
 use Rattle.plan_base.specs.declared.ids.Family.{Family}
 use Rattle.network_plan.specs.declared.event.WorldEvent.{WorldEvent}
-use Rattle.network_plan.specs.declared.event.WorldEvent.TheVariants as event
 use Rattle.network_plan.specs.declared.schedule.Topology.{Topology}
-use Rattle.node_model.specs.declared.acts.Act.{Act}
 use Rattle.node_model.specs.declared.acts.Act.TheVariants as act
 use Rattle.node_model.specs.Counts.{is_family, only}
 use Rattle.world_model.specs.declared.lines.Line.{Line}
 use Rattle.world_model.specs.declared.lines.Line.TheVariants as line
 use Rattle.world_model.specs.declared.lines.Entry.{Entry}
 use Rattle.world_model.specs.Counts.{granted, hops, evals, tally, line_granted}
-use Rattle.world_model.specs.World.{WorldState, happens, entries, entry_at, history_of, opening, world_after}
-use Rattle.network_laws.proofs.Balance.{opening_balances}
+use Rattle.world_model.specs.World.{WorldState, happens, entries, entry_at, history_of, opening}
+use Rattle.network_plan.specs.Rules.{KeepsNetwork}
+use Rattle.world_model.specs.Sound.{EventsFit}
+use Rattle.network_laws.proofs.Handings.{opening_balances}
 use Rattle.network_laws.proofs.CountLaws.{tally-nil, tally-cons, tally-append}
 use Rattle.small_laws.proofs.Bools.{both_true}
 use Rattle.std.proofs.lemmas.Bool.{eqb-true}
-use Rattle.port_run.specs.Paid.{sum_of, act_bound, line_bound, event_bound, Apart, paid_by, NotRaw}
-use Rattle.port_run.proofs.Quiet.{sum_append, event_grants}
+use Rattle.port_run.specs.Paid.{sum_of, line_bound, event_bound, Apart, paid_by, NotRaw}
+use Rattle.port_run.proofs.Quiet.{event_grants}
 
 -- ---- one family
 
@@ -103,7 +101,7 @@ run_grants (e ∷ es) w h =
     omega (arith, tally-append line_bound (map (entry_at (w.made + 1)) (happens w e).lines) (history_of es (happens w e).world), entries_bound (w.made + 1) (happens w e).lines, event_grants w e h.0, run_grants es (happens w e).world h.1)
 
 -- families together pay no more than was injected
-pub families_pay : (t : Topology) (es : List WorldEvent) (fs : List Family) → AllByRecursion NotRaw es → Apart fs → paid_by fs (history_of es (opening t)) ≤ sum_of event_bound es
-families_pay t es fs h k =
+pub families_pay : (t : Topology) (es : List WorldEvent) (fs : List Family) → KeepsNetwork t → EventsFit t.version es → AllByRecursion NotRaw es → Apart fs → paid_by fs (history_of es (opening t)) ≤ sum_of event_bound es
+families_pay t es fs net fits h k =
     let hs = history_of es (opening t) in
-    omega (arith, sum_le (λ f. hops f hs + evals f hs) (λ f. granted f hs) (λ f. omega (arith, (opening_balances f t es).law)) fs, history_once hs fs k, run_grants es (opening t) h)
+    omega (arith, sum_le (λ f. hops f hs + evals f hs) (λ f. granted f hs) (λ f. omega (arith, (opening_balances f t es net fits).law)) fs, history_once hs fs k, run_grants es (opening t) h)

@@ -1,19 +1,18 @@
 -- What is injected is paid by the ends' purses.
-use Rattle.std.proofs.Common.{◌≡◌, ℕ, zero, suc, ◌+◌, ◌-◌, ◌≤◌, Bool, true, false, cond, if◌then◌else◌, List, [], ◌∷◌, ◌++◌, length, Option, Some, None, refl, sym, ap, subst, ◌∙◌, arith}
-use Rattle.std.specs.Prelude.{◌==◌, nat_lt, pos, ℤ}
+use Rattle.std.proofs.Common.{◌≡◌, ℕ, ◌+◌, ◌≤◌, Bool, true, false, cond, List, [], ◌∷◌, ◌++◌, Option, Some, None, refl, sym, ap, ◌∙◌, arith}
+use Rattle.std.specs.Prelude.{◌==◌, nat_lt, ℤ}
 use Rattle.std.specs.List.{AllByRecursion}
 use Rattle.std.proofs.lemmas.Bool.Decides.{nat_tests}
 use Rattle.plan_base.specs.declared.ids.Host.{Host}
 use Rattle.service_api.specs.declared.answer.Note.{Note}
 use Rattle.network_plan.specs.declared.event.WorldEvent.{WorldEvent}
 use Rattle.network_plan.specs.declared.event.WorldEvent.TheVariants as event
-use Rattle.node_model.specs.declared.acts.Act.{Act}
 use Rattle.node_model.specs.declared.acts.Act.TheVariants as act
 use Rattle.world_model.specs.declared.lines.Line.{Line}
 use Rattle.world_model.specs.declared.lines.Line.TheVariants as line
 use Rattle.world_model.specs.World.{WorldState, happens, world_after}
-use Rattle.reliable_ports.specs.Ends.{Body, number_of, Receiving, is_full, with_offer, held_at, with_ack, with_message}
-use Rattle.port_run.specs.Ports.{PortState, PortEvent, Offer, Transmit, Wire, price, said_to, heard_by, acked_by, makes, first_pays, second_pays, ack_event, message_event, acks, hears_message, hears_ack, hears_note, hears_line, hears, after, offers_one, transmits, happens_at, port_run, port_begun}
+use Rattle.reliable_ports.specs.Ends.{Body, number_of, is_full, with_offer, held_at, with_message}
+use Rattle.port_run.specs.Ports.{PortState, PortEvent, Offer, Transmit, Wire, price, said_to, heard_by, makes, first_pays, second_pays, ack_event, message_event, acks, hears_message, hears_ack, hears_note, hears_line, hears, after, offers_one, transmits, port_run, port_begun}
 use Rattle.port_run.specs.Allowed.{IsWire}
 use Rattle.port_run.specs.Paid.{sum_of, event_bound, NotRaw}
 use Rattle.port_run.proofs.Quiet.{sum_append}
@@ -92,10 +91,11 @@ module _ (w : WorldState) (n : ℕ) where
       by false = record { world = h.world; wired = h.wired; paid = h.paid }
 
   wire_pays : (e : WorldEvent) (s : PortState) → IsWire (Wire e) → Pays w n s → Pays w n (after e s)
-  wire_pays (event.Inject g c b) s q h = absurd q
+  wire_pays (event.Inject g c b o) s q h = absurd q
   wire_pays (event.Raw g d bytes) s q h = absurd q
   wire_pays (event.Send g d) s q h = let p = h.paid in hears_pay (happens s.world (event.Send g d)).lines (makes (event.Send g d) s) (made (event.Send g d) s tt h.world h.wired (omega (arith, p)))
   wire_pays (event.Deliver k) s q h = let p = h.paid in hears_pay (happens s.world (event.Deliver k)).lines (makes (event.Deliver k) s) (made (event.Deliver k) s tt h.world h.wired (omega (arith, p)))
+  wire_pays (event.Repeat k) s q h = let p = h.paid in hears_pay (happens s.world (event.Repeat k)).lines (makes (event.Repeat k) s) (made (event.Repeat k) s tt h.world h.wired (omega (arith, p)))
   wire_pays (event.Lose k) s q h = let p = h.paid in hears_pay (happens s.world (event.Lose k)).lines (makes (event.Lose k) s) (made (event.Lose k) s tt h.world h.wired (omega (arith, p)))
   wire_pays (event.Tick g) s q h = let p = h.paid in hears_pay (happens s.world (event.Tick g)).lines (makes (event.Tick g) s) (made (event.Tick g) s tt h.world h.wired (omega (arith, p)))
 

@@ -1,12 +1,18 @@
 -- Only an injection grants a bound.
-use Rattle.std.proofs.Common.{◌≡◌, ℕ, ◌+◌, ◌-◌, ◌≤◌, Bool, true, false, cond, if◌then◌else◌, List, [], ◌∷◌, ◌++◌, map, length, Option, Some, None, refl, sym, ap, ◌∙◌, arith}
+use Rattle.std.proofs.Common.{◌≡◌, ℕ, ◌+◌, ◌≤◌, Bool, true, false, cond, if◌then◌else◌, List, [], ◌∷◌, ◌++◌, map, length, Option, Some, None, refl, arith}
 use Rattle.std.specs.Prelude.{◌==◌, slice_get, nat_lt}
 use Rattle.plan_base.specs.declared.ids.Host.{Host}
 use Rattle.plan_base.specs.declared.ids.Dev.{Dev}
 use Rattle.plan_base.specs.declared.tree.Chunk.{Chunk}
 use Rattle.plan_base.specs.declared.tree.Packet.{Packet}
+use Rattle.link_window.specs.declared.window.Stamp.{Stamp}
+use Rattle.link_window.specs.declared.window.Took.{Took}
+use Rattle.link_window.specs.declared.window.Took.TheVariants.{Fresh, Repeated, TooOld}
+use Rattle.plan_base.specs.declared.name.Name.{Name}
+use Rattle.plan_base.specs.declared.ids.Family.{Family}
 use Rattle.packet_frame.specs.declared.frame.PlainFrame.{PlainFrame}
-use Rattle.packet_frame.specs.Bytes.{frame_bytes}
+use Rattle.packet_frame.specs.declared.frame.PlainStamped.{PlainStamped}
+use Rattle.packet_frame.specs.Stamped.{stamped_bytes}
 use Rattle.service_api.specs.declared.advert.Advert.{Advert}
 use Rattle.service_api.specs.declared.answer.Note.{Note}
 use Rattle.service_api.specs.declared.router.Hop.{Hop}
@@ -14,21 +20,24 @@ use Rattle.service_api.specs.declared.router.Hop.TheVariants.{To, NoService, NoR
 use Rattle.service_api.specs.Routes.{hop}
 use Rattle.dv_routing.specs.Routing.{all_routes, own_advert}
 use Rattle.plan_meaning.specs.declared.sent.Sent.{Sent}
-use Rattle.plan_meaning.specs.declared.outcome.Visit.{Visit}
 use Rattle.network_plan.specs.declared.event.WorldEvent.{WorldEvent}
 use Rattle.network_plan.specs.declared.event.WorldEvent.TheVariants as event
-use Rattle.spelled_frame.specs.Spelled.{what_of}
 use Rattle.node_model.specs.declared.acts.Act.{Act}
-use Rattle.node_model.specs.declared.acts.Act.TheVariants.{Arrived, Noted, Ended, Dropped, Injected, SerialsSpent, Heard, Misplaced, Ticked, Taken}
+use Rattle.node_model.specs.declared.acts.Act.TheVariants.{Arrived, Noted, Ended, Dropped, Injected, SerialsSpent, Heard, Misplaced}
 use Rattle.node_model.specs.declared.acts.Reason.TheVariants as reason
+use Rattle.node_model.specs.declared.acts.Sending.{Sending}
+use Rattle.node_model.specs.declared.acts.Lane.{Lane}
 use Rattle.node_model.specs.State.{Links, Queues, NodeState, routing_of, is_host, leads_to}
-use Rattle.node_model.specs.Visits.{visit_at}
-use Rattle.node_model.specs.Node.{Step, send_act, send_queues, sends_acts, has_room, packet_sending, visit_sends, visit_acts, visited, inject_step, next_serial, injected_packet, forward_by, forward_step, packet_step, advert_step, frame_step, tick_step, tick_sends, advert_sending, take_step, take_from, only_acts, onward, hearing}
+use Rattle.settled_visit.specs.declared.settling.Settled.{Settled}
+use Rattle.node_model.specs.Visits.{visit_at, settled_at}
+use Rattle.node_model.specs.Node.{Step, send_act, send_queues, sends_acts, has_room, packet_sending, visit_sends, handled_acts, visit_acts, visited, inject_step, next_serial, injected_packet, forward_by, forward_step, packet_step, advert_step, frame_step, drop_act, lane_room, mark, takes_as, stamped_as, stamped_step, take_first, tick_step, tick_sends, advert_sending, take_step, take_from, only_acts, onward, hearing}
 use Rattle.world_model.specs.declared.lines.Line.{Line}
-use Rattle.world_model.specs.declared.lines.Line.TheVariants.{At, Wire, Off, Lost, Nothing}
+use Rattle.world_model.specs.declared.lines.Line.TheVariants.{Wire}
 use Rattle.world_model.specs.declared.lines.LinkEnd.{LinkEnd}
 use Rattle.world_model.specs.declared.lines.Wired.{Wired}
-use Rattle.world_model.specs.World.{WorldState, EventResult, nothing, lines_at, steps_at, step_at, step_place, steps, place_of, far_end, send_taken, send_at, send_over, send_place, sends, without_frame, wire_place, deliver_at, deliver_to, deliver_frame, deliver_place, delivers, lose_frame, lose_place, loses, acted, happens}
+use Rattle.world_model.specs.declared.lines.Handing.{Handing}
+use Rattle.world_model.specs.declared.lines.Handing.TheVariants.{Taking, Leaving}
+use Rattle.world_model.specs.World.{WorldState, nothing, lines_at, steps_at, step_at, step_place, steps, place_of, far_end, send_taken, send_at, send_over, send_place, sends, none_before, hand_line, wire_after, with_wire, wire_place, hand_at, hand_to, hand_frame, hand_place, hands, lose_frame, lose_place, loses, happens}
 use Rattle.port_run.specs.Paid.{sum_of, act_bound, line_bound, event_bound, NotRaw}
 
 pub sum_append : {X : Type 0} (f : X → ℕ) (xs ys : List X) → sum_of f (xs ++ ys) ≡ sum_of f xs + sum_of f ys
@@ -42,38 +51,65 @@ notes_quiet : (ns : List Note) → Acts (map Noted ns) ≡ 0
 notes_quiet [] = refl
 notes_quiet (n ∷ ns) = omega (arith, notes_quiet ns)
 
-send_quiet : (queues : Queues) (s : Sent) → act_bound (send_act queues (packet_sending s)) ≡ 0
+-- the act of a frame that is to be queued is one of three
+one_quiet : (queues : Queues) (s : Sending) → act_bound s.queued ≡ 0 → act_bound s.dropped ≡ 0 → act_bound s.spent ≡ 0 → act_bound (send_act queues s) ≡ 0
 unfolding send_act
-send_quiet queues s = by (has_room queues (packet_sending s).dev)
+one_quiet queues s q d p = by (has_room queues s.dev s.frame) (slice_get queues s.dev.0)
   where
-    by : (t : Bool) → act_bound (if t then (packet_sending s).queued else (packet_sending s).dropped) ≡ 0
-    by true = refl
-    by false = refl
+    full : (t : Bool) → act_bound (if t then s.spent else s.dropped) ≡ 0
+    full true = p
+    full false = d
 
-sends_quiet : (queues : Queues) (ss : List Sent) → Acts (sends_acts queues (map packet_sending ss)) ≡ 0
+    unsent : (o : Option Lane) → act_bound (drop_act o s) ≡ 0
+    unsent None = d
+    unsent (Some lane) = full (lane_room lane)
+
+    by : (t : Bool) (o : Option Lane) → act_bound (if t then s.queued else drop_act o s) ≡ 0
+    by true o = q
+    by false o = unsent o
+
+send_quiet : (m : Option Stamp) (queues : Queues) (s : Sent) → act_bound (send_act queues (packet_sending m s)) ≡ 0
+send_quiet m queues s = one_quiet queues (packet_sending m s) refl refl refl
+
+sends_quiet : (m : Option Stamp) (queues : Queues) (ss : List Sent) → Acts (sends_acts queues (map (packet_sending m) ss)) ≡ 0
 unfolding sends_acts
-sends_quiet queues [] = refl
-sends_quiet queues (s ∷ ss) = omega (arith, send_quiet queues s, sends_quiet (send_queues queues (packet_sending s)) ss)
+sends_quiet m queues [] = refl
+sends_quiet m queues (s ∷ ss) = omega (arith, send_quiet m queues s, sends_quiet m (send_queues queues (packet_sending m s)) ss)
 
-visit_quiet : (queues : Queues) (p : Packet) (v : Visit) → Acts (visit_acts queues p v) ≡ 0
+handled_quiet : (g : Family) (h : Option Name) (bound : ℕ) → Acts (handled_acts g h bound) ≡ 0
+handled_quiet g None bound = refl
+handled_quiet g (Some n) bound = refl
+
+visit_quiet : (m : Option Stamp) (queues : Queues) (p : Packet) (left : ℕ) (s : Settled) → Acts (visit_acts m queues p left s) ≡ 0
 unfolding visit_acts visit_sends
-visit_quiet queues p v = omega (arith, sum_append act_bound (map Noted v.notes) (Ended p.family v.outcome v.evals v.left ∷ sends_acts queues (map packet_sending v.outbox)), notes_quiet v.notes, sends_quiet queues v.outbox)
+visit_quiet m queues p left s =
+    let v = s.visit in
+    let handled = handled_acts p.family s.handled left in
+    let sent = sends_acts queues (map (packet_sending m) v.outbox) in
+    omega (
+      arith,
+      sum_append act_bound (map Noted v.notes) (Ended p.family v.outcome v.evals v.left ∷ (handled ++ sent)),
+      sum_append act_bound handled sent,
+      notes_quiet v.notes,
+      handled_quiet p.family s.handled left,
+      sends_quiet m queues v.outbox,
+    )
 
 visited_quiet : (acts : List Act) (node : NodeState) (p : Packet) → Acts (visited acts node p).acts ≡ Acts acts
 unfolding visited
-visited_quiet acts node p = omega (arith, sum_append act_bound acts (visit_acts node.queues p (visit_at node p)), visit_quiet node.queues p (visit_at node p))
+visited_quiet acts node p = omega (arith, sum_append act_bound acts (visit_acts (mark node) node.queues p (visit_at node p).left (settled_at node p)), visit_quiet (mark node) node.queues p (visit_at node p).left (settled_at node p))
 
-inject_bound : (node : NodeState) (c : Chunk) (b : ℕ) → Acts (inject_step [] node c b).acts ≤ b
+inject_bound : (node : NodeState) (c : Chunk) (b : ℕ) (o : Option Name) → Acts (inject_step [] node c b o).acts ≤ b
 unfolding inject_step
-inject_bound node c b = by (node.serial == 18446744073709551615)
+inject_bound node c b o = by (node.serial == 18446744073709551615)
   where
-    by : (t : Bool) → Acts (cond t (record { acts = SerialsSpent ∷ []; frame = None; node = node }) (visited (Injected (record { source = node.here; serial = node.serial }) b ∷ []) (next_serial node) (injected_packet node c b))).acts ≤ b
+    by : (t : Bool) → Acts (cond t (record { acts = SerialsSpent ∷ []; frame = None; node = node }) (visited (Injected (record { source = node.here; serial = node.serial }) b ∷ []) (next_serial node) (injected_packet node c b o))).acts ≤ b
     by true = omega arith
-    by false = omega (arith, visited_quiet (Injected (record { source = node.here; serial = node.serial }) b ∷ []) (next_serial node) (injected_packet node c b))
+    by false = omega (arith, visited_quiet (Injected (record { source = node.here; serial = node.serial }) b ∷ []) (next_serial node) (injected_packet node c b o))
 
 by_quiet : (node : NodeState) (d : Dev) (p : Packet) (h : Hop) → Acts (forward_by node d p h).acts ≡ 0
 unfolding forward_by
-by_quiet node d p (To host over) = omega (arith, send_quiet node.queues (record { dev = over; packet = p }))
+by_quiet node d p (To host over) = omega (arith, send_quiet (mark node) node.queues (record { dev = over; packet = p }))
 by_quiet node d p NoService = refl
 by_quiet node d p NoRoute = refl
 
@@ -99,31 +135,35 @@ frame_quiet node d (PlainFrame.Packet p) = packet_quiet node d p
 frame_quiet node d (PlainFrame.Advert x) = advert_quiet node d x
 frame_quiet node d (PlainFrame.Ask b c) = refl
 
+as_quiet : (node : NodeState) (d : Dev) (x : PlainStamped) (t : Took) → Acts (stamped_as node d x t).acts ≡ 0
+as_quiet node d x Fresh = frame_quiet node d x.frame
+as_quiet node d x Repeated = refl
+as_quiet node d x TooOld = refl
+
+stamped_quiet : (node : NodeState) (d : Dev) (x : PlainStamped) → Acts (stamped_step node d x).acts ≡ 0
+unfolding stamped_step
+stamped_quiet node d x = as_quiet node d x (takes_as node.seen d x.stamp)
+
 take_quiet : (node : NodeState) (d : Dev) → Acts (take_step node d).acts ≡ 0
 unfolding take_step
 take_quiet node d = by (slice_get node.queues d.0)
   where
-    by : (o : Option (List PlainFrame)) → Acts (take_from node d o).acts ≡ 0
+    first : (number : ℕ) (frames : List PlainStamped) → Acts (take_first node d number frames).acts ≡ 0
+    first number [] = refl
+    first number (x ∷ queue) = refl
+
+    by : (o : Option Lane) → Acts (take_from node d o).acts ≡ 0
     by None = refl
-    by (Some []) = refl
-    by (Some (x ∷ queue)) = refl
+    by (Some lane) = first lane.number lane.frames
 
-advert_act_quiet : (queues : Queues) (x : Advert) (l : Host × Dev) → act_bound (send_act queues (advert_sending x l)) ≡ 0
-unfolding send_act
-advert_act_quiet queues x l = by (has_room queues (advert_sending x l).dev)
-  where
-    by : (t : Bool) → act_bound (if t then (advert_sending x l).queued else (advert_sending x l).dropped) ≡ 0
-    by true = refl
-    by false = refl
-
-adverts_quiet : (queues : Queues) (x : Advert) (links : Links) → Acts (sends_acts queues (map (advert_sending x) links)) ≡ 0
+adverts_quiet : (m : Option Stamp) (queues : Queues) (x : Advert) (links : Links) → Acts (sends_acts queues (map (advert_sending m x) links)) ≡ 0
 unfolding sends_acts
-adverts_quiet queues x [] = refl
-adverts_quiet queues x (l ∷ ls) = omega (arith, advert_act_quiet queues x l, adverts_quiet (send_queues queues (advert_sending x l)) x ls)
+adverts_quiet m queues x [] = refl
+adverts_quiet m queues x (l ∷ ls) = omega (arith, one_quiet queues (advert_sending m x l) refl refl refl, adverts_quiet m (send_queues queues (advert_sending m x l)) x ls)
 
 tick_quiet : (node : NodeState) → Acts (tick_step node).acts ≡ 0
 unfolding tick_step tick_sends
-tick_quiet node = omega (arith, adverts_quiet node.queues (own_advert (routing_of node)) node.neighbours)
+tick_quiet node = omega (arith, adverts_quiet (mark node) node.queues (own_advert (routing_of node)) node.neighbours)
 
 -- ---- events
 
@@ -136,22 +176,22 @@ lines_bound h (x ∷ xs) = omega (arith, lines_bound h xs)
 at_bound : (w : WorldState) (h : Host) (at : ℕ) (before : List Line) (step : Step) (n : ℕ) → sum_of line_bound before ≡ 0 → Acts step.acts ≤ n → sum_of line_bound (steps_at w h at before step).lines ≤ n
 at_bound w h at before step n b s = omega (arith, sum_append line_bound before (lines_at h step.acts), lines_bound h step.acts, b, s)
 
-steps_bound : (w : WorldState) (h : Host) (before : List Line) (step : NodeState → Step) (n : ℕ) → ((node : NodeState) → Acts (step node).acts ≤ n) → sum_of line_bound before ≡ 0 → sum_of line_bound (steps w h before step).lines ≤ n
+steps_bound : (w : WorldState) (h : Host) (step : NodeState → Step) (n : ℕ) → ((node : NodeState) → Acts (step node).acts ≤ n) → sum_of line_bound (steps w h none_before step).lines ≤ n
 unfolding steps step_place step_at
-steps_bound w h before step n f b = place (place_of w.nodes h)
+steps_bound w h step n f = place (place_of w.nodes h)
   where
-    one : (at : ℕ) (o : Option NodeState) → sum_of line_bound (step_at w h before step at o).lines ≤ n
+    one : (at : ℕ) (o : Option NodeState) → sum_of line_bound (step_at w h none_before step at o).lines ≤ n
     one at None = omega arith
-    one at (Some node) = at_bound w h at before (step node) n b (f node)
+    one at (Some node) = at_bound w h at [] (step node) n refl (f node)
 
-    place : (o : Option ℕ) → sum_of line_bound (step_place w h before step o).lines ≤ n
+    place : (o : Option ℕ) → sum_of line_bound (step_place w h none_before step o).lines ≤ n
     place None = omega arith
     place (Some at) = one at (slice_get w.nodes at)
 
-taken_bound : (w : WorldState) (h : Host) (d : Dev) (at : ℕ) (to : LinkEnd) (step : Step) (o : Option PlainFrame) → Acts step.acts ≡ 0 → sum_of line_bound (send_taken w h d at to step o).lines ≤ 0
+taken_bound : (w : WorldState) (h : Host) (d : Dev) (at : ℕ) (to : LinkEnd) (step : Step) (o : Option PlainStamped) → Acts step.acts ≡ 0 → sum_of line_bound (send_taken w h d at to step o).lines ≤ 0
 unfolding send_taken
 taken_bound w h d at to step None e = omega arith
-taken_bound w h d at to step (Some x) e = omega (arith, sum_append line_bound (lines_at h step.acts) (Wire w.«next» (frame_bytes x) ∷ []), lines_bound h step.acts, e)
+taken_bound w h d at to step (Some x) e = omega (arith, sum_append line_bound (lines_at h step.acts) (Wire w.«next» (stamped_bytes x) ∷ []), lines_bound h step.acts, e)
 
 sends_bound : (w : WorldState) (h : Host) (d : Dev) → sum_of line_bound (sends w h d).lines ≤ 0
 unfolding sends send_place send_over send_at
@@ -173,23 +213,29 @@ sends_bound w h d = place (place_of w.nodes h)
     place None = omega arith
     place (Some at) = over at (far_end w.links h d)
 
-delivers_bound : (w : WorldState) (n : ℕ) → sum_of line_bound (delivers w n).lines ≤ 0
-unfolding delivers deliver_place deliver_frame deliver_to deliver_at
-delivers_bound w n = place (wire_place w.wire n)
-  where
-    node_at : (at0 : ℕ) (x : Wired) (at : ℕ) (o : Option NodeState) → sum_of line_bound (deliver_at w at0 x at o).lines ≤ 0
-    node_at at0 x at None = omega arith
-    node_at at0 x at (Some node) = at_bound (without_frame w at0) x.to.host at (Off x.number ∷ []) (frame_step node x.to.dev x.frame) 0 refl (omega (arith, frame_quiet node x.to.dev x.frame))
+hand_line_quiet : (how : Handing) (n : ℕ) → line_bound (hand_line how n) ≡ 0
+hand_line_quiet Taking n = refl
+hand_line_quiet Leaving n = refl
 
-    to_node : (at0 : ℕ) (x : Wired) (o : Option ℕ) → sum_of line_bound (deliver_to w at0 x o).lines ≤ 0
+hands_bound : (w : WorldState) (how : Handing) (n : ℕ) → sum_of line_bound (hands w how n).lines ≤ 0
+unfolding hands hand_place hand_frame hand_to hand_at
+hands_bound w how n = place (wire_place w.wire n)
+  where
+    node_at : (at0 : ℕ) (x : Wired) (at : ℕ) (o : Option NodeState) → sum_of line_bound (hand_at w how at0 x at o).lines ≤ 0
+    node_at at0 x at None = omega arith
+    node_at at0 x at (Some node) =
+        at_bound (with_wire w (wire_after how w.wire at0 x)) x.to.host at (hand_line how x.number ∷ []) (stamped_step node x.to.dev x.frame) 0
+        (omega (arith, hand_line_quiet how x.number)) (omega (arith, stamped_quiet node x.to.dev x.frame))
+
+    to_node : (at0 : ℕ) (x : Wired) (o : Option ℕ) → sum_of line_bound (hand_to w how at0 x o).lines ≤ 0
     to_node at0 x None = omega arith
     to_node at0 x (Some at) = node_at at0 x at (slice_get w.nodes at)
 
-    frame : (at0 : ℕ) (o : Option Wired) → sum_of line_bound (deliver_frame w at0 o).lines ≤ 0
+    frame : (at0 : ℕ) (o : Option Wired) → sum_of line_bound (hand_frame w how at0 o).lines ≤ 0
     frame at0 None = omega arith
     frame at0 (Some x) = to_node at0 x (place_of w.nodes x.to.host)
 
-    place : (o : Option ℕ) → sum_of line_bound (deliver_place w o).lines ≤ 0
+    place : (o : Option ℕ) → sum_of line_bound (hand_place w how o).lines ≤ 0
     place None = omega arith
     place (Some at0) = frame at0 (slice_get w.wire at0)
 
@@ -206,9 +252,10 @@ loses_bound w n = place (wire_place w.wire n)
     place (Some at0) = frame at0 (slice_get w.wire at0)
 
 pub event_grants : (w : WorldState) (e : WorldEvent) → NotRaw e → sum_of line_bound (happens w e).lines ≤ event_bound e
-event_grants w (event.Inject h c b) q = steps_bound w h [] (λ node. inject_step [] node c b) b (λ node. inject_bound node c b) refl
+event_grants w (event.Inject h c b o) q = steps_bound w h (λ node. inject_step [] node c b o) b (λ node. inject_bound node c b o)
 event_grants w (event.Send h d) q = sends_bound w h d
-event_grants w (event.Deliver n) q = delivers_bound w n
+event_grants w (event.Deliver n) q = hands_bound w Taking n
+event_grants w (event.Repeat n) q = hands_bound w Leaving n
 event_grants w (event.Lose n) q = loses_bound w n
-event_grants w (event.Tick h) q = steps_bound w h [] tick_step 0 (λ node. omega (arith, tick_quiet node)) refl
+event_grants w (event.Tick h) q = steps_bound w h tick_step 0 (λ node. omega (arith, tick_quiet node))
 event_grants w (event.Raw h d bytes) q = absurd q

@@ -1,38 +1,34 @@
 -- The ends and the network keep together.
-use Rattle.std.proofs.Common.{◌≡◌, ℕ, zero, suc, ◌+◌, ◌-◌, ◌≤◌, Bool, true, false, cond, if◌then◌else◌, List, [], ◌∷◌, ◌++◌, length, Option, Some, None, refl, sym, ap, subst, ◌∙◌, arith, length-append}
-use Rattle.std.specs.Prelude.{◌==◌, nat_lt, pos, ℤ, slice_get, All, IfSome}
+use Rattle.std.proofs.Common.{◌≡◌, ℕ, zero, suc, ◌≤◌, Bool, true, false, cond, List, [], ◌∷◌, ◌++◌, length, Option, Some, None, refl, sym, ap, subst, ◌∙◌, arith, length-append}
+use Rattle.std.specs.Prelude.{◌==◌, nat_lt, pos, ℤ}
 use Rattle.std.specs.List.{AllByRecursion}
 use Rattle.plan_base.specs.declared.ids.Host.{Host}
 use Rattle.plan_base.specs.declared.tree.Chunk.{Chunk}
-use Rattle.plan_base.specs.declared.tree.Value.{Value, out-Value}
+use Rattle.plan_base.specs.declared.tree.Value.{out-Value}
 use Rattle.plan_base.specs.declared.tree.Value.TheVariants as value
 use Rattle.packet_frame.specs.declared.frame.PlainFrame.{PlainFrame}
 use Rattle.service_api.specs.declared.answer.Note.{Note}
-use Rattle.service_api.specs.declared.answer.Note.TheVariants.{Port, Print}
+use Rattle.service_api.specs.declared.answer.Note.TheVariants.{Port}
 use Rattle.service_api.specs.declared.answer.Answer.{Answer}
 use Rattle.service_api.specs.declared.answer.Answer.TheVariants.{Gives, Raises}
 use Rattle.service_api.specs.Services.{Offer as Offering}
 use Rattle.network_plan.specs.declared.event.WorldEvent.{WorldEvent}
 use Rattle.network_plan.specs.declared.event.WorldEvent.TheVariants as event
-use Rattle.plan_meaning.specs.State.{VisitState}
-use Rattle.node_model.specs.declared.acts.Act.{Act}
 use Rattle.node_model.specs.declared.acts.Act.TheVariants as act
 use Rattle.node_model.specs.State.{NodeState}
-use Rattle.node_model.specs.Fits.{QueuesKeep}
 use Rattle.world_model.specs.declared.lines.Line.{Line}
 use Rattle.world_model.specs.declared.lines.Line.TheVariants as line
 use Rattle.world_model.specs.declared.lines.Wired.{Wired}
-use Rattle.world_model.specs.World.{WorldState, EventResult, happens}
-use Rattle.reliable_ports.specs.Ends.{Body, number_of, Sending, Receiving, is_full, with_offer, held_at, with_ack, next_of, with_message}
+use Rattle.world_model.specs.World.{WorldState, happens}
+use Rattle.reliable_ports.specs.Ends.{Body, number_of, Receiving, is_full, with_offer, held_at, next_of, with_message}
 use Rattle.reliable_ports.proofs.Slots.{get_more}
 use Rattle.reliable_ports.proofs.Steps.{message, Receives, Sends, receives_more, receives_message, delivers_on, sends_more, held_message, sends_ack}
-use Rattle.port_tree.specs.Programs.{data_chunk, ack_chunk, this_host_is, get_rb, deliver}
-use Rattle.port_visits.specs.Only.{Allowed, Good, AnswerFits, Serves}
+use Rattle.port_visits.specs.Only.{Allowed, AnswerFits}
 use Rattle.port_visits.specs.Visits.{VisitIsGood, Any}
 use Rattle.port_visits.proofs.Closed.{data_closed, ack_closed}
-use Rattle.port_node.specs.Known.{IsClosed, FrameKnown, NodeKnown, WorldKnown, LineKnown, EventKnown, ComesKnown}
+use Rattle.port_node.specs.Known.{IsClosed, FrameKnown, StampedKnown, NodeKnown, WorldKnown, LineKnown, EventKnown, ComesKnown}
 use Rattle.port_node.proofs.Worlds.{event_known}
-use Rattle.port_run.specs.Ports.{PortState, PortEvent, Offer, Transmit, Wire, first_host, second_host, price, int_in, blob_in, pair_with, pair_of, pair_in, said_to, heard_by, acked_by, makes, first_pays, second_pays, ack_event, message_event, acks, hears_message, hears_ack, hears_note, hears_line, hears, after, offers_one, transmits, happens_at, port_run, port_begun}
+use Rattle.port_run.specs.Ports.{PortState, PortEvent, Offer, Transmit, Wire, first_host, second_host, price, int_in, blob_in, pair_with, pair_in, said_to, heard_by, makes, first_pays, second_pays, ack_event, message_event, acks, hears_message, hears_ack, hears_note, hears_line, hears, after, offers_one, transmits, happens_at, port_run, port_begun}
 use Rattle.port_run.specs.Allowed.{numbered, PortChunk, PortNote, port_allowed, NoNote, PortServes, IsWire}
 
 -- ---- what is allowed grows
@@ -58,7 +54,7 @@ module _ (offer : Offering) where
   A os n = port_allowed offer os n
 
   frame_grows : (os ps : List Body) (n m : ℕ) → Grows os n ps m → (x : PlainFrame) → FrameKnown (port_allowed offer os n) x → FrameKnown (port_allowed offer ps m) x
-  frame_grows os ps n m g (PlainFrame.Packet p) h = chunk_grows os ps n m g p.chunk h
+  frame_grows os ps n m g (PlainFrame.Packet p) h = (chunk_grows os ps n m g p.chunk h.0, h.1)
   frame_grows os ps n m g (PlainFrame.Advert x) h = tt
   frame_grows os ps n m g (PlainFrame.Ask b c) h = tt
 
@@ -71,7 +67,7 @@ module _ (offer : Offering) where
   world_grows : (os ps : List Body) (n m : ℕ) → Grows os n ps m → (w : WorldState) → WorldKnown (port_allowed offer os n) w → WorldKnown (port_allowed offer ps m) w
   world_grows os ps n m g w h = record {
     nodes = all_weaker (NodeKnown (port_allowed offer os n)) (NodeKnown (port_allowed offer ps m)) (node_grows os ps n m g) w.nodes h.nodes;
-    wire = all_weaker (λ (x : Wired). FrameKnown (port_allowed offer os n) x.frame) (λ x. FrameKnown (port_allowed offer ps m) x.frame) (λ x k. frame_grows os ps n m g x.frame k) w.wire h.wire;
+    wire = all_weaker (λ (x : Wired). StampedKnown (port_allowed offer os n) x.frame) (λ x. StampedKnown (port_allowed offer ps m) x.frame) (λ x k. frame_grows os ps n m g x.frame.frame k) w.wire h.wire;
   }
 
   line_grows : (os ps : List Body) (n m : ℕ) → Grows os n ps m → (x : Line) → LineKnown (port_allowed offer os n) x → LineKnown (port_allowed offer ps m) x
@@ -158,7 +154,7 @@ module _ (offer : Offering) where
         by : (t : Bool) → On s (cond t s (makes (ack_event s.receiver) (second_pays s)))
         by true = stays s h
         by false = record {
-          together = record { receives = h.receives; sends = h.sends; acked = h.acked; world = (known s (ack_event s.receiver) (PortChunk.ack (next_of s.receiver) (omega arith) refl) h).world };
+          together = record { receives = h.receives; sends = h.sends; acked = h.acked; world = (known s (ack_event s.receiver) (PortChunk.ack (next_of s.receiver) (omega arith) refl, refl) h).world };
           grows = record { offers = λ seq b e. e; acks = omega arith };
         }
 
@@ -212,10 +208,11 @@ module _ (offer : Offering) where
     -- ---- events
 
     comes : (os : List Body) (n : ℕ) (e : WorldEvent) → IsWire (Wire e) → ComesKnown (port_allowed offer os n) e
-    comes os n (event.Inject g c b) h = absurd h
+    comes os n (event.Inject g c b o) h = absurd h
     comes os n (event.Raw g d bytes) h = absurd h
     comes os n (event.Send g d) h = tt
     comes os n (event.Deliver k) h = tt
+    comes os n (event.Repeat k) h = tt
     comes os n (event.Lose k) h = tt
     comes os n (event.Tick g) h = tt
 
@@ -241,7 +238,7 @@ module _ (offer : Offering) where
       where
         by : (t : Bool) → Together (cond t s (after (message_event seq b) (first_pays s)))
         by true = h
-        by false = after_on (message_event seq b) (first_pays s) (PortChunk.message seq b (same_message seq s.offers ∙ held_message seq b s.offers s.sender h.sends e) refl) (record { receives = h.receives; sends = h.sends; acked = h.acked; world = h.world })
+        by false = after_on (message_event seq b) (first_pays s) (PortChunk.message seq b (same_message seq s.offers ∙ held_message seq b s.offers s.sender h.sends e) refl, refl) (record { receives = h.receives; sends = h.sends; acked = h.acked; world = h.world })
 
     event_on : (e : PortEvent) (s : PortState) → IsWire e → Together s → Together (happens_at e s)
     event_on (Offer b) s w h = offer_on b s h

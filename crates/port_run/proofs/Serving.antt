@@ -1,18 +1,17 @@
 -- What the services of a node answer to the two programs of a port.
-use Rattle.std.proofs.Common.{◌≡◌, ℕ, Bool, true, false, cond, if◌then◌else◌, List, [], ◌∷◌, Option, Some, None, refl, sym, ap, subst}
-use Rattle.std.specs.Prelude.{◌==◌, nat_le, pos, codes}
+use Rattle.std.proofs.Common.{◌≡◌, ℕ, Bool, true, false, cond, [], ◌∷◌, Option, Some, None, refl, sym, subst}
+use Rattle.std.specs.Prelude.{◌==◌, nat_le, pos}
 use Rattle.plan_base.specs.declared.ids.Host.{Host}
 use Rattle.plan_base.specs.declared.tree.Ty.{Ty}
-use Rattle.plan_base.specs.declared.tree.Value.{Value, out-Value}
+use Rattle.plan_base.specs.declared.tree.Value.{Value}
 use Rattle.plan_base.specs.declared.tree.Value.TheVariants as value
 use Rattle.plan_base.specs.Trees.{ValueLayer}
 use Rattle.service_api.specs.declared.ctx.Ctx.{Ctx}
 use Rattle.service_api.specs.declared.answer.Note.TheVariants.{Port}
 use Rattle.service_api.specs.Schemes.{instance}
-use Rattle.service_api.specs.Services.{Rows, Served}
-use Rattle.service_meaning.specs.declared.service.Service.{Service}
+use Rattle.service_api.specs.Services.{Rows}
 use Rattle.service_meaning.specs.declared.service.Service.TheVariants as service
-use Rattle.service_meaning.specs.Offered.{InstalledPackages, offered, type_of}
+use Rattle.service_meaning.specs.Offered.{InstalledPackages, type_of}
 use Rattle.value_rules.specs.Rules.{bad_index}
 use Rattle.service_meaning.specs.Answers.{given, noted, raised, of_host, of_int, delivered}
 use Rattle.service_meaning.specs.Serving.{serve, serve_at, serve_offered, offer}

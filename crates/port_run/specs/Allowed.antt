@@ -1,6 +1,5 @@
 -- What is on its way between the ends.
 use Rattle.std.specs.Prelude.{◌≡◌, ℕ, zero, suc, ◌≤◌, pos, List, [], ◌∷◌, slice_get, Option, Some, None}
-use Rattle.std.specs.List.{AllByRecursion}
 use Rattle.plan_base.specs.declared.ids.Host.{Host}
 use Rattle.plan_base.specs.declared.tree.Chunk.{Chunk}
 use Rattle.plan_base.specs.declared.tree.Value.{Value}
@@ -10,13 +9,12 @@ use Rattle.service_api.specs.declared.answer.Note.TheVariants.{Port}
 use Rattle.service_api.specs.declared.ctx.Ctx.{Ctx}
 use Rattle.service_api.specs.Services.{Offer as Offering, Rows}
 use Rattle.network_plan.specs.declared.schedule.HostSpec.{HostSpec}
-use Rattle.network_plan.specs.declared.event.WorldEvent.{WorldEvent}
 use Rattle.network_plan.specs.declared.event.WorldEvent.TheVariants as event
 use Rattle.reliable_ports.specs.Ends.{Body}
 use Rattle.port_tree.specs.Programs.{this_host_is, get_rb, deliver, data_chunk, ack_chunk}
 use Rattle.port_visits.specs.Only.{Allowed, AnswerFits}
 use Rattle.port_visits.specs.Visits.{Any, data_said, ack_said}
-use Rattle.port_run.specs.Ports.{first_host, second_host, PortEvent, Offer, Transmit, Wire}
+use Rattle.port_run.specs.Ports.{first_host, second_host, PortEvent, Wire}
 
 -- the message with a number, from 1
 abbrev pub numbered : ℕ → List Body → Option Body
@@ -49,7 +47,7 @@ pub record PortServes (offer : Offering) : Type 0 where
 
 -- no bytes come from outside, and nothing is injected but by the ends
 abbrev pub IsWire : PortEvent → Type 0
-IsWire (Wire (event.Inject h c b)) = ⊥
+IsWire (Wire (event.Inject h c b o)) = ⊥
 IsWire (Wire (event.Raw h d bytes)) = ⊥
 IsWire _ = Unit {0}
 

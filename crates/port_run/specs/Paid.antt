@@ -4,7 +4,6 @@ use Rattle.std.specs.List.{AllByRecursion}
 use Rattle.plan_base.specs.declared.ids.Family.{Family}
 use Rattle.network_plan.specs.declared.event.WorldEvent.{WorldEvent}
 use Rattle.network_plan.specs.declared.event.WorldEvent.TheVariants as event
-use Rattle.network_plan.specs.declared.schedule.Topology.{Topology}
 use Rattle.node_model.specs.declared.acts.Act.{Act}
 use Rattle.node_model.specs.declared.acts.Act.TheVariants.{Injected}
 use Rattle.node_model.specs.Counts.{is_family}
@@ -33,7 +32,7 @@ line_bound _ = 0
 
 -- the bound that an event grants
 abbrev pub event_bound : WorldEvent → ℕ
-event_bound (event.Inject h c b) = b
+event_bound (event.Inject h c b o) = b
 event_bound _ = 0
 
 -- no family stands twice

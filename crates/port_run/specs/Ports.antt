@@ -1,5 +1,5 @@
 -- Two ends of a reliable port over a network of two hosts.
-use Rattle.std.specs.Prelude.{◌≡◌, ◌≤◌, length, ℕ, ◌+◌, ◌-◌, Bool, ◌==◌, if◌then◌else◌, nat_lt, ℤ, pos, List, [], ◌∷◌, ◌++◌, Option, Some, None}
+use Rattle.std.specs.Prelude.{◌≤◌, length, ℕ, ◌-◌, ◌==◌, if◌then◌else◌, nat_lt, ℤ, pos, List, [], ◌∷◌, ◌++◌, Option, Some, None}
 use Rattle.plan_base.specs.declared.ids.Host.{Host}
 use Rattle.plan_base.specs.declared.tree.Value.{Value, out-Value}
 use Rattle.plan_base.specs.declared.tree.Value.TheOpen.{Value-F}
@@ -11,7 +11,7 @@ use Rattle.network_plan.specs.declared.event.WorldEvent.TheVariants as event
 use Rattle.node_model.specs.declared.acts.Act.TheVariants.{Noted}
 use Rattle.world_model.specs.declared.lines.Line.{Line}
 use Rattle.world_model.specs.declared.lines.Line.TheVariants.{At}
-use Rattle.world_model.specs.World.{WorldState, EventResult, happens}
+use Rattle.world_model.specs.World.{WorldState, happens}
 use Rattle.reliable_ports.specs.Ends.{Body, number_of, Sending, Receiving, no_offers, no_messages, is_full, with_offer, held_at, with_ack, next_of, with_message}
 use Rattle.reliable_ports.specs.Scripts.{IsFront}
 use Rattle.port_tree.specs.Programs.{data_chunk, ack_chunk}
@@ -94,11 +94,11 @@ second_pays s = record { offers = s.offers; sender = s.sender; receiver = s.rece
 
 -- the injection of an ack of all that was delivered
 abbrev pub ack_event : Receiving → WorldEvent
-ack_event r = event.Inject second_host (ack_chunk first_host (pos (next_of r))) price
+ack_event r = event.Inject second_host (ack_chunk first_host (pos (next_of r))) price None
 
 -- the injection of a message
 abbrev pub message_event : ℕ → Body → WorldEvent
-message_event seq b = event.Inject first_host (data_chunk second_host (pos seq) b) price
+message_event seq b = event.Inject first_host (data_chunk second_host (pos seq) b) price None
 
 -- the second host's ack, where its purse pays
 abbrev pub acks : PortState → PortState

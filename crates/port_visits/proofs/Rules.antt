@@ -33,7 +33,7 @@ use Rattle.plan_base.specs.declared.tree.Expr.{Expr-F}
 use Rattle.plan_base.specs.declared.tree.Expr.TheVariants as expr
 use Rattle.typing_rules.specs.TypingNames.{place_of, service_of, prim_of}
 use Rattle.plan_meaning.specs.Meaning.{Env, Runs, is_paid, bound_of, no_bound, packet, sent_by, send_remote, values_behind, values, tuple, packed, call, called, called_by, served_or, choice, remote, as_bool, as_int, as_host, as_chunk, chunk_at, value_of, bound, entered, applied_at, visited, meaning, opened_at, opened, node, run_to}
-use Rattle.port_visits.specs.Only.{Allowed, Good, AnswerFits, Serves}
+use Rattle.port_visits.specs.Only.{Allowed, Good, AnswerFits, Serves, MaySend}
 use Rattle.port_visits.specs.Visits.{EndsGood}
 
 module _ (a : Allowed) where
@@ -103,7 +103,7 @@ module _ (a : Allowed) where
   only_send k h n r c s g = by (is_paid n s.ctx.purse)
     where
       way : (w : Hop) → EndsGood a (λ _. Unit {0}) (sent_by w k h (bound_of n) r s).after
-      way (To via dev) = (record { offer = g.offer; sends = all_push (λ (x : Sent). a.chunk x.packet.chunk) s.outbox (record { dev = dev; packet = packet s k h (bound_of n) r }) g.sends c; notes = g.notes }, tt)
+      way (To via dev) = (record { offer = g.offer; sends = all_push (MaySend a) s.outbox (record { dev = dev; packet = packet s k h (bound_of n) r }) g.sends (c, refl); notes = g.notes }, tt)
       way NoService = g
       way NoRoute = g
 

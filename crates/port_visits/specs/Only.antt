@@ -1,5 +1,5 @@
 -- Evaluations that send and note certain things only.
-use Rattle.std.specs.Prelude.{◌≡◌, List, IfSome}
+use Rattle.std.specs.Prelude.{◌≡◌, List, None, IfSome}
 use Rattle.std.specs.List.{AllByRecursion}
 use Rattle.plan_base.specs.declared.tree.Chunk.{Chunk}
 use Rattle.plan_base.specs.declared.tree.Svc.{Svc}
@@ -18,10 +18,14 @@ pub record Allowed : Type 1 where
   pub note : Note → Type 0
   pub offer : Offer
 
+-- a packet that was sent carries an allowed chunk, and no handler
+abbrev pub MaySend : Allowed → Sent → Type 0
+MaySend a x = a.chunk x.packet.chunk × (x.packet.handler ≡ None)
+
 -- all that was sent and noted is allowed
 pub record Good (a : Allowed) (s : VisitState) : Type 0 where
   pub offer : s.services.offer ≡ a.offer
-  pub sends : AllByRecursion (λ (x : Sent). a.chunk x.packet.chunk) s.outbox
+  pub sends : AllByRecursion (MaySend a) s.outbox
   pub notes : AllByRecursion a.note s.notes
 
 -- an answer's note is allowed, and its value is one of those

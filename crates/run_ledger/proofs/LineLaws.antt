@@ -1,26 +1,28 @@
 -- What lines do to the counts of each family, and which histories the rows then stand for.
 use Rattle.std.proofs.Common.{◌≡◌, ℕ, ◌+◌, ◌-◌, ◌≤◌, ◌<◌, Bool, true, false, cond, List, [], ◌∷◌, ◌++◌, map, length, take, get_or, None, refl, sym, ap, ◌∙◌, arith}
-use Rattle.std.specs.Prelude.{fold}
+use Rattle.std.specs.Prelude.{fold, if◌then◌else◌}
 use Rattle.std.proofs.lemmas.Grind.{take_at_read}
 use Rattle.std.proofs.lemmas.List.{take_all}
 use Rattle.std.proofs.lemmas.List.Sums.{fold-append, sum_by-take-le}
 use Rattle.std.proofs.lemmas.List.Folds.{fold-map}
+use Rattle.plan_base.specs.declared.ids.Host.{Host}
 use Rattle.plan_base.specs.declared.ids.Family.{Family}
 use Rattle.bound_ledger.specs.declared.row.Row.{Row}
 use Rattle.bound_ledger.specs.Counts.{nothing, more, hopped, paid, quit}
 use Rattle.bound_ledger.specs.Rows.{FamilyRow, same_family, families_in, row_of, counts_of, changed, with_grant}
 use Rattle.bound_ledger.proofs.RowLaws.{same_is, same_self, counts_own, counts_other, counts_none, grant_own, grant_other, families_changed, families_granted, length_granted}
 use Rattle.spelled_frame.specs.declared.spelled.What.TheVariants as what
-use Rattle.node_model.specs.declared.acts.Act.TheVariants.{Injected, Arrived, Asked, Noted, Ended, Queued, Dropped, Bad, Misplaced, AdvertQueued, AdvertDropped, Heard, Ticked, Taken, SerialsSpent, NoMemory}
-use Rattle.node_model.specs.Counts.{is_family, only}
+use Rattle.node_model.specs.declared.acts.Act.TheVariants.{Injected, Arrived, Asked, Noted, Ended, Handled, Queued, Dropped, Bad, Misplaced, AdvertQueued, AdvertDropped, AdvertSpent, Stale, Heard, Ticked, Taken, SerialsSpent, NoMemory}
+use Rattle.node_model.specs.declared.acts.Act.{Act}
+use Rattle.node_model.specs.Counts.{is_family, only, act_hops, act_evals}
 use Rattle.world_model.specs.declared.lines.Line.{Line}
-use Rattle.world_model.specs.declared.lines.Line.TheVariants.{At, Forged, Wire, Off, Lost, Nothing}
+use Rattle.world_model.specs.declared.lines.Line.TheVariants.{At, Forged, Wire, Off, Again, Lost, Nothing}
 use Rattle.world_model.specs.declared.lines.Entry.{Entry}
 use Rattle.world_model.specs.World.{entry_at}
-use Rattle.world_model.specs.Counts.{line_granted, line_hops, line_evals, line_left, line_sum, tally}
+use Rattle.world_model.specs.Counts.{line_granted, line_hops, line_evals, line_left, line_sum, tally, left_from}
 use Rattle.world_model.specs.Texts.{line_families, with_family, families}
 use Rattle.network_laws.proofs.CountLaws.{line_sum-nil, line_sum-one, line_sum-append, tally-nil, tally-append, tally-entries}
-use Rattle.run_ledger.specs.Counting.{granting, line_grants, moving, CanGrant, CanMove, moved, Granted, Moved, GrantsFit, MovesFit, LinesFit}
+use Rattle.run_ledger.specs.Counting.{granting, line_grants, leaving, act_moving, moving, CanGrant, CanLeave, CanMove, moved, Granted, Moved, GrantsFit, MovesFit, LinesFit, Leaves}
 use Rattle.run_ledger.specs.Stands.{Stands}
 
 -- ---- counts that don't move
@@ -159,12 +161,15 @@ line_does_grant rows (At h (Arrived d)) = idle rows _ refl refl (λ f. refl)
 line_does_grant rows (At h Asked) = idle rows _ refl refl (λ f. refl)
 line_does_grant rows (At h (Noted n)) = idle rows _ refl refl (λ f. refl)
 line_does_grant rows (At h (Ended g o evals rest)) = idle rows _ refl refl (λ f. refl)
+line_does_grant rows (At h (Handled g n bound)) = idle rows _ refl refl (λ f. refl)
 line_does_grant rows (At h (Queued d g bound)) = idle rows _ refl refl (λ f. refl)
 line_does_grant rows (At h (Dropped r g bound)) = idle rows _ refl refl (λ f. refl)
 line_does_grant rows (At h (Bad e)) = idle rows _ refl refl (λ f. refl)
 line_does_grant rows (At h Misplaced) = idle rows _ refl refl (λ f. refl)
 line_does_grant rows (At h (AdvertQueued d)) = idle rows _ refl refl (λ f. refl)
 line_does_grant rows (At h (AdvertDropped d)) = idle rows _ refl refl (λ f. refl)
+line_does_grant rows (At h (AdvertSpent d)) = idle rows _ refl refl (λ f. refl)
+line_does_grant rows (At h (Stale t w)) = idle rows _ refl refl (λ f. refl)
 line_does_grant rows (At h (Heard d)) = idle rows _ refl refl (λ f. refl)
 line_does_grant rows (At h (Ticked n)) = idle rows _ refl refl (λ f. refl)
 line_does_grant rows (At h (Taken d w)) = idle rows _ refl refl (λ f. refl)
@@ -172,6 +177,7 @@ line_does_grant rows (At h SerialsSpent) = idle rows _ refl refl (λ f. refl)
 line_does_grant rows (At h NoMemory) = idle rows _ refl refl (λ f. refl)
 line_does_grant rows (Wire n bytes) = idle rows _ refl refl (λ f. refl)
 line_does_grant rows (Off n) = idle rows _ refl refl (λ f. refl)
+line_does_grant rows (Again n) = idle rows _ refl refl (λ f. refl)
 line_does_grant rows (Lost w) = idle rows _ refl refl (λ f. refl)
 line_does_grant rows Nothing = idle rows _ refl refl (λ f. refl)
 
@@ -183,12 +189,15 @@ can_grant rows (At h (Arrived d)) few limit = tt
 can_grant rows (At h Asked) few limit = tt
 can_grant rows (At h (Noted n)) few limit = tt
 can_grant rows (At h (Ended g o evals rest)) few limit = tt
+can_grant rows (At h (Handled g n bound)) few limit = tt
 can_grant rows (At h (Queued d g bound)) few limit = tt
 can_grant rows (At h (Dropped r g bound)) few limit = tt
 can_grant rows (At h (Bad e)) few limit = tt
 can_grant rows (At h Misplaced) few limit = tt
 can_grant rows (At h (AdvertQueued d)) few limit = tt
 can_grant rows (At h (AdvertDropped d)) few limit = tt
+can_grant rows (At h (AdvertSpent d)) few limit = tt
+can_grant rows (At h (Stale t w)) few limit = tt
 can_grant rows (At h (Heard d)) few limit = tt
 can_grant rows (At h (Ticked n)) few limit = tt
 can_grant rows (At h (Taken d w)) few limit = tt
@@ -196,20 +205,31 @@ can_grant rows (At h SerialsSpent) few limit = tt
 can_grant rows (At h NoMemory) few limit = tt
 can_grant rows (Wire n bytes) few limit = tt
 can_grant rows (Off n) few limit = tt
+can_grant rows (Again n) few limit = tt
 can_grant rows (Lost w) few limit = tt
 can_grant rows Nothing few limit = tt
 
 -- what a line does by what it pays and leaves
-record Moves (rows : List FamilyRow) (l : Line) : Type 0 where
-  families : families_in (moving rows l) ≡ families_in rows
-  counts : (f : Family) → counts_of f (moving rows l) ≡ moved (line_hops f l) (line_evals f l) (line_left f l) (counts_of f rows)
+record Moves (late : Bool) (rows : List FamilyRow) (l : Line) : Type 0 where
+  families : families_in (moving late rows l) ≡ families_in rows
+  counts : (f : Family) → counts_of f (moving late rows l) ≡ moved (line_hops f l) (line_evals f l) (line_left f late l) (counts_of f rows)
 
 -- a line that pays and leaves nothing
-still : (rows : List FamilyRow) (l : Line) → moving rows l ≡ rows → ((f : Family) → line_hops f l ≡ 0) → ((f : Family) → line_evals f l ≡ 0) → ((f : Family) → line_left f l ≡ 0) → Moves rows l
-still rows l same h e q = record {
+still : (late : Bool) (rows : List FamilyRow) (l : Line) → moving late rows l ≡ rows → ((f : Family) → line_hops f l ≡ 0) → ((f : Family) → line_evals f l ≡ 0) → ((f : Family) → line_left f late l ≡ 0)
+    → Moves late rows l
+still late rows l same h e q = record {
   families = ap families_in same;
   counts = λ f. ap (counts_of f) same ∙ moved_none (counts_of f rows) ∙ (λ i. moved (sym (h f) i) (sym (e f) i) (sym (q f) i) (counts_of f rows));
 }
+
+-- an act at which nothing is stale leaves the same whether its frame was handed before
+unstale : (late : Bool) (n : ℕ) → n + (if late then 0 else 0) ≡ n
+unstale true n = omega arith
+unstale false n = omega arith
+
+still_act : (late : Bool) (rows : List FamilyRow) (h : Host) (a : Act) → act_moving late rows a ≡ rows → ((f : Family) → act_hops f a ≡ 0) → ((f : Family) → act_evals f a ≡ 0) → ((f : Family) → line_left f late (At h a) ≡ 0 + (if late then 0 else 0))
+    → Moves late rows (At h a)
+still_act late rows h a same hops evals left = still late rows (At h a) same hops evals (λ f. left f ∙ unstale late 0)
 
 -- a packet's bound that is left
 leaves : (f g : Family) (bound : ℕ) (rows : List FamilyRow) → bound ≤ (counts_of g rows).live → counts_of f (changed (quit bound) g rows) ≡ moved 0 0 (only f g bound) (counts_of f rows)
@@ -221,6 +241,9 @@ plus_zero n = omega arith
 zero_plus : (n : ℕ) → 0 + n ≡ n
 zero_plus n = omega arith
 
+zero_more : (n : ℕ) → n ≡ 0 + n
+zero_more n = omega arith
+
 ended_as : (f g : Family) (evals rest : ℕ) (rows : List FamilyRow) → evals + rest ≤ (counts_of g rows).live → counts_of f (changed (quit rest) g (changed (paid evals) g rows)) ≡ moved 0 (only f g evals) (only f g rest) (counts_of f rows)
 ended_as f g evals rest rows h =
     leaves f g rest (changed (paid evals) g rows) (live_left g evals rest rows h)
@@ -228,60 +251,91 @@ ended_as f g evals rest rows h =
     ∙ moved_moved 0 (only f g evals) 0 0 0 (only f g rest) (counts_of f rows)
     ∙ (λ i. moved 0 (plus_zero (only f g evals) i) (zero_plus (only f g rest) i) (counts_of f rows))
 
-line_does_move : (rows : List FamilyRow) (l : Line) → CanMove rows l → Moves rows l
-line_does_move rows (At h (Queued d g bound)) c = record {
+-- a frame that is stale or lost
+leaves_late : (late : Bool) (f g : Family) (bound : ℕ) (rows : List FamilyRow) → CanLeave late g bound rows → counts_of f (leaving late g bound rows) ≡ moved 0 0 (if late then 0 else only f g bound) (counts_of f rows)
+leaves_late true f g bound rows c = moved_none (counts_of f rows)
+leaves_late false f g bound rows c = leaves f g bound rows (c refl)
+
+families_late : (late : Bool) (g : Family) (bound : ℕ) (rows : List FamilyRow) → families_in (leaving late g bound rows) ≡ families_in rows
+families_late true g bound rows = refl
+families_late false g bound rows = families_changed (quit bound) g rows
+
+line_does_move : (late : Bool) (rows : List FamilyRow) (l : Line) → CanMove late rows l → Moves late rows l
+line_does_move late rows (At h (Queued d g bound)) c = record {
   families = families_changed hopped g rows;
-  counts = λ f. hop_as f g rows c ∙ (λ i. moved (only f g 1) (only_zero f g i) (only_zero f g i) (counts_of f rows));
+  counts = λ f. hop_as f g rows c ∙ (λ i. moved (only f g 1) (only_zero f g i) ((only_zero f g ∙ sym (unstale late 0)) i) (counts_of f rows));
 }
-line_does_move rows (At h (Ended g o evals rest)) c = record {
+line_does_move late rows (At h (Ended g o evals rest)) c = record {
   families = families_changed (quit rest) g (changed (paid evals) g rows) ∙ families_changed (paid evals) g rows;
-  counts = λ f. ended_as f g evals rest rows c;
+  counts = λ f. ended_as f g evals rest rows c ∙ ap (λ n. moved 0 (only f g evals) n (counts_of f rows)) (sym (unstale late (only f g rest)));
 }
-line_does_move rows (At h (Dropped r g bound)) c = record { families = families_changed (quit bound) g rows; counts = λ f. leaves f g bound rows c }
-line_does_move rows (Lost (what.Packet g bound)) c = record { families = families_changed (quit bound) g rows; counts = λ f. leaves f g bound rows c }
-line_does_move rows (At h (Injected g bound)) c = still rows _ refl (λ f. refl) (λ f. refl) (λ f. refl)
-line_does_move rows (At h (Arrived d)) c = still rows _ refl (λ f. refl) (λ f. refl) (λ f. refl)
-line_does_move rows (At h Asked) c = still rows _ refl (λ f. refl) (λ f. refl) (λ f. refl)
-line_does_move rows (At h (Noted n)) c = still rows _ refl (λ f. refl) (λ f. refl) (λ f. refl)
-line_does_move rows (At h (Bad e)) c = still rows _ refl (λ f. refl) (λ f. refl) (λ f. refl)
-line_does_move rows (At h Misplaced) c = still rows _ refl (λ f. refl) (λ f. refl) (λ f. refl)
-line_does_move rows (At h (AdvertQueued d)) c = still rows _ refl (λ f. refl) (λ f. refl) (λ f. refl)
-line_does_move rows (At h (AdvertDropped d)) c = still rows _ refl (λ f. refl) (λ f. refl) (λ f. refl)
-line_does_move rows (At h (Heard d)) c = still rows _ refl (λ f. refl) (λ f. refl) (λ f. refl)
-line_does_move rows (At h (Ticked n)) c = still rows _ refl (λ f. refl) (λ f. refl) (λ f. refl)
-line_does_move rows (At h (Taken d w)) c = still rows _ refl (λ f. refl) (λ f. refl) (λ f. refl)
-line_does_move rows (At h SerialsSpent) c = still rows _ refl (λ f. refl) (λ f. refl) (λ f. refl)
-line_does_move rows (At h NoMemory) c = still rows _ refl (λ f. refl) (λ f. refl) (λ f. refl)
-line_does_move rows (Forged h g bound) c = still rows _ refl (λ f. refl) (λ f. refl) (λ f. refl)
-line_does_move rows (Wire n bytes) c = still rows _ refl (λ f. refl) (λ f. refl) (λ f. refl)
-line_does_move rows (Off n) c = still rows _ refl (λ f. refl) (λ f. refl) (λ f. refl)
-line_does_move rows (Lost what.Advert) c = still rows _ refl (λ f. refl) (λ f. refl) (λ f. refl)
-line_does_move rows Nothing c = still rows _ refl (λ f. refl) (λ f. refl) (λ f. refl)
+line_does_move late rows (At h (Dropped r g bound)) c = record {
+  families = families_changed (quit bound) g rows;
+  counts = λ f. leaves f g bound rows c ∙ ap (λ n. moved 0 0 n (counts_of f rows)) (sym (unstale late (only f g bound)));
+}
+line_does_move late rows (At h (Stale t (what.Packet g bound))) c = record { families = families_late late g bound rows; counts = λ f. leaves_late late f g bound rows c ∙ ap (λ n. moved 0 0 n (counts_of f rows)) (zero_more _) }
+line_does_move late rows (At h (Stale t what.Advert)) c = still_act late rows h _ refl (λ f. refl) (λ f. refl) (λ f. refl)
+line_does_move late rows (Lost (what.Packet g bound)) c = record { families = families_late late g bound rows; counts = λ f. leaves_late late f g bound rows c }
+line_does_move late rows (At h (Injected g bound)) c = still_act late rows h _ refl (λ f. refl) (λ f. refl) (λ f. refl)
+line_does_move late rows (At h (Arrived d)) c = still_act late rows h _ refl (λ f. refl) (λ f. refl) (λ f. refl)
+line_does_move late rows (At h Asked) c = still_act late rows h _ refl (λ f. refl) (λ f. refl) (λ f. refl)
+line_does_move late rows (At h (Noted n)) c = still_act late rows h _ refl (λ f. refl) (λ f. refl) (λ f. refl)
+line_does_move late rows (At h (Handled g n bound)) c = still_act late rows h _ refl (λ f. refl) (λ f. refl) (λ f. refl)
+line_does_move late rows (At h (Bad e)) c = still_act late rows h _ refl (λ f. refl) (λ f. refl) (λ f. refl)
+line_does_move late rows (At h Misplaced) c = still_act late rows h _ refl (λ f. refl) (λ f. refl) (λ f. refl)
+line_does_move late rows (At h (AdvertQueued d)) c = still_act late rows h _ refl (λ f. refl) (λ f. refl) (λ f. refl)
+line_does_move late rows (At h (AdvertDropped d)) c = still_act late rows h _ refl (λ f. refl) (λ f. refl) (λ f. refl)
+line_does_move late rows (At h (AdvertSpent d)) c = still_act late rows h _ refl (λ f. refl) (λ f. refl) (λ f. refl)
+line_does_move late rows (At h (Heard d)) c = still_act late rows h _ refl (λ f. refl) (λ f. refl) (λ f. refl)
+line_does_move late rows (At h (Ticked n)) c = still_act late rows h _ refl (λ f. refl) (λ f. refl) (λ f. refl)
+line_does_move late rows (At h (Taken d w)) c = still_act late rows h _ refl (λ f. refl) (λ f. refl) (λ f. refl)
+line_does_move late rows (At h SerialsSpent) c = still_act late rows h _ refl (λ f. refl) (λ f. refl) (λ f. refl)
+line_does_move late rows (At h NoMemory) c = still_act late rows h _ refl (λ f. refl) (λ f. refl) (λ f. refl)
+line_does_move late rows (Forged h g bound) c = still late rows _ refl (λ f. refl) (λ f. refl) (λ f. refl)
+line_does_move late rows (Wire n bytes) c = still late rows _ refl (λ f. refl) (λ f. refl) (λ f. refl)
+line_does_move late rows (Off n) c = still late rows _ refl (λ f. refl) (λ f. refl) (λ f. refl)
+line_does_move late rows (Again n) c = still late rows _ refl (λ f. refl) (λ f. refl) (λ f. refl)
+line_does_move late rows (Lost what.Advert) c = still late rows _ refl (λ f. refl) (λ f. refl) (advert_left late)
+  where
+    advert_left : (late : Bool) (f : Family) → line_left f late (Lost what.Advert) ≡ 0
+    advert_left true f = refl
+    advert_left false f = refl
+line_does_move late rows Nothing c = still late rows _ refl (λ f. refl) (λ f. refl) (λ f. refl)
+
+-- the bound of a frame that was never handed is there, where its family has what it counts for it
+can_leave : (late : Bool) (g : Family) (bound live : ℕ) → (if late then 0 else only g g bound) ≤ live → late ≡ false → bound ≤ live
+can_leave true g bound live a e = cc
+can_leave false g bound live a e = omega (arith, a, only_own g bound)
 
 -- what a line pays and leaves is there, where each family has what it counts for it
-can_move : (rows : List FamilyRow) (l : Line) → ((f : Family) → line_hops f l + line_evals f l + line_left f l ≤ (counts_of f rows).live) → CanMove rows l
-can_move rows (At h (Queued d g bound)) a = let l = a g in omega (arith, only_own g 1)
-can_move rows (At h (Ended g o evals rest)) a = let l = a g in omega (arith, only_own g evals, only_own g rest)
-can_move rows (At h (Dropped r g bound)) a = let l = a g in omega (arith, only_own g bound)
-can_move rows (Lost (what.Packet g bound)) a = let l = a g in omega (arith, only_own g bound)
-can_move rows (At h (Injected g bound)) a = tt
-can_move rows (At h (Arrived d)) a = tt
-can_move rows (At h Asked) a = tt
-can_move rows (At h (Noted n)) a = tt
-can_move rows (At h (Bad e)) a = tt
-can_move rows (At h Misplaced) a = tt
-can_move rows (At h (AdvertQueued d)) a = tt
-can_move rows (At h (AdvertDropped d)) a = tt
-can_move rows (At h (Heard d)) a = tt
-can_move rows (At h (Ticked n)) a = tt
-can_move rows (At h (Taken d w)) a = tt
-can_move rows (At h SerialsSpent) a = tt
-can_move rows (At h NoMemory) a = tt
-can_move rows (Forged h g bound) a = tt
-can_move rows (Wire n bytes) a = tt
-can_move rows (Off n) a = tt
-can_move rows (Lost what.Advert) a = tt
-can_move rows Nothing a = tt
+can_move : (late : Bool) (rows : List FamilyRow) (l : Line) → ((f : Family) → line_hops f l + line_evals f l + line_left f late l ≤ (counts_of f rows).live) → CanMove late rows l
+can_move late rows (At h (Queued d g bound)) a = let l = a g in omega (arith, only_own g 1)
+can_move late rows (At h (Ended g o evals rest)) a = let l = a g in omega (arith, only_own g evals, only_own g rest)
+can_move late rows (At h (Dropped r g bound)) a = let l = a g in omega (arith, only_own g bound)
+can_move late rows (At h (Stale t (what.Packet g bound))) a = let l = a g in can_leave late g bound (counts_of g rows).live (omega (arith, l))
+can_move late rows (At h (Stale t what.Advert)) a = tt
+can_move late rows (Lost (what.Packet g bound)) a = let l = a g in can_leave late g bound (counts_of g rows).live (omega (arith, l))
+can_move late rows (At h (Injected g bound)) a = tt
+can_move late rows (At h (Arrived d)) a = tt
+can_move late rows (At h Asked) a = tt
+can_move late rows (At h (Noted n)) a = tt
+can_move late rows (At h (Handled g n bound)) a = tt
+can_move late rows (At h (Bad e)) a = tt
+can_move late rows (At h Misplaced) a = tt
+can_move late rows (At h (AdvertQueued d)) a = tt
+can_move late rows (At h (AdvertDropped d)) a = tt
+can_move late rows (At h (AdvertSpent d)) a = tt
+can_move late rows (At h (Heard d)) a = tt
+can_move late rows (At h (Ticked n)) a = tt
+can_move late rows (At h (Taken d w)) a = tt
+can_move late rows (At h SerialsSpent) a = tt
+can_move late rows (At h NoMemory) a = tt
+can_move late rows (Forged h g bound) a = tt
+can_move late rows (Wire n bytes) a = tt
+can_move late rows (Off n) a = tt
+can_move late rows (Again n) a = tt
+can_move late rows (Lost what.Advert) a = tt
+can_move late rows Nothing a = tt
 
 -- ---- the lines of an event
 
@@ -303,24 +357,24 @@ granted_next lines l old now new g e =
       few = omega (arith, ap length e, s.few, g.few, line_sum-append line_grants lines (l ∷ []), line_sum-one line_grants l);
     }
 
-pub moved_no_lines : (rows : List FamilyRow) → Moved [] rows rows
-moved_no_lines rows = record {
+pub moved_no_lines : (late : Bool) (rows : List FamilyRow) → Moved late [] rows rows
+moved_no_lines late rows = record {
   families = refl;
-  counts = λ f. moved_none (counts_of f rows) ∙ (λ i. moved (sym (line_sum-nil (line_hops f)) i) (sym (line_sum-nil (line_evals f)) i) (sym (line_sum-nil (line_left f)) i) (counts_of f rows));
+  counts = λ f. moved_none (counts_of f rows) ∙ (λ i. moved (sym (line_sum-nil (line_hops f)) i) (sym (line_sum-nil (line_evals f)) i) (sym (line_sum-nil (line_left f late)) i) (counts_of f rows));
 }
 
 sum_next : (c : Line → ℕ) (lines : List Line) (l : Line) → line_sum c (lines ++ l ∷ []) ≡ line_sum c lines + c l
 sum_next c lines l = omega (arith, line_sum-append c lines (l ∷ []), line_sum-one c l)
 
-moved_next : (lines : List Line) (l : Line) (old now new : List FamilyRow) → Moved lines old now → CanMove now l → new ≡ moving now l → Moved (lines ++ l ∷ []) old new
-moved_next lines l old now new m c e =
-    let s = line_does_move now l c in
+moved_next : (late : Bool) (lines : List Line) (l : Line) (old now new : List FamilyRow) → Moved late lines old now → CanMove late now l → new ≡ moving late now l → Moved late (lines ++ l ∷ []) old new
+moved_next late lines l old now new m c e =
+    let s = line_does_move late now l c in
     record {
       families = ap families_in e ∙ s.families ∙ m.families;
       counts = λ f.
-          ap (counts_of f) e ∙ s.counts f ∙ ap (moved (line_hops f l) (line_evals f l) (line_left f l)) (m.counts f)
-          ∙ moved_moved (line_sum (line_hops f) lines) (line_sum (line_evals f) lines) (line_sum (line_left f) lines) (line_hops f l) (line_evals f l) (line_left f l) (counts_of f old)
-          ∙ (λ i. moved (sym (sum_next (line_hops f) lines l) i) (sym (sum_next (line_evals f) lines l) i) (sym (sum_next (line_left f) lines l) i) (counts_of f old));
+          ap (counts_of f) e ∙ s.counts f ∙ ap (moved (line_hops f l) (line_evals f l) (line_left f late l)) (m.counts f)
+          ∙ moved_moved (line_sum (line_hops f) lines) (line_sum (line_evals f) lines) (line_sum (line_left f late) lines) (line_hops f l) (line_evals f l) (line_left f late l) (counts_of f old)
+          ∙ (λ i. moved (sym (sum_next (line_hops f) lines l) i) (sym (sum_next (line_evals f) lines l) i) (sym (sum_next (line_left f late) lines l) i) (counts_of f old));
     }
 
 -- some lines and the next one count at most what all count
@@ -341,21 +395,21 @@ module _ (lines : List Line) (i : ℕ) (l : Line) (within : i < length lines) (i
   pub granted_more : (old now new : List FamilyRow) → Granted (take i lines) old now → new ≡ granting now l → Granted (take (i + 1) lines) old new
   granted_more old now new g e = let next = granted_next (take i lines) l old now new g e in rw next_lines at next
 
-  pub move_fits : (old now : List FamilyRow) → MovesFit old lines → Moved (take i lines) old now → CanMove now l
-  move_fits old now a m = can_move now l (λ f. omega (arith, a.live f, ap (λ r. r.live) (m.counts f), within_sum (line_hops f), within_sum (line_evals f), within_sum (line_left f)))
+  pub move_fits : (late : Bool) (old now : List FamilyRow) → MovesFit late old lines → Moved late (take i lines) old now → CanMove late now l
+  move_fits late old now a m = can_move late now l (λ f. omega (arith, a.live f, ap (λ r. r.live) (m.counts f), within_sum (line_hops f), within_sum (line_evals f), within_sum (line_left f late)))
 
-  pub moved_more : (old now new : List FamilyRow) → MovesFit old lines → Moved (take i lines) old now → new ≡ moving now l → Moved (take (i + 1) lines) old new
-  moved_more old now new a m e = let next = moved_next (take i lines) l old now new m (move_fits old now a m) e in rw next_lines at next
+  pub moved_more : (late : Bool) (old now new : List FamilyRow) → MovesFit late old lines → Moved late (take i lines) old now → new ≡ moving late now l → Moved late (take (i + 1) lines) old new
+  moved_more late old now new a m e = let next = moved_next late (take i lines) l old now new m (move_fits late old now a m) e in rw next_lines at next
 
 pub granted_all : (lines : List Line) (i : ℕ) (old new : List FamilyRow) → length lines ≤ i → Granted (take i lines) old new → Granted lines old new
 granted_all lines i old new h g = let e : take i lines ≡ lines = take_all i lines h in rw e at g
 
-pub moved_all : (lines : List Line) (i : ℕ) (old new : List FamilyRow) → length lines ≤ i → Moved (take i lines) old new → Moved lines old new
-moved_all lines i old new h m = let e : take i lines ≡ lines = take_all i lines h in rw e at m
+pub moved_all : (late : Bool) (lines : List Line) (i : ℕ) (old new : List FamilyRow) → length lines ≤ i → Moved late (take i lines) old new → Moved late lines old new
+moved_all late lines i old new h m = let e : take i lines ≡ lines = take_all i lines h in rw e at m
 
 -- once all is granted, what the lines pay and leave is there
-pub moves_fit : (lines : List Line) (old mid : List FamilyRow) → LinesFit old lines → Granted lines old mid → MovesFit mid lines
-moves_fit lines old mid a g = record { live = λ f. omega (arith, a.moves f, ap (λ r. r.live) (g.counts f)) }
+pub moves_fit : (late : Bool) (lines : List Line) (old mid : List FamilyRow) → LinesFit late old lines → Granted lines old mid → MovesFit late mid lines
+moves_fit late lines old mid a g = record { live = λ f. omega (arith, a.moves f, ap (λ r. r.live) (g.counts f)) }
 
 -- ---- histories
 
@@ -366,8 +420,9 @@ families_more h n lines = fold-append (λ fs e. line_families fs e.line) [] h (m
 tally_more : (c : Line → ℕ) (h : List Entry) (n : ℕ) (lines : List Line) → tally c (h ++ map (entry_at n) lines) ≡ tally c h + line_sum c lines
 tally_more c h n lines = omega (arith, tally-append c h (map (entry_at n) lines), tally-entries c n lines)
 
-pub stands_more : (h : List Entry) (n : ℕ) (lines : List Line) (old mid new : List FamilyRow) → LinesFit old lines → Granted lines old mid → Moved lines mid new → Stands h old → Stands (h ++ map (entry_at n) lines) new
-stands_more h n lines old mid new a g m s = record {
+pub stands_more : (late : Bool) (h : List Entry) (n : ℕ) (lines : List Line) (old mid new : List FamilyRow) → LinesFit late old lines → Granted lines old mid → Moved late lines mid new → Leaves late h n lines → Stands h old
+    → Stands (h ++ map (entry_at n) lines) new
+stands_more late h n lines old mid new a g m l s = record {
   families = m.families ∙ g.families ∙ ap (λ fs. fold line_families fs lines) s.families ∙ sym (families_more h n lines);
   counts = λ f.
       let c = s.counts f in
@@ -377,7 +432,7 @@ stands_more h n lines old mid new a g m s = record {
         granted = omega (arith, ap (λ r. r.granted) less, ap (λ r. r.granted) more, c.granted, tally_more (line_granted f) h n lines);
         hops = omega (arith, ap (λ r. r.hops) less, ap (λ r. r.hops) more, c.hops, tally_more (line_hops f) h n lines);
         evals = omega (arith, ap (λ r. r.evals) less, ap (λ r. r.evals) more, c.evals, tally_more (line_evals f) h n lines);
-        left = omega (arith, ap (λ r. r.left) less, ap (λ r. r.left) more, c.left, tally_more (line_left f) h n lines);
+        left = omega (arith, ap (λ r. r.left) less, ap (λ r. r.left) more, c.left, l f);
         live = omega (
           arith,
           ap (λ r. r.live) less,
@@ -387,21 +442,21 @@ stands_more h n lines old mid new a g m s = record {
           tally_more (line_granted f) h n lines,
           tally_more (line_hops f) h n lines,
           tally_more (line_evals f) h n lines,
-          tally_more (line_left f) h n lines,
+          l f,
         );
       };
 }
 
 -- the empty ledger stands for no history
 pub nothing_stands : Stands [] []
-unfolding families counts_of row_of
+unfolding families counts_of row_of left_from
 nothing_stands = record {
   families = refl;
   counts = λ f. record {
     granted = sym (tally-nil (line_granted f));
     hops = sym (tally-nil (line_hops f));
     evals = sym (tally-nil (line_evals f));
-    left = sym (tally-nil (line_left f));
-    live = omega (arith, tally-nil (line_granted f), tally-nil (line_hops f), tally-nil (line_evals f), tally-nil (line_left f));
+    left = refl;
+    live = omega (arith, tally-nil (line_granted f), tally-nil (line_hops f), tally-nil (line_evals f));
   };
 }

@@ -1,14 +1,17 @@
 -- What the lines of an event do to the rows of a ledger.
-use Rattle.std.specs.Prelude.{◌≡◌, ℕ, ◌+◌, ◌-◌, ◌≤◌, ◌<◌, ◌^◌, List, length, fold}
+use Rattle.std.specs.Prelude.{◌≡◌, ℕ, ◌+◌, ◌-◌, ◌≤◌, ◌<◌, ◌^◌, Bool, false, if◌then◌else◌, List, ◌++◌, length, map, fold}
 use Rattle.plan_base.specs.declared.ids.Family.{Family}
 use Rattle.bound_ledger.specs.declared.row.Row.{Row}
 use Rattle.bound_ledger.specs.Counts.{more, hopped, paid, quit}
 use Rattle.bound_ledger.specs.Rows.{FamilyRow, families_in, counts_of, changed, with_grant}
 use Rattle.spelled_frame.specs.declared.spelled.What.TheVariants as what
 use Rattle.node_model.specs.declared.acts.Act.{Act}
-use Rattle.node_model.specs.declared.acts.Act.TheVariants.{Injected, Ended, Queued, Dropped}
+use Rattle.node_model.specs.declared.acts.Act.TheVariants.{Injected, Ended, Queued, Dropped, Stale}
 use Rattle.world_model.specs.declared.lines.Line.{Line}
 use Rattle.world_model.specs.declared.lines.Line.TheVariants.{At, Forged, Lost}
+use Rattle.world_model.specs.declared.lines.Entry.{Entry}
+use Rattle.world_model.specs.World.{entry_at}
+use Rattle.world_model.specs.Counts as count
 use Rattle.world_model.specs.Counts.{line_granted, line_hops, line_evals, line_left, line_sum}
 use Rattle.world_model.specs.Texts.{line_families}
 
@@ -26,18 +29,23 @@ line_grants (At h (Injected f bound)) = 1
 line_grants (Forged h f bound) = 1
 line_grants _ = 0
 
--- the rows with what an act pays and leaves
-abbrev pub act_moving : List FamilyRow → Act → List FamilyRow
-act_moving rows (Queued d f bound) = changed hopped f rows
-act_moving rows (Ended f o evals rest) = changed (quit rest) f (changed (paid evals) f rows)
-act_moving rows (Dropped r f bound) = changed (quit bound) f rows
-act_moving rows _ = rows
+-- the rows where a frame is stale or lost: its bound is left, unless that was counted when it was handed before
+abbrev pub leaving : Bool → Family → ℕ → List FamilyRow → List FamilyRow
+leaving late f bound rows = if late then rows else changed (quit bound) f rows
+
+-- the rows with what an act pays and leaves, where its event's frame was handed before or wasn't
+abbrev pub act_moving : Bool → List FamilyRow → Act → List FamilyRow
+act_moving late rows (Queued d f bound) = changed hopped f rows
+act_moving late rows (Ended f o evals rest) = changed (quit rest) f (changed (paid evals) f rows)
+act_moving late rows (Dropped r f bound) = changed (quit bound) f rows
+act_moving late rows (Stale t (what.Packet f bound)) = leaving late f bound rows
+act_moving late rows _ = rows
 
 -- the rows with what a line pays and leaves
-abbrev pub moving : List FamilyRow → Line → List FamilyRow
-moving rows (At h act) = act_moving rows act
-moving rows (Lost (what.Packet f bound)) = changed (quit bound) f rows
-moving rows _ = rows
+abbrev pub moving : Bool → List FamilyRow → Line → List FamilyRow
+moving late rows (At h act) = act_moving late rows act
+moving late rows (Lost (what.Packet f bound)) = leaving late f bound rows
+moving late rows _ = rows
 
 -- what a line grants keeps the limits
 abbrev pub CanGrant : List FamilyRow → Line → Type 0
@@ -45,18 +53,23 @@ CanGrant rows (At h (Injected f bound)) = (length rows < 2 ^ 32 - 1) × ((counts
 CanGrant rows (Forged h f bound) = (length rows < 2 ^ 32 - 1) × ((counts_of f rows).granted + bound < 2 ^ 63)
 CanGrant rows _ = Unit {0}
 
+-- the bound of a frame that is stale or lost is there, unless it was handed before
+abbrev pub CanLeave : Bool → Family → ℕ → List FamilyRow → Type 0
+CanLeave late f bound rows = late ≡ false → bound ≤ (counts_of f rows).live
+
 -- what an act pays and leaves is there
-abbrev pub ActCanMove : List FamilyRow → Act → Type 0
-ActCanMove rows (Queued d f bound) = 1 ≤ (counts_of f rows).live
-ActCanMove rows (Ended f o evals rest) = evals + rest ≤ (counts_of f rows).live
-ActCanMove rows (Dropped r f bound) = bound ≤ (counts_of f rows).live
-ActCanMove rows _ = Unit {0}
+abbrev pub ActCanMove : Bool → List FamilyRow → Act → Type 0
+ActCanMove late rows (Queued d f bound) = 1 ≤ (counts_of f rows).live
+ActCanMove late rows (Ended f o evals rest) = evals + rest ≤ (counts_of f rows).live
+ActCanMove late rows (Dropped r f bound) = bound ≤ (counts_of f rows).live
+ActCanMove late rows (Stale t (what.Packet f bound)) = CanLeave late f bound rows
+ActCanMove late rows _ = Unit {0}
 
 -- what a line pays and leaves is there
-abbrev pub CanMove : List FamilyRow → Line → Type 0
-CanMove rows (At h act) = ActCanMove rows act
-CanMove rows (Lost (what.Packet f bound)) = bound ≤ (counts_of f rows).live
-CanMove rows _ = Unit {0}
+abbrev pub CanMove : Bool → List FamilyRow → Line → Type 0
+CanMove late rows (At h act) = ActCanMove late rows act
+CanMove late rows (Lost (what.Packet f bound)) = CanLeave late f bound rows
+CanMove late rows _ = Unit {0}
 
 -- ---- the lines of an event
 
@@ -71,9 +84,9 @@ pub record Granted (lines : List Line) (old new : List FamilyRow) : Type 0 where
   pub few : length new ≤ length old + line_sum line_grants lines
 
 -- the rows have what lines pay and leave
-pub record Moved (lines : List Line) (old new : List FamilyRow) : Type 0 where
+pub record Moved (late : Bool) (lines : List Line) (old new : List FamilyRow) : Type 0 where
   pub families : families_in new ≡ families_in old
-  pub counts : (f : Family) → counts_of f new ≡ moved (line_sum (line_hops f) lines) (line_sum (line_evals f) lines) (line_sum (line_left f) lines) (counts_of f old)
+  pub counts : (f : Family) → counts_of f new ≡ moved (line_sum (line_hops f) lines) (line_sum (line_evals f) lines) (line_sum (line_left f late) lines) (counts_of f old)
 
 -- what lines grant keeps the limits
 pub record GrantsFit (rows : List FamilyRow) (lines : List Line) : Type 0 where
@@ -81,10 +94,14 @@ pub record GrantsFit (rows : List FamilyRow) (lines : List Line) : Type 0 where
   pub limit : (f : Family) → (counts_of f rows).granted + line_sum (line_granted f) lines < 2 ^ 63
 
 -- what lines pay and leave is there
-pub record MovesFit (rows : List FamilyRow) (lines : List Line) : Type 0 where
-  pub live : (f : Family) → line_sum (line_hops f) lines + line_sum (line_evals f) lines + line_sum (line_left f) lines ≤ (counts_of f rows).live
+pub record MovesFit (late : Bool) (rows : List FamilyRow) (lines : List Line) : Type 0 where
+  pub live : (f : Family) → line_sum (line_hops f) lines + line_sum (line_evals f) lines + line_sum (line_left f late) lines ≤ (counts_of f rows).live
 
 -- lines can be counted: no family pays and leaves more than it has with what they grant, and the limits are kept
-pub record LinesFit (rows : List FamilyRow) (lines : List Line) : Type 0 where
+pub record LinesFit (late : Bool) (rows : List FamilyRow) (lines : List Line) : Type 0 where
   pub grants : GrantsFit rows lines
-  pub moves : (f : Family) → line_sum (line_hops f) lines + line_sum (line_evals f) lines + line_sum (line_left f) lines ≤ (counts_of f rows).live + line_sum (line_granted f) lines
+  pub moves : (f : Family) → line_sum (line_hops f) lines + line_sum (line_evals f) lines + line_sum (line_left f late) lines ≤ (counts_of f rows).live + line_sum (line_granted f) lines
+
+-- what these lines leave behind this history, where their event's frame was handed before or wasn't
+abbrev pub Leaves : Bool → List Entry → ℕ → List Line → Type 0
+Leaves late h n lines = (f : Family) → count.left f (h ++ map (entry_at n) lines) ≡ count.left f h + line_sum (line_left f late) lines

@@ -1,10 +1,11 @@
 ghost use Rattle.std.specs.Prelude.{◌≡◌, ◌<◌, List, [], length, map};
 ghost use Rattle.bound_ledger.specs.Rows.{FamilyRow, OneEach, counts_of};
-ghost use Rattle.network_plan.specs.Rules.{HostsDiffer};
+ghost use Rattle.network_plan.specs.Rules.{KeepsNetwork};
 ghost use Rattle.network_plan.specs.declared.schedule.Topology.{Topology};
 ghost use Rattle.network_plan.specs.declared.event.WorldEvent.{WorldEvent};
 ghost use Rattle.world_model.specs.declared.lines.Entry.{Entry};
 ghost use Rattle.world_model.specs.World.{happens, opening, world_after, history_of};
+ghost use Rattle.world_model.specs.Counts.{is_late};
 ghost use Rattle.world_model.specs.Sound.{event_fits, EventsFit};
 ghost use Rattle.world_model.specs.Texts.{families};
 ghost use Rattle.run_ledger.specs.Stands.{Stands};
@@ -17,7 +18,7 @@ pub fn ledgers_begin()
 
 /// From the beginning on, the lines of each event of a run can be counted.
 pub fn runs_can_be_counted()
-    ensures { (t : Topology) (es : List WorldEvent) (e : WorldEvent) (rows : List FamilyRow) → HostsDiffer t.hosts → EventsFit es → event_fits e → length es < 50000 → Stands (history_of es (opening t)) rows → LinesFit rows (happens (world_after es (opening t)) e).lines }
+    ensures { (t : Topology) (es : List WorldEvent) (e : WorldEvent) (rows : List FamilyRow) → KeepsNetwork t → EventsFit t.version es → event_fits t.version e → length es < 50000 → Stands (history_of es (opening t)) rows → LinesFit (is_late (world_after es (opening t)) e) rows (happens (world_after es (opening t)) e).lines }
 {}
 
 /// The rows that stand for a history are its families in the order of their first grants, each with its counts.

@@ -75,6 +75,7 @@ fn put_line_text(alloc: Global, out: &mut Bytes, frames: bool, line: &Line) -> R
         Line::Forged(host, f, bound) => put_forged(out, *host, *f, *bound)?,
         Line::Wire(number, frame) => put_wired(alloc, out, frames, *number, frame)?,
         Line::Off(number) => put_numbered(out, b"off ", *number)?,
+        Line::Again(number) => put_numbered(out, b"again ", *number)?,
         Line::Lost(what) => put_lost(out, *what)?,
         Line::Nothing => out.add_all(b"nothing")?,
     }

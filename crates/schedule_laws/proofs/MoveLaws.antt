@@ -1,19 +1,25 @@
--- A line that says nothing moves the lines behind it, and changes nothing else.
-use Rattle.std.proofs.Common.{◌≡◌, ℕ, ◌+◌, ◌<◌, Bool, true, false, cond, not, ltb, List, [], ◌∷◌, ◌++◌, length, Result, Ok, Err, refl, sym, ap, subst, ◌∙◌, arith}
+-- A schedule's lines before a refusal are inside the format, and a line that says nothing only counts.
+use Rattle.std.proofs.Common.{◌≡◌, ℕ, ◌+◌, ◌<◌, Bool, true, false, cond, not, ltb, List, ◌∷◌, ◌++◌, length, take, Option, Some, None, Result, Ok, Err, refl, sym, ap, ◌∙◌}
 use Rattle.std.specs.List.{list_any}
 use Rattle.std.specs.Option.{ok_or}
 use Rattle.std.specs.Str.{bytes_eq}
 use lib.Chars.{codes}
 use Rattle.std.proofs.lemmas.Bool.{lt-leb}
-use Rattle.network_plan.specs.declared.schedule.Schedule.{Schedule}
+use Rattle.plan_base.specs.declared.name.Name.{Name}
+use Rattle.link_window.specs.declared.window.Version.{Version}
 use Rattle.line_files.specs.declared.fault.LineReason.{LineReason}
-use Rattle.line_files.specs.declared.fault.LineReason.TheVariants.{BadWord, TwiceNamed, TooMany}
+use Rattle.line_files.specs.declared.fault.LineReason.TheVariants.{BadHeader, BadWord, TwiceNamed, TooMany}
 use Rattle.line_files.specs.declared.fault.LineFault.{LineFault}
 use Rattle.line_files.specs.declared.fault.LineFault.TheVariants as faults
 use Rattle.line_files.specs.Lines.{lines, words}
-use Rattle.line_files.specs.Reads.{◌>>=◌, and_then, word_at, end_at, allowed}
-use Rattle.line_files.specs.Files.{is_skipped, at_line, read_on}
+use Rattle.line_files.specs.Reads.{◌>>=◌, word_at, end_at, allowed}
+use Rattle.line_files.specs.Files.{is_skipped, at_line}
+use Rattle.line_files.specs.Inside.{AreInside}
+use Rattle.line_files.specs.Counting.{moved, moved_by, CountsOnly}
+use Rattle.line_files.specs.Headers.{version_in, versioned}
 use Rattle.line_files.specs.Programs.{named_word}
+use Rattle.line_files.proofs.LineLaws as every
+use Rattle.line_files.proofs.CountLaws.{line_counts}
 use Rattle.schedule_text.specs.declared.keyword.NetworkWord.{NetworkWord}
 use Rattle.schedule_text.specs.declared.keyword.NetworkWord.TheVariants as network
 use Rattle.schedule_text.specs.declared.reading.BegunProgram.{BegunProgram}
@@ -21,195 +27,124 @@ use Rattle.schedule_text.specs.declared.reading.Reading.{Reading}
 use Rattle.schedule_text.specs.declared.reading.Stage.{Stage}
 use Rattle.schedule_text.specs.declared.reading.Stage.TheVariants as stages
 use Rattle.schedule_text.specs.declared.reading.ScheduleFile.{ScheduleFile}
+use Rattle.schedule_text.specs.Answers.{IsRefused}
 use Rattle.schedule_text.specs.Parts.{is_called}
-use Rattle.schedule_laws.specs.Lines.{after_lines, IsOutside, EndOutside, IsMoved}
-use Rattle.schedule_text.specs.Schedules.{network_word, frames_line, host_line, link_line, program_line, close_program, network_rest, network_line, event_line, staying, step, finish, file_after, schedule_format, nothing_read, schedule_of}
+use Rattle.schedule_text.specs.Schedules.{network_word, frames_line, host_line, link_line, begun_at, program_line, close_program, network_rest, network_line, event_line, with_more, staying, begun_by, step, finish, file_after, schedule_format, nothing_read, schedule_of}
+use Rattle.schedule_text.proofs.AnswerLaws.{refuses}
+use Rattle.schedule_laws.specs.Lines.{IsOutside, EndOutside, later_program, later_stage, later_file}
 
--- ---- parts of lines
+-- ---- before a refusal
 
-abbrev Alike : {A : Type 0} → (A → A → Type 0) → Result A LineReason → Result A LineReason → Type 0
-Alike R (Ok x) (Ok y) = R x y
-Alike R (Err e) (Err d) = d ≡ e
-Alike R _ _ = ⊥
+-- every line before the refused one is inside the format
+pub before_inside : (bytes : List ℕ) (n k : ℕ) (reason : LineReason) → IsRefused bytes n reason → k < n → AreInside schedule_format nothing_read (take k (lines bytes))
+unfolding schedule_of
+before_inside bytes n k reason e lt = every.before_inside schedule_format nothing_read bytes n k reason refuses e lt
 
-then_alike : {A B : Type 0} (S : B → B → Type 0) (r : Result A LineReason) (f g : A → Result B LineReason) → ((x : A) → Alike S (f x) (g x)) → Alike S (r >>= f) (r >>= g)
-then_alike S (Ok x) f g h = h x
-then_alike S (Err e) f g h = refl
+-- ---- parts of lines, with one line more in front
 
-both_alike : {A B : Type 0} (R : A → A → Type 0) (S : B → B → Type 0) (r q : Result A LineReason) (f g : A → Result B LineReason) → Alike R r q → ((x y : A) → R x y → Alike S (f x) (g y)) → Alike S (r >>= f) (q >>= g)
-both_alike R S (Ok x) (Ok y) f g k h = h x y k
-both_alike R S (Err e) (Err d) f g k h = k
-both_alike R S (Ok x) (Err d) f g k h = absurd k
-both_alike R S (Err e) (Ok y) f g k h = absurd k
+-- what is read, changed by a function
+abbrev changed : {A : Type 0} → (A → A) → Result A LineReason → Result A LineReason
+changed f (Ok x) = Ok (f x)
+changed f (Err e) = Err e
 
--- ---- programs and stages behind a line more
+then_changed : {A B : Type 0} (f : B → B) (r : Result A LineReason) (g h : A → Result B LineReason) → ((x : A) → g x ≡ changed f (h x)) → (r >>= g) ≡ changed f (r >>= h)
+then_changed f (Ok x) g h k = k x
+then_changed f (Err e) g h k = refl
 
-abbrev later : BegunProgram → BegunProgram
-later b = record b { source = record b.source { line = b.source.line + 1 } }
+changed_then : {A B : Type 0} (f : A → A) (h : B → B) (r : Result A LineReason) (g k : A → Result B LineReason) → ((x : A) → g (f x) ≡ changed h (k x)) → (changed f r >>= g) ≡ changed h (r >>= k)
+changed_then f h (Ok x) g k e = e x
+changed_then f h (Err d) g k e = refl
 
-abbrev ProgramMoves : ℕ → BegunProgram → BegunProgram → Type 0
-ProgramMoves at b c = (c ≡ later b) × (at < b.source.line)
+abbrev later_next : ℕ → Stage × Reading → Stage × Reading
+later_next first x = (later_stage first x.0, x.1)
 
-abbrev StageMoves : ℕ → Stage → Stage → Type 0
-StageMoves at stages.Network stages.Network = Unit {0}
-StageMoves at stages.Events stages.Events = Unit {0}
-StageMoves at (stages.Inside b) (stages.Inside c) = ProgramMoves at b c
-StageMoves at _ _ = ⊥
+moved_more : (first number : ℕ) → first < number → moved first number ≡ number + 1
+moved_more first number lt = rw (lt-leb number first lt) refl
 
-abbrev NextMoves : ℕ → Stage × Reading → Stage × Reading → Type 0
-NextMoves at x y = StageMoves at x.0 y.0 × (y.1 ≡ x.1)
+begun_later : (first number : ℕ) (name : Name) → first < number → begun_at (number + 1) name ≡ later_program first (begun_at number name)
+begun_later first number name lt = ap (λ (n : ℕ). begun_at n name) (sym (moved_more first number lt))
 
-program_moves : (at number : ℕ) (ws : List (List ℕ)) (s : Reading) → at < number → Alike (ProgramMoves at) (program_line number ws s) (program_line (number + 1) ws s)
+program_later : (first number : ℕ) (ws : List (List ℕ)) (s : Reading) → first < number → program_line (number + 1) ws s ≡ changed (later_program first) (program_line number ws s)
 unfolding program_line
-program_moves at number ws s lt =
-    then_alike (ProgramMoves at) (allowed (ltb (length s.programs) 64) TooMany) _ _ (λ u.
-    then_alike (ProgramMoves at) (word_at ws) _ _ (λ w.
-    then_alike (ProgramMoves at) (named_word w.0 BadWord) _ _ (λ name.
-    then_alike (ProgramMoves at) (allowed (not (list_any (is_called w.0) s.programs)) TwiceNamed) _ _ (λ v.
-    then_alike (ProgramMoves at) (end_at w.1) _ _ (λ x. (refl, lt))))))
+program_later first number ws s lt =
+    then_changed (later_program first) (allowed (ltb (length s.programs) 64) TooMany) _ _ (λ u.
+    then_changed (later_program first) (word_at ws) _ _ (λ w.
+    then_changed (later_program first) (named_word w.0 BadWord) _ _ (λ name.
+    then_changed (later_program first) (allowed (not (list_any (is_called w.0) s.programs)) TwiceNamed) _ _ (λ v.
+    then_changed (later_program first) (end_at w.1) _ _ (λ x. ap (λ b. Ok b) (begun_later first number name lt))))))
 
-rest_moves : (at number : ℕ) (kind : NetworkWord) (ws : List (List ℕ)) (s : Reading) → at < number → Alike (NextMoves at) (network_rest kind number ws s) (network_rest kind (number + 1) ws s)
+rest_later : (first number : ℕ) (kind : NetworkWord) (ws : List (List ℕ)) (s : Reading) → first < number → network_rest kind (number + 1) ws s ≡ changed (later_next first) (network_rest kind number ws s)
 unfolding network_rest
-rest_moves at number network.Frames ws s lt = then_alike (NextMoves at) (frames_line ws s) _ _ (λ t. (tt, refl))
-rest_moves at number network.Host ws s lt = then_alike (NextMoves at) (host_line ws s) _ _ (λ t. (tt, refl))
-rest_moves at number network.Link ws s lt = then_alike (NextMoves at) (link_line ws s) _ _ (λ t. (tt, refl))
-rest_moves at number network.Program ws s lt = both_alike (ProgramMoves at) (NextMoves at) (program_line number ws s) (program_line (number + 1) ws s) _ _ (program_moves at number ws s lt) (λ b c m. (m, refl))
-rest_moves at number network.Events ws s lt = then_alike (NextMoves at) (end_at ws) _ _ (λ u. (tt, refl))
+rest_later first number network.Frames ws s lt = then_changed (later_next first) (frames_line ws s) _ _ (λ t. refl)
+rest_later first number network.Host ws s lt = then_changed (later_next first) (host_line ws s) _ _ (λ t. refl)
+rest_later first number network.Link ws s lt = then_changed (later_next first) (link_line ws s) _ _ (λ t. refl)
+rest_later first number network.Program ws s lt =
+    ap (λ r. r >>= λ begun. Ok (stages.Inside begun, s)) (program_later first number ws s lt)
+    ∙ changed_then (later_program first) (later_next first) (program_line number ws s) _ _ (λ begun. refl)
+rest_later first number network.Events ws s lt = then_changed (later_next first) (end_at ws) _ _ (λ u. refl)
 
-network_moves : (at number : ℕ) (ws : List (List ℕ)) (s : Reading) → at < number → Alike (NextMoves at) (network_line number ws s) (network_line (number + 1) ws s)
+network_later : (first number : ℕ) (ws : List (List ℕ)) (s : Reading) → first < number → network_line (number + 1) ws s ≡ changed (later_next first) (network_line number ws s)
 unfolding network_line
-network_moves at number ws s lt =
-    then_alike (NextMoves at) (word_at ws) _ _ (λ w.
-    then_alike (NextMoves at) (ok_or (network_word w.0) BadWord) _ _ (λ kind.
-    rest_moves at number kind w.1 s lt))
+network_later first number ws s lt =
+    then_changed (later_next first) (word_at ws) _ _ (λ w.
+    then_changed (later_next first) (ok_or (network_word w.0) BadWord) _ _ (λ kind. rest_later first number kind w.1 s lt))
 
-staying_moves : (at : ℕ) (stage : Stage) (r : Result Reading LineReason) → StageMoves at stage stage → Alike (NextMoves at) (staying stage r) (staying stage r)
-staying_moves at stage (Ok s) m = (m, refl)
-staying_moves at stage (Err e) m = refl
+staying_later : (first : ℕ) (stage : Stage) (r : Result Reading LineReason) → later_stage first stage ≡ stage → staying stage r ≡ changed (later_next first) (staying stage r)
+staying_later first stage (Ok s) e = ap (λ t. Ok (t, s)) (sym e)
+staying_later first stage (Err d) e = refl
 
 -- ---- whole lines
 
-abbrev FaultMoves : ℕ → LineFault → LineFault → Type 0
-FaultMoves at (faults.Line n r) (faults.Line m q) = (m ≡ n + 1) × (q ≡ r) × (at < n)
-FaultMoves at _ _ = ⊥
+-- what a line leaves with one line more in front
+abbrev Later : ℕ → Result (Stage × Reading) LineFault → Result (Stage × Reading) LineFault → Type 0
+Later first r q = file_after q ≡ moved_by first (later_file first) (file_after r)
 
-abbrev FileMoves : ℕ → ScheduleFile → ScheduleFile → Type 0
-FileMoves at f g = StageMoves at f.stage g.stage × (g.reading ≡ f.reading)
+at_moved : (first n : ℕ) (r q : Result (Stage × Reading) LineReason) → q ≡ changed (later_next first) r → Later first (at_line n r) (at_line (moved first n) q)
+at_moved first n (Ok x) q e = ap (λ z. file_after (at_line (moved first n) z)) e
+at_moved first n (Err d) q e = ap (λ z. file_after (at_line (moved first n) z)) e
 
-abbrev Moves : {A : Type 0} → (A → A → Type 0) → ℕ → Result A LineFault → Result A LineFault → Type 0
-Moves R at (Ok x) (Ok y) = R x y
-Moves R at (Err e) (Err d) = FaultMoves at e d
-Moves R at _ _ = ⊥
+at_later : (first n : ℕ) (r q : Result (Stage × Reading) LineReason) → first < n → q ≡ changed (later_next first) r → Later first (at_line n r) (at_line (n + 1) q)
+at_later first n r q lt e = ap (λ (m : ℕ). file_after (at_line m q)) (sym (moved_more first n lt)) ∙ at_moved first n r q e
 
-at_moves : (at n : ℕ) (r q : Result (Stage × Reading) LineReason) → at < n → Alike (NextMoves at) r q → Moves (FileMoves at) at (file_after (at_line n r)) (file_after (at_line (n + 1) q))
-at_moves at n (Ok x) (Ok y) lt m = m
-at_moves at n (Err e) (Err d) lt m = (refl, m, lt)
-at_moves at n (Ok x) (Err d) lt m = absurd m
-at_moves at n (Err e) (Ok y) lt m = absurd m
+either_later : (first : ℕ) (t : Bool) (a b c d : Result (Stage × Reading) LineFault) → Later first a c → Later first b d → Later first (cond t a b) (cond t c d)
+either_later first true a b c d h k = h
+either_later first false a b c d h k = k
 
-either_moves : (at : ℕ) (t : Bool) (a b c d : Result (Stage × Reading) LineFault) → Moves (FileMoves at) at (file_after a) (file_after c) → Moves (FileMoves at) at (file_after b) (file_after d) → Moves (FileMoves at) at (file_after (cond t a b)) (file_after (cond t c d))
-either_moves at true a b c d h k = h
-either_moves at false a b c d h k = k
+header_later : (first number : ℕ) (v : Option Version) (s : Reading) → first < number → Later first (versioned number (begun_by s) v) (versioned (number + 1) (begun_by s) v)
+header_later first number (Some v) s lt = refl
+header_later first number None s lt = ap (λ (n : ℕ). Err (faults.Line n BadHeader)) (sym (moved_more first number lt))
 
-close_same : (b : BegunProgram) (s : Reading) → close_program (later b) s ≡ close_program b s
+close_same : (first : ℕ) (begun : BegunProgram) (s : Reading) → close_program (later_program first begun) s ≡ close_program begun s
 unfolding close_program
-close_same b s = refl
+close_same first begun s = refl
 
-inside_moves : (at number : ℕ) (line : List ℕ) (b : BegunProgram) (s : Reading) → at < b.source.line → Moves (FileMoves at) at (file_after (step number line (stages.Inside b) s)) (file_after (step (number + 1) line (stages.Inside (later b)) s))
+stage_later : (first number : ℕ) (line : List ℕ) (stage : Stage) (s : Reading) → first < number → Later first (step number line stage s) (step (number + 1) line (later_stage first stage) s)
 unfolding step
-inside_moves at number line b s lt =
-    either_moves at (bytes_eq line (codes "end program")) _ _ _ _
-    (subst (λ q. Moves (FileMoves at) at (file_after (at_line b.source.line (staying stages.Network (close_program b s)))) (file_after (at_line (b.source.line + 1) (staying stages.Network q)))) (sym (close_same b s))
-    (at_moves at b.source.line _ _ lt (staying_moves at stages.Network (close_program b s) tt)))
-    ((refl, lt), refl)
+stage_later first number line stages.Header s lt = header_later first number (version_in (codes "planet schedule ") line) s lt
+stage_later first number line stages.Network s lt =
+    either_later first (is_skipped line) _ _ _ _ refl (at_later first number (network_line number (words line) s) (network_line (number + 1) (words line) s) lt (network_later first number (words line) s lt))
+stage_later first number line (stages.Inside begun) s lt =
+    either_later first (bytes_eq line (codes "end program")) _ _ _ _
+    (at_moved first begun.source.line (staying stages.Network (close_program begun s)) (staying stages.Network (close_program (later_program first begun) s))
+    (ap (λ r. staying stages.Network r) (close_same first begun s) ∙ staying_later first stages.Network (close_program begun s) refl))
+    refl
+stage_later first number line stages.Events s lt =
+    either_later first (is_skipped line) _ _ _ _ refl (at_later first number (staying stages.Events (event_line (words line) s)) (staying stages.Events (event_line (words line) s)) lt (staying_later first stages.Events (event_line (words line) s) refl))
 
-stage_moves : (at number : ℕ) (line : List ℕ) (stage other : Stage) (s : Reading) → at < number → StageMoves at stage other → Moves (FileMoves at) at (file_after (step number line stage s)) (file_after (step (number + 1) line other s))
-unfolding step
-stage_moves at number line stages.Network stages.Network s lt m =
-    either_moves at (is_skipped line) _ _ _ _ (tt, refl) (at_moves at number _ _ lt (network_moves at number (words line) s lt))
-stage_moves at number line stages.Events stages.Events s lt m =
-    either_moves at (is_skipped line) _ _ _ _ (tt, refl) (at_moves at number _ _ lt (staying_moves at stages.Events (event_line (words line) s) tt))
-stage_moves at number line (stages.Inside b) (stages.Inside c) s lt m =
-    subst (λ x. Moves (FileMoves at) at (file_after (step number line (stages.Inside b) s)) (file_after (step (number + 1) line (stages.Inside x) s))) (sym m.0) (inside_moves at number line b s m.1)
-stage_moves at number line stages.Header other s lt m = absurd (no_header other m)
-  where
-    no_header : (o : Stage) → StageMoves at stages.Header o → ⊥
-    no_header stages.Header h = h
-    no_header stages.Network h = h
-    no_header (stages.Inside c) h = h
-    no_header stages.Events h = h
-stage_moves at number line stages.Network stages.Header s lt m = absurd m
-stage_moves at number line stages.Network stages.Events s lt m = absurd m
-stage_moves at number line stages.Network (stages.Inside c) s lt m = absurd m
-stage_moves at number line stages.Events stages.Header s lt m = absurd m
-stage_moves at number line stages.Events stages.Network s lt m = absurd m
-stage_moves at number line stages.Events (stages.Inside c) s lt m = absurd m
-stage_moves at number line (stages.Inside b) stages.Header s lt m = absurd m
-stage_moves at number line (stages.Inside b) stages.Network s lt m = absurd m
-stage_moves at number line (stages.Inside b) stages.Events s lt m = absurd m
+end_later : (first number : ℕ) (stage : Stage) (s : Reading) → first < number → finish (number + 1) (later_stage first stage) s ≡ moved_by first (λ t. t) (finish number stage s)
+end_later first number stages.Header s lt = ap (λ (n : ℕ). Err (faults.Line n BadHeader)) (sym (moved_more first number lt))
+end_later first number stages.Network s lt = ap (λ (n : ℕ). Err (faults.Line n BadWord)) (sym (moved_more first number lt))
+end_later first number (stages.Inside begun) s lt = ap (λ (n : ℕ). Err (faults.Line n BadWord)) (sym (moved_more first number lt))
+end_later first number stages.Events s lt = refl
 
-line_moves : (at number : ℕ) (line : List ℕ) (f g : ScheduleFile) → at < number → FileMoves at f g → Moves (FileMoves at) at (schedule_format.step number line f) (schedule_format.step (number + 1) line g)
-line_moves at number line f g lt m =
-    subst (λ s. Moves (FileMoves at) at (file_after (step number line f.stage f.reading)) (file_after (step (number + 1) line g.stage s))) (sym m.1) (stage_moves at number line f.stage g.stage f.reading lt m.0)
+-- schedules only count their lines
+pub counts : CountsOnly schedule_format later_file
+counts = record {
+  step = λ first number line f lt. stage_later first number line f.stage f.reading lt;
+  finish = λ first number f lt. end_later first number f.stage f.reading lt;
+}
 
--- ---- whole files
-
-abbrev SameSaid : Schedule → Schedule → Type 0
-SameSaid s t = t ≡ s
-
-end_moves : (at number : ℕ) (stage other : Stage) (s : Reading) → at < number → StageMoves at stage other → Moves SameSaid at (finish number stage s) (finish (number + 1) other s)
-end_moves at number stages.Network stages.Network s lt m = (refl, refl, lt)
-end_moves at number stages.Events stages.Events s lt m = refl
-end_moves at number (stages.Inside b) (stages.Inside c) s lt m = (refl, refl, lt)
-end_moves at number stages.Header stages.Header s lt m = absurd m
-end_moves at number stages.Header stages.Network s lt m = absurd m
-end_moves at number stages.Header (stages.Inside c) s lt m = absurd m
-end_moves at number stages.Header stages.Events s lt m = absurd m
-end_moves at number stages.Network stages.Header s lt m = absurd m
-end_moves at number stages.Network stages.Events s lt m = absurd m
-end_moves at number stages.Network (stages.Inside c) s lt m = absurd m
-end_moves at number stages.Events stages.Header s lt m = absurd m
-end_moves at number stages.Events stages.Network s lt m = absurd m
-end_moves at number stages.Events (stages.Inside c) s lt m = absurd m
-end_moves at number (stages.Inside b) stages.Header s lt m = absurd m
-end_moves at number (stages.Inside b) stages.Network s lt m = absurd m
-end_moves at number (stages.Inside b) stages.Events s lt m = absurd m
-
-finish_moves : (at number : ℕ) (f g : ScheduleFile) → at < number → FileMoves at f g → Moves SameSaid at (schedule_format.finish number f) (schedule_format.finish (number + 1) g)
-finish_moves at number f g lt m =
-    subst (λ s. Moves SameSaid at (finish number f.stage f.reading) (finish (number + 1) g.stage s)) (sym m.1) (end_moves at number f.stage g.stage f.reading lt m.0)
-
-then_moves : (at : ℕ) (r q : Result ScheduleFile LineFault) (f g : ScheduleFile → Result Schedule LineFault) → Moves (FileMoves at) at r q → ((x y : ScheduleFile) → FileMoves at x y → Moves SameSaid at (f x) (g y)) → Moves SameSaid at (and_then r f) (and_then q g)
-then_moves at (Ok x) (Ok y) f g m h = h x y m
-then_moves at (Err e) (Err d) f g m h = m
-then_moves at (Ok x) (Err d) f g m h = absurd m
-then_moves at (Err e) (Ok y) f g m h = absurd m
-
-read_moves : (ls : List (List ℕ)) (at number : ℕ) (f g : ScheduleFile) → at < number → FileMoves at f g → Moves SameSaid at (read_on schedule_format number ls f) (read_on schedule_format (number + 1) ls g)
-unfolding read_on
-read_moves [] at number f g lt m = finish_moves at number f g lt m
-read_moves (line ∷ ls) at number f g lt m =
-    then_moves at (schedule_format.step number line f) (schedule_format.step (number + 1) line g) _ _ (line_moves at number line f g lt m) (λ x y k. read_moves ls at (number + 1) x y (omega (arith, lt)) k)
-
--- ---- a line more in front
-
-pub read_behind : (before more : List (List ℕ)) (number : ℕ) (f g : ScheduleFile) → after_lines number before f ≡ Ok g → read_on schedule_format number (before ++ more) f ≡ read_on schedule_format (number + length before) more g
-unfolding after_lines read_on
-read_behind [] more number f g e =
-    let same : f ≡ g = cc in
-    let here : number ≡ number + length {A = List ℕ} [] = omega arith in
-    ap (λ x. read_on schedule_format number more x) same ∙ ap (λ (n : ℕ). read_on schedule_format n more g) here
-read_behind (line ∷ before) more number f g e = behind (schedule_format.step number line f) refl (λ h q. read_behind before more (number + 1) h g q) e
-  where
-    shift : (r : Result Schedule LineFault) → read_on schedule_format (number + 1 + length before) more g ≡ r → read_on schedule_format (number + length (line ∷ before)) more g ≡ r
-    shift r q = let n : number + 1 + length before ≡ number + length (line ∷ before) = omega arith in subst (λ k. read_on schedule_format k more g ≡ r) n q
-
-    behind : (r : Result ScheduleFile LineFault) → schedule_format.step number line f ≡ r
-        → ((h : ScheduleFile) → after_lines (number + 1) before h ≡ Ok g → read_on schedule_format (number + 1) (before ++ more) h ≡ read_on schedule_format (number + 1 + length before) more g)
-        → and_then r (λ h. after_lines (number + 1) before h) ≡ Ok g
-        → and_then (schedule_format.step number line f) (λ h. read_on schedule_format (number + 1) (before ++ more) h) ≡ read_on schedule_format (number + length (line ∷ before)) more g
-    behind (Ok h) is again q = ap (λ z. and_then z (λ h. read_on schedule_format (number + 1) (before ++ more) h)) is ∙ sym (shift _ (sym (again h q)))
-    behind (Err d) is again q = absurd cc
+-- ---- a line more
 
 skipped_step : (number : ℕ) (line : List ℕ) (stage : Stage) (s : Reading) → is_skipped line ≡ true → IsOutside stage → file_after (step number line stage s) ≡ Ok (record { stage = stage; reading = s })
 unfolding step
@@ -218,33 +153,18 @@ skipped_step number line stages.Network s e h = rw e refl
 skipped_step number line (stages.Inside b) s e h = absurd h
 skipped_step number line stages.Events s e h = rw e refl
 
-outside_moves : (at : ℕ) (stage : Stage) → IsOutside stage → StageMoves at stage stage
-outside_moves at stages.Header h = absurd h
-outside_moves at stages.Network h = tt
-outside_moves at (stages.Inside b) h = absurd h
-outside_moves at stages.Events h = tt
-
-skipped_more : (number : ℕ) (line : List ℕ) (more : List (List ℕ)) (f : ScheduleFile) → is_skipped line ≡ true → IsOutside f.stage → read_on schedule_format number (line ∷ more) f ≡ read_on schedule_format (number + 1) more f
-unfolding read_on
-skipped_more number line more f e h = ap (λ z. and_then z (λ g. read_on schedule_format (number + 1) more g)) (skipped_step number line f.stage f.reading e h)
-
-as_moved : (first : ℕ) (r q : Result Schedule LineFault) → Moves SameSaid first r q → IsMoved first r q
-as_moved first (Ok s) (Ok t) m = m
-as_moved first (Err (faults.Line n r)) (Err (faults.Line k q)) m = (m.0 ∙ sym (rw (lt-leb n first m.2) refl), m.1)
-as_moved first (Err faults.NoMemory) (Err (faults.Line k q)) m = absurd m
-as_moved first (Err (faults.Line n r)) (Err faults.NoMemory) m = absurd m
-as_moved first (Err faults.NoMemory) (Err faults.NoMemory) m = absurd m
-as_moved first (Ok s) (Err d) m = absurd m
-as_moved first (Err d) (Ok t) m = absurd m
+stage_fixed : (first : ℕ) (stage : Stage) → IsOutside stage → later_stage first stage ≡ stage
+stage_fixed first stages.Header h = absurd h
+stage_fixed first stages.Network h = refl
+stage_fixed first (stages.Inside b) h = absurd h
+stage_fixed first stages.Events h = refl
 
 -- a line that says nothing only moves the lines behind it
 pub skipped_moves : (bytes more : List ℕ) (before after : List (List ℕ)) (line : List ℕ) → lines bytes ≡ before ++ after → lines more ≡ before ++ line ∷ after → is_skipped line ≡ true → EndOutside before
-    → IsMoved (length before) (schedule_of bytes) (schedule_of more)
+    → schedule_of more ≡ moved_by (length before) (λ s. s) (schedule_of bytes)
 unfolding schedule_of
 skipped_moves bytes more before after line is longer skipped end =
-    let f = end.inside.file in
-    let one : read_on schedule_format 1 (lines bytes) nothing_read ≡ read_on schedule_format (1 + length before) after f = ap (λ ls. read_on schedule_format 1 ls nothing_read) is ∙ read_behind before after 1 nothing_read f end.inside.said in
-    let two : read_on schedule_format 1 (lines more) nothing_read ≡ read_on schedule_format (1 + length before + 1) after f =
-    ap (λ ls. read_on schedule_format 1 ls nothing_read) longer ∙ (read_behind before (line ∷ after) 1 nothing_read f end.inside.said ∙ skipped_more (1 + length before) line after f skipped end.outside) in
-    let m = read_moves after (length before) (1 + length before) f f (omega arith) (outside_moves (length before) f.stage end.outside, refl) in
-    as_moved (length before) _ _ (subst (λ r. Moves SameSaid (length before) r (read_on schedule_format 1 (lines more) nothing_read)) (sym one) (subst (λ q. Moves SameSaid (length before) (read_on schedule_format (1 + length before) after f) q) (sym two) m))
+    let f = end.inside.state in
+    line_counts schedule_format later_file nothing_read f bytes more before after line counts end.inside.said
+    (skipped_step (1 + length before) line f.stage f.reading skipped end.outside)
+    (ap (λ stage. record f { stage = stage }) (stage_fixed (length before) f.stage end.outside)) is longer

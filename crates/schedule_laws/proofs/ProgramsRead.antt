@@ -9,18 +9,17 @@ use Rattle.plan_base.specs.declared.tree.Program.{Program}
 use Rattle.plan_base.specs.Words.{is_name}
 use Rattle.line_files.specs.declared.fault.LineReason.TheVariants.{BadWord, TwiceNamed, TooMany}
 use Rattle.line_files.specs.Lines.{spaced}
-use Rattle.line_files.specs.Reads.{and_then}
 use Rattle.line_files.specs.Files.{at_line}
 use Rattle.line_files.specs.Programs.{program_in}
 use Rattle.schedule_text.specs.declared.reading.NamedProgram.{NamedProgram}
 use Rattle.schedule_text.specs.declared.reading.BegunProgram.{BegunProgram}
 use Rattle.schedule_text.specs.declared.reading.Reading.{Reading}
 use Rattle.schedule_text.specs.declared.reading.Stage.TheVariants as stages
-use Rattle.schedule_text.specs.declared.reading.ScheduleFile.{ScheduleFile}
 use Rattle.schedule_text.specs.Parts.{is_called}
 use Rattle.schedule_text.specs.Schedules.{begun_at, program_line, named, close_program, network_rest, network_line, with_more, staying, step, file_after, schedule_format}
 use Rattle.line_files.proofs.Keeping.{either_false}
-use Rattle.schedule_laws.specs.Lines.{after_lines}
+use Rattle.line_files.proofs.LineLaws.{no_lines, then_lines}
+use Rattle.line_files.specs.Inside.{after_lines}
 use Rattle.schedule_laws.specs.Written.{spread, NamedText, program_lines, IsTextLine, IsNamedText, NamesDiffer}
 use Rattle.schedule_laws.proofs.WordLaws.{Free, name_free}
 use Rattle.schedule_laws.proofs.ReadSteps.{then_ok, not_ok, below_ok, Leads, leads-nil, leads-append}
@@ -67,15 +66,6 @@ end_step : (begun : BegunProgram) (s : Reading) (program : Program) (number : �
 unfolding step
 end_step begun s program number e = ap (λ r. file_after (at_line begun.source.line (staying stages.Network r))) (close_ok begun s program e)
 
--- one line, and then others
-then_lines : (line : List ℕ) (ls : List (List ℕ)) (f g h : ScheduleFile) (number : ℕ) → schedule_format.step number line f ≡ Ok g → after_lines (number + 1) ls g ≡ Ok h → after_lines number (line ∷ ls) f ≡ Ok h
-unfolding after_lines
-then_lines line ls f g h number e k = ap (λ z. and_then z (λ x. after_lines (number + 1) ls x)) e ∙ k
-
-no_lines : (f : ScheduleFile) (number : ℕ) → after_lines number [] f ≡ Ok f
-unfolding after_lines
-no_lines f number = refl
-
 more_text : (begun : BegunProgram) (line : List ℕ) (text : List (List ℕ)) (program : Program) → program_in (begun.source.text ++ spread (line ∷ text)) ≡ Ok program → program_in ((with_more begun line).source.text ++ spread text) ≡ Ok program
 unfolding spread
 more_text begun line text program e =
@@ -89,12 +79,12 @@ unfolding spread
 no_text begun program e = ap program_in (sym (append-nil begun.source.text)) ∙ e
 
 inside_read : (text : List (List ℕ)) (begun : BegunProgram) (s : Reading) (program : Program) (number : ℕ) → All IsTextLine text → program_in (begun.source.text ++ spread text) ≡ Ok program
-    → after_lines number (text ++ codes "end program" ∷ []) (file_at (stages.Inside begun) s) ≡ Ok (file_at stages.Network (with_programs s (s.programs ++ named begun.name program ∷ [])))
+    → after_lines schedule_format number (text ++ codes "end program" ∷ []) (file_at (stages.Inside begun) s) ≡ Ok (file_at stages.Network (with_programs s (s.programs ++ named begun.name program ∷ [])))
 inside_read [] begun s program number k e =
     let last = file_at stages.Network (with_programs s (s.programs ++ named begun.name program ∷ [])) in
-    then_lines (codes "end program") [] (file_at (stages.Inside begun) s) last last number (end_step begun s program number (no_text begun program e)) (no_lines last (number + 1))
+    then_lines schedule_format number (codes "end program") [] (file_at (stages.Inside begun) s) last last (end_step begun s program number (no_text begun program e)) (no_lines schedule_format (number + 1) last)
 inside_read (line ∷ text) begun s program number k e =
-    then_lines line (text ++ codes "end program" ∷ []) (file_at (stages.Inside begun) s) (file_at (stages.Inside (with_more begun line)) s) _ number
+    then_lines schedule_format number line (text ++ codes "end program" ∷ []) (file_at (stages.Inside begun) s) (file_at (stages.Inside (with_more begun line)) s) _
     (text_step line begun s number (All-head IsTextLine line text k).1)
     (inside_read text (with_more begun line) s program (number + 1) (All-tail IsTextLine line text k) (more_text begun line text program e))
 
@@ -103,7 +93,7 @@ inside_read (line ∷ text) begun s program number k e =
 program_read : (p : NamedText) (s : Reading) → length s.programs < 64 → IsNamedText p → list_any (is_called p.name) s.programs ≡ false
     → Leads (program_lines p) (file_at stages.Network s) (file_at stages.Network (with_programs s (s.programs ++ titled p ∷ [])))
 program_read p s room k new number =
-    then_lines (spaced (first_words p)) (p.text ++ codes "end program" ∷ []) (file_at stages.Network s) (file_at (stages.Inside (begun_at number p.name)) s) _ number
+    then_lines schedule_format number (spaced (first_words p)) (p.text ++ codes "end program" ∷ []) (file_at stages.Network s) (file_at (stages.Inside (begun_at number p.name)) s) _
     (network_step_ok (codes "program") (p.name ∷ []) s s (stages.Inside (begun_at number p.name)) number (first_free p k.name) refl (begins_said p s number (begun_at number p.name) (begins_ok p s number room k.name new)))
     (inside_read p.text (begun_at number p.name) s p.program (number + 1) k.lines k.says)
 

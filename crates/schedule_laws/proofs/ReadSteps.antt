@@ -16,7 +16,7 @@ use Rattle.line_files.proofs.Again.{number_again}
 use Rattle.schedule_text.specs.declared.reading.ScheduleFile.{ScheduleFile}
 use Rattle.schedule_text.specs.Parts.{host_at, device_at, free_device_at}
 use Rattle.schedule_text.specs.Schedules.{schedule_format}
-use Rattle.schedule_laws.specs.Lines.{after_lines}
+use Rattle.line_files.specs.Inside.{after_lines}
 
 -- ---- parts of a line
 
@@ -61,7 +61,7 @@ free_device_ok links h d ws some few free =
 
 -- lines lead from one state to another, whatever their numbers
 abbrev pub Leads : List (List ℕ) → ScheduleFile → ScheduleFile → Type 0
-Leads ls f g = (number : ℕ) → after_lines number ls f ≡ Ok g
+Leads ls f g = (number : ℕ) → after_lines schedule_format number ls f ≡ Ok g
 
 pub leads-nil : (f : ScheduleFile) → Leads [] f f
 unfolding after_lines
@@ -69,7 +69,7 @@ leads-nil f number = refl
 
 pub leads-cons : (line : List ℕ) (ls : List (List ℕ)) (f g h : ScheduleFile) → ((number : ℕ) → schedule_format.step number line f ≡ Ok g) → Leads ls g h → Leads (line ∷ ls) f h
 unfolding after_lines
-leads-cons line ls f g h e k number = ap (λ z. and_then z (λ x. after_lines (number + 1) ls x)) (e number) ∙ k (number + 1)
+leads-cons line ls f g h e k number = ap (λ z. and_then z (λ x. after_lines schedule_format (number + 1) ls x)) (e number) ∙ k (number + 1)
 
 pub leads-one : (line : List ℕ) (f g : ScheduleFile) → ((number : ℕ) → schedule_format.step number line f ≡ Ok g) → Leads (line ∷ []) f g
 leads-one line f g e = leads-cons line [] f g g e (leads-nil g)
@@ -79,11 +79,11 @@ then_leads : (r : Result ScheduleFile LineFault) (next all : ScheduleFile → Re
 then_leads (Ok x) next all g h k e = k x e
 then_leads (Err d) next all g h k e = absurd cc
 
-append_by : (xs ys : List (List ℕ)) (f g h : ScheduleFile) (number : ℕ) → after_lines number xs f ≡ Ok g → Leads ys g h → after_lines number (xs ++ ys) f ≡ Ok h
+append_by : (xs ys : List (List ℕ)) (f g h : ScheduleFile) (number : ℕ) → after_lines schedule_format number xs f ≡ Ok g → Leads ys g h → after_lines schedule_format number (xs ++ ys) f ≡ Ok h
 unfolding after_lines
-append_by [] ys f g h number e k = let same : f ≡ g = cc in subst (λ x. after_lines number ys x ≡ Ok h) (sym same) (k number)
+append_by [] ys f g h number e k = let same : f ≡ g = cc in subst (λ x. after_lines schedule_format number ys x ≡ Ok h) (sym same) (k number)
 append_by (line ∷ xs) ys f g h number e k =
-    then_leads (schedule_format.step number line f) (λ x. after_lines (number + 1) xs x) (λ x. after_lines (number + 1) (xs ++ ys) x) g (Ok h) (λ x q. append_by xs ys x g h (number + 1) q k) e
+    then_leads (schedule_format.step number line f) (λ x. after_lines schedule_format (number + 1) xs x) (λ x. after_lines schedule_format (number + 1) (xs ++ ys) x) g (Ok h) (λ x q. append_by xs ys x g h (number + 1) q k) e
 
 pub leads-append : (xs ys : List (List ℕ)) (f g h : ScheduleFile) → Leads xs f g → Leads ys g h → Leads (xs ++ ys) f h
 leads-append xs ys f g h a b number = append_by xs ys f g h number (a number) b

@@ -6,6 +6,8 @@ use Rattle.std.proofs.lemmas.Bool.{eqb-true}
 use Rattle.std.proofs.lemmas.List.Elements.{All-head, All-tail}
 use Rattle.plan_base.specs.declared.ids.Host.{Host}
 use Rattle.plan_base.specs.declared.tree.Chunk.{Chunk}
+use Rattle.link_window.specs.declared.window.Version.{Version}
+use Rattle.link_window.specs.declared.window.Version.TheVariants.{One, Two}
 use Rattle.network_plan.specs.declared.schedule.HostSpec.{HostSpec}
 use Rattle.network_plan.specs.declared.schedule.Schedule.{Schedule}
 use Rattle.network_plan.specs.declared.event.WorldEvent.{WorldEvent}
@@ -18,13 +20,13 @@ use Rattle.schedule_text.specs.declared.reading.Reading.{Reading}
 use Rattle.schedule_text.specs.declared.reading.Stage.TheVariants as stages
 use Rattle.schedule_text.specs.Answers.{Says}
 use Rattle.schedule_text.specs.Schedules.{frames_line, network_rest, network_line, step, schedule_format, nothing_read, schedule_of}
-use Rattle.schedule_laws.specs.Written.{NamedText, Written, host_words, link_words, event_words, program_lines, frames_lines, schedule_lines, schedule_text, IsTextLine, IsNamedText, EventIsWritten, IsSchedule}
+use Rattle.schedule_laws.specs.Written.{NamedText, Written, host_words, link_words, event_words, program_lines, header_line, frames_lines, schedule_lines, schedule_text, IsTextLine, IsNamedText, EventIsWritten, IsSchedule}
 use Rattle.schedule_laws.proofs.WordLaws.{Free, free-append, spread_lines, line_is, name_free}
 use Rattle.schedule_laws.proofs.ReadSteps.{Leads, leads-nil, leads-cons, leads-one, leads-append}
 use Rattle.schedule_laws.proofs.NetworkRead.{file_at, network_step_ok, host_words_free, hosts_read, link_words_free, links_read}
 use Rattle.schedule_laws.proofs.ProgramsRead.{titled, programs_read}
 use Rattle.schedule_laws.proofs.EventsRead.{SmallHosts, event_line_free, events_read}
-use Rattle.schedule_laws.proofs.MoveLaws.{read_behind}
+use Rattle.line_files.proofs.CountLaws.{read_behind}
 
 -- ---- hosts that are named have small numbers
 
@@ -62,13 +64,17 @@ programs_free : (ps : List NamedText) → All IsNamedText ps → Free 10 (flat_m
 programs_free [] k = tt
 programs_free (p ∷ ps) k = free-append 10 (program_lines p) (flat_map program_lines ps) (program_free p (All-head IsNamedText p ps k)) (programs_free ps (All-tail IsNamedText p ps k))
 
+header_free : (version : Version) → without 10 (header_line version) ≡ true
+header_free One = refl
+header_free Two = refl
+
 frames_free : (frames : Bool) → Free 10 (frames_lines frames)
 frames_free true = (refl, tt)
 frames_free false = tt
 
 -- what the lines of an event keep
-abbrev Both : List NamedText → (Chunk → Written) → List HostSpec → WorldEvent → Type 0
-Both ps by hosts e = KeepsEvent hosts e × EventIsWritten ps by e
+abbrev Both : List NamedText → (Chunk → Written) → Version → List HostSpec → WorldEvent → Type 0
+Both ps by version hosts e = KeepsEvent version hosts e × EventIsWritten ps by e
 
 abbrev BothLink : List HostSpec → Cable → Type 0
 BothLink hosts l = KeepsLink hosts l × ((l.0.0 < 2 ^ 32) × (l.2.0 < 2 ^ 32))
@@ -87,12 +93,12 @@ module _ (ps : List NamedText) (by : Chunk → Written) (s : Schedule) (is : IsS
   links_free = all_free (λ l. spaced (link_words l)) (BothLink s.topology.hosts) (λ l k. line_is (link_words l) (link_words_free s.topology.hosts l k.0 k.1).1) s.topology.links (λ k d h. (is.rules.network.links k d h, links_small k d h))
 
   events_free : Free 10 (map (λ e. spaced (event_words by e)) s.events)
-  events_free = all_free (λ e. spaced (event_words by e)) (Both ps by s.topology.hosts) (λ e k. line_is (event_words by e) (event_line_free ps by s.topology.hosts e small k.0 k.1)) s.events (λ k d h. (is.rules.events k d h, is.injected k d h))
+  events_free = all_free (λ e. spaced (event_words by e)) (Both ps by s.topology.version s.topology.hosts) (λ e k. line_is (event_words by e) (event_line_free ps by s.topology.version s.topology.hosts e small k.0 k.1)) s.events (λ k d h. (is.rules.events k d h, is.injected k d h))
 
   lines_free : Free 10 (schedule_lines ps by s)
   unfolding schedule_lines
   lines_free = (
-    refl,
+    header_free s.topology.version,
     free-append 10 (frames_lines s.frames) _ (frames_free s.frames)
         (free-append 10 (map (λ h. spaced (host_words h)) s.topology.hosts) _ hosts_free
         (free-append 10 (map (λ l. spaced (link_words l)) s.topology.links) _ links_free
@@ -102,19 +108,19 @@ module _ (ps : List NamedText) (by : Chunk → Written) (s : Schedule) (is : IsS
   -- ---- what they say
 
   abbrev begun : Reading
-  begun = record { frames = s.frames; hosts = []; links = []; programs = []; events = []; weight = 0 }
+  begun = record { version = s.topology.version; frames = s.frames; hosts = []; links = []; programs = []; events = []; weight = 0 }
 
   abbrev hosted : Reading
-  hosted = record { frames = s.frames; hosts = s.topology.hosts; links = []; programs = []; events = []; weight = 0 }
+  hosted = record { version = s.topology.version; frames = s.frames; hosts = s.topology.hosts; links = []; programs = []; events = []; weight = 0 }
 
   abbrev linked : Reading
-  linked = record { frames = s.frames; hosts = s.topology.hosts; links = s.topology.links; programs = []; events = []; weight = 0 }
+  linked = record { version = s.topology.version; frames = s.frames; hosts = s.topology.hosts; links = s.topology.links; programs = []; events = []; weight = 0 }
 
   abbrev carried : Reading
-  carried = record { frames = s.frames; hosts = s.topology.hosts; links = s.topology.links; programs = map titled ps; events = []; weight = 0 }
+  carried = record { version = s.topology.version; frames = s.frames; hosts = s.topology.hosts; links = s.topology.links; programs = map titled ps; events = []; weight = 0 }
 
   abbrev whole : Reading
-  whole = record { frames = s.frames; hosts = s.topology.hosts; links = s.topology.links; programs = map titled ps; events = s.events; weight = 0 + weights s.events }
+  whole = record { version = s.topology.version; frames = s.frames; hosts = s.topology.hosts; links = s.topology.links; programs = map titled ps; events = s.events; weight = 0 + weights s.events }
 
   hosts_lead : Leads (map (λ h. spaced (host_words h)) s.topology.hosts) (file_at stages.Network begun) (file_at stages.Network hosted)
   hosts_lead = hosts_read s.topology.hosts [] begun is.rules.network.few is.rules.network.hosts is.rules.network.numbers is.rules.network.missing
@@ -132,30 +138,30 @@ module _ (ps : List NamedText) (by : Chunk → Written) (s : Schedule) (is : IsS
   events_lead : Leads (map (λ e. spaced (event_words by e)) s.events) (file_at stages.Events carried) (file_at stages.Events whole)
   events_lead = events_read ps by s.events [] carried 0 (record { programs = refl; small = small }) is.rules.few is.rules.events is.injected (omega (arith, is.rules.weight))
 
-abbrev nothing_shown : Reading
-nothing_shown = record { frames = false; hosts = []; links = []; programs = []; events = []; weight = 0 }
+abbrev shown : Version → Bool → Reading
+shown version frames = record { version = version; frames = frames; hosts = []; links = []; programs = []; events = []; weight = 0 }
 
-abbrev shown : Bool → Reading
-shown frames = record nothing_shown { frames = frames }
-
-header_step : (number : ℕ) → schedule_format.step number (codes "planet schedule 1") nothing_read ≡ Ok (file_at stages.Network nothing_shown)
+header_step : (version : Version) (number : ℕ) → schedule_format.step number (header_line version) nothing_read ≡ Ok (file_at stages.Network (shown version false))
 unfolding step
-header_step number = refl
+header_step One number = refl
+header_step Two number = refl
 
-frames_said : (number : ℕ) → network_line number (codes "frames" ∷ []) nothing_shown ≡ Ok (stages.Network, shown true)
+frames_said : (version : Version) (number : ℕ) → network_line number (codes "frames" ∷ []) (shown version false) ≡ Ok (stages.Network, shown version true)
 unfolding network_line network_rest frames_line
-frames_said number = refl
+frames_said version number = refl
 
-frames_lead : (frames : Bool) → Leads (frames_lines frames) (file_at stages.Network nothing_shown) (file_at stages.Network (shown frames))
-frames_lead true = leads-one (codes "frames") (file_at stages.Network nothing_shown) (file_at stages.Network (shown true)) (λ number. network_step_ok (codes "frames") [] nothing_shown (shown true) stages.Network number (refl, tt) refl (frames_said number))
-frames_lead false = leads-nil (file_at stages.Network nothing_shown)
+frames_lead : (version : Version) (frames : Bool) → Leads (frames_lines frames) (file_at stages.Network (shown version false)) (file_at stages.Network (shown version frames))
+frames_lead version true =
+    leads-one (codes "frames") (file_at stages.Network (shown version false)) (file_at stages.Network (shown version true))
+    (λ number. network_step_ok (codes "frames") [] (shown version false) (shown version true) stages.Network number (refl, tt) refl (frames_said version number))
+frames_lead version false = leads-nil (file_at stages.Network (shown version false))
 
 module _ (ps : List NamedText) (by : Chunk → Written) (s : Schedule) (is : IsSchedule ps by s) where
   all_lead : Leads (schedule_lines ps by s) nothing_read (file_at stages.Events (whole ps by s is))
   unfolding schedule_lines
   all_lead =
-      leads-cons (codes "planet schedule 1") _ nothing_read (file_at stages.Network nothing_shown) _ header_step
-      (leads-append (frames_lines s.frames) _ (file_at stages.Network nothing_shown) (file_at stages.Network (begun ps by s is)) _ (frames_lead s.frames)
+      leads-cons (header_line s.topology.version) _ nothing_read (file_at stages.Network (shown s.topology.version false)) _ (header_step s.topology.version)
+      (leads-append (frames_lines s.frames) _ (file_at stages.Network (shown s.topology.version false)) (file_at stages.Network (begun ps by s is)) _ (frames_lead s.topology.version s.frames)
       (leads-append (map (λ h. spaced (host_words h)) s.topology.hosts) _ (file_at stages.Network (begun ps by s is)) (file_at stages.Network (hosted ps by s is)) _ (hosts_lead ps by s is)
       (leads-append (map (λ l. spaced (link_words l)) s.topology.links) _ (file_at stages.Network (hosted ps by s is)) (file_at stages.Network (linked ps by s is)) _ (links_lead ps by s is)
       (leads-append (flat_map program_lines ps) _ (file_at stages.Network (linked ps by s is)) (file_at stages.Network (carried ps by s is)) _ (programs_lead ps by s is)
@@ -171,4 +177,4 @@ module _ (ps : List NamedText) (by : Chunk → Written) (s : Schedule) (is : IsS
   written_says =
       let are = spread_lines (schedule_lines ps by s) (lines_free ps by s is) in
       ap (λ ls. read_on schedule_format 1 ls nothing_read) (are ∙ sym (append-nil (schedule_lines ps by s)))
-      ∙ (read_behind (schedule_lines ps by s) [] 1 nothing_read (file_at stages.Events (whole ps by s is)) (all_lead 1) ∙ end_is (1 + length (schedule_lines ps by s)))
+      ∙ (read_behind schedule_format (schedule_lines ps by s) [] 1 nothing_read (file_at stages.Events (whole ps by s is)) (all_lead 1) ∙ end_is (1 + length (schedule_lines ps by s)))

@@ -1,5 +1,5 @@
 -- Schedules as they are written: the words of each line, and when they say the schedule.
-use Rattle.std.specs.Prelude.{◌≡◌, ℕ, ◌+◌, ◌≤◌, Bool, true, false, not, ◌==◌, List, [], ◌∷◌, ◌++◌, length, map, Some, Ok}
+use Rattle.std.specs.Prelude.{◌≡◌, ℕ, ◌+◌, ◌≤◌, Bool, true, false, not, ◌==◌, List, [], ◌∷◌, ◌++◌, length, map, Option, Some, None, Ok}
 use Rattle.std.specs.List.{All, list_all, list_any, find, flat_map}
 use Rattle.std.specs.Fmt.{decimal}
 use Rattle.std.specs.Str.{bytes_eq}
@@ -13,6 +13,8 @@ use Rattle.plan_base.specs.declared.tree.Program.{Program}
 use Rattle.program_text.specs.Texts.{args_of_text}
 use Rattle.service_api.specs.declared.package.PackageName.{PackageName}
 use Rattle.service_api.specs.declared.package.PackageName.TheVariants as packages
+use Rattle.link_window.specs.declared.window.Version.{Version}
+use Rattle.link_window.specs.declared.window.Version.TheVariants.{One, Two}
 use Rattle.network_plan.specs.declared.schedule.HostSpec.{HostSpec}
 use Rattle.network_plan.specs.declared.schedule.Schedule.{Schedule}
 use Rattle.network_plan.specs.declared.event.WorldEvent.{WorldEvent}
@@ -56,17 +58,28 @@ host_words h = codes "host" ∷ decimal h.host.0 ∷ lacking_words h.missing
 abbrev pub link_words : Cable → List (List ℕ)
 link_words l = codes "link" ∷ decimal l.0.0 ∷ decimal l.1.0 ∷ decimal l.2.0 ∷ decimal l.3.0 ∷ []
 
+-- the handler of what is injected, if it has one
+abbrev pub handler_words : Option Name → List (List ℕ)
+handler_words None = []
+handler_words (Some name) = codes "handler" ∷ name ∷ []
+
 -- an event; the arguments of an injection are the rest of its line
 abbrev pub event_words : (Chunk → Written) → WorldEvent → List (List ℕ)
-event_words by (happens.Inject h chunk bound) = codes "inject" ∷ decimal h.0 ∷ (by chunk).program ∷ chunk.entry ∷ decimal bound ∷ (by chunk).args ∷ []
+event_words by (happens.Inject h chunk bound handler) = codes "inject" ∷ decimal h.0 ∷ (by chunk).program ∷ chunk.entry ∷ decimal bound ∷ (handler_words handler ++ (by chunk).args ∷ [])
 event_words by (happens.Send h d) = codes "send" ∷ decimal h.0 ∷ decimal d.0 ∷ []
 event_words by (happens.Deliver k) = codes "deliver" ∷ decimal k ∷ []
+event_words by (happens.Repeat k) = codes "repeat" ∷ decimal k ∷ []
 event_words by (happens.Lose k) = codes "lose" ∷ decimal k ∷ []
 event_words by (happens.Tick h) = codes "tick" ∷ decimal h.0 ∷ []
 event_words by (happens.Raw h d bytes) = codes "raw" ∷ decimal h.0 ∷ decimal d.0 ∷ encode_lower bytes ∷ []
 
 abbrev pub program_lines : NamedText → List (List ℕ)
 program_lines p = spaced (codes "program" ∷ p.name ∷ []) ∷ (p.text ++ codes "end program" ∷ [])
+
+-- the first line
+abbrev pub header_line : Version → List ℕ
+header_line One = codes "planet schedule 1"
+header_line Two = codes "planet schedule 2"
 
 abbrev pub frames_lines : Bool → List (List ℕ)
 frames_lines true = codes "frames" ∷ []
@@ -75,7 +88,7 @@ frames_lines false = []
 -- a schedule line by line: the header, hosts, links, programs, and then the events
 unfoldable pub schedule_lines : List NamedText → (Chunk → Written) → Schedule → List (List ℕ)
 schedule_lines programs by s =
-    codes "planet schedule 1" ∷ (frames_lines s.frames ++ (map (λ h. spaced (host_words h)) s.topology.hosts ++ (map (λ l. spaced (link_words l)) s.topology.links
+    header_line s.topology.version ∷ (frames_lines s.frames ++ (map (λ h. spaced (host_words h)) s.topology.hosts ++ (map (λ l. spaced (link_words l)) s.topology.links
     ++ (flat_map program_lines programs ++ (codes "events" ∷ map (λ e. spaced (event_words by e)) s.events)))))
 
 -- a schedule as a text
@@ -115,9 +128,14 @@ pub record IsWritten (programs : List NamedText) (w : Written) (c : Chunk) : Typ
   pub short : length w.args ≤ 65536
   pub line : is_line w.args ≡ true
 
+-- a handler's name is one
+abbrev pub IsNamed : Option Name → Type 0
+IsNamed None = Unit {0}
+IsNamed (Some name) = is_name name ≡ true
+
 -- so is what an event injects
 abbrev pub EventIsWritten : List NamedText → (Chunk → Written) → WorldEvent → Type 0
-EventIsWritten programs by (happens.Inject h chunk bound) = (is_name (by chunk).program ≡ true) × IsWritten programs (by chunk) chunk
+EventIsWritten programs by (happens.Inject h chunk bound handler) = (is_name (by chunk).program ≡ true) × IsWritten programs (by chunk) chunk × IsNamed handler
 EventIsWritten programs by _ = Unit {0}
 
 -- a schedule within its limits, whose programs and arguments are written

@@ -12,9 +12,12 @@ use Rattle.line_files.specs.declared.fault.LineFault.TheVariants as faults
 use Rattle.line_files.specs.Lines.{lines, words}
 use Rattle.line_files.specs.Reads.{word_at, end_at, allowed}
 use Rattle.line_files.specs.Files.{is_skipped}
+use Rattle.line_files.specs.Headers.{version_in}
 use Rattle.line_files.specs.Programs.{named_word}
-use Rattle.line_files.proofs.Keeping.{IfRead, then_keeps, done_keeps, IfStep, step_done, step_none, step_is, at_line_keeps, either_keeps}
-use Rattle.line_files.proofs.Placing.{OnFault, err_is, fault_done, fault_here, at_line_placed, either_placed, Places, read_placed}
+use Rattle.line_files.proofs.Keeping.{IfRead, then_keeps, done_keeps, IfStep, step_done, step_is, at_line_keeps, either_keeps, version_keeps}
+use Rattle.line_files.specs.Inside.{Placed, OnFault, RefusesRead}
+use Rattle.line_files.proofs.LineLaws.{err_is, refused_placed}
+use Rattle.line_files.proofs.Placing.{fault_done, fault_here, at_line_placed, either_placed, version_placed, Places, refuses_read}
 use Rattle.schedule_text.specs.declared.keyword.NetworkWord.{NetworkWord}
 use Rattle.schedule_text.specs.declared.keyword.NetworkWord.TheVariants as network
 use Rattle.schedule_text.specs.declared.reading.BegunProgram.{BegunProgram}
@@ -24,7 +27,7 @@ use Rattle.schedule_text.specs.declared.reading.Stage.TheVariants as stages
 use Rattle.schedule_text.specs.declared.reading.ScheduleFile.{ScheduleFile}
 use Rattle.schedule_text.specs.Answers.{Says, IsRefused, Accepted, Refused}
 use Rattle.schedule_text.specs.Parts.{is_called}
-use Rattle.schedule_text.specs.Schedules.{network_word, frames_line, host_line, link_line, begun_at, program_line, close_program, network_rest, network_line, event_line, with_more, staying, step, schedule_of_reading, finish, file_after, schedule_format, nothing_read, schedule_of}
+use Rattle.schedule_text.specs.Schedules.{network_word, frames_line, host_line, link_line, begun_at, program_line, close_program, network_rest, network_line, event_line, with_more, staying, begun_by, step, schedule_of_reading, finish, file_after, schedule_format, nothing_read, schedule_of}
 
 -- a stage's program began at a line up to one
 abbrev pub Begun : ℕ → Stage → Type 0
@@ -43,7 +46,7 @@ begun_later number stages.Events b = tt
 
 step_placed : (number : ℕ) (line : List ℕ) (stage : Stage) (s : Reading) → 1 ≤ number → Begun number stage → OnFault number (step number line stage s)
 unfolding step
-step_placed number line stages.Header s low b = either_placed number (bytes_eq line (codes "planet schedule 1")) _ _ (fault_done number (stages.Network, s)) (fault_here {B = Stage × Reading} number number BadHeader low (omega arith))
+step_placed number line stages.Header s low b = version_placed number (begun_by s) (version_in (codes "planet schedule ") line) low
 step_placed number line stages.Network s low b = either_placed number (is_skipped line) _ _ (fault_done number (stages.Network, s)) (at_line_placed number number (network_line number (words line) s) low (omega arith))
 step_placed number line (stages.Inside begun) s low b =
     either_placed number (bytes_eq line (codes "end program")) _ _
@@ -100,7 +103,7 @@ staying_begun number stage (Err r) b y e = absurd cc
 
 step_begun : (number : ℕ) (line : List ℕ) (stage : Stage) (s : Reading) → 1 ≤ number → Begun number stage → IfStep (BegunNext number) (step number line stage s)
 unfolding step
-step_begun number line stages.Header s low b = either_keeps (BegunNext number) (bytes_eq line (codes "planet schedule 1")) _ _ (step_done (BegunNext number) (stages.Network, s) tt) (step_none (BegunNext number) (faults.Line number BadHeader))
+step_begun number line stages.Header s low b = version_keeps (BegunNext number) number (begun_by s) (version_in (codes "planet schedule ") line) (λ version. tt)
 step_begun number line stages.Network s low b = either_keeps (BegunNext number) (is_skipped line) _ _ (step_done (BegunNext number) (stages.Network, s) tt) (at_line_keeps (BegunNext number) number (network_line number (words line) s) (line_begun number (words line) s low))
 step_begun number line (stages.Inside begun) s low b =
     either_keeps (BegunNext number) (bytes_eq line (codes "end program")) _ _
@@ -125,9 +128,13 @@ places = record {
   finish = λ number f low b. finish_placed number f.stage f.reading low;
 }
 
+-- schedules refuse lines that were read
+pub refuses : RefusesRead schedule_format nothing_read
+refuses = refuses_read schedule_format nothing_read FileBegun places tt
+
 bytes_placed : (bytes : List ℕ) → OnFault (1 + length (lines bytes)) (schedule_of bytes)
 unfolding schedule_of
-bytes_placed bytes = read_placed schedule_format FileBegun places (lines bytes) 1 nothing_read (omega arith) tt
+bytes_placed bytes e h = refused_placed schedule_format nothing_read bytes e refuses h
 
 answered : (bytes : List ℕ) (r : Result Schedule LineFault) → schedule_of bytes ≡ r → OnFault (1 + length (lines bytes)) r → Accepted bytes ⊎ Refused bytes
 answered bytes (Ok s) e h = inl (record { schedule = s; says = e })

@@ -4,6 +4,7 @@ use Rattle.std.proofs.lemmas.Bool.{eqb-true, eqb-false, eq-eqb, ne_eqb}
 use Rattle.std.proofs.lemmas.List.Folds.{list_any-append}
 use Rattle.plan_base.specs.declared.ids.Host.{Host}
 use Rattle.plan_base.specs.declared.ids.Dev.{Dev}
+use Rattle.link_window.specs.declared.window.Version.{Version}
 use Rattle.network_plan.specs.declared.schedule.HostSpec.{HostSpec}
 use Rattle.network_plan.specs.declared.event.WorldEvent.{WorldEvent}
 use Rattle.network_plan.specs.declared.event.WorldEvent.TheVariants as happens
@@ -41,13 +42,14 @@ link_stays hosts h l k = record {
   to_device = k.to_device;
 }
 
-pub event_stays : (hosts : List HostSpec) (h : HostSpec) (e : WorldEvent) → KeepsEvent hosts e → KeepsEvent (hosts ++ h ∷ []) e
-event_stays hosts h (happens.Inject at chunk bound) k = (host_stays hosts h at k.0, k.1)
-event_stays hosts h (happens.Send at d) k = (host_stays hosts h at k.0, k.1)
-event_stays hosts h (happens.Deliver n) k = k
-event_stays hosts h (happens.Lose n) k = k
-event_stays hosts h (happens.Tick at) k = host_stays hosts h at k
-event_stays hosts h (happens.Raw at d bytes) k = (host_stays hosts h at k.0, k.1, k.2)
+pub event_stays : (version : Version) (hosts : List HostSpec) (h : HostSpec) (e : WorldEvent) → KeepsEvent version hosts e → KeepsEvent version (hosts ++ h ∷ []) e
+event_stays version hosts h (happens.Inject at chunk bound handler) k = (host_stays hosts h at k.0, k.1)
+event_stays version hosts h (happens.Send at d) k = (host_stays hosts h at k.0, k.1)
+event_stays version hosts h (happens.Deliver n) k = k
+event_stays version hosts h (happens.Repeat n) k = k
+event_stays version hosts h (happens.Lose n) k = k
+event_stays version hosts h (happens.Tick at) k = host_stays hosts h at k
+event_stays version hosts h (happens.Raw at d bytes) k = (host_stays hosts h at k.0, k.1, k.2)
 
 -- ---- links
 

@@ -1,5 +1,5 @@
 -- Each line keeps the rules of a schedule, so a file's schedule keeps them.
-use Rattle.std.proofs.Common.{◌≡◌, ℕ, ◌+◌, ◌<◌, ◌≤◌, ◌^◌, Bool, true, false, cond, not, eqb, ltb, List, [], ◌∷◌, ◌++◌, length, Option, Some, Result, Ok, Err, refl, subst, arith, length-append}
+use Rattle.std.proofs.Common.{◌≡◌, ℕ, ◌+◌, ◌<◌, ◌≤◌, ◌^◌, Bool, true, false, cond, not, eqb, ltb, List, [], ◌∷◌, ◌++◌, length, Option, Some, None, Result, Ok, Err, refl, sym, subst, arith, length-append}
 use Rattle.std.specs.Prelude.{IfOk}
 use Rattle.std.specs.List.{All, find}
 use Rattle.std.specs.Option.{ok_or}
@@ -10,9 +10,12 @@ use Rattle.std.proofs.lemmas.Option.{same_Some}
 use Rattle.std.proofs.lemmas.List.Elements.{All-nil, All-head, All-tail, All-push, All-weaker}
 use Rattle.plan_base.specs.declared.ids.Host.{Host}
 use Rattle.plan_base.specs.declared.ids.Dev.{Dev}
+use Rattle.plan_base.specs.declared.name.Name.{Name}
 use Rattle.plan_base.specs.declared.tree.Chunk.{Chunk}
 use Rattle.plan_types.specs.Kept.{IsChecked}
 use Rattle.service_api.specs.declared.package.PackageName.{PackageName}
+use Rattle.link_window.specs.declared.window.Version.{Version}
+use Rattle.link_window.specs.declared.window.Version.TheVariants.{One, Two}
 use Rattle.network_plan.specs.declared.schedule.HostSpec.{HostSpec}
 use Rattle.network_plan.specs.declared.schedule.Schedule.{Schedule}
 use Rattle.network_plan.specs.declared.schedule.Topology.{Topology}
@@ -23,16 +26,18 @@ use Rattle.network_plan.specs.Rules.{IsLinkDevice, PackagesDiffer, KeepsLink, Ke
 use Rattle.line_files.specs.declared.fault.LineReason.{LineReason}
 use Rattle.line_files.specs.declared.fault.LineReason.TheVariants.{BadHeader, BadWord, UnknownHost, UnknownProgram, TwiceNamed, TooMany, BadArgument}
 use Rattle.line_files.specs.declared.fault.LineFault.{LineFault}
-use Rattle.line_files.specs.declared.fault.LineFault.TheVariants as faults
 use Rattle.line_files.specs.Lines.{lines, words}
 use Rattle.line_files.specs.Reads.{FileGives, word_at, end_at, allowed}
 use Rattle.line_files.specs.Files.{is_skipped}
 use Rattle.line_files.specs.Numbers.{number_at}
 use Rattle.line_files.specs.Packages.{packages_at}
 use Rattle.line_files.specs.HexWords.{hex_at}
-use Rattle.line_files.specs.Programs.{program_in, injection_at, weighed}
-use Rattle.line_files.proofs.Keeping.{IfRead, then_keeps, done_keeps, allowed_true, allowed_not, allowed_below, ok_or_is, number_is, AreSized, hex_is, packages_are, IfStep, step_done, step_none, at_line_keeps, either_keeps, read_keeps}
+use Rattle.line_files.specs.Headers.{version_in, versioned}
+use Rattle.line_files.specs.Programs.{program_in, weighed}
+use Rattle.line_files.specs.Injections.{injection_at}
+use Rattle.line_files.proofs.Keeping.{IfRead, then_keeps, done_keeps, allowed_true, allowed_not, allowed_below, ok_or_is, number_is, AreSized, hex_is, packages_are, IfStep, step_done, at_line_keeps, either_keeps, version_keeps, read_keeps}
 use Rattle.line_files.proofs.KeptPrograms as kept
+use Rattle.line_files.proofs.KeptInjections.{injection_is}
 use Rattle.line_files.proofs.FileLaws as whole
 use Rattle.schedule_text.specs.declared.keyword.NetworkWord.{NetworkWord}
 use Rattle.schedule_text.specs.declared.keyword.NetworkWord.TheVariants as network
@@ -45,7 +50,7 @@ use Rattle.schedule_text.specs.declared.reading.Stage.{Stage}
 use Rattle.schedule_text.specs.declared.reading.Stage.TheVariants as stages
 use Rattle.schedule_text.specs.declared.reading.ScheduleFile.{ScheduleFile}
 use Rattle.schedule_text.specs.Parts.{host_at, device_at, free_device_at, is_called, program_at}
-use Rattle.schedule_text.specs.Schedules.{network_word, event_word, is_first, frames_line, host_spec, host_line, link_line, program_line, named, close_program, network_rest, network_line, with_event, injected_at, inject_line, send_line, frame_at, deliver_line, lose_line, tick_line, raw_line, event_rest, event_line, staying, step, schedule_of_reading, finish, file_after, schedule_format, nothing_read, schedule_of}
+use Rattle.schedule_text.specs.Schedules.{network_word, event_word, is_first, frames_line, host_spec, host_line, link_line, program_line, named, close_program, network_rest, network_line, with_event, injected_at, inject_line, send_line, frame_at, deliver_line, repeat_line, lose_line, tick_line, raw_line, event_rest, event_line, staying, begun_by, step, schedule_of_reading, finish, file_after, schedule_format, nothing_read, schedule_of}
 use Rattle.schedule_text.proofs.FormatLaws.{same}
 use Rattle.schedule_text.proofs.NetworkRules.{differ_push, link_stays, event_stays, apart_push}
 
@@ -104,7 +109,7 @@ named_is programs ws all =
 -- ---- what was read so far keeps the rules
 
 abbrev network_of : Reading → Topology
-network_of s = record { hosts = s.hosts; links = s.links }
+network_of s = record { hosts = s.hosts; links = s.links; version = s.version }
 
 -- the weights in sum, which are within the limit
 abbrev IsWeight : List WorldEvent → ℕ → Type 0
@@ -112,14 +117,14 @@ IsWeight es n = (weights es ≡ n) × (n ≤ 16777216)
 
 weights_push : (es : List WorldEvent) (e : WorldEvent) → weights (es ++ e ∷ []) ≡ weights es + weights (e ∷ [])
 weights_push [] e = omega arith
-weights_push (happens.Inject h c n ∷ es) e = let k = weights_push es e in omega (arith, k)
+weights_push (happens.Inject h c n handler ∷ es) e = let k = weights_push es e in omega (arith, k)
 weights_push (_ ∷ es) e = weights_push es e
 
 record Keeps (s : Reading) : Type 0 where
   network : KeepsNetwork (network_of s)
   programs : All IsNamed s.programs
   few : length s.events ≤ 50000
-  events : All (KeepsEvent s.hosts) s.events
+  events : All (KeepsEvent s.version s.hosts) s.events
   weight : IsWeight s.events s.weight
 
 add_host : (s : Reading) (n : ℕ) (missing : List PackageName) → Keeps s → length s.hosts < 32 → n < 2 ^ 32 → has_host (host_of n) s.hosts ≡ false → PackagesDiffer missing → Keeps (record s { hosts = s.hosts ++ host_spec n missing ∷ [] })
@@ -134,7 +139,7 @@ add_host s n missing k room small new lacks = record {
   };
   programs = k.programs;
   few = k.few;
-  events = All-weaker (KeepsEvent s.hosts) (KeepsEvent (s.hosts ++ host_spec n missing ∷ [])) (event_stays s.hosts (host_spec n missing)) s.events k.events;
+  events = All-weaker (KeepsEvent s.version s.hosts) (KeepsEvent s.version (s.hosts ++ host_spec n missing ∷ [])) (event_stays s.version s.hosts (host_spec n missing)) s.events k.events;
   weight = k.weight;
 }
 
@@ -205,16 +210,23 @@ close_keeps begun s k =
       weight = k.weight;
     }))
 
+-- no event is read in front of the header
+abbrev Begins : Stage → Reading → Type 0
+Begins stages.Header s = s.events ≡ []
+Begins stages.Network s = Unit {0}
+Begins (stages.Inside begun) s = Unit {0}
+Begins stages.Events s = Unit {0}
+
 abbrev KeepsNext : Stage × Reading → Type 0
-KeepsNext x = Keeps x.1
+KeepsNext x = Keeps x.1 × Begins x.0 x.1
 
 network_rest_keeps : (kind : NetworkWord) (number : ℕ) (ws : List (List ℕ)) (s : Reading) → Keeps s → IfRead KeepsNext (network_rest kind number ws s)
 unfolding network_rest
-network_rest_keeps network.Frames number ws s k = then_keeps KeepsNext (frames_line ws s) _ (λ t ht. done_keeps KeepsNext (stages.Network, t) (frames_keeps ws s k t ht))
-network_rest_keeps network.Host number ws s k = then_keeps KeepsNext (host_line ws s) _ (λ t ht. done_keeps KeepsNext (stages.Network, t) (host_line_keeps ws s k t ht))
-network_rest_keeps network.Link number ws s k = then_keeps KeepsNext (link_line ws s) _ (λ t ht. done_keeps KeepsNext (stages.Network, t) (link_line_keeps ws s k t ht))
-network_rest_keeps network.Program number ws s k = then_keeps KeepsNext (program_line number ws s) _ (λ begun hb. done_keeps KeepsNext (stages.Inside begun, s) k)
-network_rest_keeps network.Events number ws s k = then_keeps KeepsNext (end_at ws) _ (λ u hu. done_keeps KeepsNext (stages.Events, s) k)
+network_rest_keeps network.Frames number ws s k = then_keeps KeepsNext (frames_line ws s) _ (λ t ht. done_keeps KeepsNext (stages.Network, t) (frames_keeps ws s k t ht, tt))
+network_rest_keeps network.Host number ws s k = then_keeps KeepsNext (host_line ws s) _ (λ t ht. done_keeps KeepsNext (stages.Network, t) (host_line_keeps ws s k t ht, tt))
+network_rest_keeps network.Link number ws s k = then_keeps KeepsNext (link_line ws s) _ (λ t ht. done_keeps KeepsNext (stages.Network, t) (link_line_keeps ws s k t ht, tt))
+network_rest_keeps network.Program number ws s k = then_keeps KeepsNext (program_line number ws s) _ (λ begun hb. done_keeps KeepsNext (stages.Inside begun, s) (k, tt))
+network_rest_keeps network.Events number ws s k = then_keeps KeepsNext (end_at ws) _ (λ u hu. done_keeps KeepsNext (stages.Events, s) (k, tt))
 
 network_keeps : (number : ℕ) (ws : List (List ℕ)) (s : Reading) → Keeps s → IfRead KeepsNext (network_line number ws s)
 unfolding network_line
@@ -225,30 +237,30 @@ network_keeps number ws s k =
 
 -- ---- events
 
-add_event : (s : Reading) (e : WorldEvent) (weight : ℕ) → Keeps s → length s.events < 50000 → KeepsEvent s.hosts e → weight ≡ s.weight + weights (e ∷ []) → weight ≤ 16777216
+add_event : (s : Reading) (e : WorldEvent) (weight : ℕ) → Keeps s → length s.events < 50000 → KeepsEvent s.version s.hosts e → weight ≡ s.weight + weights (e ∷ []) → weight ≤ 16777216
     → Keeps (record (with_event s e) { weight = weight })
 add_event s e weight k room h sum light = record {
   network = k.network;
   programs = k.programs;
   few = omega (arith, length-append s.events (e ∷ []), room);
-  events = All-push (KeepsEvent s.hosts) s.events e k.events h;
+  events = All-push (KeepsEvent s.version s.hosts) s.events e k.events h;
   weight = ((let p = weights_push s.events e in let w = k.weight.0 in omega (arith, p, w, sum)), light);
 }
 
 -- one that injects nothing
-add_light : (s : Reading) (e : WorldEvent) → Keeps s → length s.events < 50000 → KeepsEvent s.hosts e → weights (e ∷ []) ≡ 0 → Keeps (record (with_event s e) { weight = s.weight })
+add_light : (s : Reading) (e : WorldEvent) → Keeps s → length s.events < 50000 → KeepsEvent s.version s.hosts e → weights (e ∷ []) ≡ 0 → Keeps (record (with_event s e) { weight = s.weight })
 add_light s e k room h none = add_event s e s.weight k room h (omega (arith, none)) k.weight.1
 
-abbrev IsInjected : List HostSpec → Host × Chunk × ℕ → Type 0
-IsInjected hosts i = (has_host i.0 hosts ≡ true) × KeepsInjection i.1 i.2
+abbrev IsInjected : Version → List HostSpec → Host × Chunk × ℕ × Option Name → Type 0
+IsInjected version hosts i = (has_host i.0 hosts ≡ true) × KeepsInjection version i.1 i.2 i.3
 
-injected_is : (ws : List (List ℕ)) (s : Reading) → Keeps s → IfRead (IsInjected s.hosts) (injected_at s ws)
+injected_is : (ws : List (List ℕ)) (s : Reading) → Keeps s → IfRead (IsInjected s.version s.hosts) (injected_at s ws)
 unfolding injected_at
 injected_is ws s k =
-    then_keeps (IsInjected s.hosts) (host_at s.hosts ws) _ (λ h hh.
-    then_keeps (IsInjected s.hosts) (program_at s.programs h.1) _ (λ p hp.
-    then_keeps (IsInjected s.hosts) (injection_at p.0.program p.1) _ (λ i hi.
-    done_keeps (IsInjected s.hosts) (h.0, i.0, i.1) (host_is s.hosts ws h hh, kept.injection_is p.0.program p.1 (named_is s.programs h.1 k.programs p hp) i hi))))
+    then_keeps (IsInjected s.version s.hosts) (host_at s.hosts ws) _ (λ h hh.
+    then_keeps (IsInjected s.version s.hosts) (program_at s.programs h.1) _ (λ p hp.
+    then_keeps (IsInjected s.version s.hosts) (injection_at s.version p.0.program p.1) _ (λ i hi.
+    done_keeps (IsInjected s.version s.hosts) (h.0, i.0, i.1, i.2) (host_is s.hosts ws h hh, injection_is s.version p.0.program p.1 (named_is s.programs h.1 k.programs p hp) i hi))))
 
 inject_keeps : (ws : List (List ℕ)) (s : Reading) → Keeps s → length s.events < 50000 → IfRead Keeps (inject_line ws s)
 unfolding inject_line
@@ -256,7 +268,7 @@ inject_keeps ws s k room =
     then_keeps Keeps (injected_at s ws) _ (λ i hi.
     then_keeps Keeps (weighed s.weight i.1) _ (λ total ht.
     let w = kept.weighed_is s.weight i.1 total ht in
-    done_keeps Keeps _ (add_event s (happens.Inject i.0 i.1 i.2) total k room (injected_is ws s k i hi) (let e = w.0 in omega (arith, e)) w.1)))
+    done_keeps Keeps _ (add_event s (happens.Inject i.0 i.1 i.2 i.3) total k room (injected_is ws s k i hi) (let e = w.0 in omega (arith, e)) w.1)))
 
 send_keeps : (ws : List (List ℕ)) (s : Reading) → Keeps s → length s.events < 50000 → IfRead Keeps (send_line ws s)
 unfolding send_line
@@ -279,6 +291,10 @@ frame_is ws =
 deliver_keeps : (ws : List (List ℕ)) (s : Reading) → Keeps s → length s.events < 50000 → IfRead Keeps (deliver_line ws s)
 unfolding deliver_line
 deliver_keeps ws s k room = then_keeps Keeps (frame_at ws) _ (λ n hn. done_keeps Keeps _ (add_light s (happens.Deliver n) k room (frame_is ws n hn) refl))
+
+repeat_keeps : (ws : List (List ℕ)) (s : Reading) → Keeps s → length s.events < 50000 → s.version ≡ Two → IfRead Keeps (repeat_line ws s)
+unfolding repeat_line
+repeat_keeps ws s k room two = then_keeps Keeps (frame_at ws) _ (λ n hn. done_keeps Keeps _ (add_light s (happens.Repeat n) k room (two, frame_is ws n hn) refl))
 
 lose_keeps : (ws : List (List ℕ)) (s : Reading) → Keeps s → length s.events < 50000 → IfRead Keeps (lose_line ws s)
 unfolding lose_line
@@ -303,48 +319,79 @@ raw_keeps ws s k room =
     then_keeps Keeps (end_at bytes.1) _ (λ u hu.
     done_keeps Keeps _ (add_light s (happens.Raw h.0 d.0 bytes.0) k room (host_is s.hosts ws h hh, any_device_is h.1 d hd, arrives bytes.0 (hex_is 1 16513 d.1 bytes hb)) refl)))))
 
-event_rest_keeps : (kind : EventWord) (ws : List (List ℕ)) (s : Reading) → Keeps s → length s.events < 50000 → IfRead Keeps (event_rest kind ws s)
+-- a word that version 1 knows
+none_known : (a b c d e f : Bool)
+    → cond a (Some event.Inject) (cond b (Some event.Send) (cond c (Some event.Deliver) (cond d (Some event.Lose) (cond e (Some event.Tick) (cond f (Some event.Raw) None))))) ≡ Some event.Repeat → ⊥
+none_known true b c d e f h = cc
+none_known false true c d e f h = cc
+none_known false false true d e f h = cc
+none_known false false false true e f h = cc
+none_known false false false false true f h = cc
+none_known false false false false false true h = cc
+none_known false false false false false false h = cc
+
+-- `repeat` is known under version 2 alone
+two_repeats : (version : Version) (w : List ℕ) → event_word version w ≡ Some event.Repeat → version ≡ Two
+two_repeats One w e = absurd (none_known _ _ _ _ _ _ e)
+two_repeats Two w e = refl
+
+event_rest_keeps : (kind : EventWord) (ws : List (List ℕ)) (s : Reading) → Keeps s → length s.events < 50000 → (kind ≡ event.Repeat → s.version ≡ Two) → IfRead Keeps (event_rest kind ws s)
 unfolding event_rest
-event_rest_keeps event.Inject ws s k room = inject_keeps ws s k room
-event_rest_keeps event.Send ws s k room = send_keeps ws s k room
-event_rest_keeps event.Deliver ws s k room = deliver_keeps ws s k room
-event_rest_keeps event.Lose ws s k room = lose_keeps ws s k room
-event_rest_keeps event.Tick ws s k room = tick_keeps ws s k room
-event_rest_keeps event.Raw ws s k room = raw_keeps ws s k room
+event_rest_keeps event.Inject ws s k room two = inject_keeps ws s k room
+event_rest_keeps event.Send ws s k room two = send_keeps ws s k room
+event_rest_keeps event.Deliver ws s k room two = deliver_keeps ws s k room
+event_rest_keeps event.Repeat ws s k room two = repeat_keeps ws s k room (two refl)
+event_rest_keeps event.Lose ws s k room two = lose_keeps ws s k room
+event_rest_keeps event.Tick ws s k room two = tick_keeps ws s k room
+event_rest_keeps event.Raw ws s k room two = raw_keeps ws s k room
 
 event_keeps : (ws : List (List ℕ)) (s : Reading) → Keeps s → IfRead Keeps (event_line ws s)
 unfolding event_line
 event_keeps ws s k =
     then_keeps Keeps (word_at ws) _ (λ w hw.
-    then_keeps Keeps (ok_or (event_word w.0) BadWord) _ (λ kind hk.
+    then_keeps Keeps (ok_or (event_word s.version w.0) BadWord) _ (λ kind hk.
     then_keeps Keeps (allowed (ltb (length s.events) 50000) TooMany) _ (λ u room.
-    event_rest_keeps kind w.1 s k (allowed_below (length s.events) 50000 TooMany u room))))
+    event_rest_keeps kind w.1 s k (allowed_below (length s.events) 50000 TooMany u room)
+    (λ is. two_repeats s.version w.0 (subst (λ x. event_word s.version w.0 ≡ Some x) is (ok_or_is (event_word s.version w.0) BadWord kind hk))))))
 
 -- ---- a whole file
 
-staying_keeps : (stage : Stage) (r : Result Reading LineReason) → IfRead Keeps r → IfRead KeepsNext (staying stage r)
-staying_keeps stage (Ok s) h y e = done_keeps KeepsNext (stage, s) (h s refl) y e
-staying_keeps stage (Err r) h y e = absurd cc
+staying_keeps : (stage : Stage) (r : Result Reading LineReason) → ((s : Reading) → Begins stage s) → IfRead Keeps r → IfRead KeepsNext (staying stage r)
+staying_keeps stage (Ok s) b h y e = done_keeps KeepsNext (stage, s) (h s refl, b s) y e
+staying_keeps stage (Err r) b h y e = absurd cc
 
-step_keeps : (number : ℕ) (line : List ℕ) (stage : Stage) (s : Reading) → Keeps s → IfStep KeepsNext (step number line stage s)
+-- what was read so far under another version
+as_version : (v : Version) (s : Reading) → Keeps s → s.events ≡ [] → Keeps (record s { version = v })
+as_version v s k none = record {
+  network = record { few = k.network.few; hosts = k.network.hosts; numbers = k.network.numbers; missing = k.network.missing; links = k.network.links; apart = k.network.apart };
+  programs = k.programs;
+  few = k.few;
+  events = subst (λ es. All (KeepsEvent v s.hosts) es) (sym none) (All-nil (KeepsEvent v s.hosts));
+  weight = k.weight;
+}
+
+header_keeps : (number : ℕ) (v : Option Version) (s : Reading) → Keeps s → s.events ≡ [] → IfStep KeepsNext (versioned number (begun_by s) v)
+header_keeps number v s k none = version_keeps KeepsNext number (begun_by s) v (λ version. (as_version version s k none, tt))
+
+step_keeps : (number : ℕ) (line : List ℕ) (stage : Stage) (s : Reading) → Keeps s → Begins stage s → IfStep KeepsNext (step number line stage s)
 unfolding step
-step_keeps number line stages.Header s k = either_keeps KeepsNext (bytes_eq line (codes "planet schedule 1")) _ _ (step_done KeepsNext (stages.Network, s) k) (step_none KeepsNext (faults.Line number BadHeader))
-step_keeps number line stages.Network s k = either_keeps KeepsNext (is_skipped line) _ _ (step_done KeepsNext (stages.Network, s) k) (at_line_keeps KeepsNext number (network_line number (words line) s) (network_keeps number (words line) s k))
-step_keeps number line (stages.Inside begun) s k =
+step_keeps number line stages.Header s k b = header_keeps number (version_in (codes "planet schedule ") line) s k b
+step_keeps number line stages.Network s k b = either_keeps KeepsNext (is_skipped line) _ _ (step_done KeepsNext (stages.Network, s) (k, tt)) (at_line_keeps KeepsNext number (network_line number (words line) s) (network_keeps number (words line) s k))
+step_keeps number line (stages.Inside begun) s k b =
     either_keeps KeepsNext (bytes_eq line (codes "end program")) _ _
-    (at_line_keeps KeepsNext begun.source.line (staying stages.Network (close_program begun s)) (staying_keeps stages.Network (close_program begun s) (close_keeps begun s k)))
-    (step_done KeepsNext _ k)
-step_keeps number line stages.Events s k = either_keeps KeepsNext (is_skipped line) _ _ (step_done KeepsNext (stages.Events, s) k) (at_line_keeps KeepsNext number (staying stages.Events (event_line (words line) s)) (staying_keeps stages.Events (event_line (words line) s) (event_keeps (words line) s k)))
+    (at_line_keeps KeepsNext begun.source.line (staying stages.Network (close_program begun s)) (staying_keeps stages.Network (close_program begun s) (λ t. tt) (close_keeps begun s k)))
+    (step_done KeepsNext _ (k, tt))
+step_keeps number line stages.Events s k b = either_keeps KeepsNext (is_skipped line) _ _ (step_done KeepsNext (stages.Events, s) (k, tt)) (at_line_keeps KeepsNext number (staying stages.Events (event_line (words line) s)) (staying_keeps stages.Events (event_line (words line) s) (λ t. tt) (event_keeps (words line) s k)))
 
 abbrev KeepsFile : ScheduleFile → Type 0
-KeepsFile f = Keeps f.reading
+KeepsFile f = Keeps f.reading × Begins f.stage f.reading
 
 after_keeps : (r : Result (Stage × Reading) LineFault) → IfStep KeepsNext r → IfStep KeepsFile (file_after r)
 after_keeps (Ok next) h y e = step_done KeepsFile _ (h next refl) y e
 after_keeps (Err d) h y e = absurd cc
 
 line_keeps : (number : ℕ) (line : List ℕ) (f : ScheduleFile) → KeepsFile f → IfStep KeepsFile (file_after (step number line f.stage f.reading))
-line_keeps number line f k = after_keeps (step number line f.stage f.reading) (step_keeps number line f.stage f.reading k)
+line_keeps number line f k = after_keeps (step number line f.stage f.reading) (step_keeps number line f.stage f.reading k.0 k.1)
 
 whole_keeps : (s : Reading) → Keeps s → KeepsRules (schedule_of_reading s)
 whole_keeps s k = record { network = k.network; few = k.few; events = k.events; weight = (let e = k.weight.0 in let l = k.weight.1 in omega (arith, e, l)) }
@@ -367,14 +414,14 @@ nothing_keeps = record {
   };
   programs = All-nil IsNamed;
   few = omega arith;
-  events = All-nil (KeepsEvent []);
+  events = All-nil (KeepsEvent One []);
   weight = (refl, omega arith);
 }
 
 -- a file's schedule keeps the rules
 pub schedule_keeps : (bytes : List ℕ) (s : Schedule) → schedule_of bytes ≡ Ok s → KeepsRules s
 unfolding schedule_of
-schedule_keeps bytes s e = read_keeps schedule_format KeepsFile KeepsRules line_keeps (λ number f k. finish_keeps number f.stage f.reading k) (lines bytes) 1 nothing_read nothing_keeps s e
+schedule_keeps bytes s e = read_keeps schedule_format KeepsFile KeepsRules line_keeps (λ number f k. finish_keeps number f.stage f.reading k.0) (lines bytes) 1 nothing_read (nothing_keeps, refl) s e
 
 pub is_keeping : (bytes : List ℕ) (r : Result Schedule LineFault) → FileGives same r (schedule_of bytes) → IfOk r KeepsRules
 is_keeping bytes r h = whole.is_keeping KeepsRules r (schedule_of bytes) h (schedule_keeps bytes)

@@ -9,6 +9,8 @@ use Rattle.plan_base.specs.declared.name.Name.{Name}
 use Rattle.plan_base.specs.declared.tree.Chunk.{Chunk}
 use Rattle.plan_base.specs.declared.tree.Program.{Program}
 use Rattle.service_api.specs.declared.package.PackageName.{PackageName}
+use Rattle.link_window.specs.declared.window.Version.{Version}
+use Rattle.link_window.specs.declared.window.Version.TheVariants.{One, Two}
 use Rattle.network_plan.specs.declared.schedule.HostSpec.{HostSpec}
 use Rattle.network_plan.specs.declared.schedule.Schedule.{Schedule}
 use Rattle.network_plan.specs.declared.event.WorldEvent.{WorldEvent}
@@ -24,7 +26,9 @@ use Rattle.line_files.specs.Files.{Format, is_skipped, at_line, file_of}
 use Rattle.line_files.specs.Numbers.{number_at}
 use Rattle.line_files.specs.Packages.{packages_at}
 use Rattle.line_files.specs.HexWords.{hex_at}
-use Rattle.line_files.specs.Programs.{opened, with_line, program_in, named_word, injection_at, weighed}
+use Rattle.line_files.specs.Programs.{opened, with_line, program_in, named_word, weighed}
+use Rattle.line_files.specs.Headers.{version_line}
+use Rattle.line_files.specs.Injections.{injection_at}
 use Rattle.schedule_text.specs.declared.reading.NamedProgram.{NamedProgram}
 use Rattle.schedule_text.specs.declared.reading.Reading.{Reading}
 use Rattle.schedule_text.specs.declared.reading.BegunProgram.{BegunProgram}
@@ -41,9 +45,14 @@ use Rattle.schedule_text.specs.Parts.{host_at, device_at, free_device_at, is_cal
 abbrev pub network_word : List ℕ → Option NetworkWord
 network_word w = if bytes_eq w (codes "frames") then Some network.Frames else (if bytes_eq w (codes "host") then Some network.Host else (if bytes_eq w (codes "link") then Some network.Link else (if bytes_eq w (codes "program") then Some network.Program else (if bytes_eq w (codes "events") then Some network.Events else None))))
 
+-- whether a word is `repeat`, which version 2 alone knows
+abbrev pub is_repeat : Version → List ℕ → Bool
+is_repeat One w = false
+is_repeat Two w = bytes_eq w (codes "repeat")
+
 -- the first word of an event
-abbrev pub event_word : List ℕ → Option EventWord
-event_word w = if bytes_eq w (codes "inject") then Some event.Inject else (if bytes_eq w (codes "send") then Some event.Send else (if bytes_eq w (codes "deliver") then Some event.Deliver else (if bytes_eq w (codes "lose") then Some event.Lose else (if bytes_eq w (codes "tick") then Some event.Tick else (if bytes_eq w (codes "raw") then Some event.Raw else None)))))
+abbrev pub event_word : Version → List ℕ → Option EventWord
+event_word version w = if bytes_eq w (codes "inject") then Some event.Inject else (if bytes_eq w (codes "send") then Some event.Send else (if bytes_eq w (codes "deliver") then Some event.Deliver else (if bytes_eq w (codes "lose") then Some event.Lose else (if bytes_eq w (codes "tick") then Some event.Tick else (if bytes_eq w (codes "raw") then Some event.Raw else (if is_repeat version w then Some event.Repeat else None))))))
 
 -- whether no line of the network was read; a link needs hosts
 abbrev pub is_first : Reading → Bool
@@ -132,20 +141,20 @@ network_line number ws s = do
 abbrev pub with_event : Reading → WorldEvent → Reading
 with_event s e = record s { events = s.events ++ e ∷ [] }
 
--- `inject N PROGRAM ENTRY BOUND ARGS` behind its first word: where, what, and with which bound
-unfoldable pub injected_at : Reading → List (List ℕ) → Result (Host × Chunk × ℕ) LineReason
+-- `inject N PROGRAM ENTRY BOUND ARGS` behind its first word: where, what, with which bound, and with which handler
+unfoldable pub injected_at : Reading → List (List ℕ) → Result (Host × Chunk × ℕ × Option Name) LineReason
 injected_at s ws = do
   h ← host_at s.hosts ws
   p ← program_at s.programs h.1
-  i ← injection_at p.0.program p.1
-  Ok (h.0, i.0, i.1)
+  i ← injection_at s.version p.0.program p.1
+  Ok (h.0, i.0, i.1, i.2)
 
 -- an injection, whose chunk is weighed last
 unfoldable pub inject_line : List (List ℕ) → Reading → Result Reading LineReason
 inject_line ws s = do
   i ← injected_at s ws
   total ← weighed s.weight i.1
-  Ok (record (with_event s (happens.Inject i.0 i.1 i.2)) { weight = total })
+  Ok (record (with_event s (happens.Inject i.0 i.1 i.2 i.3)) { weight = total })
 
 -- `send N D`
 unfoldable pub send_line : List (List ℕ) → Reading → Result Reading LineReason
@@ -167,6 +176,12 @@ unfoldable pub deliver_line : List (List ℕ) → Reading → Result Reading Lin
 deliver_line ws s = do
   k ← frame_at ws
   Ok (with_event s (happens.Deliver k))
+
+-- `repeat K`
+unfoldable pub repeat_line : List (List ℕ) → Reading → Result Reading LineReason
+repeat_line ws s = do
+  k ← frame_at ws
+  Ok (with_event s (happens.Repeat k))
 
 -- `lose K`
 unfoldable pub lose_line : List (List ℕ) → Reading → Result Reading LineReason
@@ -195,6 +210,7 @@ unfoldable pub event_rest : EventWord → List (List ℕ) → Reading → Result
 event_rest event.Inject ws s = inject_line ws s
 event_rest event.Send ws s = send_line ws s
 event_rest event.Deliver ws s = deliver_line ws s
+event_rest event.Repeat ws s = repeat_line ws s
 event_rest event.Lose ws s = lose_line ws s
 event_rest event.Tick ws s = tick_line ws s
 event_rest event.Raw ws s = raw_line ws s
@@ -203,7 +219,7 @@ event_rest event.Raw ws s = raw_line ws s
 unfoldable pub event_line : List (List ℕ) → Reading → Result Reading LineReason
 event_line ws s = do
   w ← word_at ws
-  k ← ok_or (event_word w.0) BadWord
+  k ← ok_or (event_word s.version w.0) BadWord
   _ ← allowed (nat_lt (length s.events) 50000) TooMany
   event_rest k w.1 s
 
@@ -216,9 +232,13 @@ abbrev pub staying : Stage → Result Reading LineReason → Result (Stage × Re
 staying stage (Ok s) = Ok (stage, s)
 staying stage (Err e) = Err e
 
+-- what the header says
+abbrev pub begun_by : Reading → Version → Stage × Reading
+begun_by s version = (stages.Network, record s { version = version })
+
 -- the header
 abbrev pub header_step : ℕ → List ℕ → Reading → Result (Stage × Reading) LineFault
-header_step number line s = if bytes_eq line (codes "planet schedule 1") then Ok (stages.Network, s) else Err (faults.Line number BadHeader)
+header_step number line s = version_line (codes "planet schedule ") number line (begun_by s)
 
 -- a line of the network
 abbrev pub network_step : ℕ → List ℕ → Reading → Result (Stage × Reading) LineFault
@@ -240,7 +260,7 @@ step number line (stages.Inside begun) s = program_step line begun s
 step number line stages.Events s = event_step number line s
 
 abbrev pub schedule_of_reading : Reading → Schedule
-schedule_of_reading s = record { frames = s.frames; topology = record { hosts = s.hosts; links = s.links }; events = s.events }
+schedule_of_reading s = record { frames = s.frames; topology = record { hosts = s.hosts; links = s.links; version = s.version }; events = s.events }
 
 -- what the lines so far say where the file ends in front of the line with a number
 abbrev pub finish : ℕ → Stage → Reading → Result Schedule LineFault
@@ -259,7 +279,7 @@ schedule_format = record { step = λ number line f. file_after (step number line
 
 -- nothing read yet
 abbrev pub nothing_read : ScheduleFile
-nothing_read = record { stage = stages.Header; reading = record { frames = false; hosts = []; links = []; programs = []; events = []; weight = 0 } }
+nothing_read = record { stage = stages.Header; reading = record { version = One; frames = false; hosts = []; links = []; programs = []; events = []; weight = 0 } }
 
 -- what a file says: its schedule, or its first line outside the format with the reason
 unfoldable pub schedule_of : List ℕ → Result Schedule LineFault

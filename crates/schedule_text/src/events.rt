@@ -1,6 +1,6 @@
 ghost use Rattle.std.specs.Prelude.{◌≡◌};
 ghost use Rattle.line_files.specs.Reads.{Leaves, Gives};
-ghost use Rattle.schedule_text.specs.Schedules.{injected_at, inject_line, send_line, frame_at, deliver_line, lose_line, tick_line, raw_line, event_rest, event_line};
+ghost use Rattle.schedule_text.specs.Schedules.{injected_at, inject_line, send_line, frame_at, deliver_line, repeat_line, lose_line, tick_line, raw_line, event_rest, event_line};
 
 use crate::keyword::EventWord;
 use crate::parts::{device, known_host, known_program};
@@ -8,23 +8,24 @@ use crate::reading::Reading;
 use chunk_types::CheckedChunk;
 use line_files::{LineReason, Stop, Words, allow, hex_bytes, injection, number, weighed};
 use network_plan::WorldEvent;
-use plan_base::Host;
+use plan_base::{Host, Name};
 use std::alloc::Global;
 
-/// `inject N PROGRAM ENTRY BOUND ARGS` behind the first word: where, what and with which bound.
+/// `inject N PROGRAM ENTRY BOUND ARGS` behind the first word, under version 2 with `handler NAME` in front of ARGS or
+/// without: where, what, with which bound and with which handler.
 /// Reasons: `BadWord`, `BadNumber`, `UnknownHost`, `UnknownProgram`, `BadArgument`.
 #[tactic(auto, unfolding(crate::specs::Schedules::injected_at))]
 fn read_injection(
     alloc: Global,
     reading: &Reading,
     words: &mut Words<'_>,
-) -> Result<(Host, CheckedChunk, u32), Stop>
+) -> Result<(Host, CheckedChunk, u32, Option<Name>), Stop>
     ensures { Gives (λ i. i) result (injected_at reading.now words.old) }
 {
     let host = known_host(reading.hosts.as_slice(), words)?;
     let named = known_program(reading.programs.as_slice(), words)?;
-    let (chunk, bound) = injection(alloc, &named.program, words)?;
-    Ok((host, chunk, bound))
+    let (chunk, bound, handler) = injection(alloc, reading.version, &named.program, words)?;
+    Ok((host, chunk, bound, handler))
 }
 
 /// An injection behind its first word. Reasons: those of [`read_injection`], and `TooMany`.
@@ -32,9 +33,11 @@ fn read_injection(
 fn inject(alloc: Global, reading: &mut Reading, words: &mut Words<'_>) -> Result<(), Stop>
     ensures { Leaves result reading.new (inject_line words.old reading.old) }
 {
-    let (host, chunk, bound) = read_injection(alloc, reading, words)?;
+    let (host, chunk, bound, handler) = read_injection(alloc, reading, words)?;
     let weight = weighed(reading.weight, chunk.chunk())?;
-    reading.events.add(WorldEvent::Inject(host, chunk, bound))?;
+    reading
+        .events
+        .add(WorldEvent::Inject(host, chunk, bound, handler))?;
     reading.weight = weight;
     Ok(())
 }
@@ -68,6 +71,16 @@ fn deliver(reading: &mut Reading, words: &mut Words<'_>) -> Result<(), Stop>
 {
     let k = frame(words)?;
     reading.events.add(WorldEvent::Deliver(k))?;
+    Ok(())
+}
+
+/// `repeat K` behind its first word.
+#[tactic(auto, unfolding(crate::specs::Schedules::repeat_line))]
+fn repeat(reading: &mut Reading, words: &mut Words<'_>) -> Result<(), Stop>
+    ensures { Leaves result reading.new (repeat_line words.old reading.old) }
+{
+    let k = frame(words)?;
+    reading.events.add(WorldEvent::Repeat(k))?;
     Ok(())
 }
 
@@ -120,6 +133,7 @@ fn read_rest(
         EventWord::Inject => inject(alloc, reading, words),
         EventWord::Send => send(reading, words),
         EventWord::Deliver => deliver(reading, words),
+        EventWord::Repeat => repeat(reading, words),
         EventWord::Lose => lose(reading, words),
         EventWord::Tick => tick(reading, words),
         EventWord::Raw => raw(alloc, reading, words),
@@ -132,7 +146,7 @@ pub fn read_event(alloc: Global, reading: &mut Reading, words: &mut Words<'_>) -
     ensures { Leaves result reading.new (event_line words.old reading.old) }
 {
     let word = words.next()?;
-    let kind = EventWord::of(word).ok_or(LineReason::BadWord)?;
+    let kind = EventWord::of(reading.version, word).ok_or(LineReason::BadWord)?;
     allow(reading.events.len() < 50_000, LineReason::TooMany)?;
     read_rest(alloc, kind, reading, words)
 }

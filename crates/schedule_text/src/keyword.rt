@@ -1,7 +1,9 @@
 ghost use Rattle.std.specs.Prelude.{◌≡◌};
+ghost use Rattle.schedule_text.specs.Schedules as spec;
 ghost use Rattle.schedule_text.specs.Schedules.{network_word, event_word};
 
 use line_files::is;
+use link_window::Version;
 
 /// The first word of a line of the network.
 #[derive(Clone, Copy, PartialEq, Eq)]
@@ -27,6 +29,8 @@ pub enum EventWord {
     Send,
     /// `deliver`
     Deliver,
+    /// `repeat`, under version 2
+    Repeat,
     /// `lose`
     Lose,
     /// `tick`
@@ -56,10 +60,20 @@ impl NetworkWord {
     }
 }
 
+/// Whether a word is `repeat`, which version 2 alone knows.
+fn is_repeat(version: Version, word: &[u8]) -> bool
+    ensures { result ≡ spec.is_repeat version word.now }
+{
+    match version {
+        Version::One => false,
+        Version::Two => is(word, b"repeat"),
+    }
+}
+
 impl EventWord {
-    /// The first word that a word is, or none.
-    pub fn of(word: &[u8]) -> Option<EventWord>
-        ensures { result ≡ event_word word.now }
+    /// The first word that a word is under a version, or none.
+    pub fn of(version: Version, word: &[u8]) -> Option<EventWord>
+        ensures { result ≡ event_word version word.now }
     {
         if is(word, b"inject") {
             Some(EventWord::Inject)
@@ -73,6 +87,8 @@ impl EventWord {
             Some(EventWord::Tick)
         } else if is(word, b"raw") {
             Some(EventWord::Raw)
+        } else if is_repeat(version, word) {
+            Some(EventWord::Repeat)
         } else {
             None
         }

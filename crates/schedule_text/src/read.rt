@@ -8,20 +8,25 @@ ghost use Rattle.schedule_text.specs.Schedules.{header_step, network_step, progr
 use crate::events::read_event;
 use crate::network::{end_program, read_network};
 use crate::reading::{BegunProgram, Reading, ScheduleFile, Stage};
-use line_files::{LineFault, LineFile, LineReason, Words, is, read_file, says_nothing, stopped_at};
+use line_files::{
+    LineFault, LineFile, LineReason, Words, is, read_file, says_nothing, stopped_at, version_of,
+};
+use link_window::Version;
 use network_plan::{Schedule, Topology};
 use plan_items::Items;
 use std::alloc::Global;
 use std::mem;
 
-/// The header.
-fn read_header(number: u32, line: &[u8], reading: &Reading) -> Result<Stage, LineFault>
-    ensures { LeavesStep result reading.now (header_step number line.now reading.now) }
+/// The header, which gives the version.
+fn read_header(number: u32, line: &[u8], reading: &mut Reading) -> Result<Stage, LineFault>
+    ensures { LeavesStep result reading.new (header_step number line.now reading.old) }
 {
-    if is(line, b"planet schedule 1") {
-        Ok(Stage::Network)
-    } else {
-        Err(LineFault::Line(number, LineReason::BadHeader))
+    match version_of(line, b"planet schedule 1", b"planet schedule 2") {
+        None => Err(LineFault::Line(number, LineReason::BadHeader)),
+        Some(version) => {
+            reading.version = version;
+            Ok(Stage::Network)
+        }
     }
 }
 
@@ -108,6 +113,7 @@ fn end_file(number: u32, stage: Stage, reading: Reading) -> Result<Schedule, Lin
     ensures { result ≡ finish number stage reading }
 {
     let Reading {
+        version,
         frames,
         hosts,
         links,
@@ -119,7 +125,11 @@ fn end_file(number: u32, stage: Stage, reading: Reading) -> Result<Schedule, Lin
         Stage::Header => Err(LineFault::Line(number, LineReason::BadHeader)),
         Stage::Events => Ok(Schedule {
             frames,
-            topology: Topology { hosts, links },
+            topology: Topology {
+                hosts,
+                links,
+                version,
+            },
             events,
         }),
         _ => Err(LineFault::Line(number, LineReason::BadWord)),
@@ -153,6 +163,7 @@ fn start(alloc: Global) -> ScheduleFile
     ScheduleFile {
         stage: Stage::Header,
         reading: Reading {
+            version: Version::One,
             frames: false,
             hosts: Items::new(alloc),
             links: Items::new(alloc),

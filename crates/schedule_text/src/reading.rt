@@ -1,4 +1,5 @@
 use line_files::OpenProgram;
+use link_window::Version;
 use network_plan::{HostSpecs, Links, WorldEvents};
 use plan_base::Name;
 use plan_items::Items;
@@ -19,6 +20,8 @@ pub type NamedPrograms = Items<NamedProgram>;
 /// What the lines read so far have said.
 #[derive(Drop)]
 pub struct Reading {
+    /// The version, 1 until the header is read.
+    pub version: Version,
     /// Whether the trace shows frames.
     pub frames: bool,
     /// The hosts.

@@ -1,9 +1,10 @@
 -- That a run only goes on.
 use Rattle.std.proofs.Common.{◌≡◌, ℕ, zero, suc, ◌+◌, Bool, true, false, if◌then◌else◌, List, [], ◌∷◌, ◌++◌, length, map, slice_get, nat_le, ◌==◌, drop, Option, Some, None, refl, sym, ◌∙◌, ap, subst, arith, append_assoc, append-nil, length-append}
+use Rattle.plan_base.specs.declared.name.Name.{Name}
 use Rattle.plan_base.specs.declared.ids.Dev.{Dev}
 use Rattle.plan_base.specs.declared.tree.Chunk.{Chunk}
-use Rattle.packet_frame.specs.declared.frame.PlainFrame.{PlainFrame}
-use Rattle.packet_frame.specs.Bytes.{frame_bytes}
+use Rattle.packet_frame.specs.declared.frame.PlainStamped.{PlainStamped}
+use Rattle.packet_frame.specs.Stamped.{stamped_bytes}
 use Rattle.network_plan.specs.Hosts.{dev_of}
 use Rattle.network_plan.specs.declared.event.Event.{Event}
 use Rattle.network_plan.specs.declared.event.Event.TheVariants.{Inject, Frame, Tick, Take}
@@ -86,8 +87,8 @@ ext_marked t r = let same = ext_refl r in record { events = same.events; sent = 
 pub ext_holding : (b : Bool) (r : Running) → Ext r (holding b r)
 ext_holding b r = let same = ext_refl r in record { events = same.events; sent = same.sent; log = same.log; frames = same.frames; lines = same.lines; node = same.node }
 
-pub ext_sent : (d : Dev) (x : PlainFrame) (r : Running) → Ext r (with_sent d x r)
-ext_sent d x r = let same = ext_refl r in record { events = same.events; sent = (d, frame_bytes x) ∷ []; log = same.log; frames = refl; lines = same.lines; node = same.node }
+pub ext_sent : (d : Dev) (x : PlainStamped) (r : Running) → Ext r (with_sent d x r)
+ext_sent d x r = let same = ext_refl r in record { events = same.events; sent = (d, stamped_bytes x) ∷ []; log = same.log; frames = refl; lines = same.lines; node = same.node }
 
 -- ---- whatever is refused
 
@@ -107,11 +108,11 @@ unfolding tick
 tick_grows period t refused r = either (nat_le (r.last + period) t) r (marked t (make Tick refused r)) r
     (ext_trans r (make Tick refused r) (marked t (make Tick refused r)) (make_grows Tick refused r) (ext_marked t (make Tick refused r))) (ext_refl r)
 
-pub inject_one_grows : (turn : ℕ) (x : Option (ℕ × ℕ × Chunk)) → Grows (inject_one turn x)
+pub inject_one_grows : (turn : ℕ) (x : Option (ℕ × ℕ × Chunk × Option Name)) → Grows (inject_one turn x)
 inject_one_grows turn None refused r = ext_refl r
-inject_one_grows turn (Some x) refused r = either (x.0 == turn) r (make (Inject x.2 x.1) refused r) r (make_grows (Inject x.2 x.1) refused r) (ext_refl r)
+inject_one_grows turn (Some x) refused r = either (x.0 == turn) r (make (Inject x.2 x.1 x.3) refused r) r (make_grows (Inject x.2 x.1 x.3) refused r) (ext_refl r)
 
-pub inject_to_grows : (turn : ℕ) (at : List (ℕ × ℕ × Chunk)) (n : ℕ) → Grows (inject_to turn at n)
+pub inject_to_grows : (turn : ℕ) (at : List (ℕ × ℕ × Chunk × Option Name)) (n : ℕ) → Grows (inject_to turn at n)
 unfolding inject_to
 inject_to_grows turn at zero refused r = ext_refl r
 inject_to_grows turn at (suc n) refused r = grows_then (inject_to turn at n) (inject_one turn (slice_get at n)) (inject_to_grows turn at n) (inject_one_grows turn (slice_get at n)) refused r
@@ -120,9 +121,9 @@ pub hear_grows : (h : Option Heard) → Grows (hear h)
 hear_grows None refused r = ext_refl r
 hear_grows (Some x) refused r = make_grows (arrival x) refused r
 
-pub come_back_grows : (x : Option PlainFrame) → Grows (come_back x)
+pub come_back_grows : (x : Option PlainStamped) → Grows (come_back x)
 come_back_grows None refused r = ext_refl r
-come_back_grows (Some x) refused r = make_grows (Frame (dev_of 0) (frame_bytes x)) refused r
+come_back_grows (Some x) refused r = make_grows (Frame (dev_of 0) (stamped_bytes x)) refused r
 
 pub take_back_grows : Grows take_back
 unfolding take_back
@@ -136,7 +137,7 @@ pub loop_back_grows : Grows loop_back
 unfolding loop_back
 loop_back_grows refused r = either (nat_le 1 (queued_on r.node (dev_of 0))) r (take_back refused r) r (take_back_grows refused r) (ext_refl r)
 
-pub send_taken_ext : (d : Dev) (x : Option PlainFrame) (r : Running) → Ext r (send_taken d x r)
+pub send_taken_ext : (d : Dev) (x : Option PlainStamped) (r : Running) → Ext r (send_taken d x r)
 send_taken_ext d None r = ext_refl r
 send_taken_ext d (Some x) r = ext_sent d x r
 

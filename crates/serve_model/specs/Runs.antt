@@ -1,10 +1,11 @@
 -- The run of a serving node: its turns, by what its link hears, what its clock answers, and which steps were refused.
 use Rattle.std.specs.Prelude.{◌≡◌, ℕ, zero, suc, ◌+◌, Bool, true, false, ◌==◌, nat_le, if◌then◌else◌, List, [], ◌∷◌, ◌++◌, length, map, drop, get_or, slice_get, Option, Some, None}
 use Rattle.std.specs.List.{list_any}
+use Rattle.plan_base.specs.declared.name.Name.{Name}
 use Rattle.plan_base.specs.declared.ids.Dev.{Dev}
 use Rattle.plan_base.specs.declared.tree.Chunk.{Chunk}
-use Rattle.packet_frame.specs.declared.frame.PlainFrame.{PlainFrame}
-use Rattle.packet_frame.specs.Bytes.{frame_bytes}
+use Rattle.packet_frame.specs.declared.frame.PlainStamped.{PlainStamped}
+use Rattle.packet_frame.specs.Stamped.{stamped_bytes}
 use Rattle.network_plan.specs.Hosts.{dev_of}
 use Rattle.network_plan.specs.declared.event.Event.{Event}
 use Rattle.network_plan.specs.declared.event.Event.TheVariants.{Inject, Frame, Control, Tick, Take}
@@ -14,6 +15,7 @@ use Rattle.network_plan.specs.declared.serve.ServeConfig.{ServeConfig}
 use Rattle.node_io.specs.declared.link.Peer.{Peer}
 use Rattle.node_io.specs.declared.link.Arrival.{Arrival}
 use Rattle.node_io.specs.Links.{Heard, has_peer, next_heard}
+use Rattle.node_model.specs.declared.acts.Lane.{Lane}
 use Rattle.node_model.specs.State.{NodeState}
 use Rattle.node_model.specs.Node.{node_step}
 use Rattle.node_model.specs.declared.acts.Act.{Act}
@@ -78,8 +80,8 @@ marked t r = record r { last = t }
 abbrev pub holding : Bool → Running → Running
 holding held r = record r { held = held }
 
-abbrev pub with_sent : Dev → PlainFrame → Running → Running
-with_sent d x r = record r { sent = r.sent ++ (d, frame_bytes x) ∷ [] }
+abbrev pub with_sent : Dev → PlainStamped → Running → Running
+with_sent d x r = record r { sent = r.sent ++ (d, stamped_bytes x) ∷ [] }
 
 -- ---- what a run does
 
@@ -112,12 +114,12 @@ unfoldable pub tick : ℕ → ℕ → Action
 tick period t refused r = if nat_le (r.last + period) t then marked t (make Tick refused r) else r
 
 -- an injection of this turn
-abbrev pub inject_one : ℕ → Option (ℕ × ℕ × Chunk) → Action
+abbrev pub inject_one : ℕ → Option (ℕ × ℕ × Chunk × Option Name) → Action
 inject_one turn None refused r = r
-inject_one turn (Some x) refused r = if x.0 == turn then make (Inject x.2 x.1) refused r else r
+inject_one turn (Some x) refused r = if x.0 == turn then make (Inject x.2 x.1 x.3) refused r else r
 
 -- the injections of this turn among the first so many
-unfoldable pub inject_to : ℕ → List (ℕ × ℕ × Chunk) → ℕ → Action
+unfoldable pub inject_to : ℕ → List (ℕ × ℕ × Chunk × Option Name) → ℕ → Action
 inject_to turn at zero refused r = r
 inject_to turn at (suc n) refused r = inject_one turn (slice_get at n) refused (inject_to turn at n refused r)
 
@@ -131,21 +133,21 @@ hear None refused r = r
 hear (Some x) refused r = make (arrival x) refused r
 
 -- the first frame on a device, where there is one
-abbrev pub first_on : NodeState → Dev → Option PlainFrame
+abbrev pub first_on : NodeState → Dev → Option PlainStamped
 first_on node d = (node_step node (Take d)).frame
 
 -- whether a frame is queued on a device
-abbrev pub frames_in : Option (List PlainFrame) → ℕ
+abbrev pub frames_in : Option Lane → ℕ
 frames_in None = 0
-frames_in (Some queue) = length queue
+frames_in (Some lane) = length lane.frames
 
 abbrev pub queued_on : NodeState → Dev → ℕ
 queued_on node d = frames_in (slice_get node.queues d.0)
 
 -- a frame to the node itself arrives
-abbrev pub come_back : Option PlainFrame → Action
+abbrev pub come_back : Option PlainStamped → Action
 come_back None refused r = r
-come_back (Some x) refused r = make (Frame (dev_of 0) (frame_bytes x)) refused r
+come_back (Some x) refused r = make (Frame (dev_of 0) (stamped_bytes x)) refused r
 
 -- the first frame on device 0 is taken, and arrives; a refused taking ends this
 unfoldable pub take_back : Action
@@ -156,7 +158,7 @@ unfoldable pub loop_back : Action
 loop_back refused r = if nat_le 1 (queued_on r.node (dev_of 0)) then take_back refused r else r
 
 -- a frame that was taken is sent
-abbrev pub send_taken : Dev → Option PlainFrame → Running → Running
+abbrev pub send_taken : Dev → Option PlainStamped → Running → Running
 send_taken d None r = r
 send_taken d (Some x) r = with_sent d x r
 

@@ -9,7 +9,7 @@ use Rattle.trace_lines.specs.declared.line.What.TheVariants as what
 use Rattle.trace_lines.specs.declared.line.Reason.{Reason}
 use Rattle.trace_lines.specs.declared.line.Reason.TheVariants as reason
 use Rattle.trace_lines.specs.declared.line.Line.{Line}
-use Rattle.trace_lines.specs.declared.line.Line.TheVariants.{Injected, Forged, Arrived, Asked, Printed, Delivered, Gave, Raised, Spent, Queued, Dropped, Refused, Advert, Heard, Ticked, Sent, Wire, WireShown, Off, Lost, LostAdvert, Nothing}
+use Rattle.trace_lines.specs.declared.line.Line.TheVariants.{Injected, Forged, Arrived, Asked, Printed, Delivered, Gave, Raised, Spent, Handled, Queued, Dropped, Refused, Advert, Heard, Ticked, Sent, Wire, WireShown, Off, Again, Lost, LostAdvert, Nothing}
 use Rattle.trace_lines.specs.declared.line.Entry.{Entry}
 
 -- the host at which a line happened, where it names one
@@ -23,6 +23,7 @@ host_of (Delivered h p v) = Some h
 host_of (Gave h f v evals rest) = Some h
 host_of (Raised h f x evals rest) = Some h
 host_of (Spent h f rest) = Some h
+host_of (Handled h f n bound) = Some h
 host_of (Queued h d f bound) = Some h
 host_of (Dropped h r f bound) = Some h
 host_of (Refused h why) = Some h
@@ -33,6 +34,7 @@ host_of (Sent h d x) = Some h
 host_of (Wire number) = None
 host_of (WireShown number hex) = None
 host_of (Off number) = None
+host_of (Again number) = None
 host_of (Lost f bound) = None
 host_of LostAdvert = None
 host_of Nothing = None
@@ -48,6 +50,7 @@ word_text (Delivered h p v) = codes "port"
 word_text (Gave h f v evals rest) = codes "value"
 word_text (Raised h f x evals rest) = codes "raised"
 word_text (Spent h f rest) = codes "spent"
+word_text (Handled h f n bound) = codes "handler"
 word_text (Queued h d f bound) = codes "queue"
 word_text (Dropped h r f bound) = codes "drop"
 word_text (Refused h why) = codes "drop"
@@ -58,6 +61,7 @@ word_text (Sent h d x) = codes "send"
 word_text (Wire number) = codes "wire"
 word_text (WireShown number hex) = codes "wire"
 word_text (Off number) = codes "off"
+word_text (Again number) = codes "again"
 word_text (Lost f bound) = codes "lost"
 word_text LostAdvert = codes "lost"
 word_text Nothing = codes "nothing"
@@ -80,6 +84,14 @@ paid_text evals rest = codes " evals " ++ (decimal evals ++ (codes " left " ++ d
 abbrev pub end_text : Family → List ℕ → ℕ → ℕ → List ℕ
 end_text f how evals rest = codes " " ++ (family_text f ++ (codes " " ++ (how ++ paid_text evals rest)))
 
+-- a name with the bound that is told to it
+abbrev pub told_text : List ℕ → ℕ → List ℕ
+told_text n bound = n ++ (codes " bound " ++ decimal bound)
+
+-- a handler that is called, with the bound that it has
+abbrev pub called_text : Family → List ℕ → ℕ → List ℕ
+called_text f n bound = codes " " ++ (family_text f ++ (codes " " ++ told_text n bound))
+
 abbrev pub what_text : What → List ℕ
 what_text (what.Packet f) = family_text f
 what_text what.Advert = codes "advert"
@@ -89,6 +101,9 @@ reason_text reason.NoBound = codes "NoBound"
 reason_text reason.NoService = codes "NoService"
 reason_text reason.NoRoute = codes "NoRoute"
 reason_text reason.QueueFull = codes "QueueFull"
+reason_text reason.LinkSpent = codes "LinkSpent"
+reason_text reason.Repeated = codes "Repeated"
+reason_text reason.TooOld = codes "TooOld"
 
 -- what stands behind the word and the host
 unfoldable pub rest_text : Line → List ℕ
@@ -101,6 +116,7 @@ rest_text (Delivered h p v) = codes " " ++ (decimal p ++ (codes " " ++ v))
 rest_text (Gave h f v evals rest) = end_text f v evals rest
 rest_text (Raised h f x evals rest) = end_text f x evals rest
 rest_text (Spent h f rest) = codes " " ++ (family_text f ++ (codes " left " ++ decimal rest))
+rest_text (Handled h f n bound) = called_text f n bound
 rest_text (Queued h d f bound) = device_text d ++ bound_text f bound
 rest_text (Dropped h r f bound) = codes " " ++ (reason_text r ++ bound_text f bound)
 rest_text (Refused h why) = codes " " ++ why
@@ -111,6 +127,7 @@ rest_text (Sent h d x) = device_text d ++ (codes " " ++ what_text x)
 rest_text (Wire number) = codes " " ++ decimal number
 rest_text (WireShown number hex) = codes " " ++ (decimal number ++ (codes " " ++ hex))
 rest_text (Off number) = codes " " ++ decimal number
+rest_text (Again number) = codes " " ++ decimal number
 rest_text (Lost f bound) = bound_text f bound
 rest_text LostAdvert = codes " advert"
 rest_text Nothing = []

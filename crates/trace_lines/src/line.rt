@@ -24,6 +24,12 @@ pub enum Reason {
     NoRoute,
     /// The queue is full.
     QueueFull,
+    /// All numbers of the device were given.
+    LinkSpent,
+    /// Its frame was taken before.
+    Repeated,
+    /// Its frame is too old.
+    TooOld,
 }
 
 /// A line of a trace, without the number of its event. Values, notes and refusals are kept as they
@@ -48,6 +54,8 @@ pub enum Line {
     Raised(Host, Family, Bytes, u32, u32),
     /// A visit passed its allowance of work, and so much is left.
     Spent(Host, Family, u32),
+    /// The source is told of a visit by a call of this handler, with this bound.
+    Handled(Host, Family, Bytes, u32),
     /// A packet was put into a queue with this bound.
     Queued(Host, Dev, Family, u32),
     /// A packet was dropped with this bound.
@@ -68,6 +76,8 @@ pub enum Line {
     WireShown(u32, Bytes),
     /// The frame of this number left the wire.
     Off(u32),
+    /// The frame of this number arrives, and stays on the wire.
+    Again(u32),
     /// A packet with this bound was lost.
     Lost(Family, u32),
     /// An advert was lost.
@@ -91,6 +101,7 @@ impl Line {
             | Line::Gave(h, ..)
             | Line::Raised(h, ..)
             | Line::Spent(h, ..)
+            | Line::Handled(h, ..)
             | Line::Queued(h, ..)
             | Line::Dropped(h, ..)
             | Line::Refused(h, _)
@@ -101,6 +112,7 @@ impl Line {
             Line::Wire(_)
             | Line::WireShown(..)
             | Line::Off(_)
+            | Line::Again(_)
             | Line::Lost(..)
             | Line::LostAdvert
             | Line::Nothing => None,
@@ -120,6 +132,7 @@ impl Line {
             Line::Gave(..) => b"value",
             Line::Raised(..) => b"raised",
             Line::Spent(..) => b"spent",
+            Line::Handled(..) => b"handler",
             Line::Queued(..) => b"queue",
             Line::Dropped(..) | Line::Refused(..) => b"drop",
             Line::Advert(..) => b"advert",
@@ -128,6 +141,7 @@ impl Line {
             Line::Sent(..) => b"send",
             Line::Wire(_) | Line::WireShown(..) => b"wire",
             Line::Off(_) => b"off",
+            Line::Again(_) => b"again",
             Line::Lost(..) | Line::LostAdvert => b"lost",
             Line::Nothing => b"nothing",
         }

@@ -36,6 +36,9 @@ fn reason_of(word: &[u8]) -> Option<Reason> {
         b"NoService" => Some(Reason::NoService),
         b"NoRoute" => Some(Reason::NoRoute),
         b"QueueFull" => Some(Reason::QueueFull),
+        b"LinkSpent" => Some(Reason::LinkSpent),
+        b"Repeated" => Some(Reason::Repeated),
+        b"TooOld" => Some(Reason::TooOld),
         _ => None,
     }
 }
@@ -45,6 +48,9 @@ fn is_refusal(text: &[u8]) -> bool {
     is(text, b"SerialsSpent")
         || is(text, b"NoMemory")
         || is(text, b"QueueFull advert")
+        || is(text, b"LinkSpent advert")
+        || is(text, b"Repeated advert")
+        || is(text, b"TooOld advert")
         || (text.starts_with(b"BadFrame ") && text.len() > 9)
 }
 
@@ -140,6 +146,19 @@ fn spent(h: Host, text: &[u8]) -> Option<Line> {
     Some(Line::Spent(h, family_of(family)?, short(left)?))
 }
 
+/// A handler that is called, as `1.1 oops bound 3`.
+fn handled(alloc: Global, h: Host, text: &[u8]) -> Result<Option<Line>, NoMemory> {
+    let (family, rest) = cut(text);
+    let (name, rest) = cut(rest);
+    let (_, bound) = cut(rest);
+    match (family_of(family), short(bound)) {
+        (Some(f), Some(bound)) if !name.is_empty() => {
+            Ok(Some(Line::Handled(h, f, copied(alloc, name)?, bound)))
+        }
+        _ => Ok(None),
+    }
+}
+
 fn queued(h: Host, text: &[u8]) -> Option<Line> {
     let (dev, rest) = cut(text);
     let (f, bound) = bound_of(rest)?;
@@ -182,6 +201,7 @@ fn at_host(alloc: Global, word: &[u8], h: Host, text: &[u8]) -> Result<Option<Li
         b"value" => gave(alloc, h, text),
         b"raised" => raised(alloc, h, text),
         b"drop" => dropped(alloc, h, text),
+        b"handler" => handled(alloc, h, text),
         b"inject" => Ok(injected(h, text)),
         b"forged" => Ok(forged(h, text)),
         b"arrive" => Ok(arrived(h, text)),
@@ -214,6 +234,7 @@ fn without_host(alloc: Global, word: &[u8], text: &[u8]) -> Result<Option<Line>,
     match word {
         b"wire" => wire(alloc, text),
         b"off" => Ok(short(text).map(Line::Off)),
+        b"again" => Ok(short(text).map(Line::Again)),
         b"lost" if is(text, b"advert") => Ok(Some(Line::LostAdvert)),
         b"lost" => Ok(bound_of(text).map(|(f, bound)| Line::Lost(f, bound))),
         b"nothing" => Ok(Some(Line::Nothing)),

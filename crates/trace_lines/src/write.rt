@@ -72,6 +72,31 @@ fn put_spent(alloc: Global, out: &mut Bytes, f: Family, left: u32) -> Result<(),
     put_number(alloc, out, u64::from(left))
 }
 
+/// A name with the bound that is told to it.
+fn put_told(alloc: Global, out: &mut Bytes, name: &[u8], bound: u32) -> Result<(), NoMemory>
+    ensures { OnOk result (out.new ≡ out.old ++ spec.told_text name.now bound) }
+{
+    out.add_all(name)?;
+    out.add_all(b" bound ")?;
+    put_number(alloc, out, u64::from(bound))
+}
+
+/// A handler that is called, with the bound that it has.
+fn put_called(
+    alloc: Global,
+    out: &mut Bytes,
+    f: Family,
+    name: &[u8],
+    bound: u32,
+) -> Result<(), NoMemory>
+    ensures { OnOk result (out.new ≡ out.old ++ spec.called_text f name.now bound) }
+{
+    out.add_all(b" ")?;
+    put_family(alloc, out, f)?;
+    out.add_all(b" ")?;
+    put_told(alloc, out, name, bound)
+}
+
 /// The word of a reason.
 pub(crate) fn reason_word(reason: Reason) -> &'static [u8]
     ensures { result.now ≡ spec.reason_text reason }
@@ -81,6 +106,9 @@ pub(crate) fn reason_word(reason: Reason) -> &'static [u8]
         Reason::NoService => b"NoService",
         Reason::NoRoute => b"NoRoute",
         Reason::QueueFull => b"QueueFull",
+        Reason::LinkSpent => b"LinkSpent",
+        Reason::Repeated => b"Repeated",
+        Reason::TooOld => b"TooOld",
     }
 }
 
@@ -185,11 +213,14 @@ pub fn put_rest(alloc: Global, out: &mut Bytes, line: &Line) -> Result<(), NoMem
             put_end(alloc, out, *f, how.as_slice(), *evals, *left)
         }
         Line::Spent(_, f, left) => put_spent(alloc, out, *f, *left),
+        Line::Handled(_, f, name, bound) => put_called(alloc, out, *f, name.as_slice(), *bound),
         Line::Queued(_, d, f, bound) => put_queued(alloc, out, *d, *f, *bound),
         Line::Dropped(_, reason, f, bound) => put_dropped(alloc, out, *reason, *f, *bound),
         Line::Ticked(_, now) => put_now(alloc, out, *now),
         Line::Sent(_, d, what) => put_sent(alloc, out, *d, *what),
-        Line::Wire(number) | Line::Off(number) => put_count(alloc, out, u64::from(*number)),
+        Line::Wire(number) | Line::Off(number) | Line::Again(number) => {
+            put_count(alloc, out, u64::from(*number))
+        }
         Line::WireShown(number, hex) => { put_pair(alloc, out, u64::from(*number), hex.as_slice()) }
         Line::LostAdvert => put_word(out, b"advert"),
         Line::Nothing => Ok(()),

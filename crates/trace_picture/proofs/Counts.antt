@@ -3,7 +3,7 @@ use Rattle.std.proofs.Common.{◌≡◌, ℕ, Bool, List, [], ◌∷◌, ◌+◌
 use Rattle.std.proofs.lemmas.List.Sums.{sum_by-cons}
 use Rattle.std.specs.List.{count_by}
 use Rattle.trace_lines.specs.declared.line.Line.{Line}
-use Rattle.trace_lines.specs.declared.line.Line.TheVariants.{Injected, Forged, Arrived, Asked, Printed, Delivered, Gave, Raised, Spent, Queued, Dropped, Refused, Advert, Heard, Ticked, Sent, Wire, WireShown, Off, Lost, LostAdvert, Nothing}
+use Rattle.trace_lines.specs.declared.line.Line.TheVariants.{Injected, Forged, Arrived, Asked, Printed, Delivered, Gave, Raised, Spent, Handled, Queued, Dropped, Refused, Advert, Heard, Ticked, Sent, Wire, WireShown, Off, Again, Lost, LostAdvert, Nothing}
 use Rattle.trace_lines.specs.Counts.{is_frame, is_loss, is_visit}
 use Rattle.trace_picture.specs.declared.drawing.Kind.{Kind}
 use Rattle.trace_lines.specs.declared.line.Entry.{Entry}
@@ -28,6 +28,7 @@ alike (Delivered h p v) = record { arrow = refl; cross = refl; ending = refl }
 alike (Gave h f v evals rest) = record { arrow = refl; cross = refl; ending = refl }
 alike (Raised h f x evals rest) = record { arrow = refl; cross = refl; ending = refl }
 alike (Spent h f rest) = record { arrow = refl; cross = refl; ending = refl }
+alike (Handled h f n bound) = record { arrow = refl; cross = refl; ending = refl }
 alike (Queued h d f bound) = record { arrow = refl; cross = refl; ending = refl }
 alike (Dropped h r f bound) = record { arrow = refl; cross = refl; ending = refl }
 alike (Refused h why) = record { arrow = refl; cross = refl; ending = refl }
@@ -38,6 +39,7 @@ alike (Sent h d x) = record { arrow = refl; cross = refl; ending = refl }
 alike (Wire number) = record { arrow = refl; cross = refl; ending = refl }
 alike (WireShown number hex) = record { arrow = refl; cross = refl; ending = refl }
 alike (Off number) = record { arrow = refl; cross = refl; ending = refl }
+alike (Again number) = record { arrow = refl; cross = refl; ending = refl }
 alike (Lost f bound) = record { arrow = refl; cross = refl; ending = refl }
 alike LostAdvert = record { arrow = refl; cross = refl; ending = refl }
 alike Nothing = record { arrow = refl; cross = refl; ending = refl }

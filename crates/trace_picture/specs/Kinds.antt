@@ -3,7 +3,7 @@ use Rattle.std.specs.Prelude.{ℕ, Bool, true, false, List, [], ◌++◌, codes}
 use Rattle.std.specs.Fmt.{decimal}
 use Rattle.plan_base.specs.declared.ids.Family.{Family}
 use Rattle.trace_lines.specs.declared.line.Line.{Line}
-use Rattle.trace_lines.specs.declared.line.Line.TheVariants.{Injected, Forged, Arrived, Asked, Printed, Delivered, Gave, Raised, Spent, Queued, Dropped, Refused, Advert, Heard, Ticked, Sent, Wire, WireShown, Off, Lost, LostAdvert, Nothing}
+use Rattle.trace_lines.specs.declared.line.Line.TheVariants.{Injected, Forged, Arrived, Asked, Printed, Delivered, Gave, Raised, Spent, Handled, Queued, Dropped, Refused, Advert, Heard, Ticked, Sent, Wire, WireShown, Off, Again, Lost, LostAdvert, Nothing}
 use Rattle.trace_lines.specs.Lines.{family_text, word_text, rest_text}
 use Rattle.trace_picture.specs.declared.drawing.Kind.{Kind}
 use Rattle.trace_picture.specs.declared.drawing.Kind.TheVariants as kind
@@ -19,6 +19,7 @@ kind_of (Delivered h p v) = kind.Note
 kind_of (Gave h f v evals rest) = kind.Value
 kind_of (Raised h f x evals rest) = kind.Exception
 kind_of (Spent h f rest) = kind.Spent
+kind_of (Handled h f n bound) = kind.Aside
 kind_of (Queued h d f bound) = kind.Aside
 kind_of (Dropped h r f bound) = kind.Dropped
 kind_of (Refused h why) = kind.Dropped
@@ -29,6 +30,7 @@ kind_of (Sent h d x) = kind.Sending
 kind_of (Wire number) = kind.Frame
 kind_of (WireShown number hex) = kind.Frame
 kind_of (Off number) = kind.Unseen
+kind_of (Again number) = kind.Aside
 kind_of (Lost f bound) = kind.Loss
 kind_of LostAdvert = kind.Loss
 kind_of Nothing = kind.Aside

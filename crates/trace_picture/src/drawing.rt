@@ -40,7 +40,7 @@ pub enum Kind {
     Start,
     /// A packet was forged.
     Forgery,
-    /// A faint remark: queues, ticks, adverts, asks, and events that named nothing.
+    /// A faint remark: queues, ticks, adverts, asks, calls of handlers, frames that stay on the wire, and events that named nothing.
     Aside,
     /// Nothing is drawn.
     Unseen,

@@ -49,7 +49,7 @@ pub(crate) struct Walk {
     sender: u32,
     device: u32,
     what: Stroke,
-    /// The frame that left the wire in this event.
+    /// The frame that left the wire in this event, or came out and stayed there.
     taken: Option<usize>,
 }
 
@@ -142,7 +142,7 @@ impl Walk {
         }
     }
 
-    /// The frame that left the wire came out here.
+    /// The frame came out here. Its arrow ends where it came out first.
     fn come_out(&mut self, across: u32, device: u32) -> Result<Place, AllocError> {
         let place = self.place(across, self.taken);
         let Some(frame) = self.taken else {
@@ -151,6 +151,9 @@ impl Walk {
         let Some(journey) = self.journeys.get_mut(frame) else {
             return Ok(place);
         };
+        if !is_open(*journey) {
+            return Ok(place);
+        }
         journey.to = place.at;
         journey.stroke = journey.what;
         let (from, out) = (journey.from.across, journey.device);
@@ -159,17 +162,31 @@ impl Walk {
         Ok(place)
     }
 
-    /// The frame that left the wire was lost. The label stands in the next row.
+    /// The frame that left the wire was lost. The label stands in the next row. Where the frame came out before, its
+    /// arrow stays, and the cross stands where it would have come out again.
     fn vanish(&mut self) -> Place {
         let place = self.place(0, self.taken);
         self.next_row();
         self.is_row_used = true;
-        if let Some(frame) = self.taken {
-            if let Some(journey) = self.journeys.get_mut(frame) {
-                journey.to = place.at;
-                journey.stroke = Stroke::Lost;
-            }
+        let Some(frame) = self.taken else {
+            return place;
+        };
+        let Some(journey) = self.journeys.get_mut(frame) else {
+            return place;
+        };
+        if !is_open(*journey) {
+            let at = Spot {
+                across: journey.to.across,
+                row: place.at.row,
+            };
+            return Place {
+                at,
+                frame: None,
+                ..place
+            };
         }
+        journey.to = place.at;
+        journey.stroke = Stroke::Lost;
         place
     }
 
@@ -193,6 +210,15 @@ impl Walk {
         self.place(0, None)
     }
 
+    /// Frame `number` comes out, and stays on the wire. The label stands where it was sent.
+    fn stay_on(&mut self, number: u32) -> Place {
+        let place = self.take_off(number);
+        match self.taken.and_then(|frame| self.journeys.get(frame)) {
+            Some(journey) => self.place(journey.from.across, None),
+            None => place,
+        }
+    }
+
     fn across(&self, host: Host) -> u32 {
         column(&self.hosts, host.0)
     }
@@ -202,6 +228,7 @@ impl Walk {
             Line::Sent(h, Dev(d), what) => Ok(self.leave(self.across(*h), *d, *what)),
             Line::Wire(_) | Line::WireShown(..) => self.set_off(),
             Line::Off(number) => Ok(self.take_off(*number)),
+            Line::Again(number) => Ok(self.stay_on(*number)),
             Line::Arrived(h, Dev(d)) => self.come_out(self.across(*h), *d),
             Line::Lost(..) | Line::LostAdvert => Ok(self.vanish()),
             _ => match line.host() {
@@ -222,6 +249,11 @@ impl Walk {
         let place = self.place_of(&entry.line)?;
         Ok(Place { begins, ..place })
     }
+}
+
+/// Whether a frame has neither come out nor been lost.
+fn is_open(journey: Journey) -> bool {
+    matches!(journey.stroke, Stroke::Open)
 }
 
 /// Where the frames of a device come out, where that is known.

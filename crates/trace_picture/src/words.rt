@@ -23,11 +23,13 @@ pub(crate) fn kind_of(line: &Line) -> Kind
         Line::Printed(..) | Line::Delivered(..) => Kind::Note,
         Line::Injected(..) => Kind::Start,
         Line::Forged(..) => Kind::Forgery,
-        Line::Queued(..)
+        Line::Handled(..)
+        | Line::Queued(..)
         | Line::Asked(_)
         | Line::Advert(..)
         | Line::Heard(..)
         | Line::Ticked(..)
+        | Line::Again(_)
         | Line::Nothing => Kind::Aside,
         Line::Off(_) => Kind::Unseen,
     }
@@ -72,12 +74,14 @@ pub(crate) fn put_label(alloc: Global, out: &mut Bytes, line: &Line) -> Result<(
         | Line::Asked(_)
         | Line::Delivered(..)
         | Line::Spent(..)
+        | Line::Handled(..)
         | Line::Queued(..)
         | Line::Dropped(..)
         | Line::Refused(..)
         | Line::Advert(..)
         | Line::Heard(..)
         | Line::Ticked(..)
+        | Line::Again(_)
         | Line::Lost(..)
         | Line::LostAdvert
         | Line::Nothing => put_words(alloc, out, line),

@@ -11,7 +11,7 @@ use Rattle.node_model.specs.declared.acts.Act.TheVariants.{Injected}
 use Rattle.node_model.specs.Texts.{family_text, head_text, bound_text, act_text}
 use Rattle.node_model.specs.Counts.{is_family}
 use Rattle.world_model.specs.declared.lines.Line.{Line}
-use Rattle.world_model.specs.declared.lines.Line.TheVariants.{At, Forged, Wire, Off, Lost, Nothing}
+use Rattle.world_model.specs.declared.lines.Line.TheVariants.{At, Forged, Wire, Off, Again, Lost, Nothing}
 use Rattle.world_model.specs.declared.lines.Entry.{Entry}
 use Rattle.world_model.specs.World.{WorldState, world_after, history_of}
 use Rattle.world_model.specs.Counts.{granted, hops, evals, left, live}
@@ -31,6 +31,7 @@ line_text frames (At h act) = act_text h act
 line_text frames (Forged h f bound) = head_text (codes "forged") h ++ bound_text f bound
 line_text frames (Wire number bytes) = codes "wire " ++ (decimal number ++ shown_text frames bytes)
 line_text frames (Off number) = codes "off " ++ decimal number
+line_text frames (Again number) = codes "again " ++ decimal number
 line_text frames (Lost w) = codes "lost" ++ lost_text w
 line_text frames Nothing = codes "nothing"
 

@@ -1,19 +1,24 @@
 -- The visits that an event makes, and when they end well.
 use Rattle.std.specs.Prelude.{ℕ, zero, suc, ◌==◌, if◌then◌else◌, List, [], ◌∷◌, slice_get, Option, Some, None, Result, Ok, Err}
 use Rattle.plan_base.specs.declared.ids.Host.{Host}
+use Rattle.plan_base.specs.declared.name.Name.{Name}
 use Rattle.plan_base.specs.declared.tree.Chunk.{Chunk}
 use Rattle.plan_base.specs.declared.tree.Packet.{Packet}
 use Rattle.packet_frame.specs.declared.frame.PlainFrame.{PlainFrame}
 use Rattle.packet_frame.specs.declared.fault.FrameFault.{FrameFault}
-use Rattle.packet_frame.specs.Decoding.{frame_of}
+use Rattle.packet_frame.specs.declared.frame.PlainStamped.{PlainStamped}
+use Rattle.link_window.specs.declared.window.Took.{Took}
+use Rattle.link_window.specs.declared.window.Took.TheVariants.{Fresh}
+use Rattle.plan_base.specs.declared.ids.Dev.{Dev}
+use Rattle.packet_frame.specs.Decoding.{read_by}
 use Rattle.service_api.specs.Services.{begun_now}
 use Rattle.meaning_laws.specs.Laws.{VisitEnds}
 use Rattle.network_plan.specs.declared.event.WorldEvent.{WorldEvent}
-use Rattle.network_plan.specs.declared.event.WorldEvent.TheVariants.{Inject, Deliver, Raw}
+use Rattle.network_plan.specs.declared.event.WorldEvent.TheVariants.{Inject, Deliver, Repeat, Raw}
 use Rattle.node_model.specs.declared.acts.Act.{Act}
 use Rattle.node_model.specs.declared.acts.Act.TheVariants.{Ended}
 use Rattle.node_model.specs.State.{NodeState, is_host}
-use Rattle.node_model.specs.Node.{next_serial, injected_packet}
+use Rattle.node_model.specs.Node.{next_serial, injected_packet, takes_as}
 use Rattle.node_model.specs.Visits.{around, evaluated, HasCase}
 use Rattle.world_model.specs.declared.lines.Line.{Line}
 use Rattle.world_model.specs.declared.lines.Line.TheVariants.{At}
@@ -35,13 +40,24 @@ abbrev pub frame_visits : PlainFrame → NodeState → List Visiting
 frame_visits (PlainFrame.Packet p) node = if is_host p.dest node.here then one_visit node p else []
 frame_visits _ node = []
 
-abbrev pub bytes_visits : Result PlainFrame FrameFault → NodeState → List Visiting
-bytes_visits (Ok x) node = frame_visits x node
-bytes_visits (Err e) node = []
+abbrev pub visits_as : Took → PlainFrame → NodeState → List Visiting
+visits_as Fresh x node = frame_visits x node
+visits_as _ x node = []
+
+-- where it is fresh on its device
+unfoldable pub stamped_visits : Dev → PlainStamped → NodeState → List Visiting
+stamped_visits d x node = visits_as (takes_as node.seen d x.stamp) x.frame node
+
+abbrev pub read_visits : Dev → Result PlainStamped FrameFault → NodeState → List Visiting
+read_visits d (Ok x) node = stamped_visits d x node
+read_visits d (Err e) node = []
+
+abbrev pub bytes_visits : Dev → List ℕ → NodeState → List Visiting
+bytes_visits d bytes node = read_visits d (read_by node.version bytes) node
 
 -- an injected chunk is visited at once, where a serial number is left
-abbrev pub chunk_visits : Chunk → ℕ → NodeState → List Visiting
-chunk_visits chunk bound node = if node.serial == 18446744073709551615 then [] else one_visit (next_serial node) (injected_packet node chunk bound)
+abbrev pub chunk_visits : Chunk → ℕ → Option Name → NodeState → List Visiting
+chunk_visits chunk bound handler node = if node.serial == 18446744073709551615 then [] else one_visit (next_serial node) (injected_packet node chunk bound handler)
 
 -- ---- in a network
 
@@ -60,17 +76,18 @@ at_host w h visits = at_node visits (item_at w.nodes (place_of w.nodes h))
 
 abbrev pub of_wired : WorldState → Option Wired → List Visiting
 of_wired w None = []
-of_wired w (Some x) = at_host w x.to.host (frame_visits x.frame)
+of_wired w (Some x) = at_host w x.to.host (stamped_visits x.to.dev x.frame)
 
--- the visits of a frame that is delivered
+-- the visits of a frame that is handed
 unfoldable pub delivered_visits : WorldState → ℕ → List Visiting
 delivered_visits w number = of_wired w (item_at w.wire (wire_place w.wire number))
 
 -- the visits that an event makes
 abbrev pub event_visits : WorldState → WorldEvent → List Visiting
-event_visits w (Inject h chunk bound) = at_host w h (chunk_visits chunk bound)
+event_visits w (Inject h chunk bound handler) = at_host w h (chunk_visits chunk bound handler)
 event_visits w (Deliver number) = delivered_visits w number
-event_visits w (Raw h d bytes) = at_host w h (bytes_visits (frame_of bytes))
+event_visits w (Repeat number) = delivered_visits w number
+event_visits w (Raw h d bytes) = at_host w h (bytes_visits d bytes)
 event_visits w _ = []
 
 -- the visits of the event behind the first k of a run

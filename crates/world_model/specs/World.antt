@@ -2,11 +2,15 @@
 use Rattle.std.specs.Prelude.{◌≡◌, ℕ, zero, suc, ◌+◌, Bool, true, false, ◌==◌, ◌&&◌, ◌||◌, nat_lt, if◌then◌else◌, List, [], ◌∷◌, ◌++◌, length, map, slice_get, slice_set, remove, position, Option, Some, None, Result, Ok, Err}
 use Rattle.plan_base.specs.declared.ids.Host.{Host}
 use Rattle.plan_base.specs.declared.ids.Dev.{Dev}
+use Rattle.plan_base.specs.declared.name.Name.{Name}
 use Rattle.plan_base.specs.declared.tree.Chunk.{Chunk}
 use Rattle.packet_frame.specs.declared.frame.PlainFrame.{PlainFrame}
 use Rattle.packet_frame.specs.declared.fault.FrameFault.{FrameFault}
-use Rattle.packet_frame.specs.Bytes.{frame_bytes}
-use Rattle.packet_frame.specs.Decoding.{frame_of}
+use Rattle.packet_frame.specs.declared.frame.PlainStamped.{PlainStamped}
+use Rattle.packet_frame.specs.Stamped.{stamped_bytes}
+use Rattle.link_window.specs.declared.window.Version.{Version}
+use Rattle.link_window.specs.declared.window.Version.TheVariants.{One, Two}
+use Rattle.packet_frame.specs.Decoding.{read_by}
 use Rattle.service_api.specs.Services.{ServiceState}
 use Rattle.service_meaning.specs.Beginning.{opening_standing, present_without}
 use Rattle.network_plan.specs.Hosts.{Cable}
@@ -14,28 +18,32 @@ use Rattle.network_plan.specs.declared.node.NodeConfig.{NodeConfig}
 use Rattle.network_plan.specs.declared.schedule.HostSpec.{HostSpec}
 use Rattle.network_plan.specs.declared.schedule.Topology.{Topology}
 use Rattle.network_plan.specs.declared.event.WorldEvent.{WorldEvent}
-use Rattle.network_plan.specs.declared.event.WorldEvent.TheVariants.{Inject, Send, Deliver, Lose, Tick, Raw}
+use Rattle.network_plan.specs.declared.event.WorldEvent.TheVariants.{Inject, Send, Deliver, Repeat, Lose, Tick, Raw}
 use Rattle.spelled_frame.specs.Spelled.{what_of}
 use Rattle.node_model.specs.declared.acts.Act.{Act}
 use Rattle.node_model.specs.State.{Links, NodeState, is_host, new_node}
-use Rattle.node_model.specs.Node.{Step, inject_step, frame_step, arrive_step, tick_step, take_step}
+use Rattle.node_model.specs.Node.{Step, inject_step, stamped_step, arrive_step, tick_step, take_step}
 use Rattle.world_model.specs.declared.lines.Line.{Line}
-use Rattle.world_model.specs.declared.lines.Line.TheVariants.{At, Forged, Wire, Off, Lost, Nothing}
+use Rattle.world_model.specs.declared.lines.Line.TheVariants.{At, Forged, Wire, Off, Again, Lost, Nothing}
 use Rattle.world_model.specs.declared.lines.Entry.{Entry}
 use Rattle.world_model.specs.declared.lines.LinkEnd.{LinkEnd}
 use Rattle.world_model.specs.declared.lines.Wired.{Wired}
+use Rattle.world_model.specs.declared.lines.Handing.{Handing}
+use Rattle.world_model.specs.declared.lines.Handing.TheVariants.{Taking, Leaving}
 
 -- links, each from a device of one host to a device of another
 abbrev pub Cables : Type 0
 Cables = List Cable
 
--- a network: its nodes, its links, the frames on the wire by number, the number of the next frame, and the number of events so far
+-- a network: its nodes, its links, the frames on the wire by number, the number of the next frame, the number of events so far, and
+-- its version
 pub record WorldState : Type 0 where
   pub nodes : List NodeState
   pub links : Cables
   pub wire : List Wired
   pub «next» : ℕ
   pub made : ℕ
+  pub version : Version
 
 -- what an event gives: its lines, and the network afterwards
 pub record EventResult : Type 0 where
@@ -91,46 +99,57 @@ lines_at h acts = map (At h) acts
 abbrev pub steps_at : WorldState → Host → ℕ → List Line → Step → EventResult
 steps_at w h at before step = happened (before ++ lines_at h step.acts) (with_node w at step.node)
 
--- a step of a host's node; `nothing` where there is none
-unfoldable pub step_at : WorldState → Host → List Line → (NodeState → Step) → ℕ → Option NodeState → EventResult
+-- a step of a host's node, behind what it says before; `nothing` where there is none
+unfoldable pub step_at : WorldState → Host → (NodeState → List Line) → (NodeState → Step) → ℕ → Option NodeState → EventResult
 step_at w h before step at None = nothing w
-step_at w h before step at (Some node) = steps_at w h at before (step node)
+step_at w h before step at (Some node) = steps_at w h at (before node) (step node)
 
-unfoldable pub step_place : WorldState → Host → List Line → (NodeState → Step) → Option ℕ → EventResult
+unfoldable pub step_place : WorldState → Host → (NodeState → List Line) → (NodeState → Step) → Option ℕ → EventResult
 step_place w h before step None = nothing w
 step_place w h before step (Some at) = step_at w h before step at (slice_get w.nodes at)
 
-unfoldable pub steps : WorldState → Host → List Line → (NodeState → Step) → EventResult
+unfoldable pub steps : WorldState → Host → (NodeState → List Line) → (NodeState → Step) → EventResult
 steps w h before step = step_place w h before step (place_of w.nodes h)
 
 -- ---- injections, ticks, and frames from outside
 
-abbrev pub injects : WorldState → Host → Chunk → ℕ → EventResult
-injects w h chunk bound = steps w h [] (λ node. inject_step [] node chunk bound)
+abbrev pub none_before : NodeState → List Line
+none_before node = []
+
+abbrev pub injects : WorldState → Host → Chunk → ℕ → Option Name → EventResult
+injects w h chunk bound handler = steps w h none_before (λ node. inject_step [] node chunk bound handler)
 
 abbrev pub ticks : WorldState → Host → EventResult
-ticks w h = steps w h [] tick_step
+ticks w h = steps w h none_before tick_step
+
+abbrev pub forged_frame : Host → PlainFrame → List Line
+forged_frame h (PlainFrame.Packet p) = Forged h p.family p.bound ∷ []
+forged_frame h _ = []
 
 -- bytes from outside that are accepted as a packet grant its bound
-abbrev pub forged : Host → Result PlainFrame FrameFault → List Line
-forged h (Ok (PlainFrame.Packet p)) = Forged h p.family p.bound ∷ []
-forged h _ = []
+abbrev pub forged : Host → Result PlainStamped FrameFault → List Line
+forged h (Ok x) = forged_frame h x.frame
+forged h (Err e) = []
+
+abbrev pub forged_at : Host → List ℕ → NodeState → List Line
+forged_at h bytes node = forged h (read_by node.version bytes)
 
 abbrev pub raws : WorldState → Host → Dev → List ℕ → EventResult
-raws w h d bytes = steps w h (forged h (frame_of bytes)) (λ node. arrive_step node d bytes)
+raws w h d bytes = steps w h (forged_at h bytes) (λ node. arrive_step node d bytes)
 
 -- ---- sends
 
 -- the frame that the node took goes onto the wire under the next number
-unfoldable pub send_taken : WorldState → Host → Dev → ℕ → LinkEnd → Step → Option PlainFrame → EventResult
+unfoldable pub send_taken : WorldState → Host → Dev → ℕ → LinkEnd → Step → Option PlainStamped → EventResult
 send_taken w h d at to step None = nothing w
-send_taken w h d at to step (Some x) = happened (lines_at h step.acts ++ Wire w.«next» (frame_bytes x) ∷ [])
+send_taken w h d at to step (Some x) = happened (lines_at h step.acts ++ Wire w.«next» (stamped_bytes x) ∷ [])
     (record {
       nodes = slice_set w.nodes at step.node;
       links = w.links;
-      wire = w.wire ++ record { number = w.«next»; from = record { host = h; dev = d }; to = to; frame = x } ∷ [];
+      wire = w.wire ++ record { number = w.«next»; from = record { host = h; dev = d }; to = to; frame = x; handed = false } ∷ [];
       «next» = w.«next» + 1;
       made = w.made;
+      version = w.version;
     })
 
 unfoldable pub send_at : WorldState → Host → Dev → ℕ → LinkEnd → Option NodeState → EventResult
@@ -148,38 +167,53 @@ send_place w h d (Some at) = send_over w h d at (far_end w.links h d)
 unfoldable pub sends : WorldState → Host → Dev → EventResult
 sends w h d = send_place w h d (place_of w.nodes h)
 
--- ---- deliveries and losses
+-- ---- handings and losses
+
+-- a frame is handed to its receiving end: taken off the wire, or left there
+abbrev pub hand_line : Handing → ℕ → Line
+hand_line Taking number = Off number
+hand_line Leaving number = Again number
+
+abbrev pub as_handed : Wired → Wired
+as_handed x = record x { handed = true }
+
+abbrev pub wire_after : Handing → List Wired → ℕ → Wired → List Wired
+wire_after Taking wire place x = remove wire place
+wire_after Leaving wire place x = slice_set wire place (as_handed x)
+
+abbrev pub with_wire : WorldState → List Wired → WorldState
+with_wire w wire = record w { wire = wire }
 
 abbrev pub without_frame : WorldState → ℕ → WorldState
-without_frame w place = record w { wire = remove w.wire place }
+without_frame w place = with_wire w (remove w.wire place)
 
 -- the place of a frame number on the wire
 abbrev pub wire_place : List Wired → ℕ → Option ℕ
 wire_place wire number = position (λ x. x.number == number) wire
 
 -- the frame arrives at the node at this place
-unfoldable pub deliver_at : WorldState → ℕ → Wired → ℕ → Option NodeState → EventResult
-deliver_at w place x at None = nothing w
-deliver_at w place x at (Some node) = steps_at (without_frame w place) x.to.host at (Off x.number ∷ []) (frame_step node x.to.dev x.frame)
+unfoldable pub hand_at : WorldState → Handing → ℕ → Wired → ℕ → Option NodeState → EventResult
+hand_at w how place x at None = nothing w
+hand_at w how place x at (Some node) = steps_at (with_wire w (wire_after how w.wire place x)) x.to.host at (hand_line how x.number ∷ []) (stamped_step node x.to.dev x.frame)
 
-unfoldable pub deliver_to : WorldState → ℕ → Wired → Option ℕ → EventResult
-deliver_to w place x None = nothing w
-deliver_to w place x (Some at) = deliver_at w place x at (slice_get w.nodes at)
+unfoldable pub hand_to : WorldState → Handing → ℕ → Wired → Option ℕ → EventResult
+hand_to w how place x None = nothing w
+hand_to w how place x (Some at) = hand_at w how place x at (slice_get w.nodes at)
 
-unfoldable pub deliver_frame : WorldState → ℕ → Option Wired → EventResult
-deliver_frame w place None = nothing w
-deliver_frame w place (Some x) = deliver_to w place x (place_of w.nodes x.to.host)
+unfoldable pub hand_frame : WorldState → Handing → ℕ → Option Wired → EventResult
+hand_frame w how place None = nothing w
+hand_frame w how place (Some x) = hand_to w how place x (place_of w.nodes x.to.host)
 
-unfoldable pub deliver_place : WorldState → Option ℕ → EventResult
-deliver_place w None = nothing w
-deliver_place w (Some place) = deliver_frame w place (slice_get w.wire place)
+unfoldable pub hand_place : WorldState → Handing → Option ℕ → EventResult
+hand_place w how None = nothing w
+hand_place w how (Some place) = hand_frame w how place (slice_get w.wire place)
 
-unfoldable pub delivers : WorldState → ℕ → EventResult
-delivers w number = deliver_place w (wire_place w.wire number)
+unfoldable pub hands : WorldState → Handing → ℕ → EventResult
+hands w how number = hand_place w how (wire_place w.wire number)
 
 unfoldable pub lose_frame : WorldState → ℕ → Option Wired → EventResult
 lose_frame w place None = nothing w
-lose_frame w place (Some x) = happened (Off x.number ∷ Lost (what_of x.frame) ∷ []) (without_frame w place)
+lose_frame w place (Some x) = happened (Off x.number ∷ Lost (what_of x.frame.frame) ∷ []) (without_frame w place)
 
 unfoldable pub lose_place : WorldState → Option ℕ → EventResult
 lose_place w None = nothing w
@@ -191,9 +225,10 @@ loses w number = lose_place w (wire_place w.wire number)
 -- ---- events and runs
 
 abbrev pub acted : WorldState → WorldEvent → EventResult
-acted w (Inject h chunk bound) = injects w h chunk bound
+acted w (Inject h chunk bound handler) = injects w h chunk bound handler
 acted w (Send h d) = sends w h d
-acted w (Deliver number) = delivers w number
+acted w (Deliver number) = hands w Taking number
+acted w (Repeat number) = hands w Leaving number
 acted w (Lose number) = loses w number
 acted w (Tick h) = ticks w h
 acted w (Raw h d bytes) = raws w h d bytes
@@ -239,13 +274,26 @@ neighbours_to links h (suc n) = neighbours_to links h n ++ neighbour_at (record 
 abbrev pub opening_services : HostSpec → ServiceState
 opening_services spec = opening_standing (present_without spec.missing)
 
--- how the node of a host begins: its next serial number is 1
+-- how the node of a host begins: its next serial number is 1, and under version 2 so are its moment and the number of each device's
+-- first frame
+abbrev pub first_moment : Version → ℕ
+first_moment One = 0
+first_moment Two = 1
+
 abbrev pub config_of : Topology → HostSpec → NodeConfig
-config_of t spec = record { here = spec.host; hosts = map (λ s. s.host) t.hosts; neighbours = neighbours_to t.links spec.host 8; serial = 1 }
+config_of t spec = record {
+  here = spec.host;
+  hosts = map (λ s. s.host) t.hosts;
+  neighbours = neighbours_to t.links spec.host 8;
+  serial = 1;
+  version = t.version;
+  boot = first_moment t.version;
+  link = first_moment t.version;
+}
 
 unfoldable pub opening_node : Topology → HostSpec → NodeState
 opening_node t spec = new_node (config_of t spec) (opening_services spec)
 
 -- a network at the beginning
 unfoldable pub opening : Topology → WorldState
-opening t = record { nodes = map (opening_node t) t.hosts; links = t.links; wire = []; «next» = 1; made = 0 }
+opening t = record { nodes = map (opening_node t) t.hosts; links = t.links; wire = []; «next» = 1; made = 0; version = t.version }

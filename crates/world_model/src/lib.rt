@@ -4,4 +4,4 @@
 
 mod lines;
 
-pub use lines::{Entries, Entry, Line, Lines, LinkEnd, Wire, Wired};
+pub use lines::{Entries, Entry, Handing, Line, Lines, LinkEnd, Wire, Wired};

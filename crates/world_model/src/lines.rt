@@ -17,6 +17,8 @@ pub enum Line {
     Wire(u32, Bytes),
     /// The frame with this number was taken off the wire.
     Off(u32),
+    /// The frame with this number was handed to its receiving end, and stayed on the wire.
+    Again(u32),
     /// A frame was lost.
     Lost(What),
     /// The event changed nothing.
@@ -58,4 +60,15 @@ pub struct Wired {
     pub to: LinkEnd,
     /// The frame.
     pub frame: SpelledFrame,
+    /// Whether it was handed before.
+    pub handed: bool,
+}
+
+/// How a frame on the wire is handed to its receiving end.
+#[derive(Clone, Copy, PartialEq, Eq)]
+pub enum Handing {
+    /// It is taken off the wire.
+    Taking,
+    /// It stays on the wire, as one that was handed.
+    Leaving,
 }

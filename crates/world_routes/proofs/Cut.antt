@@ -7,10 +7,12 @@ use Rattle.std.proofs.lemmas.Option.{slice_get_within, get_or_from_slice_get}
 use Rattle.plan_base.specs.declared.ids.Host.{Host}
 use Rattle.plan_base.specs.declared.ids.Dev.{Dev}
 use Rattle.packet_frame.specs.declared.frame.PlainFrame.{PlainFrame}
+use Rattle.packet_frame.specs.declared.frame.PlainStamped.{PlainStamped}
 use Rattle.dv_routing.specs.Routing.{Routing, route_cost}
 use Rattle.dv_routing.proofs.Costs.{same_host}
 use Rattle.route_laws.specs.Network.{Wiring, Frame, Parcel, Told, Node, Network, routing_of as of_node, routings, routing_at, cost_by, cost_at as cut_cost, IsAt, with_node, Goes, Stays, Then}
 use Rattle.route_laws.proofs.Lookups.{routings_set, routings_get}
+use Rattle.node_model.specs.declared.acts.Lane.{Lane}
 use Rattle.node_model.specs.State.{Queues, NodeState, routing_of, is_host}
 use Rattle.world_model.specs.declared.lines.LinkEnd.{LinkEnd}
 use Rattle.world_model.specs.declared.lines.Wired.{Wired}
@@ -23,8 +25,15 @@ cut_frame (PlainFrame.Packet p) = Parcel p.dest
 cut_frame (PlainFrame.Advert a) = Told a
 cut_frame (PlainFrame.Ask bound chunk) = Told (record { host = record { 0 = 0 }; rows = [] })
 
+-- stamps lead nowhere
+abbrev pub cut_stamped : PlainStamped → Frame
+cut_stamped x = cut_frame x.frame
+
+abbrev pub cut_lane : Lane → List Frame
+cut_lane lane = map cut_stamped lane.frames
+
 abbrev pub cut_queues : Queues → List (List Frame)
-cut_queues queues = map (map cut_frame) queues
+cut_queues queues = map cut_lane queues
 
 -- a node by its routing and queues
 abbrev pub node_with : Routing → Queues → Node
@@ -34,7 +43,7 @@ abbrev pub cut_node : NodeState → Node
 cut_node node = node_with (routing_of node) node.queues
 
 abbrev pub cut_wired : Wired → (Host × Dev) × Frame
-cut_wired x = ((x.to.host, x.to.dev), cut_frame x.frame)
+cut_wired x = ((x.to.host, x.to.dev), cut_stamped x.frame)
 
 abbrev pub cut : WorldState → Network
 cut w = record { nodes = map cut_node w.nodes; wire = map cut_wired w.wire }

@@ -6,9 +6,10 @@ use Rattle.std.proofs.lemmas.List.Elements.{All-nil, All-cons, All-append, All-m
 use Rattle.plan_base.specs.declared.ids.Host.{Host}
 use Rattle.plan_base.specs.declared.ids.Dev.{Dev}
 use Rattle.packet_frame.specs.declared.frame.PlainFrame.{PlainFrame}
-use Rattle.packet_frame.specs.Bytes.{frame_bytes}
+use Rattle.packet_frame.specs.declared.frame.PlainStamped.{PlainStamped}
+use Rattle.packet_frame.specs.Stamped.{stamped_bytes}
 use Rattle.network_plan.specs.declared.event.WorldEvent.{WorldEvent}
-use Rattle.network_plan.specs.declared.event.WorldEvent.TheVariants.{Inject, Send, Deliver, Lose, Tick, Raw}
+use Rattle.network_plan.specs.declared.event.WorldEvent.TheVariants.{Inject, Send, Deliver, Repeat, Lose, Tick, Raw}
 use Rattle.spelled_frame.specs.Spelled.{what_of}
 use Rattle.dv_routing.specs.Routing.{Routing, all_routes, is_among}
 use Rattle.dv_routing.specs.Laws.{HostsHold}
@@ -19,20 +20,23 @@ use Rattle.route_laws.proofs.Keep.{goes_keep}
 use Rattle.route_laws.proofs.Lookups.{all_get, all_remove}
 use Rattle.node_model.specs.declared.acts.Act.{Act}
 use Rattle.node_model.specs.declared.acts.Act.TheVariants.{Taken}
+use Rattle.node_model.specs.declared.acts.Lane.{Lane}
 use Rattle.node_model.specs.State.{Links, NodeState, routing_of}
-use Rattle.node_model.specs.Node.{Step, inject_step, frame_step, tick_step, take_from, take_step, with_queues}
+use Rattle.node_model.specs.Node.{Step, inject_step, stamped_step, tick_step, take_first, take_from, take_step, with_queues}
 use Rattle.node_model.specs.Fits.{QueuesKeep}
 use Rattle.node_laws.proofs.Keeping.{took}
-use Rattle.node_laws.proofs.Staying.{Stays as NodeStays, inject_stays, frame_stays, tick_stays}
+use Rattle.node_laws.proofs.Staying.{Stays as NodeStays, inject_stays, stamped_stays, tick_stays}
 use Rattle.world_model.specs.declared.lines.Line.TheVariants.{At, Wire, Off, Lost, Nothing}
 use Rattle.world_model.specs.declared.lines.LinkEnd.{LinkEnd}
 use Rattle.world_model.specs.declared.lines.Wired.{Wired}
-use Rattle.world_model.specs.World.{Cables, WorldState, EventResult, nothing, lines_at, step_at, step_place, steps, place_of, far_end, send_taken, send_at, send_over, send_place, sends, wire_place, deliver_at, deliver_to, deliver_frame, deliver_place, delivers, lose_frame, lose_place, loses, acted, happens}
+use Rattle.world_model.specs.declared.lines.Handing.{Handing}
+use Rattle.world_model.specs.declared.lines.Handing.TheVariants.{Taking, Leaving}
+use Rattle.world_model.specs.World.{Cables, WorldState, EventResult, nothing, lines_at, step_at, step_place, steps, none_before, place_of, far_end, send_taken, send_at, send_over, send_place, sends, wire_place, hand_line, as_handed, wire_after, hand_at, hand_to, hand_frame, hand_place, hands, lose_frame, lose_place, loses, acted, happens}
 use Rattle.world_model.specs.Wires.{WireLeads}
 use Rattle.world_routes.specs.Roads.{routing_in, NotRaw}
 use Rattle.world_routes.specs.Routes.{FrameHasWay, IsRoutedAct, IsRouted}
-use Rattle.world_routes.proofs.Cut.{cut_frame, cut_node, cut_wired, cut, end_of, wiring, get_map, map_remove, contains_get, goes_over, place_is}
-use Rattle.world_routes.proofs.Steps.{IsDefault, StepKeeps, inject_keeps, tick_keeps, HopsOn, frame_keeps}
+use Rattle.world_routes.proofs.Cut.{cut_stamped, cut_lane, cut_node, cut_wired, cut, end_of, wiring, get_map, set_same, map_remove, contains_get, goes_over, place_is}
+use Rattle.world_routes.proofs.Steps.{GoesDefault, StepKeeps, inject_keeps, tick_keeps, HopsOn, stamped_keeps}
 use Rattle.world_routes.proofs.Holding.{WorldHolds, wire_way}
 
 -- what an event keeps
@@ -40,8 +44,8 @@ pub record EventKeeps (w : WorldState) (h : EventResult) : Type 0 where
   pub links : h.world.links ≡ w.links
   pub goes : Goes (wiring w.links) (cut w) (cut h.world)
   pub hosts : All (λ node. HostsHold (routing_of node)) h.world.nodes
-  pub queues : All (λ node. QueuesKeep IsDefault node.queues) h.world.nodes
-  pub wire : All (λ x. IsDefault x.frame) h.world.wire
+  pub queues : All (λ node. QueuesKeep GoesDefault node.queues) h.world.nodes
+  pub wire : All (λ x. GoesDefault x.frame) h.world.wire
   pub leads : WireLeads w.links h.world.wire
   pub lines : All IsRouted h.lines
 
@@ -76,73 +80,81 @@ acts_routed h acts all = All-map IsRouted (At h) acts all
 
 -- a step of every node
 record Steps (far : Wiring) (step : NodeState → Step) : Type 0 where
-  keeps : (node : NodeState) → QueuesKeep IsDefault node.queues → StepKeeps far (λ w. Unit {0}) node (step node)
+  keeps : (node : NodeState) → QueuesKeep GoesDefault node.queues → StepKeeps far (λ w. Unit {0}) node (step node)
   stays : (node : NodeState) → NodeStays node (step node).node
 
 step_at_keeps : (w : WorldState) (h : Host) (step : NodeState → Step) (at : ℕ) (o : Option NodeState) → Steps (wiring w.links) step → place_of w.nodes h ≡ Some at → slice_get w.nodes at ≡ o
-    → WorldHolds w → EventKeeps w (step_at w h [] step at o)
+    → WorldHolds w → EventKeeps w (step_at w h none_before step at o)
 unfolding step_at
 step_at_keeps w h step at None s place get k = nothing_keeps w k
 step_at_keeps w h step at (Some node) s place get k =
     let p = place_is w h at node place get in
-    let one = s.keeps node (all_get (λ n. QueuesKeep IsDefault n.queues) w.nodes at node k.queues get) in
+    let one = s.keeps node (all_get (λ n. QueuesKeep GoesDefault n.queues) w.nodes at node k.queues get) in
     let stays = s.stays node in
     record {
       links = refl;
       goes = subst (Goes (wiring w.links) (cut w)) (net_is _ _ (cut w).wire (cut w).wire (sym (map-set cut_node w.nodes at (step node).node)) refl) (one.goes (cut w) at tt p.is_at);
       hosts = All-set (λ n. HostsHold (routing_of n)) w.nodes at (step node).node
           (hosts_stay node (step node).node stays (all_get (λ n. HostsHold (routing_of n)) w.nodes at node k.hosts get)) k.hosts;
-      queues = All-set (λ n. QueuesKeep IsDefault n.queues) w.nodes at (step node).node one.queues k.queues;
+      queues = All-set (λ n. QueuesKeep GoesDefault n.queues) w.nodes at (step node).node one.queues k.queues;
       wire = k.wire;
       leads = k.leads;
       lines = acts_routed h (step node).acts one.acts;
     }
 
-step_place_keeps : (w : WorldState) (h : Host) (step : NodeState → Step) (o : Option ℕ) → Steps (wiring w.links) step → place_of w.nodes h ≡ o → WorldHolds w → EventKeeps w (step_place w h [] step o)
+step_place_keeps : (w : WorldState) (h : Host) (step : NodeState → Step) (o : Option ℕ) → Steps (wiring w.links) step → place_of w.nodes h ≡ o → WorldHolds w → EventKeeps w (step_place w h none_before step o)
 unfolding step_place
 step_place_keeps w h step None s place k = nothing_keeps w k
 step_place_keeps w h step (Some at) s place k = step_at_keeps w h step at (slice_get w.nodes at) s place refl k
 
-steps_keep : (w : WorldState) (h : Host) (step : NodeState → Step) → Steps (wiring w.links) step → WorldHolds w → EventKeeps w (steps w h [] step)
+steps_keep : (w : WorldState) (h : Host) (step : NodeState → Step) → Steps (wiring w.links) step → WorldHolds w → EventKeeps w (steps w h none_before step)
 unfolding steps
 steps_keep w h step s k = step_place_keeps w h step (place_of w.nodes h) s refl k
 
 -- ---- sends
 
 -- the first frame of a queue goes onto the wire
-send_first_keeps : (w : WorldState) (h : Host) (d : Dev) (at : ℕ) (to : LinkEnd) (node : NodeState) (o : Option (List PlainFrame)) → far_end w.links h d ≡ Some to → place_of w.nodes h ≡ Some at
-    → slice_get w.nodes at ≡ Some node → slice_get node.queues d.0 ≡ o → WorldHolds w → EventKeeps w (send_taken w h d at to (take_from node d o) (take_from node d o).frame)
+send_first_keeps : (w : WorldState) (h : Host) (d : Dev) (at : ℕ) (to : LinkEnd) (node : NodeState) (n : ℕ) (frames : List PlainStamped) → far_end w.links h d ≡ Some to → place_of w.nodes h ≡ Some at
+    → slice_get w.nodes at ≡ Some node → slice_get node.queues d.0 ≡ Some (record { frames = frames; number = n }) → WorldHolds w
+    → EventKeeps w (send_taken w h d at to (take_first node d n frames) (take_first node d n frames).frame)
 unfolding send_taken
-send_first_keeps w h d at to node None leads place get e k = nothing_keeps w k
-send_first_keeps w h d at to node (Some []) leads place get e k = nothing_keeps w k
-send_first_keeps w h d at to node (Some (x ∷ queue)) leads place get e k =
+send_first_keeps w h d at to node n [] leads place get e k = nothing_keeps w k
+send_first_keeps w h d at to node n (x ∷ queue) leads place get e k =
     let p = place_is w h at node place get in
     let far = wiring w.links in
-    let new = with_queues node (slice_set node.queues d.0 queue) in
-    let wired : Wired = record { number = w.«next»; from = record { host = h; dev = d }; to = to; frame = x } in
+    let old : Lane = record { frames = x ∷ queue; number = n } in
+    let later : Lane = record { frames = queue; number = n } in
+    let new = with_queues node (slice_set node.queues d.0 later) in
+    let wired : Wired = record { number = w.«next»; from = record { host = h; dev = d }; to = to; frame = x; handed = false } in
     let there : far node.here d ≡ Some (to.host, to.dev) = ap (λ n. far n d) p.here ∙ ap end_of leads in
-    let move = Sent (cut w) at (cut_node node) d (cut_frame x) (map cut_frame queue) (to.host, to.dev) p.is_at (get_map (map cut_frame) node.queues d.0 (x ∷ queue) e) there in
-    let cut_new : ◌≡◌ {A = Node} (with_queue (cut_node node) d (map cut_frame queue)) (cut_node new) =
-    ap (λ qs. let n : Node = record { routing = routing_of node; queues = qs } in n) (sym (map-set (map cut_frame) node.queues d.0 queue)) in
+    let move = Sent (cut w) at (cut_node node) d (cut_stamped x) (map cut_stamped queue) (to.host, to.dev) p.is_at (get_map cut_lane node.queues d.0 old e) there in
+    let cut_new : ◌≡◌ {A = Node} (with_queue (cut_node node) d (map cut_stamped queue)) (cut_node new) =
+    ap (λ qs. let n : Node = record { routing = routing_of node; queues = qs } in n) (sym (map-set cut_lane node.queues d.0 later)) in
     let nodes = ap (slice_set (cut w).nodes at) cut_new ∙ sym (map-set cut_node w.nodes at new) in
-    let t = took IsDefault node.queues d.0 x queue e (all_get (λ n. QueuesKeep IsDefault n.queues) w.nodes at node k.queues get) in
+    let t = took GoesDefault node.queues d.0 n x queue e (all_get (λ n. QueuesKeep GoesDefault n.queues) w.nodes at node k.queues get) in
+    let act = Taken d (what_of x.frame) in
+    let line = Wire w.«next» (stamped_bytes x) in
     record {
       links = refl;
       goes = Then (cut w) _ _ move (subst (Goes far _) (net_is _ _ _ _ nodes (sym (map_push cut_wired w.wire wired))) (Stays _));
       hosts = All-set (λ n. HostsHold (routing_of n)) w.nodes at new (let old = all_get (λ n. HostsHold (routing_of n)) w.nodes at node k.hosts get in record { here = old.here; near = old.near }) k.hosts;
-      queues = All-set (λ n. QueuesKeep IsDefault n.queues) w.nodes at new t.rest k.queues;
-      wire = All-push (λ y. IsDefault y.frame) w.wire wired k.wire t.frame;
+      queues = All-set (λ n. QueuesKeep GoesDefault n.queues) w.nodes at new t.rest k.queues;
+      wire = All-push (λ y. GoesDefault y.frame) w.wire wired k.wire t.frame;
       leads = All-push (λ (y : Wired). far_end w.links y.from.host y.from.dev ≡ Some y.to) w.wire wired k.leads leads;
-      lines = All-append IsRouted (lines_at h (Taken d (what_of x) ∷ [])) (Wire w.«next» (frame_bytes x) ∷ [])
-          (acts_routed h (Taken d (what_of x) ∷ []) (All-cons IsRoutedAct (Taken d (what_of x)) [] tt (All-nil IsRoutedAct)))
-          (All-cons IsRouted (Wire w.«next» (frame_bytes x)) [] tt (All-nil IsRouted));
+      lines = All-append IsRouted (lines_at h (act ∷ [])) (line ∷ []) (acts_routed h (act ∷ []) (All-cons IsRoutedAct act [] tt (All-nil IsRoutedAct))) (All-cons IsRouted line [] tt (All-nil IsRouted));
     }
+
+send_from_keeps : (w : WorldState) (h : Host) (d : Dev) (at : ℕ) (to : LinkEnd) (node : NodeState) (o : Option Lane) → far_end w.links h d ≡ Some to → place_of w.nodes h ≡ Some at
+    → slice_get w.nodes at ≡ Some node → slice_get node.queues d.0 ≡ o → WorldHolds w → EventKeeps w (send_taken w h d at to (take_from node d o) (take_from node d o).frame)
+unfolding send_taken
+send_from_keeps w h d at to node None leads place get e k = nothing_keeps w k
+send_from_keeps w h d at to node (Some lane) leads place get e k = send_first_keeps w h d at to node lane.number lane.frames leads place get e k
 
 send_at_keeps : (w : WorldState) (h : Host) (d : Dev) (at : ℕ) (to : LinkEnd) (o : Option NodeState) → far_end w.links h d ≡ Some to → place_of w.nodes h ≡ Some at → slice_get w.nodes at ≡ o
     → WorldHolds w → EventKeeps w (send_at w h d at to o)
 unfolding send_at take_step
 send_at_keeps w h d at to None leads place get k = nothing_keeps w k
-send_at_keeps w h d at to (Some node) leads place get k = send_first_keeps w h d at to node (slice_get node.queues d.0) leads place get refl k
+send_at_keeps w h d at to (Some node) leads place get k = send_from_keeps w h d at to node (slice_get node.queues d.0) leads place get refl k
 
 room_cases : (t : Bool) (w : WorldState) (a : EventResult) → EventKeeps w a → WorldHolds w → EventKeeps w (cond t a (nothing w))
 room_cases true w a x k = x
@@ -175,49 +187,69 @@ hops_on w far node m (PlainFrame.Packet p) here known way =
 hops_on w far node m (PlainFrame.Advert a) here known way = tt
 hops_on w far node m (PlainFrame.Ask bound chunk) here known way = tt
 
-deliver_at_keeps : (w : WorldState) (place : ℕ) (x : Wired) (at : ℕ) (o : Option NodeState) → slice_get w.wire place ≡ Some x → place_of w.nodes x.to.host ≡ Some at → slice_get w.nodes at ≡ o
-    → WorldHolds w → EventKeeps w (deliver_at w place x at o)
-unfolding deliver_at
-deliver_at_keeps w place x at None on at_host get k = nothing_keeps w k
-deliver_at_keeps w place x at (Some node) on at_host get k =
+-- a frame that was handed leaves the wire, or nothing changes there
+wire_goes : (far : Wiring) (nodes : List Node) (how : Handing) (wire : List Wired) (place : ℕ) (x : Wired) → slice_get wire place ≡ Some x
+    → Goes far (record { nodes = nodes; wire = map cut_wired wire }) (record { nodes = nodes; wire = map cut_wired (wire_after how wire place x) })
+wire_goes far nodes Taking wire place x e =
+    let w : Network = record { nodes = nodes; wire = map cut_wired wire } in
+    Then w _ _ (Leaves w place) (subst (Goes far _) (net_is _ _ _ _ refl (sym (map_remove cut_wired wire place))) (Stays _))
+wire_goes far nodes Leaving wire place x e =
+    let w : Network = record { nodes = nodes; wire = map cut_wired wire } in
+    let same = map-set cut_wired wire place (as_handed x) ∙ set_same (map cut_wired wire) place (cut_wired x) (get_map cut_wired wire place x e) in
+    subst (Goes far w) (net_is nodes nodes (map cut_wired wire) _ refl (sym same)) (Stays w)
+
+all_after : (P : Wired → Type 0) (how : Handing) (wire : List Wired) (place : ℕ) (x : Wired) → slice_get wire place ≡ Some x → (P x → P (as_handed x)) → All P wire → All P (wire_after how wire place x)
+all_after P Taking wire place x e h all = all_remove P wire place all
+all_after P Leaving wire place x e h all = All-set P wire place (as_handed x) (h (all_get P wire place x all e)) all
+
+hand_routed : (how : Handing) (number : ℕ) → IsRouted (hand_line how number)
+hand_routed Taking number = tt
+hand_routed Leaving number = tt
+
+hand_at_keeps : (w : WorldState) (how : Handing) (place : ℕ) (x : Wired) (at : ℕ) (o : Option NodeState) → slice_get w.wire place ≡ Some x → place_of w.nodes x.to.host ≡ Some at → slice_get w.nodes at ≡ o
+    → WorldHolds w → EventKeeps w (hand_at w how place x at o)
+unfolding hand_at
+hand_at_keeps w how place x at None on at_host get k = nothing_keeps w k
+hand_at_keeps w how place x at (Some node) on at_host get k =
     let far = wiring w.links in
     let p = place_is w x.to.host at node at_host get in
-    let step = frame_step node x.to.dev x.frame in
-    let way = hops_on w far node x.to.host x.frame p.here p.known (wire_way w k x (contains_get w.wire place x on)) in
-    let one = frame_keeps far node x.to.dev x.frame way (all_get (λ y. IsDefault y.frame) w.wire place x k.wire on) (all_get (λ n. QueuesKeep IsDefault n.queues) w.nodes at node k.queues get) in
-    let P : Host → Type 0 = λ m. Contains (cut w).wire ((m, x.to.dev), cut_frame x.frame) in
+    let step = stamped_step node x.to.dev x.frame in
+    let way = hops_on w far node x.to.host x.frame.frame p.here p.known (wire_way w k x (contains_get w.wire place x on)) in
+    let one = stamped_keeps far node x.to.dev x.frame way (all_get (λ y. GoesDefault y.frame) w.wire place x k.wire on) (all_get (λ n. QueuesKeep GoesDefault n.queues) w.nodes at node k.queues get) in
+    let P : Host → Type 0 = λ m. Contains (cut w).wire ((m, x.to.dev), cut_stamped x.frame) in
     let here : P node.here = subst P (sym p.here) (contains_get (cut w).wire place (cut_wired x) (get_map cut_wired w.wire place x on)) in
     let heard = with_cut (cut w) at (cut_node step.node) in
-    let all = net_is _ _ _ _ (sym (map-set cut_node w.nodes at step.node)) (sym (map_remove cut_wired w.wire place)) in
+    let nodes = sym (map-set cut_node w.nodes at step.node) in
+    let IsLeading : Wired → Type 0 = λ y. far_end w.links y.from.host y.from.dev ≡ Some y.to in
     record {
       links = refl;
-      goes = goes_over far (cut w) heard _ (one.goes (cut w) at here p.is_at) (Then heard _ _ (Leaves heard place) (subst (Goes far _) all (Stays _)));
+      goes = goes_over far (cut w) heard _ (one.goes (cut w) at here p.is_at) (subst (Goes far heard) (net_is _ _ _ _ nodes refl) (wire_goes far heard.nodes how w.wire place x on));
       hosts = All-set (λ n. HostsHold (routing_of n)) w.nodes at step.node
-          (hosts_stay node step.node (frame_stays node x.to.dev x.frame).node (all_get (λ n. HostsHold (routing_of n)) w.nodes at node k.hosts get)) k.hosts;
-      queues = All-set (λ n. QueuesKeep IsDefault n.queues) w.nodes at step.node one.queues k.queues;
-      wire = all_remove (λ y. IsDefault y.frame) w.wire place k.wire;
-      leads = all_remove (λ (y : Wired). far_end w.links y.from.host y.from.dev ≡ Some y.to) w.wire place k.leads;
-      lines = All-cons IsRouted (Off x.number) (lines_at x.to.host step.acts) tt (acts_routed x.to.host step.acts one.acts);
+          (hosts_stay node step.node (stamped_stays node x.to.dev x.frame).node (all_get (λ n. HostsHold (routing_of n)) w.nodes at node k.hosts get)) k.hosts;
+      queues = All-set (λ n. QueuesKeep GoesDefault n.queues) w.nodes at step.node one.queues k.queues;
+      wire = all_after (λ y. GoesDefault y.frame) how w.wire place x on (λ h. h) k.wire;
+      leads = all_after IsLeading how w.wire place x on (λ h. h) k.leads;
+      lines = All-cons IsRouted (hand_line how x.number) (lines_at x.to.host step.acts) (hand_routed how x.number) (acts_routed x.to.host step.acts one.acts);
     }
 
-deliver_to_keeps : (w : WorldState) (place : ℕ) (x : Wired) (o : Option ℕ) → slice_get w.wire place ≡ Some x → place_of w.nodes x.to.host ≡ o → WorldHolds w → EventKeeps w (deliver_to w place x o)
-unfolding deliver_to
-deliver_to_keeps w place x None on at_host k = nothing_keeps w k
-deliver_to_keeps w place x (Some at) on at_host k = deliver_at_keeps w place x at (slice_get w.nodes at) on at_host refl k
+hand_to_keeps : (w : WorldState) (how : Handing) (place : ℕ) (x : Wired) (o : Option ℕ) → slice_get w.wire place ≡ Some x → place_of w.nodes x.to.host ≡ o → WorldHolds w → EventKeeps w (hand_to w how place x o)
+unfolding hand_to
+hand_to_keeps w how place x None on at_host k = nothing_keeps w k
+hand_to_keeps w how place x (Some at) on at_host k = hand_at_keeps w how place x at (slice_get w.nodes at) on at_host refl k
 
-deliver_frame_keeps : (w : WorldState) (place : ℕ) (o : Option Wired) → slice_get w.wire place ≡ o → WorldHolds w → EventKeeps w (deliver_frame w place o)
-unfolding deliver_frame
-deliver_frame_keeps w place None on k = nothing_keeps w k
-deliver_frame_keeps w place (Some x) on k = deliver_to_keeps w place x (place_of w.nodes x.to.host) on refl k
+hand_frame_keeps : (w : WorldState) (how : Handing) (place : ℕ) (o : Option Wired) → slice_get w.wire place ≡ o → WorldHolds w → EventKeeps w (hand_frame w how place o)
+unfolding hand_frame
+hand_frame_keeps w how place None on k = nothing_keeps w k
+hand_frame_keeps w how place (Some x) on k = hand_to_keeps w how place x (place_of w.nodes x.to.host) on refl k
 
-deliver_place_keeps : (w : WorldState) (o : Option ℕ) → WorldHolds w → EventKeeps w (deliver_place w o)
-unfolding deliver_place
-deliver_place_keeps w None k = nothing_keeps w k
-deliver_place_keeps w (Some place) k = deliver_frame_keeps w place (slice_get w.wire place) refl k
+hand_place_keeps : (w : WorldState) (how : Handing) (o : Option ℕ) → WorldHolds w → EventKeeps w (hand_place w how o)
+unfolding hand_place
+hand_place_keeps w how None k = nothing_keeps w k
+hand_place_keeps w how (Some place) k = hand_frame_keeps w how place (slice_get w.wire place) refl k
 
-delivers_keep : (w : WorldState) (number : ℕ) → WorldHolds w → EventKeeps w (delivers w number)
-unfolding delivers
-delivers_keep w number k = deliver_place_keeps w (wire_place w.wire number) k
+hands_keep : (w : WorldState) (how : Handing) (number : ℕ) → WorldHolds w → EventKeeps w (hands w how number)
+unfolding hands
+hands_keep w how number k = hand_place_keeps w how (wire_place w.wire number) k
 
 lose_frame_keeps : (w : WorldState) (place : ℕ) (o : Option Wired) → slice_get w.wire place ≡ o → WorldHolds w → EventKeeps w (lose_frame w place o)
 unfolding lose_frame
@@ -227,9 +259,9 @@ lose_frame_keeps w place (Some x) on k = record {
   goes = Then (cut w) _ _ (Leaves (cut w) place) (subst (Goes (wiring w.links) _) (net_is _ _ _ _ refl (sym (map_remove cut_wired w.wire place))) (Stays _));
   hosts = k.hosts;
   queues = k.queues;
-  wire = all_remove (λ y. IsDefault y.frame) w.wire place k.wire;
+  wire = all_remove (λ y. GoesDefault y.frame) w.wire place k.wire;
   leads = all_remove (λ (y : Wired). far_end w.links y.from.host y.from.dev ≡ Some y.to) w.wire place k.leads;
-  lines = All-cons IsRouted (Off x.number) (Lost (what_of x.frame) ∷ []) tt (All-cons IsRouted (Lost (what_of x.frame)) [] tt (All-nil IsRouted));
+  lines = All-cons IsRouted (Off x.number) (Lost (what_of x.frame.frame) ∷ []) tt (All-cons IsRouted (Lost (what_of x.frame.frame)) [] tt (All-nil IsRouted));
 }
 
 lose_place_keeps : (w : WorldState) (o : Option ℕ) → WorldHolds w → EventKeeps w (lose_place w o)
@@ -244,10 +276,11 @@ loses_keep w number k = lose_place_keeps w (wire_place w.wire number) k
 -- ---- events
 
 acted_keeps : (w : WorldState) (e : WorldEvent) → NotRaw e → WorldHolds w → EventKeeps w (acted w e)
-acted_keeps w (Inject h chunk bound) n k = steps_keep w h (λ node. inject_step [] node chunk bound)
-    (record { keeps = λ node q. inject_keeps (wiring w.links) (λ v. Unit {0}) node chunk bound q; stays = λ node. inject_stays node chunk bound }) k
+acted_keeps w (Inject h chunk bound handler) n k = steps_keep w h (λ node. inject_step [] node chunk bound handler)
+    (record { keeps = λ node q. inject_keeps (wiring w.links) (λ v. Unit {0}) node chunk bound handler q; stays = λ node. inject_stays node chunk bound handler }) k
 acted_keeps w (Send h d) n k = sends_keep w h d k
-acted_keeps w (Deliver number) n k = delivers_keep w number k
+acted_keeps w (Deliver number) n k = hands_keep w Taking number k
+acted_keeps w (Repeat number) n k = hands_keep w Leaving number k
 acted_keeps w (Lose number) n k = loses_keep w number k
 acted_keeps w (Tick h) n k = steps_keep w h tick_step
     (record { keeps = λ node q. tick_keeps (wiring w.links) (λ v. Unit {0}) node q; stays = λ node. (tick_stays node).node }) k

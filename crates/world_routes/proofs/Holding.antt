@@ -28,16 +28,16 @@ use Rattle.world_model.specs.World.{Cables, WorldState, peer_of, far_end}
 use Rattle.world_model.specs.Wires.{WireLeads}
 use Rattle.world_routes.specs.Roads.{routing_in, route_by, route_at, cost_at, Walk, Here, Along, IsReached, IsDist, IsHop, HopsOver}
 use Rattle.world_routes.specs.Routes.{LeadsDown, HasWay, FrameHasWay, RoutesHold}
-use Rattle.world_routes.proofs.Cut.{cut_frame, cut_wired, cut, end_of, wiring, same_routing, same_cost}
-use Rattle.world_routes.proofs.Steps.{IsDefault}
+use Rattle.world_routes.proofs.Cut.{cut_frame, cut_stamped, cut_wired, cut, end_of, wiring, same_routing, same_cost}
+use Rattle.world_routes.proofs.Steps.{IsDefault, GoesDefault}
 
 -- the law of routes holds of the network cut down; nodes and neighbours are hosts of the network; packets go by the one routing
 -- function; frames on the wire lead to the other ends of their links
 pub record WorldHolds (w : WorldState) : Type 0 where
   pub routes : CutHolds (wiring w.links) (cut w)
   pub hosts : All (λ node. HostsHold (routing_of node)) w.nodes
-  pub queues : All (λ node. QueuesKeep IsDefault node.queues) w.nodes
-  pub wire : All (λ x. IsDefault x.frame) w.wire
+  pub queues : All (λ node. QueuesKeep GoesDefault node.queues) w.nodes
+  pub wire : All (λ x. GoesDefault x.frame) w.wire
   pub leads : WireLeads w.links w.wire
 
 -- ---- looking up
@@ -211,11 +211,11 @@ module _ (w : WorldState) (h : WorldHolds w) where
   map_all P f [] all = All-nil (λ y. P (f y))
   map_all P f (x ∷ xs) all = All-cons (λ y. P (f y)) x xs (All-head P (f x) (map f xs) all) (map_all P f xs (All-tail P (f x) (map f xs) all))
 
-  pub wire_way : (x : Wired) → Contains w.wire x → FrameHasWay w.nodes x.to.host x.frame
+  pub wire_way : (x : Wired) → Contains w.wire x → FrameHasWay w.nodes x.to.host x.frame.frame
   wire_way x on =
       let true = map_all (λ y. FrameTrue (routings (cut w)) y.0.0 y.1) cut_wired w.wire h.routes.wire in
-      frame_way x.to.host x.frame (All-contains (λ y. IsDefault y.frame) w.wire x h.wire on)
-      (All-contains (λ y. FrameTrue (routings (cut w)) y.to.host (cut_frame y.frame)) w.wire x true on)
+      frame_way x.to.host x.frame.frame (All-contains (λ y. GoesDefault y.frame) w.wire x h.wire on)
+      (All-contains (λ y. FrameTrue (routings (cut w)) y.to.host (cut_stamped y.frame)) w.wire x true on)
 
   -- what holds of routes
   pub held_routes : RoutesHold w
@@ -223,7 +223,7 @@ module _ (w : WorldState) (h : WorldHolds w) where
     reach = held_reach;
     fall = held_fall;
     home = held_home;
-    wire = All-weaker (Contains w.wire) (λ x. FrameHasWay w.nodes x.to.host x.frame) wire_way w.wire (All-contains_itself w.wire);
+    wire = All-weaker (Contains w.wire) (λ x. FrameHasWay w.nodes x.to.host x.frame.frame) wire_way w.wire (All-contains_itself w.wire);
   }
 
   pub held_dist : (n x : Host) (c d : ℕ) → cost_at w.nodes n x ≡ Some c → IsDist w.links n x d → d ≤ c

@@ -19,16 +19,16 @@ use Rattle.route_laws.specs.Network.{Frame, Node, routings, routing_at}
 use Rattle.route_laws.specs.Truths.{IsLinked, IsFresh, IsOpening}
 use Rattle.route_laws.proofs.Lookups.{all_get}
 use Rattle.route_laws.proofs.Walking.{opening_true}
-use Rattle.node_model.specs.State.{routing_of, no_queues, new_node}
+use Rattle.node_model.specs.State.{routing_of, no_lane, no_queues, new_node}
 use Rattle.node_model.specs.Fits.{QueuesKeep}
 use Rattle.node_laws.proofs.HostLaws.{same_among}
 use Rattle.node_laws.proofs.Keeping.{none_kept}
 use Rattle.world_model.specs.declared.lines.LinkEnd.{LinkEnd}
 use Rattle.world_model.specs.declared.lines.Wired.{Wired}
-use Rattle.world_model.specs.World.{Cables, has_end, is_on, other_end, peer_at, peer_of, far_end, neighbour_at, neighbours_to, opening_node, opening}
+use Rattle.world_model.specs.World.{Cables, has_end, is_on, other_end, peer_at, peer_of, far_end, neighbour_at, neighbours_to, first_moment, opening_node, opening}
 use Rattle.world_routes.specs.Roads.{routing_in}
-use Rattle.world_routes.proofs.Cut.{cut_frame, cut_node, cut, end_of, wiring, same_routing}
-use Rattle.world_routes.proofs.Steps.{IsDefault}
+use Rattle.world_routes.proofs.Cut.{cut_lane, cut_node, cut, end_of, wiring, same_routing}
+use Rattle.world_routes.proofs.Steps.{GoesDefault}
 use Rattle.world_routes.proofs.Holding.{WorldHolds}
 
 -- ---- hosts
@@ -149,7 +149,8 @@ none_queued : (t : Topology) (s : HostSpec) → All (λ queue. queue ≡ []) (cu
 unfolding opening_node new_node
 none_queued t s =
     let P : List Frame → Type 0 = λ queue. queue ≡ [] in
-    All-map P (map cut_frame) no_queues (All-replicate (λ queue. P (map cut_frame queue)) 9 [] refl)
+    let link = first_moment t.version in
+    All-map P cut_lane (no_queues link) (All-replicate (λ lane. P (cut_lane lane)) 9 (no_lane link) refl)
 
 node_heard : (t : Topology) (s : HostSpec) → (routing_of (opening_node t s)).heard ≡ []
 unfolding opening_node new_node
@@ -179,9 +180,9 @@ node_hosts t s k among = record {
   near = λ link near. among_sorted link.0 t.hosts (neighbour_there t s k link near);
 }
 
-node_default : (t : Topology) (s : HostSpec) → QueuesKeep IsDefault (opening_node t s).queues
+node_default : (t : Topology) (s : HostSpec) → QueuesKeep GoesDefault (opening_node t s).queues
 unfolding opening_node new_node
-node_default t s = none_kept IsDefault
+node_default t s = none_kept GoesDefault (first_moment t.version)
 
 pub opening_holds : (t : Topology) → KeepsNetwork t → WorldHolds (opening t)
 unfolding opening
@@ -189,7 +190,7 @@ opening_holds t k = record {
   routes = opening_true (wiring t.links) (cut (opening t)) (opening_fresh t k);
   hosts = All-map (λ n. HostsHold (routing_of n)) (opening_node t) t.hosts
       (All-weaker (Contains t.hosts) (λ s. HostsHold (routing_of (opening_node t s))) (λ s among. node_hosts t s k among) t.hosts (All-contains_itself t.hosts));
-  queues = All-map (λ n. QueuesKeep IsDefault n.queues) (opening_node t) t.hosts (λ i d lt. node_default t _);
-  wire = All-nil (λ x. IsDefault x.frame);
+  queues = All-map (λ n. QueuesKeep GoesDefault n.queues) (opening_node t) t.hosts (λ i d lt. node_default t _);
+  wire = All-nil (λ x. GoesDefault x.frame);
   leads = All-nil (λ (x : Wired). far_end t.links x.from.host x.from.dev ≡ Some x.to);
 }

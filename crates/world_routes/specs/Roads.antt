@@ -84,5 +84,5 @@ IsPacketFor x _ = ⊥
 -- that frame is to arrive
 pub data Journey (x : Host) : WorldState → Host → ℕ → Type 0 where
   Rests : (w : WorldState) (n : Host) → Journey x w n zero
-  Rides : (w : WorldState) (es : List WorldEvent) (n : Host) (y : Wired) (k : ℕ) → n ≢ x → HopsOver w x n y.from.dev → y.from.host ≡ n → IsPacketFor x y.frame → All NotRaw es
+  Rides : (w : WorldState) (es : List WorldEvent) (n : Host) (y : Wired) (k : ℕ) → n ≢ x → HopsOver w x n y.from.dev → y.from.host ≡ n → IsPacketFor x y.frame.frame → All NotRaw es
       → Contains (world_after es w).wire y → Journey x (world_after es w) y.to.host k → Journey x w n (suc k)

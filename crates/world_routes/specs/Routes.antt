@@ -57,7 +57,7 @@ pub record RoutesHold (w : WorldState) : Type 0 where
   pub reach : (n x : Host) (c : ℕ) → cost_at w.nodes n x ≡ Some c → IsReached w.links n x c
   pub fall : (n x : Host) (row : RouteRow) → IsHop w x n row → LeadsDown w x n row
   pub home : (n : Host) (row : RouteRow) → route_at w.nodes n n ≡ Some row → (row.dev.0 ≡ 0) × (row.cost ≡ 0)
-  pub wire : All (λ x. FrameHasWay w.nodes x.to.host x.frame) w.wire
+  pub wire : All (λ x. FrameHasWay w.nodes x.to.host x.frame.frame) w.wire
 
 -- no host's cost is higher at any node
 abbrev pub NoneRises : List NodeState → List NodeState → Type 0

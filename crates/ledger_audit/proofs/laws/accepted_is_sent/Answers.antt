@@ -1,5 +1,4 @@
-use Rattle.std.proofs.Common.{◌≤◌, ◌+◌, arith, []}
-use Rattle.ledger_audit.specs.Crossings.{crossings, times}
+use Rattle.std.proofs.Common.{arith, []}
 use Rattle.ledger_audit.specs.Audits.{all_accepted, all_sent, misfit}
 use Rattle.ledger_audit.proofs.Multisets.{verdict_only, verdict_always}
 use Rattle.ledger_audit.proofs.laws.accepted_is_sent.Goals as goal

@@ -1,6 +1,7 @@
-use Rattle.std.proofs.Common.{take, refl, sym, arith}
+use Rattle.std.proofs.Common.{take, refl, sym, ◌∙◌, subst, arith}
 use Rattle.std.proofs.lemmas.List.Elements.{All-get_or}
 use Rattle.network_plan.specs.NodeRules.{KeepsEntry}
+use Rattle.node_core.specs.Stands.{version_of}
 use Rattle.serve_model.specs.Runs.{node_after}
 use Rattle.log_replay.proofs.ReplayLaws.{none_stands, next_stands}
 use Rattle.log_gather.proofs.CountLaws.{next_counted, all_counted}
@@ -8,12 +9,15 @@ use Rattle.log_gather.proofs.counting.count_entries.Goals as goal
 
 pub loop-entry-init : goal.loop-entry-init
 loop-entry-init g c = record {
+  version = refl;
   stands = λ s h. none_stands g.S.Services.stands c.args.node.now s h;
   counted = λ s h. refl;
 }
 
 pub count_entry-requires : goal.count_entry-requires
-count_entry-requires g c = let h = All-get_or KeepsEntry c.args.entries.now c.loop-entry.entry-index c.entry-item.result c.loop-entry-test.true c.requires in rw (sym c.entry-item.is) at h
+count_entry-requires g c =
+    let h = All-get_or (KeepsEntry (version_of c.args.node.now)) c.args.entries.now c.loop-entry.entry-index c.entry-item.result c.loop-entry-test.true c.requires in
+    subst (λ v. KeepsEntry v c.entry-item.result) (sym c.loop-entry.invariant.version) (rw (sym c.entry-item.is) at h)
 
 pub loop-entry-preserved : goal.loop-entry-preserved
 loop-entry-preserved g c =
@@ -22,6 +26,7 @@ loop-entry-preserved g c =
     let es = c.args.entries.now in
     let l = c.loop-entry.invariant in
     record {
+      version = c.count_entry.ensures.same ∙ l.version;
       stands = λ s h. next_stands g.S.Services.stands c.count_entry.new.node s es i e e c.loop-entry-test.true c.entry-item.is (c.in_ok-count_entry.ensures.after (node_after s (take i es)) (l.stands s h));
       counted = λ s h. next_counted s es i e e c.args.counting.now c.loop-entry.counting c.count_entry.new.counting
           c.loop-entry-test.true c.entry-item.is (l.counted s h) (c.in_ok-count_entry.ensures.notes (node_after s (take i es)) (l.stands s h));

@@ -1,7 +1,6 @@
 use Rattle.std.proofs.Common.{take}
-use Rattle.network_laws.proofs.Balance.{opening_balances}
 use Rattle.network_laws.proofs.Wires.{opening_once, opening_leads}
-use Rattle.net_world.proofs.RunLaws.{prefix_bounded, prefix_granted, prefix_sound, prefix_ends}
+use Rattle.net_world.proofs.RunLaws.{prefix_balances, prefix_bounded, prefix_granted, prefix_sound, prefix_ends}
 use Rattle.world_routes.proofs.Reaching.{run_keeps_routes}
 use Rattle.net_world.proofs.runs.run.Goals as goal
 
@@ -9,7 +8,7 @@ pub returns-clause-keeps : goal.returns-clause-keeps
 returns-clause-keeps g c =
     let s = c.args.schedule.now in
     record {
-      balance = λ k f. opening_balances f s.topology (take k s.events);
+      balance = prefix_balances s c.requires.rules;
       bounded = prefix_bounded s c.requires.rules;
       granted = prefix_granted s c.requires.rules;
       once = λ k n. opening_once n s.topology (take k s.events);

@@ -1,12 +1,11 @@
-use Rattle.std.proofs.Common.{◌+◌, ◌<◌, ◌≤◌, [], ◌++◌, get_or, length, sym, ap, ◌∙◌, subst, arith}
-use Rattle.std.proofs.lemmas.List.{append-nil}
+use Rattle.std.proofs.Common.{◌+◌, ◌<◌, ◌≤◌, [], get_or, length, sym, ap, ◌∙◌, subst, arith}
 use Rattle.std.proofs.lemmas.List.Elements.{All-get_or}
 use Rattle.world_model.specs.World.{opening}
 use Rattle.world_model.specs.Sound.{event_fits}
 use Rattle.node_io.specs.Sinks.{Writes, FailsIn}
 use Rattle.node_io.proofs.SinkLaws.{writes_none}
 use Rattle.net_world.specs.declared.runs.RunFault.TheVariants.{WriteFault}
-use Rattle.net_world.proofs.RunLaws.{stands_none, counts_none, text_none, opening_made, events_fit, countable, stands_next, counts_next, waits_next, stopped_event, waits_all, waited_written, waited_stopped, counts_all}
+use Rattle.net_world.proofs.RunLaws.{stands_none, counts_none, text_none, opening_made, events_fit, version_at, countable, all_leave, stands_next, counts_next, waits_next, stopped_event, waits_all, waited_written, waited_stopped, counts_all}
 use Rattle.net_world.proofs.runs.run_events.Goals as goal
 
 pub loop-event-init : goal.loop-event-init
@@ -15,7 +14,7 @@ loop-event-init g c =
     record {
       world = stands_none g.S.Services.stands c.args.world.now (opening s.topology) s.events c.requires.opening;
       ledger = counts_none c.args.ledger.now (opening s.topology) s.events c.requires.empty;
-      made = c.requires.opening.made ∙ opening_made s.topology;
+      made = c.requires.opening.is.made ∙ opening_made s.topology;
       waits = record { done = []; written = writes_none (g.K.Sink.state c.args.out.now); is = text_none s.frames (opening s.topology) s.events ∙ sym c.new-text.ensures };
     }
 
@@ -24,7 +23,10 @@ run_event-requires-clause-fits g c =
     let s = c.args.schedule.now in
     let within = subst (λ es. c.loop-event.event-index < length es) c.as_slice-events.ensures c.loop-event-test.true in
     let is = c.event-item.is ∙ ap (λ es. get_or es c.loop-event.event-index c.event-item.result) c.as_slice-events.ensures in
-    subst event_fits (sym is) (All-get_or event_fits s.events c.loop-event.event-index c.event-item.result within (events_fit s c.requires.rules))
+    let v = s.topology.version in
+    let own = subst (event_fits v) (sym is) (All-get_or (event_fits v) s.events c.loop-event.event-index c.event-item.result within (events_fit s c.requires.rules)) in
+    let same = c.loop-event.invariant.world.is.version ∙ version_at s c.requires.rules c.loop-event.event-index in
+    subst (λ u. event_fits u c.event-item.result) (sym same) own
 
 pub run_event-requires-clause-few : goal.run_event-requires-clause-few
 run_event-requires-clause-few g c =
@@ -49,7 +51,7 @@ loop-event-preserved g c =
     let out = g.K.Sink.state in
     record {
       world = stands_next w s.events c.loop-event.event-index c.event-item.result within is g.S.Services.stands c.run_event.new.world (done.world _ i.world);
-      ledger = counts_next w s.events c.loop-event.event-index c.event-item.result within is c.run_event.new.ledger (done.ledger _ _ i.world i.ledger);
+      ledger = counts_next w s.events c.loop-event.event-index c.event-item.result within is c.run_event.new.ledger (done.ledger _ _ i.world (all_leave s c.loop-event.event-index c.event-item.result c.requires.rules) i.ledger);
       made = done.made ∙ ap (λ n. n + 1) i.made;
       waits = waits_next w s.events c.loop-event.event-index c.event-item.result within is s.frames (out c.args.out.now) (out c.loop-event.out) (out c.run_event.new.out) c.loop-event.text _ i.waits (done.waits _ i.world);
     }

@@ -1,10 +1,9 @@
-use Rattle.std.proofs.Common.{[], sym, ap, ◌∙◌, subst}
+use Rattle.std.proofs.Common.{[], sym, ◌∙◌, subst}
 use Rattle.node_io.specs.Sinks.{Writes, FailsIn}
 use Rattle.run_ledger.specs.Stands.{Stands}
 use Rattle.run_ledger.proofs.LineLaws.{nothing_stands}
 use Rattle.world_model.specs.World.{opening, world_after, history_of}
-use Rattle.network_laws.proofs.Balance.{opening_balances}
-use Rattle.net_world.proofs.RunLaws.{stopped_header, stopped_lines, stopped_before_ledger, stopped_ledger, whole_run}
+use Rattle.net_world.proofs.RunLaws.{whole_balances, stopped_header, stopped_lines, stopped_before_ledger, stopped_ledger, whole_run}
 use Rattle.net_world.proofs.runs.write_run.Goals as goal
 
 pub run_events-requires-clause-empty : goal.run_events-requires-clause-empty
@@ -36,7 +35,7 @@ returns-in-Ok-put_all-2 g c =
     let s = c.args.schedule.now in
     let w = opening s.topology in
     let out = g.K.Sink.state in
-    let text = c.in-Ok-ledger_bytes.ensures (history_of s.events w) (world_after s.events w) c.in_default-run_events.ensures.ledger (λ f. opening_balances f s.topology s.events) in
+    let text = c.in-Ok-ledger_bytes.ensures (history_of s.events w) (world_after s.events w) c.in_default-run_events.ensures.ledger (whole_balances s c.requires.rules) in
     whole_run s.frames s.events w (out c.args.out.now) (out c.put_all.new.sink) (out c.run_events.new.out) (out c.put_all-2.new.sink) c.in-Ok-put_all.ensures c.in_default-run_events.ensures.lines
     (subst (Writes (out c.run_events.new.out) (out c.put_all-2.new.sink)) (c.as_slice.ensures ∙ text) c.in-Ok-put_all-2.ensures)
 
@@ -45,6 +44,6 @@ returns g c =
     let s = c.args.schedule.now in
     let w = opening s.topology in
     let out = g.K.Sink.state in
-    let text = c.in-Ok-ledger_bytes.ensures (history_of s.events w) (world_after s.events w) c.in_default-run_events.ensures.ledger (λ f. opening_balances f s.topology s.events) in
+    let text = c.in-Ok-ledger_bytes.ensures (history_of s.events w) (world_after s.events w) c.in_default-run_events.ensures.ledger (whole_balances s c.requires.rules) in
     stopped_ledger s.frames s.events w (out c.args.out.now) (out c.put_all.new.sink) (out c.run_events.new.out) (out c.put_all-2.new.sink) c.in-Ok-put_all.ensures c.in_default-run_events.ensures.lines
     (subst (FailsIn (out c.run_events.new.out) (out c.put_all-2.new.sink)) (c.as_slice.ensures ∙ text) c.in-Err-put_all.ensures)

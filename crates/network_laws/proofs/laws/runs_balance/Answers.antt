@@ -1,4 +1,4 @@
-use Rattle.network_laws.proofs.Balance.{opening_balances}
+use Rattle.network_laws.proofs.Handings.{opening_balances}
 use Rattle.network_laws.proofs.laws.runs_balance.Goals as goal
 
 pub returns : goal.returns

@@ -4,4 +4,4 @@ use Rattle.node_model.specs.Node.{advert_sending}
 use Rattle.node_core.proofs.outgoing.advert_sendings.Given as goal
 
 abbrev pub invariant-loop-link : goal.invariant-loop-link
-invariant-loop-link l = l.sends ≡ map (advert_sending l.advert) (take l.link-index l.neighbours)
+invariant-loop-link l = l.sends ≡ map (advert_sending l.mark l.advert) (take l.link-index l.neighbours)

@@ -6,8 +6,8 @@ use Rattle.node_core.proofs.sends.send_all.Goals as goal
 
 pub loop-sending-init : goal.loop-sending-init
 loop-sending-init c = (
-  sym (append-nil c.args.acts.now.items) ∙ ap (λ x. c.args.acts.now.items ++ x) (sym (sends_acts_none c.args.queues.now)),
-  sym (sends_queues_none c.args.queues.now),
+  sym (append-nil c.args.acts.now.items) ∙ ap (λ x. c.args.acts.now.items ++ x) (sym (sends_acts_none c.args.lanes.now)),
+  sym (sends_queues_none c.args.lanes.now),
   omega arith,
   refl,
 )
@@ -15,8 +15,8 @@ loop-sending-init c = (
 pub loop-sending-preserved : goal.loop-sending-preserved
 loop-sending-preserved c =
     let i = c.loop-sending.invariant in
-    let more = sends_acts_more c.args.queues.now c.loop-sending.yielded c.in-Some.sending in
-    let queues = sends_queues_more c.args.queues.now c.loop-sending.yielded c.in-Some.sending in
-    let assoc = append_assoc c.args.acts.now.items (sends_acts c.args.queues.now c.loop-sending.yielded) (c.send_one-act.result ∷ []) in
+    let more = sends_acts_more c.args.lanes.now c.loop-sending.yielded c.in-Some.sending in
+    let queues = sends_queues_more c.args.lanes.now c.loop-sending.yielded c.in-Some.sending in
+    let assoc = append_assoc c.args.acts.now.items (sends_acts c.args.lanes.now c.loop-sending.yielded) (c.send_one-act.result ∷ []) in
     let count = length_push c.loop-sending.yielded c.in-Some.sending in
     (cc, cc, omega arith, cc)

@@ -4,6 +4,6 @@ use Rattle.node_model.specs.Node.{sends_acts, sends_queues}
 use Rattle.node_core.proofs.sends.send_all.Given as goal
 
 abbrev pub invariant-loop-sending : goal.invariant-loop-sending
-invariant-loop-sending l = (l.acts.items ≡ l.initial.acts.items ++ sends_acts l.initial.queues l.yielded)
-    × (l.queues ≡ sends_queues l.initial.queues l.yielded)
+invariant-loop-sending l = (l.acts.items ≡ l.initial.acts.items ++ sends_acts l.initial.lanes l.yielded)
+    × (l.lanes ≡ sends_queues l.initial.lanes l.yielded)
     × (vec_len l.initial.acts + length l.yielded ≡ vec_len l.acts) × (vec_capacity l.acts ≡ vec_capacity l.initial.acts)

@@ -6,7 +6,7 @@ use Rattle.node_serve.proofs.FrameSizes.{frame_arrives}
 use Rattle.node_serve.proofs.back.arrived.Goals as goal
 
 pub returns-clause-event : goal.returns-clause-event
-returns-clause-event c = ap (Frame (dev_of 0)) c.into_bytes-bytes.ensures.spells.is
+returns-clause-event c = ap (Frame (dev_of 0)) c.into_bytes-bytes.ensures.is
 
 pub returns-clause-keeps : goal.returns-clause-keeps
-returns-clause-keeps c = (omega arith, frame_arrives _ _ c.into_bytes-bytes.ensures (subst IsBytes c.as_slice.ensures c.are_bytes.ensures))
+returns-clause-keeps c = λ v. (omega arith, frame_arrives _ _ _ c.into_bytes-bytes.ensures (subst IsBytes c.as_slice.ensures c.are_bytes.ensures))

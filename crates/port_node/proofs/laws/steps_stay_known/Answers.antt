@@ -3,4 +3,4 @@ use Rattle.port_node.proofs.Nodes.{packet_known}
 use Rattle.port_node.proofs.laws.steps_stay_known.Goals as goal
 
 pub returns : goal.returns
-returns c offer dest seq body node d p closed k n = packet_known (data_allowed offer dest seq body) closed node d p k n
+returns c offer dest seq body node d p closed k o n = packet_known (data_allowed offer dest seq body) closed node d p (k, o) n

@@ -9,6 +9,6 @@ pub returns-clause-network : goal.returns-clause-network
 returns-clause-network x t b c script h = (run_pays (opening t) (b + c) script (port_begun (opening t) b c) h (begun_pays (opening t) b c)).world
 
 pub returns-clause-paid : goal.returns-clause-paid
-returns-clause-paid x t b c script fs h k =
+returns-clause-paid x t b c script fs net fits h k =
     let p = run_pays (opening t) (b + c) script (port_begun (opening t) b c) h (begun_pays (opening t) b c) in
-    omega (arith, p.paid, families_pay t (port_run script (port_begun (opening t) b c)).events fs p.wired k)
+    omega (arith, p.paid, families_pay t (port_run script (port_begun (opening t) b c)).events fs net fits p.wired k)

@@ -1,4 +1,4 @@
-use Rattle.port_run.specs.Ports.{port_run, port_begun}
+use Rattle.port_run.specs.Ports.{port_begun}
 use Rattle.port_run.proofs.Running.{run_on, begun_on}
 use Rattle.port_run.proofs.laws.port_law.Goals as goal
 

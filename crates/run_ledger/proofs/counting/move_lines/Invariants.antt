@@ -3,4 +3,4 @@ use Rattle.run_ledger.specs.Counting.{Moved}
 use Rattle.run_ledger.proofs.counting.move_lines.Given as goal
 
 abbrev pub invariant-loop-line : goal.invariant-loop-line
-invariant-loop-line l = Moved (take l.line-index l.lines) l.initial.ledger l.ledger
+invariant-loop-line l = Moved l.late (take l.line-index l.lines) l.initial.ledger l.ledger

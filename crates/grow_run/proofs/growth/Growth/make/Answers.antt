@@ -1,24 +1,27 @@
-use Rattle.std.proofs.Common.{◌∙◌, ◌+◌, ◌++◌, refl, sym, ap, subst}
-use Rattle.run_ledger.specs.Counting.{LinesFit}
+use Rattle.std.proofs.Common.{◌∙◌, ◌+◌, ◌++◌, refl, ap, subst}
+use Rattle.world_model.specs.Counts.{late_in}
 use Rattle.run_ledger.specs.Stands.{Stands}
 use Rattle.grow_run.specs.Summaries.{summary_of}
-use Rattle.net_world.proofs.RunLaws.{entries_are}
+use Rattle.net_world.proofs.RunLaws.{fits_as, leaves_as, entries_are}
 use Rattle.grow_run.proofs.growth.Growth.make.Goals as goal
 
 pub count_lines-requires : goal.count_lines-requires
 count_lines-requires g c =
     let counts = c.requires.counts in
     let lines = (c.in_ok-lines.ensures.ok counts.state counts.is).list in
-    record { fits = subst (LinesFit c.args.self.now.ledger) (sym (c.as_slice.ensures ∙ lines)) counts.fits }
+    let late = c.is_late-late.ensures ∙ ap (λ wire. late_in wire c.args.event.now) counts.is.is.wire in
+    let rows = c.args.self.now.ledger in
+    record { fits = fits_as rows _ _ _ _ late (c.as_slice.ensures ∙ lines) counts.fits }
 
 pub returns-clause-world : goal.returns-clause-world
 returns-clause-world g c = λ w h. (c.in_ok-lines.ensures.ok w h).world
 
 pub returns-clause-counts : goal.returns-clause-counts
-returns-clause-counts g c = λ w old h s t.
+returns-clause-counts g c = λ w old h l s t.
     let lines = (c.in_ok-lines.ensures.ok w h).list in
-    let counted = entries_are w c.args.event.now _ (c.args.self.now.world.made + 1) c.args.self.now.world.made refl h.made (c.as_slice.ensures ∙ lines) in
-    let summed = entries_are w c.args.event.now _ (c.args.self.now.world.made + 1) c.args.self.now.world.made refl h.made (c.as_slice-2.ensures ∙ lines) in (
-      subst (λ x. Stands (old ++ x) c.count_lines.new.ledger) counted (c.in_ok-count_lines.ensures old (c.args.self.now.world.made + 1) s),
+    let late = c.is_late-late.ensures ∙ ap (λ wire. late_in wire c.args.event.now) h.is.wire in
+    let counted = entries_are w c.args.event.now _ (c.args.self.now.world.made + 1) c.args.self.now.world.made refl h.is.made (c.as_slice.ensures ∙ lines) in
+    let summed = entries_are w c.args.event.now _ (c.args.self.now.world.made + 1) c.args.self.now.world.made refl h.is.made (c.as_slice-2.ensures ∙ lines) in (
+      subst (λ x. Stands (old ++ x) c.count_lines.new.ledger) counted (c.in_ok-count_lines.ensures old (c.args.self.now.world.made + 1) (leaves_as old w c.args.event.now _ _ _ late counted (c.as_slice.ensures ∙ lines) l) s),
       c.count.ensures old (c.args.self.now.world.made + 1) t ∙ ap (λ x. summary_of (old ++ x)) summed,
     )

@@ -1,5 +1,5 @@
 use Rattle.std.proofs.Common.{◌∙◌, ◌++◌, ◌∷◌, [], ap, refl, subst, ◌≤◌, ◌<◌}
-use Rattle.packet_frame.specs.Bytes.{frame_bytes}
+use Rattle.packet_frame.specs.Stamped.{stamped_bytes}
 use Rattle.world_model.specs.declared.lines.Line.TheVariants.{Wire}
 use Rattle.world_model.specs.World.{far_end, lines_at}
 use Rattle.std.proofs.lemmas.List.{length-set}
@@ -9,44 +9,44 @@ use Rattle.net_world.proofs.network.Network.send.Goals as goal
 
 pub returns-in_default-clause-ok : goal.returns-in_default-clause-ok
 returns-in_default-clause-ok g c = λ w h.
-    let none = c.in_default.ensures.place w.nodes (placed _ c.args.self.now w _ h c.as_slice.ensures.value) in
-    if_ok _ _ c.nothing.result (λ lines e. no_node_sends _ c.args.self.now w c.args.host c.args.dev h lines none e) c.nothing.ensures
+    let none = c.in_default.ensures.place w.nodes (placed _ c.args.self.now w _ h.is c.as_slice.ensures.value) in
+    if_ok _ _ c.nothing.result (λ lines e. no_node_sends _ c.args.self.now w c.args.host c.args.dev h.is lines none e) c.nothing.ensures
 
 pub returns-in_default-far_end-clause-ok : goal.returns-in_default-far_end-clause-ok
 returns-in_default-far_end-clause-ok g c = λ w h.
-    let node = c.in-Some.ensures.place w.nodes (placed _ c.args.self.now w _ h c.as_slice.ensures.value) in
+    let node = c.in-Some.ensures.place w.nodes (placed _ c.args.self.now w _ h.is c.as_slice.ensures.value) in
     let none = c.in_default-far_end.ensures ∙ ap (λ x. far_end x c.args.host c.args.dev) c.as_slice-2.ensures in
-    if_ok _ _ c.nothing-in_default-far_end.result (λ lines e. no_end_sends _ c.args.self.now w c.args.host c.args.dev h lines c.in-Some.at node none e) c.nothing-in_default-far_end.ensures
+    if_ok _ _ c.nothing-in_default-far_end.result (λ lines e. no_end_sends _ c.args.self.now w c.args.host c.args.dev h.is lines c.in-Some.at node none e) c.nothing-in_default-far_end.ensures
 
 pub returns-then-len-ge-WIRE_ROOM-clause-ok : goal.returns-then-len-ge-WIRE_ROOM-clause-ok
 returns-then-len-ge-WIRE_ROOM-clause-ok g c = λ w h.
-    let node = c.in-Some.ensures.place w.nodes (placed _ c.args.self.now w _ h c.as_slice.ensures.value) in
+    let node = c.in-Some.ensures.place w.nodes (placed _ c.args.self.now w _ h.is c.as_slice.ensures.value) in
     let far = c.in-Some-far_end.ensures ∙ ap (λ x. far_end x c.args.host c.args.dev) c.as_slice-2.ensures in
     if_ok _ _ c.nothing-then-len-ge-WIRE_ROOM.result
-    (λ lines e. no_room_sends _ c.args.self.now w c.args.host c.args.dev h lines c.in-Some.at c.in-Some-far_end.to node far (subst (λ n. 4096 ≤ n) c.len.ensures c.if-len-ge-WIRE_ROOM.true) e)
+    (λ lines e. no_room_sends _ c.args.self.now w c.args.host c.args.dev h.is lines c.in-Some.at c.in-Some-far_end.to node far (subst (λ n. 4096 ≤ n) c.len.ensures c.if-len-ge-WIRE_ROOM.true) e)
     c.nothing-then-len-ge-WIRE_ROOM.ensures
 
 pub returns-in_default-frame-clause-ok : goal.returns-in_default-frame-clause-ok
 returns-in_default-frame-clause-ok g c = λ w h.
-    let node = c.in-Some.ensures.place w.nodes (placed _ c.args.self.now w _ h c.as_slice.ensures.value) in
+    let node = c.in-Some.ensures.place w.nodes (placed _ c.args.self.now w _ h.is c.as_slice.ensures.value) in
     let far = c.in-Some-far_end.ensures ∙ ap (λ x. far_end x c.args.host c.args.dev) c.as_slice-2.ensures in
-    let stand = placed _ c.args.self.now w _ h c.deref_mut.ensures.value in
+    let stand = placed _ c.args.self.now w _ h.is c.deref_mut.ensures.value in
     let done = c.in_ok-list.ensures.step w.nodes stand in
     let none = c.in_default-frame.is in
     let same = c.in_ok-list.ensures.same w.nodes stand none in
     if_ok _ _ c.nothing-in_default-frame.result
-    (λ lines e. none_sent _ c.args.self.now w c.args.host c.args.dev h lines _ c.in-Some.at c.in-Some-far_end.to c.in_ok-list.field-0 c.take_at.new.nodes node far
-    (subst (λ n. n < 4096) c.len.ensures c.if-len-ge-WIRE_ROOM.false) done none same e (given_back _ c.args.self.now.nodes c.take_at.new.nodes w.nodes w.nodes h.nodes same refl) refl refl refl refl)
+    (λ lines e. none_sent _ c.args.self.now w c.args.host c.args.dev h.is lines _ c.in-Some.at c.in-Some-far_end.to c.in_ok-list.field-0 c.take_at.new.nodes node far
+    (subst (λ n. n < 4096) c.len.ensures c.if-len-ge-WIRE_ROOM.false) done none same e (given_back _ c.args.self.now.nodes c.take_at.new.nodes w.nodes w.nodes h.is.nodes same refl) refl refl refl refl refl)
     c.nothing-in_default-frame.ensures
 
 pub returns-clause-ok : goal.returns-clause-ok
 returns-clause-ok g c = λ w h.
-    let node = c.in-Some.ensures.place w.nodes (placed _ c.args.self.now w _ h c.as_slice.ensures.value) in
+    let node = c.in-Some.ensures.place w.nodes (placed _ c.args.self.now w _ h.is c.as_slice.ensures.value) in
     let far = c.in-Some-far_end.ensures ∙ ap (λ x. far_end x c.args.host c.args.dev) c.as_slice-2.ensures in
-    let stand = placed _ c.args.self.now w _ h c.deref_mut.ensures.value in
+    let stand = placed _ c.args.self.now w _ h.is c.deref_mut.ensures.value in
     let done = c.in_ok-list.ensures.step w.nodes stand in
     let acts = c.in_ok-before.ensures ∙ ap (λ x. x ++ lines_at c.args.host c.in_ok-list.field-0.list) c.no_lines.ensures in
-    one_sent _ c.args.self.now w c.args.host c.args.dev h _ _ c.in-Some.at c.in-Some-far_end.to c.in_ok-list.field-0 c.take_at.new.nodes c.in-Some-frame.frame node far
+    one_sent _ c.args.self.now w c.args.host c.args.dev h.is _ _ c.in-Some.at c.in-Some-far_end.to c.in_ok-list.field-0 c.take_at.new.nodes c.in-Some-frame.frame node far
     (subst (λ n. n < 4096) c.len.ensures c.if-len-ge-WIRE_ROOM.false) done c.in-Some-frame.is
-    (c.in_ok-lines.ensures ∙ ap (λ x. x ++ Wire c.args.self.now.«next» (frame_bytes c.in-Some-frame.frame) ∷ []) acts)
-    (given_back _ c.args.self.now.nodes c.take_at.new.nodes w.nodes _ h.nodes done.after (length-set w.nodes c.in-Some.at _)) refl c.in_ok-add.ensures.ok refl refl
+    (c.in_ok-lines.ensures ∙ ap (λ x. x ++ Wire c.args.self.now.«next» (stamped_bytes c.in-Some-frame.frame) ∷ []) acts)
+    (given_back _ c.args.self.now.nodes c.take_at.new.nodes w.nodes _ h.is.nodes done.after (length-set w.nodes c.in-Some.at _)) refl c.in_ok-add.ensures.ok refl refl refl

@@ -1,26 +1,42 @@
+use Rattle.std.proofs.Common.{sym, subst}
 use Rattle.network_laws.proofs.Balance.{event_balances}
 use Rattle.network_laws.proofs.Fitting.{event_sound}
 use Rattle.network_laws.proofs.Visits.{event_ends}
 use Rattle.world_routes.proofs.Reaching.{event_keeps_routes}
+use Rattle.world_model.specs.World.{acted}
+use Rattle.net_world.specs.Stands.{WorldStands}
+use Rattle.net_world.proofs.StandLaws.{fits_there}
 use Rattle.net_world.proofs.world.World.step.Goals as goal
 
+pub returns-clause-ok : goal.returns-clause-ok
+returns-clause-ok g c = λ w h.
+    let here = subst (λ n. WorldStands g.S.Services.stands n w) (sym c.self.view_is) h in
+    let done = c.in_ok-lines.ensures.ok w here in
+    record {
+      list = done.list;
+      world = record {
+        is = c.count.ensures.stands (acted w c.args.event.now).world done.network;
+        sound = event_sound w c.args.event.now (fits_there w c.args.event.now c.args.self.now (sym h.is.version) c.requires.fits) h.sound;
+      };
+    }
+
 pub returns-in_err-lines-clause-balance : goal.returns-in_err-lines-clause-balance
-returns-in_err-lines-clause-balance g c = λ f w. event_balances f w c.args.event.now
+returns-in_err-lines-clause-balance g c = λ f w s. event_balances f w c.args.event.now s
 
 pub returns-in_err-lines-clause-sound : goal.returns-in_err-lines-clause-sound
-returns-in_err-lines-clause-sound g c = λ w s. event_sound w c.args.event.now c.requires.fits s
+returns-in_err-lines-clause-sound g c = λ w v s. event_sound w c.args.event.now (fits_there w c.args.event.now c.args.self.now v c.requires.fits) s
 
 pub returns-in_err-lines-clause-visits : goal.returns-in_err-lines-clause-visits
-returns-in_err-lines-clause-visits g c = λ w s. event_ends w c.args.event.now c.requires.fits s
+returns-in_err-lines-clause-visits g c = λ w v s. event_ends w c.args.event.now (fits_there w c.args.event.now c.args.self.now v c.requires.fits) s
 
 pub returns-clause-balance : goal.returns-clause-balance
-returns-clause-balance g c = λ f w. event_balances f w c.args.event.now
+returns-clause-balance g c = λ f w s. event_balances f w c.args.event.now s
 
 pub returns-clause-sound : goal.returns-clause-sound
-returns-clause-sound g c = λ w s. event_sound w c.args.event.now c.requires.fits s
+returns-clause-sound g c = λ w v s. event_sound w c.args.event.now (fits_there w c.args.event.now c.args.self.now v c.requires.fits) s
 
 pub returns-clause-visits : goal.returns-clause-visits
-returns-clause-visits g c = λ w s. event_ends w c.args.event.now c.requires.fits s
+returns-clause-visits g c = λ w v s. event_ends w c.args.event.now (fits_there w c.args.event.now c.args.self.now v c.requires.fits) s
 
 pub returns-in_err-lines-clause-routes : goal.returns-in_err-lines-clause-routes
 returns-in_err-lines-clause-routes g c = λ w. event_keeps_routes w c.args.event.now

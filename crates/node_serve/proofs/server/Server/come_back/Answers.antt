@@ -3,7 +3,7 @@ use Rattle.std.proofs.lemmas.Grind.{common_steps}
 use Rattle.serve_model.specs.Runs.{come_back, make}
 use Rattle.network_plan.specs.Hosts.{dev_of}
 use Rattle.network_plan.specs.declared.event.Event.TheVariants.{Frame}
-use Rattle.packet_frame.specs.Bytes.{frame_bytes}
+use Rattle.packet_frame.specs.Stamped.{stamped_bytes}
 use Rattle.node_serve.specs.Desks.{desk}
 use Rattle.node_serve.proofs.Joining.{goes_same, goes_as}
 use Rattle.node_serve.proofs.MakeLaws.{back_stay, back_makes}
@@ -16,6 +16,9 @@ returns-in_default g c =
 
 pub returns : goal.returns
 returns g c = λ l.
-    let e = Frame (dev_of 0) (frame_bytes c.in-Some.frame) in
+    let e = Frame (dev_of 0) (stamped_bytes c.in-Some.frame) in
     goes_as g.S.Services.stands c.args.cfg.now (make e) (come_back c.args.frame) c.args.self.now c.step.new.self _ _ c.step.result
     (λ seen r st. back_makes c.args.frame c.in-Some.frame r c.in-Some.is) (c.step.ensures l e c.arrived.ensures.event)
+
+pub step-requires-clause-event : goal.step-requires-clause-event
+step-requires-clause-event g c = c.arrived.ensures.keeps c.args.cfg.now.node.version

@@ -20,7 +20,7 @@ pub inject_one-requires-clause-writing : goal.inject_one-requires-clause-writing
 inject_one-requires-clause-writing g c = c.loop-inject.invariant.writing
 
 pub inject_one-requires-clause-keeps : goal.inject_one-requires-clause-keeps
-inject_one-requires-clause-keeps g c = subst KeepsInject (sym (c.inject-item.is ∙ ap (λ xs. get_or xs c.loop-inject.inject-index c.inject-item.result) c.as_slice-inject-items.ensures)) (All-get_or KeepsInject c.args.cfg.now.at c.loop-inject.inject-index c.inject-item.result (subst (λ xs. c.loop-inject.inject-index < length xs) c.as_slice-inject-items.ensures c.loop-inject-test.true) c.requires.keeps.injects)
+inject_one-requires-clause-keeps g c = subst (KeepsInject c.args.cfg.now.node.version) (sym (c.inject-item.is ∙ ap (λ xs. get_or xs c.loop-inject.inject-index c.inject-item.result) c.as_slice-inject-items.ensures)) (All-get_or (KeepsInject c.args.cfg.now.node.version) c.args.cfg.now.at c.loop-inject.inject-index c.inject-item.result (subst (λ xs. c.loop-inject.inject-index < length xs) c.as_slice-inject-items.ensures c.loop-inject-test.true) c.requires.keeps.injects)
 
 pub loop-inject-preserved : goal.loop-inject-preserved
 loop-inject-preserved g c =

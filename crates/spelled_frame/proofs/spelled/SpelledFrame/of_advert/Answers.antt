@@ -1,10 +1,14 @@
-use Rattle.std.proofs.Common.{◌≡◌, refl}
+use Rattle.std.proofs.Common.{◌≡◌, ap, sym, ◌∙◌, refl, subst}
 use Rattle.packet_frame.specs.declared.frame.PlainFrame.{PlainFrame}
+use Rattle.spelled_frame.specs.declared.spelled.What.TheVariants as what
+use Rattle.spelled_frame.specs.Spelled.{frame_in, IsSpelled, version_of}
 use Rattle.spelled_frame.proofs.Reading.{frame_is_read, is_spelled}
 use Rattle.spelled_frame.proofs.spelled.SpelledFrame.of_advert.Goals as goal
 
 pub invariant_of-result : goal.invariant_of-result
-invariant_of-result c = is_spelled c.in_ok-bytes.bytes (PlainFrame.Advert c.args.advert.now) _ (record { spells = c.in_ok-bytes.ensures; typed = tt }) tt refl
+invariant_of-result c = subst (λ v. IsSpelled v c.in_ok-bytes.bytes what.Advert) (sym c.version_of.ensures)
+    (is_spelled (version_of c.args.mark) c.in_ok-bytes.bytes (record { stamp = c.args.mark; frame = PlainFrame.Advert c.args.advert.now }) what.Advert c.in_ok-bytes.ensures tt refl)
 
 pub returns : goal.returns
-returns c = frame_is_read c.in_ok-bytes.bytes _ (record { spells = c.in_ok-bytes.ensures; typed = tt })
+returns c = ap (λ v. frame_in v c.in_ok-bytes.bytes) c.version_of.ensures
+    ∙ frame_is_read (version_of c.args.mark) c.in_ok-bytes.bytes (record { stamp = c.args.mark; frame = PlainFrame.Advert c.args.advert.now }) c.in_ok-bytes.ensures

@@ -1,0 +1,2 @@
+pub mod AuditRules
+pub mod AuditFiles

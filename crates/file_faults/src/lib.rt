@@ -1,0 +1,23 @@
+//! The law that running out of memory is no first refusal of a file of lines, nor inside of one.
+//!
+//! Each law stands on a function without code, so that contracts of other crates can name it.
+#![tactic(auto)]
+
+ghost use Rattle.std.specs.Prelude.{◌≡◌, ℕ, List, Err};
+ghost use Rattle.line_files.specs.declared.fault.LineFault.{LineFault};
+ghost use Rattle.schedule_text.specs.Schedules.{schedule_of};
+ghost use Rattle.node_files.specs.Asks.{ask_of};
+ghost use Rattle.node_files.specs.Configs.{config_of};
+ghost use Rattle.node_files.specs.Fleets.{fleet_of};
+ghost use Rattle.node_files.specs.Logs.{log_of};
+ghost use Rattle.file_faults.specs.Refusals.{FaultHolds};
+
+/// No first refusal of a file of lines is or holds `NoMemory`.
+#[tactic(auto, using(crate::proofs::ScheduleHolds::schedule_holds, crate::proofs::ConfigHolds::config_holds, crate::proofs::LogHolds::log_holds, crate::proofs::AskHolds::ask_holds, crate::proofs::FleetHolds::fleet_holds))]
+pub fn refusals_hold_no_memory()
+    ensures schedules { (bytes : List ℕ) (e : LineFault) → schedule_of bytes ≡ Err e → FaultHolds e }
+    ensures configurations { (bytes : List ℕ) (e : LineFault) → config_of bytes ≡ Err e → FaultHolds e }
+    ensures logs { (bytes : List ℕ) (e : LineFault) → log_of bytes ≡ Err e → FaultHolds e }
+    ensures requests { (bytes : List ℕ) (e : LineFault) → ask_of bytes ≡ Err e → FaultHolds e }
+    ensures fleets { (bytes : List ℕ) (e : LineFault) → fleet_of bytes ≡ Err e → FaultHolds e }
+{}

@@ -1,0 +1,4 @@
+pub mod Handlers
+pub mod Tellings
+pub mod Sums
+pub mod Sends

@@ -1,0 +1,150 @@
+//! Visits that are settled.
+ghost use Rattle.std.specs.Prelude.{◌≡◌, ◌≤◌, ◌+◌, ◌++◌, map, All, IfOk};
+ghost use Rattle.std.specs.Option.{option_to_list};
+ghost use Rattle.plan_meaning.specs.Visit.{bounds};
+ghost use Rattle.settled_visit.specs.Settles as spec;
+
+use crate::telling::telling_of;
+use chunk_types::CheckedPacket;
+use plan_base::{Name, NoMemory};
+use plan_copies::copy_handler;
+use plan_items::Items;
+use plan_meaning::{Outbox, Sent, Visit};
+use plan_types::is_handler;
+use service_api::Ctx;
+use std::alloc::Global;
+
+/// A visit that is settled.
+#[derive(Drop)]
+pub struct Settled {
+    /// The visit, with the packet that tells the source, if there is one, sent last and paid from what was left.
+    pub visit: Visit,
+    /// The handler that this packet calls.
+    pub handled: Option<Name>,
+}
+
+/// A packet that is sent, with the handler where its own code has such a function. Condition: it has none yet.
+fn handed(alloc: Global, handler: &Option<Name>, sent: Sent) -> Result<Sent, NoMemory>
+    requires { spec.IsPlain sent }
+    ensures { IfOk result (λ s. s ≡ spec.handed handler.now sent) }
+{
+    let Some(name) = handler else {
+        return Ok(sent);
+    };
+    if !is_handler(sent.packet.chunk().chunk().code.get(), name) {
+        return Ok(sent);
+    }
+    let name = name.copy(alloc)?;
+    let Sent { dev, packet } = sent;
+    Ok(Sent {
+        dev,
+        packet: packet.handled_by(name),
+    })
+}
+
+/// All that a visit sends, with the handler. Condition: none of it has one yet.
+fn all_handed(alloc: Global, handler: &Option<Name>, outbox: Outbox) -> Result<Outbox, NoMemory>
+    requires { All spec.IsPlain outbox }
+    ensures { IfOk result (λ sends. sends ≡ map (spec.handed handler.now) outbox) }
+{
+    let mut sends = Items::new(alloc);
+    for sent in outbox.into_vec() {
+        sends.add(handed(alloc, handler, sent)?)?;
+    }
+    Ok(sends)
+}
+
+/// What is sent, with the packet that tells the source, if there is one, last.
+fn with_last(outbox: Outbox, told: Option<Sent>) -> Result<Outbox, NoMemory>
+    ensures { IfOk result (λ sends. sends ≡ outbox ++ option_to_list told) }
+{
+    let mut outbox = outbox;
+    if let Some(sent) = told {
+        outbox.add(sent)?;
+    }
+    Ok(outbox)
+}
+
+/// What is left beside the packet that tells the source.
+fn left_beside(left: u32, told: &Option<Sent>) -> u32
+    ensures { result ≡ spec.left_beside left told.now }
+{
+    match told {
+        None => left,
+        Some(_) => 0,
+    }
+}
+
+/// The handler that is called by that packet.
+fn handled_by(
+    alloc: Global,
+    handler: &Option<Name>,
+    told: &Option<Sent>,
+) -> Result<Option<Name>, NoMemory>
+    ensures { IfOk result (λ h. h ≡ spec.handled_by handler.now told.now) }
+{
+    match told {
+        None => Ok(None),
+        Some(_) => copy_handler(alloc, handler),
+    }
+}
+
+/// A visit with the packet that tells the source, if there is one. Condition: what it sends has no handler yet.
+fn with_telling(
+    alloc: Global,
+    handler: &Option<Name>,
+    v: Visit,
+    told: Option<Sent>,
+) -> Result<Settled, NoMemory>
+    requires { All spec.IsPlain v.outbox }
+    ensures { IfOk result (λ s. s ≡ spec.with_telling handler.now v told) }
+{
+    let handled = handled_by(alloc, handler, &told)?;
+    let left = left_beside(v.left, &told);
+    let Visit {
+        outcome,
+        evals,
+        outbox,
+        notes,
+        work,
+        ..
+    } = v;
+    let outbox = with_last(all_handed(alloc, handler, outbox)?, told)?;
+    let visit = Visit {
+        outcome,
+        evals,
+        left,
+        outbox,
+        notes,
+        work,
+    };
+    Ok(Settled { visit, handled })
+}
+
+/// Settles the visit of a packet by its parts. Conditions: those of `settle`.
+#[tactic(auto, unfolding(crate::specs::Settles::settled))]
+fn settle_parts(alloc: Global, p: &CheckedPacket, v: Visit, ctx: &Ctx) -> Result<Settled, NoMemory>
+    requires plain { All spec.IsPlain v.outbox }
+    requires left { v.left ≤ 65535 }
+    ensures { IfOk result (λ s. s ≡ spec.settled p.now ctx.entry.now v) }
+{
+    let told = telling_of(alloc, p, ctx, v.left, &v.outcome)?;
+    with_telling(alloc, p.handler(), v, told)
+}
+
+/// Settles the visit of a packet: what it sends has the packet's handler where its own code has such a function, and where the
+/// visit gave no value, that handler is called at the source with the exception's name, or with `WorkSpent`, by a packet
+/// that is sent last and has all that was left. That is so where the packet has a handler, something is left, and the
+/// source is this host or has a route; `handled` then names it.
+///
+/// Conditions: nothing that the visit sends has a handler, at most 65,535 is left, and the source of the surroundings is the
+/// family's host. What was paid, is left and is sent is the same in sum (docs/meaning.md).
+pub fn settle(alloc: Global, p: &CheckedPacket, v: Visit, ctx: &Ctx) -> Result<Settled, NoMemory>
+    requires plain { All spec.IsPlain v.outbox }
+    requires left { v.left ≤ 65535 }
+    requires source { ctx.now.source ≡ p.now.family.source }
+    ensures settled { IfOk result (λ s. s ≡ spec.settled p.now ctx.entry.now v) }
+    ensures balance { IfOk result (λ s. s.visit.evals + s.visit.left + bounds s.visit.outbox ≡ v.evals + v.left + bounds v.outbox) }
+{
+    settle_parts(alloc, p, v, ctx)
+}
