@@ -216,7 +216,7 @@ impl<S: Services> IdleServices<S> {
     ) -> Result<ActList, NoMemory>
         requires bound { ctx.now.purse ≡ packet.now.bound }
         requires source { ctx.now.source ≡ packet.now.family.source }
-    requires carried { MayCarry mark packet.now.handler }
+        requires carried { MayCarry mark packet.now.handler }
         requires near { length ctx.now.neighbours ≤ 8 }
         ensures acts { IfOk result (λ acts. acts ≡ before ++ spec.visit_acts mark lanes.old packet.now (visit_of ctx.entry.now (begun_now (S.stands self.old)) packet.now).left (settles.settled packet.now ctx.entry.now (visit_of ctx.entry.now (begun_now (S.stands self.old)) packet.now))) }
         ensures lanes { OnOk result (lanes.new ≡ spec.sends_queues lanes.old (spec.visit_sends mark (settles.settled packet.now ctx.entry.now (visit_of ctx.entry.now (begun_now (S.stands self.old)) packet.now)).visit)) }
