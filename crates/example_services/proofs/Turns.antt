@@ -3,7 +3,7 @@ use Rattle.std.proofs.Common.{◌≡◌, Bool, true, false, refl, sym, ap, ◌�
 use Rattle.std.specs.Prelude.{None}
 use Rattle.plan_base.specs.declared.tree.Packet.{Packet}
 use Rattle.service_api.specs.declared.ctx.Ctx.{Ctx}
-use Rattle.service_api.specs.Services.{Rows, ServiceState, begun_now, made_ready, abandoned, rows_at}
+use Rattle.service_api.specs.Services.{ServiceState, begun_now, made_ready, abandoned, rows_at}
 use Rattle.plan_meaning.specs.declared.outcome.Visit.{Visit}
 use Rattle.plan_meaning.specs.Visit.{IsVisit, allowance}
 use Rattle.example_services.specs.Visits as spec

@@ -1,5 +1,5 @@
 -- The laws that the trait asks for: both services answer well, and whatever isn't offered is refused.
-use Rattle.std.proofs.Common.{◌≡◌, ℕ, Bool, true, false, ◌&&◌, if◌then◌else◌, List, [], ◌∷◌, length, Option, Some, None, is_some, refl, sym, ap, ◌∙◌, subst, lit≤}
+use Rattle.std.proofs.Common.{◌≡◌, true, false, ◌&&◌, if◌then◌else◌, List, [], ◌∷◌, Option, Some, None, is_some, refl, sym, ap, ◌∙◌, subst, lit≤}
 use Rattle.std.specs.Str.{IsAscii}
 use Rattle.std.proofs.Math.Nat.{zero-lt-suc}
 use Rattle.std.proofs.lemmas.Str.{IsUtf8-from_ascii, is_utf8-from_IsUtf8}
@@ -7,16 +7,13 @@ use Rattle.std.proofs.lemmas.Str.Ascii.{IsAscii-nil, IsAscii-cons}
 use Rattle.plan_base.specs.declared.tree.Svc.{Svc}
 use Rattle.plan_base.specs.declared.tree.Ty.{Ty}
 use Rattle.plan_base.specs.declared.tree.Ty.TheVariants as ty
-use Rattle.plan_base.specs.declared.tree.Value.{Value, out-Value}
+use Rattle.plan_base.specs.declared.tree.Value.{Value}
 use Rattle.plan_base.specs.declared.tree.Value.TheVariants as value
-use Rattle.plan_base.specs.declared.tree.Value.TheOpen.{Value-F}
-use Rattle.plan_base.specs.Sizes.{weight, nesting, value_depth}
-use Rattle.plan_base.specs.WellFormed.{formed_value, well_formed_text}
+use Rattle.plan_base.specs.WellFormed.{well_formed_text}
 use Rattle.plan_base.proofs.SizeLaws.{weight_out, nesting_out, value_depth_out}
 use Rattle.plan_base.proofs.FormLaws.{formed_value_out}
-use Rattle.typing_rules.specs.Typing.{HasType, str}
+use Rattle.typing_rules.specs.Typing.{str}
 use Rattle.service_api.specs.declared.answer.Note.TheVariants.{Print}
-use Rattle.service_api.specs.declared.ctx.Ctx.{Ctx}
 use Rattle.service_api.specs.Schemes.{instance, is_instance_of}
 use Rattle.service_api.specs.Services.{Rows, IsGoodServe, IsGoodServed, IsGoodValue, AreGoodValues, AreGoodRows, IsGoodNote, RefusesOthers, refused}
 use Rattle.service_api.proofs.InstanceLaws.{found_is}
@@ -26,7 +23,7 @@ use Rattle.example_services.specs.declared.services.Counts.{Counts}
 use Rattle.example_services.specs.declared.service.ExampleService.{ExampleService}
 use Rattle.example_services.specs.declared.service.ExampleService.TheVariants.{Count, Greet}
 use Rattle.example_services.specs.Offered.{named, type_of, type_named, called_as}
-use Rattle.example_services.specs.Serving.{hello, counted, greeted, serve_as, serve_called, serve, offer}
+use Rattle.example_services.specs.Serving.{hello, counted, greeted, serve_called, serve, offer}
 
 hello_ascii : IsAscii hello
 hello_ascii = IsAscii-cons 104 (101 ∷ 108 ∷ 108 ∷ 111 ∷ []) (lit≤ tt) (IsAscii-cons 101 (108 ∷ 108 ∷ 111 ∷ []) (lit≤ tt) (IsAscii-cons 108 (108 ∷ 111 ∷ []) (lit≤ tt) (IsAscii-cons 108 (111 ∷ []) (lit≤ tt) (IsAscii-cons 111 [] (lit≤ tt) IsAscii-nil))))

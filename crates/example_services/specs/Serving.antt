@@ -1,12 +1,10 @@
 -- What a call of a service means.
 use Rattle.std.specs.Prelude.{ℕ, ℤ, List, [], ◌∷◌, codes, Option, Some, None}
-use Rattle.plan_base.specs.declared.tree.Svc.{Svc}
 use Rattle.plan_base.specs.declared.tree.Value.{Value}
 use Rattle.plan_base.specs.declared.tree.Value.TheVariants as value
 use Rattle.table_rows.specs.Rows.{key_after}
 use Rattle.service_api.specs.declared.answer.Note.TheVariants.{Print}
 use Rattle.service_api.specs.declared.answer.Answer.TheVariants.{Gives}
-use Rattle.service_api.specs.declared.ctx.Ctx.{Ctx}
 use Rattle.service_api.specs.Services.{Rows, Served, Serve, Offer, refused}
 use Rattle.example_services.specs.declared.service.ExampleService.{ExampleService}
 use Rattle.example_services.specs.declared.service.ExampleService.TheVariants.{Count, Greet}

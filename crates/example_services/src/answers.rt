@@ -1,6 +1,4 @@
-ghost use Rattle.std.specs.Prelude.{codes, IfOk, ◌≡◌};
-ghost use Rattle.plan_base.specs.Words.{IsName};
-ghost use Rattle.service_api.specs.Services as api;
+ghost use Rattle.std.specs.Prelude.{IfOk, ◌≡◌};
 ghost use Rattle.value_rules.specs.Rules as rules;
 ghost use Rattle.service_api.specs.declared.answer.Answer.TheVariants as answer;
 ghost use Rattle.example_services.specs.Serving as spec;
