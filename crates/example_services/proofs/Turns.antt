@@ -16,11 +16,11 @@ closed_ready : (t : Bool) (n : ServiceState) → spec.closed t (made_ready n) �
 closed_ready true n = refl
 closed_ready false n = refl
 
-pub visited : (p : Packet) (ctx : Ctx) (old open mid new : ServiceState) (r : Visit) (t : Bool) → open ≡ begun_now old → IsMade p ctx open r mid → t ≡ is_spent r.outcome → new ≡ spec.closed t mid → IsVisited p ctx old r new
-visited p ctx old open mid new r t o m s e = record {
+pub visited : (p : Packet) (ctx : Ctx) (old first mid new : ServiceState) (r : Visit) (t : Bool) → first ≡ begun_now old → IsMade p ctx first r mid → t ≡ is_spent r.outcome → new ≡ spec.closed t mid → IsVisited p ctx old r new
+visited p ctx old first mid new r t o m s e = record {
   after = m.after;
   visit = subst (λ (n : ServiceState). IsVisit allowance p.chunk ctx p.family n r m.after) o m.visit;
-  closed = e ∙ ap (λ (n : ServiceState). spec.closed t n) m.ready ∙ closed_ready t m.after ∙ ap (λ b. spec.closed b m.after) s;
+  ends = e ∙ ap (λ (n : ServiceState). spec.closed t n) m.ready ∙ closed_ready t m.after ∙ ap (λ (b : Bool). spec.closed b m.after) s;
 }
 
 -- a visit that is undone leaves the services as they were

@@ -32,4 +32,4 @@ pub record IsMade (p : Packet) (ctx : Ctx) (old : ServiceState) (r : Visit) (new
 pub record IsVisited (p : Packet) (ctx : Ctx) (old : ServiceState) (r : Visit) (new : ServiceState) : Type 0 where
   pub after : ServiceState
   pub visit : IsVisit allowance p.chunk ctx p.family (begun_now old) r after
-  pub closed : new ≡ closed (is_spent r.outcome) after
+  pub ends : new ≡ closed (is_spent r.outcome) after

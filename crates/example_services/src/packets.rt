@@ -53,6 +53,7 @@ pub fn packet_of(
     ensures found { IfOk result (IsPacketOf text.now entry.now here bound) }
     ensures only { (p : Program) → program_of text.now ≡ Ok p → IsTypedChunk (chunk_with p entry.now)
         → MatchResult result (λ k. k ≡ first_packet here bound (chunk_with p entry.now)) (λ f. f ≡ PacketFault.NoMemory) }
+    ensures starts { IfOk result (λ p. (p.bound ≡ bound) × (p.family.source ≡ here)) }
 {
     let program = program_in(alloc, text)?;
     let chunk = chunk_in(alloc, &program, entry)?;

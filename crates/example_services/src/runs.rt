@@ -41,7 +41,10 @@ fn packet(alloc: Global, text: &[u8]) -> Result<CheckedPacket, Fail>
     ensures source { IfOk result (λ p. p.family.source ≡ record { 0 = 1 }) }
 {
     let entry = Name::read(alloc, b"f")?;
-    Ok(packet_of(alloc, text, &entry, Host(1), 5).ok().ok_or("packet")?)
+    match packet_of(alloc, text, &entry, Host(1), 5) {
+        Ok(packet) => Ok(packet),
+        Err(_) => Err(Fail::from("packet")),
+    }
 }
 
 fn is_pair(value: &Value, number: i64) -> bool {
