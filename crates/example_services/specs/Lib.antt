@@ -1,0 +1,6 @@
+pub mod Counts
+pub mod Laws
+pub mod Offered
+pub mod Packets
+pub mod Serving
+pub mod Visits

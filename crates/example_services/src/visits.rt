@@ -1,0 +1,94 @@
+//! A visit of a packet at a node that has no links.
+ghost use Rattle.std.specs.Prelude.{◌≡◌, ◌≤◌, ◌+◌, length, IfOk, OnOk, OnErr, IsSome, IsTrue};
+ghost use Rattle.service_api.specs.Services.{AreGoodRows};
+ghost use Rattle.plan_meaning.specs.Visit.{bounds};
+ghost use Rattle.example_services.specs.Visits as spec;
+ghost use Rattle.example_services.specs.Visits.{IsResting, IsMade, IsVisited, closed};
+
+use chunk_types::CheckedPacket;
+use plan_base::NoMemory;
+use plan_eval::visit;
+use plan_meaning::{Outcome, Visit};
+use service_api::{Ctx, Services};
+use std::alloc::Global;
+
+/// Whether an outcome is that of spent work.
+fn is_spent(outcome: &Outcome) -> bool
+    ensures { result ≡ spec.is_spent outcome.now }
+{
+    match outcome {
+        Outcome::WorkSpent => true,
+        _ => false,
+    }
+}
+
+/// Visits a packet, and takes the room that its changes need.
+#[tactic(auto, using(crate::proofs::Turns::made))]
+fn make<S: Services>(
+    alloc: Global,
+    services: &mut S,
+    ctx: &Ctx,
+    packet: &CheckedPacket,
+) -> Result<Visit, NoMemory>
+    requires bound { ctx.now.purse ≡ packet.now.bound }
+    requires source { ctx.now.source ≡ packet.now.family.source }
+    requires near { length ctx.now.neighbours ≤ 8 }
+    requires rows { AreGoodRows (S.stands services.old).rows }
+    requires open { IsSome (S.stands services.old).begun }
+    ensures made { IfOk result (λ r. IsMade packet.now ctx.entry.now (S.stands services.old) r (S.stands services.new)) }
+    ensures balance { IfOk result (λ r. r.evals + r.left + bounds r.outbox ≡ packet.now.bound) }
+    ensures ready { OnOk result (IsTrue (S.stands services.new).ready) }
+    ensures offer { (S.stands services.new).offer ≡ (S.stands services.old).offer }
+    ensures begun { (S.stands services.new).begun ≡ (S.stands services.old).begun }
+    ensures still { IsSome (S.stands services.new).begun }
+{
+    let made = visit(alloc, packet, services, ctx)?;
+    services.ready(alloc)?;
+    Ok(made)
+}
+
+/// Makes the changes of a visit stand, or undoes them where its work was spent. Takes no memory.
+fn close<S: Services>(services: &mut S, is_spent: bool)
+    requires open { IsSome (S.stands services.old).begun }
+    requires ready { IsTrue (S.stands services.old).ready }
+    ensures { S.stands services.new ≡ closed is_spent (S.stands services.old) }
+{
+    if is_spent {
+        services.abandon();
+    } else {
+        services.keep();
+    }
+}
+
+/// Visits a packet with these services, whichever they are. What the visit changed stands then, unless its work was spent.
+///
+/// Conditions: the purse of the surroundings is the packet's bound and their source the family's host, there are at most 8
+/// neighbours, and no `begin` is open. Where memory is refused the services stay.
+#[tactic(auto, using(crate::proofs::Turns::visited, crate::proofs::Turns::undone, crate::proofs::Turns::rests_closed, crate::proofs::Turns::rests_abandoned))]
+pub fn visit_once<S: Services>(
+    alloc: Global,
+    services: &mut S,
+    ctx: &Ctx,
+    packet: &CheckedPacket,
+) -> Result<Visit, NoMemory>
+    requires bound { ctx.now.purse ≡ packet.now.bound }
+    requires source { ctx.now.source ≡ packet.now.family.source }
+    requires near { length ctx.now.neighbours ≤ 8 }
+    requires rests { IsResting (S.stands services.old) }
+    ensures visits { IfOk result (λ r. IsVisited packet.now ctx.entry.now (S.stands services.old) r (S.stands services.new)) }
+    ensures balance { IfOk result (λ r. r.evals + r.left + bounds r.outbox ≡ packet.now.bound) }
+    ensures undone { OnErr result (S.stands services.new ≡ S.stands services.old) }
+    ensures rests { IsResting (S.stands services.new) }
+{
+    services.begin(alloc)?;
+    match make(alloc, services, ctx, packet) {
+        Ok(made) => {
+            close(services, is_spent(&made.outcome));
+            Ok(made)
+        }
+        Err(refused) => {
+            services.abandon();
+            Err(refused)
+        }
+    }
+}
