@@ -1,0 +1,6 @@
+pub mod Saying
+pub mod HostRules
+pub mod Standing
+pub mod Runs
+pub mod Few
+pub mod Promises

@@ -1,0 +1,7 @@
+pub mod Networks
+pub mod Told
+pub mod Saying
+pub mod Scripts
+pub mod Texts
+pub mod Stands
+pub mod Keeping

@@ -1,0 +1,15 @@
+//! Two ends of a reliable port over a network of two hosts: what each event of a script does, and what is written of it.
+#![tactic(auto)]
+
+mod ends;
+mod hosts;
+mod notes;
+mod ports;
+mod run;
+mod told;
+
+pub use hosts::two_hosts;
+pub use notes::Given;
+pub use ports::Ports;
+pub use run::port_text;
+pub use told::PortLine;
