@@ -66,9 +66,9 @@ fn run_port<K: Sink>(alloc: Global, file: &PortFile, out: &mut K) -> Cause
     }
 }
 
-/// `port FILE`: what is met at each event of the two ends that the file says, and how they stand in the end. What was
-/// delivered is a front of what was offered, and no more is acknowledged, after every number of events; where the output
-/// is whole, the hops and evals of any families together are at most what both purses paid.
+/// `port FILE`: what is met at each event of the two ends that the file says, and how they stand in the end; see
+/// `docs/ports.md`. Where the output is whole, the hops and evals of any families together are at most what both purses
+/// paid, after every number of events.
 pub fn on_port<F: Files, K: Sink>(alloc: Global, files: &mut F, name: &str, out: &mut K) -> Cause
     ensures { TakesAndActs (port_said name.now) Runs name.now
         (F.state files.old) (F.state files.new) result (K.state out.old) (K.state out.new) }

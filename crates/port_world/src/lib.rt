@@ -3,12 +3,14 @@
 
 mod ends;
 mod hosts;
+mod laws;
 mod notes;
 mod ports;
 mod run;
 mod told;
 
 pub use hosts::two_hosts;
+pub use laws::ports_deliver_in_order;
 pub use notes::Given;
 pub use ports::Ports;
 pub use run::port_text;
