@@ -1,11 +1,10 @@
 -- However a script goes, few bodies are offered, and no more are delivered.
-use Rattle.std.proofs.Common.{◌≡◌, ℕ, zero, suc, ◌+◌, ◌<◌, ◌≤◌, ◌^◌, Bool, true, false, cond, List, [], ◌∷◌, ◌++◌, length, take, Option, Some, None, refl, ap, ◌∙◌, arith, length-append}
+use Rattle.std.proofs.Common.{◌≡◌, ℕ, zero, suc, ◌+◌, ◌<◌, ◌≤◌, ◌^◌, Bool, true, false, cond, List, [], ◌∷◌, ◌++◌, length, take, get_or, Option, Some, None, refl, sym, ap, ◌∙◌, subst, arith, length-append}
 use Rattle.std.specs.Prelude.{◌==◌, nat_lt, pos, ℤ, map}
 use Rattle.std.specs.List.{AllByRecursion}
 use Rattle.std.proofs.lemmas.List.{length-take, length-drop, length-map}
 use Rattle.plan_base.specs.declared.ids.Host.{Host}
 use Rattle.service_api.specs.declared.answer.Note.{Note}
-use Rattle.service_api.specs.Services.{Offer as Offering}
 use Rattle.service_meaning.specs.Beginning.{present_without}
 use Rattle.service_meaning.specs.Serving.{offer}
 use Rattle.network_plan.specs.declared.event.WorldEvent.{WorldEvent}
@@ -29,7 +28,7 @@ use Rattle.port_files.specs.declared.file.PortFile.{PortFile}
 use Rattle.port_files.specs.PortRules.{KeepsPort}
 use Rattle.port_world.specs.Networks.{two_hosts}
 use Rattle.port_world.specs.Scripts.{happening, script_of, begun, state_at}
-use Rattle.port_world.specs.Stands.{FewAfter, HearsFew, WireFew, EventFew}
+use Rattle.port_world.specs.Limits.{HearsFew, WireFew, EventFew}
 
 -- ---- the offers change at offers alone
 
@@ -105,6 +104,11 @@ all_take : {X : Type 0} (P : X → Type 0) (n : ℕ) (xs : List X) → AllByRecu
 all_take P zero xs h = tt
 all_take P (suc n) [] h = tt
 all_take P (suc n) (x ∷ xs) h = (h.0, all_take P n xs h.1)
+
+pub all_at : {X : Type 0} (P : X → Type 0) (xs : List X) (i : ℕ) (x : X) → AllByRecursion P xs → i < length xs → x ≡ get_or xs i x → P x
+all_at P [] i x h l e = absurd (omega (arith, l))
+all_at P (y ∷ xs) zero x h l e = subst P (sym e) h.0
+all_at P (y ∷ xs) (suc i) x h l e = all_at P xs i x h.1 (omega (arith, l)) e
 
 -- what a file says is of the network's own
 wires : (es : List Said) → AllByRecursion IsWire (map happening es)

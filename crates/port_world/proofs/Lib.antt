@@ -1,5 +1,6 @@
 pub mod Saying
 pub mod HostRules
+pub mod Hearing
 pub mod Standing
 pub mod Runs
 pub mod Few

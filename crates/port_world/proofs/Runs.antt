@@ -3,17 +3,14 @@ use Rattle.std.proofs.Common.{◌≡◌, ℕ, zero, suc, ◌+◌, ◌<◌, ◌�
 use Rattle.std.specs.Prelude.{map}
 use Rattle.std.proofs.lemmas.Grind.{take_at_read}
 use Rattle.std.proofs.lemmas.List.{take_all, length-take-le, length-map, get_or-map}
-use Rattle.service_api.specs.Services.{ServiceState}
 use Rattle.world_model.specs.declared.lines.Line.{Line}
 use Rattle.reliable_ports.specs.Ends.{Body}
 use Rattle.port_files.specs.declared.file.PortEvent.{PortEvent as Said}
 use Rattle.port_files.specs.declared.file.PortFile.{PortFile}
 use Rattle.port_run.specs.Ports.{PortState, PortEvent, hears_line, hears, happens_at, port_run}
-use Rattle.port_world.specs.declared.ports.Ports.{Ports}
 use Rattle.port_world.specs.Told.{heard_told, lines_told, event_told}
 use Rattle.port_world.specs.Scripts.{happening, script_of, begun, state_at}
 use Rattle.port_world.specs.Texts.{script_told, body_line, body_lines}
-use Rattle.port_world.specs.Stands.{PortStands, Goes}
 
 -- ---- lines
 
@@ -32,25 +29,10 @@ module _ (ls : List Line) (i : ℕ) (l : Line) (within : i < length ls) (is : l 
   pub heard_next : (s : PortState) → hears (take (i + 1) ls) s ≡ hears_line l (hears (take i ls) s)
   heard_next s = ap (λ x. hears x s) next_lines ∙ hears-append (take i ls) (l ∷ []) s
 
-  told_next : (n : ℕ) (s : PortState) → lines_told n (take (i + 1) ls) s ≡ lines_told n (take i ls) s ++ heard_told n l (hears (take i ls) s)
+  pub told_next : (n : ℕ) (s : PortState) → lines_told n (take (i + 1) ls) s ≡ lines_told n (take i ls) s ++ heard_told n l (hears (take i ls) s)
   told_next n s =
       ap (λ x. lines_told n x s) next_lines ∙ told-append n (take i ls) (l ∷ []) s
       ∙ ap (λ x. lines_told n (take i ls) s ++ x) (append-nil (heard_told n l (hears (take i ls) s)))
-
-  pub lines_next : {S : Type 0} (stands : S → ServiceState) (q : Ports S) (n : ℕ) (s : PortState) (old mid new : List ℕ) → mid ≡ old ++ lines_told n (take i ls) s
-      → Goes stands q (hears_line l (hears (take i ls) s)) (heard_told n l (hears (take i ls) s)) mid new → Goes stands q (hears (take (i + 1) ls) s) (lines_told n (take (i + 1) ls) s) old new
-  lines_next stands q n s old mid new e h = record {
-    stands = subst (PortStands stands q) (sym (heard_next s)) h.stands;
-    text = h.text ∙ ap (λ x. x ++ heard_told n l (hears (take i ls) s)) e
-        ∙ append_assoc old (lines_told n (take i ls) s) (heard_told n l (hears (take i ls) s))
-        ∙ ap (λ x. old ++ x) (sym (told_next n s));
-  }
-
-pub lines_none : {S : Type 0} (stands : S → ServiceState) (p : Ports S) (ls : List Line) (n : ℕ) (s : PortState) (old : List ℕ) → PortStands stands p s → Goes stands p (hears (take 0 ls) s) (lines_told n (take 0 ls) s) old old
-lines_none stands p ls n s old h = record { stands = h; text = sym (append-nil old) }
-
-pub lines_all : {S : Type 0} (stands : S → ServiceState) (q : Ports S) (ls : List Line) (i n : ℕ) (s : PortState) (old new : List ℕ) → length ls ≤ i → Goes stands q (hears (take i ls) s) (lines_told n (take i ls) s) old new → Goes stands q (hears ls s) (lines_told n ls s) old new
-lines_all stands q ls i n s old new done h = subst (λ x. Goes stands q (hears x s) (lines_told n x s) old new) (take_all i ls done) h
 
 -- ---- events
 

@@ -1,8 +1,8 @@
 -- Two ends that stand for a state, and for the one after each change.
-use Rattle.std.proofs.Common.{◌≡◌, ◌≢◌, ℕ, ◌+◌, ◌<◌, ◌≤◌, Bool, true, false, cond, List, [], ◌∷◌, ◌++◌, length, Option, Some, None, refl, sym, ap, ◌∙◌, subst, arith, true≢false}
+use Rattle.std.proofs.Common.{◌≡◌, ◌≢◌, ℕ, ◌+◌, ◌<◌, ◌≤◌, Bool, true, false, cond, List, [], ◌∷◌, ◌++◌, length, Option, Some, None, take, get_or, refl, sym, ap, ◌∙◌, subst, append_assoc, arith, true≢false}
 use Rattle.std.specs.Prelude.{◌==◌, nat_lt, ℤ}
 use Rattle.std.proofs.lemmas.Bool.Decides.{nat_tests}
-use Rattle.std.proofs.lemmas.List.{append-nil}
+use Rattle.std.proofs.lemmas.List.{append-nil, take_all}
 use Rattle.std.proofs.lemmas.List.Elements.{All-push}
 use Rattle.plan_base.specs.declared.ids.Host.{Host}
 use Rattle.plan_base.specs.declared.tree.Chunk.{Chunk}
@@ -12,16 +12,18 @@ use Rattle.service_api.specs.Services.{ServiceState}
 use Rattle.network_plan.specs.declared.event.WorldEvent.{WorldEvent}
 use Rattle.network_plan.specs.declared.event.WorldEvent.TheVariants as event
 use Rattle.network_laws.proofs.Fitting.{event_version}
+use Rattle.world_model.specs.declared.lines.Line.{Line}
 use Rattle.world_model.specs.World.{happens}
 use Rattle.world_model.specs.Sound.{event_fits}
 use Rattle.net_world.specs.Stands.{WorldStands}
 use Rattle.reliable_ports.specs.Ends.{Body, Sending, number_of, is_full, with_offer, held_at, is_held, with_ack, ack_from, with_message, Receiving}
 use Rattle.reliable_ports.proofs.Held.{none_not_held, some_held}
-use Rattle.port_run.specs.Ports.{PortState, first_host, second_host, price, said_to, heard_by, acked_by, makes, first_pays, second_pays, ack_event, message_event, acks, hears_message, hears_ack, hears_note, after, offers_one, transmits}
+use Rattle.port_run.specs.Ports.{PortState, first_host, second_host, price, said_to, heard_by, acked_by, makes, first_pays, second_pays, ack_event, message_event, acks, hears_message, hears_ack, hears_note, hears_line, hears, after, offers_one, transmits}
 use Rattle.port_world.specs.declared.ports.Ports.{Ports}
 use Rattle.port_world.specs.declared.told.PortLine.TheVariants as told
-use Rattle.port_world.specs.Told.{told_line, ack_told, message_told, note_told, wire_told, offer_told, transmit_told}
-use Rattle.port_world.specs.Stands.{PortStands, Goes, FewAfter}
+use Rattle.port_world.specs.Told.{told_line, ack_told, message_told, note_told, heard_told, lines_told, wire_told, offer_told, transmit_told}
+use Rattle.port_world.proofs.Runs.{heard_next, told_next}
+use Rattle.port_world.specs.Stands.{PortStands, Goes}
 
 module _ {S : Type 0} (stands : S → ServiceState) where
   -- an event of the network
@@ -202,3 +204,24 @@ held_none seq s no = by (held_at seq s) refl
     by : (o : Option Body) → held_at seq s ≡ o → held_at seq s ≡ None
     by None e = e
     by (Some b) e = absurd (true≢false (sym (some_held seq s b e) ∙ no))
+
+-- ---- lines, one after the other
+
+module _ {S : Type 0} (stands : S → ServiceState) (q : Ports S) (ls : List Line) (i n : ℕ) (s : PortState) (old : List ℕ) where
+  abbrev Heard : List Line → List ℕ → Type 0
+  Heard ms new = Goes stands q (hears ms s) (lines_told n ms s) old new
+
+  pub lines_none : PortStands stands q s → Heard (take 0 ls) old
+  lines_none h = record { stands = h; text = sym (append-nil old) }
+
+  pub lines_next : (l : Line) → i < length ls → l ≡ get_or ls i l → (mid new : List ℕ) → mid ≡ old ++ lines_told n (take i ls) s
+      → Goes stands q (hears_line l (hears (take i ls) s)) (heard_told n l (hears (take i ls) s)) mid new → Heard (take (i + 1) ls) new
+  lines_next l within is mid new e h = record {
+    stands = subst (PortStands stands q) (sym (heard_next ls i l within is s)) h.stands;
+    text = h.text ∙ ap (λ x. x ++ heard_told n l (hears (take i ls) s)) e
+        ∙ append_assoc old (lines_told n (take i ls) s) (heard_told n l (hears (take i ls) s))
+        ∙ ap (λ x. old ++ x) (sym (told_next ls i l within is n s));
+  }
+
+  pub lines_all : (new : List ℕ) → length ls ≤ i → Heard (take i ls) new → Heard ls new
+  lines_all new done h = subst (λ x. Heard x new) (take_all i ls done) h

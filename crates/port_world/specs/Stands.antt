@@ -1,5 +1,5 @@
 -- Which state of the definition two ends and their network stand for.
-use Rattle.std.specs.Prelude.{◌≡◌, ℕ, ◌+◌, ◌*◌, ◌≤◌, ◌<◌, ◌^◌, List, ◌++◌, Some, length, take}
+use Rattle.std.specs.Prelude.{◌≡◌, ℕ, ◌+◌, ◌*◌, List, ◌++◌}
 use Rattle.link_window.specs.declared.window.Version.TheVariants.{Two}
 use Rattle.service_api.specs.Services.{ServiceState}
 use Rattle.network_plan.specs.declared.event.WorldEvent.{WorldEvent}
@@ -7,8 +7,7 @@ use Rattle.world_model.specs.declared.lines.Line.{Line}
 use Rattle.world_model.specs.World.{happens}
 use Rattle.world_model.specs.Sound.{EventsFit}
 use Rattle.net_world.specs.Stands.{WorldStands}
-use Rattle.reliable_ports.specs.Ends.{Body, offered, held_at}
-use Rattle.port_run.specs.Ports.{PortState, PortEvent, Offer, Transmit, Wire, makes, first_pays, message_event, hears}
+use Rattle.port_run.specs.Ports.{PortState, makes}
 use Rattle.port_world.specs.declared.ports.Ports.{Ports}
 
 -- the ends, their purses and their network are those of a state, whose network is of version 2; the offers and the events so far
@@ -36,24 +35,6 @@ pub record IsStanding {S : Type 0} (stands : S → ServiceState) (p : Ports S) :
 pub record IsMade {S : Type 0} (stands : S → ServiceState) (e : WorldEvent) (s : PortState) (lines : List Line) (new : Ports S) : Type 0 where
   pub list : lines ≡ (happens s.world e).lines
   pub stands : PortStands stands new (makes e s)
-
--- fewer than 2^62 bodies are delivered after this change
-abbrev pub FewAfter : (PortState → PortState) → PortState → Type 0
-FewAfter change s = length (change s).receiver.delivered < 2 ^ 62
-
--- as lines are heard, fewer than 2^62 bodies are delivered after every number of them
-abbrev pub HearsFew : List Line → PortState → Type 0
-HearsFew ls s = (k : ℕ) → FewAfter (hears (take k ls)) s
-
--- and so for an event of the network
-abbrev pub WireFew : WorldEvent → PortState → Type 0
-WireFew e s = HearsFew (happens s.world e).lines (makes e s)
-
--- and for an event
-abbrev pub EventFew : PortEvent → PortState → Type 0
-EventFew (Offer b) s = offered s.sender < 2 ^ 62
-EventFew (Transmit seq) s = (b : Body) → held_at seq s.sender ≡ Some b → WireFew (message_event seq b) (first_pays s)
-EventFew (Wire e) s = WireFew e s
 
 -- they stand for a state in which such an event may come
 pub record IsReady {S : Type 0} (stands : S → ServiceState) (p : Ports S) (Few : PortState → Type 0) : Type 0 where

@@ -10,7 +10,8 @@ ghost use Rattle.port_world.specs.Networks.{two_hosts};
 ghost use Rattle.port_world.specs.Scripts.{happening};
 ghost use Rattle.world_model.specs.declared.lines.Line.TheVariants as trace;
 ghost use Rattle.port_world.specs.Told as told;
-ghost use Rattle.port_world.specs.Stands.{PortStands, Goes, IsStanding, IsMade, FewAfter, HearsFew, IsReady, WireFew, EventFew, budget};
+ghost use Rattle.port_world.specs.Limits.{FewAfter, HearsFew, WireFew, EventFew};
+ghost use Rattle.port_world.specs.Stands.{PortStands, Goes, IsStanding, IsMade, IsReady, budget};
 
 use crate::hosts::two_hosts;
 use crate::notes::said_to;
@@ -71,7 +72,7 @@ impl<S: Services + Drop> Ports<S> {
         requires services { map S.stands services ≡ map opening_services two_hosts.hosts }
         ensures stands { IfOk result (λ p.
             PortStands S.stands p (spec.port_begun (opening two_hosts) first second)) }
-        ensures made { IfOk result (λ p. p.world.made ≡ 0) }
+        ensures budget { IfOk result (λ p. budget p ≡ second) }
     {
         let topology = two_hosts(alloc)?;
         let world = World::new(alloc, &topology, services)?;

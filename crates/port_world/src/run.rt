@@ -5,7 +5,7 @@ ghost use Rattle.port_files.specs.PortRules.{KeepsPort};
 ghost use Rattle.port_world.specs.Networks.{two_hosts};
 ghost use Rattle.port_world.specs.Scripts.{script_of, begun};
 ghost use Rattle.port_world.specs.Texts.{script_told, port_output};
-ghost use Rattle.port_world.specs.Stands.{PortStands};
+ghost use Rattle.port_world.specs.Stands.{PortStands, budget};
 ghost use Rattle.port_world.specs.Keeping.{KeepsOrder, KeepsPurses};
 
 use crate::ports::Ports;
@@ -24,6 +24,7 @@ fn run_events<S: Services>(
 ) -> Result<(), NoMemory>
     requires keeps { KeepsPort file.now }
     requires begun { PortStands S.stands ports.old (begun file.now) }
+    requires budget { budget ports.old ≤ 65535 }
     ensures stands { OnOk result
         (PortStands S.stands ports.new (port_run (script_of file.now) (begun file.now))) }
     ensures text { OnOk result
