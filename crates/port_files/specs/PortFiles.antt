@@ -29,7 +29,7 @@ event_word w = if bytes_eq w (codes "offer") then Some word.Offer else (if bytes
 
 -- whether a number is that of an end's host
 abbrev pub is_end : ℕ → Bool
-is_end n = n == 1 || n == 2
+is_end n = (n == 1) || (n == 2)
 
 -- the next word as the host of an end
 unfoldable pub end_host : List (List ℕ) → Part Host

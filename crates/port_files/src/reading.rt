@@ -120,6 +120,7 @@ impl LineFile for PortReading {
 
     ghost format = { port_format };
 
+    #[tactic(auto, unfolding(crate::specs::PortFiles::port_step_at))]
     fn line(&mut self, alloc: Global, number: u32, line: &[u8]) -> Result<(), LineFault> {
         match self.stage {
             PortStage::Header => self.header(number, line),

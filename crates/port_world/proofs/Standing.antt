@@ -57,6 +57,18 @@ module _ {S : Type 0} (stands : S → ServiceState) where
     fits = h.fits;
   }
 
+  -- the same ends with another copy of each part
+  pub still : (p q : Ports S) (s : PortState) → PortStands stands p s → q.world ≡ p.world → q.sender ≡ p.sender → q.receiver ≡ p.receiver → q.first ≡ p.first → q.second ≡ p.second → PortStands stands q s
+  still p q s h v a b c d = record {
+    world = subst (λ w. WorldStands stands w s.world) (sym v) h.world;
+    version = h.version;
+    sender = a ∙ h.sender;
+    receiver = b ∙ h.receiver;
+    first = c ∙ h.first;
+    second = d ∙ h.second;
+    fits = h.fits;
+  }
+
   -- the ack was made
   pub acks_made : (q : Ports S) (n : ℕ) (s : PortState) (k : Chunk) (old : List ℕ) → 4 ≤ s.second → k ≡ ack_from first_host s.receiver → PortStands stands q (makes (event.Inject second_host k 4 None) (second_pays s)) → Goes stands q (acks s) (ack_told n s) old old
   acks_made q n s k old l e h = by (nat_lt s.second price) refl

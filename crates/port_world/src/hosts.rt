@@ -19,7 +19,7 @@ fn add_host(alloc: Global, hosts: &mut HostSpecs, n: u32) -> Result<(), NoMemory
 }
 
 /// The hosts of the ends.
-fn hosts(alloc: Global) -> Result<HostSpecs, NoMemory>
+fn both_hosts(alloc: Global) -> Result<HostSpecs, NoMemory>
     ensures { IfOk result (λ hosts. hosts ≡ spec.two_hosts.hosts) }
 {
     let mut hosts = Items::new(alloc);
@@ -29,7 +29,7 @@ fn hosts(alloc: Global) -> Result<HostSpecs, NoMemory>
 }
 
 /// The link between them.
-fn links(alloc: Global) -> Result<Links, NoMemory>
+fn the_link(alloc: Global) -> Result<Links, NoMemory>
     ensures { IfOk result (λ links. links ≡ spec.two_hosts.links) }
 {
     let mut links = Items::new(alloc);
@@ -43,8 +43,8 @@ pub fn two_hosts(alloc: Global) -> Result<Topology, NoMemory>
     ensures { IfOk result (λ t. t ≡ spec.two_hosts) }
 {
     Ok(Topology {
-        hosts: hosts(alloc)?,
-        links: links(alloc)?,
+        hosts: both_hosts(alloc)?,
+        links: the_link(alloc)?,
         version: Version::Two,
     })
 }
