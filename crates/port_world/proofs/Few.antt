@@ -96,7 +96,6 @@ offers_few p k few = omega (arith, run_offers (take k (script_of p)) (begun p), 
 
 -- ---- what the ends and the network keep
 
-
 abbrev pub Keep : PortState → Type 0
 Keep s = Together (offer (present_without [])) (registry_serves (present_without [])) s
 
@@ -154,7 +153,7 @@ pub event_few : (e : Said) (s : PortState) → Keep s → length s.offers ≤ 50
 event_few (says.Offer b) s t few = omega (arith, sent_length s.offers s.sender t.sends, few)
 event_few (says.Transmit seq) s t few =
     λ b e. wire_few (message_event seq b) (first_pays s) (PortChunk.message seq b (same_message seq s.offers ∙ held_message seq b s.offers s.sender t.sends e) refl, refl)
-        (record { receives = t.receives; sends = t.sends; acked = t.acked; world = t.world }) few
+    (record { receives = t.receives; sends = t.sends; acked = t.acked; world = t.world }) few
 event_few (says.Send h d) s t few = wire_few (event.Send h d) s tt t few
 event_few (says.Deliver k) s t few = wire_few (event.Deliver k) s tt t few
 event_few (says.Lose k) s t few = wire_few (event.Lose k) s tt t few

@@ -102,12 +102,7 @@ impl<S: Services> Ports<S> {
     }
 
     /// Makes the second host's ack of all that was delivered, where its purse pays; else that is told.
-    fn acknowledge(
-        &mut self,
-        alloc: Global,
-        number: u64,
-        text: &mut Bytes,
-    ) -> Result<(), NoMemory>
+    fn acknowledge(&mut self, alloc: Global, number: u64, text: &mut Bytes) -> Result<(), NoMemory>
         requires ready { IsStanding S.stands self.old }
         requires few { length self.old.receiver.delivered < 2 ^ 62 }
         requires room { budget self.old ≤ 2 ^ 32 }
@@ -274,7 +269,13 @@ impl<S: Services> Ports<S> {
     }
 
     /// Offers a body, and tells where the sender is full.
-    fn offer(&mut self, alloc: Global, number: u64, body: &Bytes, text: &mut Bytes) -> Result<(), NoMemory>
+    fn offer(
+        &mut self,
+        alloc: Global,
+        number: u64,
+        body: &Bytes,
+        text: &mut Bytes,
+    ) -> Result<(), NoMemory>
         requires few { offered self.old.sender < 2 ^ 62 }
         requires short { IsShort body.now }
         ensures goes { (s : PortState) → PortStands S.stands self.old s
@@ -290,7 +291,13 @@ impl<S: Services> Ports<S> {
     }
 
     /// Transmits a message, where it is held and the first purse pays; else that is told.
-    fn transmit(&mut self, alloc: Global, number: u64, seq: u64, text: &mut Bytes) -> Result<(), NoMemory>
+    fn transmit(
+        &mut self,
+        alloc: Global,
+        number: u64,
+        seq: u64,
+        text: &mut Bytes,
+    ) -> Result<(), NoMemory>
         requires ready { IsReady S.stands self.old (EventFew (spec.Transmit seq)) }
         requires room { budget self.old + 4 ≤ 2 ^ 32 }
         ensures goes { (s : PortState) → PortStands S.stands self.old s
