@@ -92,7 +92,7 @@ run_offers [] s = omega arith
 run_offers (e ∷ es) s = omega (arith, run_offers es (happens_at e s), event_offers e s)
 
 pub offers_few : (p : PortFile) (k : ℕ) → length p.events ≤ 50000 → length (state_at p k).offers ≤ 50000
-offers_few p k few = omega (arith, run_offers (take k (script_of p)) (begun p), length-take k (script_of p), length-map p.events happening, few)
+offers_few p k few = let none : length (begun p).offers ≡ 0 = refl in omega (arith, none, run_offers (take k (script_of p)) (begun p), length-take k (script_of p), length-map p.events happening, few)
 
 -- ---- what the ends and the network keep
 
@@ -133,7 +133,7 @@ front_length : (os : List Body) (r : Receiving) → Receives os r → length r.d
 front_length os r h = omega (arith, length-append r.delivered h.rest, ap length h.front)
 
 hears_few : (ls : List Line) (s : PortState) → AllByRecursion (LineKnown (port_allowed (offer (present_without [])) s.offers (next_of s.receiver))) ls → Keep s → length s.offers ≤ 50000 → HearsFew ls s
-hears_few ls s known t few k =
+hears_few ls s known t few = λ k.
     let u = hears_on (offer (present_without [])) (registry_serves (present_without [])) (take k ls) s (all_take (LineKnown (port_allowed (offer (present_without [])) s.offers (next_of s.receiver))) k ls known) t in
     omega (arith, front_length (hears (take k ls) s).offers (hears (take k ls) s).receiver u.receives, ap length (hears_offers (take k ls) s), few)
 

@@ -1,7 +1,7 @@
 -- What is delivered once a note is heard.
-use Rattle.std.proofs.Common.{◌≡◌, ◌≢◌, ℕ, ◌<◌, ◌≤◌, ◌^◌, Bool, true, false, cond, length, Option, Some, refl, sym, subst, arith}
+use Rattle.std.proofs.Common.{◌≡◌, ℕ, ◌<◌, ◌≤◌, ◌^◌, Bool, true, false, cond, length, Option, Some, refl, sym, subst, arith}
 use Rattle.std.specs.Prelude.{◌==◌, nat_lt, ℤ}
-use Rattle.std.proofs.lemmas.Bool.Decides.{nat_tests}
+use Rattle.std.proofs.lemmas.Bool.{eqb-false}
 use Rattle.plan_base.specs.declared.ids.Host.{Host}
 use Rattle.service_api.specs.declared.answer.Note.{Note}
 use Rattle.reliable_ports.specs.Ends.{Body, Receiving, number_of, with_message}
@@ -32,4 +32,4 @@ second_few g x s e h = by (g.0 == 2) refl h
   where
     by : (t : Bool) → (g.0 == 2) ≡ t → length (cond t (hears_message (said_to 1 x) s) (cond (g.0 == 1) (hears_ack (said_to 2 x) s) s)).receiver.delivered < 2 ^ 62 → FewAfter (hears_message (said_to 1 x)) s
     by true w k = k
-    by false w k = absurd (let no : g.0 ≢ 2 = grind (arith, nat_tests) in no e)
+    by false w k = absurd (eqb-false g.0 2 w e)

@@ -1,7 +1,7 @@
 -- What every run of two ends keeps, once each of its network's events fits.
 use Rattle.std.proofs.Common.{◌≡◌, ℕ, ◌+◌, ◌<◌, ◌≤◌, Bool, true, false, List, length, take, refl, sym, ap, subst, arith}
 use Rattle.std.specs.Prelude.{nat_le}
-use Rattle.std.proofs.lemmas.Bool.Decides.{nat_tests}
+use Rattle.std.proofs.lemmas.Bool.{leb-true, leb-false}
 use Rattle.link_window.specs.declared.window.Version.TheVariants.{Two}
 use Rattle.world_model.specs.World.{opening}
 use Rattle.world_model.specs.Sound.{EventsFit}
@@ -34,9 +34,9 @@ pub fits_next : (p : PortFile) (i : ℕ) (t : PortState) → t ≡ state_at p (i
 fits_next p i t e h before k l = by (nat_le k i) refl
   where
     by : (t : Bool) → nat_le k i ≡ t → EventsFit Two (state_at p k).events
-    by true q = before k (grind (arith, nat_tests))
+    by true q = before k (leb-true k i q)
     by false q =
-        let past : i < k = grind (arith, nat_tests) in
+        let past = leb-false k i q in
         let same : i + 1 ≡ k = omega (arith, past, l) in
         subst (λ n. EventsFit Two (state_at p n).events) same (subst (λ (x : PortState). EventsFit Two x.events) e h)
 
@@ -46,7 +46,7 @@ keeps_purses p i done fits k fs apart =
     omega (arith, r.paid, families_pay two_hosts (state_at p k).events fs two_keep (by (nat_le k i) refl) r.wired apart)
   where
     by : (t : Bool) → nat_le k i ≡ t → EventsFit Two (state_at p k).events
-    by true q = fits k (grind (arith, nat_tests))
+    by true q = fits k (leb-true k i q)
     by false q =
-        let past : i ≤ k = grind (arith, nat_tests) in
+        let past : i ≤ k = omega (arith, leb-false k i q) in
         subst (λ (x : PortState). EventsFit Two x.events) (state_past p i k done past) (fits i (omega arith))

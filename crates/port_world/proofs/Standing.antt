@@ -1,7 +1,7 @@
 -- Two ends that stand for a state, and for the one after each change.
 use Rattle.std.proofs.Common.{◌≡◌, ◌≢◌, ℕ, ◌+◌, ◌<◌, ◌≤◌, Bool, true, false, cond, List, [], ◌∷◌, ◌++◌, length, Option, Some, None, take, get_or, refl, sym, ap, ◌∙◌, subst, append_assoc, arith, true≢false}
-use Rattle.std.specs.Prelude.{◌==◌, nat_lt, ℤ}
-use Rattle.std.proofs.lemmas.Bool.Decides.{nat_tests}
+use Rattle.std.specs.Prelude.{◌==◌, nat_lt, ℤ, Result, Ok, Err, OnOk}
+use Rattle.std.proofs.lemmas.Bool.{eqb-true, eqb-false, ltb-true, ltb-false}
 use Rattle.std.proofs.lemmas.List.{append-nil, take_all}
 use Rattle.std.proofs.lemmas.List.Elements.{All-push}
 use Rattle.plan_base.specs.declared.ids.Host.{Host}
@@ -24,6 +24,10 @@ use Rattle.port_world.specs.declared.told.PortLine.TheVariants as told
 use Rattle.port_world.specs.Told.{told_line, ack_told, message_told, note_told, heard_told, lines_told, wire_told, offer_told, transmit_told}
 use Rattle.port_world.proofs.Runs.{heard_next, told_next}
 use Rattle.port_world.specs.Stands.{PortStands, Goes}
+
+pub on_ok : {T E : Type 0} (P Q : Type 0) (r : Result T E) → (P → Q) → OnOk r P → OnOk r Q
+on_ok P Q (Ok x) f h = f h
+on_ok P Q (Err e) f h = h
 
 module _ {S : Type 0} (stands : S → ServiceState) where
   -- an event of the network
@@ -74,7 +78,7 @@ module _ {S : Type 0} (stands : S → ServiceState) where
   acks_made q n s k old l e h = by (nat_lt s.second price) refl
     where
       by : (t : Bool) → nat_lt s.second price ≡ t → Goes stands q (cond t s (makes (ack_event s.receiver) (second_pays s))) (cond t (told_line n told.NoBound) []) old old
-      by true w = let no : s.second < 4 = grind (arith, nat_tests) in absurd (omega (arith, no, l))
+      by true w = let no = ltb-true s.second 4 w in absurd (omega (arith, no, l))
       by false w = goes_still q (makes (ack_event s.receiver) (second_pays s)) old (subst (λ c. PortStands stands q (makes (event.Inject second_host c 4 None) (second_pays s))) e h)
 
   -- the purse doesn't pay it
@@ -83,7 +87,7 @@ module _ {S : Type 0} (stands : S → ServiceState) where
     where
       by : (t : Bool) → nat_lt s.second price ≡ t → Goes stands q (cond t s (makes (ack_event s.receiver) (second_pays s))) (cond t (told_line n told.NoBound) []) old new
       by true w = record { stands = h; text = e }
-      by false w = let no : 4 ≤ s.second = grind (arith, nat_tests) in absurd (omega (arith, no, l))
+      by false w = let no = ltb-false s.second 4 w in absurd (omega (arith, no, l))
 
   -- ---- notes
 
@@ -111,22 +115,22 @@ module _ {S : Type 0} (stands : S → ServiceState) where
       where
         by : (t : Bool) → (g.0 == 2) ≡ t → Hears t (g.0 == 1)
         by true w = h
-        by false w = absurd (let no : g.0 ≢ 2 = grind (arith, nat_tests) in no e)
+        by false w = absurd (eqb-false g.0 2 w e)
 
     pub note_first : g.0 ≢ 2 → g.0 ≡ 1 → new ≡ old → PortStands stands q (hears_ack (said_to 2 x) s) → Goes stands q (hears_note g x s) (note_told n g x s) old new
     note_first no e same h = by (g.0 == 2) (g.0 == 1) refl refl
       where
         by : (t u : Bool) → (g.0 == 2) ≡ t → (g.0 == 1) ≡ u → Hears t u
-        by true u w v = absurd (let yes : g.0 ≡ 2 = grind (arith, nat_tests) in no yes)
+        by true u w v = absurd (no (eqb-true g.0 2 w))
         by false true w v = record { stands = h; text = same ∙ sym (append-nil old) }
-        by false false w v = absurd (let other : g.0 ≢ 1 = grind (arith, nat_tests) in other e)
+        by false false w v = absurd (eqb-false g.0 1 v e)
 
     pub note_other : g.0 ≢ 2 → g.0 ≢ 1 → new ≡ old → PortStands stands q s → Goes stands q (hears_note g x s) (note_told n g x s) old new
     note_other no none same h = by (g.0 == 2) (g.0 == 1) refl refl
       where
         by : (t u : Bool) → (g.0 == 2) ≡ t → (g.0 == 1) ≡ u → Hears t u
-        by true u w v = absurd (let yes : g.0 ≡ 2 = grind (arith, nat_tests) in no yes)
-        by false true w v = absurd (let yes : g.0 ≡ 1 = grind (arith, nat_tests) in none yes)
+        by true u w v = absurd (no (eqb-true g.0 2 w))
+        by false true w v = absurd (none (eqb-true g.0 1 v))
         by false false w v = record { stands = h; text = same ∙ sym (append-nil old) }
 
   -- ---- offers
@@ -189,7 +193,7 @@ module _ {S : Type 0} (stands : S → ServiceState) where
     where
       by : (t : Bool) → nat_lt s.first price ≡ t → Transmits q n seq b s old new t
       by true w = record { stands = h; text = x }
-      by false w = absurd (let no : 4 ≤ s.first = grind (arith, nat_tests) in omega (arith, no, l))
+      by false w = absurd (let no = ltb-false s.first 4 w in omega (arith, no, l))
 
   pub transmit_goes : (q : Ports S) (n seq : ℕ) (b : Body) (k : Chunk) (o : Option Body) (s : PortState) (old new : List ℕ) → o ≡ Some b → 4 ≤ s.first → event.Inject first_host k 4 None ≡ message_event seq b
       → Goes stands q (after (event.Inject first_host k 4 None) (first_pays s)) (wire_told n (event.Inject first_host k 4 None) (first_pays s)) old new
@@ -198,7 +202,7 @@ module _ {S : Type 0} (stands : S → ServiceState) where
       subst (λ (o : Option Body). Goes stands q (transmits seq o s) (transmit_told n seq o s) old new) (sym e) (by (nat_lt s.first price) refl)
     where
       by : (t : Bool) → nat_lt s.first price ≡ t → Transmits q n seq b s old new t
-      by true w = absurd (let no : s.first < 4 = grind (arith, nat_tests) in omega (arith, no, l))
+      by true w = absurd (let no = ltb-true s.first 4 w in omega (arith, no, l))
       by false w = subst (λ e. Goes stands q (after e (first_pays s)) (wire_told n e (first_pays s)) old new) f h
 
 -- ---- what is held

@@ -152,9 +152,10 @@ impl<S: Services> Ports<S> {
             → PortStands S.stands self.new (spec.hears_ack (spec.said_to 2 note.now) s) }
         ensures budget { budget self.new ≡ budget self.old }
     {
-        if let Some(given) = said_to(ACKS, note) {
-            let _heard = self.sender.heard(given.number());
-        }
+        let Some(given) = said_to(ACKS, note) else {
+            return;
+        };
+        let _heard = self.sender.heard(given.number());
     }
 
     /// Hears a note of a host.
@@ -176,9 +177,10 @@ impl<S: Services> Ports<S> {
         if host.0 == 2 {
             return self.hear_message(alloc, number, note, text);
         }
-        if host.0 == 1 {
-            self.hear_ack(note);
+        if host.0 != 1 {
+            return Ok(());
         }
+        self.hear_ack(note);
         Ok(())
     }
 
