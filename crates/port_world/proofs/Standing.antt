@@ -91,6 +91,29 @@ module _ {S : Type 0} (stands : S → ServiceState) where
 
   -- ---- notes
 
+  -- the receiver heard a message, and the sender an ack
+  pub heard_stands : (p q : Ports S) (s : PortState) → PortStands stands p s → q.world ≡ p.world → q.sender ≡ p.sender → q.first ≡ p.first → q.second ≡ p.second → PortStands stands q (heard_by q.receiver s)
+  heard_stands p q s h v a c d = record {
+    world = subst (λ w. WorldStands stands w s.world) (sym v) h.world;
+    version = h.version;
+    sender = a ∙ h.sender;
+    receiver = refl;
+    first = c ∙ h.first;
+    second = d ∙ h.second;
+    fits = h.fits;
+  }
+
+  pub acked_stands : (p q : Ports S) (s : PortState) → PortStands stands p s → q.world ≡ p.world → q.receiver ≡ p.receiver → q.first ≡ p.first → q.second ≡ p.second → PortStands stands q (acked_by q.sender s)
+  acked_stands p q s h v b c d = record {
+    world = subst (λ w. WorldStands stands w s.world) (sym v) h.world;
+    version = h.version;
+    sender = refl;
+    receiver = b ∙ h.receiver;
+    first = c ∙ h.first;
+    second = d ∙ h.second;
+    fits = h.fits;
+  }
+
   pub message_goes : (q : Ports S) (n : ℕ) (o : Option (ℤ × Body)) (m : ℤ × Body) (r : Receiving) (s : PortState) (old new : List ℕ) → Some m ≡ o → r ≡ with_message (number_of m.0) m.1 s.receiver
       → Goes stands q (acks (heard_by r s)) (ack_told n (heard_by r s)) old new → Goes stands q (hears_message o s) (message_told n o s) old new
   message_goes q n o m r s old new e f h =
@@ -206,6 +229,13 @@ module _ {S : Type 0} (stands : S → ServiceState) where
       by false w = subst (λ e. Goes stands q (after e (first_pays s)) (wire_told n e (first_pays s)) old new) f h
 
 -- ---- what is held
+
+pub not_full : (s : Sending) → (is_full s ≡ true → ⊥) → is_full s ≡ false
+not_full s no = by (is_full s) refl
+  where
+    by : (t : Bool) → is_full s ≡ t → is_full s ≡ false
+    by true e = absurd (no e)
+    by false e = e
 
 pub held_some : (seq : ℕ) (s : Sending) → (is_held seq s ≡ false → ⊥) → (b : Body) × (held_at seq s ≡ Some b)
 held_some seq s no = by (held_at seq s) refl

@@ -34,13 +34,17 @@ spent_line a b = codes "spent " ++ (decimal a ++ (codes " " ++ (decimal b ++ cod
 unfoldable pub delivered_text : List Body → ℕ → List ℕ
 delivered_text bodies n = count_line (codes "delivered ") n ++ body_lines 1 bodies
 
--- how the ends stand: what was offered, delivered, acknowledged and paid
-unfoldable pub ends_text : ℕ → ℕ → PortState → List ℕ
-ends_text first second s =
-    count_line (codes "offered ") (offered s.sender)
-    ++ (delivered_text s.receiver.delivered (length s.receiver.delivered)
-    ++ (count_line (codes "acked ") s.sender.acked
-    ++ (spent_line (first - s.first) (second - s.second) ++ codes "end\n")))
+-- how the ends stand: how many bodies were offered, those that were delivered, how many are acknowledged, and what was paid
+unfoldable pub ends_lines : ℕ → List Body → ℕ → ℕ → ℕ → List ℕ
+ends_lines offered bodies acked a b =
+    count_line (codes "offered ") offered
+    ++ (delivered_text bodies (length bodies)
+    ++ (count_line (codes "acked ") acked
+    ++ (spent_line a b ++ codes "end\n")))
+
+-- so of a state, whose purses were these at first
+abbrev pub ends_text : ℕ → ℕ → PortState → List ℕ
+ends_text b c s = ends_lines (offered s.sender) s.receiver.delivered s.sender.acked (b - s.first) (c - s.second)
 
 -- the whole output of a file
 unfoldable pub port_output : PortFile → List ℕ

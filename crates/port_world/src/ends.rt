@@ -1,4 +1,4 @@
-ghost use Rattle.std.specs.Prelude.{◌≡◌, ◌++◌, length, OnOk};
+ghost use Rattle.std.specs.Prelude.{◌≡◌, ◌-◌, ◌++◌, length, OnOk};
 ghost use Rattle.port_run.specs.Ports.{PortState};
 ghost use Rattle.port_world.specs.Texts as spec;
 ghost use Rattle.port_world.specs.Stands.{PortStands};
@@ -7,6 +7,7 @@ use crate::ports::Ports;
 use hex::encode;
 use node_core::put_number;
 use plan_base::{Bytes, NoMemory};
+use remote_calls::Purse;
 use service_api::Services;
 use std::alloc::Global;
 
@@ -69,9 +70,37 @@ fn put_spent(out: &mut Bytes, first: u64, second: u64) -> Result<(), NoMemory>
     Ok(())
 }
 
+/// How the ends stand: how many bodies were offered, those that were delivered, how many are acknowledged, and what each
+/// purse paid.
+#[tactic(auto, unfolding(crate::specs::Texts::ends_lines))]
+fn put_lines(
+    alloc: Global,
+    out: &mut Bytes,
+    offered: u64,
+    bodies: &[Bytes],
+    acked: u64,
+    paid: (u64, u64),
+) -> Result<(), NoMemory>
+    ensures { OnOk result (out.new
+        ≡ out.old ++ spec.ends_lines offered bodies.now acked paid.0 paid.1) }
+{
+    put_count(out, b"offered ", offered)?;
+    put_delivered(alloc, out, bodies)?;
+    put_count(out, b"acked ", acked)?;
+    put_spent(out, paid.0, paid.1)?;
+    out.add_all(b"end\n")?;
+    Ok(())
+}
+
+/// What a purse paid that held this at first.
+fn paid_by(purse: &Purse, first: u32) -> u64
+    ensures { result ≡ first - purse.now }
+{
+    u64::from(first.saturating_sub(purse.left()))
+}
+
 impl<S: Services> Ports<S> {
     /// Appends how the ends stand, whose purses were these at first.
-    #[tactic(auto, unfolding(crate::specs::Texts::ends_text))]
     pub fn put_ends(
         &self,
         alloc: Global,
@@ -82,13 +111,10 @@ impl<S: Services> Ports<S> {
         ensures { (s : PortState) → PortStands S.stands self.now s
             → OnOk result (out.new ≡ out.old ++ spec.ends_text first second s) }
     {
-        put_count(out, b"offered ", self.sender.offered())?;
-        put_delivered(alloc, out, self.receiver.delivered().as_slice())?;
-        put_count(out, b"acked ", self.sender.acked())?;
-        let first_paid = first.saturating_sub(self.first.left());
-        let second_paid = second.saturating_sub(self.second.left());
-        put_spent(out, u64::from(first_paid), u64::from(second_paid))?;
-        out.add_all(b"end\n")?;
-        Ok(())
+        let offered = self.sender.offered();
+        let acked = self.sender.acked();
+        let paid = (paid_by(&self.first, first), paid_by(&self.second, second));
+        let bodies = self.receiver.delivered();
+        put_lines(alloc, out, offered, bodies.as_slice(), acked, paid)
     }
 }
