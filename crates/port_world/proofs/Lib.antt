@@ -5,3 +5,4 @@ pub mod Standing
 pub mod Runs
 pub mod Few
 pub mod Promises
+pub mod Lines

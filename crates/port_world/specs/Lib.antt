@@ -1,5 +1,6 @@
 pub mod Networks
 pub mod Told
+pub mod Lines
 pub mod Saying
 pub mod Scripts
 pub mod Texts

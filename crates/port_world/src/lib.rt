@@ -11,7 +11,7 @@ mod told;
 
 pub use hosts::two_hosts;
 pub use laws::ports_deliver_in_order;
-pub use notes::Given;
+pub use notes::{Given, HostNote};
 pub use ports::Ports;
 pub use run::port_text;
 pub use told::PortLine;

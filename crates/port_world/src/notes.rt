@@ -2,10 +2,13 @@ ghost use Rattle.std.specs.Prelude.{◌≡◌};
 ghost use Rattle.std.specs.Option.{option_copied, option_map};
 ghost use Rattle.plan_base.specs.declared.tree.Value.{out-Value};
 ghost use Rattle.port_run.specs.Ports as spec;
-ghost use Rattle.port_world.specs.Saying.{as_pair};
+ghost use Rattle.port_world.specs.Saying.{as_pair, as_noted};
+ghost use Rattle.port_world.specs.Lines as lines;
 
-use plan_base::{Bytes, Value};
+use node_model::Act;
+use plan_base::{Bytes, Host, Value};
 use service_api::Note;
+use world_model::Line;
 
 /// The int and the bytes that a note says to a port.
 #[derive(Clone, Copy)]
@@ -92,5 +95,52 @@ impl Given<'_> {
         ensures { result.now ≡ (as_pair self.now).1 }
     {
         self.body
+    }
+}
+
+/// A note of a host.
+#[derive(Clone, Copy)]
+pub struct HostNote<'a> {
+    /// The host.
+    pub host: Host,
+    /// Its note.
+    pub note: &'a Note,
+}
+
+/// The note that an act is, if it is one.
+fn noted(act: &Act) -> Option<&Note>
+    ensures { option_copied result ≡ lines.noted act.now }
+{
+    match act {
+        Act::Noted(note) => Some(note),
+        _ => None,
+    }
+}
+
+/// The note of a host.
+fn note_of<'a>(host: Host, note: Option<&'a Note>) -> Option<HostNote<'a>>
+    ensures { option_map as_noted result ≡ lines.noted_at host (option_copied note.entry) }
+{
+    let Some(note) = note else { return None };
+    Some(HostNote { host, note })
+}
+
+/// The note that a line of a trace is, if it is one.
+pub fn note_in(line: &Line) -> Option<HostNote<'_>>
+    ensures { option_map as_noted result ≡ lines.note_in line.now }
+{
+    match line {
+        Line::At(host, act) => note_of(*host, noted(act)),
+        _ => None,
+    }
+}
+
+/// Whether a line says that an event changed nothing.
+pub fn is_nothing(line: &Line) -> bool
+    ensures { result ≡ lines.is_nothing line.now }
+{
+    match line {
+        Line::Nothing => true,
+        _ => false,
     }
 }

@@ -8,17 +8,15 @@ ghost use Rattle.port_run.specs.Ports.{PortState};
 ghost use Rattle.port_files.specs.PortRules.{KeepsEvent};
 ghost use Rattle.port_world.specs.Networks.{two_hosts};
 ghost use Rattle.port_world.specs.Scripts.{happening};
-ghost use Rattle.world_model.specs.declared.lines.Line.TheVariants as trace;
 ghost use Rattle.port_world.specs.Told as told;
 ghost use Rattle.port_world.specs.Limits.{FewAfter, HearsFew, WireFew, EventFew};
 ghost use Rattle.port_world.specs.Stands.{PortStands, Goes, IsStanding, IsMade, IsReady, budget};
 
 use crate::hosts::two_hosts;
-use crate::notes::said_to;
+use crate::notes::{is_nothing, note_in, said_to};
 use crate::told::{PortLine, put_told};
 use net_world::World;
 use network_plan::WorldEvent;
-use node_model::Act;
 use plan_base::{Bytes, Host, NoMemory};
 use plan_items::Items;
 use port_files::PortEvent;
@@ -184,29 +182,6 @@ impl<S: Services> Ports<S> {
         Ok(())
     }
 
-    /// Hears what a host did, if it is a note.
-    fn hear_act(
-        &mut self,
-        alloc: Global,
-        number: u64,
-        host: Host,
-        act: &Act,
-        text: &mut Bytes,
-    ) -> Result<(), NoMemory>
-        requires ready { IsReady S.stands self.old
-            (FewAfter (spec.hears_line (trace.At host act.now))) }
-        requires room { budget self.old ≤ 2 ^ 32 }
-        ensures goes { (s : PortState) → PortStands S.stands self.old s
-            → OnOk result (Goes S.stands self.new (spec.hears_line (trace.At host act.now) s)
-            (told.heard_told number (trace.At host act.now) s) text.old text.new) }
-        ensures budget { OnOk result (budget self.new ≡ budget self.old) }
-    {
-        match act {
-            Act::Noted(note) => self.hear_note(alloc, number, host, note, text),
-            _ => Ok(()),
-        }
-    }
-
     /// Hears a line of an event, and tells that the event changed nothing where the line says so.
     fn hear_line(
         &mut self,
@@ -222,11 +197,13 @@ impl<S: Services> Ports<S> {
             (told.heard_told number line.now s) text.old text.new) }
         ensures budget { OnOk result (budget self.new ≡ budget self.old) }
     {
-        match line {
-            Line::At(host, act) => self.hear_act(alloc, number, *host, act, text),
-            Line::Nothing => put_told(text, number, PortLine::Nothing),
-            _ => Ok(()),
+        if is_nothing(line) {
+            return put_told(text, number, PortLine::Nothing);
         }
+        let Some(heard) = note_in(line) else {
+            return Ok(());
+        };
+        self.hear_note(alloc, number, heard.host, heard.note, text)
     }
 
     /// Hears the lines of an event, in order.
