@@ -112,7 +112,7 @@ impl<S: Services> Ports<S> {
         match self.receiver.ack(alloc, &mut self.second, FIRST) {
             Ok(chunk) => {
                 let event = WorldEvent::Inject(SECOND, chunk, PRICE, None);
-                let _lines = self.make(alloc, &event)?;
+                self.make(alloc, &event)?;
                 Ok(())
             }
             Err(AckFault::NoBound) => put_told(text, number, PortLine::NoBound),
@@ -140,7 +140,7 @@ impl<S: Services> Ports<S> {
         let Some(given) = said_to(MESSAGES, note) else {
             return Ok(());
         };
-        let _came = self.receiver.heard(alloc, given.number(), given.body())?;
+        self.receiver.heard(alloc, given.number(), given.body())?;
         self.acknowledge(alloc, number, text)
     }
 
@@ -153,7 +153,7 @@ impl<S: Services> Ports<S> {
         let Some(given) = said_to(ACKS, note) else {
             return;
         };
-        let _heard = self.sender.heard(given.number());
+        self.sender.heard(given.number());
     }
 
     /// Hears a note of a host.

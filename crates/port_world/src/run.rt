@@ -43,7 +43,7 @@ fn run_events<S: Services>(
 /// number of events, what was delivered is a front of what was offered, no more is acknowledged than was delivered, and the
 /// hops and evals of any families together are at most what both purses paid; see `docs/ports.md`. `services`: one for each
 /// host. Condition: the file keeps its rules.
-#[tactic(auto, unfolding(crate::specs::Texts::port_output))]
+#[tactic(auto, using(crate::proofs::Promises::keeps_order), unfolding(crate::specs::Texts::port_output))]
 pub fn port_text<S: Services + Drop>(
     alloc: Global,
     file: &PortFile,
