@@ -1,4 +1,4 @@
-use Rattle.std.proofs.Common.{refl, ap, ◌∙◌, arith}
+use Rattle.std.proofs.Common.{Err, refl, ap, ◌∙◌, arith}
 use Rattle.reliable_ports.specs.Ends.{ack_from}
 use Rattle.port_run.specs.Ports.{first_host, second_pays}
 use Rattle.port_world.proofs.Standing.{on_ok, still, second_paid, acks_made, acks_unpaid}
@@ -18,6 +18,6 @@ returns-in-Ok-clause-goes g c = λ s h.
 
 pub returns-in-Err-NoBound-clause-goes : goal.returns-in-Err-NoBound-clause-goes
 returns-in-Err-NoBound-clause-goes g c = λ s h.
-    let low = c.in-Err-NoBound.ensures.no_bound.0 refl in
+    let low = c.in-Err-NoBound.ensures.no_bound.0 (ap Err c.in-Err-NoBound.field-0-is) in
     let same = h.second in
     on_ok _ _ c.put_told.result (λ e. acks_unpaid g.S.Services.stands _ c.args.number s c.args.text.now _ (omega (arith, low, same)) (still g.S.Services.stands c.args.self.now _ s h refl refl refl refl c.in-Err-NoBound.ensures.err) e) c.put_told.ensures

@@ -1,4 +1,4 @@
-use Rattle.std.proofs.Common.{None, refl, sym, ap, ◌∙◌, subst, arith, true≢false}
+use Rattle.std.proofs.Common.{None, Err, refl, sym, ap, ◌∙◌, subst, arith, true≢false}
 use Rattle.network_plan.specs.declared.event.WorldEvent.TheVariants as event
 use Rattle.reliable_ports.specs.Ends.{held_at}
 use Rattle.port_run.specs.Ports.{first_host, first_pays}
@@ -29,14 +29,14 @@ returns-in-Ok-clause-goes g c = λ s h.
 
 pub returns-in-Err-NotHeld-clause-goes : goal.returns-in-Err-NotHeld-clause-goes
 returns-in-Err-NotHeld-clause-goes g c = λ s h.
-    let none = held_none c.args.seq c.args.self.now.sender (c.in-Err-NotHeld.ensures.not_held.0 refl) in
+    let none = held_none c.args.seq c.args.self.now.sender (c.in-Err-NotHeld.ensures.not_held.0 (ap Err c.in-Err-NotHeld.field-0-is)) in
     on_ok _ _ c.put_told.result
     (λ e. transmit_none g.S.Services.stands _ c.args.number c.args.seq (held_at c.args.seq s.sender) s c.args.text.now _ (ap (held_at c.args.seq) (sym h.sender) ∙ none) e (still g.S.Services.stands c.args.self.now _ s h refl refl refl c.in-Err-NotHeld.ensures.err refl))
     c.put_told.ensures
 
 pub returns-in-Err-NoBound-clause-goes : goal.returns-in-Err-NoBound-clause-goes
 returns-in-Err-NoBound-clause-goes g c = λ s h.
-    let unpaid = c.in-Err-NoBound.ensures.no_bound.0 refl in
+    let unpaid = c.in-Err-NoBound.ensures.no_bound.0 (ap Err c.in-Err-NoBound.field-0-is) in
     let b = held_some c.args.seq c.args.self.now.sender (λ n. true≢false (sym unpaid.0 ∙ n)) in
     let low = unpaid.1 in
     let same = h.first in
