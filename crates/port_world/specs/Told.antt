@@ -1,5 +1,5 @@
 -- What each event of two ends adds to the output.
-use Rattle.std.specs.Prelude.{ℕ, ◌-◌, ◌==◌, if◌then◌else◌, nat_lt, ℤ, List, [], ◌∷◌, ◌++◌, Option, Some, None, codes}
+use Rattle.std.specs.Prelude.{ℕ, ◌==◌, if◌then◌else◌, nat_lt, ℤ, List, [], ◌∷◌, ◌++◌, Option, Some, None, codes}
 use Rattle.std.specs.Fmt.{decimal}
 use Rattle.plan_base.specs.declared.ids.Host.{Host}
 use Rattle.service_api.specs.declared.answer.Note.{Note}
@@ -9,7 +9,7 @@ use Rattle.world_model.specs.declared.lines.Line.{Line}
 use Rattle.world_model.specs.declared.lines.Line.TheVariants as line
 use Rattle.world_model.specs.World.{happens}
 use Rattle.reliable_ports.specs.Ends.{Body, is_full, held_at}
-use Rattle.port_run.specs.Ports.{PortState, PortEvent, Offer, Transmit, Wire, price, said_to, makes, first_pays, message_event, hears_line, happens_at}
+use Rattle.port_run.specs.Ports.{PortState, PortEvent, Offer, Transmit, Wire, price, said_to, makes, first_pays, message_event, hears_line}
 use Rattle.port_world.specs.declared.told.PortLine.{PortLine}
 use Rattle.port_world.specs.declared.told.PortLine.TheVariants as told
 
