@@ -74,12 +74,15 @@ module _ {S : Type 0} (stands : S → ServiceState) where
   }
 
   -- the ack was made
-  pub acks_made : (q : Ports S) (n : ℕ) (s : PortState) (k : Chunk) (old : List ℕ) → 4 ≤ s.second → k ≡ ack_from first_host s.receiver → PortStands stands q (makes (event.Inject second_host k 4 None) (second_pays s)) → Goes stands q (acks s) (ack_told n s) old old
-  acks_made q n s k old l e h = by (nat_lt s.second price) refl
+  pub acks_made : (q : Ports S) (n : ℕ) (s : PortState) (k : Chunk) (x : WorldEvent) (old : List ℕ) → 4 ≤ s.second → k ≡ ack_from first_host s.receiver → x ≡ event.Inject second_host k 4 None → PortStands stands q (makes x (second_pays s)) → Goes stands q (acks s) (ack_told n s) old old
+  acks_made q n s k x old l e f h = by (nat_lt s.second price) refl
     where
+      is : x ≡ ack_event s.receiver
+      is = f ∙ ap (λ c. event.Inject second_host c 4 None) e
+
       by : (t : Bool) → nat_lt s.second price ≡ t → Goes stands q (cond t s (makes (ack_event s.receiver) (second_pays s))) (cond t (told_line n told.NoBound) []) old old
       by true w = let no = ltb-true s.second 4 w in absurd (omega (arith, no, l))
-      by false w = goes_still q (makes (ack_event s.receiver) (second_pays s)) old (subst (λ c. PortStands stands q (makes (event.Inject second_host c 4 None) (second_pays s))) e h)
+      by false w = goes_still q (makes (ack_event s.receiver) (second_pays s)) old (subst (λ (y : WorldEvent). PortStands stands q (makes y (second_pays s))) is h)
 
   -- the purse doesn't pay it
   pub acks_unpaid : (q : Ports S) (n : ℕ) (s : PortState) (old new : List ℕ) → s.second < 4 → PortStands stands q s → new ≡ old ++ told_line n told.NoBound → Goes stands q (acks s) (ack_told n s) old new
@@ -218,15 +221,14 @@ module _ {S : Type 0} (stands : S → ServiceState) where
       by true w = record { stands = h; text = x }
       by false w = absurd (let no = ltb-false s.first 4 w in omega (arith, no, l))
 
-  pub transmit_goes : (q : Ports S) (n seq : ℕ) (b : Body) (k : Chunk) (o : Option Body) (s : PortState) (old new : List ℕ) → o ≡ Some b → 4 ≤ s.first → event.Inject first_host k 4 None ≡ message_event seq b
-      → Goes stands q (after (event.Inject first_host k 4 None) (first_pays s)) (wire_told n (event.Inject first_host k 4 None) (first_pays s)) old new
-      → Goes stands q (transmits seq o s) (transmit_told n seq o s) old new
-  transmit_goes q n seq b k o s old new e l f h =
+  pub transmit_goes : (q : Ports S) (n seq : ℕ) (b : Body) (x : WorldEvent) (o : Option Body) (s : PortState) (old new : List ℕ) → o ≡ Some b → 4 ≤ s.first → x ≡ message_event seq b
+      → Goes stands q (after x (first_pays s)) (wire_told n x (first_pays s)) old new → Goes stands q (transmits seq o s) (transmit_told n seq o s) old new
+  transmit_goes q n seq b x o s old new e l f h =
       subst (λ (o : Option Body). Goes stands q (transmits seq o s) (transmit_told n seq o s) old new) (sym e) (by (nat_lt s.first price) refl)
     where
       by : (t : Bool) → nat_lt s.first price ≡ t → Transmits q n seq b s old new t
       by true w = absurd (let no = ltb-true s.first 4 w in omega (arith, no, l))
-      by false w = subst (λ e. Goes stands q (after e (first_pays s)) (wire_told n e (first_pays s)) old new) f h
+      by false w = subst (λ (y : WorldEvent). Goes stands q (after y (first_pays s)) (wire_told n y (first_pays s)) old new) f h
 
 -- ---- what is held
 

@@ -1,5 +1,6 @@
-ghost use Rattle.std.specs.Prelude.{◌≡◌, ◌≤◌, ◌<◌, ◌+◌, ◌*◌, ◌^◌, [], length, map, IfOk, OnOk};
+ghost use Rattle.std.specs.Prelude.{◌≡◌, ◌≤◌, ◌<◌, ◌+◌, ◌*◌, ◌^◌, [], length, map, None, IfOk, OnOk};
 ghost use Rattle.link_window.specs.declared.window.Version.TheVariants.{Two};
+ghost use Rattle.network_plan.specs.declared.event.WorldEvent.TheVariants as happens;
 ghost use Rattle.world_model.specs.World.{opening, opening_services};
 ghost use Rattle.world_model.specs.Sound.{event_fits};
 ghost use Rattle.reliable_ports.specs.Ends.{IsShort, offered, held_at};
@@ -15,6 +16,7 @@ ghost use Rattle.port_world.specs.Stands.{PortStands, Goes, IsStanding, IsMade, 
 use crate::hosts::two_hosts;
 use crate::notes::{is_nothing, note_in, said_to};
 use crate::told::{PortLine, put_told};
+use chunk_types::CheckedChunk;
 use net_world::World;
 use network_plan::WorldEvent;
 use plan_base::{Bytes, Host, NoMemory};
@@ -40,6 +42,15 @@ const ACKS: u16 = 2;
 
 /// What a message and an ack pay, which is the bound of what is injected.
 const PRICE: u32 = 4;
+
+/// The injection of a message or an ack, with the bound that its end paid.
+fn injection(host: Host, chunk: CheckedChunk) -> WorldEvent
+    ensures event { result ≡ happens.Inject host chunk 4 None }
+    ensures fits { event_fits Two result }
+{
+    let _kept = chunk.chunk();
+    WorldEvent::Inject(host, chunk, PRICE, None)
+}
 
 /// Two ends of a reliable port, their purses, and the network between them.
 #[derive(Drop)]
@@ -111,7 +122,7 @@ impl<S: Services> Ports<S> {
     {
         match self.receiver.ack(alloc, &mut self.second, FIRST) {
             Ok(chunk) => {
-                let event = WorldEvent::Inject(SECOND, chunk, PRICE, None);
+                let event = injection(SECOND, chunk);
                 self.make(alloc, &event)?;
                 Ok(())
             }
@@ -287,7 +298,7 @@ impl<S: Services> Ports<S> {
     {
         match self.sender.transmit(alloc, &mut self.first, seq, SECOND) {
             Ok(chunk) => {
-                let event = WorldEvent::Inject(FIRST, chunk, PRICE, None);
+                let event = injection(FIRST, chunk);
                 self.wire(alloc, number, &event, text)
             }
             Err(TransmitFault::NotHeld) => put_told(text, number, PortLine::Nothing),
