@@ -52,7 +52,7 @@ fn both_services(alloc: Global) -> Result<Items<Registry>, NoMemory>
 }
 
 // Writes what two ends do that were read.
-#[tactic(auto, using(node_io::proofs::SinkLaws::prefix_none))]
+#[tactic(auto, using(crate::proofs::Running::runs_none, crate::proofs::Running::runs_text))]
 fn run_port<K: Sink>(alloc: Global, file: &PortFile, out: &mut K) -> Cause
     requires { KeepsPort file.now }
     ensures { Runs file.now result (K.state out.old) (K.state out.new) }
