@@ -7,7 +7,7 @@ use Rattle.port_world.proofs.ports.Ports.hear_line.Goals as goal
 pub returns-then-is_nothing-clause-goes : goal.returns-then-is_nothing-clause-goes
 returns-then-is_nothing-clause-goes g c = λ s h.
     on_ok _ _ c.put_told.result
-    (λ e. nothing_goes g.S.Services.stands c.args.self.now c.args.number c.args.line.now s c.args.text.now _ (sym c.if-is_nothing.ensures) (record { stands = h; text = e }))
+    (λ e. nothing_goes g.S.Services.stands c.args.self.now c.args.number c.args.line.now s c.args.text.now c.put_told.new.out (sym c.if-is_nothing.ensures) (record { stands = h; text = e }))
     c.put_told.ensures
 
 pub returns-in_default-clause-goes : goal.returns-in_default-clause-goes
@@ -23,5 +23,5 @@ hear_note-requires-clause-ready g c =
 pub returns-clause-goes : goal.returns-clause-goes
 returns-clause-goes g c = λ s h.
     on_ok _ _ c.hear_note.result
-    (λ k. note_goes g.S.Services.stands _ c.args.number c.args.line.now s c.args.text.now _ (as_noted c.in-Some.heard) c.in-Some.ensures k)
+    (λ k. note_goes g.S.Services.stands c.hear_note.new.self c.args.number c.args.line.now s c.args.text.now c.hear_note.new.text (as_noted c.in-Some.heard) c.in-Some.ensures k)
     (c.hear_note.ensures.goes s h)

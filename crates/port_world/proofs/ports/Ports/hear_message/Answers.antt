@@ -31,5 +31,5 @@ pub returns-clause-goes : goal.returns-clause-goes
 returns-clause-goes g c = λ s h.
     let same = c.in_ok-heard.ensures.state ∙ (λ i. hears (c.number.ensures i) (c.body.ensures i) (h.receiver i)) in
     on_ok _ _ c.acknowledge.result
-    (λ k. message_goes g.S.Services.stands _ c.args.number (said_to 1 c.args.note.now) (as_pair c.in-Some.given) c.heard.new.self s c.args.text.now _ c.in-Some.ensures same k)
+    (λ k. message_goes g.S.Services.stands c.acknowledge.new.self c.args.number (said_to 1 c.args.note.now) (as_pair c.in-Some.given) c.heard.new.self s c.args.text.now c.acknowledge.new.text c.in-Some.ensures same k)
     (c.acknowledge.ensures.goes (heard_by c.heard.new.self s) (heard_stands g.S.Services.stands c.args.self.now _ s h refl refl refl refl))

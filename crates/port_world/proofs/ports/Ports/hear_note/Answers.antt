@@ -11,7 +11,7 @@ hear_message-requires-clause-ready g c =
 pub returns-then-host-eq2-clause-goes : goal.returns-then-host-eq2-clause-goes
 returns-then-host-eq2-clause-goes g c = λ s h.
     on_ok _ _ c.hear_message.result
-    (λ k. note_second g.S.Services.stands _ c.args.number c.args.host c.args.note.now s c.args.text.now _ c.if-host-eq2.true k)
+    (λ k. note_second g.S.Services.stands c.hear_message.new.self c.args.number c.args.host c.args.note.now s c.args.text.now c.hear_message.new.text c.if-host-eq2.true k)
     (c.hear_message.ensures.goes s h)
 
 pub returns-then-host-ne1-clause-goes : goal.returns-then-host-ne1-clause-goes
@@ -20,4 +20,4 @@ returns-then-host-ne1-clause-goes g c = λ s h.
 
 pub returns-clause-goes : goal.returns-clause-goes
 returns-clause-goes g c = λ s h.
-    note_first g.S.Services.stands _ c.args.number c.args.host c.args.note.now s c.args.text.now c.args.text.now c.if-host-eq2.false c.if-host-ne1.false refl (c.hear_ack.ensures.stands s h)
+    note_first g.S.Services.stands c.hear_ack.new.self c.args.number c.args.host c.args.note.now s c.args.text.now c.args.text.now c.if-host-eq2.false c.if-host-ne1.false refl (c.hear_ack.ensures.stands s h)

@@ -21,5 +21,5 @@ returns-clause-goes g c = λ s h.
     let is = c.as_slice.ensures ∙ made.list in
     let t = makes c.args.event.now s in
     on_ok _ _ c.hear.result
-    (λ k. subst (λ ls. Goes g.S.Services.stands _ (hears ls t) (lines_told c.args.number ls t) c.args.text.now _) is k)
+    (λ k. subst (λ ls. Goes g.S.Services.stands c.hear.new.self (hears ls t) (lines_told c.args.number ls t) c.args.text.now c.hear.new.text) is k)
     (c.hear.ensures.goes t made.stands)
