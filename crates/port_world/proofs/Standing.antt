@@ -45,7 +45,7 @@ module _ {S : Type 0} (stands : S → ServiceState) where
 
   -- nothing changed, and nothing was appended
   pub goes_still : (q : Ports S) (s : PortState) (old : List ℕ) → PortStands stands q s → Goes stands q s [] old old
-  goes_still q s old h = record { stands = h; text = sym (append-nil old) }
+  goes_still q s old h = record { is = h; text = sym (append-nil old) }
 
   -- ---- acks
 
@@ -89,7 +89,7 @@ module _ {S : Type 0} (stands : S → ServiceState) where
   acks_unpaid q n s old new l h e = by (nat_lt s.second price) refl
     where
       by : (t : Bool) → nat_lt s.second price ≡ t → Goes stands q (cond t s (makes (ack_event s.receiver) (second_pays s))) (cond t (told_line n told.NoBound) []) old new
-      by true w = record { stands = h; text = e }
+      by true w = record { is = h; text = e }
       by false w = let no = ltb-false s.second 4 w in absurd (omega (arith, no, l))
 
   -- ---- notes
@@ -148,7 +148,7 @@ module _ {S : Type 0} (stands : S → ServiceState) where
       where
         by : (t u : Bool) → (g.0 == 2) ≡ t → (g.0 == 1) ≡ u → Hears t u
         by true u w v = absurd (no (eqb-true g.0 2 w))
-        by false true w v = record { stands = h; text = same ∙ sym (append-nil old) }
+        by false true w v = record { is = h; text = same ∙ sym (append-nil old) }
         by false false w v = absurd (eqb-false g.0 1 v e)
 
     pub note_other : g.0 ≢ 2 → g.0 ≢ 1 → new ≡ old → PortStands stands q s → Goes stands q (hears_note g x s) (note_told n g x s) old new
@@ -157,7 +157,7 @@ module _ {S : Type 0} (stands : S → ServiceState) where
         by : (t u : Bool) → (g.0 == 2) ≡ t → (g.0 == 1) ≡ u → Hears t u
         by true u w v = absurd (no (eqb-true g.0 2 w))
         by false true w v = absurd (none (eqb-true g.0 1 v))
-        by false false w v = record { stands = h; text = same ∙ sym (append-nil old) }
+        by false false w v = record { is = h; text = same ∙ sym (append-nil old) }
 
   -- ---- offers
 
@@ -173,7 +173,7 @@ module _ {S : Type 0} (stands : S → ServiceState) where
       by : (t : Bool) → t ≡ false → Offers q n b s old old t
       by true w = absurd cc
       by false w = record {
-        stands = record {
+        is = record {
           world = subst (λ w. WorldStands stands w s.world) (sym v) h.world;
           version = h.version;
           sender = a ∙ ap (with_offer b) h.sender;
@@ -189,7 +189,7 @@ module _ {S : Type 0} (stands : S → ServiceState) where
   offer_full q n b s old new e x h = by (is_full s.sender) e
     where
       by : (t : Bool) → t ≡ true → Offers q n b s old new t
-      by true w = record { stands = h; text = x }
+      by true w = record { is = h; text = x }
       by false w = absurd cc
 
   -- ---- transmissions
@@ -208,7 +208,7 @@ module _ {S : Type 0} (stands : S → ServiceState) where
 
   pub transmit_none : (q : Ports S) (n seq : ℕ) (o : Option Body) (s : PortState) (old new : List ℕ) → o ≡ None → new ≡ old ++ told_line n told.Nothing → PortStands stands q s → Goes stands q (transmits seq o s) (transmit_told n seq o s) old new
   transmit_none q n seq o s old new e x h =
-      subst (λ (o : Option Body). Goes stands q (transmits seq o s) (transmit_told n seq o s) old new) (sym e) (record { stands = h; text = x })
+      subst (λ (o : Option Body). Goes stands q (transmits seq o s) (transmit_told n seq o s) old new) (sym e) (record { is = h; text = x })
 
   abbrev Transmits : Ports S → ℕ → ℕ → Body → PortState → List ℕ → List ℕ → Bool → Type 0
   Transmits q n seq b s old new t =
@@ -218,7 +218,7 @@ module _ {S : Type 0} (stands : S → ServiceState) where
   transmit_unpaid q n seq b o s old new e l x h = subst (λ (o : Option Body). Goes stands q (transmits seq o s) (transmit_told n seq o s) old new) (sym e) (by (nat_lt s.first price) refl)
     where
       by : (t : Bool) → nat_lt s.first price ≡ t → Transmits q n seq b s old new t
-      by true w = record { stands = h; text = x }
+      by true w = record { is = h; text = x }
       by false w = absurd (let no = ltb-false s.first 4 w in omega (arith, no, l))
 
   pub transmit_goes : (q : Ports S) (n seq : ℕ) (b : Body) (x : WorldEvent) (o : Option Body) (s : PortState) (old new : List ℕ) → o ≡ Some b → 4 ≤ s.first → x ≡ message_event seq b
@@ -260,12 +260,12 @@ module _ {S : Type 0} (stands : S → ServiceState) (q : Ports S) (ls : List Lin
   Heard ms new = Goes stands q (hears ms s) (lines_told n ms s) old new
 
   pub lines_none : PortStands stands q s → Heard (take 0 ls) old
-  lines_none h = record { stands = h; text = sym (append-nil old) }
+  lines_none h = record { is = h; text = sym (append-nil old) }
 
   pub lines_next : (l : Line) → i < length ls → l ≡ get_or ls i l → (mid new : List ℕ) → mid ≡ old ++ lines_told n (take i ls) s
       → Goes stands q (hears_line l (hears (take i ls) s)) (heard_told n l (hears (take i ls) s)) mid new → Heard (take (i + 1) ls) new
   lines_next l within is mid new e h = record {
-    stands = subst (PortStands stands q) (sym (heard_next ls i l within is s)) h.stands;
+    is = subst (PortStands stands q) (sym (heard_next ls i l within is s)) h.is;
     text = h.text ∙ ap (λ x. x ++ heard_told n l (hears (take i ls) s)) e
         ∙ append_assoc old (lines_told n (take i ls) s) (heard_told n l (hears (take i ls) s))
         ∙ ap (λ x. old ++ x) (sym (told_next ls i l within is n s));

@@ -23,7 +23,7 @@ pub record PortStands {S : Type 0} (stands : S → ServiceState) (p : Ports S) (
 
 -- they stand for a state, and this was appended to a text
 pub record Goes {S : Type 0} (stands : S → ServiceState) (p : Ports S) (s : PortState) (told old new : List ℕ) : Type 0 where
-  pub stands : PortStands stands p s
+  pub is : PortStands stands p s
   pub text : new ≡ old ++ told
 
 -- they stand for some state
@@ -34,7 +34,7 @@ pub record IsStanding {S : Type 0} (stands : S → ServiceState) (p : Ports S) :
 -- an event of the network gave these lines, and they stand for the state after it
 pub record IsMade {S : Type 0} (stands : S → ServiceState) (e : WorldEvent) (s : PortState) (lines : List Line) (new : Ports S) : Type 0 where
   pub list : lines ≡ (happens s.world e).lines
-  pub stands : PortStands stands new (makes e s)
+  pub is : PortStands stands new (makes e s)
 
 -- they stand for a state in which such an event may come
 pub record IsReady {S : Type 0} (stands : S → ServiceState) (p : Ports S) (Few : PortState → Type 0) : Type 0 where

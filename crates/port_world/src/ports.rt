@@ -81,7 +81,7 @@ impl<S: Services + Drop> Ports<S> {
         requires services { map S.stands services ≡ map opening_services two_hosts.hosts }
         ensures stands { IfOk result (λ p.
             PortStands S.stands p (spec.port_begun (opening two_hosts) first second)) }
-        ensures budget { IfOk result (λ p. budget p ≡ second) }
+        ensures cost { IfOk result (λ p. budget p ≡ second) }
     {
         let topology = two_hosts(alloc)?;
         let world = World::new(alloc, &topology, services)?;
@@ -105,7 +105,7 @@ impl<S: Services> Ports<S> {
         requires room { budget self.old + 4 ≤ 2 ^ 32 }
         ensures made { (s : PortState) → PortStands S.stands self.old s
             → IfOk result (λ lines. IsMade S.stands event.now s lines self.new) }
-        ensures budget { OnOk result (budget self.new ≡ budget self.old + 4) }
+        ensures cost { OnOk result (budget self.new ≡ budget self.old + 4) }
     {
         self.world.step(alloc, event)
     }
@@ -118,7 +118,7 @@ impl<S: Services> Ports<S> {
         ensures goes { (s : PortState) → PortStands S.stands self.old s
             → OnOk result (Goes S.stands self.new
             (spec.acks s) (told.ack_told number s) text.old text.new) }
-        ensures budget { OnOk result (budget self.new ≡ budget self.old) }
+        ensures cost { OnOk result (budget self.new ≡ budget self.old) }
     {
         match self.receiver.ack(alloc, &mut self.second, FIRST) {
             Ok(chunk) => {
@@ -146,7 +146,7 @@ impl<S: Services> Ports<S> {
             → OnOk result (Goes S.stands self.new
             (spec.hears_message (spec.said_to 1 note.now) s)
             (told.message_told number (spec.said_to 1 note.now) s) text.old text.new) }
-        ensures budget { OnOk result (budget self.new ≡ budget self.old) }
+        ensures cost { OnOk result (budget self.new ≡ budget self.old) }
     {
         let Some(given) = said_to(MESSAGES, note) else {
             return Ok(());
@@ -159,7 +159,7 @@ impl<S: Services> Ports<S> {
     fn hear_ack(&mut self, note: &Note)
         ensures stands { (s : PortState) → PortStands S.stands self.old s
             → PortStands S.stands self.new (spec.hears_ack (spec.said_to 2 note.now) s) }
-        ensures budget { budget self.new ≡ budget self.old }
+        ensures cost { budget self.new ≡ budget self.old }
     {
         let Some(given) = said_to(ACKS, note) else {
             return;
@@ -181,7 +181,7 @@ impl<S: Services> Ports<S> {
         ensures goes { (s : PortState) → PortStands S.stands self.old s
             → OnOk result (Goes S.stands self.new (spec.hears_note host note.now s)
             (told.note_told number host note.now s) text.old text.new) }
-        ensures budget { OnOk result (budget self.new ≡ budget self.old) }
+        ensures cost { OnOk result (budget self.new ≡ budget self.old) }
     {
         if host.0 == 2 {
             return self.hear_message(alloc, number, note, text);
@@ -206,7 +206,7 @@ impl<S: Services> Ports<S> {
         ensures goes { (s : PortState) → PortStands S.stands self.old s
             → OnOk result (Goes S.stands self.new (spec.hears_line line.now s)
             (told.heard_told number line.now s) text.old text.new) }
-        ensures budget { OnOk result (budget self.new ≡ budget self.old) }
+        ensures cost { OnOk result (budget self.new ≡ budget self.old) }
     {
         if is_nothing(line) {
             return put_told(text, number, PortLine::Nothing);
@@ -230,7 +230,7 @@ impl<S: Services> Ports<S> {
         ensures goes { (s : PortState) → PortStands S.stands self.old s
             → OnOk result (Goes S.stands self.new (spec.hears lines.now s)
             (told.lines_told number lines.now s) text.old text.new) }
-        ensures budget { OnOk result (budget self.new ≡ budget self.old) }
+        ensures cost { OnOk result (budget self.new ≡ budget self.old) }
     {
         for line in lines {
             self.hear_line(alloc, number, line, text)?;
@@ -252,7 +252,7 @@ impl<S: Services> Ports<S> {
         ensures goes { (s : PortState) → PortStands S.stands self.old s
             → OnOk result (Goes S.stands self.new (spec.after event.now s)
             (told.wire_told number event.now s) text.old text.new) }
-        ensures budget { OnOk result (budget self.new ≡ budget self.old + 4) }
+        ensures cost { OnOk result (budget self.new ≡ budget self.old + 4) }
     {
         let lines = self.make(alloc, event)?;
         self.hear(alloc, number, lines.as_slice(), text)
@@ -271,7 +271,7 @@ impl<S: Services> Ports<S> {
         ensures goes { (s : PortState) → PortStands S.stands self.old s
             → OnOk result (Goes S.stands self.new (spec.offers_one body.now s)
             (told.offer_told number s) text.old text.new) }
-        ensures budget { budget self.new ≡ budget self.old }
+        ensures cost { budget self.new ≡ budget self.old }
     {
         match self.sender.offer(alloc, body) {
             Ok(_) => Ok(()),
@@ -294,7 +294,7 @@ impl<S: Services> Ports<S> {
             → OnOk result (Goes S.stands self.new
             (spec.transmits seq (held_at seq s.sender) s)
             (told.transmit_told number seq (held_at seq s.sender) s) text.old text.new) }
-        ensures budget { OnOk result (budget self.new ≤ budget self.old + 4) }
+        ensures cost { OnOk result (budget self.new ≤ budget self.old + 4) }
     {
         match self.sender.transmit(alloc, &mut self.first, seq, SECOND) {
             Ok(chunk) => {
@@ -322,7 +322,7 @@ impl<S: Services> Ports<S> {
         ensures goes { (s : PortState) → PortStands S.stands self.old s
             → OnOk result (Goes S.stands self.new (spec.happens_at (happening event.now) s)
             (told.event_told number (happening event.now) s) text.old text.new) }
-        ensures budget { OnOk result (budget self.new ≤ budget self.old + 4) }
+        ensures cost { OnOk result (budget self.new ≤ budget self.old + 4) }
     {
         match event {
             PortEvent::Offer(body) => self.offer(alloc, number, body, text),

@@ -24,7 +24,7 @@ fn run_events<S: Services>(
 ) -> Result<(), NoMemory>
     requires keeps { KeepsPort file.now }
     requires begun { PortStands S.stands ports.old (begun file.now) }
-    requires budget { budget ports.old ≤ 65535 }
+    requires cost { budget ports.old ≤ 65535 }
     ensures stands { OnOk result
         (PortStands S.stands ports.new (port_run (script_of file.now) (begun file.now))) }
     ensures text { OnOk result

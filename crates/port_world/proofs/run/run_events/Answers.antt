@@ -14,7 +14,7 @@ loop-event-init g c = record {
   stands = c.requires.begun;
   text = sym (append-nil c.args.text.now);
   fits = fits_none c.args.file.now c.requires.begun.fits;
-  budget = omega arith;
+  cost = omega arith;
 }
 
 pub event-requires-clause-ready : goal.event-requires-clause-ready
@@ -35,7 +35,7 @@ event-requires-clause-keeps g c =
 pub event-requires-clause-room : goal.event-requires-clause-room
 event-requires-clause-room g c =
     let within = subst (λ es. c.loop-event.event-index < length es) c.as_slice.ensures c.loop-event-test.true in
-    omega (arith, c.loop-event.invariant.budget, c.requires.budget, c.requires.keeps.few, within)
+    omega (arith, c.loop-event.invariant.cost, c.requires.cost, c.requires.keeps.few, within)
 
 pub loop-event-preserved : goal.loop-event-preserved
 loop-event-preserved g c =
@@ -50,10 +50,10 @@ loop-event-preserved g c =
     let long : i ≤ length (script_of p) = omega (arith, within, length-map p.events happening) in
     record {
       number = omega (arith, inv.number);
-      stands = subst (PortStands g.S.Services.stands c.event.new.self) (sym next) goes.stands;
+      stands = subst (PortStands g.S.Services.stands c.event.new.self) (sym next) goes.is;
       text = script_next p i e within is c.loop-event.number c.args.text.now c.loop-event.text c.event.new.text (omega (arith, inv.number, length-take-le i (script_of p) long)) inv.text goes.text;
-      fits = fits_next p i _ (sym next) goes.stands.fits inv.fits;
-      budget = omega (arith, inv.budget, c.in_ok-event.ensures.budget);
+      fits = fits_next p i _ (sym next) goes.is.fits inv.fits;
+      cost = omega (arith, inv.cost, c.in_ok-event.ensures.cost);
     }
 
 pub returns-clause-stands : goal.returns-clause-stands

@@ -11,5 +11,5 @@ invariant-loop-event g l = record {
   stands : PortStands g.S.Services.stands l.ports (state_at l.file l.event-index);
   text : l.text ≡ l.initial.text ++ script_told 1 (take l.event-index (script_of l.file)) (begun l.file);
   fits : FitsTo l.file l.event-index;
-  budget : budget l.ports ≤ budget l.initial.ports + 4 * l.event-index;
+  cost : budget l.ports ≤ budget l.initial.ports + 4 * l.event-index;
 }

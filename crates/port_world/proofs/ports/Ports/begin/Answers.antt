@@ -29,8 +29,8 @@ returns-clause-stands g c = record {
   fits = All-nil (event_fits Two);
 }
 
-pub returns-clause-budget : goal.returns-clause-budget
-returns-clause-budget g c =
+pub returns-clause-cost : goal.returns-clause-cost
+returns-clause-cost g c =
     let world = subst (λ t. WorldStands g.S.Services.stands c.in_ok-world.world (opening t)) c.in_ok-topology.ensures c.in_ok-world.ensures in
     let none = world.is.made ∙ opening_made two_hosts in
     let purse = c.of-2.ensures in

@@ -8,5 +8,5 @@ abbrev pub invariant-loop-line : goal.invariant-loop-line
 invariant-loop-line g l = record {
   goes : (s : PortState) → PortStands g.S.Services.stands l.initial.self s
       → Goes g.S.Services.stands l.self (hears (take l.line-index l.lines) s) (lines_told l.number (take l.line-index l.lines) s) l.initial.text l.text;
-  budget : budget l.self ≡ budget l.initial.self;
+  cost : budget l.self ≡ budget l.initial.self;
 }

@@ -14,4 +14,4 @@ step-requires-clause-fits g c =
 
 pub returns-clause-made : goal.returns-clause-made
 returns-clause-made g c = λ s h.
-    if_ok _ _ c.step.result (λ lines k. record { list = k.list; stands = makes_stand g.S.Services.stands c.args.self.now _ s c.args.event.now c.requires.fits h k.world refl refl refl refl }) (c.step.ensures.ok s.world h.world)
+    if_ok _ _ c.step.result (λ lines k. record { list = k.list; is = makes_stand g.S.Services.stands c.args.self.now _ s c.args.event.now c.requires.fits h k.world refl refl refl refl }) (c.step.ensures.ok s.world h.world)
