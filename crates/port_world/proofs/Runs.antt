@@ -58,11 +58,11 @@ module _ (p : PortFile) (i : ℕ) (e : Said) (within : i < length p.events) (is 
 
   pub script_next : (n : ℕ) (old mid new : List ℕ) → n ≡ 1 + length (take i (script_of p)) → mid ≡ old ++ script_told 1 (take i (script_of p)) (begun p)
       → new ≡ mid ++ event_told n (happening e) (state_at p i) → new ≡ old ++ script_told 1 (take (i + 1) (script_of p)) (begun p)
-  script_next n old mid new number e x =
+  script_next n old mid new number before x =
       let last = event_told n (happening e) (state_at p i) in
       let front = script_told 1 (take i (script_of p)) (begun p) in
       let all = script-append 1 n (take i (script_of p)) (happening e ∷ []) (begun p) number in
-      x ∙ ap (λ t. t ++ last) e ∙ append_assoc old front last
+      x ∙ ap (λ t. t ++ last) before ∙ append_assoc old front last
       ∙ ap (λ t. old ++ t) (ap (λ t. front ++ t) (sym (append-nil last)) ∙ sym all ∙ ap (λ y. script_told 1 y (begun p)) (sym next_script))
 
 -- the whole script

@@ -29,12 +29,12 @@ event-requires-clause-ready g c =
 
 pub event-requires-clause-keeps : goal.event-requires-clause-keeps
 event-requires-clause-keeps g c =
-    let within = subst (λ es. c.loop-event.event-index < length es) c.as_slice.ensures c.loop-event-test.true in
-    all_at KeepsEvent c.args.file.now.events c.loop-event.event-index c.event-item.result c.requires.keeps.events within (subst (λ es. c.event-item.result ≡ get_or es c.loop-event.event-index c.event-item.result) c.as_slice.ensures c.event-item.is)
+    let within = subst (λ es. c.loop-event.event-index < length es) c.as_slice-event-items.ensures c.loop-event-test.true in
+    all_at KeepsEvent c.args.file.now.events c.loop-event.event-index c.event-item.result c.requires.keeps.events within (subst (λ es. c.event-item.result ≡ get_or es c.loop-event.event-index c.event-item.result) c.as_slice-event-items.ensures c.event-item.is)
 
 pub event-requires-clause-room : goal.event-requires-clause-room
 event-requires-clause-room g c =
-    let within = subst (λ es. c.loop-event.event-index < length es) c.as_slice.ensures c.loop-event-test.true in
+    let within = subst (λ es. c.loop-event.event-index < length es) c.as_slice-event-items.ensures c.loop-event-test.true in
     omega (arith, c.loop-event.invariant.cost, c.requires.cost, c.requires.keeps.few, within)
 
 pub loop-event-preserved : goal.loop-event-preserved
@@ -43,8 +43,8 @@ loop-event-preserved g c =
     let i = c.loop-event.event-index in
     let e = c.event-item.result in
     let inv = c.loop-event.invariant in
-    let within = subst (λ es. i < length es) c.as_slice.ensures c.loop-event-test.true in
-    let is = subst (λ es. e ≡ get_or es i e) c.as_slice.ensures c.event-item.is in
+    let within = subst (λ es. i < length es) c.as_slice-event-items.ensures c.loop-event-test.true in
+    let is = subst (λ es. e ≡ get_or es i e) c.as_slice-event-items.ensures c.event-item.is in
     let goes = c.in_ok-event.ensures.goes (state_at p i) inv.stands in
     let next = state_next p i e within is in
     let long : i ≤ length (script_of p) = omega (arith, within, length-map p.events happening) in
@@ -58,15 +58,15 @@ loop-event-preserved g c =
 
 pub returns-clause-stands : goal.returns-clause-stands
 returns-clause-stands g c =
-    let done = subst (λ es. length es ≤ c.loop-event.event-index) c.as_slice.ensures c.loop-event-test.false in
+    let done = subst (λ es. length es ≤ c.loop-event.event-index) c.as_slice-event-items.ensures c.loop-event-test.false in
     subst (PortStands g.S.Services.stands c.loop-event.ports) (state_all c.args.file.now c.loop-event.event-index done) c.loop-event.invariant.stands
 
 pub returns-clause-text : goal.returns-clause-text
 returns-clause-text g c =
-    let done = subst (λ es. length es ≤ c.loop-event.event-index) c.as_slice.ensures c.loop-event-test.false in
+    let done = subst (λ es. length es ≤ c.loop-event.event-index) c.as_slice-event-items.ensures c.loop-event-test.false in
     script_all c.args.file.now c.loop-event.event-index c.args.text.now c.loop-event.text done c.loop-event.invariant.text
 
 pub returns-clause-purses : goal.returns-clause-purses
 returns-clause-purses g c =
-    let done = subst (λ es. length es ≤ c.loop-event.event-index) c.as_slice.ensures c.loop-event-test.false in
+    let done = subst (λ es. length es ≤ c.loop-event.event-index) c.as_slice-event-items.ensures c.loop-event-test.false in
     keeps_purses c.args.file.now c.loop-event.event-index done c.loop-event.invariant.fits

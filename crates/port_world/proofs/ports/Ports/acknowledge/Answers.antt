@@ -9,12 +9,12 @@ make-requires-clause-ready g c =
     let r = c.requires.ready in
     record { state = second_pays r.state; is = second_paid g.S.Services.stands c.args.self.now _ r.state r.is refl refl refl refl c.in-Ok.ensures.paid }
 
-pub returns-in-Ok-clause-goes : goal.returns-in-Ok-clause-goes
-returns-in-Ok-clause-goes g c = λ s h.
+pub returns-in_ok-make-in-Ok-clause-goes : goal.returns-in_ok-make-in-Ok-clause-goes
+returns-in_ok-make-in-Ok-clause-goes g c = λ s h.
     let paid = c.in-Ok.ensures.paid in
     let same = h.second in
     acks_made g.S.Services.stands c.make.new.self c.args.number s c.in-Ok.chunk c.injection-event.result c.args.text.now (omega (arith, paid, same)) (c.in-Ok.ensures.chunk ∙ ap (ack_from first_host) h.receiver) c.injection-event.ensures.event
-    (c.in_ok-make.ensures.made (second_pays s) (second_paid g.S.Services.stands c.args.self.now _ s h refl refl refl refl paid)).is
+    (c.in_ok-make-in-Ok.ensures.made (second_pays s) (second_paid g.S.Services.stands c.args.self.now _ s h refl refl refl refl paid)).is
 
 pub returns-in-Err-NoBound-clause-goes : goal.returns-in-Err-NoBound-clause-goes
 returns-in-Err-NoBound-clause-goes g c = λ s h.
