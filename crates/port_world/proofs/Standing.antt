@@ -81,7 +81,7 @@ module _ {S : Type 0} (stands : S → ServiceState) where
       is = f ∙ ap (λ c. event.Inject second_host c 4 None) e
 
       by : (t : Bool) → nat_lt s.second price ≡ t → Goes stands q (cond t s (makes (ack_event s.receiver) (second_pays s))) (cond t (told_line n told.NoBound) []) old old
-      by true w = let l2 = ltb-true s.second 4 w in absurd (omega (arith, l2, l))
+      by true w = let own = ltb-true s.second 4 w in absurd (omega (arith, own, l))
       by false w = goes_still q (makes (ack_event s.receiver) (second_pays s)) old (subst (λ (y : WorldEvent). PortStands stands q (makes y (second_pays s))) is h)
 
   -- the purse doesn't pay it
@@ -90,7 +90,7 @@ module _ {S : Type 0} (stands : S → ServiceState) where
     where
       by : (t : Bool) → nat_lt s.second price ≡ t → Goes stands q (cond t s (makes (ack_event s.receiver) (second_pays s))) (cond t (told_line n told.NoBound) []) old new
       by true w = record { is = h; text = e }
-      by false w = let l2 = ltb-false s.second 4 w in absurd (omega (arith, l2, l))
+      by false w = let own = ltb-false s.second 4 w in absurd (omega (arith, own, l))
 
   -- ---- notes
 
@@ -144,18 +144,18 @@ module _ {S : Type 0} (stands : S → ServiceState) where
         by false w = absurd (eqb-false g.0 2 w e)
 
     pub note_first : g.0 ≢ 2 → g.0 ≡ 1 → new ≡ old → PortStands stands q (hears_ack (said_to 2 x) s) → Goes stands q (hears_note g x s) (note_told n g x s) old new
-    note_first isnt e same h = by (g.0 == 2) (g.0 == 1) refl refl
+    note_first differs e same h = by (g.0 == 2) (g.0 == 1) refl refl
       where
         by : (t u : Bool) → (g.0 == 2) ≡ t → (g.0 == 1) ≡ u → Hears t u
-        by true u w v = absurd (isnt (eqb-true g.0 2 w))
+        by true u w v = absurd (differs (eqb-true g.0 2 w))
         by false true w v = record { is = h; text = same ∙ sym (append-nil old) }
         by false false w v = absurd (eqb-false g.0 1 v e)
 
     pub note_other : g.0 ≢ 2 → g.0 ≢ 1 → new ≡ old → PortStands stands q s → Goes stands q (hears_note g x s) (note_told n g x s) old new
-    note_other isnt none same h = by (g.0 == 2) (g.0 == 1) refl refl
+    note_other differs none same h = by (g.0 == 2) (g.0 == 1) refl refl
       where
         by : (t u : Bool) → (g.0 == 2) ≡ t → (g.0 == 1) ≡ u → Hears t u
-        by true u w v = absurd (isnt (eqb-true g.0 2 w))
+        by true u w v = absurd (differs (eqb-true g.0 2 w))
         by false true w v = absurd (none (eqb-true g.0 1 v))
         by false false w v = record { is = h; text = same ∙ sym (append-nil old) }
 
@@ -219,7 +219,7 @@ module _ {S : Type 0} (stands : S → ServiceState) where
     where
       by : (t : Bool) → nat_lt s.first price ≡ t → Transmits q n seq b s old new t
       by true w = record { is = h; text = x }
-      by false w = absurd (let l2 = ltb-false s.first 4 w in omega (arith, l2, l))
+      by false w = absurd (let own = ltb-false s.first 4 w in omega (arith, own, l))
 
   pub transmit_goes : (q : Ports S) (n seq : ℕ) (b : Body) (x : WorldEvent) (o : Option Body) (s : PortState) (old new : List ℕ) → o ≡ Some b → 4 ≤ s.first → x ≡ message_event seq b
       → Goes stands q (after x (first_pays s)) (wire_told n x (first_pays s)) old new → Goes stands q (transmits seq o s) (transmit_told n seq o s) old new
@@ -227,23 +227,23 @@ module _ {S : Type 0} (stands : S → ServiceState) where
       subst (λ (o : Option Body). Goes stands q (transmits seq o s) (transmit_told n seq o s) old new) (sym e) (by (nat_lt s.first price) refl)
     where
       by : (t : Bool) → nat_lt s.first price ≡ t → Transmits q n seq b s old new t
-      by true w = absurd (let l2 = ltb-true s.first 4 w in omega (arith, l2, l))
+      by true w = absurd (let own = ltb-true s.first 4 w in omega (arith, own, l))
       by false w = subst (λ (y : WorldEvent). Goes stands q (after y (first_pays s)) (wire_told n y (first_pays s)) old new) f h
 
 -- ---- what is held
 
 pub not_full : (s : Sending) → (is_full s ≡ true → ⊥) → is_full s ≡ false
-not_full s isnt = by (is_full s) refl
+not_full s never = by (is_full s) refl
   where
     by : (t : Bool) → is_full s ≡ t → is_full s ≡ false
-    by true e = absurd (isnt e)
+    by true e = absurd (never e)
     by false e = e
 
 pub held_some : (seq : ℕ) (s : Sending) → (is_held seq s ≡ false → ⊥) → (b : Body) × (held_at seq s ≡ Some b)
-held_some seq s isnt = by (held_at seq s) refl
+held_some seq s never = by (held_at seq s) refl
   where
     by : (o : Option Body) → held_at seq s ≡ o → (b : Body) × (held_at seq s ≡ Some b)
-    by None e = absurd (isnt (none_not_held seq s e))
+    by None e = absurd (never (none_not_held seq s e))
     by (Some b) e = (b, e)
 
 pub held_none : (seq : ℕ) (s : Sending) → is_held seq s ≡ false → held_at seq s ≡ None

@@ -11,5 +11,6 @@ returns-in_default-clause-stands g c = λ s h. ack_none g.S.Services.stands c.ar
 
 pub returns-clause-stands : goal.returns-clause-stands
 returns-clause-stands g c = λ s h.
-    let same = c.heard.ensures.state ∙ (λ i. with_ack (number_of ((to_z-of_z w64 c.number.result (search rules) ∙ c.number.ensures) i)) (h.sender i)) in
+    let number = to_z-of_z w64 c.number.result (search rules) ∙ c.number.ensures in
+    let same = c.heard.ensures.state ∙ (λ i. with_ack (number_of (number i)) (h.sender i)) in
     ack_goes g.S.Services.stands _ (said_to 2 c.args.note.now) (as_pair c.in-Some.given) c.heard.new.self s c.in-Some.ensures same (acked_stands g.S.Services.stands c.args.self.now _ s h refl refl refl refl)

@@ -25,12 +25,14 @@ pub acknowledge-requires-clause-few : goal.acknowledge-requires-clause-few
 acknowledge-requires-clause-few g c =
     let r = c.requires.ready in
     let few = message_few (said_to 1 c.args.note.now) (as_pair c.in-Some.given) r.state c.in-Some.ensures r.few in
-    let same = c.in_ok-heard.ensures.state ∙ (λ i. hears ((to_z-of_z w64 c.number.result (search rules) ∙ c.number.ensures) i) (c.body.ensures i) (r.is.receiver i)) in
+    let number = to_z-of_z w64 c.number.result (search rules) ∙ c.number.ensures in
+    let same = c.in_ok-heard.ensures.state ∙ (λ i. hears (number i) (c.body.ensures i) (r.is.receiver i)) in
     subst (λ (x : Receiving). length x.delivered < 2 ^ 62) (sym same) few
 
 pub returns-clause-goes : goal.returns-clause-goes
 returns-clause-goes g c = λ s h.
-    let same = c.in_ok-heard.ensures.state ∙ (λ i. hears ((to_z-of_z w64 c.number.result (search rules) ∙ c.number.ensures) i) (c.body.ensures i) (h.receiver i)) in
+    let number = to_z-of_z w64 c.number.result (search rules) ∙ c.number.ensures in
+    let same = c.in_ok-heard.ensures.state ∙ (λ i. hears (number i) (c.body.ensures i) (h.receiver i)) in
     on_ok _ _ c.acknowledge.result
     (λ k. message_goes g.S.Services.stands c.acknowledge.new.self c.args.number (said_to 1 c.args.note.now) (as_pair c.in-Some.given) c.heard.new.self s c.args.text.now c.acknowledge.new.text c.in-Some.ensures same k)
     (c.acknowledge.ensures.goes (heard_by c.heard.new.self s) (heard_stands g.S.Services.stands c.args.self.now _ s h refl refl refl refl))
