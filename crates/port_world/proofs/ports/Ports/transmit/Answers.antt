@@ -40,6 +40,6 @@ returns-in-Err-NoBound-clause-goes g c = λ s h.
     let b = held_some c.args.seq c.args.self.now.sender (λ n. true≢false (sym unpaid.0 ∙ n)) in
     let low = unpaid.1 in
     let same = h.first in
-    on_ok _ _ c.put_told-2.result
-    (λ e. transmit_unpaid g.S.Services.stands _ c.args.number c.args.seq b.0 (held_at c.args.seq s.sender) s c.args.text.now c.put_told-2.new.out (ap (held_at c.args.seq) (sym h.sender) ∙ b.1) (omega (arith, low, same)) e (still g.S.Services.stands c.args.self.now _ s h refl refl refl c.in-Err-NoBound.ensures.err refl))
-    c.put_told-2.ensures
+    on_ok _ _ c.put_told-in-Err-NoBound.result
+    (λ e. transmit_unpaid g.S.Services.stands _ c.args.number c.args.seq b.0 (held_at c.args.seq s.sender) s c.args.text.now c.put_told-in-Err-NoBound.new.out (ap (held_at c.args.seq) (sym h.sender) ∙ b.1) (omega (arith, low, same)) e (still g.S.Services.stands c.args.self.now _ s h refl refl refl c.in-Err-NoBound.ensures.err refl))
+    c.put_told-in-Err-NoBound.ensures
