@@ -1,6 +1,6 @@
 -- However a script goes, few bodies are offered, and no more are delivered.
-use Rattle.std.proofs.Common.{◌≡◌, ℕ, zero, suc, ◌+◌, ◌<◌, ◌≤◌, ◌^◌, Bool, true, false, cond, List, [], ◌∷◌, ◌++◌, length, take, get_or, Option, Some, None, refl, sym, ap, ◌∙◌, subst, arith, length-append}
-use Rattle.std.specs.Prelude.{◌==◌, nat_lt, pos, ℤ, map}
+use Rattle.std.proofs.Common.{◌≡◌, ℕ, zero, suc, ◌+◌, ◌<◌, ◌≤◌, Bool, true, false, cond, List, [], ◌∷◌, ◌++◌, length, take, get_or, Option, Some, None, refl, sym, ap, ◌∙◌, subst, arith, length-append}
+use Rattle.std.specs.Prelude.{◌==◌, nat_lt, ℤ, map}
 use Rattle.std.specs.List.{AllByRecursion}
 use Rattle.std.proofs.lemmas.List.{length-take, length-drop, length-map}
 use Rattle.plan_base.specs.declared.ids.Host.{Host}
@@ -18,14 +18,13 @@ use Rattle.reliable_ports.proofs.Steps.{message, Receives, Sends, held_message}
 use Rattle.port_node.specs.Known.{LineKnown, ComesKnown}
 use Rattle.port_node.proofs.Worlds.{event_known}
 use Rattle.port_run.specs.Ports.{PortState, PortEvent, Offer, Transmit, Wire, price, said_to, heard_by, makes, first_pays, second_pays, ack_event, message_event, acks, hears_message, hears_ack, hears_note, hears_line, hears, after, offers_one, transmits, happens_at, port_run}
-use Rattle.port_run.specs.Allowed.{numbered, PortChunk, PortServes, port_allowed, IsWire}
+use Rattle.port_run.specs.Allowed.{numbered, PortChunk, port_allowed, IsWire}
 use Rattle.port_run.proofs.Running.{Together, port_closed, hears_on, run_on, begun_on}
 use Rattle.port_run.proofs.Opening.{opening_known}
 use Rattle.port_run.proofs.Serving.{registry_serves}
 use Rattle.port_files.specs.declared.file.PortEvent.{PortEvent as Said}
 use Rattle.port_files.specs.declared.file.PortEvent.TheVariants as says
 use Rattle.port_files.specs.declared.file.PortFile.{PortFile}
-use Rattle.port_files.specs.PortRules.{KeepsPort}
 use Rattle.port_world.specs.Networks.{two_hosts}
 use Rattle.port_world.specs.Scripts.{happening, script_of, begun, state_at}
 use Rattle.port_world.specs.Limits.{HearsFew, WireFew, EventFew}

@@ -1,5 +1,5 @@
 -- What is delivered once a note is heard.
-use Rattle.std.proofs.Common.{◌≡◌, ℕ, ◌<◌, ◌≤◌, ◌^◌, Bool, true, false, cond, length, Option, Some, refl, sym, subst, arith}
+use Rattle.std.proofs.Common.{◌≡◌, ◌<◌, ◌^◌, Bool, true, false, cond, length, Option, Some, refl, sym, subst, arith}
 use Rattle.std.specs.Prelude.{◌==◌, nat_lt, ℤ}
 use Rattle.std.proofs.lemmas.Bool.{eqb-false}
 use Rattle.plan_base.specs.declared.ids.Host.{Host}

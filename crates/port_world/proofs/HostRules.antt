@@ -1,5 +1,5 @@
 -- The network of two ends keeps the rules of a network.
-use Rattle.std.proofs.Common.{◌≡◌, ℕ, ◌<◌, true, List, [], ◌∷◌, refl, arith}
+use Rattle.std.proofs.Common.{◌<◌, [], ◌∷◌, refl, arith}
 use Rattle.std.proofs.lemmas.List.Elements.{All-nil, All-cons}
 use Rattle.network_plan.specs.Hosts.{Cable, host_of, dev_of}
 use Rattle.network_plan.specs.declared.schedule.HostSpec.{HostSpec}

@@ -1,5 +1,5 @@
 -- Lines of a trace by what they say to the ends.
-use Rattle.std.proofs.Common.{◌≡◌, ℕ, ◌<◌, ◌^◌, Bool, true, false, List, [], length, Option, Some, None, refl, sym, ap, ◌∙◌, subst}
+use Rattle.std.proofs.Common.{◌≡◌, ℕ, ◌<◌, ◌^◌, true, false, List, [], length, Option, Some, None, refl, sym, subst}
 use Rattle.plan_base.specs.declared.ids.Host.{Host}
 use Rattle.service_api.specs.declared.answer.Note.{Note}
 use Rattle.service_api.specs.Services.{ServiceState}

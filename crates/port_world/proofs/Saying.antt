@@ -1,5 +1,5 @@
 -- The values of a tuple by their places.
-use Rattle.std.proofs.Common.{◌≡◌, ◌≢◌, ℕ, List, [], ◌∷◌, length, None, refl, sym, arith}
+use Rattle.std.proofs.Common.{◌≡◌, ◌≢◌, List, [], ◌∷◌, length, None, refl, sym, arith}
 use Rattle.std.specs.Prelude.{get_or}
 use Rattle.plan_base.specs.declared.tree.Value.{Value, out-Value}
 use Rattle.port_run.specs.Ports.{int_in, blob_in, pair_with, pair_of}

@@ -1,4 +1,4 @@
-use Rattle.std.proofs.Common.{◌≡◌, ◌+◌, ◌<◌, ◌≤◌, ◌++◌, take, get_or, length, refl, sym, ap, ◌∙◌, subst, append-nil, arith}
+use Rattle.std.proofs.Common.{◌≡◌, ◌<◌, ◌≤◌, get_or, length, refl, sym, subst, append-nil, arith}
 use Rattle.std.proofs.lemmas.List.{length-map, length-take-le}
 use Rattle.port_files.specs.PortRules.{KeepsEvent}
 use Rattle.port_world.specs.Scripts.{happening, script_of, state_at}

@@ -1,5 +1,5 @@
 use Rattle.std.proofs.lemmas.Int.{to_z-of_z}
-use Rattle.std.proofs.Common.{w64, rules, refl, ap, ◌∙◌}
+use Rattle.std.proofs.Common.{w64, rules, refl, ◌∙◌}
 use Rattle.reliable_ports.specs.Ends.{number_of, with_ack}
 use Rattle.port_run.specs.Ports.{said_to}
 use Rattle.port_world.specs.Saying.{as_pair}

@@ -1,6 +1,6 @@
 use Rattle.std.proofs.lemmas.Int.{to_z-of_z}
-use Rattle.std.proofs.Common.{w64, rules, ◌<◌, ◌^◌, length, refl, sym, ap, ◌∙◌, subst}
-use Rattle.reliable_ports.specs.Ends.{Receiving, number_of, with_message, hears}
+use Rattle.std.proofs.Common.{w64, rules, ◌<◌, ◌^◌, length, refl, sym, ◌∙◌, subst}
+use Rattle.reliable_ports.specs.Ends.{Receiving, hears}
 use Rattle.port_run.specs.Ports.{said_to, heard_by}
 use Rattle.port_world.specs.Saying.{as_pair}
 use Rattle.port_world.proofs.Hearing.{message_few, before_few}

@@ -1,9 +1,6 @@
-use Rattle.std.proofs.Common.{refl, sym, ◌∙◌, subst, arith}
+use Rattle.std.proofs.Common.{refl, sym, ◌∙◌, subst}
 use Rattle.world_model.specs.Sound.{event_fits}
 use Rattle.net_world.proofs.StandLaws.{if_ok}
-use Rattle.net_world.specs.Stands.{IsHappened}
-use Rattle.world_model.specs.World.{happens}
-use Rattle.port_world.specs.Stands.{IsMade}
 use Rattle.port_world.proofs.Standing.{makes_stand}
 use Rattle.port_world.proofs.ports.Ports.make.Goals as goal
 

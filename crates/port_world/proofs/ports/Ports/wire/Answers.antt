@@ -1,4 +1,4 @@
-use Rattle.std.proofs.Common.{sym, ap, ◌∙◌, subst, refl}
+use Rattle.std.proofs.Common.{sym, ◌∙◌, subst}
 use Rattle.port_run.specs.Ports.{makes, hears}
 use Rattle.port_world.specs.Limits.{HearsFew}
 use Rattle.port_world.specs.Told.{lines_told}
