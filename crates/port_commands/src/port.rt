@@ -17,8 +17,35 @@ use port_files::{PortFile, read_port};
 use port_world::{port_text, two_hosts};
 use service_registry::Registry;
 use std::alloc::Global;
+use std::marker::Model;
 
-impl LineValue for PortFile {
+/// What a file says of two ends, which contracts see as just that.
+#[derive(Drop)]
+pub struct PortScript {
+    file: PortFile,
+}
+
+impl Model for PortScript {
+    ghost use Rattle.port_files.specs.declared.file.PortFile.{PortFile};
+    ghost use Rattle.port_files.specs.contracts.file.PortFile as whole;
+
+    ghost Value = { PortFile };
+
+    ghost coded = { whole.the_row.coded };
+
+    ghost view = { λ s. s.file };
+}
+
+impl PortScript {
+    // What the file says.
+    fn file(&self) -> &PortFile
+        ensures { result.now ≡ self.now }
+    {
+        &self.file
+    }
+}
+
+impl LineValue for PortScript {
     ghost use Rattle.port_files.specs.PortFiles.{port_of};
     ghost use Rattle.port_files.specs.PortRules.{KeepsPort};
 
@@ -26,8 +53,11 @@ impl LineValue for PortFile {
 
     ghost keeps = { KeepsPort };
 
-    fn read(alloc: Global, bytes: &[u8]) -> Result<PortFile, LineFault> {
-        read_port(alloc, bytes)
+    fn read(alloc: Global, bytes: &[u8]) -> Result<PortScript, LineFault> {
+        match read_port(alloc, bytes) {
+            Ok(file) => Ok(PortScript { file }),
+            Err(fault) => Err(fault),
+        }
     }
 }
 
@@ -73,8 +103,8 @@ pub fn on_port<F: Files, K: Sink>(alloc: Global, files: &mut F, name: &str, out:
     ensures { TakesAndActs (port_said name.now) Runs name.now
         (F.state files.old) (F.state files.new) result (K.state out.old) (K.state out.new) }
 {
-    match value_of::<PortFile, F>(alloc, files, name) {
-        Ok(file) => run_port(alloc, &file, out),
+    match value_of::<PortScript, F>(alloc, files, name) {
+        Ok(script) => run_port(alloc, script.file(), out),
         Err(cause) => cause,
     }
 }
