@@ -45,7 +45,7 @@ refusal_text TooLong = codes "planet: TooLong\n"
 -- the note of a cause
 abbrev pub note_text : Cause → List ℕ
 note_text Done = []
-note_text Usage = codes "planet: usage: check FILE | show FILE | replay FILE | node FILE TURNS | inject FILE | fleet FILE | grow SEED N | cut FILE | gather PORT FILE\n"
+note_text Usage = codes "planet: usage: check FILE | show FILE | replay FILE | node FILE TURNS | inject FILE | fleet FILE | grow SEED N | cut FILE | gather PORT FILE | port FILE\n"
 note_text (Refused r) = refusal_text r
 note_text ReadFault = codes "planet: read fault\n"
 note_text WriteFault = codes "planet: write fault\n"

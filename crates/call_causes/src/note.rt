@@ -116,7 +116,7 @@ fn note_of(alloc: Global, cause: &Cause) -> Result<Bytes, NoMemory>
         Cause::Done => Ok(Bytes::new(alloc)),
         Cause::Usage => bytes_of(
             alloc,
-            b"planet: usage: check FILE | show FILE | replay FILE | node FILE TURNS | inject FILE | fleet FILE | grow SEED N | cut FILE | gather PORT FILE\n",
+            b"planet: usage: check FILE | show FILE | replay FILE | node FILE TURNS | inject FILE | fleet FILE | grow SEED N | cut FILE | gather PORT FILE | port FILE\n",
         ),
         Cause::Refused(refusal) => refusal_note(alloc, refusal),
         Cause::ReadFault => bytes_of(alloc, b"planet: read fault\n"),

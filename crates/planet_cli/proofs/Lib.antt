@@ -6,6 +6,7 @@ pub mod Giving
 pub mod Causes
 pub mod Explaining
 pub mod Frames
+pub mod Ports
 pub mod Writing
 pub mod Headline
 pub mod Keeping

@@ -22,7 +22,10 @@ use Rattle.cut_files.specs.declared.cut.CutFile.{CutFile}
 use Rattle.cut_files.specs.Cuts.{cut_of}
 use Rattle.cut_files.specs.Texts.{cut_output}
 use Rattle.message_commands.specs.Messages.{messages_text}
-use Rattle.planet_cli.specs.Requests.{Request, replay, check, cut, gather}
+use Rattle.port_files.specs.declared.file.PortFile.{PortFile}
+use Rattle.port_files.specs.PortFiles.{port_of}
+use Rattle.port_world.specs.Texts.{port_output}
+use Rattle.planet_cli.specs.Requests.{Request, replay, check, cut, gather, ports}
 use Rattle.planet_cli.specs.Calls.{Calls}
 use Rattle.planet_cli.specs.Outcomes.{Outcome, whole, outcome_by, outcome_of, IsAccepted, WritesOut}
 use Rattle.planet_cli.proofs.Giving.{is_accepted, is_written}
@@ -79,3 +82,10 @@ module _ (file bytes : List ℕ) where
   messages_written port l cause old new n m call seen there e done =
       at_file (messages_text port) line_limit (λ b. said_by (log_of b)) (file_at old.files.held file) bytes l old.out new.out there (ap said_by e)
       (is_accepted (Some (gather port file)) cause old new n m call seen done) (is_written (Some (gather port file)) cause old new n m call seen done)
+
+  -- two ends of a port
+  pub port_written : (p : PortFile) (cause : Cause) (old new : Outside) (n m : SinkState) → Calls (Some (ports file)) cause old new n m → IsTrue old.files.observable
+      → file_at old.files.held file ≡ Some bytes → port_of bytes ≡ Ok p → cause ≡ Done → Writes old.out new.out (port_output p)
+  port_written p cause old new n m call seen there e done =
+      at_file port_output line_limit (λ b. said_by (port_of b)) (file_at old.files.held file) bytes p old.out new.out there (ap said_by e)
+      (is_accepted (Some (ports file)) cause old new n m call seen done) (is_written (Some (ports file)) cause old new n m call seen done)

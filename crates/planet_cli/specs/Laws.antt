@@ -19,7 +19,7 @@ use Rattle.call_causes.specs.declared.status.Cause.{Cause}
 use Rattle.call_causes.specs.declared.status.Cause.TheVariants.{Done, Usage, Refused, ReadFault, WriteFault, LinkFault, SpawnFault, NoMemory, NodesFailed}
 use Rattle.file_commands.specs.Said.{Said, nothing, outside, says}
 use Rattle.live_commands.specs.Nodes.{config_said, own_node, begun_config, begun_with}
-use Rattle.planet_cli.specs.Requests.{Request, replay, check, show, inject, fleet, node, grow, cut, gather}
+use Rattle.planet_cli.specs.Requests.{Request, replay, check, show, inject, fleet, node, grow, cut, gather, ports}
 
 -- ---- by the request
 
@@ -55,6 +55,7 @@ AsksFor (Some (node file turns)) old new = MayName old new file
 AsksFor (Some (grow seed n)) old new = new ≡ old
 AsksFor (Some (cut file)) old new = MayName old new file
 AsksFor (Some (gather port file)) old new = MayName old new file
+AsksFor (Some (ports file)) old new = MayName old new file
 AsksFor None old new = new ≡ old
 
 -- ---- by the cause

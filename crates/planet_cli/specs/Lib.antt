@@ -4,5 +4,6 @@ pub mod Does
 pub mod Calls
 pub mod Replays
 pub mod Gathers
+pub mod PortCalls
 pub mod Outcomes
 pub mod Laws

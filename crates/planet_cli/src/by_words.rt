@@ -9,6 +9,7 @@ use live_commands::{on_ask, on_fleet, on_node};
 use message_commands::{on_cut, on_gather};
 use node_io::{Clock, Files, Link, Sink, Spawner};
 use plan_base::Texts;
+use port_commands::on_port;
 use run_commands::{Replay, on_seed};
 use std::alloc::Global;
 
@@ -39,5 +40,6 @@ pub fn run<F: Files, K: Sink, L: Link, C: Clock, P: Spawner>(
         Some(Command::Grow(seed, events)) => on_seed(alloc, seed, events, out),
         Some(Command::Cut(file)) => on_cut(alloc, files, file, out),
         Some(Command::Gather(port, file)) => on_gather(alloc, files, port, file, out),
+        Some(Command::Port(file)) => on_port(alloc, files, file, out),
     }
 }

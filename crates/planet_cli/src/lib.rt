@@ -8,6 +8,7 @@ mod fault_laws;
 mod frame_laws;
 mod live_laws;
 mod message_laws;
+mod port_laws;
 mod top;
 mod words;
 mod writing_laws;
@@ -31,6 +32,7 @@ pub use live_laws::{
     node_complete, served, serves, waited,
 };
 pub use message_laws::{gathered, messages, parted};
+pub use port_laws::{in_order, paid, ported};
 pub use top::planet;
 pub use words::{Command, read_words};
 pub use writing_laws::{

@@ -1,0 +1,6 @@
+//! The command of two ends of a reliable port: `port`.
+#![tactic(auto)]
+
+mod port;
+
+pub use port::{PortScript, on_port};

@@ -1,0 +1,2 @@
+pub mod PortRules
+pub mod PortFiles

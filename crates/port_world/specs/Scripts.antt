@@ -1,0 +1,29 @@
+-- The script that a file says, and the states that it leads to.
+use Rattle.std.specs.Prelude.{ℕ, List, map, take}
+use Rattle.network_plan.specs.declared.event.WorldEvent.TheVariants as event
+use Rattle.world_model.specs.World.{opening}
+use Rattle.port_files.specs.declared.file.PortEvent.{PortEvent}
+use Rattle.port_files.specs.declared.file.PortEvent.TheVariants as says
+use Rattle.port_files.specs.declared.file.PortFile.{PortFile}
+use Rattle.port_run.specs.Ports.{PortState, PortEvent as Event, Offer, Transmit, Wire, port_run, port_begun}
+use Rattle.port_world.specs.Networks.{two_hosts}
+
+-- the event that a line says
+abbrev pub happening : PortEvent → Event
+happening (says.Offer b) = Offer b
+happening (says.Transmit seq) = Transmit seq
+happening (says.Send h d) = Wire (event.Send h d)
+happening (says.Deliver k) = Wire (event.Deliver k)
+happening (says.Lose k) = Wire (event.Lose k)
+happening (says.Repeat k) = Wire (event.Repeat k)
+
+abbrev pub script_of : PortFile → List Event
+script_of p = map happening p.events
+
+-- both ends and their network before the first event
+abbrev pub begun : PortFile → PortState
+begun p = port_begun (opening two_hosts) p.first p.second
+
+-- after the first k events
+abbrev pub state_at : PortFile → ℕ → PortState
+state_at p k = port_run (take k (script_of p)) (begun p)

@@ -1,0 +1,64 @@
+ghost use Rattle.std.specs.Prelude.{◌≡◌, ◌≤◌, ◌++◌, map, IfOk, OnOk};
+ghost use Rattle.world_model.specs.World.{opening, opening_services};
+ghost use Rattle.port_run.specs.Ports.{port_begun, port_run};
+ghost use Rattle.port_files.specs.PortRules.{KeepsPort};
+ghost use Rattle.port_world.specs.Networks.{two_hosts};
+ghost use Rattle.port_world.specs.Scripts.{script_of, begun};
+ghost use Rattle.port_world.specs.Texts.{script_told, port_output};
+ghost use Rattle.port_world.specs.Stands.{PortStands, budget};
+ghost use Rattle.port_world.specs.Keeping.{KeepsOrder, KeepsPurses};
+
+use crate::ports::Ports;
+use plan_base::{Bytes, NoMemory};
+use plan_items::Items;
+use port_files::PortFile;
+use service_api::Services;
+use std::alloc::Global;
+
+/// Makes the events of a file in order, and appends what they add to the output. Condition: nothing has happened.
+fn run_events<S: Services>(
+    alloc: Global,
+    file: &PortFile,
+    ports: &mut Ports<S>,
+    text: &mut Bytes,
+) -> Result<(), NoMemory>
+    requires keeps { KeepsPort file.now }
+    requires begun { PortStands S.stands ports.old (begun file.now) }
+    requires cost { budget ports.old ≤ 65535 }
+    ensures stands { OnOk result
+        (PortStands S.stands ports.new (port_run (script_of file.now) (begun file.now))) }
+    ensures text { OnOk result
+        (text.new ≡ text.old ++ script_told 1 (script_of file.now) (begun file.now)) }
+    ensures purses { OnOk result (KeepsPurses file.now) }
+{
+    let mut number = 1;
+    for event in file.events.as_slice() {
+        ports.event(alloc, number, event, text)?;
+        number += 1;
+    }
+    Ok(())
+}
+
+/// What is written of two ends: a line for each event that met something, and how the ends stand in the end. After every
+/// number of events, what was delivered is a front of what was offered, no more is acknowledged than was delivered, and the
+/// hops and evals of any families together are at most what both purses paid; see `docs/ports.md`. `services`: one for each
+/// host. Condition: the file keeps its rules.
+#[tactic(auto, using(crate::proofs::Promises::keeps_order), unfolding(crate::specs::Texts::port_output))]
+pub fn port_text<S: Services + Drop>(
+    alloc: Global,
+    file: &PortFile,
+    services: Items<S>,
+) -> Result<Bytes, NoMemory>
+    requires keeps { KeepsPort file.now }
+    requires services { map S.stands services ≡ map opening_services two_hosts.hosts }
+    ensures text { IfOk result (λ text. text ≡ port_output file.now) }
+    ensures order { KeepsOrder file.now }
+    ensures purses { OnOk result (KeepsPurses file.now) }
+{
+    let mut ports = Ports::begin(alloc, file.first, file.second, services)?;
+    let mut text = Bytes::new(alloc);
+    text.add_all(b"planet port 1\n")?;
+    run_events(alloc, file, &mut ports, &mut text)?;
+    ports.put_ends(alloc, file.first, file.second, &mut text)?;
+    Ok(text)
+}
