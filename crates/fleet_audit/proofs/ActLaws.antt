@@ -4,7 +4,6 @@ use Rattle.std.specs.Prelude.{unwrap_or, sum_by, ◌==◌}
 use Rattle.std.specs.Map.{lookup, KeepsOthers}
 use Rattle.std.proofs.lemmas.List.Sums.{sum_by-cons}
 use Rattle.std.proofs.lemmas.Bool.{eqb-true}
-use Rattle.std.proofs.lemmas.Bool.Decides.{nat_tests}
 use Rattle.small_laws.proofs.Bools.{both_true}
 use Rattle.plan_base.specs.declared.ids.Family.{Family}
 use Rattle.node_model.specs.declared.acts.Act.{Act}
@@ -32,10 +31,6 @@ family_is f g e =
     let n : f.serial ≡ g.serial = omega (arith, eqb-true f.serial g.serial t.1) in
     λ i. record { source = record { 0 = s i }; serial = n i }
 
-pub family_self : (f : Family) → is_family f f ≡ true
-unfolding is_family
-family_self f = grind (arith, nat_tests)
-
 -- the equality of keys, which is that of their families
 abbrev pub same_key : FamilyKey → FamilyKey → Bool
 same_key = (key_eq.ghosts).eq
@@ -48,7 +43,7 @@ key_test a b = refl
 pub own_counts : (f : Family) (key : FamilyKey) (es : Entries) (o : Option Counts) → family_of key ≡ f → o ≡ lookup (same_key key) es → unwrap_or o none ≡ counts_of f es
 unfolding counts_of
 own_counts f key es o k h =
-    ap (λ p. unwrap_or p none) (h ∙ ap (λ t. lookup t es) (own_test family_of is_family family_is family_self same_key key_test key))
+    ap (λ p. unwrap_or p none) (h ∙ ap (λ t. lookup t es) (own_test family_of is_family family_is same_key key_test key))
     ∙ ap (λ g. unwrap_or (lookup (λ q. is_family g (family_of q)) es) none) k
 
 -- what is found once a key has a new value
@@ -56,7 +51,7 @@ pub set_counts : (g : Family) (key : FamilyKey) (w : Counts) (old new : Entries)
     → counts_of f new ≡ (if is_family f g then w else counts_of f old)
 unfolding counts_of
 set_counts g key w old new f k here others =
-    ap (λ o. unwrap_or o none) (found_after family_of is_family family_is family_self same_key key_test key w old new f here others)
+    ap (λ o. unwrap_or o none) (found_after family_of is_family family_is same_key key_test key w old new f here others)
     ∙ by (is_family f (family_of key)) (lookup (λ q. is_family f (family_of q)) old)
     ∙ ap (λ h. if is_family f h then w else unwrap_or (lookup (λ q. is_family f (family_of q)) old) none) k
   where

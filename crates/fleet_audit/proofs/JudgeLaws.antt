@@ -46,12 +46,12 @@ module _ (sent : List Crossing) (all : List Arrived) (i : ℕ) (a : Arrived) (ol
   left : drop i all ≡ a ∷ drop (i + 1) all
   left = drop_more all i a l ∙ ap (λ b. b ∷ drop (i + 1) all) (sym is)
 
-  counts : t ≡ one_accepted (tally_in c old) → t ≡ record { sent = times c sent; accepted = times c now + 1 }
+  counts : t ≡ one_accepted (tally_in c old) → t ≡ one_accepted (record { sent = times c sent; accepted = times c now })
   counts e = e ∙ ap one_accepted (j.counted c)
 
   -- the frame stands more often than it was sent
   pub judging_over : t ≡ one_accepted (tally_in c old) → t.sent < t.accepted
-      → Some (record { log = a.log; event = a.event; accepted = t.accepted; sent = t.sent }) ≡ first_over sent [] (arrivals_of all)
+      → ◌≡◌ {A = Option Over} (Some (record { log = a.log; event = a.event; accepted = t.accepted; sent = t.sent })) (first_over sent [] (arrivals_of all))
   judging_over e less =
       let q = counts e in
       let s : t.sent ≡ times c sent = ap (λ x. x.sent) q in
@@ -76,5 +76,5 @@ module _ (sent : List Crossing) (all : List Arrived) (i : ℕ) (a : Arrived) (ol
       }
 
 -- none is left
-pub judging_all : (sent : List Crossing) (all : List Arrived) (i : ℕ) (t : Tallies) → length all ≤ i → Judging sent all i t → None ≡ first_over sent [] (arrivals_of all)
+pub judging_all : (sent : List Crossing) (all : List Arrived) (i : ℕ) (t : Tallies) → length all ≤ i → Judging sent all i t → ◌≡◌ {A = Option Over} None (first_over sent [] (arrivals_of all))
 judging_all sent all i t l j = sym (j.same ∙ ap (λ r. first_over sent (seen (take i all)) (arrivals_of r)) (drop_all i all l))

@@ -32,21 +32,23 @@ use Rattle.node_model.specs.State.{NodeState, new_node, no_queues}
 use Rattle.node_model.specs.Node.{node_step}
 use Rattle.node_core.specs.Turns.{IsResting}
 use Rattle.serve_model.specs.Runs.{acts_of, node_by, node_after}
+use Rattle.world_model.specs.declared.lines.LinkEnd.{LinkEnd}
 use Rattle.world_model.specs.World.{Cables}
 use Rattle.ledger_audit.specs.Crossings.{Crossing, Arrival}
-use Rattle.ledger_audit.specs.Runs.{accepts, sends_frame, sends, numbered}
+use Rattle.ledger_audit.specs.Runs.{is_accepted, accepts, sends_frame, sends, numbered}
 use Rattle.ledger_audit.specs.Audits.{Logged, version_in}
 use Rattle.ledger_audit.specs.Spelling.{Begins, FrameReads, BytesCome, EntryReads, EntriesRead, ReadsAgain}
 use Rattle.ledger_audit.proofs.Versions.{version_told}
 use Rattle.ledger_audit.proofs.Refusals.{none_event}
+use Rattle.fleet_audit.specs.declared.keys.CrossingKey.{CrossingKey}
 use Rattle.fleet_audit.specs.declared.reckoning.Arrived.{Arrived}
 use Rattle.fleet_audit.specs.declared.reckoning.Reckoning.{Reckoning}
 use Rattle.fleet_audit.specs.Keys.{crossing_of}
-use Rattle.fleet_audit.specs.Tallies.{one_sent, tally_in, Changes, Tallied}
-use Rattle.fleet_audit.specs.Books.{plus, counts_in, act_counts, acts_counts}
+use Rattle.fleet_audit.specs.Tallies.{none as no_frames, one_sent, tally_in, Changes, Tallied}
+use Rattle.fleet_audit.specs.Books.{none as no_sums, plus, counts_in, act_counts, acts_counts}
 use Rattle.fleet_audit.specs.Pasts.{Past, nothing, with_acts, with_sent, with_accepted, with_host, arrived_from, accepted_by, taken_by, TakenReads, with_frames, with_entry, with_entries, with_log, with_logs, arrival_of, arrivals_of, injected_by, injected, Holds, IsReckoned, logged_of}
 use Rattle.fleet_audit.proofs.TallyLaws.{tallied_sent}
-use Rattle.fleet_audit.proofs.ActLaws.{counts_push}
+use Rattle.fleet_audit.proofs.ActLaws.{counts_push, no_counts}
 
 -- ---- services
 
@@ -125,6 +127,19 @@ arrival_held p old new a c h is hosts tallies book injects more = record {
   counts = λ f. ap (counts_in f) book ∙ h.counts f;
   injected = injects ∙ h.injected;
 }
+
+-- bytes that the acts refuse are no frame more
+pub arrived_not : (r : Reckoning) (p : Past) (log n : ℕ) (from : Option LinkEnd) (bytes : List ℕ) (acts : List Act) → is_accepted acts ≡ false
+    → Holds r p → Holds r (with_accepted (numbered log n (arrived_from from bytes acts)) p)
+arrived_not r p log n from bytes acts e h = subst (λ b. Holds r (with_accepted (numbered log n (if b then record { from = from; bytes = bytes } ∷ [] else [])) p)) (sym e) (no_arrival r p h)
+
+-- others are one
+pub arrived_so : (p : Past) (old new : Reckoning) (log n : ℕ) (from : Option LinkEnd) (bytes : List ℕ) (acts : List Act) (key : CrossingKey) → is_accepted acts ≡ true → crossing_of key ≡ record { from = from; bytes = bytes }
+    → new.hosts ≡ old.hosts → new.tallies ≡ old.tallies → new.book ≡ old.book → new.injected ≡ old.injected → new.arrived ≡ old.arrived ++ record { log = log; event = n; key = key } ∷ []
+    → Holds old p → Holds new (with_accepted (numbered log n (arrived_from from bytes acts)) p)
+arrived_so p old new log n from bytes acts key e is hosts tallies book injects more h =
+    subst (λ b. Holds new (with_accepted (numbered log n (if b then record { from = from; bytes = bytes } ∷ [] else [])) p)) (sym e)
+    (arrival_held p old new (record { log = log; event = n; key = key }) (record { from = from; bytes = bytes }) h is hosts tallies book injects more)
 
 -- a frame more that was sent
 pub sent_held : (p : Past) (old new : Reckoning) (x c : Crossing) → Holds old p → x ≡ c → Changes one_sent x old.tallies new.tallies
@@ -239,6 +254,17 @@ pub all_reads : (s : NodeState) (es : List LogEvent) (i : ℕ) → length es ≤
 all_reads s es i l r = subst (EntriesRead s) (take_all i es l) r
 
 -- ---- logs
+
+-- nothing so far
+pub nothing_held : (r : Reckoning) → r.hosts ≡ [] → ((c : Crossing) → tally_in c r.tallies ≡ no_frames) → r.arrived ≡ [] → ((f : Family) → counts_in f r.book ≡ no_sums) → r.injected ≡ [] → Holds r nothing
+unfolding injected
+nothing_held r hosts tallies arrived book injects = record {
+  hosts = hosts;
+  sent = tallies;
+  accepted = ap arrivals_of arrived;
+  counts = λ f. book f ∙ no_counts f;
+  injected = injects;
+}
 
 logs_more : (links : Cables) (k : ℕ) (ls : List Logged) (l : Logged) (p : Past) → with_logs links k (ls ++ l ∷ []) p ≡ with_log links (k + length ls + 1) l (with_logs links k ls p)
 logs_more links k [] l p = let e : k + 1 ≡ k + 0 + 1 = omega arith in ap (λ n. with_log links n l p) e

@@ -4,7 +4,7 @@ use Rattle.std.specs.Prelude.{unwrap_or}
 use Rattle.std.specs.Str.{bytes_eq}
 use Rattle.std.specs.Map.{lookup, KeepsOthers}
 use Rattle.ledger_audit.specs.Crossings.{Crossing, same_end, same_crossing, times}
-use Rattle.ledger_audit.proofs.Multisets.{crossing_is, crossing_self}
+use Rattle.ledger_audit.proofs.Multisets.{crossing_is}
 use Rattle.fleet_audit.specs.declared.keys.EndKey.{EndKey}
 use Rattle.fleet_audit.specs.declared.keys.CrossingKey.{CrossingKey}
 use Rattle.fleet_audit.specs.declared.tally.Tally.{Tally}
@@ -34,14 +34,14 @@ key_test a b = by a.from b.from
 -- what a look-up by the key finds
 pub own_tally : (key : CrossingKey) (es : Entries) (o : Option Tally) → o ≡ lookup (same_key key) es → unwrap_or o none ≡ tally_of (crossing_of key) es
 unfolding tally_of
-own_tally key es o h = ap (λ p. unwrap_or p none) (h ∙ ap (λ f. lookup f es) (own_test crossing_of same_crossing crossing_is crossing_self same_key key_test key))
+own_tally key es o h = ap (λ p. unwrap_or p none) (h ∙ ap (λ f. lookup f es) (own_test crossing_of same_crossing crossing_is same_key key_test key))
 
 -- what is found once a key has a new value
 pub set_changes : (key : CrossingKey) (w : Tally) (old new : Entries) (c : Crossing) → lookup (same_key key) new ≡ Some w → KeepsOthers same_key (same_key key) old new
     → tally_of c new ≡ (if same_crossing c (crossing_of key) then w else tally_of c old)
 unfolding tally_of
 set_changes key w old new c here others =
-    ap (λ o. unwrap_or o none) (found_after crossing_of same_crossing crossing_is crossing_self same_key key_test key w old new c here others)
+    ap (λ o. unwrap_or o none) (found_after crossing_of same_crossing crossing_is same_key key_test key w old new c here others)
     ∙ by (same_crossing c (crossing_of key)) (lookup (λ k. same_crossing c (crossing_of k)) old)
   where
     by : (b : Bool) (o : Option Tally) → unwrap_or (cond b (Some w) o) none ≡ (if b then w else unwrap_or o none)

@@ -1,11 +1,12 @@
 -- What is answered of all logs.
-use Rattle.std.proofs.Common.{◌≡◌, ℕ, ◌+◌, ◌<◌, ◌≤◌, Bool, true, false, cond, List, [], ◌∷◌, ◌++◌, map, length, take, drop, get_or, Option, Some, None, refl, sym, ap, subst, ◌∙◌, arith, append_assoc, append-nil}
+use Rattle.std.proofs.Common.{◌≡◌, ◌≢◌, ◌↔◌, ℕ, ◌+◌, ◌<◌, ◌≤◌, Bool, true, false, cond, List, [], ◌∷◌, ◌++◌, map, length, take, drop, get_or, Option, Some, None, refl, sym, ap, subst, ◌∙◌, arith, append_assoc, append-nil}
 use Rattle.std.specs.Prelude.{◌-◌, sum_by, ◌==◌}
 use Rattle.std.specs.List.{filter, flat_map, AllByRecursion}
 use Rattle.std.proofs.lemmas.Grind.{take_at_read, flat_map-append}
 use Rattle.std.proofs.lemmas.List.{take_all, map-append, length-map, length-take-le}
 use Rattle.std.proofs.lemmas.List.Elements.{filter-append}
 use Rattle.std.proofs.lemmas.List.Sums.{sum_by-cons}
+use Rattle.std.proofs.lemmas.Bool.{eq-eqb, ne_eqb}
 use Rattle.plan_base.specs.declared.ids.Host.{Host}
 use Rattle.plan_base.specs.declared.ids.Family.{Family}
 use Rattle.network_plan.specs.declared.node.Log.{Log}
@@ -18,11 +19,11 @@ use Rattle.node_laws.proofs.CountLaws.{act_sum-append}
 use Rattle.serve_model.specs.Runs.{acts_of, node_by}
 use Rattle.world_model.specs.World.{Cables}
 use Rattle.bound_ledger.specs.declared.row.Row.{Row}
-use Rattle.ledger_audit.specs.Crossings.{Crossing, Arrival, Over, first_over}
+use Rattle.ledger_audit.specs.Crossings.{Crossing, Arrival, Over, first_over, crossings, AtMost}
 use Rattle.ledger_audit.specs.Runs.{accepts, sends, numbered, accepted_in, sent_in, acts_in}
 use Rattle.ledger_audit.specs.Audits.{Logged, all_accepted, all_sent, misfit, granted, hops, evals, left, queued, on_the_way, row_of, AddsUp}
 use Rattle.ledger_audit.specs.Spelling.{Begins, ReadsAgain}
-use Rattle.ledger_audit.proofs.Multisets.{verdict_only}
+use Rattle.ledger_audit.proofs.Multisets.{verdict_only, verdict_always}
 use Rattle.ledger_audit.proofs.Balances.{adds_up}
 use Rattle.fleet_audit.specs.declared.book.Book.{Book}
 use Rattle.fleet_audit.specs.declared.judging.Over as code
@@ -80,7 +81,7 @@ sums_are c (l ∷ ls) =
     omega (arith, act_sum-append c (acts_in l.node l.entries) (all_acts ls), sums_are c ls, sum_by-cons (λ x. act_sum c (acts_in x.node x.entries)) l ls)
 
 module _ (links : Cables) (ls : List Logged) (r : Reckoning) (k : IsReckoned links ls r) where
-  hosts_are : r.hosts ≡ hosts_of ls
+  pub hosts_are : r.hosts ≡ hosts_of ls
   hosts_are = k.holds.hosts ∙ ap (λ p. p.hosts) (whole_is links ls)
 
   sent_are : Tallied (all_sent ls) [] r.tallies
@@ -136,11 +137,11 @@ module _ (links : Cables) (ls : List Logged) (r : Reckoning) (k : IsReckoned lin
 
 -- ---- the answer
 
-pub answers_no : (links : Cables) (ls : List Logged) (log event accepted sent : ℕ) → Some (record { log = log; event = event; accepted = accepted; sent = sent }) ≡ misfit links ls
+pub answers_no : (links : Cables) (ls : List Logged) (log event accepted sent : ℕ) → ◌≡◌ {A = Option Over} (Some (record { log = log; event = event; accepted = accepted; sent = sent })) (misfit links ls)
     → No log event accepted sent ≡ verdict_of links ls
 answers_no links ls log event accepted sent e = ap (λ o. verdict_by o (ledger_of links ls)) e
 
-pub answers_yes : (links : Cables) (ls : List Logged) (rows : List (Family × Row)) → None ≡ misfit links ls → rows ≡ ledger_of links ls → Yes rows ≡ verdict_of links ls
+pub answers_yes : (links : Cables) (ls : List Logged) (rows : List (Family × Row)) → ◌≡◌ {A = Option Over} None (misfit links ls) → rows ≡ ledger_of links ls → Yes rows ≡ verdict_of links ls
 answers_yes links ls rows e is = ap Yes is ∙ ap (λ o. verdict_by o (ledger_of links ls)) e
 
 -- logs fit where the answer says so
@@ -150,6 +151,14 @@ yes_fits links ls v e y = by (misfit links ls) (subst IsYes e y)
     by : (o : Option Over) → IsYes (verdict_by o (ledger_of links ls)) → o ≡ None
     by None h = refl
     by (Some o) h = absurd h
+
+-- and they fit exactly where each frame was accepted at most as often as it was sent
+pub yes_sent : (links : Cables) (ls : List Logged) → IsYes (verdict_of links ls) ↔ AtMost (crossings (all_accepted links 0 ls)) (all_sent ls)
+unfolding misfit
+yes_sent links ls = (
+  λ y k. omega (arith, verdict_only (all_sent ls) [] (all_accepted links 0 ls) (yes_fits links ls (verdict_of links ls) refl y) (λ d. omega arith) k),
+  λ h. subst (λ o. IsYes (verdict_by o (ledger_of links ls))) (sym (verdict_always (all_sent ls) [] (all_accepted links 0 ls) (λ k. omega (arith, h k)))) tt,
+)
 
 -- ---- rows, one family and one host after the other
 
@@ -164,11 +173,16 @@ module _ {Y : Type 0} (g : Family → Y) (h : Host) (fs : List Family) (i : ℕ)
   all : old ++ map g (filter (is_from h) (take (i + 1) fs)) ≡ mid ++ map g (filter (is_from h) (f ∷ []))
   all = ap (λ t. old ++ t) here ∙ sym (append_assoc old (map g (filter (is_from h) (take i fs))) (map g (filter (is_from h) (f ∷ [])))) ∙ ap (λ t. t ++ map g (filter (is_from h) (f ∷ []))) (sym before)
 
-  pub row_put : (new : List Y) → is_from h f ≡ true → new ≡ mid ++ g f ∷ [] → new ≡ old ++ map g (filter (is_from h) (take (i + 1) fs))
-  row_put new t e = e ∙ ap (λ b. mid ++ map g (cond b (f ∷ []) [])) (sym t) ∙ sym all
+  pub row_next : (new : List Y) → new ≡ mid ++ map g (filter (is_from h) (f ∷ [])) → new ≡ old ++ map g (filter (is_from h) (take (i + 1) fs))
+  row_next new e = e ∙ sym all
 
-  pub row_left : is_from h f ≡ false → mid ≡ old ++ map g (filter (is_from h) (take (i + 1) fs))
-  row_left t = sym (append-nil mid) ∙ ap (λ b. mid ++ map g (cond b (f ∷ []) [])) (sym t) ∙ sym all
+-- a family of another host has no row there
+pub row_apart : {Y : Type 0} (g : Family → Y) (h : Host) (f : Family) (rows : List Y) → f.source.0 ≢ h.0 → rows ≡ rows ++ map g (filter (is_from h) (f ∷ []))
+row_apart g h f rows n = sym (append-nil rows) ∙ ap (λ b. rows ++ map g (cond b (f ∷ []) [])) (sym (ne_eqb f.source.0 h.0 n))
+
+-- one of this host has
+pub row_own : {Y : Type 0} (g : Family → Y) (h : Host) (f : Family) (rows new : List Y) → f.source.0 ≡ h.0 → new ≡ rows ++ g f ∷ [] → new ≡ rows ++ map g (filter (is_from h) (f ∷ []))
+row_own g h f rows new n e = e ∙ ap (λ b. rows ++ map g (cond b (f ∷ []) [])) (sym (eq-eqb f.source.0 h.0 n))
 
 pub rows_put : {Y : Type 0} (g : Family → Y) (h : Host) (fs : List Family) (i : ℕ) (old new : List Y) → length fs ≤ i → new ≡ old ++ map g (filter (is_from h) (take i fs)) → new ≡ old ++ map g (filter (is_from h) fs)
 rows_put g h fs i old new l e = e ∙ ap (λ t. old ++ map g (filter (is_from h) t)) (take_all i fs l)

@@ -7,7 +7,7 @@ use crate::keys::FamilyKey;
 use indexmap::IndexMap;
 use node_model::Act;
 use plan_base::{Family, NoMemory};
-use std::alloc::Global;
+use std::alloc::{AllocError, Global};
 
 /// What a family was granted, what it paid, and what it left.
 #[derive(Clone, Copy, PartialEq, Eq)]
@@ -110,13 +110,11 @@ impl Book {
     }
 
     /// Puts counts in the place of those that a family has.
-    fn set(&mut self, f: Family, counts: Counts) -> Result<(), NoMemory>
+    fn set(&mut self, f: Family, counts: Counts) -> Result<(), AllocError>
         ensures { OnOk result (IsSet f counts self.old self.new) }
     {
-        match self.rows.insert(FamilyKey::of(f), counts) {
-            Ok(_) => Ok(()),
-            Err(_) => Err(NoMemory),
-        }
+        self.rows.insert(FamilyKey::of(f), counts)?;
+        Ok(())
     }
 
     /// Adds to the counts of a family. A sum that has no place in 64 bits, which no 16 logs reach, is answered as want of
@@ -127,7 +125,8 @@ impl Book {
         let Some(counts) = self.of(f).plus(more) else {
             return Err(NoMemory);
         };
-        self.set(f, counts)
+        self.set(f, counts)?;
+        Ok(())
     }
 
     /// Adds what an act counts.

@@ -6,6 +6,7 @@ mod book;
 mod ends;
 mod judging;
 mod keys;
+mod laws;
 mod reckoning;
 mod tally;
 mod text;
@@ -13,6 +14,7 @@ mod verdict;
 
 pub use book::{Book, Counts};
 pub use keys::{CrossingKey, EndKey, FamilyKey};
+pub use laws::yes_is_sent;
 pub use reckoning::{Arrived, Mark, Reckoning, nothing_reckoned, reckon_log};
 pub use tally::{Tallies, Tally};
 pub use text::verdict_text;

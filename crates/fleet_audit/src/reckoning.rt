@@ -121,6 +121,7 @@ fn is_accepted(acts: &[Act]) -> bool
 }
 
 /// Adds a frame that arrived from an end, where its acts don't refuse it.
+#[tactic(auto, using(crate::proofs::PastLaws::arrived_not))]
 fn reckon_arrival(
     alloc: Global,
     mark: Mark,

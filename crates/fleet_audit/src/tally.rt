@@ -1,4 +1,4 @@
-ghost use Rattle.std.specs.Prelude.{◌≡◌, IfOk, OnOk};
+ghost use Rattle.std.specs.Prelude.{◌≡◌, IfOk, IfSome, OnOk};
 ghost use Rattle.ledger_audit.specs.Crossings.{Crossing};
 ghost use Rattle.fleet_audit.specs.Keys.{crossing_of};
 ghost use Rattle.fleet_audit.specs.Tallies as spec;
@@ -7,7 +7,7 @@ ghost use Rattle.fleet_audit.specs.Tallies.{tally_in, Changes};
 use crate::keys::CrossingKey;
 use indexmap::IndexMap;
 use plan_base::NoMemory;
-use std::alloc::Global;
+use std::alloc::{AllocError, Global};
 
 /// How often a frame was sent and accepted.
 #[derive(Clone, Copy, PartialEq, Eq)]
@@ -16,6 +16,24 @@ pub struct Tally {
     pub sent: u32,
     /// How often it was accepted.
     pub accepted: u32,
+}
+
+impl Tally {
+    /// Once more sent, or `None` where the count has no place in 32 bits.
+    fn one_sent(self) -> Option<Tally>
+        ensures { IfSome result (λ t. t ≡ spec.one_sent self) }
+    {
+        let sent = self.sent.checked_add(1)?;
+        Some(Tally { sent, ..self })
+    }
+
+    /// Once more accepted, or `None` where the count has no place in 32 bits.
+    fn one_accepted(self) -> Option<Tally>
+        ensures { IfSome result (λ t. t ≡ spec.one_accepted self) }
+    {
+        let accepted = self.accepted.checked_add(1)?;
+        Some(Tally { accepted, ..self })
+    }
 }
 
 /// How often each frame was sent and accepted.
@@ -48,24 +66,22 @@ impl Tallies {
     }
 
     /// Puts counts in the place of those that a frame has.
-    fn set(&mut self, key: CrossingKey, tally: Tally) -> Result<(), NoMemory>
+    fn set(&mut self, key: CrossingKey, tally: Tally) -> Result<(), AllocError>
         ensures { OnOk result (Changes (λ t. tally) (crossing_of key) self.old self.new) }
     {
-        match self.rows.insert(key, tally) {
-            Ok(_) => Ok(()),
-            Err(_) => Err(NoMemory),
-        }
+        self.rows.insert(key, tally)?;
+        Ok(())
     }
 
     /// Counts a frame as sent. A count that has no place in 32 bits, which no 16 logs reach, is answered as want of memory.
     pub fn send(&mut self, key: CrossingKey) -> Result<(), NoMemory>
         ensures { OnOk result (Changes spec.one_sent (crossing_of key) self.old self.new) }
     {
-        let old = self.of(&key);
-        let Some(sent) = old.sent.checked_add(1) else {
+        let Some(new) = self.of(&key).one_sent() else {
             return Err(NoMemory);
         };
-        self.set(key, Tally { sent, ..old })
+        self.set(key, new)?;
+        Ok(())
     }
 
     /// Counts a frame as accepted, and answers its counts. A count that has no place in 32 bits, which no 16 logs reach, is
@@ -74,11 +90,9 @@ impl Tallies {
         ensures tally { IfOk result (λ t. t ≡ spec.one_accepted (tally_in (crossing_of key) self.old)) }
         ensures after { OnOk result (Changes spec.one_accepted (crossing_of key) self.old self.new) }
     {
-        let old = self.of(&key);
-        let Some(accepted) = old.accepted.checked_add(1) else {
+        let Some(new) = self.of(&key).one_accepted() else {
             return Err(NoMemory);
         };
-        let new = Tally { accepted, ..old };
         self.set(key, new)?;
         Ok(new)
     }

@@ -1,4 +1,4 @@
-ghost use Rattle.std.specs.Prelude.{◌≡◌, ◌++◌, ◌≤◌, List, [], map, length, IfOk, OnOk};
+ghost use Rattle.std.specs.Prelude.{◌≡◌, ◌∷◌, ◌++◌, ◌≤◌, List, [], map, length, IfOk, OnOk};
 ghost use Rattle.std.specs.List.{All, filter};
 ghost use Rattle.plan_base.specs.declared.ids.Family.{Family as FamilyOf};
 ghost use Rattle.dv_routing.specs.Sorted.{sorted_into};
@@ -16,7 +16,7 @@ use crate::reckoning::{Reckoning, nothing_reckoned, reckon_log};
 use audit_files::AuditFile;
 use bound_ledger::Row;
 use dv_routing::sorted_hosts;
-use network_plan::Log;
+use network_plan::{Link, Log};
 use plan_base::{Family, Host, NoMemory};
 use plan_items::Items;
 use std::alloc::Global;
@@ -59,6 +59,25 @@ fn counted_row(counts: Counts) -> Row
     }
 }
 
+/// Adds the row of a family, where it was injected at a host.
+#[tactic(auto, using(crate::proofs::VerdictLaws::row_apart, crate::proofs::VerdictLaws::row_own))]
+fn add_row(
+    book: &Book,
+    host: Host,
+    family: Family,
+    rows: &mut LedgerRows,
+) -> Result<(), NoMemory>
+    requires { (f : FamilyOf) → Pays (counts_in f book.now) }
+    ensures { OnOk result
+        (rows.new ≡ rows.old ++ map (row_in book.now) (filter (spec.is_from host) (family ∷ []))) }
+{
+    if family.source.0 != host.0 {
+        return Ok(());
+    }
+    rows.add((family, counted_row(book.of(family))))?;
+    Ok(())
+}
+
 /// Adds the rows of those families that were injected at a host.
 fn add_rows(
     book: &Book,
@@ -71,9 +90,7 @@ fn add_rows(
         (rows.new ≡ rows.old ++ map (row_in book.now) (filter (spec.is_from host) families.now)) }
 {
     for family in families {
-        if family.source.0 == host.0 {
-            rows.add((*family, counted_row(book.of(*family))))?;
-        }
+        add_row(book, host, *family, rows)?;
     }
     Ok(())
 }
@@ -138,16 +155,16 @@ pub fn judge(alloc: Global, reckoning: Reckoning) -> Result<Verdict, NoMemory>
 }
 
 /// Adds logs, in order.
-fn reckon_logs(alloc: Global, a: &AuditFile, logs: &[Log]) -> Result<Reckoning, NoMemory>
+fn reckon_logs(alloc: Global, links: &[Link], logs: &[Log]) -> Result<Reckoning, NoMemory>
     requires few { length logs.now ≤ 16 }
     requires rules { All KeepsLog logs.now }
-    ensures { IfOk result (IsReckoned a.now.links (map logged_of logs.now)) }
+    ensures { IfOk result (IsReckoned links.now (map logged_of logs.now)) }
 {
     let mut reckoning = nothing_reckoned(alloc);
     let mut number = 0;
     for log in logs {
         number += 1;
-        reckon_log(alloc, a.links.as_slice(), number, log, &mut reckoning)?;
+        reckon_log(alloc, links, number, log, &mut reckoning)?;
     }
     Ok(reckoning)
 }
@@ -164,6 +181,6 @@ pub fn audit(alloc: Global, a: &AuditFile, logs: &Logs) -> Result<Verdict, NoMem
     ensures ledger { IfOk result (λ v. IsYes v
         → (f : FamilyOf) → AddsUp f a.now.links (map logged_of logs.now)) }
 {
-    let reckoning = reckon_logs(alloc, a, logs.as_slice())?;
+    let reckoning = reckon_logs(alloc, a.links.as_slice(), logs.as_slice())?;
     judge(alloc, reckoning)
 }
