@@ -20,14 +20,15 @@ use Rattle.run_commands.specs.Schedules.{replay_said}
 use Rattle.fleet_run.specs.Asks.{ask_line}
 use Rattle.cut_files.specs.Texts.{cut_output}
 use Rattle.message_commands.specs.Messages.{cut_said, gather_said, messages_text}
+use Rattle.audit_commands.specs.Audits.{audit_said}
 use Rattle.live_commands.specs.Asks.{AsksAs, ask_said}
 use Rattle.live_commands.specs.Fleets.{RunsAs, fleet_said}
 use Rattle.live_commands.specs.Nodes.{ServesAs, config_said}
-use Rattle.planet_cli.specs.Requests.{Request, replay, check, show, inject, fleet, node, grow, cut, gather}
+use Rattle.planet_cli.specs.Requests.{Request, replay, check, show, inject, fleet, node, grow, cut, gather, audit}
 use Rattle.planet_cli.specs.Does.{Does, wire_in, shop_in, serving_in}
 use Rattle.planet_cli.specs.Outcomes.{Outcome, unasked, missing, refused, whole, runs, outcome_by, outcome_of, IsWhole, IsAccepted, WritesOut, BeginsOut}
 use Rattle.planet_cli.specs.Laws.{WhereInjected}
-use Rattle.planet_cli.proofs.Views.{Took, took, left, view}
+use Rattle.planet_cli.proofs.Views.{Took, took, left, view, audit_view}
 use Rattle.planet_cli.proofs.Acting.{Acting, printing, asking, running, serving, growing}
 
 -- a refusal is the file's own and what the file says, and leaves the output; what the file refuses is refused; it is done only where
@@ -201,3 +202,4 @@ ends (Some (grow seed n)) c old new d = apart_ends (IsTrue old.files.observable)
 ends (Some (cut file)) c old new d = texts_end cut_output (cut_said file) old.files new.files old.out new.out c (view (cut_said file) (PrintsBy cut_output) file old.files new.files c old.out new.out d.1)
 ends (Some (gather port file)) c old new d =
     texts_end (messages_text port) (gather_said file) old.files new.files old.out new.out c (view (gather_said file) (PrintsBy (messages_text port)) file old.files new.files c old.out new.out d.1)
+ends (Some (audit file)) c old new d = prints_end (audit_said file) old.files new.files old.out new.out c (audit_view file old.files new.files c old.out new.out d.1)

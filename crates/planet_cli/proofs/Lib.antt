@@ -8,6 +8,7 @@ pub mod Explaining
 pub mod Frames
 pub mod Writing
 pub mod Headline
+pub mod Auditing
 pub mod Keeping
 pub mod NodeKeeping
 pub mod Showing

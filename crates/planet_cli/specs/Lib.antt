@@ -4,5 +4,6 @@ pub mod Does
 pub mod Calls
 pub mod Replays
 pub mod Gathers
+pub mod Audited
 pub mod Outcomes
 pub mod Laws

@@ -10,10 +10,11 @@ use Rattle.file_commands.specs.Shows.{show_said}
 use Rattle.run_commands.specs.Schedules.{replay_said}
 use Rattle.cut_files.specs.Texts.{cut_output}
 use Rattle.message_commands.specs.Messages.{cut_said, gather_said, messages_text}
+use Rattle.audit_commands.specs.Audits.{audit_said}
 use Rattle.live_commands.specs.Asks.{ask_said}
 use Rattle.live_commands.specs.Fleets.{fleet_said}
 use Rattle.live_commands.specs.Nodes.{config_said}
-use Rattle.planet_cli.specs.Requests.{Request, replay, check, show, inject, fleet, node, grow, cut, gather}
+use Rattle.planet_cli.specs.Requests.{Request, replay, check, show, inject, fleet, node, grow, cut, gather, audit}
 
 -- no command, a file that is missing, a file that is refused, the whole output, or a command that runs, whose output is defined apart
 pub data Outcome : Type 0 where
@@ -36,6 +37,7 @@ outcome_of (Some (check file)) files = outcome_by whole (check_said file files)
 outcome_of (Some (show file)) files = outcome_by whole (show_said file files)
 outcome_of (Some (cut file)) files = outcome_by (λ m. whole (cut_output m)) (cut_said file files)
 outcome_of (Some (gather port file)) files = outcome_by (λ l. whole (messages_text port l)) (gather_said file files)
+outcome_of (Some (audit file)) files = outcome_by whole (audit_said file files)
 outcome_of (Some (inject file)) files = outcome_by (λ a. whole (ask_line a)) (ask_said file files)
 outcome_of (Some (fleet file)) files = outcome_by (λ f. runs) (fleet_said file files)
 outcome_of (Some (node file turns)) files = outcome_by (λ cfg. runs) (config_said file files)

@@ -27,6 +27,8 @@ pub enum Command<'a> {
     Cut(&'a str),
     /// `gather PORT FILE`
     Gather(u16, &'a str),
+    /// `audit FILE`
+    Audit(&'a str),
 }
 
 fn is(word: &[u8], name: &[u8]) -> bool
@@ -57,6 +59,9 @@ fn command_on<'a>(name: &[u8], file: &'a str) -> Option<Command<'a>>
     }
     if is(name, b"cut") {
         return Some(Command::Cut(file));
+    }
+    if is(name, b"audit") {
+        return Some(Command::Audit(file));
     }
     None
 }
