@@ -14,7 +14,7 @@ use Rattle.fleet_audit.specs.Pasts.{arrival_of, arrivals_of}
 use Rattle.fleet_audit.proofs.TallyLaws.{tallied_seen}
 
 -- the crossings of frames, the last one first, before those that were seen
-seen_by : List Arrived → List Crossing → List Crossing
+abbrev pub seen_by : List Arrived → List Crossing → List Crossing
 seen_by [] s = s
 seen_by (a ∷ more) s = seen_by more (crossing_of a.key ∷ s)
 

@@ -69,7 +69,7 @@ act_held a p old new h counted hosts tallies arrived o is more = record {
   sent = λ c. ap (tally_in c) tallies ∙ h.sent c;
   accepted = ap arrivals_of arrived ∙ h.accepted;
   counts = λ f. counted f ∙ ap (λ x. plus x (act_counts f a)) (h.counts f) ∙ sym (counts_push f p.acts a);
-  injected = more ∙ ap (λ x. old.injected ++ cons_option x []) is ∙ ap (λ l. l ++ cons_option (injected_by a) []) h.injected ∙ sym (injected_push p.acts a);
+  families = more ∙ ap (λ x. old.injected ++ cons_option x []) is ∙ ap (λ l. l ++ cons_option (injected_by a) []) h.families ∙ sym (injected_push p.acts a);
 }
 
 -- a past with the same acts
@@ -125,7 +125,7 @@ arrival_held p old new a c h is hosts tallies book injects more = record {
   accepted = ap arrivals_of more ∙ map-append arrival_of old.arrived (a ∷ []) ∙ ap (λ l. l ++ arrival_of a ∷ []) h.accepted
       ∙ (λ i. p.accepted ++ record { log = a.log; event = a.event; crossing = is i } ∷ []);
   counts = λ f. ap (counts_in f) book ∙ h.counts f;
-  injected = injects ∙ h.injected;
+  families = injects ∙ h.families;
 }
 
 -- bytes that the acts refuse are no frame more
@@ -149,7 +149,7 @@ sent_held p old new x c h is changes hosts arrived book injects = record {
   sent = tallied_sent p.sent c old.tallies new.tallies h.sent (subst (λ y. Changes one_sent y old.tallies new.tallies) is changes);
   accepted = ap arrivals_of arrived ∙ h.accepted;
   counts = λ f. ap (counts_in f) book ∙ h.counts f;
-  injected = injects ∙ h.injected;
+  families = injects ∙ h.families;
 }
 
 -- ---- frames that are read again
@@ -263,7 +263,7 @@ nothing_held r hosts tallies arrived book injects = record {
   sent = tallies;
   accepted = ap arrivals_of arrived;
   counts = λ f. book f ∙ no_counts f;
-  injected = injects;
+  families = injects;
 }
 
 logs_more : (links : Cables) (k : ℕ) (ls : List Logged) (l : Logged) (p : Past) → with_logs links k (ls ++ l ∷ []) p ≡ with_log links (k + length ls + 1) l (with_logs links k ls p)
@@ -282,7 +282,7 @@ host_held p old new h k hosts tallies arrived book injects = record {
   sent = λ c. ap (tally_in c) tallies ∙ k.sent c;
   accepted = ap arrivals_of arrived ∙ k.accepted;
   counts = λ f. ap (counts_in f) book ∙ k.counts f;
-  injected = injects ∙ k.injected;
+  families = injects ∙ k.families;
 }
 
 begins : (c : NodeConfig) (s : ServiceState) (es : List LogEvent) → Begins (record { node = new_node c s; entries = es })

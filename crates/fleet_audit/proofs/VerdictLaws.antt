@@ -94,7 +94,7 @@ module _ (links : Cables) (ls : List Logged) (r : Reckoning) (k : IsReckoned lin
   counts_are f = k.holds.counts f ∙ ap (λ p. acts_counts f p.acts) (whole_is links ls)
 
   injected_are : r.injected ≡ injected (all_acts ls)
-  injected_are = k.holds.injected ∙ ap (λ p. injected p.acts) (whole_is links ls)
+  injected_are = k.holds.families ∙ ap (λ p. injected p.acts) (whole_is links ls)
 
   -- the frame that doesn't fit
   pub misfit_is : (o : Option code.Over) → ((sent : List Crossing) → Tallied sent [] r.tallies → over_in o ≡ first_over sent [] (arrivals_of r.arrived)) → over_in o ≡ misfit links ls

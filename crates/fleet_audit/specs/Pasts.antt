@@ -119,7 +119,7 @@ pub record Holds (r : Reckoning) (p : Past) : Type 0 where
   pub sent : Tallied p.sent [] r.tallies
   pub accepted : arrivals_of r.arrived ≡ p.accepted
   pub counts : (f : Family) → counts_in f r.book ≡ acts_counts f p.acts
-  pub injected : r.injected ≡ injected p.acts
+  pub families : r.injected ≡ injected p.acts
 
 -- the code keeps this of logs, in order, each of which begins with nothing queued and whose frames are read again
 pub record IsReckoned (links : Cables) (ls : List Logged) (r : Reckoning) : Type 0 where

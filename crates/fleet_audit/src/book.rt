@@ -52,33 +52,27 @@ impl Counts {
     }
 }
 
+/// Counts of an act.
+fn counts(granted: u32, hops: u32, evals: u32, left: u32) -> Counts
+    ensures { result ≡ record { granted = granted; hops = hops; evals = evals; left = left } }
+{
+    Counts {
+        granted: u64::from(granted),
+        hops: u64::from(hops),
+        evals: u64::from(evals),
+        left: u64::from(left),
+    }
+}
+
 /// The family for which an act counts, if there is one, and what.
 fn act_row(act: &Act) -> Option<(Family, Counts)>
     ensures { result ≡ spec.act_row act.now }
 {
-    let none = Counts::none();
     match act {
-        Act::Injected(family, bound) => {
-            let granted = u64::from(*bound);
-            Some((*family, Counts { granted, ..none }))
-        }
-        Act::Queued(_, family, _) => Some((*family, Counts { hops: 1, ..none })),
-        Act::Ended(family, _, evals, rest) => {
-            let evals = u64::from(*evals);
-            let left = u64::from(*rest);
-            Some((
-                *family,
-                Counts {
-                    evals,
-                    left,
-                    ..none
-                },
-            ))
-        }
-        Act::Dropped(_, family, bound) => {
-            let left = u64::from(*bound);
-            Some((*family, Counts { left, ..none }))
-        }
+        Act::Injected(family, bound) => Some((*family, counts(*bound, 0, 0, 0))),
+        Act::Queued(_, family, _) => Some((*family, counts(0, 1, 0, 0))),
+        Act::Ended(family, _, evals, rest) => Some((*family, counts(0, 0, *evals, *rest))),
+        Act::Dropped(_, family, bound) => Some((*family, counts(0, 0, 0, *bound))),
         _ => None,
     }
 }

@@ -160,7 +160,8 @@ fn reckon_taken(
     };
     let end = LinkEnd { host: here, dev };
     let key = CrossingKey::of(alloc, Some(end), frame.bytes())?;
-    reckoning.tallies.send(key)
+    reckoning.tallies.send(key)?;
+    Ok(())
 }
 
 /// Adds the frame that an event accepted or took.
@@ -182,14 +183,19 @@ fn reckon_frames(
     match event {
         Event::Frame(dev, bytes) => {
             let from = far_end(links, here, *dev);
-            reckon_arrival(alloc, mark, from, bytes.as_slice(), acts.list.as_slice(), reckoning)
+            reckon_arrival(alloc, mark, from, bytes.as_slice(), acts.list.as_slice(), reckoning)?;
+            Ok(())
         }
-        Event::Take(dev) => reckon_taken(alloc, here, *dev, &acts.frame, reckoning),
+        Event::Take(dev) => {
+            reckon_taken(alloc, here, *dev, &acts.frame, reckoning)?;
+            Ok(())
+        }
         _ => Ok(()),
     }
 }
 
 /// Makes a step again, and adds what it sent, accepted and did.
+#[tactic(auto, using(log_replay::proofs::Within::comes_as))]
 fn reckon_event<S: Services>(
     alloc: Global,
     links: &[Link],
@@ -211,10 +217,12 @@ fn reckon_event<S: Services>(
     let here = node.here();
     let acts = node.step(alloc, event)?;
     reckon_acts(acts.list.as_slice(), reckoning)?;
-    reckon_frames(alloc, links, mark, here, event, &acts, reckoning)
+    reckon_frames(alloc, links, mark, here, event, &acts, reckoning)?;
+    Ok(())
 }
 
 /// Makes an entry again, and adds what it sent, accepted and did.
+#[tactic(auto, using(crate::proofs::PastLaws::lost_held))]
 fn reckon_entry<S: Services>(
     alloc: Global,
     links: &[Link],
@@ -233,7 +241,10 @@ fn reckon_entry<S: Services>(
 {
     match entry {
         LogEvent::Step(event) => reckon_event(alloc, links, mark, node, event, reckoning),
-        LogEvent::Lost => reckon_act(&Act::NoMemory, reckoning),
+        LogEvent::Lost => {
+            reckon_act(&Act::NoMemory, reckoning)?;
+            Ok(())
+        }
     }
 }
 
@@ -276,6 +287,7 @@ pub fn nothing_reckoned(alloc: Global) -> Reckoning
 
 /// Makes the steps of a log again, from its node's beginning, and adds what they sent, accepted and did. The number is that
 /// of the log, from 1. Condition: the log keeps its rules.
+#[tactic(auto, using(crate::proofs::PastLaws::new_rests))]
 pub fn reckon_log(
     alloc: Global,
     links: &[Link],
