@@ -41,12 +41,7 @@ fn print_answer<K: Sink>(alloc: Global, reckoning: Reckoning, out: &mut K) -> Ca
 }
 
 /// Reads the logs that a file names, and writes what is answered of them.
-fn audit_read<F: Files, K: Sink>(
-    alloc: Global,
-    files: &mut F,
-    a: &AuditFile,
-    out: &mut K,
-) -> Cause
+fn audit_read<F: Files, K: Sink>(alloc: Global, files: &mut F, a: &AuditFile, out: &mut K) -> Cause
     requires { KeepsAudit a.now }
     ensures { AuditsRead a.now (F.state files.old) (F.state files.new) result
         (K.state out.old) (K.state out.new) }
@@ -58,12 +53,7 @@ fn audit_read<F: Files, K: Sink>(
 }
 
 /// `audit FILE`: whether the logs that the file names fit together, and if so the ledger of the whole fleet.
-pub fn on_audit<F: Files, K: Sink>(
-    alloc: Global,
-    files: &mut F,
-    name: &str,
-    out: &mut K,
-) -> Cause
+pub fn on_audit<F: Files, K: Sink>(alloc: Global, files: &mut F, name: &str, out: &mut K) -> Cause
     ensures { AuditsFile name.now (F.state files.old) (F.state files.new) result
         (K.state out.old) (K.state out.new) }
 {

@@ -47,9 +47,9 @@ entries_are links log n s [] p = λ i. past p.hosts (sym (append-nil p.sent) i) 
 entries_are links log n s (e ∷ es) p =
     entries_are links log (n + 1) (node_by s e) es (with_entry links log (n + 1) s e p)
     ∙ (λ i. past p.hosts
-        (append_assoc p.sent (sends s e) (sent_in (node_by s e) es) i)
-        (append_assoc p.accepted (numbered log (n + 1) (accepts links s e)) (accepted_in links log (n + 1) (node_by s e) es) i)
-        (append_assoc p.acts (acts_of s e) (acts_in (node_by s e) es) i))
+    (append_assoc p.sent (sends s e) (sent_in (node_by s e) es) i)
+    (append_assoc p.accepted (numbered log (n + 1) (accepts links s e)) (accepted_in links log (n + 1) (node_by s e) es) i)
+    (append_assoc p.acts (acts_of s e) (acts_in (node_by s e) es) i))
 
 logs_are : (links : Cables) (k : ℕ) (ls : List Logged) (p : Past)
     → with_logs links k ls p ≡ past (p.hosts ++ hosts_of ls) (p.sent ++ all_sent ls) (p.accepted ++ all_accepted links k ls) (p.acts ++ all_acts ls)
@@ -57,12 +57,12 @@ logs_are links k [] p = λ i. past (sym (append-nil p.hosts) i) (sym (append-nil
 logs_are links k (l ∷ ls) p =
     logs_are links (k + 1) ls (with_log links (k + 1) l p)
     ∙ ap (λ q. past ((q.hosts ++ l.node.here ∷ []) ++ hosts_of ls) (q.sent ++ all_sent ls) (q.accepted ++ all_accepted links (k + 1) ls) (q.acts ++ all_acts ls))
-        (entries_are links (k + 1) 0 l.node l.entries p)
+    (entries_are links (k + 1) 0 l.node l.entries p)
     ∙ (λ i. past
-        (append_assoc p.hosts (l.node.here ∷ []) (hosts_of ls) i)
-        (append_assoc p.sent (sent_in l.node l.entries) (all_sent ls) i)
-        (append_assoc p.accepted (accepted_in links (k + 1) 0 l.node l.entries) (all_accepted links (k + 1) ls) i)
-        (append_assoc p.acts (acts_in l.node l.entries) (all_acts ls) i))
+    (append_assoc p.hosts (l.node.here ∷ []) (hosts_of ls) i)
+    (append_assoc p.sent (sent_in l.node l.entries) (all_sent ls) i)
+    (append_assoc p.accepted (accepted_in links (k + 1) 0 l.node l.entries) (all_accepted links (k + 1) ls) i)
+    (append_assoc p.acts (acts_in l.node l.entries) (all_acts ls) i))
 
 abbrev whole : Cables → List Logged → Past
 whole links ls = past (hosts_of ls) (all_sent ls) (all_accepted links 0 ls) (all_acts ls)

@@ -183,7 +183,14 @@ fn reckon_frames(
     match event {
         Event::Frame(dev, bytes) => {
             let from = far_end(links, here, *dev);
-            reckon_arrival(alloc, mark, from, bytes.as_slice(), acts.list.as_slice(), reckoning)?;
+            reckon_arrival(
+                alloc,
+                mark,
+                from,
+                bytes.as_slice(),
+                acts.list.as_slice(),
+                reckoning,
+            )?;
             Ok(())
         }
         Event::Take(dev) => {
@@ -301,7 +308,14 @@ pub fn reckon_log(
 {
     let services = Registry::new(alloc, log.missing.as_slice());
     let mut node = begin_node(alloc, &log.node, services)?;
-    reckon_entries(alloc, links, number, &mut node, log.events.as_slice(), reckoning)?;
+    reckon_entries(
+        alloc,
+        links,
+        number,
+        &mut node,
+        log.events.as_slice(),
+        reckoning,
+    )?;
     reckoning.hosts.add(log.node.here)?;
     Ok(())
 }

@@ -43,13 +43,7 @@ fn put_rows(out: &mut Bytes, rows: &[(Family, Row)]) -> Result<(), NoMemory>
 
 /// The frame that doesn't fit.
 #[tactic(auto, unfolding(crate::specs::Texts::no_text))]
-fn put_no(
-    out: &mut Bytes,
-    log: u32,
-    event: u32,
-    accepted: u32,
-    sent: u32,
-) -> Result<(), NoMemory>
+fn put_no(out: &mut Bytes, log: u32, event: u32, accepted: u32, sent: u32) -> Result<(), NoMemory>
     ensures { OnOk result (out.new ≡ out.old ++ spec.no_text log event accepted sent) }
 {
     put_count(out, b"no log ", u64::from(log))?;

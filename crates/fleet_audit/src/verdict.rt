@@ -61,12 +61,7 @@ fn counted_row(counts: Counts) -> Row
 
 /// Adds the row of a family, where it was injected at a host.
 #[tactic(auto, using(crate::proofs::VerdictLaws::row_apart, crate::proofs::VerdictLaws::row_own))]
-fn add_row(
-    book: &Book,
-    host: Host,
-    family: Family,
-    rows: &mut LedgerRows,
-) -> Result<(), NoMemory>
+fn add_row(book: &Book, host: Host, family: Family, rows: &mut LedgerRows) -> Result<(), NoMemory>
     requires { (f : FamilyOf) → Pays (counts_in f book.now) }
     ensures { OnOk result
         (rows.new ≡ rows.old ++ map (row_in book.now) (filter (spec.is_from host) (family ∷ []))) }

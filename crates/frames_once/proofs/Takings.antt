@@ -93,8 +93,8 @@ module _ (before : List ℕ) (d : Dev) (s : NodeState) (f : FitsAt before d.0 s.
       is_new : (l : Lane) → slice_get (slice_set s.queues e.0 (record { frames = queue; number = n })) d.0 ≡ Some l → ◌≡◌ {A = Lane} (record { frames = queue; number = n }) l
       is_new l h =
           let e : ◌≡◌ {A = Option Lane} (Some (record { frames = queue; number = n })) (Some l) =
-              sym (get_set_same s.queues e.0 (record { frames = x ∷ queue; number = n }) (record { frames = queue; number = n }) there)
-              ∙ ap (slice_get (slice_set s.queues e.0 (record { frames = queue; number = n }))) is ∙ h in
+          sym (get_set_same s.queues e.0 (record { frames = x ∷ queue; number = n }) (record { frames = queue; number = n }) there)
+          ∙ ap (slice_get (slice_set s.queues e.0 (record { frames = queue; number = n }))) is ∙ h in
           cc
 
   -- from another one
