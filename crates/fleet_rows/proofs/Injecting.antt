@@ -187,16 +187,16 @@ data Gives (s : NodeState) (acts : List Act) (serial : ℕ) : Type 0 where
   gives_none : injected acts ≡ [] → serial ≡ s.serial → Gives s acts serial
   gives_one : injected acts ≡ record { source = s.here; serial = s.serial } ∷ [] → serial ≡ s.serial + 1 → Gives s acts serial
 
+one_injected : (f : Family) (bound : ℕ) → injected (Injected f bound ∷ []) ≡ f ∷ []
+unfolding injected
+one_injected f bound = refl
+
 inject_gives : (acts : List Act) (s : NodeState) (chunk : Chunk) (bound : ℕ) (o : Option Name) → Quiet acts → Gives s (inject_step acts s chunk bound o).acts (inject_step acts s chunk bound o).node.serial
 unfolding inject_step
 inject_gives acts s chunk bound o q = by (s.serial == 18446744073709551615)
   where
     act : Act
     act = Injected (record { source = s.here; serial = s.serial }) bound
-
-    one : injected (act ∷ []) ≡ record { source = s.here; serial = s.serial } ∷ []
-    unfolding injected
-    one = refl
 
     made : Stepped
     made = visited (acts ++ act ∷ []) (next_serial s) (injected_packet s chunk bound o)
@@ -205,7 +205,7 @@ inject_gives acts s chunk bound o q = by (s.serial == 18446744073709551615)
     by true = gives_none (quiet_both acts (SerialsSpent ∷ []) q (quiet_more SerialsSpent [] refl quiet_none)) refl
     by false =
         gives_one
-        (visited_gives (acts ++ act ∷ []) (next_serial s) (injected_packet s chunk bound o) ∙ append_is acts (act ∷ []) ∙ (λ i. q i ++ one i))
+        (visited_gives (acts ++ act ∷ []) (next_serial s) (injected_packet s chunk bound o) ∙ append_is acts (act ∷ []) ∙ (λ i. q i ++ one_injected (record { source = s.here; serial = s.serial }) bound i))
         (visited_stays (acts ++ act ∷ []) (next_serial s) (injected_packet s chunk bound o)).serial
 
 control_gives : (s : NodeState) (bytes : List ℕ) → Gives s (control_step s bytes).acts (control_step s bytes).node.serial
