@@ -6,7 +6,7 @@ ghost use Rattle.fleet_audit.specs.Ledgers.{verdict_of};
 ghost use Rattle.fleet_audit.specs.Texts.{audit_text};
 ghost use Rattle.audit_files.specs.AuditRules.{KeepsAudit};
 ghost use Rattle.file_commands.specs.Renders.{Prints};
-ghost use Rattle.audit_commands.specs.Audits.{AuditsFile, AuditsRead};
+ghost use Rattle.audit_commands.specs.Audits.{AuditsFile, AuditsRead, TakesLogs};
 
 use crate::logs::reckon_logs;
 use audit_files::AuditFile;
@@ -40,13 +40,21 @@ fn print_answer<K: Sink>(alloc: Global, reckoning: Reckoning, out: &mut K) -> Ca
     }
 }
 
+/// Reads the logs that a file names, and makes their steps again.
+fn take_logs<F: Files>(alloc: Global, files: &mut F, a: &AuditFile) -> Result<Reckoning, Cause>
+    requires { KeepsAudit a.now }
+    ensures { TakesLogs a.now.links a.now.logs (F.state files.old) (F.state files.new) result }
+{
+    reckon_logs(alloc, files, a.links.as_slice(), a.logs.as_slice())
+}
+
 /// Reads the logs that a file names, and writes what is answered of them.
 fn audit_read<F: Files, K: Sink>(alloc: Global, files: &mut F, a: &AuditFile, out: &mut K) -> Cause
     requires { KeepsAudit a.now }
     ensures { AuditsRead a.now (F.state files.old) (F.state files.new) result
         (K.state out.old) (K.state out.new) }
 {
-    match reckon_logs(alloc, files, a.links.as_slice(), a.logs.as_slice()) {
+    match take_logs(alloc, files, a) {
         Ok(reckoning) => print_answer(alloc, reckoning, out),
         Err(cause) => cause,
     }
