@@ -96,27 +96,27 @@ among_same hs a b e = ap (λ n. list_any (λ h. h.0 == n) hs) e
 
 part_order : (g : Host) (ls : List Logged) → HostsDiffer (hosts_of ls) → InOrder (filter (is_from g) (families_in ls))
 part_order g [] d = subst InOrder (sym (ap (filter (is_from g)) no_families)) tt
-part_order g (l ∷ ls) d = subst InOrder (sym (part_cons g l ls)) (by (l.node.here.0 == g.0) refl)
+part_order g (l ∷ ls) d = subst InOrder (sym (part_cons g l ls)) (by (part_order g ls d.1) (l.node.here.0 == g.0) refl)
   where
-    by : (t : Bool) → (l.node.here.0 == g.0) ≡ t → InOrder (filter (is_from g) (of_log l) ++ filter (is_from g) (families_in ls))
-    by true t =
+    by : InOrder (filter (is_from g) (families_in ls)) → (t : Bool) → (l.node.here.0 == g.0) ≡ t → InOrder (filter (is_from g) (of_log l) ++ filter (is_from g) (families_in ls))
+    by rest true t =
         let same : l.node.here.0 ≡ g.0 = eqb-true l.node.here.0 g.0 t in
         let own = own_part l.node.here l.node.serial (of_log l) (rises l) g same in
         let none = strange_part g ls (among_same (hosts_of ls) g l.node.here (sym same) ∙ d.0) in
         subst InOrder (sym ((λ i. own i ++ none i) ∙ append-nil (of_log l))) (rising_order l.node.here l.node.serial (of_log l) (rises l))
-    by false t =
+    by rest false t =
         let none = other_part l.node.here l.node.serial (of_log l) (rises l) g (eqb-false l.node.here.0 g.0 t) in
-        subst InOrder (sym (ap (λ x. x ++ filter (is_from g) (families_in ls)) none)) (part_order g ls d.1)
+        subst InOrder (sym (ap (λ x. x ++ filter (is_from g) (families_in ls)) none)) rest
 
 -- ---- host by host
 
 part_from : (g : Host) (fs : List Family) → AllByRecursion (λ f. f.source.0 ≡ g.0) (filter (is_from g) fs)
 part_from g [] = tt
-part_from g (f ∷ fs) = by (f.source.0 == g.0) refl
+part_from g (f ∷ fs) = by (part_from g fs) (f.source.0 == g.0) refl
   where
-    by : (t : Bool) → (f.source.0 == g.0) ≡ t → AllByRecursion (λ x. x.source.0 ≡ g.0) (cond t (f ∷ filter (is_from g) fs) (filter (is_from g) fs))
-    by true t = (eqb-true f.source.0 g.0 t, part_from g fs)
-    by false t = part_from g fs
+    by : AllByRecursion (λ x. x.source.0 ≡ g.0) (filter (is_from g) fs) → (t : Bool) → (f.source.0 == g.0) ≡ t → AllByRecursion (λ x. x.source.0 ≡ g.0) (cond t (f ∷ filter (is_from g) fs) (filter (is_from g) fs))
+    by rest true t = (eqb-true f.source.0 g.0 t, rest)
+    by rest false t = rest
 
 abbrev Above : Option ℕ → Family → Type 0
 Above before f = IsTrue (is_above before f.source.0)
@@ -163,19 +163,19 @@ in_either f (x ∷ xs) ys i = elim i [ inl e ↦ inl (inl e) | inr j ↦ elim (i
 
 in_part : (f : Family) (g : Host) (fs : List Family) → f.source.0 ≡ g.0 → IsIn f fs → IsIn f (filter (is_from g) fs)
 in_part f g [] e i = i
-in_part f g (x ∷ fs) e i = by (x.source.0 == g.0) refl
+in_part f g (x ∷ fs) e i = by (λ j. in_part f g fs e j) (x.source.0 == g.0) refl
   where
-    by : (t : Bool) → (x.source.0 == g.0) ≡ t → IsIn f (cond t (x ∷ filter (is_from g) fs) (filter (is_from g) fs))
-    by true t = elim i [ inl same ↦ inl same | inr j ↦ inr (in_part f g fs e j) ]
-    by false t = elim i [ inl same ↦ absurd (eqb-false x.source.0 g.0 t (ap (λ y. y.source.0) (sym same) ∙ e)) | inr j ↦ in_part f g fs e j ]
+    by : (IsIn f fs → IsIn f (filter (is_from g) fs)) → (t : Bool) → (x.source.0 == g.0) ≡ t → IsIn f (cond t (x ∷ filter (is_from g) fs) (filter (is_from g) fs))
+    by rest true t = elim i [ inl same ↦ inl same | inr j ↦ inr (rest j) ]
+    by rest false t = elim i [ inl same ↦ absurd (eqb-false x.source.0 g.0 t (ap (λ y. y.source.0) (sym same) ∙ e)) | inr j ↦ rest j ]
 
 of_part : (f : Family) (g : Host) (fs : List Family) → IsIn f (filter (is_from g) fs) → IsIn f fs
 of_part f g [] i = i
-of_part f g (x ∷ fs) i = by (is_from g x) i
+of_part f g (x ∷ fs) i = by (λ j. of_part f g fs j) (is_from g x) i
   where
-    by : (t : Bool) → IsIn f (cond t (x ∷ filter (is_from g) fs) (filter (is_from g) fs)) → IsIn f (x ∷ fs)
-    by true j = elim j [ inl e ↦ inl e | inr k ↦ inr (of_part f g fs k) ]
-    by false j = inr (of_part f g fs j)
+    by : (IsIn f (filter (is_from g) fs) → IsIn f fs) → (t : Bool) → IsIn f (cond t (x ∷ filter (is_from g) fs) (filter (is_from g) fs)) → IsIn f (x ∷ fs)
+    by rest true j = elim j [ inl e ↦ inl e | inr k ↦ inr (rest k) ]
+    by rest false j = inr (rest j)
 
 of_hosts : (f : Family) (hosts : List Host) (fs : List Family) → IsIn f (by_hosts hosts fs) → IsIn f fs
 of_hosts f [] fs i = absurd i
@@ -183,11 +183,11 @@ of_hosts f (h ∷ hosts) fs i = elim (in_either f (filter (is_from h) fs) (by_ho
 
 in_hosts : (f : Family) (hosts : List Host) (fs : List Family) → is_among hosts f.source ≡ true → IsIn f fs → IsIn f (by_hosts hosts fs)
 in_hosts f [] fs a i = absurd (true≢false (sym a))
-in_hosts f (h ∷ hosts) fs a i = by (h.0 == f.source.0) refl a
+in_hosts f (h ∷ hosts) fs a i = by (λ b. in_hosts f hosts fs b i) (h.0 == f.source.0) refl a
   where
-    by : (t : Bool) → (h.0 == f.source.0) ≡ t → (t || is_among hosts f.source) ≡ true → IsIn f (filter (is_from h) fs ++ by_hosts hosts fs)
-    by true t b = in_left f (filter (is_from h) fs) (by_hosts hosts fs) (in_part f h fs (sym (eqb-true h.0 f.source.0 t)) i)
-    by false t b = in_right f (filter (is_from h) fs) (by_hosts hosts fs) (in_hosts f hosts fs b i)
+    by : (is_among hosts f.source ≡ true → IsIn f (by_hosts hosts fs)) → (t : Bool) → (h.0 == f.source.0) ≡ t → (t || is_among hosts f.source) ≡ true → IsIn f (filter (is_from h) fs ++ by_hosts hosts fs)
+    by rest true t b = in_left f (filter (is_from h) fs) (by_hosts hosts fs) (in_part f h fs (sym (eqb-true h.0 f.source.0 t)) i)
+    by rest false t b = in_right f (filter (is_from h) fs) (by_hosts hosts fs) (rest b)
 
 source_is : (f : Family) (h : Host) (n : ℕ) (fs : List Family) → Rising h n fs → IsIn f fs → f.source ≡ h
 source_is f h n [] r i = absurd i
@@ -196,17 +196,15 @@ source_is f h n (x ∷ fs) r i = elim i [ inl e ↦ ap (λ y. y.source) e ∙ r.
 -- a family that is injected is of the host of a log
 known : (f : Family) (ls : List Logged) → IsIn f (families_in ls) → is_among (hosts_of ls) f.source ≡ true
 known f [] i = absurd (subst (IsIn f) no_families i)
-known f (l ∷ ls) i = elim (in_either f (of_log l) (families_in ls) (subst (IsIn f) (families_cons l ls) i)) [ inl a ↦ own a | inr b ↦ later b ]
+known f (l ∷ ls) i = by (λ b. known f ls b) (in_either f (of_log l) (families_in ls) (subst (IsIn f) (families_cons l ls) i))
   where
-    own : IsIn f (of_log l) → ((l.node.here.0 == f.source.0) || is_among (hosts_of ls) f.source) ≡ true
-    own a = ap (λ t. t || is_among (hosts_of ls) f.source) (eq-eqb l.node.here.0 f.source.0 (ap (λ h. h.0) (sym (source_is f l.node.here l.node.serial (of_log l) (rises l) a))))
+    or_true : (a c : Bool) → c ≡ true → (a || c) ≡ true
+    or_true true c e = refl
+    or_true false c e = e
 
-    later : IsIn f (families_in ls) → ((l.node.here.0 == f.source.0) || is_among (hosts_of ls) f.source) ≡ true
-    later b = or_true (l.node.here.0 == f.source.0) (is_among (hosts_of ls) f.source) (known f ls b)
-      where
-        or_true : (a c : Bool) → c ≡ true → (a || c) ≡ true
-        or_true true c e = refl
-        or_true false c e = e
+    by : (IsIn f (families_in ls) → is_among (hosts_of ls) f.source ≡ true) → IsIn f (of_log l) ⊎ IsIn f (families_in ls) → ((l.node.here.0 == f.source.0) || is_among (hosts_of ls) f.source) ≡ true
+    by rest (inl a) = ap (λ t. t || is_among (hosts_of ls) f.source) (eq-eqb l.node.here.0 f.source.0 (ap (λ h. h.0) (sym (source_is f l.node.here l.node.serial (of_log l) (rises l) a))))
+    by rest (inr b) = or_true (l.node.here.0 == f.source.0) (is_among (hosts_of ls) f.source) (rest b)
 
 pub same_families : (ls : List Logged) (f : Family) → IsIn f (families_of ls) ↔ IsIn f (injected (all_acts ls))
 unfolding families_of

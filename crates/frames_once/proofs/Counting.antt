@@ -31,11 +31,12 @@ all_right P (x ∷ xs) ys a = all_right P xs ys (All-tail P x (xs ++ ys) a)
 none_behind : (bytes : List ℕ) (x : PlainStamped) (stamp : Stamp) (xs : List PlainStamped) → x.stamp ≡ Some stamp → bytes ≡ stamped_bytes x → Reads x → AllByRecursion Reads xs
     → All (λ m. stamp.link < m) (numbers_in xs) → count bytes xs ≡ 0
 none_behind bytes x stamp [] e is r rs a = refl
-none_behind bytes x stamp (y ∷ xs) e is r rs a = by (bytes_eq bytes (stamped_bytes y)) refl
+none_behind bytes x stamp (y ∷ xs) e is r rs a =
+    by (none_behind bytes x stamp xs e is r rs.1 (all_right (λ m. stamp.link < m) (link_in y.stamp) (numbers_in xs) a)) (bytes_eq bytes (stamped_bytes y)) refl
   where
-    by : (t : Bool) → bytes_eq bytes (stamped_bytes y) ≡ t → (if t then suc (count bytes xs) else count bytes xs) ≡ 0
-    by false t = none_behind bytes x stamp xs e is r rs.1 (all_right (λ m. stamp.link < m) (link_in y.stamp) (numbers_in xs) a)
-    by true t =
+    by : count bytes xs ≡ 0 → (t : Bool) → bytes_eq bytes (stamped_bytes y) ≡ t → (if t then suc (count bytes xs) else count bytes xs) ≡ 0
+    by z false t = z
+    by z true t =
         let b : stamped_bytes x ≡ stamped_bytes y = sym is ∙ (bytes_eq-Decides bytes (stamped_bytes y)).0 t in
         let s : y.stamp ≡ Some stamp = sym (ap (λ z. z.stamp) (same_frame x y r rs.0 b)) ∙ e in
         let l : All (λ m. stamp.link < m) (stamp.link ∷ numbers_in xs) = subst (λ o. All (λ m. stamp.link < m) (link_in o ++ numbers_in xs)) s a in
@@ -45,10 +46,10 @@ pub counted_once : (bytes : List ℕ) (xs : List PlainStamped) → AllByRecursio
 counted_once bytes [] s r a = omega arith
 counted_once bytes (x ∷ xs) s r a =
     let b : Ascend (s.0.0.link ∷ numbers_in xs) = subst (λ o. Ascend (link_in o ++ numbers_in xs)) s.0.1 a in
-    by (bytes_eq bytes (stamped_bytes x)) refl b
+    by (counted_once bytes xs s.1 r.1 b.1) (bytes_eq bytes (stamped_bytes x)) refl b
   where
-    by : (t : Bool) → bytes_eq bytes (stamped_bytes x) ≡ t → Ascend (s.0.0.link ∷ numbers_in xs) → (if t then suc (count bytes xs) else count bytes xs) ≤ 1
-    by true t b =
+    by : count bytes xs ≤ 1 → (t : Bool) → bytes_eq bytes (stamped_bytes x) ≡ t → Ascend (s.0.0.link ∷ numbers_in xs) → (if t then suc (count bytes xs) else count bytes xs) ≤ 1
+    by k true t b =
         let z = none_behind bytes x s.0.0 xs s.0.1 ((bytes_eq-Decides bytes (stamped_bytes x)).0 t) r.0 r.1 b.0 in
         omega (arith, z)
-    by false t b = counted_once bytes xs s.1 r.1 b.1
+    by k false t b = k

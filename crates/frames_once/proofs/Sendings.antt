@@ -153,15 +153,15 @@ module _ (c : Crossing) (h : Host) (d : Dev) (from : c.from ≡ end h d) where
 
   logs_once : (ls : List Logged) → AllByRecursion IsOfTwo ls → HostsApart ls → times c (all_sent ls) ≤ 1
   logs_once [] k a = omega arith
-  logs_once (l ∷ ls) k a = by (l.node.here.0 == h.0) refl
+  logs_once (l ∷ ls) k a = by k.0 a.0 (logs_once ls k.1 a.1) (l.node.here.0 == h.0) refl
     where
-      by : (t : Bool) → (l.node.here.0 == h.0) ≡ t → times c (sent_in l.node l.entries ++ all_sent ls) ≤ 1
-      by true t =
-          let rest = none_sent c ls (all_elsewhere l.node.here.0 ls (eqb-true l.node.here.0 h.0 t) a.0) in
-          omega (arith, times-append c (sent_in l.node l.entries) (all_sent ls), log_once c h d from l k.0, rest)
-      by false t =
+      by : IsOfTwo l → AllByRecursion (λ m. m.node.here.0 ≢ l.node.here.0) ls → times c (all_sent ls) ≤ 1 → (t : Bool) → (l.node.here.0 == h.0) ≡ t → times c (sent_in l.node l.entries ++ all_sent ls) ≤ 1
+      by is others m true t =
+          let rest = none_sent c ls (all_elsewhere l.node.here.0 ls (eqb-true l.node.here.0 h.0 t) others) in
+          omega (arith, times-append c (sent_in l.node l.entries) (all_sent ls), log_once c h d from l is, rest)
+      by is others m false t =
           let here = elsewhere l (eqb-false l.node.here.0 h.0 t) in
-          omega (arith, times-append c (sent_in l.node l.entries) (all_sent ls), here, logs_once ls k.1 a.1)
+          omega (arith, times-append c (sent_in l.node l.entries) (all_sent ls), here, m)
 
 -- what comes from no end was sent by nobody
 from_nobody : (c : Crossing) → c.from ≡ None → (ls : List Logged) → AllByRecursion (λ m. times c (sent_in m.node m.entries) ≡ 0) ls
