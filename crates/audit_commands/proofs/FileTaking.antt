@@ -107,7 +107,7 @@ module _ (links : Cables) (all : List (List ℕ)) (i : ℕ) (n : ℕ) (name : Li
     only = reads_both old mid new k.only t.only;
     asked = grew t.asked;
     kept = subst (λ ls. IsReckoned links ls kept) (sym (map-append logged_of k.logs (l ∷ [])))
-        (adds (map logged_of k.logs) k.kept (omega (arith, length-map logged_of k.logs, k.count, number)));
+        (adds (map logged_of k.logs) k.kept (omega (arith, length-map k.logs logged_of, k.count, number)));
     said = λ seen. next_said seen ∙ ap (λ s. said_then s (λ x. logs_said (drop (i + 1) all) (k.logs ++ x ∷ []) old.held)) (t.did (seen_too seen));
   }
 

@@ -37,10 +37,10 @@ pub judging_none : (sent : List Crossing) (all : List Arrived) (t : Tallies) →
 judging_none sent all t h = record { counted = h; same = refl }
 
 module _ (sent : List Crossing) (all : List Arrived) (i : ℕ) (a : Arrived) (old new : Tallies) (l : i < length all) (is : a ≡ get_or all i a) (j : Judging sent all i old) (t : Tally) where
-  now : List Crossing
+  abbrev pub now : List Crossing
   now = seen (take i all)
 
-  c : Crossing
+  abbrev pub c : Crossing
   c = crossing_of a.key
 
   left : drop i all ≡ a ∷ drop (i + 1) all

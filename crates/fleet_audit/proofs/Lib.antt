@@ -4,3 +4,4 @@ pub mod ActLaws
 pub mod PastLaws
 pub mod JudgeLaws
 pub mod VerdictLaws
+pub mod TextLaws

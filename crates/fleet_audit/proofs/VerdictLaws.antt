@@ -165,9 +165,9 @@ yes_sent links ls = (
 pub no_rows : {X : Type 0} (rows : List X) → rows ≡ rows ++ []
 no_rows rows = sym (append-nil rows)
 
-module _ {Y : Type 0} (g : Family → Y) (h : Host) (fs : List Family) (i : ℕ) (f : Family) (l : i < length fs) (is : f ≡ get_or fs i f) (old mid : List Y) (before : mid ≡ old ++ map g (filter (is_from h) (take i fs))) where
+module _ {Y : Type 0} (g : Family → Y) (h : Host) (fs : List Family) (i : ℕ) (d f : Family) (l : i < length fs) (is : f ≡ get_or fs i d) (old mid : List Y) (before : mid ≡ old ++ map g (filter (is_from h) (take i fs))) where
   here : map g (filter (is_from h) (take (i + 1) fs)) ≡ map g (filter (is_from h) (take i fs)) ++ map g (filter (is_from h) (f ∷ []))
-  here = ap (λ t. map g (filter (is_from h) t)) ((take_at_read fs i f l).1 ∙ ap (λ b. take i fs ++ b ∷ []) (sym is))
+  here = ap (λ t. map g (filter (is_from h) t)) ((take_at_read fs i d l).1 ∙ ap (λ b. take i fs ++ b ∷ []) (sym is))
       ∙ ap (map g) (filter-append (is_from h) (take i fs) (f ∷ [])) ∙ map-append g (filter (is_from h) (take i fs)) (filter (is_from h) (f ∷ []))
 
   all : old ++ map g (filter (is_from h) (take (i + 1) fs)) ≡ mid ++ map g (filter (is_from h) (f ∷ []))
@@ -187,13 +187,13 @@ row_own g h f rows new n e = e ∙ ap (λ b. rows ++ map g (cond b (f ∷ []) []
 pub rows_put : {Y : Type 0} (g : Family → Y) (h : Host) (fs : List Family) (i : ℕ) (old new : List Y) → length fs ≤ i → new ≡ old ++ map g (filter (is_from h) (take i fs)) → new ≡ old ++ map g (filter (is_from h) fs)
 rows_put g h fs i old new l e = e ∙ ap (λ t. old ++ map g (filter (is_from h) t)) (take_all i fs l)
 
-pub host_put : {Y : Type 0} (g : Family → Y) (fs : List Family) (hosts : List Host) (i : ℕ) (h : Host) (mid new : List Y) → i < length hosts → h ≡ get_or hosts i h
+pub host_put : {Y : Type 0} (g : Family → Y) (fs : List Family) (hosts : List Host) (i : ℕ) (d h : Host) (mid new : List Y) → i < length hosts → h ≡ get_or hosts i d
     → mid ≡ map g (by_hosts (take i hosts) fs) → new ≡ mid ++ map g (filter (is_from h) fs) → new ≡ map g (by_hosts (take (i + 1) hosts) fs)
-host_put g fs hosts i h mid new l is before e =
+host_put g fs hosts i d h mid new l is before e =
     e ∙ ap (λ t. t ++ map g (filter (is_from h) fs)) before ∙ sym (map-append g (by_hosts (take i hosts) fs) (filter (is_from h) fs))
     ∙ ap (λ t. map g (by_hosts (take i hosts) fs ++ t)) (sym (append-nil (filter (is_from h) fs)))
     ∙ ap (map g) (sym (flat_map-append (λ x. filter (is_from x) fs) (take i hosts) (h ∷ [])))
-    ∙ ap (λ t. map g (by_hosts t fs)) (ap (λ b. take i hosts ++ b ∷ []) is ∙ sym (take_at_read hosts i h l).1)
+    ∙ ap (λ t. map g (by_hosts t fs)) (ap (λ b. take i hosts ++ b ∷ []) is ∙ sym (take_at_read hosts i d l).1)
 
 pub hosts_put : {Y : Type 0} (g : Family → Y) (fs : List Family) (hosts : List Host) (i : ℕ) (new : List Y) → length hosts ≤ i → new ≡ map g (by_hosts (take i hosts) fs) → new ≡ map g (by_hosts hosts fs)
 hosts_put g fs hosts i new l e = e ∙ ap (λ t. map g (by_hosts t fs)) (take_all i hosts l)
@@ -213,7 +213,7 @@ pub all_logs : (links : Cables) (logs : List Log) (i : ℕ) (r : Reckoning) → 
 all_logs links logs i r l k = subst (λ ls. IsReckoned links (map logged_of ls) r) (take_all i logs l) k
 
 counted : (logs : List Log) (i : ℕ) → i < length logs → length (map logged_of (take i logs)) + 1 ≡ i + 1
-counted logs i l = omega (arith, length-map logged_of (take i logs), length-take-le i logs (omega (arith, l)))
+counted logs i l = omega (arith, length-map (take i logs) logged_of, length-take-le i logs (omega (arith, l)))
 
 pub log_number : (logs : List Log) (i n : ℕ) → i < length logs → n ≡ i + 1 → length (map logged_of (take i logs)) + 1 ≡ n
 log_number logs i n l e = counted logs i l ∙ sym e

@@ -1,5 +1,5 @@
-ghost use Rattle.std.specs.Prelude.{◌≡◌, ◌+◌, ◌≤◌, List, [], ◌∷◌, ◌++◌, length, OnOk};
-ghost use Rattle.std.specs.List.{All};
+ghost use Rattle.std.specs.Prelude.{◌≡◌, ◌+◌, ◌≤◌, List, [], ◌∷◌, ◌++◌, length, Some, OnOk};
+ghost use Rattle.std.specs.List.{All, list_any};
 ghost use Rattle.network_plan.specs.NodeRules.{KeepsEntry, KeepsNodeEvent, KeepsLog};
 ghost use Rattle.network_plan.specs.declared.event.LogEvent.TheVariants.{Step};
 ghost use Rattle.node_model.specs.State.{NodeState};
@@ -113,11 +113,18 @@ fn is_refusal(act: &Act) -> bool
     }
 }
 
+/// Whether one of these acts refuses the frame that arrived.
+fn is_refused(acts: &[Act]) -> bool
+    ensures { result ≡ list_any runs.is_refusal acts.now }
+{
+    acts.iter().any(|act| is_refusal(act))
+}
+
 /// Whether an arrival with these acts was accepted.
 fn is_accepted(acts: &[Act]) -> bool
     ensures { result ≡ runs.is_accepted acts.now }
 {
-    !acts.iter().any(|act| is_refusal(act))
+    !is_refused(acts)
 }
 
 /// Adds a frame that arrived from an end, where its acts don't refuse it.
@@ -143,7 +150,26 @@ fn reckon_arrival(
     Ok(())
 }
 
+/// Adds a frame that was taken off a queue.
+fn reckon_sent(
+    alloc: Global,
+    here: Host,
+    dev: Dev,
+    frame: &SpelledFrame,
+    reckoning: &mut Reckoning,
+) -> Result<(), NoMemory>
+    ensures holds { (p : Past) → Holds reckoning.old p
+        → OnOk result (Holds reckoning.new (spec.with_sent (runs.sends_frame here dev (Some frame.now)) p)) }
+    ensures reads { OnOk result (FrameReads (Some frame.now)) }
+{
+    let end = LinkEnd { host: here, dev };
+    let key = CrossingKey::of(alloc, Some(end), frame.bytes())?;
+    reckoning.tallies.send(key)?;
+    Ok(())
+}
+
 /// Adds a frame that was taken off a queue, where one was.
+#[tactic(auto, using(crate::proofs::PastLaws::no_taking))]
 fn reckon_taken(
     alloc: Global,
     here: Host,
@@ -155,13 +181,10 @@ fn reckon_taken(
         → OnOk result (Holds reckoning.new (spec.with_sent (runs.sends_frame here dev frame.now) p)) }
     ensures reads { OnOk result (FrameReads frame.now) }
 {
-    let Some(frame) = frame else {
-        return Ok(());
-    };
-    let end = LinkEnd { host: here, dev };
-    let key = CrossingKey::of(alloc, Some(end), frame.bytes())?;
-    reckoning.tallies.send(key)?;
-    Ok(())
+    match frame {
+        Some(frame) => reckon_sent(alloc, here, dev, frame, reckoning),
+        None => Ok(()),
+    }
 }
 
 /// Adds the frame that an event accepted or took.

@@ -4,15 +4,18 @@ ghost use Rattle.plan_base.specs.declared.ids.Family.{Family as FamilyOf};
 ghost use Rattle.dv_routing.specs.Sorted.{sorted_into};
 ghost use Rattle.network_plan.specs.NodeRules.{KeepsLog};
 ghost use Rattle.world_model.specs.World.{Cables};
+ghost use Rattle.ledger_audit.specs.Crossings.{Crossing, first_over};
 ghost use Rattle.ledger_audit.specs.Audits.{Logged, AddsUp};
+ghost use Rattle.fleet_audit.specs.Tallies.{Tallied};
 ghost use Rattle.fleet_audit.specs.Books.{counts_in};
-ghost use Rattle.fleet_audit.specs.Pasts.{IsReckoned, IsReckoning, logged_of};
+ghost use Rattle.fleet_audit.specs.Pasts.{IsReckoned, IsReckoning, arrivals_of, logged_of};
 ghost use Rattle.fleet_audit.specs.Ledgers as spec;
-ghost use Rattle.fleet_audit.specs.Ledgers.{Pays, row_in, by_hosts, verdict_of, IsYes};
+ghost use Rattle.fleet_audit.specs.Ledgers.{Pays, over_in, row_in, by_hosts, verdict_of, IsYes};
 
 use crate::book::{Book, Counts};
-use crate::judging::first_over_of;
-use crate::reckoning::{Reckoning, nothing_reckoned, reckon_log};
+use crate::judging::{Over, first_over_of};
+use crate::reckoning::{Arrived, Reckoning, nothing_reckoned, reckon_log};
+use crate::tally::Tallies;
 use audit_files::AuditFile;
 use bound_ledger::Row;
 use dv_routing::sorted_hosts;
@@ -111,15 +114,27 @@ fn rows_by(
 fn ledger_rows(
     alloc: Global,
     book: &Book,
-    hosts: &[Host],
-    families: &[Family],
+    hosts: &Items<Host>,
+    families: &Items<Family>,
 ) -> Result<LedgerRows, NoMemory>
     requires { (f : FamilyOf) → Pays (counts_in f book.now) }
     ensures { IfOk result
         (λ rows. rows ≡ map (row_in book.now) (by_hosts (sorted_into [] hosts.now) families.now)) }
 {
-    let sorted = sorted_hosts(alloc, hosts)?;
-    rows_by(alloc, book, sorted.as_slice(), families)
+    let sorted = sorted_hosts(alloc, hosts.as_slice())?;
+    rows_by(alloc, book, sorted.as_slice(), families.as_slice())
+}
+
+/// The first accepted frame that doesn't fit, in the order of acceptance.
+fn misfit_in(
+    alloc: Global,
+    tallies: &mut Tallies,
+    arrived: &Items<Arrived>,
+) -> Result<Option<Over>, NoMemory>
+    ensures { (sent : List Crossing) → Tallied sent [] tallies.old
+        → IfOk result (λ over. over_in over ≡ first_over sent [] (arrivals_of arrived.now)) }
+{
+    first_over_of(alloc, tallies, arrived.as_slice())
 }
 
 /// What the audit answers of the logs so far. Condition: they were reckoned, from nothing on.
@@ -128,14 +143,8 @@ pub fn judge(alloc: Global, reckoning: Reckoning) -> Result<Verdict, NoMemory>
     ensures { (links : Cables) (ls : List Logged) → IsReckoned links ls reckoning
         → IfOk result (λ v. v ≡ verdict_of links ls) }
 {
-    let Reckoning {
-        mut tallies,
-        arrived,
-        book,
-        injected,
-        hosts,
-    } = reckoning;
-    match first_over_of(alloc, &mut tallies, arrived.as_slice())? {
+    let mut reckoning = reckoning;
+    match misfit_in(alloc, &mut reckoning.tallies, &reckoning.arrived)? {
         Some(over) => Ok(Verdict::No {
             log: over.log,
             event: over.event,
@@ -143,7 +152,12 @@ pub fn judge(alloc: Global, reckoning: Reckoning) -> Result<Verdict, NoMemory>
             sent: over.sent,
         }),
         None => {
-            let rows = ledger_rows(alloc, &book, hosts.as_slice(), injected.as_slice())?;
+            let rows = ledger_rows(
+                alloc,
+                &reckoning.book,
+                &reckoning.hosts,
+                &reckoning.injected,
+            )?;
             Ok(Verdict::Yes(rows))
         }
     }
@@ -164,6 +178,15 @@ fn reckon_logs(alloc: Global, links: &[Link], logs: &[Log]) -> Result<Reckoning,
     Ok(reckoning)
 }
 
+/// Adds the logs of a fleet, in order.
+fn reckon_all(alloc: Global, a: &AuditFile, logs: &Logs) -> Result<Reckoning, NoMemory>
+    requires few { length logs.now ≤ 16 }
+    requires rules { All KeepsLog logs.now }
+    ensures { IfOk result (IsReckoned a.now.links (map logged_of logs.now)) }
+{
+    reckon_logs(alloc, a.links.as_slice(), logs.as_slice())
+}
+
 /// Whether the logs of a fleet fit together: whether each frame that a node accepted was sent so often by the other end of
 /// its link. Where they do, the answer has the counts of each family over all of them. Conditions: at most 16 logs, each of
 /// which keeps its rules. See `docs/audit.md`.
@@ -176,6 +199,7 @@ pub fn audit(alloc: Global, a: &AuditFile, logs: &Logs) -> Result<Verdict, NoMem
     ensures ledger { IfOk result (λ v. IsYes v
         → (f : FamilyOf) → AddsUp f a.now.links (map logged_of logs.now)) }
 {
-    let reckoning = reckon_logs(alloc, a.links.as_slice(), logs.as_slice())?;
-    judge(alloc, reckoning)
+    let reckoning = reckon_all(alloc, a, logs)?;
+    let verdict = judge(alloc, reckoning)?;
+    Ok(verdict)
 }

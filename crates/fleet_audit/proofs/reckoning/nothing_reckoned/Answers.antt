@@ -6,4 +6,4 @@ use Rattle.fleet_audit.proofs.PastLaws.{nothing_held}
 use Rattle.fleet_audit.proofs.reckoning.nothing_reckoned.Goals as goal
 
 pub returns : goal.returns
-returns c = λ links. record { holds = nothing_held _ c.new-hosts.ensures c.new.ensures c.new-arrived.ensures c.new-book.ensures c.new-injected.ensures; begin = tt; read = tt }
+returns c = λ links. record { holds = nothing_held _ c.new-5.ensures c.new.ensures c.new-2.ensures c.new-3.ensures c.new-4.ensures; begin = tt; read = tt }

@@ -6,7 +6,7 @@ use Rattle.fleet_audit.proofs.VerdictLaws.{next_log, all_logs, log_number}
 use Rattle.fleet_audit.proofs.verdict.reckon_logs.Goals as goal
 
 pub loop-log-init : goal.loop-log-init
-loop-log-init c = record { number = refl; reckoned = c.nothing_reckoned.ensures c.args.links.now }
+loop-log-init c = record { number = refl; reckoned = c.nothing_reckoned-reckoning.ensures c.args.links.now }
 
 pub reckon_log-requires : goal.reckon_log-requires
 reckon_log-requires c =
