@@ -3,6 +3,7 @@ use Rattle.std.specs.List.{All}
 use Rattle.network_plan.specs.NodeRules.{KeepsEntry}
 use Rattle.service_meaning.specs.Beginning.{opening_standing, present_without}
 use Rattle.node_model.specs.State.{new_node}
+use Rattle.service_registry.specs.contracts.registry.RegistryServices.TheImpl as service_impl
 use Rattle.node_core.specs.Stands.{version_of, NodeStands}
 use Rattle.ledger_audit.specs.Spelling.{EntriesRead}
 use Rattle.fleet_audit.specs.Pasts.{with_entries, Holds}
@@ -17,7 +18,7 @@ reckon_entries-requires-clause-keeps c =
 pub returns : goal.returns
 returns c = λ ls k n.
     let e = c.new-services.ensures ∙ ap (λ m. opening_standing (present_without m)) c.as_slice.ensures in
-    let at = subst (λ x. NodeStands _ c.in_ok-node.node (new_node c.args.log.now.node x)) e c.in_ok-node.ensures.stands in
+    let at = subst (λ x. NodeStands (service_impl.ghosts).stands c.in_ok-node.node (new_node c.args.log.now.node x)) e c.in_ok-node.ensures.stands in
     let s = opening_standing (present_without c.args.log.now.missing) in
     let node = new_node c.args.log.now.node s in
     log_reckoned c.args.links.now ls c.args.number c.args.log.now.node s c.args.log.now.events c.args.reckoning.now c.reckon_entries.new.reckoning _ k n
