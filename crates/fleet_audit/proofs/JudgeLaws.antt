@@ -62,12 +62,12 @@ module _ (sent : List Crossing) (all : List Arrived) (i : ℕ) (a : Arrived) (ol
       ∙ (λ k. Some (record { log = a.log; event = a.event; accepted = sym b k; sent = sym s k })))
 
   -- it doesn't
-  pub judging_next : t ≡ one_accepted (tally_in c old) → (t.sent < t.accepted → ⊥) → Changes one_accepted c old new → Judging sent all (i + 1) new
-  judging_next e not_less changes =
+  pub judging_next : t ≡ one_accepted (tally_in c old) → t.accepted ≤ t.sent → Changes one_accepted c old new → Judging sent all (i + 1) new
+  judging_next e no_less changes =
       let q = counts e in
       let s : t.sent ≡ times c sent = ap (λ x. x.sent) q in
       let b : t.accepted ≡ suc (times c now) = omega (arith, ap (λ x. x.accepted) q) in
-      let test : nat_lt (times c sent) (suc (times c now)) ≡ false = (let m : suc (times c now) ≤ times c sent = omega (arith, not_less, s, b) in grind (arith, nat_tests)) in
+      let test : nat_lt (times c sent) (suc (times c now)) ≡ false = (let m : suc (times c now) ≤ times c sent = omega (arith, no_less, s, b) in grind (arith, nat_tests)) in
       record {
         counted = subst (λ w. Tallied sent w new) (sym (seen_next all i a l is)) (tallied_seen sent now c old new j.counted changes);
         same = j.same ∙ ap (λ r. first_over sent now (arrivals_of r)) left
