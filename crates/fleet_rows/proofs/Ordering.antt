@@ -38,25 +38,25 @@ From h n f = (f.source ≡ h) × (n ≤ f.serial)
 
 rising_all : (h : Host) (n : ℕ) (fs : List Family) → Rising h n fs → AllByRecursion (From h n) fs
 rising_all h n [] r = tt
-rising_all h n (f ∷ fs) r = ((r.0, r.1), all_weaker (From h (suc f.serial)) (From h n) (λ g k. (k.0, omega (arith, k.1, r.1))) fs (rising_all h (suc f.serial) fs r.2))
+rising_all h n (f ∷ fs) r = ((r.0, r.1.0), all_weaker (From h (suc f.serial)) (From h n) (λ g k. (k.0, omega (arith, k.1, r.1.0))) fs (rising_all h (suc f.serial) fs r.1.1))
 
 rising_order : (h : Host) (n : ℕ) (fs : List Family) → Rising h n fs → InOrder fs
 rising_order h n [] r = tt
 rising_order h n (f ∷ fs) r =
-    (all_weaker (From h (suc f.serial)) (IsBefore f) (λ g k. inr (ap (λ x. x.0) (r.0 ∙ sym k.0), omega (arith, k.1))) fs (rising_all h (suc f.serial) fs r.2), rising_order h (suc f.serial) fs r.2)
+    (all_weaker (From h (suc f.serial)) (IsBefore f) (λ g k. inr (ap (λ x. x.0) (r.0 ∙ sym k.0), omega (arith, k.1))) fs (rising_all h (suc f.serial) fs r.1.1), rising_order h (suc f.serial) fs r.1.1)
 
 -- those of a host are all from it, and none from another
 own_part : (h : Host) (n : ℕ) (fs : List Family) → Rising h n fs → (g : Host) → h.0 ≡ g.0 → filter (is_from g) fs ≡ fs
 own_part h n [] r g e = refl
 own_part h n (f ∷ fs) r g e =
     ap (λ b. cond b (f ∷ filter (is_from g) fs) (filter (is_from g) fs)) (eq-eqb f.source.0 g.0 (ap (λ x. x.0) r.0 ∙ e))
-    ∙ ap (λ l. f ∷ l) (own_part h (suc f.serial) fs r.2 g e)
+    ∙ ap (λ l. f ∷ l) (own_part h (suc f.serial) fs r.1.1 g e)
 
 other_part : (h : Host) (n : ℕ) (fs : List Family) → Rising h n fs → (g : Host) → h.0 ≢ g.0 → filter (is_from g) fs ≡ []
 other_part h n [] r g e = refl
 other_part h n (f ∷ fs) r g e =
     ap (λ b. cond b (f ∷ filter (is_from g) fs) (filter (is_from g) fs)) (ne_eqb f.source.0 g.0 (λ q. e (sym (ap (λ x. x.0) r.0) ∙ q)))
-    ∙ other_part h (suc f.serial) fs r.2 g e
+    ∙ other_part h (suc f.serial) fs r.1.1 g e
 
 -- ---- all logs
 
@@ -191,7 +191,7 @@ in_hosts f (h ∷ hosts) fs a i = by (λ b. in_hosts f hosts fs b i) (h.0 == f.s
 
 source_is : (f : Family) (h : Host) (n : ℕ) (fs : List Family) → Rising h n fs → IsIn f fs → f.source ≡ h
 source_is f h n [] r i = absurd i
-source_is f h n (x ∷ fs) r i = elim i [ inl e ↦ ap (λ y. y.source) e ∙ r.0 | inr j ↦ source_is f h (suc x.serial) fs r.2 j ]
+source_is f h n (x ∷ fs) r i = elim i [ inl e ↦ ap (λ y. y.source) e ∙ r.0 | inr j ↦ source_is f h (suc x.serial) fs r.1.1 j ]
 
 -- a family that is injected is of the host of a log
 known : (f : Family) (ls : List Logged) → IsIn f (families_in ls) → is_among (hosts_of ls) f.source ≡ true
