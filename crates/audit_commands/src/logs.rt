@@ -2,7 +2,7 @@ ghost use Rattle.std.specs.Prelude.{◌≡◌, ◌≤◌, true, length, IfOk};
 ghost use Rattle.std.specs.List.{All};
 ghost use Rattle.network_plan.specs.NodeRules.{KeepsLog};
 ghost use Rattle.network_plan.specs.FileNames.{is_file_name};
-ghost use Rattle.network_plan.specs.Hosts as hosts;
+ghost use Rattle.network_plan.specs.Hosts as host_spec;
 ghost use Rattle.node_files.specs.Logs.{log_of};
 ghost use Rattle.file_commands.specs.Said.{lines_said};
 ghost use Rattle.file_commands.specs.Takes.{Takes};
@@ -59,7 +59,7 @@ fn read_log_of<F: Files>(
 
 /// Whether a host is in a list of hosts.
 fn is_listed(host: Host, hosts: &[Host]) -> bool
-    ensures { result ≡ hosts.is_listed host hosts.now }
+    ensures { result ≡ host_spec.is_listed host hosts.now }
 {
     hosts.iter().any(|h| h.0 == host.0)
 }
