@@ -18,7 +18,7 @@ use Rattle.packet_frame.specs.declared.fault.FrameFault.{FrameFault}
 use Rattle.packet_frame.specs.declared.fault.FrameFault.TheVariants as framing
 use Rattle.chunk_types.specs.declared.fault.Ill.{Ill}
 use Rattle.call_causes.specs.declared.status.Refusal.{Refusal}
-use Rattle.call_causes.specs.declared.status.Refusal.TheVariants.{Line, At, Frame, BadHex, TooLong}
+use Rattle.call_causes.specs.declared.status.Refusal.TheVariants.{Line, At, Frame, BadHex, TooLong, Log, LogTooLong}
 use Rattle.call_causes.specs.declared.status.Cause.{Cause}
 use Rattle.call_causes.specs.declared.status.Cause.TheVariants.{Refused, NoMemory}
 
@@ -68,6 +68,8 @@ holds_memory (At byte fault) = text_memory fault
 holds_memory (Frame fault) = frame_memory fault
 holds_memory BadHex = false
 holds_memory TooLong = false
+holds_memory (Log k n reason) = reason_memory reason
+holds_memory (LogTooLong k) = false
 
 -- a refusal for a reason of the file's own
 abbrev pub IsOwn : Refusal → Type 0

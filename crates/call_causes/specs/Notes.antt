@@ -9,7 +9,7 @@ use Rattle.packet_frame.specs.Reasons as frames
 use Rattle.call_causes.specs.declared.status.Cause.{Cause}
 use Rattle.call_causes.specs.declared.status.Cause.TheVariants.{Done, Usage, Refused, ReadFault, WriteFault, LinkFault, SpawnFault, NoMemory, NodesFailed}
 use Rattle.call_causes.specs.declared.status.Refusal.{Refusal}
-use Rattle.call_causes.specs.declared.status.Refusal.TheVariants.{Line, At, Frame, BadHex, TooLong}
+use Rattle.call_causes.specs.declared.status.Refusal.TheVariants.{Line, At, Frame, BadHex, TooLong, Log, LogTooLong}
 use Rattle.line_files.specs.declared.fault.LineReason.{LineReason}
 use Rattle.line_files.specs.declared.fault.LineReason.TheVariants.{BadHeader, BadWord, BadNumber, UnknownHost, UnknownProgram, TwiceNamed, TooMany, ProgramRefused, BadArgument}
 
@@ -41,11 +41,13 @@ refusal_text (At byte fault) = codes "planet: at " ++ (decimal byte ++ (codes ":
 refusal_text (Frame refusal) = codes "planet: frame " ++ (frames.reason_text refusal ++ codes "\n")
 refusal_text BadHex = codes "planet: BadHex\n"
 refusal_text TooLong = codes "planet: TooLong\n"
+refusal_text (Log k n reason) = codes "planet: log " ++ (decimal k ++ (codes " line " ++ (decimal n ++ (codes ": " ++ (reason_text reason ++ codes "\n")))))
+refusal_text (LogTooLong k) = codes "planet: log " ++ (decimal k ++ codes " TooLong\n")
 
 -- the note of a cause
 abbrev pub note_text : Cause → List ℕ
 note_text Done = []
-note_text Usage = codes "planet: usage: check FILE | show FILE | replay FILE | node FILE TURNS | inject FILE | fleet FILE | grow SEED N | cut FILE | gather PORT FILE | port FILE\n"
+note_text Usage = codes "planet: usage: check FILE | show FILE | replay FILE | node FILE TURNS | inject FILE | fleet FILE | grow SEED N | cut FILE | gather PORT FILE | port FILE | audit FILE\n"
 note_text (Refused r) = refusal_text r
 note_text ReadFault = codes "planet: read fault\n"
 note_text WriteFault = codes "planet: write fault\n"

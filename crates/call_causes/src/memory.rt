@@ -53,6 +53,8 @@ fn holds_memory(refusal: &Refusal) -> bool
         Refusal::Frame(fault) => frame_memory(fault),
         Refusal::BadHex => false,
         Refusal::TooLong => false,
+        Refusal::Log(_, _, reason) => reason_memory(reason),
+        Refusal::LogTooLong(_) => false,
     }
 }
 

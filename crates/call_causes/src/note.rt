@@ -58,6 +58,25 @@ fn line_note(alloc: Global, line: u32, reason: &LineReason) -> Result<Bytes, NoM
     Ok(note)
 }
 
+// The note of a refused line of a log with its line feed.
+fn log_note(alloc: Global, log: u32, line: u32, reason: &LineReason) -> Result<Bytes, NoMemory>
+    ensures { IfOk result (λ note. note ≡ refusal_text (Refusal.Log log line reason.now)) }
+{
+    let head = format!(in alloc; "planet: log {log} line {line}: ")?;
+    let mut note = bytes_of(alloc, head.as_bytes())?;
+    put_line_reason(alloc, reason, &mut note)?;
+    note.add_all(b"\n")?;
+    Ok(note)
+}
+
+// The note of a log that is too long with its line feed.
+fn long_note(alloc: Global, log: u32) -> Result<Bytes, NoMemory>
+    ensures { IfOk result (λ note. note ≡ refusal_text (Refusal.LogTooLong log)) }
+{
+    let text = format!(in alloc; "planet: log {log} TooLong\n")?;
+    bytes_of(alloc, text.as_bytes())
+}
+
 // The note of a refused text with its line feed.
 fn text_note(alloc: Global, byte: u32, fault: &TextFault) -> Result<Bytes, NoMemory>
     ensures { IfOk result (λ note. note ≡ refusal_text (Refusal.At byte fault.now)) }
@@ -97,6 +116,8 @@ fn refusal_note(alloc: Global, refusal: &Refusal) -> Result<Bytes, NoMemory>
         Refusal::Frame(refused) => frame_note(alloc, refused),
         Refusal::BadHex => bytes_of(alloc, b"planet: BadHex\n"),
         Refusal::TooLong => bytes_of(alloc, b"planet: TooLong\n"),
+        Refusal::Log(log, line, reason) => log_note(alloc, *log, *line, reason),
+        Refusal::LogTooLong(log) => long_note(alloc, *log),
     }
 }
 
@@ -116,7 +137,7 @@ fn note_of(alloc: Global, cause: &Cause) -> Result<Bytes, NoMemory>
         Cause::Done => Ok(Bytes::new(alloc)),
         Cause::Usage => bytes_of(
             alloc,
-            b"planet: usage: check FILE | show FILE | replay FILE | node FILE TURNS | inject FILE | fleet FILE | grow SEED N | cut FILE | gather PORT FILE | port FILE\n",
+            b"planet: usage: check FILE | show FILE | replay FILE | node FILE TURNS | inject FILE | fleet FILE | grow SEED N | cut FILE | gather PORT FILE | port FILE | audit FILE\n",
         ),
         Cause::Refused(refusal) => refusal_note(alloc, refusal),
         Cause::ReadFault => bytes_of(alloc, b"planet: read fault\n"),

@@ -19,7 +19,7 @@ pub enum Cause {
     Done,
     /// The words are none of the commands. Code 1.
     Usage,
-    /// The file is outside its format, or too long. Code 2.
+    /// The file, or a log that it names, is outside its format, or too long. Code 2.
     Refused(Refusal),
     /// A file wasn't read. Code 3.
     ReadFault,
@@ -48,4 +48,8 @@ pub enum Refusal {
     BadHex,
     /// The file has more bytes than its limit.
     TooLong,
+    /// The log with this number, from 1: the first line outside the format, from 1, and the reason.
+    Log(u32, u32, LineReason),
+    /// The log with this number, from 1, has more bytes than its limit.
+    LogTooLong(u32),
 }

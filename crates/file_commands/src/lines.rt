@@ -3,6 +3,7 @@ ghost use Rattle.line_files.specs.declared.fault.LineFault.{LineFault as Fault};
 ghost use Rattle.file_commands.specs.Said.{all_of, said_by, said_in, lines_said};
 ghost use Rattle.file_commands.specs.Takes.{Reads, Takes};
 
+use audit_files::{AuditFile, read_audit};
 use call_causes::{Cause, Refusal, stop_at};
 use cut_files::{CutFile, read_cut};
 use line_files::LineFault;
@@ -111,6 +112,19 @@ impl LineValue for CutFile {
 
     fn read(alloc: Global, bytes: &[u8]) -> Result<CutFile, LineFault> {
         read_cut(alloc, bytes)
+    }
+}
+
+impl LineValue for AuditFile {
+    ghost use Rattle.audit_files.specs.AuditFiles.{audit_of};
+    ghost use Rattle.audit_files.specs.AuditRules.{KeepsAudit};
+
+    ghost said = { audit_of };
+
+    ghost keeps = { KeepsAudit };
+
+    fn read(alloc: Global, bytes: &[u8]) -> Result<AuditFile, LineFault> {
+        read_audit(alloc, bytes)
     }
 }
 

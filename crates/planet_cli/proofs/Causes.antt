@@ -27,14 +27,15 @@ use Rattle.cut_files.specs.Texts.{cut_output}
 use Rattle.message_commands.specs.Messages.{cut_said, gather_said, messages_text}
 use Rattle.port_world.specs.Texts.{port_output}
 use Rattle.port_commands.specs.Ports.{Runs, port_said}
+use Rattle.audit_commands.specs.Audits.{audit_said}
 use Rattle.live_commands.specs.Asks.{AsksAs, ask_said, ask_cause}
 use Rattle.live_commands.specs.Fleets.{RunsAs, fleet_said, fleet_cause}
 use Rattle.live_commands.specs.Nodes.{ServesAs, config_said, serve_cause}
-use Rattle.planet_cli.specs.Requests.{Request, replay, check, show, inject, fleet, node, grow, cut, gather, ports}
+use Rattle.planet_cli.specs.Requests.{Request, replay, check, show, inject, fleet, node, grow, cut, gather, ports, audit}
 use Rattle.planet_cli.specs.Does.{Does, wire_in, shop_in, serving_in}
 use Rattle.planet_cli.specs.Calls.{Calls}
 use Rattle.planet_cli.specs.Laws.{UnlessLinked, UnlessFleet, IfNodesFailed}
-use Rattle.planet_cli.proofs.Views.{Took, took, left, view, took_weaker}
+use Rattle.planet_cli.proofs.Views.{Took, took, left, view, audit_view, took_weaker}
 use Rattle.planet_cli.proofs.Giving.{given, carried}
 
 -- no fault of the link; and none of children
@@ -134,6 +135,7 @@ module _ (c : Cause) (old new : Outside) where
   kinds (Some (cut file)) d = texts_so cut_output (cut_said file) old.files new.files c old.out new.out (view (cut_said file) (PrintsBy cut_output) file old.files new.files c old.out new.out d.1)
   kinds (Some (ports file)) d = texts_so port_output (port_said file) old.files new.files c old.out new.out (took_weaker (port_said file) Runs (PrintsBy port_output) (λ p k a b r. r.prints) old.files new.files c old.out new.out (view (port_said file) Runs file old.files new.files c old.out new.out d.1))
   kinds (Some (gather port file)) d = texts_so (messages_text port) (gather_said file) old.files new.files c old.out new.out (view (gather_said file) (PrintsBy (messages_text port)) file old.files new.files c old.out new.out d.1)
+  kinds (Some (audit file)) d = prints_so (audit_said file) old.files new.files c old.out new.out (audit_view file old.files new.files c old.out new.out d.1)
 
 -- ---- calls
 
@@ -149,6 +151,7 @@ unless_linked (Some (grow seed n)) P Q f h = f h
 unless_linked (Some (cut file)) P Q f h = f h
 unless_linked (Some (gather port file)) P Q f h = f h
 unless_linked (Some (ports file)) P Q f h = f h
+unless_linked (Some (audit file)) P Q f h = f h
 
 unless_fleet : (q : Option Request) (P Q : Type 0) → (P → Q) → UnlessFleet q P → UnlessFleet q Q
 unless_fleet None P Q f h = f h
@@ -162,6 +165,7 @@ unless_fleet (Some (grow seed n)) P Q f h = f h
 unless_fleet (Some (cut file)) P Q f h = f h
 unless_fleet (Some (gather port file)) P Q f h = f h
 unless_fleet (Some (ports file)) P Q f h = f h
+unless_fleet (Some (audit file)) P Q f h = f h
 
 none_failed : (c : Cause) → Unstarted c → IfNodesFailed c (λ h s. ⊥)
 none_failed Done u = tt

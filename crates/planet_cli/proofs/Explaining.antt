@@ -34,14 +34,15 @@ use Rattle.cut_files.specs.Texts.{cut_output}
 use Rattle.message_commands.specs.Messages.{cut_said, gather_said, messages_text}
 use Rattle.port_world.specs.Texts.{port_output}
 use Rattle.port_commands.specs.Ports.{Runs, port_said}
+use Rattle.audit_commands.specs.Audits.{audit_said}
 use Rattle.live_commands.specs.Asks.{AsksAs, ask_said, ask_cause}
 use Rattle.live_commands.specs.Fleets.{RunsAs, fleet_said, fleet_cause}
 use Rattle.live_commands.specs.Nodes.{ServesAs, config_said, own_services, serve_cause}
-use Rattle.planet_cli.specs.Requests.{Request, replay, check, show, inject, fleet, node, grow, cut, gather, ports}
+use Rattle.planet_cli.specs.Requests.{Request, replay, check, show, inject, fleet, node, grow, cut, gather, ports, audit}
 use Rattle.planet_cli.specs.Does.{Does, wire_in, shop_in, serving_in}
 use Rattle.planet_cli.specs.Calls.{Calls}
 use Rattle.call_causes.specs.Notes.{Notes, told, no_memory, failed}
-use Rattle.planet_cli.proofs.Views.{Took, took, left, view, took_weaker}
+use Rattle.planet_cli.proofs.Views.{Took, took, left, view, audit_view, took_weaker}
 
 module _ (old new : Outside) (n m : SinkState) where
   printed : (text : List ℕ) (c : Cause) → Prints text c old.out new.out → Explains c old new n m
@@ -132,6 +133,7 @@ module _ (old new : Outside) (n m : SinkState) where
   explains (Some (cut file)) c d = texts_so cut_output (cut_said file) c (view (cut_said file) (PrintsBy cut_output) file old.files new.files c old.out new.out d.1)
   explains (Some (ports file)) c d = texts_so port_output (port_said file) c (took_weaker (port_said file) Runs (PrintsBy port_output) (λ p k a b r. r.prints) old.files new.files c old.out new.out (view (port_said file) Runs file old.files new.files c old.out new.out d.1))
   explains (Some (gather port file)) c d = texts_so (messages_text port) (gather_said file) c (view (gather_said file) (PrintsBy (messages_text port)) file old.files new.files c old.out new.out d.1)
+  explains (Some (audit file)) c d = prints_so (audit_said file) c (audit_view file old.files new.files c old.out new.out d.1)
 
   by_notes : (found cause : Cause) → Notes found n m cause → Explains found old new n m → Explains cause old new n m
   by_notes found cause (told w) h = h

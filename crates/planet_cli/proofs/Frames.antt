@@ -18,7 +18,7 @@ use Rattle.file_commands.specs.Shows.{show_said}
 use Rattle.live_commands.specs.Asks.{AsksAs, ask_said}
 use Rattle.live_commands.specs.Fleets.{RunsAs, fleet_said}
 use Rattle.live_commands.specs.Nodes.{ServesAs, config_said}
-use Rattle.planet_cli.specs.Requests.{Request, replay, check, show, inject, fleet, node, grow, cut, gather, ports}
+use Rattle.planet_cli.specs.Requests.{Request, replay, check, show, inject, fleet, node, grow, cut, gather, ports, audit}
 use Rattle.planet_cli.specs.Does.{Does, wire_in, shop_in, serving_in}
 use Rattle.planet_cli.specs.Calls.{Calls}
 use Rattle.planet_cli.specs.Outcomes.{outcome_of, IsAccepted}
@@ -38,6 +38,7 @@ module _ (c : Cause) (old new : Outside) where
   link_stays (Some (cut file)) d = ap (λ o. o.link) d.0
   link_stays (Some (gather port file)) d = ap (λ o. o.link) d.0
   link_stays (Some (ports file)) d = ap (λ o. o.link) d.0
+  link_stays (Some (audit file)) d = ap (λ o. o.link) d.0
 
   pub clock_stays : (q : Option Request) → Does q c old new → UnlessNode q (new.clock ≡ old.clock)
   clock_stays None d = ap (λ o. o.clock) d.1
@@ -51,6 +52,7 @@ module _ (c : Cause) (old new : Outside) where
   clock_stays (Some (cut file)) d = ap (λ o. o.clock) d.0
   clock_stays (Some (gather port file)) d = ap (λ o. o.clock) d.0
   clock_stays (Some (ports file)) d = ap (λ o. o.clock) d.0
+  clock_stays (Some (audit file)) d = ap (λ o. o.clock) d.0
 
   pub children_stay : (q : Option Request) → Does q c old new → UnlessFleet q (new.children ≡ old.children)
   children_stay None d = ap (λ o. o.children) d.1
@@ -64,6 +66,7 @@ module _ (c : Cause) (old new : Outside) where
   children_stay (Some (cut file)) d = ap (λ o. o.children) d.0
   children_stay (Some (gather port file)) d = ap (λ o. o.children) d.0
   children_stay (Some (ports file)) d = ap (λ o. o.children) d.0
+  children_stay (Some (audit file)) d = ap (λ o. o.children) d.0
 
   script_asked : (file : List ℕ) → Took (ask_said file) AsksAs old.files new.files c (wire_in old) (wire_in new) → new.link.script ≡ old.link.script
   script_asked file (took a own p) = p.asks.script
@@ -81,6 +84,7 @@ module _ (c : Cause) (old new : Outside) where
   script_stays (Some (cut file)) d = ap (λ o. o.link.script) d.0
   script_stays (Some (gather port file)) d = ap (λ o. o.link.script) d.0
   script_stays (Some (ports file)) d = ap (λ o. o.link.script) d.0
+  script_stays (Some (audit file)) d = ap (λ o. o.link.script) d.0
 
   statuses_run : (file : List ℕ) → Took (fleet_said file) RunsAs old.files new.files c (shop_in old) (shop_in new) → new.children.statuses ≡ old.children.statuses
   statuses_run file (took f own p) = p.runs.kept.statuses
@@ -98,6 +102,7 @@ module _ (c : Cause) (old new : Outside) where
   statuses_stay (Some (cut file)) d = ap (λ o. o.children.statuses) d.0
   statuses_stay (Some (gather port file)) d = ap (λ o. o.children.statuses) d.0
   statuses_stay (Some (ports file)) d = ap (λ o. o.children.statuses) d.0
+  statuses_stay (Some (audit file)) d = ap (λ o. o.children.statuses) d.0
 
   -- ---- files
 
@@ -113,6 +118,7 @@ module _ (c : Cause) (old new : Outside) where
   files_stay (Some (cut file)) d = d.1.takes.only.held
   files_stay (Some (gather port file)) d = d.1.takes.only.held
   files_stay (Some (ports file)) d = d.1.takes.only.held
+  files_stay (Some (audit file)) d = d.1.only.held
 
   node_asked : (file : List ℕ) (turns : ℕ) (read : FilesState) → MayName old.files.asked read.asked file
       → Took (config_said file) (ServesAs turns) old.files read c (record (serving_in old) { files = read }) (serving_in new) → MayName old.files.asked new.files.asked file
@@ -131,6 +137,7 @@ module _ (c : Cause) (old new : Outside) where
   files_asked (Some (cut file)) d = d.1.takes.asked
   files_asked (Some (gather port file)) d = d.1.takes.asked
   files_asked (Some (ports file)) d = d.1.takes.asked
+  files_asked (Some (audit file)) d = (d.1.asked.names, d.1.asked.asked)
 
   none_made : (s : Said ServeConfig) → new.files.made ≡ old.files.made → LogsAtMost s old.files.made new.files.made
   none_made nothing is = is
@@ -156,6 +163,7 @@ module _ (c : Cause) (old new : Outside) where
   files_made (Some (cut file)) d = d.1.takes.only.made
   files_made (Some (gather port file)) d = d.1.takes.only.made
   files_made (Some (ports file)) d = d.1.takes.only.made
+  files_made (Some (audit file)) d = d.1.only.made
 
 -- ---- calls
 

@@ -11,7 +11,7 @@ use Rattle.call_causes.specs.declared.status.Cause.{Cause}
 use Rattle.call_causes.specs.declared.status.Cause.TheVariants.{Done, Usage, Refused, ReadFault, WriteFault, LinkFault, SpawnFault, NoMemory, NodesFailed}
 use Rattle.call_causes.specs.declared.status.Refusal.{Refusal}
 use Rattle.call_causes.proofs.Telling.{notes_give}
-use Rattle.planet_cli.specs.Requests.{Request, replay, check, show, inject, fleet, node, grow, cut, gather, ports}
+use Rattle.planet_cli.specs.Requests.{Request, replay, check, show, inject, fleet, node, grow, cut, gather, ports, audit}
 use Rattle.fleet_run.specs.Asks.{ask_line}
 use Rattle.file_commands.specs.Said.{Said, nothing, outside, says}
 use Rattle.file_commands.specs.Checks.{check_said}
@@ -21,6 +21,7 @@ use Rattle.cut_files.specs.Texts.{cut_output}
 use Rattle.message_commands.specs.Messages.{cut_said, gather_said, messages_text}
 use Rattle.port_world.specs.Texts.{port_output}
 use Rattle.port_commands.specs.Ports.{port_said}
+use Rattle.audit_commands.specs.Audits.{audit_said}
 use Rattle.live_commands.specs.Asks.{ask_said}
 use Rattle.live_commands.specs.Fleets.{fleet_said}
 use Rattle.live_commands.specs.Nodes.{config_said}
@@ -88,6 +89,7 @@ asked_none (Some (grow seed k)) files e = absurd (cc)
 asked_none (Some (cut file)) files e = absurd (made_asked (λ m. whole (cut_output m)) (cut_said file files) (λ v h. cc) e)
 asked_none (Some (gather port file)) files e = absurd (made_asked (λ l. whole (messages_text port l)) (gather_said file files) (λ v h. cc) e)
 asked_none (Some (ports file)) files e = absurd (made_asked (λ p. whole (port_output p)) (port_said file files) (λ v h. cc) e)
+asked_none (Some (audit file)) files e = absurd (made_asked whole (audit_said file files) (λ v h. cc) e)
 
 module _ (q : Option Request) (cause : Cause) (old new : Outside) (n m : SinkState) (call : Calls q cause old new n m) where
   pub given : Gives call.found cause (HasRisen n.faults m.faults)

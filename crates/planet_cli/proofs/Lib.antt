@@ -9,6 +9,7 @@ pub mod Frames
 pub mod Ports
 pub mod Writing
 pub mod Headline
+pub mod Auditing
 pub mod Keeping
 pub mod NodeKeeping
 pub mod Showing

@@ -27,7 +27,7 @@ use Rattle.file_commands.specs.Said.{Said, nothing, outside, says}
 use Rattle.file_commands.specs.Takes.{Untaken}
 use Rattle.live_commands.specs.Asks.{AsksAs, ask_said}
 use Rattle.live_commands.specs.Nodes.{ServesAs, config_said, own_services, own_node, moment, behind_moment, begun_config, begun_with, serve_cause}
-use Rattle.planet_cli.specs.Requests.{Request, replay, check, show, inject, fleet, node, grow, cut, gather, ports}
+use Rattle.planet_cli.specs.Requests.{Request, replay, check, show, inject, fleet, node, grow, cut, gather, ports, audit}
 use Rattle.planet_cli.specs.Does.{Does, wire_in, serving_in}
 use Rattle.planet_cli.specs.Calls.{Calls}
 use Rattle.planet_cli.specs.Outcomes.{Outcome, whole, runs, outcome_by, outcome_of, IsAccepted}
@@ -205,6 +205,7 @@ module _ (c : Cause) (old new : Outside) (seen : IsTrue old.files.observable) wh
   kept (Some (cut file)) d h = (ap (λ o. o.link) d.0, ap (λ o. o.clock) d.0, d.1.takes.only.held)
   kept (Some (gather port file)) d h = (ap (λ o. o.link) d.0, ap (λ o. o.clock) d.0, d.1.takes.only.held)
   kept (Some (ports file)) d h = (ap (λ o. o.link) d.0, ap (λ o. o.clock) d.0, d.1.takes.only.held)
+  kept (Some (audit file)) d h = (ap (λ o. o.link) d.0, ap (λ o. o.clock) d.0, d.1.only.held)
 
 pub none_kept : (q : Option Request) (cause : Cause) (old new : Outside) (n m : SinkState) → Calls q cause old new n m → IsTrue old.files.observable → ¬ (IsAccepted (outcome_of q old.files.held))
     → (new.link ≡ old.link) × (new.clock ≡ old.clock) × (new.files.held ≡ old.files.held)

@@ -2,9 +2,12 @@
 use Rattle.std.proofs.Common.{◌≡◌, ℕ, IsTrue, List, Result, Ok, Err, MatchResult, sym, subst}
 use Rattle.node_io.specs.FileMaps.{FileMap}
 use Rattle.node_io.specs.FileStates.{FilesState}
+use Rattle.node_io.specs.Sinks.{SinkState}
 use Rattle.call_causes.specs.declared.status.Cause.{Cause}
 use Rattle.file_commands.specs.Said.{Said, says}
-use Rattle.file_commands.specs.Takes.{Untaken, Takes, TakesAndActs}
+use Rattle.file_commands.specs.Takes.{Untaken, TakeResult, Takes, TakesAndActs}
+use Rattle.file_commands.specs.Renders.{Prints}
+use Rattle.audit_commands.specs.Audits.{audit_said, AuditsFile}
 
 pub data Took {A S : Type 0} (said : FileMap → Said A) (Acts : A → Cause → S → S → Type 0) (files read : FilesState) (cause : Cause) (old new : S) : Type 0 where
   took : (v : A) → (IsTrue files.observable → said files.held ≡ says v) → Acts v cause old new → Took said Acts files read cause old new
@@ -24,3 +27,12 @@ pub took_weaker : {A S : Type 0} (said : FileMap → Said A) (P Q : A → Cause 
     → (files read : FilesState) (cause : Cause) (old new : S) → Took said P files read cause old new → Took said Q files read cause old new
 took_weaker said P Q f files read cause old new (took v own p) = took v own (f v cause old new p)
 took_weaker said P Q f files read cause old new (left u same) = left u same
+
+-- the same of an audit, which takes the logs that its file names too
+pub audit_view : (name : List ℕ) (files read : FilesState) (cause : Cause) (old new : SinkState) → AuditsFile name files read cause old new → Took (audit_said name) Prints files read cause old new
+audit_view name files read cause old new t = by t.taken t.did t.acts
+  where
+    by : (taken : Result (List ℕ) Cause) → TakeResult (audit_said name) files read taken → MatchResult taken (λ text. Prints text cause old new) (λ why. (cause ≡ why) × (new ≡ old))
+        → Took (audit_said name) Prints files read cause old new
+    by (Ok text) t p = took text t p
+    by (Err why) t p = left (subst (Untaken (audit_said name) files read) (sym p.0) t) p.1

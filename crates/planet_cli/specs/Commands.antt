@@ -1,8 +1,8 @@
 -- The commands in the code, as requests.
 use Rattle.std.specs.Prelude.{◌≤◌}
 use Rattle.planet_cli.specs.declared.words.Command.{Command}
-use Rattle.planet_cli.specs.declared.words.Command.TheVariants.{Replay, Check, Show, Inject, Fleet, Node, Grow, Cut, Gather, Port}
-use Rattle.planet_cli.specs.Requests.{Request, replay, check, show, inject, fleet, node, grow, cut, gather, ports}
+use Rattle.planet_cli.specs.declared.words.Command.TheVariants.{Replay, Check, Show, Inject, Fleet, Node, Grow, Cut, Gather, Port, Audit}
+use Rattle.planet_cli.specs.Requests.{Request, replay, check, show, inject, fleet, node, grow, cut, gather, ports, audit}
 
 -- the request that a command stands for
 abbrev pub request_for : Command → Request
@@ -16,6 +16,7 @@ request_for (Grow seed n) = grow seed n
 request_for (Cut file) = cut file.now
 request_for (Gather port file) = gather port file.now
 request_for (Port file) = ports file.now
+request_for (Audit file) = audit file.now
 
 -- a network grows by at most 50,000 events
 abbrev pub command_fits : Command → Type 0

@@ -18,8 +18,9 @@ use Rattle.node_serve.specs.Served.{Served, Begun}
 use Rattle.call_causes.specs.declared.status.Cause.{Cause}
 use Rattle.call_causes.specs.declared.status.Cause.TheVariants.{Done, Usage, Refused, ReadFault, WriteFault, LinkFault, SpawnFault, NoMemory, NodesFailed}
 use Rattle.file_commands.specs.Said.{Said, nothing, outside, says}
+use Rattle.audit_commands.specs.Audits.{MayNames}
 use Rattle.live_commands.specs.Nodes.{config_said, own_node, begun_config, begun_with}
-use Rattle.planet_cli.specs.Requests.{Request, replay, check, show, inject, fleet, node, grow, cut, gather, ports}
+use Rattle.planet_cli.specs.Requests.{Request, replay, check, show, inject, fleet, node, grow, cut, gather, ports, audit}
 
 -- ---- by the request
 
@@ -44,7 +45,8 @@ abbrev pub WhereInjected : Option Request → Type 0 → Type 0
 WhereInjected (Some (inject file)) P = P
 WhereInjected request P = Unit {0}
 
--- the names asked grew at most by the file of the request, once, and by none where it has none
+-- the names asked grew at most by the file of the request, once, and by none where it has none; those of an audit also by the logs
+-- that its file names, in order, each once
 abbrev pub AsksFor : Option Request → List (List ℕ) → List (List ℕ) → Type 0
 AsksFor (Some (replay file)) old new = MayName old new file
 AsksFor (Some (check file)) old new = MayName old new file
@@ -56,6 +58,7 @@ AsksFor (Some (grow seed n)) old new = new ≡ old
 AsksFor (Some (cut file)) old new = MayName old new file
 AsksFor (Some (gather port file)) old new = MayName old new file
 AsksFor (Some (ports file)) old new = MayName old new file
+AsksFor (Some (audit file)) old new = (names : List (List ℕ)) × MayNames (file ∷ names) old new
 AsksFor None old new = new ≡ old
 
 -- ---- by the cause

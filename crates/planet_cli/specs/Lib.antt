@@ -5,5 +5,6 @@ pub mod Calls
 pub mod Replays
 pub mod Gathers
 pub mod PortCalls
+pub mod Audited
 pub mod Outcomes
 pub mod Laws

@@ -12,10 +12,11 @@ use Rattle.cut_files.specs.Texts.{cut_output}
 use Rattle.message_commands.specs.Messages.{cut_said, gather_said, messages_text}
 use Rattle.port_world.specs.Texts.{port_output}
 use Rattle.port_commands.specs.Ports.{port_said}
+use Rattle.audit_commands.specs.Audits.{audit_said}
 use Rattle.live_commands.specs.Asks.{ask_said}
 use Rattle.live_commands.specs.Fleets.{fleet_said}
 use Rattle.live_commands.specs.Nodes.{config_said}
-use Rattle.planet_cli.specs.Requests.{Request, replay, check, show, inject, fleet, node, grow, cut, gather, ports}
+use Rattle.planet_cli.specs.Requests.{Request, replay, check, show, inject, fleet, node, grow, cut, gather, ports, audit}
 
 -- no command, a file that is missing, a file that is refused, the whole output, or a command that runs, whose output is defined apart
 pub data Outcome : Type 0 where
@@ -39,6 +40,7 @@ outcome_of (Some (show file)) files = outcome_by whole (show_said file files)
 outcome_of (Some (cut file)) files = outcome_by (λ m. whole (cut_output m)) (cut_said file files)
 outcome_of (Some (gather port file)) files = outcome_by (λ l. whole (messages_text port l)) (gather_said file files)
 outcome_of (Some (ports file)) files = outcome_by (λ p. whole (port_output p)) (port_said file files)
+outcome_of (Some (audit file)) files = outcome_by whole (audit_said file files)
 outcome_of (Some (inject file)) files = outcome_by (λ a. whole (ask_line a)) (ask_said file files)
 outcome_of (Some (fleet file)) files = outcome_by (λ f. runs) (fleet_said file files)
 outcome_of (Some (node file turns)) files = outcome_by (λ cfg. runs) (config_said file files)

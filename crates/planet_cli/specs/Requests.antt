@@ -17,6 +17,7 @@ pub data Request : Type 0 where
   cut : List ℕ → Request
   gather : ℕ → List ℕ → Request
   ports : List ℕ → Request
+  audit : List ℕ → Request
 
 -- a command of one file
 abbrev pub with_file : List ℕ → List ℕ → Option Request
@@ -27,7 +28,8 @@ with_file command file = if bytes_eq command (codes "replay") then Some (replay 
     else (if bytes_eq command (codes "fleet") then Some (fleet file)
     else (if bytes_eq command (codes "cut") then Some (cut file)
     else (if bytes_eq command (codes "port") then Some (ports file)
-    else None))))))
+    else (if bytes_eq command (codes "audit") then Some (audit file)
+    else None)))))))
 
 abbrev pub node_for : List ℕ → Option ℕ → Option Request
 node_for file None = None

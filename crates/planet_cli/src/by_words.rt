@@ -3,6 +3,7 @@ ghost use Rattle.planet_cli.specs.Requests.{request_of};
 ghost use Rattle.planet_cli.specs.Does.{Does};
 
 use crate::words::{Command, read_words};
+use audit_commands::on_audit;
 use call_causes::Cause;
 use file_commands::{Check, Show, on_file};
 use live_commands::{on_ask, on_fleet, on_node};
@@ -41,5 +42,6 @@ pub fn run<F: Files, K: Sink, L: Link, C: Clock, P: Spawner>(
         Some(Command::Cut(file)) => on_cut(alloc, files, file, out),
         Some(Command::Gather(port, file)) => on_gather(alloc, files, port, file, out),
         Some(Command::Port(file)) => on_port(alloc, files, file, out),
+        Some(Command::Audit(file)) => on_audit(alloc, files, file, out),
     }
 }

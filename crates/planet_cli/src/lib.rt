@@ -2,6 +2,7 @@
 #![tactic(auto)]
 
 mod args;
+mod audit_laws;
 mod by_words;
 mod call_laws;
 mod fault_laws;
@@ -14,6 +15,7 @@ mod words;
 mod writing_laws;
 
 pub use args::{program_of, words_of};
+pub use audit_laws::{audit_asked, audited};
 pub use by_words::run;
 pub use call_causes::{Cause, Refusal, Status};
 pub use call_laws::{

@@ -29,6 +29,8 @@ pub enum Command<'a> {
     Gather(u16, &'a str),
     /// `port FILE`
     Port(&'a str),
+    /// `audit FILE`
+    Audit(&'a str),
 }
 
 fn is(word: &[u8], name: &[u8]) -> bool
@@ -62,6 +64,9 @@ fn command_on<'a>(name: &[u8], file: &'a str) -> Option<Command<'a>>
     }
     if is(name, b"port") {
         return Some(Command::Port(file));
+    }
+    if is(name, b"audit") {
+        return Some(Command::Audit(file));
     }
     None
 }

@@ -1,0 +1,9 @@
+use Rattle.std.proofs.Common.{refl}
+use Rattle.fleet_audit.specs.Pasts.{injected}
+use Rattle.fleet_audit.proofs.TallyLaws.{none_tallied}
+use Rattle.fleet_audit.proofs.ActLaws.{no_counts}
+use Rattle.fleet_audit.proofs.PastLaws.{nothing_held}
+use Rattle.fleet_audit.proofs.reckoning.nothing_reckoned.Goals as goal
+
+pub returns : goal.returns
+returns c = λ links. record { holds = nothing_held _ c.new-5.ensures c.new.ensures c.new-2.ensures c.new-3.ensures c.new-4.ensures; begin = tt; read = tt }

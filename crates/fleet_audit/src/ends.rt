@@ -1,0 +1,53 @@
+ghost use Rattle.std.specs.Prelude.{◌≡◌, position};
+ghost use Rattle.world_model.specs.World as spec;
+
+use network_plan::Link;
+use plan_base::{Dev, Host};
+use world_model::LinkEnd;
+
+/// Whether this is one end of a link.
+fn has_end(host: Host, dev: Dev, end: Host, at: Dev) -> bool
+    ensures { result ≡ spec.has_end host dev end at }
+{
+    end.0 == host.0 && at.0 == dev.0
+}
+
+/// The place of the first link that is on a device of a host.
+fn link_place(links: &[Link], host: Host, dev: Dev) -> Option<usize>
+    ensures { result ≡ position (spec.is_on host dev) links.now }
+{
+    links.iter().position(|l| (l.0.0 == host.0 && l.1.0 == dev.0)
+        || (l.2.0 == host.0 && l.3.0 == dev.0))
+}
+
+/// The end to which a link leads from a device of a host.
+#[tactic(auto, unfolding(world_model::specs::World::peer_of))]
+fn peer_of(links: &[Link], host: Host, dev: Dev) -> Option<LinkEnd>
+    ensures { result ≡ spec.peer_of links.now host dev }
+{
+    let at = link_place(links, host, dev)?;
+    let link = links.get(at)?;
+    if has_end(host, dev, link.0, link.1) {
+        Some(LinkEnd {
+            host: link.2,
+            dev: link.3,
+        })
+    } else {
+        Some(LinkEnd {
+            host: link.0,
+            dev: link.1,
+        })
+    }
+}
+
+/// The other end of a device of a host, by the links; device 0 leads to the node itself. Takes no memory.
+#[tactic(auto, unfolding(world_model::specs::World::far_end))]
+pub fn far_end(links: &[Link], host: Host, dev: Dev) -> Option<LinkEnd>
+    ensures { result ≡ spec.far_end links.now host dev }
+{
+    if dev.0 == 0 {
+        Some(LinkEnd { host, dev })
+    } else {
+        peer_of(links, host, dev)
+    }
+}

@@ -1,0 +1,2 @@
+pub mod Injecting
+pub mod Ordering

@@ -1,0 +1,29 @@
+-- Logs of nodes of version 2.
+use Rattle.std.specs.Prelude.{◌≡◌, ◌≢◌, List, [], ◌∷◌}
+use Rattle.std.specs.List.{AllByRecursion}
+use Rattle.link_window.specs.declared.window.Version.{Version}
+use Rattle.link_window.specs.declared.window.Version.TheVariants.{Two}
+use Rattle.network_plan.specs.declared.event.LogEvent.{LogEvent}
+use Rattle.network_plan.specs.declared.event.LogEvent.TheVariants.{Step, Lost}
+use Rattle.node_model.specs.Fits.{NodeFits, comes_fit}
+use Rattle.ledger_audit.specs.Audits.{Logged}
+use Rattle.ledger_audit.specs.Spelling.{Begins, ReadsAgain}
+
+-- what comes with each entry keeps the limits of a version
+abbrev pub EntriesFit : Version → List LogEvent → Type 0
+EntriesFit v [] = Unit {0}
+EntriesFit v (Step e ∷ es) = comes_fit v e × EntriesFit v es
+EntriesFit v (Lost ∷ es) = EntriesFit v es
+
+-- a log of a node of version 2, from its beginning, whose frames are read again
+pub record IsOfTwo (l : Logged) : Type 0 where
+  pub version : l.node.version ≡ Two
+  pub fits : NodeFits l.node
+  pub begin : Begins l
+  pub entries : EntriesFit Two l.entries
+  pub read : ReadsAgain l
+
+-- no two logs are of one host
+abbrev pub HostsApart : List Logged → Type 0
+HostsApart [] = Unit {0}
+HostsApart (l ∷ ls) = AllByRecursion (λ m. m.node.here.0 ≢ l.node.here.0) ls × HostsApart ls
