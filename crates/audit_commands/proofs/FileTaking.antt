@@ -1,11 +1,12 @@
 -- The file of an audit and its logs, as they are taken of the files.
-use Rattle.std.proofs.Common.{◌≡◌, ◌⊎◌, inl, inr, ℕ, ◌+◌, ◌<◌, ◌≤◌, IsTrue, List, [], ◌∷◌, ◌++◌, map, length, take, drop, get_or, Result, Ok, Err, MatchResult, refl, sym, ap, subst, ◌∙◌, arith}
+use Rattle.std.proofs.Common.{◌≡◌, ◌⊎◌, inl, inr, ℕ, ◌+◌, ◌<◌, ◌≤◌, IsTrue, List, [], ◌∷◌, ◌++◌, map, length, take, drop, get_or, Result, Ok, Err, IfOk, MatchResult, refl, sym, ap, subst, ◌∙◌, arith}
 use Rattle.std.proofs.lemmas.Grind.{take_at_read}
 use Rattle.std.proofs.lemmas.List.{take_all, drop_all, drop_more, take-append-drop, map-append, length-append, length-map}
 use Rattle.node_io.specs.Causes.{HasRisen}
 use Rattle.node_io.specs.FileMaps.{FileMap, MayName}
 use Rattle.node_io.specs.FileStates.{FilesState, OnlyReads}
 use Rattle.node_io.specs.Sinks.{SinkState}
+use Rattle.plan_base.specs.declared.ids.Host.{Host}
 use Rattle.network_plan.specs.declared.node.Log.{Log}
 use Rattle.audit_files.specs.declared.audit.AuditFile.{AuditFile}
 use Rattle.audit_files.specs.AuditFiles.{audit_of}
@@ -22,7 +23,7 @@ use Rattle.call_causes.specs.declared.status.Cause.TheVariants.{Done, Usage, Ref
 use Rattle.file_commands.specs.Said.{Said, nothing, outside, says, lines_said}
 use Rattle.file_commands.specs.Takes.{Untaken, TakeResult, Takes}
 use Rattle.file_commands.specs.Renders.{Prints}
-use Rattle.audit_commands.specs.Audits.{said_then, log_said, hosts_in, logs_said, fit_text, text_said, audit_said, MayNames, names_in, AsksAlong, LogsResult, TakesLogs, AuditsRead, AuditsFile}
+use Rattle.audit_commands.specs.Audits.{said_then, log_said, hosts_in, logs_said, fit_text, text_said, audit_said, FramesRead, MayNames, names_in, AsksAlong, LogsResult, TakesLogs, AuditsRead, AuditsFile}
 use Rattle.audit_commands.proofs.LogTaking.{untaken_then}
 
 -- ---- readings, one after the other
@@ -136,6 +137,10 @@ module _ (links : Cables) (all : List (List ℕ)) (i : ℕ) (n : ℕ) (name : Li
   pub along_poor : (l : Log) → Takes (log_said n r.hosts name) name mid new (Ok l) → TakesLogs links all old new (Err NoMemory)
   along_poor l t = record { only = reads_both old mid new k.only t.only; asked = rest_named (grew t.asked); did = tt }
 
+-- the names of the code's own values are those of the definitions
+pub takes_named : (k : ℕ) (hs hosts : List Host) (w name : List ℕ) (mid new : FilesState) (res : Result Log Cause) → hs ≡ hosts → w ≡ name → Takes (log_said k hs w) w mid new res → Takes (log_said k hosts name) name mid new res
+takes_named k hs hosts w name mid new res e f t = subst (λ x. Takes (log_said k x name) name mid new res) e (subst (λ x. Takes (log_said k hs x) x mid new res) f t)
+
 pub along_all : (links : Cables) (all : List (List ℕ)) (i : ℕ) (old new : FilesState) (r : Reckoning) → length all ≤ i → Along links all i old new r → TakesLogs links all old new (Ok r)
 along_all links all i old new r less k = record {
   only = k.only;
@@ -145,6 +150,15 @@ along_all links all i old new r less k = record {
 
 -- ---- the text
 
+-- what is said is one value
+said_or : {A : Type 0} → A → Said A → A
+said_or d nothing = d
+said_or d (outside r) = d
+said_or d (says v) = v
+
+pub says_same : {A : Type 0} (v w : A) → says v ≡ says w → v ≡ w
+says_same v w e = ap (said_or v) e
+
 -- the logs were read, and their text was written
 pub read_all : (a : AuditFile) (old new : FilesState) (r : Reckoning) (c : Cause) (x y : SinkState) → TakesLogs a.links a.logs old new (Ok r)
     → ((ls : List Logged) → IsReckoned a.links ls r → Prints (audit_text (verdict_of a.links ls)) c x y) → AuditsRead a old new c x y
@@ -153,6 +167,7 @@ read_all a old new r c x y t prints = record {
   only = t.only;
   asked = t.asked;
   did = λ seen. ap (λ s. said_then s (λ logs. says (fit_text a logs))) (t.did.1.1 seen);
+  frames = λ seen logs e. subst FramesRead (says_same t.did.0 logs (sym (t.did.1.1 seen) ∙ e)) t.did.1.0.read;
   acts = prints (map logged_of t.did.0) t.did.1.0;
 }
 
@@ -163,6 +178,7 @@ read_not a old new c x t = record {
   only = t.only;
   asked = t.asked;
   did = untaken_then (logs_said a.logs []) (λ held logs. says (fit_text a logs)) [] old new c t.did;
+  frames = tt;
   acts = (refl, refl);
 }
 
@@ -191,6 +207,13 @@ module _ (name : List ℕ) (old mid new : FilesState) (c : Cause) (x y : SinkSta
       by_cause SpawnFault u = elim u [ ]
       by_cause (NodesFailed h s) u = elim u [ ]
 
+  by_frames : (a : AuditFile) → Takes (lines_said audit_of name) name old mid (Ok a) → (taken : Result (List ℕ) Cause)
+      → IfOk taken (λ text. IsTrue mid.observable → (logs : List Log) → logs_said a.logs [] mid.held ≡ says logs → FramesRead logs)
+      → IfOk taken (λ text. IsTrue old.observable → (b : AuditFile) (logs : List Log) → lines_said audit_of name old.held ≡ says b → logs_said b.logs [] old.held ≡ says logs → FramesRead logs)
+  by_frames a t (Ok text) h = λ seen b logs n e.
+      h (subst IsTrue (sym t.only.observable) seen) logs (ap (logs_said a.logs []) t.only.held ∙ ap (λ x. logs_said x.logs [] old.held) (says_same a b (sym (t.did seen) ∙ n)) ∙ e)
+  by_frames a t (Err why) h = tt
+
   -- the file was taken, and its logs were read as far as they aren't refused
   pub file_taken : (a : AuditFile) → Takes (lines_said audit_of name) name old mid (Ok a) → AuditsRead a mid new c x y → AuditsFile name old new c x y
   file_taken a t r = record {
@@ -202,6 +225,7 @@ module _ (name : List ℕ) (old mid new : FilesState) (c : Cause) (x y : SinkSta
       named = λ seen. sym (ap names_in (t.did seen));
     };
     did = by_result a t r.only r.taken r.did;
+    frames = by_frames a t r.taken r.frames;
     acts = r.acts;
   }
 
@@ -216,5 +240,6 @@ file_untaken name old new c x t = record {
     named = λ seen. refl;
   };
   did = untaken_then (lines_said audit_of name) text_said name old new c t.did;
+  frames = tt;
   acts = (refl, refl);
 }

@@ -1,5 +1,6 @@
 -- The command `audit`: what its files say to it, and what is asked of them.
-use Rattle.std.specs.Prelude.{◌≡◌, ℕ, ◌+◌, if◌then◌else◌, IsTrue, List, [], ◌∷◌, ◌++◌, length, map, Option, Result, Ok, Err, MatchResult}
+use Rattle.std.specs.Prelude.{◌≡◌, ℕ, ◌+◌, if◌then◌else◌, IsTrue, List, [], ◌∷◌, ◌++◌, length, map, Result, Ok, Err, IfOk, MatchResult}
+use Rattle.std.specs.List.{AllByRecursion}
 use Rattle.plan_base.specs.declared.ids.Host.{Host}
 use Rattle.network_plan.specs.Hosts.{is_listed}
 use Rattle.network_plan.specs.declared.node.Log.{Log}
@@ -9,6 +10,7 @@ use Rattle.node_io.specs.FileMaps.{FileMap, MayName}
 use Rattle.node_io.specs.FileStates.{FilesState, OnlyReads}
 use Rattle.node_io.specs.Sinks.{SinkState}
 use Rattle.world_model.specs.World.{Cables}
+use Rattle.ledger_audit.specs.Spelling.{ReadsAgain}
 use Rattle.audit_files.specs.declared.audit.AuditFile.{AuditFile}
 use Rattle.audit_files.specs.AuditFiles.{audit_of}
 use Rattle.fleet_audit.specs.declared.reckoning.Reckoning.{Reckoning}
@@ -75,6 +77,10 @@ text_said files a = said_then (logs_said a.logs [] files) (λ logs. says (fit_te
 abbrev pub audit_said : List ℕ → FileMap → Said (List ℕ)
 audit_said name files = said_then (lines_said audit_of name files) (text_said files)
 
+-- each frame that these logs take is read again from its bytes
+abbrev pub FramesRead : List Log → Type 0
+FramesRead logs = AllByRecursion ReadsAgain (map logged_of logs)
+
 -- ---- what is asked of the files
 
 -- the names asked grew at most by these, in order, each once
@@ -111,6 +117,7 @@ pub record AuditsRead (a : AuditFile) (files read : FilesState) (cause : Cause) 
   pub only : OnlyReads files read
   pub asked : MayNames a.logs files.asked read.asked
   pub did : TakeResult (λ held. text_said held a) files read taken
+  pub frames : IfOk taken (λ text. IsTrue files.observable → (logs : List Log) → logs_said a.logs [] files.held ≡ says logs → FramesRead logs)
   pub acts : MatchResult taken (λ text. Prints text cause old new) (λ why. (cause ≡ why) × (new ≡ old))
 
 -- the file and its logs were read, as far as they aren't refused, and where all of them say something its text is written
@@ -119,4 +126,6 @@ pub record AuditsFile (name : List ℕ) (files read : FilesState) (cause : Cause
   pub only : OnlyReads files read
   pub asked : AsksAlong name files read
   pub did : TakeResult (audit_said name) files read taken
+  pub frames : IfOk taken (λ text. IsTrue files.observable → (a : AuditFile) (logs : List Log)
+      → lines_said audit_of name files.held ≡ says a → logs_said a.logs [] files.held ≡ says logs → FramesRead logs)
   pub acts : MatchResult taken (λ text. Prints text cause old new) (λ why. (cause ≡ why) × (new ≡ old))

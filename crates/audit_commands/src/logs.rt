@@ -106,20 +106,16 @@ pub fn reckon_logs<F: Files>(
     let mut number = 0;
     for name in names {
         number += 1;
-        match take_log(
+        let log = take_log(
             alloc,
             files,
             number,
             reckoning.hosts.as_slice(),
             name.as_str(),
-        ) {
-            Ok(log) => {
-                let Ok(()) = reckon_log(alloc, links, number, &log, &mut reckoning) else {
-                    return Err(Cause::NoMemory);
-                };
-            }
-            Err(cause) => return Err(cause),
-        }
+        )?;
+        let Ok(()) = reckon_log(alloc, links, number, &log, &mut reckoning) else {
+            return Err(Cause::NoMemory);
+        };
     }
     Ok(reckoning)
 }

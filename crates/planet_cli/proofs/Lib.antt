@@ -9,9 +9,10 @@ pub mod Frames
 pub mod Ports
 pub mod Writing
 pub mod Headline
-pub mod Auditing
 pub mod Keeping
 pub mod NodeKeeping
+pub mod FleetLogs
+pub mod Auditing
 pub mod Showing
 pub mod Asking
 pub mod Fleets

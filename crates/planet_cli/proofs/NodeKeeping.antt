@@ -42,7 +42,7 @@ use Rattle.world_model.specs.Visits.{one_visit, EndsWell}
 use Rattle.run_commands.specs.Keeping.{node_at, asked_visits, control_visits, step_visits, KeepsNodeRun}
 use Rattle.planet_cli.specs.Replays.{ReplaysLog}
 
-event_fits : (v : Version) (e : Event) → KeepsNodeEvent v e → comes_fit v e
+pub event_fits : (v : Version) (e : Event) → KeepsNodeEvent v e → comes_fit v e
 event_fits v (event.Inject chunk bound handler) k = k
 event_fits v (event.Frame d bytes) k = k.1.are_bytes
 event_fits v (event.Control bytes) k = k.are_bytes
@@ -131,7 +131,7 @@ listed_small here (h ∷ hs) e small =
     listed_by (eqb h.0 here.0) (is_listed here hs) h here refl e (All-head (λ (g : Host). g.0 < 2 ^ 32) h hs small)
     (λ r. listed_small here hs r (All-tail (λ (g : Host). g.0 < 2 ^ 32) h hs small))
 
-begins : (l : Log) → KeepsLog l → NodeFits (log_node l)
+pub begins : (l : Log) → KeepsLog l → NodeFits (log_node l)
 begins l keeps =
     new_node_fits l.node (opening_standing (present_without l.missing)) (listed_small l.node.here l.node.hosts keeps.node.here keeps.node.numbers) (subst (λ n. n < 2 ^ 64) (sym keeps.serial) (omega arith)) (may_begin l.node keeps.node) (services_fit (record { host = l.node.here; missing = l.missing }))
 

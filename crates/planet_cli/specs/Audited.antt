@@ -1,6 +1,14 @@
 -- Calls that audit the logs of a fleet.
-use Rattle.std.specs.Prelude.{ℕ, ◌≡◌, IsTrue, List, [], Some}
+use Rattle.std.specs.Prelude.{ℕ, ◌≡◌, ◌≤◌, IsTrue, List, [], map, Some}
+use Rattle.std.specs.List.{AllByRecursion}
+use Rattle.plan_base.specs.declared.ids.Family.{Family}
+use Rattle.link_window.specs.declared.window.Version.TheVariants.{Two}
 use Rattle.network_plan.specs.declared.node.Log.{Log}
+use Rattle.world_model.specs.World.{Cables}
+use Rattle.ledger_audit.specs.Crossings.{Crossing, times, crossings}
+use Rattle.ledger_audit.specs.Audits.{all_accepted, AddsUp}
+use Rattle.fleet_audit.specs.Pasts.{logged_of}
+use Rattle.fleet_audit.specs.Ledgers.{verdict_of, IsYes}
 use Rattle.node_io.specs.FileStates.{FilesState}
 use Rattle.audit_files.specs.declared.audit.AuditFile.{AuditFile}
 use Rattle.audit_files.specs.AuditFiles.{audit_of}
@@ -15,3 +23,19 @@ pub record Audits (words : List (List ℕ)) (files : FilesState) (a : AuditFile)
   pub seen : IsTrue files.observable
   pub names : lines_said audit_of file files.held ≡ says a
   pub says : logs_said a.logs [] files.held ≡ says logs
+
+-- the answer is `yes`
+abbrev pub Fit : Cables → List Log → Type 0
+Fit links logs = IsYes (verdict_of links (map logged_of logs))
+
+-- each family was granted what it paid, what is live and what was left, over all logs
+abbrev pub AllAddUp : Cables → List Log → Type 0
+AllAddUp links logs = (f : Family) → AddsUp f links (map logged_of logs)
+
+-- all nodes are of version 2
+abbrev pub AreOfTwo : List Log → Type 0
+AreOfTwo logs = AllByRecursion (λ l. l.node.version ≡ Two) logs
+
+-- no frame was accepted twice: no two accepted frames from one end have the same bytes
+abbrev pub AcceptOnce : Cables → List Log → Type 0
+AcceptOnce links logs = (c : Crossing) → times c (crossings (all_accepted links 0 (map logged_of logs))) ≤ 1

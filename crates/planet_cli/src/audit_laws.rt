@@ -8,7 +8,7 @@ ghost use Rattle.call_causes.specs.declared.status.Cause.{Cause as Why};
 ghost use Rattle.audit_commands.specs.Audits.{fit_text, AsksAlong};
 ghost use Rattle.planet_cli.specs.Requests.{request_of, audit};
 ghost use Rattle.planet_cli.specs.Calls.{Calls};
-ghost use Rattle.planet_cli.specs.Audited.{Audits};
+ghost use Rattle.planet_cli.specs.Audited.{Audits, Fit, AllAddUp, AreOfTwo, AcceptOnce};
 
 use call_causes::Cause;
 
@@ -20,6 +20,29 @@ pub fn audited()
         → Audits words old.files a logs
         → cause ≡ Cause.Done
         → Writes old.out new.out (fit_text a logs) }
+{}
+
+/// Where the logs of an audit that is done fit together, each family was granted what it paid, what is live and what was
+/// left, over all of them.
+pub fn fleet_adds_up()
+    ensures { (words : List (List ℕ)) (cause : Why) (old new : Outside) (n m : SinkState)
+        → Calls (request_of words) cause old new n m
+        → (a : AuditFile) (logs : List Log)
+        → Audits words old.files a logs
+        → cause ≡ Cause.Done
+        → Fit a.links logs
+        → AllAddUp a.links logs }
+{}
+
+/// And where all their nodes are of version 2, no frame was accepted twice.
+pub fn fleet_accepts_once()
+    ensures { (words : List (List ℕ)) (cause : Why) (old new : Outside) (n m : SinkState)
+        → Calls (request_of words) cause old new n m
+        → (a : AuditFile) (logs : List Log)
+        → Audits words old.files a logs
+        → cause ≡ Cause.Done
+        → Fit a.links logs → AreOfTwo logs
+        → AcceptOnce a.links logs }
 {}
 
 /// It asks at most for its file and for the logs that this names, in order, each once.

@@ -15,7 +15,7 @@ mod words;
 mod writing_laws;
 
 pub use args::{program_of, words_of};
-pub use audit_laws::{audit_asked, audited};
+pub use audit_laws::{audit_asked, audited, fleet_accepts_once, fleet_adds_up};
 pub use by_words::run;
 pub use call_causes::{Cause, Refusal, Status};
 pub use call_laws::{
