@@ -90,7 +90,8 @@ fn second_framed(alloc: Global, bytes: &[u8]) -> Result<Stamped, Cause>
 // The frame that the bytes spell in their version.
 fn framed(alloc: Global, bytes: &[u8]) -> Result<Stamped, Cause>
     requires { IsBytes bytes.now }
-    ensures { MatchResult result (λ x. read_by (version_shown bytes.now) bytes.now ≡ Ok (stamped_plain x))
+    ensures { MatchResult result
+        (λ x. read_by (version_shown bytes.now) bytes.now ≡ Ok (stamped_plain x))
         (λ why. Refuses (framed_said (read_by (version_shown bytes.now) bytes.now)) why) }
 {
     match version_of(bytes) {

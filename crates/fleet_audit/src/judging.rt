@@ -22,7 +22,8 @@ pub struct Over {
     pub sent: u32,
 }
 
-/// The first accepted frame that, with those before it, stands more often than it was sent. All that was sent must be counted.
+/// The first accepted frame that, with those before it, stands more often than it was sent. All that was sent must be
+/// counted.
 pub fn first_over_of(
     alloc: Global,
     tallies: &mut Tallies,

@@ -139,7 +139,8 @@ fn reckon_arrival(
 ) -> Result<(), NoMemory>
     ensures { (p : Past) → Holds reckoning.old p
         → OnOk result (Holds reckoning.new
-        (spec.with_accepted (runs.numbered mark.log mark.event (spec.arrived_from from bytes.now acts.now)) p)) }
+        (spec.with_accepted
+        (runs.numbered mark.log mark.event (spec.arrived_from from bytes.now acts.now)) p)) }
 {
     if !is_accepted(acts) {
         return Ok(());
@@ -159,7 +160,8 @@ fn reckon_sent(
     reckoning: &mut Reckoning,
 ) -> Result<(), NoMemory>
     ensures holds { (p : Past) → Holds reckoning.old p
-        → OnOk result (Holds reckoning.new (spec.with_sent (runs.sends_frame here dev (Some frame.now)) p)) }
+        → OnOk result
+        (Holds reckoning.new (spec.with_sent (runs.sends_frame here dev (Some frame.now)) p)) }
     ensures reads { OnOk result (FrameReads (Some frame.now)) }
 {
     let end = LinkEnd { host: here, dev };
@@ -178,7 +180,8 @@ fn reckon_taken(
     reckoning: &mut Reckoning,
 ) -> Result<(), NoMemory>
     ensures holds { (p : Past) → Holds reckoning.old p
-        → OnOk result (Holds reckoning.new (spec.with_sent (runs.sends_frame here dev frame.now) p)) }
+        → OnOk result
+        (Holds reckoning.new (spec.with_sent (runs.sends_frame here dev frame.now) p)) }
     ensures reads { OnOk result (FrameReads frame.now) }
 {
     match frame {
@@ -200,7 +203,8 @@ fn reckon_frames(
 ) -> Result<(), NoMemory>
     ensures holds { (p : Past) → Holds reckoning.old p
         → OnOk result (Holds reckoning.new
-        (spec.with_frames links.now mark.log mark.event here event.now acts.now.list acts.now.frame p)) }
+        (spec.with_frames links.now mark.log mark.event here event.now
+        acts.now.list acts.now.frame p)) }
     ensures reads { OnOk result (TakenReads event.now acts.now.frame) }
 {
     match event {
@@ -236,7 +240,8 @@ fn reckon_event<S: Services>(
 ) -> Result<(), NoMemory>
     requires { KeepsNodeEvent (version_of node.old) event.now }
     ensures same { version_of node.new ≡ version_of node.old }
-    ensures holds { (s : NodeState) → NodeStands S.stands node.old s → (p : Past) → Holds reckoning.old p
+    ensures holds { (s : NodeState) → NodeStands S.stands node.old s
+        → (p : Past) → Holds reckoning.old p
         → OnOk result
         (Holds reckoning.new (spec.with_entry links.now mark.log mark.event s (Step event.now) p)) }
     ensures reads { (s : NodeState) → NodeStands S.stands node.old s
@@ -263,9 +268,12 @@ fn reckon_entry<S: Services>(
 ) -> Result<(), NoMemory>
     requires { KeepsEntry (version_of node.old) entry.now }
     ensures same { version_of node.new ≡ version_of node.old }
-    ensures holds { (s : NodeState) → NodeStands S.stands node.old s → (p : Past) → Holds reckoning.old p
-        → OnOk result (Holds reckoning.new (spec.with_entry links.now mark.log mark.event s entry.now p)) }
-    ensures reads { (s : NodeState) → NodeStands S.stands node.old s → OnOk result (EntryReads s entry.now) }
+    ensures holds { (s : NodeState) → NodeStands S.stands node.old s
+        → (p : Past) → Holds reckoning.old p
+        → OnOk result
+        (Holds reckoning.new (spec.with_entry links.now mark.log mark.event s entry.now p)) }
+    ensures reads { (s : NodeState) → NodeStands S.stands node.old s
+        → OnOk result (EntryReads s entry.now) }
     ensures after { (s : NodeState) → NodeStands S.stands node.old s
         → OnOk result (NodeStands S.stands node.new (node_by s entry.now)) }
 {
@@ -289,7 +297,8 @@ fn reckon_entries<S: Services>(
 ) -> Result<(), NoMemory>
     requires keeps { All (KeepsEntry (version_of node.old)) entries.now }
     requires few { length entries.now ≤ 50000 }
-    ensures holds { (s : NodeState) → NodeStands S.stands node.old s → (p : Past) → Holds reckoning.old p
+    ensures holds { (s : NodeState) → NodeStands S.stands node.old s
+        → (p : Past) → Holds reckoning.old p
         → OnOk result (Holds reckoning.new (spec.with_entries links.now log 0 s entries.now p)) }
     ensures reads { (s : NodeState) → NodeStands S.stands node.old s
         → OnOk result (EntriesRead s entries.now) }

@@ -73,7 +73,8 @@ impl Tallies {
         Ok(())
     }
 
-    /// Counts a frame as sent. A count that has no place in 32 bits, which no 16 logs reach, is answered as want of memory.
+    /// Counts a frame as sent. A count that has no place in 32 bits, which no 16 logs reach, is answered as want of
+    /// memory.
     pub fn send(&mut self, key: CrossingKey) -> Result<(), NoMemory>
         ensures { OnOk result (Changes spec.one_sent (crossing_of key) self.old self.new) }
     {
@@ -87,8 +88,10 @@ impl Tallies {
     /// Counts a frame as accepted, and answers its counts. A count that has no place in 32 bits, which no 16 logs reach, is
     /// answered as want of memory.
     pub fn accept(&mut self, key: CrossingKey) -> Result<Tally, NoMemory>
-        ensures tally { IfOk result (λ t. t ≡ spec.one_accepted (tally_in (crossing_of key) self.old)) }
-        ensures after { OnOk result (Changes spec.one_accepted (crossing_of key) self.old self.new) }
+        ensures tally { IfOk result
+            (λ t. t ≡ spec.one_accepted (tally_in (crossing_of key) self.old)) }
+        ensures after { OnOk result
+            (Changes spec.one_accepted (crossing_of key) self.old self.new) }
     {
         let Some(new) = self.of(&key).one_accepted() else {
             return Err(NoMemory);

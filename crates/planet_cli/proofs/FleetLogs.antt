@@ -33,10 +33,10 @@ use Rattle.planet_cli.proofs.NodeKeeping.{event_fits, begins}
 -- ---- one log
 
 -- what the law of version 2 asks of a log, but for the version and the frames
-record Kept (x : Logged) : Type 0 where
-  fits : NodeFits x.node
-  begin : Begins x
-  entries : x.node.version ≡ Two → EntriesFit Two x.entries
+pub record Kept (x : Logged) : Type 0 where
+  pub fits : NodeFits x.node
+  pub begin : Begins x
+  pub entries : x.node.version ≡ Two → EntriesFit Two x.entries
 
 entries_fit : (v : Version) (es : List LogEvent) → All (KeepsEntry v) es → v ≡ Two → EntriesFit Two es
 entries_fit v [] a two = tt
@@ -103,14 +103,18 @@ log_apart k name logs l files e a = by_said (lines_said log_of name files) refl 
     by_said (outside r) is q = absurd cc
     by_said (says m) is q = by_listed m (is_listed m.node.here (hosts_in logs)) refl (said_keeps name files m is) q
 
+-- what is said behind a log, once that is said
+then_apart : (k : ℕ) (name : List ℕ) (before logs : List Log) (files : FileMap) → Apart before → (more : Log → Said (List Log)) → ((l : Log) → Apart (before ++ l ∷ []) → more l ≡ says logs → Apart logs)
+    → (s : Said Log) → log_said k (hosts_in before) name files ≡ s → said_then s more ≡ says logs → Apart logs
+then_apart k name before logs files a more next nothing is q = absurd cc
+then_apart k name before logs files a more next (outside r) is q = absurd cc
+then_apart k name before logs files a more next (says l) is q = next l (log_apart k name before l files is a) q
+
 logs_apart : (names : List (List ℕ)) (before logs : List Log) (files : FileMap) → Apart before → logs_said names before files ≡ says logs → Apart logs
 logs_apart [] before logs files a e = subst Apart (says_same before logs e) a
-logs_apart (name ∷ names) before logs files a e = by (log_said (length before + 1) (hosts_in before) name files) refl e
-  where
-    by : (s : Said Log) → log_said (length before + 1) (hosts_in before) name files ≡ s → said_then s (λ l. logs_said names (before ++ l ∷ []) files) ≡ says logs → Apart logs
-    by nothing is q = absurd cc
-    by (outside r) is q = absurd cc
-    by (says l) is q = logs_apart names (before ++ l ∷ []) logs files (log_apart (length before + 1) name before l files is a) q
+logs_apart (name ∷ names) before logs files a e =
+    then_apart (length before + 1) name before logs files a (λ x. logs_said names (before ++ x ∷ []) files) (λ l b q. logs_apart names (before ++ l ∷ []) logs files b q)
+    (log_said (length before + 1) (hosts_in before) name files) refl e
 
 pub said_apart : (names : List (List ℕ)) (logs : List Log) (files : FileMap) → logs_said names [] files ≡ says logs → Apart logs
 said_apart names logs files e = logs_apart names [] logs files none_apart e

@@ -22,8 +22,8 @@ pub fn audited()
         → Writes old.out new.out (fit_text a logs) }
 {}
 
-/// Where the logs of an audit that is done fit together, each family was granted what it paid, what is live and what was
-/// left, over all of them.
+/// Where the logs of an audit that is done fit together, each family was granted what it paid, what is live and what
+/// was left, over all of them.
 pub fn fleet_adds_up()
     ensures { (words : List (List ℕ)) (cause : Why) (old new : Outside) (n m : SinkState)
         → Calls (request_of words) cause old new n m

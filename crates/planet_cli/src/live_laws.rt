@@ -124,7 +124,8 @@ pub fn served()
         → (cfg : Config)
         → config_said file old.files.held ≡ says cfg
         → cause ≡ Cause.Done
-        → Served (begun_config cfg (serving_in old)) (own_node (begun_config cfg (serving_in old))) turns
+        → Served (begun_config cfg (serving_in old))
+        (own_node (begun_config cfg (serving_in old))) turns
         (begun_with cfg (serving_in old)) (serving_in new) }
 {}
 
