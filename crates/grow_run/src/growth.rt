@@ -108,7 +108,14 @@ impl<S: Services> Growth<S> {
     {
         let sums = totals(&self.ledger);
         let mut text = Bytes::new(alloc);
-        put_summary(&mut text, seed, u64::from(events), self.summary, sums)?;
+        put_summary(
+            alloc,
+            &mut text,
+            seed,
+            u64::from(events),
+            self.summary,
+            sums,
+        )?;
         Ok(text)
     }
 }

@@ -1,4 +1,4 @@
-ghost use Rattle.std.specs.Prelude.{◌≡◌, ◌++◌, OnOk};
+ghost use Rattle.std.specs.Prelude.{◌≡◌, ◌++◌, OnOk, OnErr};
 ghost use Rattle.std.specs.Fmt.{decimal};
 ghost use Rattle.grow_run.specs.Summaries as spec;
 
@@ -6,6 +6,7 @@ use crate::summary::Summary;
 use bound_ledger::Row;
 use node_core::put_number;
 use plan_base::{Bytes, NoMemory};
+use std::alloc::Global;
 
 /// A word and a number.
 fn put_count(out: &mut Bytes, word: &[u8], n: u64) -> Result<(), NoMemory>
@@ -56,10 +57,9 @@ fn put_sums(out: &mut Bytes, sums: Row) -> Result<(), NoMemory>
     Ok(())
 }
 
-/// Appends the summary of a network that grew by itself: what was asked, what happened, and the sums over
-/// all families.
+/// The summary of a network that grew by itself.
 #[tactic(auto, unfolding(crate::specs::Summaries::summary_text))]
-pub fn put_summary(
+fn put_summary_text(
     out: &mut Bytes,
     seed: u64,
     events: u64,
@@ -73,5 +73,25 @@ pub fn put_summary(
     put_happened(out, summary)?;
     put_sums(out, sums)?;
     out.add_all(b"end\n")?;
+    Ok(())
+}
+
+/// Appends the summary of a network that grew by itself: what was asked, what happened, and the sums over
+/// all families. Where memory is refused, `out` stays.
+pub fn put_summary(
+    alloc: Global,
+    out: &mut Bytes,
+    seed: u64,
+    events: u64,
+    summary: Summary,
+    sums: Row,
+) -> Result<(), NoMemory>
+    ensures whole { OnOk result
+        (out.new ≡ out.old ++ spec.summary_text seed events summary sums) }
+    ensures stays { OnErr result (out.new ≡ out.old) }
+{
+    let mut text = Bytes::new(alloc);
+    put_summary_text(&mut text, seed, events, summary, sums)?;
+    out.add_all(text.as_slice())?;
     Ok(())
 }

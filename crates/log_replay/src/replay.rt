@@ -33,7 +33,8 @@ fn event_lines<S: Services>(
     ensures same { version_of node.new ≡ version_of node.old }
     ensures text { (s : NodeState) → NodeStands S.stands node.old s
         → IfOk result
-        (λ text. text ≡ lines_text config.now.here (entries_at number (node_step s event.now).acts)) }
+        (λ text. text ≡ lines_text config.now.here
+        (entries_at number (node_step s event.now).acts)) }
     ensures after { (s : NodeState) → NodeStands S.stands node.old s
         → OnOk result (NodeStands S.stands node.new (node_step s event.now).node) }
 {
@@ -53,7 +54,8 @@ fn entry_lines<S: Services>(
     requires version { version_of node.old ≡ config.now.version }
     ensures same { version_of node.new ≡ version_of node.old }
     ensures text { (s : NodeState) → NodeStands S.stands node.old s
-        → IfOk result (λ text. text ≡ lines_text config.now.here (entries_at number (acts_of s entry.now))) }
+        → IfOk result
+        (λ text. text ≡ lines_text config.now.here (entries_at number (acts_of s entry.now))) }
     ensures after { (s : NodeState) → NodeStands S.stands node.old s
         → OnOk result (NodeStands S.stands node.new (node_by s entry.now)) }
 {

@@ -152,7 +152,7 @@ fn ledger_bytes(alloc: Global, ledger: &Ledger) -> Result<Bytes, NoMemory>
         → ((f : FamilyOf) → Balanced f h w) → IfOk result (λ text. text ≡ ledger_text h w) }
 {
     let mut text = Bytes::new(alloc);
-    put_ledger(&mut text, ledger)?;
+    put_ledger(alloc, &mut text, ledger)?;
     Ok(text)
 }
 

@@ -34,7 +34,7 @@ numbers_as [] a = All-nil (λ h. h.0 < 2 ^ 32)
 numbers_as (h ∷ hs) a = All-cons (λ h. h.0 < 2 ^ 32) h.host (map (λ s. s.host) hs) (All-head (λ s. s.host.0 < 2 ^ 32) h hs a) (numbers_as hs (All-tail (λ s. s.host.0 < 2 ^ 32) h hs a))
 
 network_fits : (t : Topology) → KeepsNetwork t → NetworkFits (map (λ s. s.host) t.hosts)
-network_fits t k = record { few = omega (arith, k.few, length-map t.hosts (λ s. s.host)); differ = differ_as t.hosts k.hosts; numbers = numbers_as t.hosts k.numbers }
+network_fits t k = record { few = omega (arith, k.few, length-map t.hosts (λ s. s.host)); differ = differ_as t.hosts k.hosts }
 
 -- ---- neighbours
 
@@ -85,7 +85,7 @@ config_fits t h k = let n = near t.links h.host 8 in record { hosts = network_fi
 
 opening_node_fits : (t : Topology) (h : HostSpec) → h.host.0 < 2 ^ 32 → KeepsNetwork t → NodeFits (opening_node t h)
 unfolding opening_node
-opening_node_fits t h n k = new_node_fits (config_of t h) (opening_services h) n (omega arith) (config_fits t h k) (services_fit h)
+opening_node_fits t h n k = new_node_fits (config_of t h) (opening_services h) n (numbers_as t.hosts k.numbers) (omega arith) (config_fits t h k) (services_fit h)
 
 opening_devices : (t : Topology) (h : HostSpec) → DevicesFit t.version (opening_node t h)
 unfolding opening_node new_node

@@ -1,4 +1,4 @@
-ghost use Rattle.std.specs.Prelude.{◌≡◌, ◌++◌, codes, OnOk};
+ghost use Rattle.std.specs.Prelude.{◌≡◌, ◌++◌, codes, OnOk, OnErr};
 ghost use Rattle.std.specs.Fmt.{decimal};
 ghost use Rattle.printed_forms.specs.Printed.{value_text};
 ghost use Rattle.packet_frame.specs.Reasons.{reason_text};
@@ -14,10 +14,11 @@ use plan_printer::print_value;
 use service_api::Note;
 use std::alloc::Global;
 
-/// Appends a number in decimal.
+/// Appends a number in decimal. Where memory is refused, `out` stays.
 #[tactic(auto, using(std::proofs::lemmas::Fmt::decimal_digit))]
 pub fn put_number(out: &mut Bytes, n: u64) -> Result<(), NoMemory>
-    ensures { OnOk result (out.new ≡ out.old ++ decimal n) }
+    ensures whole { OnOk result (out.new ≡ out.old ++ decimal n) }
+    ensures stays { OnErr result (out.new ≡ out.old) }
 {
     // (most numbers of a trace have one digit)
     if n < 10 {
@@ -39,7 +40,7 @@ fn put_head(out: &mut Bytes, word: &[u8], host: Host) -> Result<(), NoMemory>
     Ok(())
 }
 
-/// Appends a family: its source and its serial number.
+/// Appends a family: its source and its serial number. Where memory is refused, a part of it may stand behind `out`.
 pub fn put_family(out: &mut Bytes, f: Family) -> Result<(), NoMemory>
     ensures { OnOk result (out.new ≡ out.old ++ spec.family_text f) }
 {
@@ -49,7 +50,7 @@ pub fn put_family(out: &mut Bytes, f: Family) -> Result<(), NoMemory>
     Ok(())
 }
 
-/// Appends a family with its bound.
+/// Appends a family with its bound. Where memory is refused, a part of it may stand behind `out`.
 pub fn put_bound(out: &mut Bytes, f: Family, bound: u32) -> Result<(), NoMemory>
     ensures { OnOk result (out.new ≡ out.old ++ spec.bound_text f bound) }
 {
@@ -343,7 +344,8 @@ fn put_taken(out: &mut Bytes, host: Host, dev: Dev, what: What) -> Result<(), No
     Ok(())
 }
 
-/// The line of an act at a host, without its number.
+/// Appends what an act at a host says, the line without its number. Where memory is refused, a part of it may stand behind
+/// `out`.
 #[tactic(auto, unfolding(node_model::specs::Texts::act_text))]
 pub fn put_act_text(alloc: Global, out: &mut Bytes, host: Host, act: &Act) -> Result<(), NoMemory>
     ensures { OnOk result (out.new ≡ out.old ++ spec.act_text host act.now) }
@@ -374,9 +376,9 @@ pub fn put_act_text(alloc: Global, out: &mut Bytes, host: Host, act: &Act) -> Re
     Ok(())
 }
 
-/// Appends the line of an act at a host, with the number of its event.
+/// The line of an act at a host, with the number of its event.
 #[tactic(auto, unfolding(node_model::specs::Texts::act_line))]
-pub fn put_act(
+fn put_act_line(
     alloc: Global,
     event: u64,
     here: Host,
@@ -389,5 +391,22 @@ pub fn put_act(
     out.add_all(b" ")?;
     put_act_text(alloc, out, here, act)?;
     out.add_all(b"\n")?;
+    Ok(())
+}
+
+/// Appends the line of an act at a host, with the number of its event. Where memory is refused, `out` stays.
+pub fn put_act(
+    alloc: Global,
+    event: u64,
+    here: Host,
+    act: &Act,
+    out: &mut Bytes,
+) -> Result<(), NoMemory>
+    ensures whole { OnOk result (out.new ≡ out.old ++ spec.act_line event here act.now) }
+    ensures stays { OnErr result (out.new ≡ out.old) }
+{
+    let mut line = Bytes::new(alloc);
+    put_act_line(alloc, event, here, act, &mut line)?;
+    out.add_all(line.as_slice())?;
     Ok(())
 }

@@ -74,7 +74,6 @@ pub record NodeFits (node : NodeState) : Type 0 where
 pub record NetworkFits (hosts : List Host) : Type 0 where
   pub few : length hosts ≤ 32
   pub differ : HostsDiffer hosts
-  pub numbers : All (λ h. h.0 < 2 ^ 32) hosts
 
 -- how a node may begin: its neighbours are on devices from 1 to 8, each once, in order
 pub record ConfigFits (c : NodeConfig) : Type 0 where

@@ -44,7 +44,8 @@ pub(crate) struct StepTexts {
 /// The line of the log of an event.
 fn event_text(alloc: Global, event: &Event) -> Result<Bytes, NoMemory>
     ensures text { IfOk result (λ text. text ≡ entry_text (entry.Step event.now)) }
-    ensures readable { (v : Version) → KeepsNodeEvent v event.now → OnOk result (IsReadable v (entry.Step event.now)) }
+    ensures readable { (v : Version) → KeepsNodeEvent v event.now
+        → OnOk result (IsReadable v (entry.Step event.now)) }
 {
     let mut text = Bytes::new(alloc);
     put_log_line(alloc, event, &mut text)?;

@@ -41,7 +41,8 @@ fn may_take(version: Version, handler: &Option<Name>) -> bool
 fn injection(alloc: Global, version: Version, inject: &Inject) -> Option<Event>
     ensures event { IfSome result (λ e. e ≡ event.Inject inject.now.2 inject.now.1 inject.now.3) }
     ensures keeps { (v : VersionOf) → KeepsInject v inject.now → IfSome result (KeepsNodeEvent v) }
-    ensures within { (v : VersionOf) → KeepsInject v inject.now → IfSome result (comes_within version) }
+    ensures within { (v : VersionOf) → KeepsInject v inject.now
+        → IfSome result (comes_within version) }
 {
     if !may_take(version, &inject.3) {
         return None;

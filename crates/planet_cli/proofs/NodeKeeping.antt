@@ -133,7 +133,7 @@ listed_small here (h ∷ hs) e small =
 
 pub begins : (l : Log) → KeepsLog l → NodeFits (log_node l)
 begins l keeps =
-    new_node_fits l.node (opening_standing (present_without l.missing)) (listed_small l.node.here l.node.hosts keeps.node.here keeps.node.numbers) (subst (λ n. n < 2 ^ 64) (sym keeps.serial) (omega arith)) (may_begin l.node keeps.node) (services_fit (record { host = l.node.here; missing = l.missing }))
+    new_node_fits l.node (opening_standing (present_without l.missing)) (listed_small l.node.here l.node.hosts keeps.node.here keeps.node.numbers) keeps.node.numbers (subst (λ n. n < 2 ^ 64) (sym keeps.serial) (omega arith)) (may_begin l.node keeps.node) (services_fit (record { host = l.node.here; missing = l.missing }))
 
 run_keeps : (l : Log) → KeepsLog l → KeepsNodeRun (log_node l) l.events
 unfolding new_node

@@ -1,4 +1,4 @@
-ghost use Rattle.std.specs.Prelude.{◌≡◌, ◌-◌, ◌++◌, length, OnOk};
+ghost use Rattle.std.specs.Prelude.{◌≡◌, ◌-◌, ◌++◌, length, OnOk, OnErr};
 ghost use Rattle.port_run.specs.Ports.{PortState};
 ghost use Rattle.port_world.specs.Texts as spec;
 ghost use Rattle.port_world.specs.Stands.{PortStands};
@@ -100,7 +100,7 @@ fn paid_by(purse: &Purse, first: u32) -> u64
 }
 
 impl<S: Services> Ports<S> {
-    /// Appends how the ends stand, whose purses were these at first.
+    /// Appends how the ends stand, whose purses were these at first. Where memory is refused, `out` stays.
     pub fn put_ends(
         &self,
         alloc: Global,
@@ -108,13 +108,17 @@ impl<S: Services> Ports<S> {
         second: u32,
         out: &mut Bytes,
     ) -> Result<(), NoMemory>
-        ensures { (s : PortState) → PortStands S.stands self.now s
+        ensures whole { (s : PortState) → PortStands S.stands self.now s
             → OnOk result (out.new ≡ out.old ++ spec.ends_text first second s) }
+        ensures stays { OnErr result (out.new ≡ out.old) }
     {
         let offered = self.sender.offered();
         let acked = self.sender.acked();
         let paid = (paid_by(&self.first, first), paid_by(&self.second, second));
         let bodies = self.receiver.delivered();
-        put_lines(alloc, out, offered, bodies.as_slice(), acked, paid)
+        let mut text = Bytes::new(alloc);
+        put_lines(alloc, &mut text, offered, bodies.as_slice(), acked, paid)?;
+        out.add_all(text.as_slice())?;
+        Ok(())
     }
 }

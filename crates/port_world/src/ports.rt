@@ -126,7 +126,7 @@ impl<S: Services> Ports<S> {
                 self.make(alloc, &event)?;
                 Ok(())
             }
-            Err(AckFault::NoBound) => put_told(text, number, PortLine::NoBound),
+            Err(AckFault::NoBound) => put_told(alloc, text, number, PortLine::NoBound),
             Err(AckFault::NoMemory) => Err(NoMemory),
         }
     }
@@ -209,7 +209,7 @@ impl<S: Services> Ports<S> {
         ensures cost { OnOk result (budget self.new ≡ budget self.old) }
     {
         if is_nothing(line) {
-            return put_told(text, number, PortLine::Nothing);
+            return put_told(alloc, text, number, PortLine::Nothing);
         }
         let Some(heard) = note_in(line) else {
             return Ok(());
@@ -275,7 +275,7 @@ impl<S: Services> Ports<S> {
     {
         match self.sender.offer(alloc, body) {
             Ok(_) => Ok(()),
-            Err(OfferFault::Full) => put_told(text, number, PortLine::Full),
+            Err(OfferFault::Full) => put_told(alloc, text, number, PortLine::Full),
             Err(OfferFault::NoMemory) => Err(NoMemory),
         }
     }
@@ -301,8 +301,8 @@ impl<S: Services> Ports<S> {
                 let event = injection(FIRST, chunk);
                 self.wire(alloc, number, &event, text)
             }
-            Err(TransmitFault::NotHeld) => put_told(text, number, PortLine::Nothing),
-            Err(TransmitFault::NoBound) => put_told(text, number, PortLine::NoBound),
+            Err(TransmitFault::NotHeld) => put_told(alloc, text, number, PortLine::Nothing),
+            Err(TransmitFault::NoBound) => put_told(alloc, text, number, PortLine::NoBound),
             Err(TransmitFault::NoMemory) => Err(NoMemory),
         }
     }

@@ -1,8 +1,9 @@
-ghost use Rattle.std.specs.Prelude.{◌≡◌, ◌++◌, OnOk};
+ghost use Rattle.std.specs.Prelude.{◌≡◌, ◌++◌, OnOk, OnErr};
 ghost use Rattle.port_world.specs.Told as spec;
 
 use node_core::put_number;
 use plan_base::{Bytes, NoMemory};
+use std::alloc::Global;
 
 /// What an event is told to have met.
 #[derive(Clone, Copy, PartialEq, Eq)]
@@ -26,14 +27,25 @@ fn word_of(line: PortLine) -> &'static [u8]
     }
 }
 
-/// Appends the line of an event, with the event's number.
+/// The line of an event, with the event's number.
 #[tactic(auto, unfolding(crate::specs::Told::told_line))]
-pub fn put_told(out: &mut Bytes, number: u64, line: PortLine) -> Result<(), NoMemory>
+fn put_told_line(out: &mut Bytes, number: u64, line: PortLine) -> Result<(), NoMemory>
     ensures { OnOk result (out.new ≡ out.old ++ spec.told_line number line) }
 {
     put_number(out, number)?;
     out.add_all(b" ")?;
     out.add_all(word_of(line))?;
     out.add_all(b"\n")?;
+    Ok(())
+}
+
+/// Appends the line of an event, with the event's number. Where memory is refused, `out` stays.
+pub fn put_told(alloc: Global, out: &mut Bytes, number: u64, line: PortLine) -> Result<(), NoMemory>
+    ensures whole { OnOk result (out.new ≡ out.old ++ spec.told_line number line) }
+    ensures stays { OnErr result (out.new ≡ out.old) }
+{
+    let mut text = Bytes::new(alloc);
+    put_told_line(&mut text, number, line)?;
+    out.add_all(text.as_slice())?;
     Ok(())
 }

@@ -1,4 +1,4 @@
-ghost use Rattle.std.specs.Prelude.{◌≡◌, ◌++◌, List, OnOk};
+ghost use Rattle.std.specs.Prelude.{◌≡◌, ◌++◌, List, OnOk, OnErr};
 ghost use Rattle.std.specs.Fmt.{decimal};
 ghost use Rattle.plan_base.specs.declared.ids.Family.{Family as FamilyOf};
 ghost use Rattle.world_model.specs.declared.lines.Entry.{Entry as EntryOf};
@@ -12,6 +12,7 @@ ghost use Rattle.run_text.specs.Printed.{printed, all_printed};
 use bound_ledger::{Ledger, Row};
 use node_core::{put_family, put_number};
 use plan_base::{Bytes, Family, NoMemory};
+use std::alloc::Global;
 
 /// A word and a count of a row.
 fn put_count(out: &mut Bytes, word: &[u8], n: u64) -> Result<(), NoMemory>
@@ -48,13 +49,24 @@ fn put_rows(out: &mut Bytes, ledger: &Ledger) -> Result<(), NoMemory>
     Ok(())
 }
 
-/// Appends the text of a ledger. It is that of each history that the ledger stands for, with each network
-/// with which the history is in balance.
-pub fn put_ledger(out: &mut Bytes, ledger: &Ledger) -> Result<(), NoMemory>
+/// The text of a ledger.
+fn put_ledger_text(out: &mut Bytes, ledger: &Ledger) -> Result<(), NoMemory>
     ensures { OnOk result ((h : List EntryOf) (w : WorldState) → Stands h ledger.now → ((f : FamilyOf) → Balanced f h w) → out.new ≡ out.old ++ ledger_text h w) }
 {
     out.add_all(b"ledger\n")?;
     put_rows(out, ledger)?;
     out.add_all(b"end\n")?;
+    Ok(())
+}
+
+/// Appends the text of a ledger. It is that of each history that the ledger stands for, with each network
+/// with which the history is in balance. Where memory is refused, `out` stays.
+pub fn put_ledger(alloc: Global, out: &mut Bytes, ledger: &Ledger) -> Result<(), NoMemory>
+    ensures whole { OnOk result ((h : List EntryOf) (w : WorldState) → Stands h ledger.now → ((f : FamilyOf) → Balanced f h w) → out.new ≡ out.old ++ ledger_text h w) }
+    ensures stays { OnErr result (out.new ≡ out.old) }
+{
+    let mut text = Bytes::new(alloc);
+    put_ledger_text(&mut text, ledger)?;
+    out.add_all(text.as_slice())?;
     Ok(())
 }

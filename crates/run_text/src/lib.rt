@@ -5,4 +5,4 @@ mod ledger;
 mod text;
 
 pub use ledger::put_ledger;
-pub use text::{put_line, put_lines};
+pub use text::put_lines;

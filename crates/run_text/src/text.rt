@@ -1,4 +1,4 @@
-ghost use Rattle.std.specs.Prelude.{◌≡◌, ◌++◌, codes, map, OnOk};
+ghost use Rattle.std.specs.Prelude.{◌≡◌, ◌++◌, codes, map, OnOk, OnErr};
 ghost use Rattle.std.specs.Fmt.{decimal};
 ghost use Rattle.node_model.specs.Texts.{head_text, bound_text};
 ghost use Rattle.world_model.specs.World.{entry_at};
@@ -82,10 +82,10 @@ fn put_line_text(alloc: Global, out: &mut Bytes, frames: bool, line: &Line) -> R
     Ok(())
 }
 
-/// Appends a whole line of a trace: the number of its event, what it says, with frames in hex where they
+/// A whole line of a trace: the number of its event, what it says, with frames in hex where they
 /// are to be shown, and its end.
 #[tactic(auto, unfolding(world_model::specs::Texts::entry_text))]
-pub fn put_line(
+fn put_line(
     alloc: Global,
     out: &mut Bytes,
     frames: bool,
@@ -101,8 +101,8 @@ pub fn put_line(
     Ok(())
 }
 
-/// Appends the lines of an event, each with the event's number.
-pub fn put_lines(
+/// The lines of an event, each with the event's number.
+fn put_all_lines(
     alloc: Global,
     out: &mut Bytes,
     frames: bool,
@@ -114,5 +114,22 @@ pub fn put_lines(
     for line in lines {
         put_line(alloc, out, frames, event, line)?;
     }
+    Ok(())
+}
+
+/// Appends the lines of an event, each with the event's number. Where memory is refused, `out` stays.
+pub fn put_lines(
+    alloc: Global,
+    out: &mut Bytes,
+    frames: bool,
+    event: u32,
+    lines: &[Line],
+) -> Result<(), NoMemory>
+    ensures whole { OnOk result (out.new ≡ out.old ++ spec.entries_text frames (map (entry_at event) lines.now)) }
+    ensures stays { OnErr result (out.new ≡ out.old) }
+{
+    let mut text = Bytes::new(alloc);
+    put_all_lines(alloc, &mut text, frames, event, lines)?;
+    out.add_all(text.as_slice())?;
     Ok(())
 }

@@ -23,7 +23,7 @@ differ (h ∷ hs) a = (apart h hs a.0, differ hs a.1)
 
 pub may_begin : (n : NodeConfig) → KeepsNode n → ConfigFits n
 may_begin n k = record {
-  hosts = record { few = k.few; differ = differ n.hosts k.ascend; numbers = k.numbers };
+  hosts = record { few = k.few; differ = differ n.hosts k.ascend };
   devices = All-weaker (IsNeighbour n.here n.hosts) (λ x. IsLinkDevice x.1) (λ x i. i.device) n.neighbours k.neighbours;
   ordered = k.devices;
 }

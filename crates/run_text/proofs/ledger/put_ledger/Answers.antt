@@ -1,7 +1,7 @@
-use Rattle.run_text.proofs.Printing.{ledger_put}
+use Rattle.std.proofs.Common.{◌++◌, ap, ◌∙◌}
+use Rattle.world_model.specs.Texts.{ledger_text}
 use Rattle.run_text.proofs.ledger.put_ledger.Goals as goal
 
-pub returns : goal.returns
-returns c = λ h w s law.
-    ledger_put h w c.args.ledger.now s law c.args.out.now c.add_all.new.self c.put_rows.new.out c.add_all-2.new.self c.in_ok-put_rows.ensures.once c.in_ok-add_all.ensures.ok
-    c.in_ok-put_rows.ensures.text c.in_ok-add_all-2.ensures.ok
+pub returns-clause-whole : goal.returns-clause-whole
+returns-clause-whole c = λ h w s law.
+    c.in_ok-add_all.ensures.ok ∙ ap (λ x. c.args.out.now ++ x) (c.as_slice.ensures ∙ c.in_ok-put_ledger_text.ensures h w s law ∙ ap (λ x. x ++ ledger_text h w) c.new-text.ensures)

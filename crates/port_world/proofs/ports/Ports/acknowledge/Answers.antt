@@ -20,4 +20,4 @@ pub returns-in-Err-NoBound-clause-goes : goal.returns-in-Err-NoBound-clause-goes
 returns-in-Err-NoBound-clause-goes g c = λ s h.
     let low = c.in-Err-NoBound.ensures.no_bound.0 (ap Err c.in-Err-NoBound.field-0-is) in
     let same = h.second in
-    on_ok _ _ c.put_told.result (λ e. acks_unpaid g.S.Services.stands _ c.args.number s c.args.text.now c.put_told.new.out (omega (arith, low, same)) (still g.S.Services.stands c.args.self.now _ s h refl refl refl refl c.in-Err-NoBound.ensures.err) e) c.put_told.ensures
+    on_ok _ _ c.put_told.result (λ e. acks_unpaid g.S.Services.stands _ c.args.number s c.args.text.now c.put_told.new.out (omega (arith, low, same)) (still g.S.Services.stands c.args.self.now _ s h refl refl refl refl c.in-Err-NoBound.ensures.err) e) c.put_told.ensures.whole

@@ -8,7 +8,7 @@ pub returns-then-is_nothing-clause-goes : goal.returns-then-is_nothing-clause-go
 returns-then-is_nothing-clause-goes g c = λ s h.
     on_ok _ _ c.put_told.result
     (λ e. nothing_goes g.S.Services.stands c.args.self.now c.args.number c.args.line.now s c.args.text.now c.put_told.new.out (sym c.if-is_nothing.ensures) (record { is = h; text = e }))
-    c.put_told.ensures
+    c.put_told.ensures.whole
 
 pub returns-in_default-clause-goes : goal.returns-in_default-clause-goes
 returns-in_default-clause-goes g c = λ s h.

@@ -32,7 +32,7 @@ returns-in-Err-NotHeld-clause-goes g c = λ s h.
     let none = held_none c.args.seq c.args.self.now.sender (c.in-Err-NotHeld.ensures.not_held.0 (ap Err c.in-Err-NotHeld.field-0-is)) in
     on_ok _ _ c.put_told.result
     (λ e. transmit_none g.S.Services.stands _ c.args.number c.args.seq (held_at c.args.seq s.sender) s c.args.text.now c.put_told.new.out (ap (held_at c.args.seq) (sym h.sender) ∙ none) e (still g.S.Services.stands c.args.self.now _ s h refl refl refl c.in-Err-NotHeld.ensures.err refl))
-    c.put_told.ensures
+    c.put_told.ensures.whole
 
 pub returns-in-Err-NoBound-clause-goes : goal.returns-in-Err-NoBound-clause-goes
 returns-in-Err-NoBound-clause-goes g c = λ s h.
@@ -42,4 +42,4 @@ returns-in-Err-NoBound-clause-goes g c = λ s h.
     let same = h.first in
     on_ok _ _ c.put_told-in-Err-NoBound.result
     (λ e. transmit_unpaid g.S.Services.stands _ c.args.number c.args.seq b.0 (held_at c.args.seq s.sender) s c.args.text.now c.put_told-in-Err-NoBound.new.out (ap (held_at c.args.seq) (sym h.sender) ∙ b.1) (omega (arith, low, same)) e (still g.S.Services.stands c.args.self.now _ s h refl refl refl c.in-Err-NoBound.ensures.err refl))
-    c.put_told-in-Err-NoBound.ensures
+    c.put_told-in-Err-NoBound.ensures.whole

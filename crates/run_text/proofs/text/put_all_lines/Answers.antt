@@ -1,5 +1,5 @@
 use Rattle.run_text.proofs.Printing.{lines_none, lines_next, lines_all}
-use Rattle.run_text.proofs.text.put_lines.Goals as goal
+use Rattle.run_text.proofs.text.put_all_lines.Goals as goal
 
 pub loop-line-init : goal.loop-line-init
 loop-line-init c = lines_none c.args.frames c.args.event c.args.lines.now c.args.out.now
