@@ -5,8 +5,8 @@ use crate::fleets::{REPORTED, starts};
 use crate::objects::{Failing, NONE, Task};
 use crate::requests::{SENT, asks};
 use crate::rows::{
-    FLEET, FRAME, LOG, MESSAGE, PART_HELD, PART_LOG, PARTED, PROGRAM, REQUEST, RUN, SCHEDULE,
-    SHOWN, SIZES, TRACE,
+    FLEET, FRAME, LOG, MESSAGE, PART_HELD, PART_LOG, PARTED, PORT, PORTED, PROGRAM, REQUEST, RUN,
+    SCHEDULE, SHOWN, SIZES, TRACE,
 };
 use std::alloc::Global;
 use std::process::Abort;
@@ -98,5 +98,11 @@ fn each_call_of_the_reading_of_messages_fails(rt: HostRuntime) -> Result<(), Fai
         alloc,
         &reads(&["gather", "7", "file.txt"], PART_LOG),
         writes(PART_HELD),
+    )?;
+    reads_fail(
+        &rt,
+        alloc,
+        &reads(&["port", "file.txt"], PORT),
+        writes(PORTED),
     )
 }

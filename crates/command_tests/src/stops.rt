@@ -2,9 +2,10 @@
 
 use crate::objects::{Machine, NONE, Streams, Task, code, machine_of, streams_of};
 use crate::reads::reads;
-use crate::rows::{RUN, SCHEDULE};
+use crate::rows::{PORT, PORTED, RUN, SCHEDULE};
 use node_io::{Calls, MemSink};
 use std::alloc::Global;
+use std::process::Abort;
 use std::test::Fail;
 
 fn replays(bytes: &'static [u8]) -> Task {
@@ -25,25 +26,36 @@ fn ends(
     Ok((is, out, notes) == wanted)
 }
 
-// Whether a replay over an output that takes so many bytes writes these, and ends with a write fault.
-fn stops_behind(alloc: Global, count: usize) -> Result<bool, Fail> {
-    let task = replays(SCHEDULE);
-    let Some(front) = RUN.get(..count) else {
+// Whether a call that writes a text, over an output that takes so many bytes of it, writes these, and ends with a write
+// fault.
+fn stops_behind(
+    alloc: Global,
+    task: &Task,
+    text: &'static [u8],
+    count: usize,
+) -> Result<bool, Fail> {
+    let Some(taken) = text.get(..count) else {
         return Ok(false);
     };
-    let mut machine = machine_of(alloc, &task, NONE)?;
-    let mut streams = streams_of(alloc, &task, NONE)?;
+    let mut machine = machine_of(alloc, task, NONE)?;
+    let mut streams = streams_of(alloc, task, NONE)?;
     streams.out = MemSink::stopping(alloc, count as u64)?;
-    let wanted = (4, front, b"planet: write fault\n".as_slice());
-    ends(alloc, &task, &mut machine, &mut streams, wanted)
+    let wanted = (4, taken, b"planet: write fault\n".as_slice());
+    ends(alloc, task, &mut machine, &mut streams, wanted)
+}
+
+fn stops(rt: &impl Abort, alloc: Global, task: &Task, text: &'static [u8]) -> Result<(), Fail> {
+    for count in 0..text.len() {
+        assert!(rt; stops_behind(alloc, task, text, count)?);
+    }
+    Ok(())
 }
 
 #[test]
-fn a_stopping_output_has_taken_a_front(rt: HostRuntime) -> Result<(), Fail> {
-    for count in 0..RUN.len() {
-        assert!(rt; stops_behind(rt.alloc(), count)?);
-    }
-    Ok(())
+fn a_stopping_output_has_taken_a_prefix(rt: HostRuntime) -> Result<(), Fail> {
+    let alloc = rt.alloc();
+    stops(&rt, alloc, &replays(SCHEDULE), RUN)?;
+    stops(&rt, alloc, &reads(&["port", "file.txt"], PORT), PORTED)
 }
 
 // Whether a note whose first push fails is a write fault, and the next call notes what is wrong with the file.

@@ -26,7 +26,7 @@ use Rattle.run_commands.specs.Grown.{GrowsAs}
 use Rattle.cut_files.specs.Texts.{cut_output}
 use Rattle.message_commands.specs.Messages.{cut_said, gather_said, messages_text}
 use Rattle.port_world.specs.Texts.{port_output}
-use Rattle.port_commands.specs.Ports.{Runs, port_said}
+use Rattle.port_commands.specs.Ports.{port_said}
 use Rattle.audit_commands.specs.Audits.{audit_said}
 use Rattle.live_commands.specs.Asks.{AsksAs, ask_said, ask_cause}
 use Rattle.live_commands.specs.Fleets.{RunsAs, fleet_said, fleet_cause}
@@ -35,7 +35,7 @@ use Rattle.planet_cli.specs.Requests.{Request, replay, check, show, inject, flee
 use Rattle.planet_cli.specs.Does.{Does, wire_in, shop_in, serving_in}
 use Rattle.planet_cli.specs.Calls.{Calls}
 use Rattle.planet_cli.specs.Laws.{UnlessLinked, UnlessFleet, IfNodesFailed}
-use Rattle.planet_cli.proofs.Views.{Took, took, left, view, audit_view, took_weaker}
+use Rattle.planet_cli.proofs.Views.{Took, took, left, view, audit_view}
 use Rattle.planet_cli.proofs.Giving.{given, carried}
 
 -- no fault of the link; and none of children
@@ -133,7 +133,7 @@ module _ (c : Cause) (old new : Outside) where
   kinds (Some (node file turns)) d = (tt, serves_so file turns d.1.read (view (config_said file) (ServesAs turns) file old.files d.1.read c (record (serving_in old) { files = d.1.read }) (serving_in new) d.1.did))
   kinds (Some (grow seed k)) d = grown seed k c old.out new.out d.1
   kinds (Some (cut file)) d = texts_so cut_output (cut_said file) old.files new.files c old.out new.out (view (cut_said file) (PrintsBy cut_output) file old.files new.files c old.out new.out d.1)
-  kinds (Some (ports file)) d = texts_so port_output (port_said file) old.files new.files c old.out new.out (took_weaker (port_said file) Runs (PrintsBy port_output) (λ p k a b r. r.prints) old.files new.files c old.out new.out (view (port_said file) Runs file old.files new.files c old.out new.out d.1))
+  kinds (Some (ports file)) d = texts_so port_output (port_said file) old.files new.files c old.out new.out (view (port_said file) (PrintsBy port_output) file old.files new.files c old.out new.out d.1)
   kinds (Some (gather port file)) d = texts_so (messages_text port) (gather_said file) old.files new.files c old.out new.out (view (gather_said file) (PrintsBy (messages_text port)) file old.files new.files c old.out new.out d.1)
   kinds (Some (audit file)) d = prints_so (audit_said file) old.files new.files c old.out new.out (audit_view file old.files new.files c old.out new.out d.1)
 

@@ -21,7 +21,7 @@ use Rattle.fleet_run.specs.Asks.{ask_line}
 use Rattle.cut_files.specs.Texts.{cut_output}
 use Rattle.message_commands.specs.Messages.{cut_said, gather_said, messages_text}
 use Rattle.port_world.specs.Texts.{port_output}
-use Rattle.port_commands.specs.Ports.{Runs, port_said}
+use Rattle.port_commands.specs.Ports.{port_said}
 use Rattle.audit_commands.specs.Audits.{audit_said}
 use Rattle.live_commands.specs.Asks.{AsksAs, ask_said}
 use Rattle.live_commands.specs.Fleets.{RunsAs, fleet_said}
@@ -30,7 +30,7 @@ use Rattle.planet_cli.specs.Requests.{Request, replay, check, show, inject, flee
 use Rattle.planet_cli.specs.Does.{Does, wire_in, shop_in, serving_in}
 use Rattle.planet_cli.specs.Outcomes.{Outcome, unasked, missing, refused, whole, runs, outcome_by, outcome_of, IsWhole, IsAccepted, WritesOut, BeginsOut}
 use Rattle.planet_cli.specs.Laws.{WhereInjected}
-use Rattle.planet_cli.proofs.Views.{Took, took, left, view, audit_view, took_weaker}
+use Rattle.planet_cli.proofs.Views.{Took, took, left, view, audit_view}
 use Rattle.planet_cli.proofs.Acting.{Acting, printing, asking, running, serving, growing}
 
 -- a refusal is the file's own and what the file says, and leaves the output; what the file refuses is refused; it is done only where
@@ -202,7 +202,7 @@ ends (Some (fleet file)) c old new d = fleet_ends file c old new (view (fleet_sa
 ends (Some (node file turns)) c old new d = node_ends file turns c old new d.1.read (view (config_said file) (ServesAs turns) file old.files d.1.read c (record (serving_in old) { files = d.1.read }) (serving_in new) d.1.did)
 ends (Some (grow seed n)) c old new d = apart_ends (IsTrue old.files.observable) (HasRisen old.files.read_faults new.files.read_faults) (Unit {0}) old.out new.out c (growing (Unit {0}) seed n c old.out new.out d.1)
 ends (Some (cut file)) c old new d = texts_end cut_output (cut_said file) old.files new.files old.out new.out c (view (cut_said file) (PrintsBy cut_output) file old.files new.files c old.out new.out d.1)
-ends (Some (ports file)) c old new d = texts_end port_output (port_said file) old.files new.files old.out new.out c (took_weaker (port_said file) Runs (PrintsBy port_output) (λ p k a b r. r.prints) old.files new.files c old.out new.out (view (port_said file) Runs file old.files new.files c old.out new.out d.1))
+ends (Some (ports file)) c old new d = texts_end port_output (port_said file) old.files new.files old.out new.out c (view (port_said file) (PrintsBy port_output) file old.files new.files c old.out new.out d.1)
 ends (Some (gather port file)) c old new d =
     texts_end (messages_text port) (gather_said file) old.files new.files old.out new.out c (view (gather_said file) (PrintsBy (messages_text port)) file old.files new.files c old.out new.out d.1)
 ends (Some (audit file)) c old new d = prints_end (audit_said file) old.files new.files old.out new.out c (audit_view file old.files new.files c old.out new.out d.1)

@@ -33,7 +33,7 @@ use Rattle.run_commands.specs.Grown.{GrowsAs}
 use Rattle.cut_files.specs.Texts.{cut_output}
 use Rattle.message_commands.specs.Messages.{cut_said, gather_said, messages_text}
 use Rattle.port_world.specs.Texts.{port_output}
-use Rattle.port_commands.specs.Ports.{Runs, port_said}
+use Rattle.port_commands.specs.Ports.{port_said}
 use Rattle.audit_commands.specs.Audits.{audit_said}
 use Rattle.live_commands.specs.Asks.{AsksAs, ask_said, ask_cause}
 use Rattle.live_commands.specs.Fleets.{RunsAs, fleet_said, fleet_cause}
@@ -42,7 +42,7 @@ use Rattle.planet_cli.specs.Requests.{Request, replay, check, show, inject, flee
 use Rattle.planet_cli.specs.Does.{Does, wire_in, shop_in, serving_in}
 use Rattle.planet_cli.specs.Calls.{Calls}
 use Rattle.call_causes.specs.Notes.{Notes, told, no_memory, failed}
-use Rattle.planet_cli.proofs.Views.{Took, took, left, view, audit_view, took_weaker}
+use Rattle.planet_cli.proofs.Views.{Took, took, left, view, audit_view}
 
 module _ (old new : Outside) (n m : SinkState) where
   printed : (text : List ℕ) (c : Cause) → Prints text c old.out new.out → Explains c old new n m
@@ -131,7 +131,7 @@ module _ (old new : Outside) (n m : SinkState) where
   explains (Some (node file turns)) c d = serves_so file turns c d.1.read d.1.did.takes.only.write_faults (view (config_said file) (ServesAs turns) file old.files d.1.read c (record (serving_in old) { files = d.1.read }) (serving_in new) d.1.did)
   explains (Some (grow seed k)) c d = grown seed k c d.1
   explains (Some (cut file)) c d = texts_so cut_output (cut_said file) c (view (cut_said file) (PrintsBy cut_output) file old.files new.files c old.out new.out d.1)
-  explains (Some (ports file)) c d = texts_so port_output (port_said file) c (took_weaker (port_said file) Runs (PrintsBy port_output) (λ p k a b r. r.prints) old.files new.files c old.out new.out (view (port_said file) Runs file old.files new.files c old.out new.out d.1))
+  explains (Some (ports file)) c d = texts_so port_output (port_said file) c (view (port_said file) (PrintsBy port_output) file old.files new.files c old.out new.out d.1)
   explains (Some (gather port file)) c d = texts_so (messages_text port) (gather_said file) c (view (gather_said file) (PrintsBy (messages_text port)) file old.files new.files c old.out new.out d.1)
   explains (Some (audit file)) c d = prints_so (audit_said file) c (audit_view file old.files new.files c old.out new.out d.1)
 

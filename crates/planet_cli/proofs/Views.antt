@@ -22,12 +22,6 @@ module _ {A S : Type 0} (said : FileMap → Said A) (Acts : A → Cause → S �
   pub view : TakesAndActs said Acts name files read cause old new → Took said Acts files read cause old new
   view t = by_taken t.taken t.takes t.acts
 
--- what holds of the act alone
-pub took_weaker : {A S : Type 0} (said : FileMap → Said A) (P Q : A → Cause → S → S → Type 0) → ((v : A) (cause : Cause) (old new : S) → P v cause old new → Q v cause old new)
-    → (files read : FilesState) (cause : Cause) (old new : S) → Took said P files read cause old new → Took said Q files read cause old new
-took_weaker said P Q f files read cause old new (took v own p) = took v own (f v cause old new p)
-took_weaker said P Q f files read cause old new (left u same) = left u same
-
 -- the same of an audit, which takes the logs that its file names too
 pub audit_view : (name : List ℕ) (files read : FilesState) (cause : Cause) (old new : SinkState) → AuditsFile name files read cause old new → Took (audit_said name) Prints files read cause old new
 audit_view name files read cause old new t = by t.taken t.did t.acts

@@ -12,7 +12,8 @@ use Rattle.run_commands.specs.Schedules.{replay_said}
 use Rattle.run_commands.specs.Grown.{GrowsAs}
 use Rattle.cut_files.specs.Texts.{cut_output}
 use Rattle.message_commands.specs.Messages.{cut_said, gather_said, messages_text}
-use Rattle.port_commands.specs.Ports.{Runs, port_said}
+use Rattle.port_world.specs.Texts.{port_output}
+use Rattle.port_commands.specs.Ports.{port_said}
 use Rattle.audit_commands.specs.Audits.{AuditsFile}
 use Rattle.live_commands.specs.Asks.{AsksAs, ask_said, Wire}
 use Rattle.live_commands.specs.Fleets.{RunsAs, fleet_said, Shop}
@@ -54,7 +55,7 @@ Does (Some (cut file)) cause old new =
 Does (Some (gather port file)) cause old new =
     OnlyOut old new × TakesAndActs (gather_said file) (PrintsBy (messages_text port)) file old.files new.files cause old.out new.out
 Does (Some (ports file)) cause old new =
-    OnlyOut old new × TakesAndActs (port_said file) Runs file old.files new.files cause old.out new.out
+    OnlyOut old new × TakesAndActs (port_said file) (PrintsBy port_output) file old.files new.files cause old.out new.out
 Does (Some (audit file)) cause old new = OnlyOut old new × AuditsFile file old.files new.files cause old.out new.out
 Does (Some (inject file)) cause old new =
     OnlyLink old new × TakesAndActs (ask_said file) AsksAs file old.files new.files cause (wire_in old) (wire_in new)

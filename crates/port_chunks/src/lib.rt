@@ -2,5 +2,7 @@
 #![tactic(auto)]
 
 mod chunks;
+mod laws;
 
 pub use chunks::{ack_chunk, data_chunk, port_code};
+pub use laws::{chunks_are_checked, port_is_checked};

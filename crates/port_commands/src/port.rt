@@ -3,8 +3,10 @@ ghost use Rattle.service_registry.specs.Held.{standing};
 ghost use Rattle.world_model.specs.World.{opening_services};
 ghost use Rattle.port_files.specs.PortRules.{KeepsPort};
 ghost use Rattle.port_world.specs.Networks.{two_hosts};
+ghost use Rattle.port_world.specs.Texts.{port_output};
 ghost use Rattle.file_commands.specs.Takes.{TakesAndActs};
-ghost use Rattle.port_commands.specs.Ports.{Runs, port_said};
+ghost use Rattle.file_commands.specs.Renders.{Prints, PrintsBy};
+ghost use Rattle.port_commands.specs.Ports.{port_said};
 
 use call_causes::Cause;
 use file_commands::{LineValue, print, value_of};
@@ -82,10 +84,10 @@ fn both_services(alloc: Global) -> Result<Items<Registry>, NoMemory>
 }
 
 // Writes what two ends do that were read.
-#[tactic(auto, using(crate::proofs::Running::runs_none, crate::proofs::Running::runs_text))]
+#[tactic(auto, using(node_io::proofs::SinkLaws::prefix_none))]
 fn run_port<K: Sink>(alloc: Global, file: &PortFile, out: &mut K) -> Cause
     requires { KeepsPort file.now }
-    ensures { Runs file.now result (K.state out.old) (K.state out.new) }
+    ensures { Prints (port_output file.now) result (K.state out.old) (K.state out.new) }
 {
     let Ok(services) = both_services(alloc) else {
         return Cause::NoMemory;
@@ -97,10 +99,10 @@ fn run_port<K: Sink>(alloc: Global, file: &PortFile, out: &mut K) -> Cause
 }
 
 /// `port FILE`: what is met at each event of the two ends that the file says, and how they stand in the end; see
-/// `docs/ports.md`. Where the output is whole, the hops and evals of any families together are at most what both purses
-/// paid, after every number of events.
+/// `docs/ports.md`. After every number of events, the hops and evals of any families together are at most what both purses
+/// paid.
 pub fn on_port<F: Files, K: Sink>(alloc: Global, files: &mut F, name: &str, out: &mut K) -> Cause
-    ensures { TakesAndActs (port_said name.now) Runs name.now
+    ensures { TakesAndActs (port_said name.now) (PrintsBy port_output) name.now
         (F.state files.old) (F.state files.new) result (K.state out.old) (K.state out.new) }
 {
     match value_of::<PortScript, F>(alloc, files, name) {

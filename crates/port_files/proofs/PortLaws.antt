@@ -170,7 +170,7 @@ end_keeps stages.Events number s k y e =
 nothing_keeps : Keeps nothing_read
 nothing_keeps = record { first = omega arith; second = omega arith; few = omega arith; events = tt }
 
-port_keeps : (bytes : List ℕ) → IfStep KeepsPort (port_of bytes)
+pub port_keeps : (bytes : List ℕ) → IfStep KeepsPort (port_of bytes)
 port_keeps bytes =
     read_keeps port_format Keeps KeepsPort
     (λ number line s k. step_keeps s.stage number line s k)

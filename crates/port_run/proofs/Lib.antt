@@ -4,3 +4,4 @@ pub mod Opening
 pub mod Quiet
 pub mod Paying
 pub mod Purses
+pub mod Fitting

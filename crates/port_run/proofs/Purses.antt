@@ -11,6 +11,7 @@ use Rattle.node_model.specs.declared.acts.Act.TheVariants as act
 use Rattle.world_model.specs.declared.lines.Line.{Line}
 use Rattle.world_model.specs.declared.lines.Line.TheVariants as line
 use Rattle.world_model.specs.World.{WorldState, happens, world_after}
+use Rattle.port_visits.proofs.Rules.{all_push}
 use Rattle.reliable_ports.specs.Ends.{Body, number_of, is_full, with_offer, held_at, with_message}
 use Rattle.port_run.specs.Ports.{PortState, PortEvent, Offer, Transmit, Wire, price, said_to, heard_by, makes, first_pays, second_pays, ack_event, message_event, acks, hears_message, hears_ack, hears_note, hears_line, hears, after, offers_one, transmits, port_run, port_begun}
 use Rattle.port_run.specs.Allowed.{IsWire}
@@ -21,10 +22,6 @@ pub run_more : (es : List WorldEvent) (e : WorldEvent) (w : WorldState) → worl
 unfolding world_after
 run_more [] e w = refl
 run_more (x ∷ es) e w = run_more es e (happens w x).world
-
-all_push : {X : Type 0} (P : X → Type 0) (xs : List X) (x : X) → AllByRecursion P xs → P x → AllByRecursion P (xs ++ x ∷ [])
-all_push P [] x h p = (p, tt)
-all_push P (y ∷ xs) x h p = (h.0, all_push P xs x h.1 p)
 
 -- the network is what its events make of the first one, none is raw, and what they inject was paid out of n
 pub record Pays (w : WorldState) (n : ℕ) (s : PortState) : Type 0 where

@@ -1,5 +1,5 @@
 -- The ends and the network keep together.
-use Rattle.std.proofs.Common.{◌≡◌, ℕ, zero, suc, ◌≤◌, Bool, true, false, cond, List, [], ◌∷◌, ◌++◌, length, Option, Some, None, refl, sym, ap, subst, ◌∙◌, arith, length-append}
+use Rattle.std.proofs.Common.{◌≡◌, ℕ, zero, suc, ◌≤◌, Bool, true, false, cond, List, [], ◌∷◌, ◌++◌, length, Option, Some, None, refl, sym, ap, subst, ◌∙◌, arith}
 use Rattle.std.specs.Prelude.{◌==◌, nat_lt, pos, ℤ}
 use Rattle.std.specs.List.{AllByRecursion}
 use Rattle.plan_base.specs.declared.ids.Host.{Host}
@@ -20,8 +20,9 @@ use Rattle.world_model.specs.declared.lines.Line.{Line}
 use Rattle.world_model.specs.declared.lines.Line.TheVariants as line
 use Rattle.world_model.specs.declared.lines.Wired.{Wired}
 use Rattle.world_model.specs.World.{WorldState, happens}
-use Rattle.reliable_ports.specs.Ends.{Body, number_of, Receiving, is_full, with_offer, held_at, next_of, with_message}
+use Rattle.reliable_ports.specs.Ends.{Body, number_of, is_full, with_offer, held_at, next_of, with_message}
 use Rattle.reliable_ports.proofs.Slots.{get_more}
+use Rattle.reliable_ports.proofs.Scripts.{prefix_length}
 use Rattle.reliable_ports.proofs.Steps.{message, Receives, Sends, receives_more, receives_message, delivers_on, sends_more, held_message, sends_ack}
 use Rattle.port_visits.specs.Only.{Allowed, AnswerFits}
 use Rattle.port_visits.specs.Visits.{VisitIsGood, Any}
@@ -173,13 +174,10 @@ module _ (offer : Offering) where
         let a = acks_on (heard_by r s) t in
         record { together = a.together; grows = record { offers = λ seq b e. a.grows.offers seq b e; acks = omega (arith, more, a.grows.acks) } }
 
-    front_length : (os : List Body) (r : Receiving) → Receives os r → length r.delivered ≤ length os
-    front_length os r h = omega (arith, length-append r.delivered h.rest, ap length h.front)
-
     ack_on : (o : Option (ℤ × Body)) (x : Note) (s : PortState) → said_to 2 x ≡ o → PortNote s.offers (next_of s.receiver) x → Together s → On s (hears_ack o s)
     ack_on None x s e k h = stays s h
     ack_on (Some m) x s e k h =
-        let w = sends_ack (number_of m.0) (length s.receiver.delivered) s.offers s.sender h.sends h.acked (front_length s.offers s.receiver h.receives) (note_ack s.offers (next_of s.receiver) x m k e) in
+        let w = sends_ack (number_of m.0) (length s.receiver.delivered) s.offers s.sender h.sends h.acked (prefix_length s.offers s.receiver h.receives) (note_ack s.offers (next_of s.receiver) x m k e) in
         record { together = record { receives = h.receives; sends = w.0; acked = w.1; world = h.world }; grows = record { offers = λ seq b e. e; acks = omega arith } }
 
     note_on : (g : Host) (x : Note) (s : PortState) → PortNote s.offers (next_of s.receiver) x → Together s → On s (hears_note g x s)
@@ -251,7 +249,7 @@ module _ (offer : Offering) where
 
     pub begun_on : (w : WorldState) (b c : ℕ) → WorldKnown (port_allowed offer [] 1) w → Together (port_begun w b c)
     begun_on w b c k = record {
-      receives = record { rest = []; front = refl; agrees = tt };
+      receives = record { rest = []; prefix = refl; agrees = tt };
       sends = record { within = omega arith; held = refl };
       acked = omega arith;
       world = k;

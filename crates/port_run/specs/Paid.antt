@@ -12,7 +12,10 @@ use Rattle.world_model.specs.declared.lines.Line.TheVariants.{At, Forged}
 use Rattle.world_model.specs.declared.lines.Entry.{Entry}
 use Rattle.world_model.specs.Counts.{hops, evals}
 use Rattle.world_model.specs.World.{WorldState, history_of, world_after}
-use Rattle.port_run.specs.Ports.{PortState}
+use Rattle.world_model.specs.Sound.{event_fits}
+use Rattle.link_window.specs.declared.window.Version.{Version}
+use Rattle.reliable_ports.specs.Ends.{IsShort}
+use Rattle.port_run.specs.Ports.{PortState, PortEvent, Offer, Transmit, Wire}
 
 -- a number of each, added up
 abbrev pub sum_of : {X : Type 0} → (X → ℕ) → List X → ℕ
@@ -48,6 +51,16 @@ paid_by fs h = sum_of (λ f. hops f h + evals f h) fs
 abbrev pub NotRaw : WorldEvent → Type 0
 NotRaw (event.Raw h d bytes) = ⊥
 NotRaw _ = Unit {0}
+
+-- a body that is offered is short, and what happens in the network fits its version
+abbrev pub EventFits : Version → PortEvent → Type 0
+EventFits v (Offer b) = IsShort b
+EventFits v (Transmit seq) = Unit {0}
+EventFits v (Wire e) = event_fits v e
+
+-- so of each event of a script
+abbrev pub ScriptFits : Version → List PortEvent → Type 0
+ScriptFits v es = AllByRecursion (EventFits v) es
 
 -- the network is what its events make of one
 abbrev pub IsMade : WorldState → PortState → Type 0

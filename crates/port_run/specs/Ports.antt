@@ -13,7 +13,7 @@ use Rattle.world_model.specs.declared.lines.Line.{Line}
 use Rattle.world_model.specs.declared.lines.Line.TheVariants.{At}
 use Rattle.world_model.specs.World.{WorldState, happens}
 use Rattle.reliable_ports.specs.Ends.{Body, number_of, Sending, Receiving, no_offers, no_messages, is_full, with_offer, held_at, with_ack, next_of, with_message}
-use Rattle.reliable_ports.specs.Scripts.{IsFront}
+use Rattle.reliable_ports.specs.Scripts.{IsPrefix}
 use Rattle.port_tree.specs.Programs.{data_chunk, ack_chunk}
 
 -- the host that offers messages
@@ -163,9 +163,9 @@ port_run (e ∷ es) s = port_run es (happens_at e s)
 abbrev pub port_begun : WorldState → ℕ → ℕ → PortState
 port_begun w b c = record { offers = []; sender = no_offers; receiver = no_messages; world = w; first = b; second = c; events = [] }
 
--- what was delivered is a front of what was offered
+-- what was delivered is a prefix of what was offered
 abbrev pub IsInOrder : PortState → Type 0
-IsInOrder s = IsFront s.receiver.delivered s.offers
+IsInOrder s = IsPrefix s.receiver.delivered s.offers
 
 -- no more is acknowledged than was delivered
 abbrev pub IsAcked : PortState → Type 0

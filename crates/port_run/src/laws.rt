@@ -8,16 +8,15 @@ ghost use Rattle.service_meaning.specs.Beginning.{present_without};
 ghost use Rattle.network_plan.specs.declared.schedule.Topology.{Topology};
 ghost use Rattle.network_plan.specs.Rules.{KeepsNetwork};
 ghost use Rattle.world_model.specs.World.{WorldState, opening};
-ghost use Rattle.world_model.specs.Sound.{EventsFit};
 ghost use Rattle.port_node.specs.Known.{WorldKnown};
 ghost use Rattle.port_run.specs.Ports.{PortEvent, port_run, port_begun, IsInOrder, IsAcked};
 ghost use Rattle.port_run.specs.Allowed.{PortServes, port_allowed, IsWire, AllPresent};
-ghost use Rattle.port_run.specs.Paid.{Apart, IsMade, IsPaid};
+ghost use Rattle.port_run.specs.Paid.{Apart, ScriptFits, IsMade, IsPaid};
 
 /// Over a network of known packets, whatever is sent, lost, repeated or reordered: what was delivered is a prefix of what was
 /// offered, and no more is acknowledged than was delivered.
 pub fn port_law()
-    ensures front { (offer : Offer) (w : WorldState) (b c : ℕ) (script : List PortEvent)
+    ensures prefix { (offer : Offer) (w : WorldState) (b c : ℕ) (script : List PortEvent)
         → PortServes offer → WorldKnown (port_allowed offer [] 1) w → AllByRecursion IsWire script
         → IsInOrder (port_run script (port_begun w b c)) }
     ensures acked { (offer : Offer) (w : WorldState) (b c : ℕ) (script : List PortEvent)
@@ -43,7 +42,6 @@ pub fn port_is_paid()
         → AllByRecursion IsWire script
         → IsMade (opening t) (port_run script (port_begun (opening t) b c)) }
     ensures paid { (t : Topology) (b c : ℕ) (script : List PortEvent) (fs : List Family)
-        → KeepsNetwork t → EventsFit t.version (port_run script (port_begun (opening t) b c)).events
-        → AllByRecursion IsWire script → Apart fs
+        → KeepsNetwork t → ScriptFits t.version script → AllByRecursion IsWire script → Apart fs
         → IsPaid fs (b + c) (opening t) (port_run script (port_begun (opening t) b c)) }
 {}

@@ -36,6 +36,10 @@ use Rattle.plan_meaning.specs.Meaning.{Env, Runs, is_paid, bound_of, no_bound, p
 use Rattle.port_visits.specs.Only.{Allowed, Good, AnswerFits, Serves, MaySend}
 use Rattle.port_visits.specs.Visits.{EndsGood}
 
+pub all_push : {X : Type 0} (P : X → Type 0) (xs : List X) (x : X) → AllByRecursion P xs → P x → AllByRecursion P (xs ++ x ∷ [])
+all_push P [] x h p = (p, tt)
+all_push P (y ∷ xs) x h p = (h.0, all_push P xs x h.1 p)
+
 module _ (a : Allowed) where
   -- from each good state a run ends in one, and what it gives is ok
   abbrev pub Only : {A : Type 0} → (A → Type 0) → Run A → Type 0
@@ -82,10 +86,6 @@ module _ (a : Allowed) where
   pub only_whole : (ok : Value → Type 0) (p : Run Value) → Only ok p → Only ok (whole p)
   unfolding whole
   only_whole ok p h = only_bind ok ok (spend 1 >> p) weighed (only_then (λ _. Unit {0}) ok (spend 1) p (only_spend 1) h) (only_weighed ok)
-
-  all_push : {X : Type 0} (P : X → Type 0) (xs : List X) (x : X) → AllByRecursion P xs → P x → AllByRecursion P (xs ++ x ∷ [])
-  all_push P [] x h p = (p, tt)
-  all_push P (y ∷ xs) x h p = (h.0, all_push P xs x h.1 p)
 
   -- a service
   pub only_serve : (ok : Value → Type 0) (d : Svc) (args : List Value) → Serves a d args ok → Only ok (serve d args)

@@ -13,10 +13,11 @@ use Rattle.node_model.specs.declared.acts.Act.TheVariants as act
 use Rattle.world_model.specs.declared.lines.Line.{Line}
 use Rattle.world_model.specs.declared.lines.Line.TheVariants as line
 use Rattle.world_model.specs.World.{happens, opening}
-use Rattle.reliable_ports.specs.Ends.{Body, number_of, Receiving, Sending, offered, is_full, with_offer, held_at, next_of, with_message}
-use Rattle.reliable_ports.proofs.Steps.{message, Receives, Sends, held_message}
+use Rattle.reliable_ports.specs.Ends.{Body, number_of, Sending, offered, is_full, with_offer, held_at, next_of, with_message}
+use Rattle.reliable_ports.proofs.Scripts.{prefix_length}
+use Rattle.reliable_ports.proofs.Steps.{message, Sends, held_message}
 use Rattle.port_node.specs.Known.{LineKnown, ComesKnown}
-use Rattle.port_node.proofs.Worlds.{event_known}
+use Rattle.port_node.proofs.Worlds.{all_take, event_known}
 use Rattle.port_run.specs.Ports.{PortState, PortEvent, Offer, Transmit, Wire, price, said_to, heard_by, makes, first_pays, second_pays, ack_event, message_event, acks, hears_message, hears_ack, hears_note, hears_line, hears, after, offers_one, transmits, happens_at, port_run}
 use Rattle.port_run.specs.Allowed.{numbered, PortChunk, port_allowed, IsWire}
 use Rattle.port_run.proofs.Running.{Together, port_closed, hears_on, run_on, begun_on}
@@ -98,11 +99,6 @@ offers_few p k few = let none : length (begun p).offers ≡ 0 = refl in omega (a
 abbrev pub Keep : PortState → Type 0
 Keep s = Together (offer (present_without [])) (registry_serves (present_without [])) s
 
-all_take : {X : Type 0} (P : X → Type 0) (n : ℕ) (xs : List X) → AllByRecursion P xs → AllByRecursion P (take n xs)
-all_take P zero xs h = tt
-all_take P (suc n) [] h = tt
-all_take P (suc n) (x ∷ xs) h = (h.0, all_take P n xs h.1)
-
 pub all_at : {X : Type 0} (P : X → Type 0) (xs : List X) (i : ℕ) (x : X) → AllByRecursion P xs → i < length xs → x ≡ get_or xs i x → P x
 all_at P [] i x h l e = absurd (omega (arith, l))
 all_at P (y ∷ xs) zero x h l e = subst P (sym e) h.0
@@ -128,13 +124,10 @@ kept_at p k =
 
 -- ---- what is heard
 
-front_length : (os : List Body) (r : Receiving) → Receives os r → length r.delivered ≤ length os
-front_length os r h = omega (arith, length-append r.delivered h.rest, ap length h.front)
-
 hears_few : (ls : List Line) (s : PortState) → AllByRecursion (LineKnown (port_allowed (offer (present_without [])) s.offers (next_of s.receiver))) ls → Keep s → length s.offers ≤ 50000 → HearsFew ls s
 hears_few ls s known t few = λ k.
     let u = hears_on (offer (present_without [])) (registry_serves (present_without [])) (take k ls) s (all_take (LineKnown (port_allowed (offer (present_without [])) s.offers (next_of s.receiver))) k ls known) t in
-    omega (arith, front_length (hears (take k ls) s).offers (hears (take k ls) s).receiver u.receives, ap length (hears_offers (take k ls) s), few)
+    omega (arith, prefix_length (hears (take k ls) s).offers (hears (take k ls) s).receiver u.receives, ap length (hears_offers (take k ls) s), few)
 
 wire_few : (e : WorldEvent) (s : PortState) → ComesKnown (port_allowed (offer (present_without [])) s.offers (next_of s.receiver)) e → Keep s → length s.offers ≤ 50000 → WireFew e s
 wire_few e s c t few =

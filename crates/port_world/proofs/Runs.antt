@@ -59,10 +59,10 @@ module _ (p : PortFile) (i : ℕ) (e : Said) (within : i < length p.events) (is 
       → new ≡ mid ++ event_told n (happening e) (state_at p i) → new ≡ old ++ script_told 1 (take (i + 1) (script_of p)) (begun p)
   script_next n old mid new number before x =
       let last = event_told n (happening e) (state_at p i) in
-      let front = script_told 1 (take i (script_of p)) (begun p) in
+      let prefix = script_told 1 (take i (script_of p)) (begun p) in
       let all = script-append 1 n (take i (script_of p)) (happening e ∷ []) (begun p) number in
-      x ∙ ap (λ t. t ++ last) before ∙ append_assoc old front last
-      ∙ ap (λ t. old ++ t) (ap (λ t. front ++ t) (sym (append-nil last)) ∙ sym all ∙ ap (λ y. script_told 1 y (begun p)) (sym next_script))
+      x ∙ ap (λ t. t ++ last) before ∙ append_assoc old prefix last
+      ∙ ap (λ t. old ++ t) (ap (λ t. prefix ++ t) (sym (append-nil last)) ∙ sym all ∙ ap (λ y. script_told 1 y (begun p)) (sym next_script))
 
 -- the whole script
 pub state_all : (p : PortFile) (i : ℕ) → length p.events ≤ i → state_at p i ≡ port_run (script_of p) (begun p)
@@ -70,10 +70,6 @@ state_all p i done = let long : length (script_of p) ≤ i = omega (arith, done,
 
 pub script_all : (p : PortFile) (i : ℕ) (old new : List ℕ) → length p.events ≤ i → new ≡ old ++ script_told 1 (take i (script_of p)) (begun p) → new ≡ old ++ script_told 1 (script_of p) (begun p)
 script_all p i old new done e = let long : length (script_of p) ≤ i = omega (arith, done, length-map p.events happening) in e ∙ ap (λ x. old ++ script_told 1 x (begun p)) (take_all i (script_of p) long)
-
--- a state past the end is the last one
-pub state_past : (p : PortFile) (i k : ℕ) → length p.events ≤ i → i ≤ k → state_at p i ≡ state_at p k
-state_past p i k done more = state_all p i done ∙ sym (state_all p k (omega (arith, done, more)))
 
 -- ---- bodies
 
@@ -89,9 +85,9 @@ pub body_put : (bs : List Body) (i n : ℕ) (b : Body) (old mid new : List ℕ) 
 body_put bs i n b old mid new within is number e x =
     let more = (take_at_read bs i b within).1 ∙ ap (λ y. take i bs ++ y ∷ []) (sym is) in
     let long : n ≡ 1 + length (take i bs) = omega (arith, number, length-take-le i bs (omega (arith, within))) in
-    let front = body_lines 1 (take i bs) in
-    x ∙ ap (λ t. t ++ body_line n b) e ∙ append_assoc old front (body_line n b)
-    ∙ ap (λ t. old ++ t) (ap (λ t. front ++ t) (sym (append-nil (body_line n b))) ∙ sym (bodies-append 1 n (take i bs) (b ∷ []) long) ∙ ap (body_lines 1) (sym more))
+    let prefix = body_lines 1 (take i bs) in
+    x ∙ ap (λ t. t ++ body_line n b) e ∙ append_assoc old prefix (body_line n b)
+    ∙ ap (λ t. old ++ t) (ap (λ t. prefix ++ t) (sym (append-nil (body_line n b))) ∙ sym (bodies-append 1 n (take i bs) (b ∷ []) long) ∙ ap (body_lines 1) (sym more))
 
 pub bodies_put : (bs : List Body) (i : ℕ) (old new : List ℕ) → length bs ≤ i → new ≡ old ++ body_lines 1 (take i bs) → new ≡ old ++ body_lines 1 bs
 bodies_put bs i old new done e = e ∙ ap (λ x. old ++ body_lines 1 x) (take_all i bs done)

@@ -3,7 +3,6 @@ use Rattle.std.proofs.Common.{◌≡◌, ◌≢◌, ℕ, ◌+◌, ◌<◌, ◌�
 use Rattle.std.specs.Prelude.{◌==◌, nat_lt, ℤ, Result, Ok, Err, OnOk}
 use Rattle.std.proofs.lemmas.Bool.{eqb-true, eqb-false, ltb-true, ltb-false}
 use Rattle.std.proofs.lemmas.List.{append-nil, take_all}
-use Rattle.std.proofs.lemmas.List.Elements.{All-push}
 use Rattle.plan_base.specs.declared.ids.Host.{Host}
 use Rattle.plan_base.specs.declared.tree.Chunk.{Chunk}
 use Rattle.link_window.specs.declared.window.Version.TheVariants.{Two}
@@ -40,7 +39,6 @@ module _ {S : Type 0} (stands : S → ServiceState) where
     receiver = b ∙ h.receiver;
     first = c ∙ h.first;
     second = d ∙ h.second;
-    fits = All-push (event_fits Two) s.events e h.fits f;
   }
 
   -- nothing changed, and nothing was appended
@@ -58,7 +56,6 @@ module _ {S : Type 0} (stands : S → ServiceState) where
     receiver = b ∙ h.receiver;
     first = c ∙ h.first;
     second = (let e = h.second in omega (arith, d, e));
-    fits = h.fits;
   }
 
   -- the same ends with another copy of each part
@@ -70,7 +67,6 @@ module _ {S : Type 0} (stands : S → ServiceState) where
     receiver = b ∙ h.receiver;
     first = c ∙ h.first;
     second = d ∙ h.second;
-    fits = h.fits;
   }
 
   -- the ack was made
@@ -103,7 +99,6 @@ module _ {S : Type 0} (stands : S → ServiceState) where
     receiver = refl;
     first = c ∙ h.first;
     second = d ∙ h.second;
-    fits = h.fits;
   }
 
   pub acked_stands : (p q : Ports S) (s : PortState) → PortStands stands p s → q.world ≡ p.world → q.receiver ≡ p.receiver → q.first ≡ p.first → q.second ≡ p.second → PortStands stands q (acked_by q.sender s)
@@ -114,7 +109,6 @@ module _ {S : Type 0} (stands : S → ServiceState) where
     receiver = b ∙ h.receiver;
     first = c ∙ h.first;
     second = d ∙ h.second;
-    fits = h.fits;
   }
 
   pub message_goes : (q : Ports S) (n : ℕ) (o : Option (ℤ × Body)) (m : ℤ × Body) (r : Receiving) (s : PortState) (old new : List ℕ) → Some m ≡ o → r ≡ with_message (number_of m.0) m.1 s.receiver
@@ -180,7 +174,6 @@ module _ {S : Type 0} (stands : S → ServiceState) where
           receiver = r ∙ h.receiver;
           first = c ∙ h.first;
           second = d ∙ h.second;
-          fits = h.fits;
         };
         text = sym (append-nil old);
       }
@@ -203,7 +196,6 @@ module _ {S : Type 0} (stands : S → ServiceState) where
     receiver = b ∙ h.receiver;
     first = (let e = h.first in omega (arith, d, e));
     second = c ∙ h.second;
-    fits = h.fits;
   }
 
   pub transmit_none : (q : Ports S) (n seq : ℕ) (o : Option Body) (s : PortState) (old new : List ℕ) → o ≡ None → new ≡ old ++ told_line n told.Nothing → PortStands stands q s → Goes stands q (transmits seq o s) (transmit_told n seq o s) old new

@@ -8,14 +8,14 @@ use Rattle.port_run.specs.Paid.{Apart, IsMade, IsPaid}
 use Rattle.port_world.specs.Networks.{two_hosts}
 use Rattle.port_world.specs.Scripts.{state_at}
 
--- after every number of events: what was delivered is a front of what was offered; no more is acknowledged than was delivered; and
+-- after every number of events: what was delivered is a prefix of what was offered; no more is acknowledged than was delivered; and
 -- the network is what its events make of the first one
 pub record KeepsOrder (p : PortFile) : Type 0 where
-  pub front : (k : ℕ) → IsInOrder (state_at p k)
+  pub prefix : (k : ℕ) → IsInOrder (state_at p k)
   pub acked : (k : ℕ) → IsAcked (state_at p k)
   pub made : (k : ℕ) → IsMade (opening two_hosts) (state_at p k)
 
 -- after every number of events: the hops and evals of any families together, with what the purses have left, are at most what the
 -- purses had at first
-abbrev pub KeepsPurses : PortFile → Type 0
-KeepsPurses p = (k : ℕ) (fs : List Family) → Apart fs → IsPaid fs (p.first + p.second) (opening two_hosts) (state_at p k)
+pub record KeepsPurses (p : PortFile) : Type 0 where
+  pub paid : (k : ℕ) (fs : List Family) → Apart fs → IsPaid fs (p.first + p.second) (opening two_hosts) (state_at p k)

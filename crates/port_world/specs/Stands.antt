@@ -5,13 +5,12 @@ use Rattle.service_api.specs.Services.{ServiceState}
 use Rattle.network_plan.specs.declared.event.WorldEvent.{WorldEvent}
 use Rattle.world_model.specs.declared.lines.Line.{Line}
 use Rattle.world_model.specs.World.{happens}
-use Rattle.world_model.specs.Sound.{EventsFit}
 use Rattle.net_world.specs.Stands.{WorldStands}
 use Rattle.port_run.specs.Ports.{PortState, makes}
 use Rattle.port_world.specs.declared.ports.Ports.{Ports}
 
 -- the ends, their purses and their network are those of a state, whose network is of version 2; the offers and the events so far
--- are not kept, and each of those events fits
+-- are not kept
 pub record PortStands {S : Type 0} (stands : S → ServiceState) (p : Ports S) (s : PortState) : Type 0 where
   pub world : WorldStands stands p.world s.world
   pub version : s.world.version ≡ Two
@@ -19,7 +18,6 @@ pub record PortStands {S : Type 0} (stands : S → ServiceState) (p : Ports S) (
   pub receiver : p.receiver ≡ s.receiver
   pub first : p.first ≡ s.first
   pub second : p.second ≡ s.second
-  pub fits : EventsFit Two s.events
 
 -- they stand for a state, and this was appended to a text
 pub record Goes {S : Type 0} (stands : S → ServiceState) (p : Ports S) (s : PortState) (told old new : List ℕ) : Type 0 where

@@ -10,7 +10,7 @@ mod run;
 mod told;
 
 pub use hosts::two_hosts;
-pub use laws::ports_deliver_in_order;
+pub use laws::{ports_deliver_in_order, ports_keep_purses};
 pub use notes::{Given, HostNote};
 pub use ports::Ports;
 pub use run::port_text;

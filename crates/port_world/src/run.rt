@@ -29,7 +29,6 @@ fn run_events<S: Services>(
         (PortStands S.stands ports.new (port_run (script_of file.now) (begun file.now))) }
     ensures text { OnOk result
         (text.new ≡ text.old ++ script_told 1 (script_of file.now) (begun file.now)) }
-    ensures purses { OnOk result (KeepsPurses file.now) }
 {
     let mut number = 1;
     for event in file.events.as_slice() {
@@ -40,10 +39,10 @@ fn run_events<S: Services>(
 }
 
 /// What is written of two ends: a line for each event that met something, and how the ends stand in the end. After every
-/// number of events, what was delivered is a front of what was offered, no more is acknowledged than was delivered, and the
+/// number of events, what was delivered is a prefix of what was offered, no more is acknowledged than was delivered, and the
 /// hops and evals of any families together are at most what both purses paid; see `docs/ports.md`. `services`: one for each
 /// host. Condition: the file keeps its rules.
-#[tactic(auto, using(crate::proofs::Promises::keeps_order), unfolding(crate::specs::Texts::port_output))]
+#[tactic(auto, using(crate::proofs::Promises::keeps_order, crate::proofs::Promises::keeps_purses), unfolding(crate::specs::Texts::port_output))]
 pub fn port_text<S: Services + Drop>(
     alloc: Global,
     file: &PortFile,
@@ -53,7 +52,7 @@ pub fn port_text<S: Services + Drop>(
     requires services { map S.stands services ≡ map opening_services two_hosts.hosts }
     ensures text { IfOk result (λ text. text ≡ port_output file.now) }
     ensures order { KeepsOrder file.now }
-    ensures purses { OnOk result (KeepsPurses file.now) }
+    ensures purses { KeepsPurses file.now }
 {
     let mut ports = Ports::begin(alloc, file.first, file.second, services)?;
     let mut text = Bytes::new(alloc);

@@ -67,14 +67,14 @@ together_message (Some m) x k e h =
       acks = weaker (λ n. n ≤ suc (length x.receiver.delivered)) (λ n. n ≤ suc (length (with_message m.0 m.1 x.receiver).delivered)) (λ n l. omega (arith, l, more)) x.acks h.acks;
     }
 
-front_length : (os : List Body) (r : Receiving) → Receives os r → length r.delivered ≤ length os
-front_length os r h = omega (arith, length-append r.delivered h.rest, ap length h.front)
+pub prefix_length : (os : List Body) (r : Receiving) → Receives os r → length r.delivered ≤ length os
+prefix_length os r h = omega (arith, length-append r.delivered h.rest, ap length h.prefix)
 
 together_ack : (o : Option ℕ) (x : Exchange) → (k : ℕ) → slice_get x.acks k ≡ o → Together x → Together (ack_comes o x)
 together_ack None x k e h = h
 together_ack (Some next) x k e h =
     let small = at_place (λ n. n ≤ suc (length x.receiver.delivered)) x.acks k next h.acks e in
-    let s = sends_ack next (length x.receiver.delivered) x.offers x.sender h.sends h.acked (front_length x.offers x.receiver h.receives) small in
+    let s = sends_ack next (length x.receiver.delivered) x.offers x.sender h.sends h.acked (prefix_length x.offers x.receiver h.receives) small in
     record { receives = h.receives; sends = s.0; acked = s.1; messages = h.messages; acks = h.acks }
 
 together_happens : (a : Action) (x : Exchange) → Together x → Together (happens a x)
@@ -90,7 +90,7 @@ together_run (a ∷ more) x h = together_run more (happens a x) (together_happen
 
 pub together_first : Together nothing_yet
 together_first = record {
-  receives = record { rest = []; front = refl; agrees = tt };
+  receives = record { rest = []; prefix = refl; agrees = tt };
   sends = record { within = omega arith; held = refl };
   acked = omega arith;
   messages = tt;

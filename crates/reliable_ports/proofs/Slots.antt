@@ -12,20 +12,20 @@ Agrees (None ∷ xs) (o ∷ os) = Agrees xs os
 Agrees (Some b ∷ xs) [] = ⊥
 Agrees (Some b ∷ xs) (o ∷ os) = (b ≡ o) × Agrees xs os
 
--- what was offered behind some bodies, where they are a front of it
+-- what was offered behind some bodies, where they are a prefix of it
 pub record Goes (xs : List (Option Body)) (os : List Body) : Type 0 where
   pub rest : List Body
-  pub front : ready xs ++ rest ≡ os
+  pub prefix : ready xs ++ rest ≡ os
   pub agrees : Agrees (behind xs) (drop 1 rest)
 
 pub ready_goes : (xs : List (Option Body)) (os : List Body) → Agrees xs os → Goes xs os
-ready_goes [] os a = record { rest = os; front = refl; agrees = tt }
-ready_goes (None ∷ xs) [] a = record { rest = []; front = refl; agrees = a }
-ready_goes (None ∷ xs) (o ∷ os) a = record { rest = o ∷ os; front = refl; agrees = a }
+ready_goes [] os a = record { rest = os; prefix = refl; agrees = tt }
+ready_goes (None ∷ xs) [] a = record { rest = []; prefix = refl; agrees = a }
+ready_goes (None ∷ xs) (o ∷ os) a = record { rest = o ∷ os; prefix = refl; agrees = a }
 ready_goes (Some b ∷ xs) [] a = absurd a
 ready_goes (Some b ∷ xs) (o ∷ os) a =
     let g = ready_goes xs os a.1 in
-    record { rest = g.rest; front = λ i. a.0 i ∷ g.front i; agrees = g.agrees }
+    record { rest = g.rest; prefix = λ i. a.0 i ∷ g.prefix i; agrees = g.agrees }
 
 none_some : {A B : Type 0} {x : A} → ◌≡◌ {A = Option A} None (Some x) → B
 none_some e = absurd cc

@@ -12,10 +12,10 @@ abbrev pub message : ℕ → List Body → Option Body
 message zero os = None
 message (suc i) os = slice_get os i
 
--- what the receiver delivered is a front of what was offered, and what came early agrees with the rest
+-- what the receiver delivered is a prefix of what was offered, and what came early agrees with the rest
 pub record Receives (os : List Body) (r : Receiving) : Type 0 where
   pub rest : List Body
-  pub front : r.delivered ++ rest ≡ os
+  pub prefix : r.delivered ++ rest ≡ os
   pub agrees : Agrees r.early (drop 1 rest)
 
 -- the sender holds what is offered and not acknowledged
@@ -28,13 +28,13 @@ pub record Sends (os : List Body) (s : Sending) : Type 0 where
 pub receives_more : (b : Body) (os : List Body) (r : Receiving) → Receives os r → Receives (os ++ b ∷ []) r
 receives_more b os r h = record {
   rest = h.rest ++ b ∷ [];
-  front = sym (append_assoc r.delivered h.rest (b ∷ [])) ∙ ap (λ xs. xs ++ b ∷ []) h.front;
+  prefix = sym (append_assoc r.delivered h.rest (b ∷ [])) ∙ ap (λ xs. xs ++ b ∷ []) h.prefix;
   agrees = more_agrees_behind b r.early h.rest h.agrees;
 }
 
 -- the awaited message
 receives_next : (b : Body) (os : List Body) (r : Receiving) → (h : Receives os r) → message (next_of r) os ≡ Some b → Receives os (with_next b r)
-receives_next b os r h m = at h.rest h.front h.agrees (sym (get_behind r.delivered h.rest 0 (length r.delivered) (omega arith)) ∙ ap (λ xs. slice_get xs (length r.delivered)) h.front ∙ m)
+receives_next b os r h m = at h.rest h.prefix h.agrees (sym (get_behind r.delivered h.rest 0 (length r.delivered) (omega arith)) ∙ ap (λ xs. slice_get xs (length r.delivered)) h.prefix ∙ m)
   where
     at : (rest : List Body) → r.delivered ++ rest ≡ os → Agrees r.early (drop 1 rest) → slice_get rest 0 ≡ Some b → Receives os (with_next b r)
     at [] f a g = absurd cc
@@ -43,7 +43,7 @@ receives_next b os r h m = at h.rest h.front h.agrees (sym (get_behind r.deliver
         let e : o ≡ b = cc in
         record {
           rest = w.rest;
-          front = append_assoc r.delivered (b ∷ ready r.early) w.rest ∙ ap (λ xs. r.delivered ++ xs) (λ i. sym e i ∷ w.front i) ∙ f;
+          prefix = append_assoc r.delivered (b ∷ ready r.early) w.rest ∙ ap (λ xs. r.delivered ++ xs) (λ i. sym e i ∷ w.prefix i) ∙ f;
           agrees = w.agrees;
         }
 
@@ -51,9 +51,9 @@ receives_next b os r h m = at h.rest h.front h.agrees (sym (get_behind r.deliver
 receives_early : (i : ℕ) (b : Body) (os : List Body) (r : Receiving) → (h : Receives os r) → message (suc (i + next_of r)) os ≡ Some b → Receives os (record { delivered = r.delivered; early = kept i b r.early })
 receives_early i b os r h m = record {
   rest = h.rest;
-  front = h.front;
+  prefix = h.prefix;
   agrees = kept_agrees i b r.early (drop 1 h.rest) h.agrees
-      (get_dropped 1 h.rest i (suc i) (omega arith) ∙ sym (get_behind r.delivered h.rest (suc i) (i + next_of r) (omega arith)) ∙ ap (λ xs. slice_get xs (i + next_of r)) h.front ∙ m);
+      (get_dropped 1 h.rest i (suc i) (omega arith) ∙ sym (get_behind r.delivered h.rest (suc i) (i + next_of r) (omega arith)) ∙ ap (λ xs. slice_get xs (i + next_of r)) h.prefix ∙ m);
 }
 
 pub receives_message : (seq : ℕ) (b : Body) (os : List Body) (r : Receiving) → Receives os r → message seq os ≡ Some b → Receives os (with_message seq b r)

@@ -58,13 +58,13 @@ abbrev pub run : List Action → Exchange → Exchange
 run [] x = x
 run (a ∷ more) x = run more (happens a x)
 
--- some bodies are a front of others
-abbrev pub IsFront : List Body → List Body → Type 0
-IsFront xs ys = (rest : List Body) × (xs ++ rest ≡ ys)
+-- some bodies are a prefix of others
+abbrev pub IsPrefix : List Body → List Body → Type 0
+IsPrefix xs ys = (rest : List Body) × (xs ++ rest ≡ ys)
 
--- what was delivered is a front of what was offered
+-- what was delivered is a prefix of what was offered
 abbrev pub IsInOrder : Exchange → Type 0
-IsInOrder x = IsFront x.receiver.delivered x.offers
+IsInOrder x = IsPrefix x.receiver.delivered x.offers
 
 -- no more is acknowledged than was delivered
 abbrev pub IsAcked : Exchange → Type 0

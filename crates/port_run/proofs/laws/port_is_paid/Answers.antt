@@ -3,6 +3,7 @@ use Rattle.world_model.specs.World.{opening}
 use Rattle.port_run.specs.Ports.{port_run, port_begun}
 use Rattle.port_run.proofs.Paying.{families_pay}
 use Rattle.port_run.proofs.Purses.{run_pays, begun_pays}
+use Rattle.port_run.proofs.Fitting.{run_fits, begun_fits}
 use Rattle.port_run.proofs.laws.port_is_paid.Goals as goal
 
 pub returns-clause-network : goal.returns-clause-network
@@ -11,4 +12,5 @@ returns-clause-network x t b c script h = (run_pays (opening t) (b + c) script (
 pub returns-clause-paid : goal.returns-clause-paid
 returns-clause-paid x t b c script fs net fits h k =
     let p = run_pays (opening t) (b + c) script (port_begun (opening t) b c) h (begun_pays (opening t) b c) in
-    omega (arith, p.paid, families_pay t (port_run script (port_begun (opening t) b c)).events fs net fits p.wired k)
+    let f = run_fits t.version script (port_begun (opening t) b c) fits (begun_fits t.version (opening t) b c) in
+    omega (arith, p.paid, families_pay t (port_run script (port_begun (opening t) b c)).events fs net f.events p.wired k)

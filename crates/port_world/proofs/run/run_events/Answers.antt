@@ -5,7 +5,6 @@ use Rattle.port_world.specs.Scripts.{happening, script_of, state_at}
 use Rattle.port_world.specs.Stands.{PortStands}
 use Rattle.port_world.proofs.Few.{all_at, kept_at, offers_few, event_few}
 use Rattle.port_world.proofs.Runs.{state_next, script_next, state_all, script_all}
-use Rattle.port_world.proofs.Promises.{fits_none, fits_next, keeps_purses}
 use Rattle.port_world.proofs.run.run_events.Goals as goal
 
 pub loop-event-init : goal.loop-event-init
@@ -13,7 +12,6 @@ loop-event-init g c = record {
   number = refl;
   stands = c.requires.begun;
   text = sym (append-nil c.args.text.now);
-  fits = fits_none c.args.file.now c.requires.begun.fits;
   cost = omega arith;
 }
 
@@ -52,7 +50,6 @@ loop-event-preserved g c =
       number = omega (arith, inv.number);
       stands = subst (PortStands g.S.Services.stands c.event.new.self) (sym next) goes.is;
       text = script_next p i e within is c.loop-event.number c.args.text.now c.loop-event.text c.event.new.text (omega (arith, inv.number, length-take-le i (script_of p) long)) inv.text goes.text;
-      fits = fits_next p i _ (sym next) goes.is.fits inv.fits;
       cost = omega (arith, inv.cost, c.in_ok-event.ensures.cost);
     }
 
@@ -65,8 +62,3 @@ pub returns-clause-text : goal.returns-clause-text
 returns-clause-text g c =
     let done = subst (λ es. length es ≤ c.loop-event.event-index) c.as_slice-event-items.ensures c.loop-event-test.false in
     script_all c.args.file.now c.loop-event.event-index c.args.text.now c.loop-event.text done c.loop-event.invariant.text
-
-pub returns-clause-purses : goal.returns-clause-purses
-returns-clause-purses g c =
-    let done = subst (λ es. length es ≤ c.loop-event.event-index) c.as_slice-event-items.ensures c.loop-event-test.false in
-    keeps_purses c.args.file.now c.loop-event.event-index done c.loop-event.invariant.fits

@@ -2,7 +2,6 @@ use Rattle.std.proofs.Common.{◌≡◌, ◌+◌, ◌*◌, ◌++◌, ◌≤◌, 
 use Rattle.port_world.specs.Scripts.{script_of, begun, state_at}
 use Rattle.port_world.specs.Texts.{script_told}
 use Rattle.port_world.specs.Stands.{PortStands, budget}
-use Rattle.port_world.proofs.Promises.{FitsTo}
 use Rattle.port_world.proofs.run.run_events.Given as goal
 
 abbrev pub invariant-loop-event : goal.invariant-loop-event
@@ -10,6 +9,5 @@ invariant-loop-event g l = record {
   number : l.number ≡ l.event-index + 1;
   stands : PortStands g.S.Services.stands l.ports (state_at l.file l.event-index);
   text : l.text ≡ l.initial.text ++ script_told 1 (take l.event-index (script_of l.file)) (begun l.file);
-  fits : FitsTo l.file l.event-index;
   cost : budget l.ports ≤ budget l.initial.ports + 4 * l.event-index;
 }

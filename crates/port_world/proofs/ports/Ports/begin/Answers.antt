@@ -1,11 +1,8 @@
 use Rattle.std.proofs.Common.{sym, ap, ◌∙◌, subst, arith}
 use Rattle.std.specs.Prelude.{map}
-use Rattle.std.proofs.lemmas.List.Elements.{All-nil}
-use Rattle.link_window.specs.declared.window.Version.TheVariants.{Two}
 use Rattle.network_plan.specs.Rules.{KeepsNetwork}
 use Rattle.network_laws.proofs.Opening.{opening_version}
 use Rattle.world_model.specs.World.{opening, opening_services}
-use Rattle.world_model.specs.Sound.{event_fits}
 use Rattle.net_world.specs.Stands.{WorldStands}
 use Rattle.net_world.proofs.RunLaws.{opening_made}
 use Rattle.port_world.specs.Networks.{two_hosts}
@@ -26,7 +23,6 @@ returns-clause-stands g c = record {
   receiver = c.in_ok-receiver.ensures;
   first = c.of.ensures;
   second = c.of-2.ensures;
-  fits = All-nil (event_fits Two);
 }
 
 pub returns-clause-cost : goal.returns-clause-cost
