@@ -27,7 +27,7 @@ prefix_given kids given ss a b e p =
     prefix_as a b (fleet_text kids ss ++ more.0) (fleet_text kids given) (ap (λ l. fleet_text kids l ++ more.0) e ∙ sym more.1) (prefix_longer a b (fleet_text kids ss) more.0 p)
 
 -- every answer leaves a prefix of the lines of its statuses
-prefix_written : (kids : List Kid) (ss : List ℕ) (old new : SpawnerState) (a b : SinkState) (result : Result FleetEnd FleetFault) → FleetResult kids ss old new a b result → WritesPrefix a b (fleet_text kids ss)
+pub prefix_written : (kids : List Kid) (ss : List ℕ) (old new : SpawnerState) (a b : SinkState) (result : Result FleetEnd FleetFault) → FleetResult kids ss old new a b result → WritesPrefix a b (fleet_text kids ss)
 prefix_written kids ss old new a b (Ok end) d = prefix_all a b (fleet_text kids ss) d.4
 prefix_written kids ss old new a b (Err StartFault) d = subst (λ s. WritesPrefix a s (fleet_text kids ss)) (sym d.3) (prefix_none a (fleet_text kids ss))
 prefix_written kids ss old new a b (Err WaitFault) d = prefix_all a b (fleet_text kids ss) d.3

@@ -8,7 +8,7 @@ use Rattle.world_model.specs.Counts.{Balanced, IsBounded, IsGranted}
 use Rattle.world_model.specs.Sound.{IsSound}
 use Rattle.world_model.specs.Wires.{IsOnce, WireLeads}
 use Rattle.world_model.specs.Visits.{EndsWell, visits_after}
-use Rattle.world_routes.specs.Roads.{NotRaw}
+use Rattle.world_routes.specs.Roads.{BringsNone}
 use Rattle.world_routes.specs.Routes.{RunKeepsRoutes}
 
 -- the history of a schedule's first events, and the network after them
@@ -22,7 +22,7 @@ world_at s k = world_after (take k s.events) (opening s.topology)
 -- nor paid and live more than it was granted; only granted families have packets; each number is on the wire, was delivered or was
 -- lost, once; each frame on the wire leads to the other end of its link; and the network is sound, so the chunk of every packet and
 -- the value of every row are typed. Of each event, every visit has a case at every step, and some allowance of work suffices for it.
--- As long as no bytes came from outside, the law of routes holds
+-- As long as no packet and no advert came from outside, the law of routes holds
 pub record KeepsRun (s : Schedule) : Type 0 where
   pub balance : (k : ℕ) (f : Family) → Balanced f (history_at s k) (world_at s k)
   pub bounded : (k : ℕ) (f : Family) → IsBounded f (history_at s k) (world_at s k)
@@ -31,4 +31,4 @@ pub record KeepsRun (s : Schedule) : Type 0 where
   pub leads : (k : ℕ) → WireLeads s.topology.links (world_at s k).wire
   pub sound : (k : ℕ) → IsSound (world_at s k)
   pub visits : (k : ℕ) → All EndsWell (visits_after k s.events (opening s.topology))
-  pub routes : (k : ℕ) → All NotRaw (take k s.events) → RunKeepsRoutes (take k s.events) (opening s.topology)
+  pub routes : (k : ℕ) → All BringsNone (take k s.events) → RunKeepsRoutes (take k s.events) (opening s.topology)

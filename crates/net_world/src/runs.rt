@@ -211,7 +211,8 @@ fn run_schedule<S: Services + Drop, K: Sink>(
 /// Runs a schedule and writes its trace and its ledger to `out`; no event's lines are kept. After each prefix of its
 /// events: each family is in balance, is bounded and granted; each frame's number went once, and each frame on the
 /// wire leads over its link; the network keeps what every network keeps; the visits of the event behind it are never
-/// without a case, and would end by themselves; and where no bytes came from outside, the law of routes holds.
+/// without a case, and would end by themselves; and as long as no packet and no advert came
+/// from outside, the law of routes holds.
 /// `services`: one for each host, in the order of hosts. Condition: the schedule keeps its rules.
 pub fn run<S: Services + Drop, K: Sink>(
     alloc: Global,

@@ -6,7 +6,7 @@ ghost use Rattle.world_model.specs.World.{WorldState};
 ghost use Rattle.world_model.specs.Counts.{late_in, EventInBalance};
 ghost use Rattle.world_model.specs.Sound.{IsSound, event_fits};
 ghost use Rattle.world_model.specs.Visits.{EndsWell, event_visits};
-ghost use Rattle.world_routes.specs.Roads.{NotRaw};
+ghost use Rattle.world_routes.specs.Roads.{BringsNone};
 ghost use Rattle.world_routes.specs.Routes.{Reached, KeepsRoutes};
 ghost use Rattle.wire_numbers.specs.Numbers as numbers;
 ghost use Rattle.net_world.specs.Stands.{WorldStands, IsHappened};
@@ -88,7 +88,7 @@ impl<S: Services> World<S> {
 
     /// One event, as the definition has it for each state for which the network stands, and its lines: in balance
     /// for each family, and keeping what every network keeps, where no visit is without a case and each would end
-    /// by itself; and, in a run without bytes from outside, keeping the law of routes. After `NoMemory` the network
+    /// by itself; and, in a run without packets and adverts from outside, keeping the law of routes. After `NoMemory` the network
     /// isn't used again. Conditions: an injected bound is at most 65,535, and an injection has a handler under
     /// version 2 alone, one that may handle; a device is at most 8; a frame is repeated under version 2 alone; and
     /// fewer than 2^32 - 2 events were made.
@@ -104,7 +104,7 @@ impl<S: Services> World<S> {
             → IsSound (spec.happens w event.now).world }
         ensures visits { (w : WorldState) → w.version ≡ self.old.version → IsSound w
             → All EndsWell (event_visits w event.now) }
-        ensures routes { (w : WorldState) → Reached w → NotRaw event.now
+        ensures routes { (w : WorldState) → Reached w → BringsNone event.now
             → KeepsRoutes w (spec.happens w event.now) }
     {
         let lines = self.network.act(alloc, event)?;

@@ -71,7 +71,7 @@ module _ (file : List ℕ) (cause : Cause) (old new : Outside) (n m : SinkState)
 
 -- ---- networks that grow
 
-grown_so : (seed k : ℕ) (c : Cause) (a b : SinkState) → GrowsAs seed k c a b → (c ≡ Done) ⊎ ((c ≡ NoMemory) ⊎ ((c ≡ WriteFault) × HasRisen a.faults b.faults))
+pub grown_so : (seed k : ℕ) (c : Cause) (a b : SinkState) → GrowsAs seed k c a b → (c ≡ Done) ⊎ ((c ≡ NoMemory) ⊎ ((c ≡ WriteFault) × HasRisen a.faults b.faults))
 grown_so seed k Done a b p = inl refl
 grown_so seed k NoMemory a b p = inr (inl refl)
 grown_so seed k WriteFault a b p = inr (inr (refl, p.is.rose))

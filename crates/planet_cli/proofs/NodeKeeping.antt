@@ -15,12 +15,14 @@ use Rattle.packet_frame.specs.declared.fault.FrameFault.{FrameFault}
 use Rattle.packet_frame.specs.Decoding.{read_by}
 use Rattle.packet_frame.proofs.Versions.{found_by}
 use Rattle.network_plan.specs.declared.node.Log.{Log}
+use Rattle.network_plan.specs.declared.node.NodeConfig.{NodeConfig}
+use Rattle.network_plan.specs.declared.package.PackageName.{PackageName}
 use Rattle.network_plan.specs.declared.event.Event.{Event}
 use Rattle.network_plan.specs.declared.event.Event.TheVariants as event
 use Rattle.network_plan.specs.declared.event.LogEvent.{LogEvent}
 use Rattle.network_plan.specs.declared.event.LogEvent.TheVariants.{Step, Lost}
 use Rattle.network_plan.specs.Hosts.{is_listed}
-use Rattle.network_plan.specs.NodeRules.{KeepsNodeEvent, KeepsEntry, KeepsLog}
+use Rattle.network_plan.specs.NodeRules.{KeepsNode, KeepsNodeEvent, KeepsEntry}
 use Rattle.node_files.proofs.LogLaws.{log_rules}
 use Rattle.node_io.specs.FileStates.{FilesState}
 use Rattle.node_model.specs.State.{NodeState, new_node}
@@ -131,22 +133,25 @@ listed_small here (h ∷ hs) e small =
     listed_by (eqb h.0 here.0) (is_listed here hs) h here refl e (All-head (λ (g : Host). g.0 < 2 ^ 32) h hs small)
     (λ r. listed_small here hs r (All-tail (λ (g : Host). g.0 < 2 ^ 32) h hs small))
 
-pub begins : (l : Log) → KeepsLog l → NodeFits (log_node l)
-begins l keeps =
-    new_node_fits l.node (opening_standing (present_without l.missing)) (listed_small l.node.here l.node.hosts keeps.node.here keeps.node.numbers) keeps.node.numbers (subst (λ n. n < 2 ^ 64) (sym keeps.serial) (omega arith)) (may_begin l.node keeps.node) (services_fit (record { host = l.node.here; missing = l.missing }))
+pub begins : (c : NodeConfig) (missing : List PackageName) → KeepsNode c → NodeFits (new_node c (opening_standing (present_without missing)))
+begins c missing keeps =
+    new_node_fits c (opening_standing (present_without missing)) (listed_small c.here c.hosts keeps.here keeps.numbers) keeps.numbers keeps.serial (may_begin c keeps) (services_fit (record { host = c.here; missing = missing }))
 
-run_keeps : (l : Log) → KeepsLog l → KeepsNodeRun (log_node l) l.events
+-- a node that keeps its limits at the beginning keeps them after each entry of a log
+pub entries_keep : (c : NodeConfig) (n : ServiceState) (es : List LogEvent) → NodeFits (new_node c n) → All (KeepsEntry c.version) es → KeepsNodeRun (new_node c n) es
 unfolding new_node
-run_keeps l keeps = record {
+entries_keep c n es fits keeps = record {
   fits = λ k. (at k).fits;
-  balance = λ k e f is. step_balances f (node_at (log_node l) l.events k) e;
+  balance = λ k e f is. step_balances f (node_at (new_node c n) es k) e;
   visits = λ k e is.
-      step_end (node_at (log_node l) l.events k) e
-      (subst (λ w. KeepsNodeEvent w e) (sym (at k).version) (entry_keeps l.node.version l.events k e keeps.events is)) (at k).fits;
+      step_end (node_at (new_node c n) es k) e
+      (subst (λ w. KeepsNodeEvent w e) (sym (at k).version) (entry_keeps c.version es k e keeps is)) (at k).fits;
 }
   where
-    at : (k : ℕ) → FitsAs l.node.version (node_at (log_node l) l.events k)
-    at = run_fits l.node.version l.events (log_node l) keeps.events (record { version = refl; fits = begins l keeps })
+    at : (k : ℕ) → FitsAs c.version (node_at (new_node c n) es k)
+    at = run_fits c.version es (new_node c n) keeps (record { version = refl; fits = fits })
 
 pub log_keeps : (words : List (List ℕ)) (files : FilesState) (l : Log) → ReplaysLog words files l → KeepsNodeRun (log_node l) l.events
-log_keeps words files l r = run_keeps l (log_rules r.bytes (Ok l) r.says)
+log_keeps words files l r =
+    let keeps = log_rules r.bytes (Ok l) r.says in
+    entries_keep l.node (opening_standing (present_without l.missing)) l.events (begins l.node l.missing keeps.node) keeps.events

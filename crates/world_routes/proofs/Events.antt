@@ -1,5 +1,5 @@
--- Each event that brings nothing from outside is some moves, and keeps what holds of routes.
-use Rattle.std.proofs.Common.{◌≡◌, ℕ, Bool, true, false, cond, Option, Some, None, List, [], ◌∷◌, length, refl, sym, ap, subst, ◌∙◌}
+-- Each event that brings no packet and no advert from outside is some moves, and keeps what holds of routes.
+use Rattle.std.proofs.Common.{◌≡◌, ℕ, Bool, true, false, cond, Option, Some, None, Result, Ok, Err, List, [], ◌∷◌, length, refl, sym, ap, subst, ◌∙◌}
 use Rattle.std.specs.Prelude.{map, slice_get, slice_set, nat_lt, All, Contains}
 use Rattle.std.proofs.lemmas.List.{map-set, map_push}
 use Rattle.std.proofs.lemmas.List.Elements.{All-nil, All-cons, All-append, All-map, All-push, All-set}
@@ -7,6 +7,8 @@ use Rattle.plan_base.specs.declared.ids.Host.{Host}
 use Rattle.plan_base.specs.declared.ids.Dev.{Dev}
 use Rattle.packet_frame.specs.declared.frame.PlainFrame.{PlainFrame}
 use Rattle.packet_frame.specs.declared.frame.PlainStamped.{PlainStamped}
+use Rattle.packet_frame.specs.declared.fault.FrameFault.{FrameFault}
+use Rattle.packet_frame.specs.Decoding.{read_by}
 use Rattle.packet_frame.specs.Stamped.{stamped_bytes}
 use Rattle.network_plan.specs.declared.event.WorldEvent.{WorldEvent}
 use Rattle.network_plan.specs.declared.event.WorldEvent.TheVariants.{Inject, Send, Deliver, Repeat, Lose, Tick, Raw}
@@ -22,21 +24,22 @@ use Rattle.node_model.specs.declared.acts.Act.{Act}
 use Rattle.node_model.specs.declared.acts.Act.TheVariants.{Taken}
 use Rattle.node_model.specs.declared.acts.Lane.{Lane}
 use Rattle.node_model.specs.State.{Links, NodeState, routing_of}
-use Rattle.node_model.specs.Node.{Step, inject_step, stamped_step, tick_step, take_first, take_from, take_step, with_queues}
+use Rattle.node_model.specs.Node.{Step, inject_step, stamped_step, arrive_step, tick_step, take_first, take_from, take_step, with_queues}
 use Rattle.node_model.specs.Fits.{QueuesKeep}
 use Rattle.node_laws.proofs.Keeping.{took}
-use Rattle.node_laws.proofs.Staying.{Stays as NodeStays, inject_stays, stamped_stays, tick_stays}
-use Rattle.world_model.specs.declared.lines.Line.TheVariants.{At, Wire, Off, Lost, Nothing}
+use Rattle.node_laws.proofs.Staying.{Stays as NodeStays, inject_stays, stamped_stays, arrive_stays, tick_stays}
+use Rattle.world_model.specs.declared.lines.Line.{Line}
+use Rattle.world_model.specs.declared.lines.Line.TheVariants.{At, Forged, Wire, Off, Lost, Nothing}
 use Rattle.world_model.specs.declared.lines.LinkEnd.{LinkEnd}
 use Rattle.world_model.specs.declared.lines.Wired.{Wired}
 use Rattle.world_model.specs.declared.lines.Handing.{Handing}
 use Rattle.world_model.specs.declared.lines.Handing.TheVariants.{Taking, Leaving}
-use Rattle.world_model.specs.World.{Cables, WorldState, EventResult, nothing, lines_at, step_at, step_place, steps, none_before, place_of, far_end, send_taken, send_at, send_over, send_place, sends, wire_place, hand_line, as_handed, wire_after, hand_at, hand_to, hand_frame, hand_place, hands, lose_frame, lose_place, loses, acted, happens}
+use Rattle.world_model.specs.World.{Cables, WorldState, EventResult, nothing, lines_at, step_at, step_place, steps, none_before, forged_frame, forged, forged_at, place_of, far_end, send_taken, send_at, send_over, send_place, sends, wire_place, hand_line, as_handed, wire_after, hand_at, hand_to, hand_frame, hand_place, hands, lose_frame, lose_place, loses, acted, happens}
 use Rattle.world_model.specs.Wires.{WireLeads}
-use Rattle.world_routes.specs.Roads.{routing_in, NotRaw}
+use Rattle.world_routes.specs.Roads.{routing_in, BringsNone}
 use Rattle.world_routes.specs.Routes.{FrameHasWay, IsRoutedAct, IsRouted}
 use Rattle.world_routes.proofs.Cut.{cut_stamped, cut_lane, cut_node, cut_wired, cut, end_of, wiring, get_map, set_same, map_remove, contains_get, goes_over, place_is}
-use Rattle.world_routes.proofs.Steps.{GoesDefault, StepKeeps, inject_keeps, tick_keeps, HopsOn, stamped_keeps}
+use Rattle.world_routes.proofs.Steps.{GoesDefault, StepKeeps, inject_keeps, tick_keeps, bytes_keep, HopsOn, stamped_keeps}
 use Rattle.world_routes.proofs.Holding.{WorldHolds, wire_way}
 
 -- what an event keeps
@@ -83,11 +86,11 @@ record Steps (far : Wiring) (step : NodeState → Step) : Type 0 where
   keeps : (node : NodeState) → QueuesKeep GoesDefault node.queues → StepKeeps far (λ w. Unit {0}) node (step node)
   stays : (node : NodeState) → NodeStays node (step node).node
 
-step_at_keeps : (w : WorldState) (h : Host) (step : NodeState → Step) (at : ℕ) (o : Option NodeState) → Steps (wiring w.links) step → place_of w.nodes h ≡ Some at → slice_get w.nodes at ≡ o
-    → WorldHolds w → EventKeeps w (step_at w h none_before step at o)
+step_at_keeps : (w : WorldState) (h : Host) (before : NodeState → List Line) (step : NodeState → Step) (at : ℕ) (o : Option NodeState) → ((node : NodeState) → All IsRouted (before node))
+    → Steps (wiring w.links) step → place_of w.nodes h ≡ Some at → slice_get w.nodes at ≡ o → WorldHolds w → EventKeeps w (step_at w h before step at o)
 unfolding step_at
-step_at_keeps w h step at None s place get k = nothing_keeps w k
-step_at_keeps w h step at (Some node) s place get k =
+step_at_keeps w h before step at None quiet s place get k = nothing_keeps w k
+step_at_keeps w h before step at (Some node) quiet s place get k =
     let p = place_is w h at node place get in
     let one = s.keeps node (all_get (λ n. QueuesKeep GoesDefault n.queues) w.nodes at node k.queues get) in
     let stays = s.stays node in
@@ -99,17 +102,28 @@ step_at_keeps w h step at (Some node) s place get k =
       queues = All-set (λ n. QueuesKeep GoesDefault n.queues) w.nodes at (step node).node one.queues k.queues;
       wire = k.wire;
       leads = k.leads;
-      lines = acts_routed h (step node).acts one.acts;
+      lines = All-append IsRouted (before node) (lines_at h (step node).acts) (quiet node) (acts_routed h (step node).acts one.acts);
     }
 
-step_place_keeps : (w : WorldState) (h : Host) (step : NodeState → Step) (o : Option ℕ) → Steps (wiring w.links) step → place_of w.nodes h ≡ o → WorldHolds w → EventKeeps w (step_place w h none_before step o)
+step_place_keeps : (w : WorldState) (h : Host) (before : NodeState → List Line) (step : NodeState → Step) (o : Option ℕ) → ((node : NodeState) → All IsRouted (before node))
+    → Steps (wiring w.links) step → place_of w.nodes h ≡ o → WorldHolds w → EventKeeps w (step_place w h before step o)
 unfolding step_place
-step_place_keeps w h step None s place k = nothing_keeps w k
-step_place_keeps w h step (Some at) s place k = step_at_keeps w h step at (slice_get w.nodes at) s place refl k
+step_place_keeps w h before step None quiet s place k = nothing_keeps w k
+step_place_keeps w h before step (Some at) quiet s place k = step_at_keeps w h before step at (slice_get w.nodes at) quiet s place refl k
 
-steps_keep : (w : WorldState) (h : Host) (step : NodeState → Step) → Steps (wiring w.links) step → WorldHolds w → EventKeeps w (steps w h none_before step)
+steps_keep : (w : WorldState) (h : Host) (before : NodeState → List Line) (step : NodeState → Step) → ((node : NodeState) → All IsRouted (before node))
+    → Steps (wiring w.links) step → WorldHolds w → EventKeeps w (steps w h before step)
 unfolding steps
-steps_keep w h step s k = step_place_keeps w h step (place_of w.nodes h) s refl k
+steps_keep w h before step quiet s k = step_place_keeps w h before step (place_of w.nodes h) quiet s refl k
+
+frame_routed : (h : Host) (x : PlainFrame) → All IsRouted (forged_frame h x)
+frame_routed h (PlainFrame.Packet p) = All-cons IsRouted (Forged h p.family p.bound) [] tt (All-nil IsRouted)
+frame_routed h (PlainFrame.Advert a) = All-nil IsRouted
+frame_routed h (PlainFrame.Ask bound chunk) = All-nil IsRouted
+
+forged_routed : (h : Host) (r : Result PlainStamped FrameFault) → All IsRouted (forged h r)
+forged_routed h (Ok x) = frame_routed h x.frame
+forged_routed h (Err e) = All-nil IsRouted
 
 -- ---- sends
 
@@ -275,24 +289,25 @@ loses_keep w number k = lose_place_keeps w (wire_place w.wire number) k
 
 -- ---- events
 
-acted_keeps : (w : WorldState) (e : WorldEvent) → NotRaw e → WorldHolds w → EventKeeps w (acted w e)
-acted_keeps w (Inject h chunk bound handler) n k = steps_keep w h (λ node. inject_step [] node chunk bound handler)
+acted_keeps : (w : WorldState) (e : WorldEvent) → BringsNone e → WorldHolds w → EventKeeps w (acted w e)
+acted_keeps w (Inject h chunk bound handler) n k = steps_keep w h none_before (λ node. inject_step [] node chunk bound handler) (λ node. All-nil IsRouted)
     (record { keeps = λ node q. inject_keeps (wiring w.links) (λ v. Unit {0}) node chunk bound handler q; stays = λ node. inject_stays node chunk bound handler }) k
 acted_keeps w (Send h d) n k = sends_keep w h d k
 acted_keeps w (Deliver number) n k = hands_keep w Taking number k
 acted_keeps w (Repeat number) n k = hands_keep w Leaving number k
 acted_keeps w (Lose number) n k = loses_keep w number k
-acted_keeps w (Tick h) n k = steps_keep w h tick_step
+acted_keeps w (Tick h) n k = steps_keep w h none_before tick_step (λ node. All-nil IsRouted)
     (record { keeps = λ node q. tick_keeps (wiring w.links) (λ v. Unit {0}) node q; stays = λ node. (tick_stays node).node }) k
-acted_keeps w (Raw h d bytes) n k = absurd n
+acted_keeps w (Raw h d bytes) n k = steps_keep w h (forged_at h bytes) (λ node. arrive_step node d bytes) (λ node. forged_routed h (read_by node.version bytes))
+    (record { keeps = λ node q. bytes_keep (wiring w.links) (λ v. Unit {0}) node d bytes (n node.version) q; stays = λ node. (arrive_stays node d bytes).node }) k
 
 -- each event keeps them, and is some moves
-pub event_keeps : (w : WorldState) (e : WorldEvent) → NotRaw e → WorldHolds w → EventKeeps w (happens w e)
+pub event_keeps : (w : WorldState) (e : WorldEvent) → BringsNone e → WorldHolds w → EventKeeps w (happens w e)
 event_keeps w e n k =
     let a = acted_keeps w e n k in
     record { links = a.links; goes = a.goes; hosts = a.hosts; queues = a.queues; wire = a.wire; leads = a.leads; lines = a.lines }
 
-pub event_holds : (w : WorldState) (e : WorldEvent) → NotRaw e → WorldHolds w → WorldHolds (happens w e).world
+pub event_holds : (w : WorldState) (e : WorldEvent) → BringsNone e → WorldHolds w → WorldHolds (happens w e).world
 event_holds w e n k =
     let a = event_keeps w e n k in
     let P : Cables → Type 0 = λ links. CutHolds (wiring links) (cut (happens w e).world) in

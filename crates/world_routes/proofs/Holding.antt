@@ -26,7 +26,7 @@ use Rattle.world_model.specs.declared.lines.LinkEnd.{LinkEnd}
 use Rattle.world_model.specs.declared.lines.Wired.{Wired}
 use Rattle.world_model.specs.World.{Cables, WorldState, peer_of, far_end}
 use Rattle.world_model.specs.Wires.{WireLeads}
-use Rattle.world_routes.specs.Roads.{routing_in, route_by, route_at, cost_at, Walk, Here, Along, IsReached, IsDist, IsHop, HopsOver}
+use Rattle.world_routes.specs.Roads.{routing_in, route_by, route_at, cost_at, Walk, Here, Along, IsReached, IsDist, IsHop, HopsOver, Journey}
 use Rattle.world_routes.specs.Routes.{LeadsDown, HasWay, FrameHasWay, RoutesHold}
 use Rattle.world_routes.proofs.Cut.{cut_frame, cut_stamped, cut_wired, cut, end_of, wiring, same_routing, same_cost}
 use Rattle.world_routes.proofs.Steps.{IsDefault, GoesDefault}
@@ -217,13 +217,31 @@ module _ (w : WorldState) (h : WorldHolds w) where
       frame_way x.to.host x.frame.frame (All-contains (λ y. GoesDefault y.frame) w.wire x h.wire on)
       (All-contains (λ y. FrameTrue (routings (cut w)) y.to.host (cut_stamped y.frame)) w.wire x true on)
 
-  -- what holds of routes
-  pub held_routes : RoutesHold w
-  held_routes = record {
+  -- the hop to the own host is over device 0, which leads to it
+  own_hop : (rows : List RouteRow) (n : Host) → hop rows default_route n n ≡ To n own_device
+  unfolding hop
+  own_hop rows n = ap (λ t. cond t (To n own_device) (hop_in rows n)) ((Decides-eqb n.0 n.0).1 refl)
+
+  held_own : (n : Host) (d : Dev) → HopsOver w n n d → (d.0 ≡ 0) × (far_end w.links n d ≡ Some (record { host = n; dev = d }))
+  unfolding far_end
+  held_own n d o =
+      let over : own_device ≡ d = over_is n o.to own_device d (sym (own_hop (all_routes o.routing) n) ∙ o.by) in
+      let zero_is : d.0 ≡ 0 = ap (λ (e : Dev). e.0) (sym over) in
+      let end : LinkEnd = record { host = n; dev = d } in
+      (zero_is, ap (λ k. cond (eqb k 0) (Some end) (peer_of w.links n d)) zero_is)
+    where
+      over_is : (a b : Host) (d e : Dev) → To a d ≡ To b e → d ≡ e
+      over_is a b d e same = cc
+
+  -- what holds of routes, where journeys are short
+  pub held_routes : ((n x : Host) (k c : ℕ) → cost_at w.nodes n x ≡ Some c → Journey x w n k → k ≤ c) → RoutesHold w
+  held_routes short = record {
     reach = held_reach;
     fall = held_fall;
     home = held_home;
     wire = All-weaker (Contains w.wire) (λ x. FrameHasWay w.nodes x.to.host x.frame.frame) wire_way w.wire (All-contains_itself w.wire);
+    short = short;
+    own = held_own;
   }
 
   pub held_dist : (n x : Host) (c d : ℕ) → cost_at w.nodes n x ≡ Some c → IsDist w.links n x d → d ≤ c

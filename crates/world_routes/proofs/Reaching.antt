@@ -1,5 +1,5 @@
 -- What holds of routes in every network that is reached, at each event and in each run.
-use Rattle.std.proofs.Common.{◌≡◌, ℕ, ◌+◌, ◌≤◌, ◌<◌, Some, List, [], ◌∷◌, ◌++◌, refl, sym, ap, subst, ◌∙◌, arith, take, drop}
+use Rattle.std.proofs.Common.{◌≡◌, ℕ, zero, ◌+◌, ◌≤◌, ◌<◌, Some, List, [], ◌∷◌, ◌++◌, refl, sym, ap, subst, ◌∙◌, arith, take, drop}
 use Rattle.std.specs.Prelude.{Option, All}
 use Rattle.std.proofs.lemmas.List.{take-append-drop}
 use Rattle.std.proofs.lemmas.List.Elements.{All-nil, All-head, All-tail, All-append, All-map, All-push, All-take, All-drop, All-contains}
@@ -16,7 +16,7 @@ use Rattle.route_laws.proofs.Keep.{goes_rise}
 use Rattle.world_model.specs.declared.lines.Entry.{Entry}
 use Rattle.world_model.specs.declared.lines.Wired.{Wired}
 use Rattle.world_model.specs.World.{Cables, WorldState, far_end, happens, entry_at, entries, world_after, history_of, opening}
-use Rattle.world_routes.specs.Roads.{cost_at, IsDist, NotRaw, Way, Ends, Hops, Journey, Rests, Rides}
+use Rattle.world_routes.specs.Roads.{cost_at, IsDist, BringsNone, Way, Ends, Hops, Journey, Rests, Waits, Rides}
 use Rattle.world_routes.specs.Routes.{Reached, RoutesHold, NoneRises, IsRouted, KeepsRoutes, RunKeepsRoutes}
 use Rattle.world_routes.proofs.Cut.{cut, end_of, wiring, same_cost, goes_over}
 use Rattle.world_routes.proofs.Holding.{WorldHolds, held_routes, held_fall, held_dist, held_over}
@@ -31,14 +31,14 @@ record RunHolds (es : List WorldEvent) (w : WorldState) : Type 0 where
   goes : Goes (wiring w.links) (cut w) (cut (world_after es w))
   routed : All (λ e. IsRouted e.line) (history_of es w)
 
-run_holds : (es : List WorldEvent) (w : WorldState) → All NotRaw es → WorldHolds w → RunHolds es w
+run_holds : (es : List WorldEvent) (w : WorldState) → All BringsNone es → WorldHolds w → RunHolds es w
 unfolding world_after history_of entries
 run_holds [] w n k = record { holds = k; links = refl; goes = Stays (cut w); routed = All-nil (λ e. IsRouted e.line) }
 run_holds (e ∷ es) w n k =
-    let inside = All-head NotRaw e es n in
+    let inside = All-head BringsNone e es n in
     let one = event_keeps w e inside k in
     let after = (happens w e).world in
-    let more = run_holds es after (All-tail NotRaw e es n) (event_holds w e inside k) in
+    let more = run_holds es after (All-tail BringsNone e es n) (event_holds w e inside k) in
     let P : Cables → Type 0 = λ links. Goes (wiring links) (cut after) (cut (world_after es after)) in
     let IsRight : Entry → Type 0 = λ x. IsRouted x.line in
     record {
@@ -63,55 +63,6 @@ after_one : (e : WorldEvent) (w : WorldState) → world_after (e ∷ []) w ≡ (
 unfolding world_after
 after_one e w = refl
 
--- ---- networks that are reached
-
-pub opening_reached : (t : Topology) → KeepsNetwork t → Reached (opening t)
-unfolding world_after
-opening_reached t k = record { topology = t; keeps = k; events = []; inside = All-nil NotRaw; is = refl }
-
-pub event_reaches : (w : WorldState) (e : WorldEvent) → Reached w → NotRaw e → Reached (happens w e).world
-event_reaches w e r n = record {
-  topology = r.topology;
-  keeps = r.keeps;
-  events = r.events ++ e ∷ [];
-  inside = All-push NotRaw r.events e r.inside n;
-  is = ap (λ v. (happens v e).world) r.is ∙ sym (after_append r.events (e ∷ []) (opening r.topology) ∙ after_one e (world_after r.events (opening r.topology)));
-}
-
-reached_is : (w : WorldState) → Reached w → WorldHolds w
-reached_is w r = subst WorldHolds (sym r.is) (run_holds r.events (opening r.topology) r.inside (opening_holds r.topology r.keeps)).holds
-
-pub reached_hold : (w : WorldState) → Reached w → RoutesHold w
-reached_hold w r = held_routes w (reached_is w r)
-
-pub reached_dist : (w : WorldState) (n x : Host) (c d : ℕ) → Reached w → cost_at w.nodes n x ≡ Some c → IsDist w.links n x d → d ≤ c
-reached_dist w n x c d r e dist = held_dist w (reached_is w r) n x c d e dist
-
-pub event_keeps_routes : (w : WorldState) (e : WorldEvent) → Reached w → NotRaw e → KeepsRoutes w (happens w e)
-event_keeps_routes w e r n =
-    let k = reached_is w r in
-    let one = event_keeps w e n k in
-    record {
-      holds = held_routes (happens w e).world (event_holds w e n k);
-      rises = rises_of w (happens w e).world one.goes;
-      routed = one.lines;
-    }
-
-pub run_keeps_routes : (t : Topology) (es : List WorldEvent) → KeepsNetwork t → All NotRaw es → RunKeepsRoutes es (opening t)
-run_keeps_routes t es k n = record {
-  holds = λ j. held_routes (world_after (take j es) (opening t)) (front j).holds;
-  rises = λ j.
-      let w = world_after (take j es) (opening t) in
-      let whole : world_after (drop j es) w ≡ world_after es (opening t) =
-      sym (after_append (take j es) (drop j es) (opening t)) ∙ ap (λ fs. world_after fs (opening t)) (take-append-drop j es) in
-      let P : WorldState → Type 0 = λ v. NoneRises w.nodes v.nodes in
-      subst P whole (rises_of w (world_after (drop j es) w) (run_holds (drop j es) w (All-drop NotRaw j es n) (front j).holds).goes);
-  routed = (run_holds es (opening t) n (opening_holds t k)).routed;
-}
-  where
-    front : (j : ℕ) → RunHolds (take j es) (opening t)
-    front j = run_holds (take j es) (opening t) (All-take NotRaw j es n) (opening_holds t k)
-
 -- ---- ways
 
 some_cost : (a b : ℕ) → Some a ≡ Some b → a ≡ b
@@ -132,9 +83,6 @@ way_short x w n k c h e (Hops v es m row j hop inside rest) =
     let low : later.0 ≤ f.cost = later.2 in
     omega arith
 
-pub ways_short : (x : Host) (w : WorldState) (n : Host) (k c : ℕ) → Reached w → cost_at w.nodes n x ≡ Some c → Way x w n k → k ≤ c
-ways_short x w n k c r e way = way_short x w n k c (reached_is w r) e way
-
 -- ---- journeys
 
 first_is : (a b : Host) (d e : Dev) → ◌≡◌ {A = Option (Host × Dev)} (Some (a, d)) (Some (b, e)) → a ≡ b
@@ -146,6 +94,9 @@ first_is a b d e same = ap (λ p. p.0) (pair_is same)
 -- frames go the way of the routes
 journey_way : (x : Host) (w : WorldState) (n : Host) (k : ℕ) → WorldHolds w → Journey x w n k → Way x w n k
 journey_way x w n k h (Rests v m) = Ends v m
+journey_way x w n k h (Waits v m d other over) =
+    let o = held_over v h x m d other over in
+    Hops v [] m o.row zero o.hop (All-nil BringsNone) (Ends (world_after [] v) o.row.«next»)
 journey_way x w n k h (Rides v es m y j other over from packet inside on rest) =
     let o = held_over v h x m y.from.dev other over in
     let run = run_holds es v inside h in
@@ -157,5 +108,60 @@ journey_way x w n k h (Rides v es m y j other over from packet inside on rest) =
     let P : Host → Type 0 = λ i. Way x after i j in
     Hops v es m o.row j o.hop inside (subst P (sym same) (journey_way x after y.to.host j run.holds rest))
 
+routes_held : (w : WorldState) → WorldHolds w → RoutesHold w
+routes_held w h = held_routes w h (λ n x k c e journey. way_short x w n k c h e (journey_way x w n k h journey))
+
+-- ---- networks that are reached
+
+pub opening_reached : (t : Topology) → KeepsNetwork t → Reached (opening t)
+unfolding world_after
+opening_reached t k = record { topology = t; keeps = k; events = []; inside = All-nil BringsNone; is = refl }
+
+pub event_reaches : (w : WorldState) (e : WorldEvent) → Reached w → BringsNone e → Reached (happens w e).world
+event_reaches w e r n = record {
+  topology = r.topology;
+  keeps = r.keeps;
+  events = r.events ++ e ∷ [];
+  inside = All-push BringsNone r.events e r.inside n;
+  is = ap (λ v. (happens v e).world) r.is ∙ sym (after_append r.events (e ∷ []) (opening r.topology) ∙ after_one e (world_after r.events (opening r.topology)));
+}
+
+reached_is : (w : WorldState) → Reached w → WorldHolds w
+reached_is w r = subst WorldHolds (sym r.is) (run_holds r.events (opening r.topology) r.inside (opening_holds r.topology r.keeps)).holds
+
+pub reached_hold : (w : WorldState) → Reached w → RoutesHold w
+reached_hold w r = routes_held w (reached_is w r)
+
+pub reached_dist : (w : WorldState) (n x : Host) (c d : ℕ) → Reached w → cost_at w.nodes n x ≡ Some c → IsDist w.links n x d → d ≤ c
+reached_dist w n x c d r e dist = held_dist w (reached_is w r) n x c d e dist
+
+pub event_keeps_routes : (w : WorldState) (e : WorldEvent) → Reached w → BringsNone e → KeepsRoutes w (happens w e)
+event_keeps_routes w e r n =
+    let k = reached_is w r in
+    let one = event_keeps w e n k in
+    record {
+      holds = routes_held (happens w e).world (event_holds w e n k);
+      rises = rises_of w (happens w e).world one.goes;
+      routed = one.lines;
+    }
+
+pub run_keeps_routes : (t : Topology) (es : List WorldEvent) → KeepsNetwork t → All BringsNone es → RunKeepsRoutes es (opening t)
+run_keeps_routes t es k n = record {
+  holds = λ j. routes_held (world_after (take j es) (opening t)) (front j).holds;
+  rises = λ j.
+      let w = world_after (take j es) (opening t) in
+      let whole : world_after (drop j es) w ≡ world_after es (opening t) =
+      sym (after_append (take j es) (drop j es) (opening t)) ∙ ap (λ fs. world_after fs (opening t)) (take-append-drop j es) in
+      let P : WorldState → Type 0 = λ v. NoneRises w.nodes v.nodes in
+      subst P whole (rises_of w (world_after (drop j es) w) (run_holds (drop j es) w (All-drop BringsNone j es n) (front j).holds).goes);
+  routed = (run_holds es (opening t) n (opening_holds t k)).routed;
+}
+  where
+    front : (j : ℕ) → RunHolds (take j es) (opening t)
+    front j = run_holds (take j es) (opening t) (All-take BringsNone j es n) (opening_holds t k)
+
+pub ways_short : (x : Host) (w : WorldState) (n : Host) (k c : ℕ) → Reached w → cost_at w.nodes n x ≡ Some c → Way x w n k → k ≤ c
+ways_short x w n k c r e way = way_short x w n k c (reached_is w r) e way
+
 pub journeys_short : (x : Host) (w : WorldState) (n : Host) (k c : ℕ) → Reached w → cost_at w.nodes n x ≡ Some c → Journey x w n k → k ≤ c
-journeys_short x w n k c r e journey = let h = reached_is w r in way_short x w n k c h e (journey_way x w n k h journey)
+journeys_short x w n k c r e journey = (reached_hold w r).short n x k c e journey

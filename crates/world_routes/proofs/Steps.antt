@@ -1,5 +1,5 @@
 -- What a node's step queues and hears are moves; it keeps packets to the one routing function, and drops none for want of a route.
-use Rattle.std.proofs.Common.{◌≡◌, ℕ, Bool, true, false, cond, not, eqb, Option, Some, None, List, [], ◌∷◌, ◌++◌, inl, refl, sym, ap, subst, ◌∙◌, arith}
+use Rattle.std.proofs.Common.{◌≡◌, ℕ, Bool, true, false, cond, not, eqb, Option, Some, None, Result, Ok, Err, List, [], ◌∷◌, ◌++◌, inl, refl, sym, ap, subst, ◌∙◌, arith}
 use Rattle.std.specs.Prelude.{map, slice_get, slice_set, ◌==◌, ◌&&◌, All, Contains}
 use Rattle.std.specs.Str.{bytes_eq}
 use Rattle.std.proofs.lemmas.Bool.{false≢true}
@@ -15,6 +15,8 @@ use Rattle.plan_base.specs.declared.tree.Packet.{Packet}
 use Rattle.plan_base.specs.declared.tree.Value.{Value}
 use Rattle.packet_frame.specs.declared.frame.PlainFrame.{PlainFrame}
 use Rattle.packet_frame.specs.declared.frame.PlainStamped.{PlainStamped}
+use Rattle.packet_frame.specs.declared.fault.FrameFault.{FrameFault}
+use Rattle.packet_frame.specs.Decoding.{read_by}
 use Rattle.link_window.specs.declared.window.Stamp.{Stamp}
 use Rattle.link_window.specs.declared.window.Took.{Took}
 use Rattle.link_window.specs.declared.window.Took.TheVariants.{Fresh, Repeated, TooOld}
@@ -38,7 +40,7 @@ use Rattle.world_routes.specs.Led.{IsLed}
 use Rattle.world_routes.proofs.Leading.{visit_led}
 use Rattle.world_routes.proofs.Moving.{led_moves}
 use Rattle.node_model.specs.declared.acts.Act.{Act}
-use Rattle.node_model.specs.declared.acts.Act.TheVariants.{Injected, Arrived, Noted, Ended, Handled, Misplaced, Stale, Heard, Ticked, SerialsSpent}
+use Rattle.node_model.specs.declared.acts.Act.TheVariants.{Injected, Arrived, Noted, Ended, Handled, Bad, Misplaced, Stale, Heard, Ticked, SerialsSpent}
 use Rattle.node_model.specs.declared.acts.Lane.{Lane}
 use Rattle.node_model.specs.declared.acts.Sending.{Sending}
 use Rattle.node_model.specs.State.{Links, Queues, NodeState, routing_of, is_host, neighbour_on, is_the_host, leads_to}
@@ -47,9 +49,10 @@ use Rattle.settled_visit.proofs.Tellings.{Tells as TellsSource}
 use Rattle.settled_visit.proofs.Sends.{all_settled}
 use Rattle.node_model.specs.Visits.{around, evaluated, visit_end, visit_of, visit_at, settled_at}
 use Rattle.spelled_frame.specs.Spelled.{what_of, numbered}
-use Rattle.node_model.specs.Node.{Step, stepped, lane_room, queue_room, has_room, lane_with, queue_push, mark, drop_act, takes_as, stamped_as, stamped_step, send_act, send_queues, sends_acts, sends_queues, packet_sending, visit_sends, handled_acts, visit_acts, visited, next_serial, injected_packet, inject_step, only_acts, forward_by, forward_step, packet_step, hearing, advert_step, frame_step, next_tick, advert_sending, tick_sends, tick_step}
+use Rattle.node_model.specs.Node.{Step, stepped, lane_room, queue_room, has_room, lane_with, queue_push, mark, drop_act, takes_as, noting, stamped_as, stamped_step, arrived, arrive_step, send_act, send_queues, sends_acts, sends_queues, packet_sending, visit_sends, handled_acts, visit_acts, visited, next_serial, injected_packet, inject_step, only_acts, forward_by, forward_step, packet_step, hearing, advert_step, frame_step, next_tick, advert_sending, tick_sends, tick_step}
 use Rattle.node_model.specs.Fits.{QueuesKeep}
 use Rattle.node_laws.proofs.Keeping.{Sends, send_keeps, sends_keep}
+use Rattle.world_routes.specs.Roads.{IsAsk, CarriesNone}
 use Rattle.world_routes.specs.Routes.{IsRoutedAct}
 use Rattle.world_routes.proofs.Cut.{cut_frame, cut_stamped, cut_lane, cut_queues, node_with, cut_node, get_map, same_net, with_with, at_after, goes_over}
 
@@ -353,3 +356,30 @@ module _ (far : Wiring) where
       → StepKeeps far (λ w. Contains w.wire ((node.here, d), cut_stamped x)) node (stamped_step node d x)
   unfolding stamped_step
   stamped_keeps node d x way default q = as_keeps node d x (takes_as node.seen d x.stamp) way default q
+
+  -- a frame that is an ask is noted, and moves nothing
+  fresh_ask : (On : Network → Type 0) (node : NodeState) (d : Dev) (s : Option Stamp) (x : PlainFrame) → IsAsk x → QueuesKeep GoesDefault node.queues → StepKeeps far On node (noting node d s (frame_step node d x))
+  fresh_ask On node d s (PlainFrame.Packet p) ask q = absurd ask
+  fresh_ask On node d s (PlainFrame.Advert a) ask q = absurd ask
+  fresh_ask On node d s (PlainFrame.Ask bound chunk) ask q =
+      let k = still On (Arrived d ∷ Misplaced ∷ []) node (two_acts On (Arrived d) Misplaced tt tt) q in
+      record { goes = k.goes; queues = k.queues; acts = k.acts }
+
+  ask_keeps : (On : Network → Type 0) (node : NodeState) (d : Dev) (x : PlainStamped) (t : Took) → IsAsk x.frame → QueuesKeep GoesDefault node.queues → StepKeeps far On node (stamped_as node d x t)
+  ask_keeps On node d x Fresh ask q = fresh_ask On node d x.stamp x.frame ask q
+  ask_keeps On node d x Repeated ask q =
+      let act = Stale Repeated (what_of x.frame) in
+      still On (Arrived d ∷ act ∷ []) node (two_acts On (Arrived d) act tt tt) q
+  ask_keeps On node d x TooOld ask q =
+      let act = Stale TooOld (what_of x.frame) in
+      still On (Arrived d ∷ act ∷ []) node (two_acts On (Arrived d) act tt tt) q
+
+  read_keeps : (On : Network → Type 0) (node : NodeState) (d : Dev) (r : Result PlainStamped FrameFault) → CarriesNone r → QueuesKeep GoesDefault node.queues → StepKeeps far On node (arrived node d r)
+  unfolding stamped_step
+  read_keeps On node d (Ok x) none q = ask_keeps On node d x (takes_as node.seen d x.stamp) none q
+  read_keeps On node d (Err e) none q = still On (Arrived d ∷ Bad e ∷ []) node (two_acts On (Arrived d) (Bad e) tt tt) q
+
+  -- nor do bytes that are no frame
+  pub bytes_keep : (On : Network → Type 0) (node : NodeState) (d : Dev) (bytes : List ℕ) → CarriesNone (read_by node.version bytes) → QueuesKeep GoesDefault node.queues → StepKeeps far On node (arrive_step node d bytes)
+  unfolding arrive_step
+  bytes_keep On node d bytes none q = read_keeps On node d (read_by node.version bytes) none q

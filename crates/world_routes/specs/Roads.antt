@@ -1,8 +1,12 @@
 -- Routes and costs at the nodes of a network, walks along its links, and the ways that packets go by default routes.
-use Rattle.std.specs.Prelude.{◌≡◌, ◌≢◌, ℕ, zero, suc, ◌≤◌, if◌then◌else◌, List, [], ◌∷◌, Option, Some, None, All, Contains}
+use Rattle.std.specs.Prelude.{◌≡◌, ◌≢◌, ℕ, zero, suc, ◌≤◌, if◌then◌else◌, List, [], ◌∷◌, Option, Some, None, Result, Ok, Err, All, Contains}
 use Rattle.plan_base.specs.declared.ids.Host.{Host}
 use Rattle.plan_base.specs.declared.ids.Dev.{Dev}
+use Rattle.link_window.specs.declared.window.Version.{Version}
 use Rattle.packet_frame.specs.declared.frame.PlainFrame.{PlainFrame}
+use Rattle.packet_frame.specs.declared.frame.PlainStamped.{PlainStamped}
+use Rattle.packet_frame.specs.declared.fault.FrameFault.{FrameFault}
+use Rattle.packet_frame.specs.Decoding.{read_by}
 use Rattle.service_api.specs.declared.router.RouteRow.{RouteRow}
 use Rattle.service_api.specs.declared.router.Hop.TheVariants.{To}
 use Rattle.service_api.specs.Routes.{hop, default_route}
@@ -50,10 +54,20 @@ IsDist links a b n = Walk links b a n × ((k : ℕ) → Walk links b a k → n �
 
 -- ---- ways
 
--- an event that brings no bytes from outside
-abbrev pub NotRaw : WorldEvent → Type 0
-NotRaw (Raw h d bytes) = ⊥
-NotRaw _ = Unit {0}
+-- an ask, which no node takes on a device
+abbrev pub IsAsk : PlainFrame → Type 0
+IsAsk (PlainFrame.Ask bound chunk) = Unit {0}
+IsAsk _ = ⊥
+
+-- bytes that are no frame, or an ask
+abbrev pub CarriesNone : Result PlainStamped FrameFault → Type 0
+CarriesNone (Ok x) = IsAsk x.frame
+CarriesNone (Err e) = Unit {0}
+
+-- an event that brings no packet and no advert from outside: bytes that it brings are none to a node of either version
+abbrev pub BringsNone : WorldEvent → Type 0
+BringsNone (Raw h d bytes) = (v : Version) → CarriesNone (read_by v bytes)
+BringsNone _ = Unit {0}
 
 -- the node of n, which isn't x's, routes to x by this row
 pub record IsHop (w : WorldState) (x n : Host) (row : RouteRow) : Type 0 where
@@ -64,7 +78,7 @@ pub record IsHop (w : WorldState) (x n : Host) (row : RouteRow) : Type 0 where
 -- route that its node has by then, and any events may lie between that and its arrival there
 pub data Way (x : Host) : WorldState → Host → ℕ → Type 0 where
   Ends : (w : WorldState) (n : Host) → Way x w n zero
-  Hops : (w : WorldState) (es : List WorldEvent) (n : Host) (row : RouteRow) (k : ℕ) → IsHop w x n row → All NotRaw es → Way x (world_after es w) row.«next» k → Way x w n (suc k)
+  Hops : (w : WorldState) (es : List WorldEvent) (n : Host) (row : RouteRow) (k : ℕ) → IsHop w x n row → All BringsNone es → Way x (world_after es w) row.«next» k → Way x w n (suc k)
 
 -- ---- journeys
 
@@ -79,10 +93,11 @@ abbrev pub IsPacketFor : Host → PlainFrame → Type 0
 IsPacketFor x (PlainFrame.Packet p) = p.dest ≡ x
 IsPacketFor x _ = ⊥
 
--- a journey of packets for x, with the number of its hops: at each hop the node of n, which isn't x's, has its next hop for x over a
--- device, some events later a frame that was sent over that device is on the wire with a packet for x, and the journey goes on where
--- that frame is to arrive
+-- a journey of packets for x, with the number of times that they are queued: at each time the node of n, which isn't x's, has its
+-- next hop for x over a device, some events later a frame that was sent over that device is on the wire with a packet for x, and the
+-- journey goes on where that frame is to arrive; or the packet waits in that queue, and is never sent
 pub data Journey (x : Host) : WorldState → Host → ℕ → Type 0 where
   Rests : (w : WorldState) (n : Host) → Journey x w n zero
-  Rides : (w : WorldState) (es : List WorldEvent) (n : Host) (y : Wired) (k : ℕ) → n ≢ x → HopsOver w x n y.from.dev → y.from.host ≡ n → IsPacketFor x y.frame.frame → All NotRaw es
+  Waits : (w : WorldState) (n : Host) (d : Dev) → n ≢ x → HopsOver w x n d → Journey x w n (suc zero)
+  Rides : (w : WorldState) (es : List WorldEvent) (n : Host) (y : Wired) (k : ℕ) → n ≢ x → HopsOver w x n y.from.dev → y.from.host ≡ n → IsPacketFor x y.frame.frame → All BringsNone es
       → Contains (world_after es w).wire y → Journey x (world_after es w) y.to.host k → Journey x w n (suc k)

@@ -1,5 +1,5 @@
--- What holds of routes in every network that nothing came to from outside.
-use Rattle.std.specs.Prelude.{◌≡◌, ℕ, ◌<◌, List, take, Some, All}
+-- What holds of routes in every network that no packet and no advert came to from outside.
+use Rattle.std.specs.Prelude.{◌≡◌, ℕ, ◌<◌, ◌≤◌, List, take, Some, All}
 use Rattle.plan_base.specs.declared.ids.Host.{Host}
 use Rattle.plan_base.specs.declared.ids.Dev.{Dev}
 use Rattle.plan_base.specs.declared.tree.Packet.{Packet}
@@ -18,15 +18,15 @@ use Rattle.node_model.specs.declared.acts.Reason.TheVariants as reason
 use Rattle.node_model.specs.State.{NodeState}
 use Rattle.world_model.specs.declared.lines.Line.{Line}
 use Rattle.world_model.specs.declared.lines.Line.TheVariants.{At}
-use Rattle.world_model.specs.World.{WorldState, EventResult, peer_of, opening, world_after, history_of}
-use Rattle.world_routes.specs.Roads.{routing_in, route_at, cost_at, IsReached, NotRaw, IsHop}
+use Rattle.world_model.specs.World.{WorldState, EventResult, peer_of, far_end, opening, world_after, history_of}
+use Rattle.world_routes.specs.Roads.{routing_in, route_at, cost_at, IsReached, BringsNone, IsHop, HopsOver, Journey}
 
--- a network that came about from a beginning within the rules, by events that bring no bytes from outside
+-- a network that came about from a beginning within the rules, by events that bring no packet and no advert from outside
 pub record Reached (w : WorldState) : Type 0 where
   pub topology : Topology
   pub keeps : KeepsNetwork topology
   pub events : List WorldEvent
-  pub inside : All NotRaw events
+  pub inside : All BringsNone events
   pub is : w ≡ world_after events (opening topology)
 
 -- ---- what holds
@@ -52,12 +52,16 @@ FrameHasWay nodes m (PlainFrame.Packet p) = HasWay nodes m p
 FrameHasWay nodes m _ = Unit {0}
 
 -- what holds of routes: behind each cost is a walk that is no longer; each route to another host leads to a host whose cost is lower,
--- and that to the node itself over device 0; each packet on the wire has a route where it is to arrive
+-- and that to the node itself over device 0; each packet on the wire has a route where it is to arrive; a packet to another host is
+-- queued at most as often as the cost says that its sender has, a last queueing counted that is never sent, whatever happens
+-- meanwhile that brings nothing from outside; and one to the own host is queued on device 0, which leads to that host
 pub record RoutesHold (w : WorldState) : Type 0 where
   pub reach : (n x : Host) (c : ℕ) → cost_at w.nodes n x ≡ Some c → IsReached w.links n x c
   pub fall : (n x : Host) (row : RouteRow) → IsHop w x n row → LeadsDown w x n row
   pub home : (n : Host) (row : RouteRow) → route_at w.nodes n n ≡ Some row → (row.dev.0 ≡ 0) × (row.cost ≡ 0)
   pub wire : All (λ x. FrameHasWay w.nodes x.to.host x.frame.frame) w.wire
+  pub short : (n x : Host) (k c : ℕ) → cost_at w.nodes n x ≡ Some c → Journey x w n k → k ≤ c
+  pub own : (n : Host) (d : Dev) → HopsOver w n n d → (d.0 ≡ 0) × (far_end w.links n d ≡ Some (record { host = n; dev = d }))
 
 -- no host's cost is higher at any node
 abbrev pub NoneRises : List NodeState → List NodeState → Type 0

@@ -4,7 +4,7 @@ ghost use Rattle.network_plan.specs.Rules.{KeepsNetwork};
 ghost use Rattle.network_plan.specs.declared.schedule.Topology.{Topology};
 ghost use Rattle.network_plan.specs.declared.event.WorldEvent.{WorldEvent};
 ghost use Rattle.world_model.specs.World.{WorldState, happens, opening};
-ghost use Rattle.world_routes.specs.Roads.{cost_at, IsDist, NotRaw, Way, Journey};
+ghost use Rattle.world_routes.specs.Roads.{cost_at, IsDist, BringsNone, Way, Journey};
 ghost use Rattle.world_routes.specs.Routes.{Reached, RoutesHold, KeepsRoutes, RunKeepsRoutes};
 ghost use Rattle.plan_base.specs.declared.tree.Chunk.{Chunk};
 ghost use Rattle.plan_meaning.specs.declared.sent.Sent.{Sent};
@@ -20,9 +20,9 @@ pub fn openings_are_reached()
     ensures { (t : Topology) → KeepsNetwork t → Reached (opening t) }
 {}
 
-/// What an event that brings no bytes from outside makes of a network that is reached is reached.
+/// What an event that brings no packet and no advert from outside makes of a network that is reached is reached.
 pub fn events_reach()
-    ensures { (w : WorldState) (e : WorldEvent) → Reached w → NotRaw e → Reached (happens w e).world }
+    ensures { (w : WorldState) (e : WorldEvent) → Reached w → BringsNone e → Reached (happens w e).world }
 {}
 
 /// What holds of routes holds in every network that is reached.
@@ -32,12 +32,12 @@ pub fn routes_hold()
 
 /// No event raises a cost, or drops a packet for want of a route.
 pub fn events_keep_routes()
-    ensures { (w : WorldState) (e : WorldEvent) → Reached w → NotRaw e → KeepsRoutes w (happens w e) }
+    ensures { (w : WorldState) (e : WorldEvent) → Reached w → BringsNone e → KeepsRoutes w (happens w e) }
 {}
 
 /// The same for every run, after each of its events.
 pub fn runs_keep_routes()
-    ensures { (t : Topology) (es : List WorldEvent) → KeepsNetwork t → All NotRaw es → RunKeepsRoutes es (opening t) }
+    ensures { (t : Topology) (es : List WorldEvent) → KeepsNetwork t → All BringsNone es → RunKeepsRoutes es (opening t) }
 {}
 
 /// A cost is at least the length of a shortest walk.
@@ -51,8 +51,8 @@ pub fn ways_are_short()
     ensures { (x : Host) (w : WorldState) (n : Host) (k c : ℕ) → Reached w → cost_at w.nodes n x ≡ Some c → Way x w n k → k ≤ c }
 {}
 
-/// So a packet that is sent to another host is queued at most as often as the cost says that was read at its sender: frame
-/// by frame, it comes over the links to hosts of lower and lower cost.
+/// So a packet that is sent to another host is queued at most as often as the cost says that was read at its sender, a last
+/// queueing counted that is never sent: frame by frame, it comes over the links to hosts of lower and lower cost.
 pub fn journeys_are_short()
     ensures { (x : Host) (w : WorldState) (n : Host) (k c : ℕ) → Reached w → cost_at w.nodes n x ≡ Some c → Journey x w n k → k ≤ c }
 {}

@@ -1,4 +1,4 @@
-//! The law of routes for networks of whole nodes: where nothing comes from outside, costs fall along each way by default
+//! The law of routes for networks of whole nodes: where no packet and no advert comes from outside, costs fall along each way by default
 //! routes, so no packet goes round in a loop.
 #![tactic(auto)]
 

@@ -1,0 +1,4 @@
+pub mod Ends
+pub mod Fleets
+pub mod Nodes
+pub mod Runs

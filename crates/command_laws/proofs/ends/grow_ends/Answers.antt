@@ -1,0 +1,5 @@
+use Rattle.command_laws.proofs.Ends.{grow_so}
+use Rattle.command_laws.proofs.ends.grow_ends.Goals as goal
+
+pub returns : goal.returns
+returns c = grow_so

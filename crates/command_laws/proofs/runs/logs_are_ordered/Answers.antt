@@ -1,0 +1,5 @@
+use Rattle.command_laws.proofs.Runs.{log_ordered}
+use Rattle.command_laws.proofs.runs.logs_are_ordered.Goals as goal
+
+pub returns : goal.returns
+returns c = log_ordered

@@ -1,0 +1,5 @@
+use Rattle.command_laws.proofs.Runs.{node_replays}
+use Rattle.command_laws.proofs.runs.logs_replay.Goals as goal
+
+pub returns : goal.returns
+returns c = node_replays

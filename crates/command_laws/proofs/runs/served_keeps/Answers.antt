@@ -1,0 +1,5 @@
+use Rattle.command_laws.proofs.Runs.{node_keeps}
+use Rattle.command_laws.proofs.runs.served_keeps.Goals as goal
+
+pub returns : goal.returns
+returns c = node_keeps
