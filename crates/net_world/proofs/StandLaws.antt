@@ -34,7 +34,8 @@ use Rattle.world_model.specs.declared.lines.Line.TheVariants.{At}
 use Rattle.world_model.specs.World.{Cables, WorldState, place_of, lines_at, peer_of, neighbour_at, neighbours_to}
 use Rattle.world_model.specs.declared.lines.Wired.{Wired}
 use Rattle.network_plan.specs.declared.event.WorldEvent.{WorldEvent}
-use Rattle.world_model.specs.Sound.{DevicesFit, event_fits}
+use Rattle.network_plan.specs.declared.event.WorldEvent.TheVariants.{Inject, Send, Deliver, Repeat, Lose, Tick, Raw}
+use Rattle.world_model.specs.Sound.{DevicesFit, event_fits, event_within, event_typed}
 use Rattle.network_laws.proofs.Fitting.{at_place, wired_of}
 use Rattle.net_world.specs.declared.network.Network.{Network}
 use Rattle.net_world.specs.Stands.{AllStand, WorldStands, StepsAt, MayNameAt, IsMarkedAt}
@@ -122,6 +123,28 @@ if_ok P Q (Err e) f h = h
 -- an event that fits a network fits each state of its version
 pub fits_there : {S : Type 0} (w : WorldState) (e : WorldEvent) (n : Network S) → w.version ≡ n.version → event_fits n.version e → event_fits w.version e
 fits_there w e n v f = subst (λ u. event_fits u e) (sym v) f
+
+-- what the types of an event's parts keep is all that its maker doesn't owe
+pub typed_fits : (v : Version) (e : WorldEvent) → event_typed e → event_within v e → event_fits v e
+typed_fits v (Inject h chunk bound handler) t f = ((f.0, t), f.1)
+typed_fits v (Send h d) t f = f
+typed_fits v (Deliver n) t f = tt
+typed_fits v (Repeat n) t f = f
+typed_fits v (Lose n) t f = tt
+typed_fits v (Tick h) t f = tt
+typed_fits v (Raw h d bytes) t f = (f, t)
+
+pub fits_within : (v : Version) (e : WorldEvent) → event_fits v e → event_within v e
+fits_within v (Inject h chunk bound handler) f = (f.0.0, f.1)
+fits_within v (Send h d) f = f
+fits_within v (Deliver n) f = tt
+fits_within v (Repeat n) f = f
+fits_within v (Lose n) f = tt
+fits_within v (Tick h) f = tt
+fits_within v (Raw h d bytes) f = f.0
+
+pub typed_there : {S : Type 0} (m n : Network S) (e : WorldEvent) → m ≡ n → event_typed e → event_within m.version e → event_fits n.version e
+typed_there m n e q t f = subst (λ v. event_fits v e) (λ i. (q i).version) (typed_fits m.version e t f)
 
 module _ {S : Type 0} (stands : S → ServiceState) where
   -- the state at a place of a node

@@ -4,7 +4,7 @@ ghost use Rattle.network_plan.specs.Rules.{KeepsNetwork};
 ghost use Rattle.world_model.specs.World as spec;
 ghost use Rattle.world_model.specs.World.{WorldState};
 ghost use Rattle.world_model.specs.Counts.{late_in, EventInBalance};
-ghost use Rattle.world_model.specs.Sound.{IsSound, event_fits};
+ghost use Rattle.world_model.specs.Sound.{IsSound, event_within, event_typed};
 ghost use Rattle.world_model.specs.Visits.{EndsWell, event_visits};
 ghost use Rattle.world_routes.specs.Roads.{BringsNone};
 ghost use Rattle.world_routes.specs.Routes.{Reached, KeepsRoutes};
@@ -13,6 +13,7 @@ ghost use Rattle.net_world.specs.Stands.{WorldStands, IsHappened};
 
 use crate::network::Network;
 use network_plan::{Topology, WorldEvent};
+use node_core::are_bytes;
 use plan_base::NoMemory;
 use plan_items::Items;
 use service_api::Services;
@@ -41,6 +42,19 @@ impl<S: Services> Model for World<S> {
     ghost view = { λ w. w.network };
 
     ghost invariant = { λ w. w.network.«next» ≤ w.network.made + 1 };
+}
+
+/// Shows that an injected chunk is typed, and that bytes are below 256, and changes nothing. Takes no memory.
+fn keep_types(event: &WorldEvent)
+    ensures { event_typed event.now }
+{
+    match event {
+        WorldEvent::Inject(_, chunk, _, _) => {
+            let _typed = chunk.chunk();
+        }
+        WorldEvent::Raw(_, _, bytes) => are_bytes(bytes.as_slice()),
+        _ => {}
+    }
 }
 
 impl<S: Services + Drop> World<S> {
@@ -93,7 +107,7 @@ impl<S: Services> World<S> {
     /// version 2 alone, one that may handle; a device is at most 8; a frame is repeated under version 2 alone; and
     /// fewer than 2^32 - 2 events were made.
     pub fn step(&mut self, alloc: Global, event: &WorldEvent) -> Result<Lines, NoMemory>
-        requires fits { event_fits self.old.version event.now }
+        requires fits { event_within self.old.version event.now }
         requires few { self.old.made < 2 ^ 32 - 2 }
         ensures ok { (w : WorldState) → WorldStands S.stands self.old w
             → IfOk result (λ lines. IsHappened S.stands (spec.happens w event.now) lines self.new) }
@@ -107,6 +121,7 @@ impl<S: Services> World<S> {
         ensures routes { (w : WorldState) → Reached w → BringsNone event.now
             → KeepsRoutes w (spec.happens w event.now) }
     {
+        keep_types(event);
         let lines = self.network.act(alloc, event)?;
         self.network.count();
         Ok(lines)

@@ -14,7 +14,8 @@ use Rattle.link_window.specs.Seen.{is_fresh}
 use Rattle.network_plan.specs.declared.event.WorldEvent.{WorldEvent}
 use Rattle.network_plan.specs.declared.event.WorldEvent.TheVariants.{Inject, Send, Deliver, Repeat, Lose, Tick, Raw}
 use Rattle.network_plan.specs.Hosts.{Cable}
-use Rattle.network_plan.specs.Rules.{IsLinkDevice, KeepsInjection}
+use Rattle.chunk_types.specs.Chunks.{IsCheckedChunk}
+use Rattle.network_plan.specs.Rules.{IsLinkDevice, MayName, KeepsInjection}
 use Rattle.node_model.specs.State.{Links, NodeState, is_host}
 use Rattle.node_model.specs.Node.{takes_as}
 use Rattle.node_model.specs.Fits.{StampedKeeps, NodeFits}
@@ -98,6 +99,20 @@ event_fits v (Send h d) = d.0 ≤ 8
 event_fits v (Raw h d bytes) = (d.0 ≤ 8) × IsBytes bytes
 event_fits v (Repeat number) = v ≡ Two
 event_fits v _ = Unit {0}
+
+-- what an event asks of its maker: a bound of at most 65,535 and a handler of its version, devices up to 8, repeats under version 2 alone
+abbrev pub event_within : Version → WorldEvent → Type 0
+event_within v (Inject h chunk bound handler) = (bound ≤ 65535) × MayName v chunk handler
+event_within v (Send h d) = d.0 ≤ 8
+event_within v (Raw h d bytes) = d.0 ≤ 8
+event_within v (Repeat number) = v ≡ Two
+event_within v _ = Unit {0}
+
+-- what the types of an event's parts keep: an injected chunk is typed, and bytes are below 256
+abbrev pub event_typed : WorldEvent → Type 0
+event_typed (Inject h chunk bound handler) = IsCheckedChunk chunk
+event_typed (Raw h d bytes) = IsBytes bytes
+event_typed _ = Unit {0}
 
 abbrev pub EventsFit : Version → List WorldEvent → Type 0
 EventsFit v events = All (event_fits v) events

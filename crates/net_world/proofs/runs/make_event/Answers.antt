@@ -2,8 +2,12 @@ use Rattle.std.proofs.Common.{◌∙◌, ◌+◌, ◌++◌, ap, subst}
 use Rattle.world_model.specs.Texts.{entries_text}
 use Rattle.world_model.specs.Counts.{late_in}
 use Rattle.run_ledger.specs.Stands.{Stands}
+use Rattle.net_world.proofs.StandLaws.{fits_within}
 use Rattle.net_world.proofs.RunLaws.{fits_as, leaves_as, entries_are}
 use Rattle.net_world.proofs.runs.make_event.Goals as goal
+
+pub step-requires-clause-fits : goal.step-requires-clause-fits
+step-requires-clause-fits g c = fits_within c.args.world.now.version c.args.event.now c.requires.fits
 
 pub count_lines-requires : goal.count_lines-requires
 count_lines-requires g c =

@@ -2,8 +2,12 @@ use Rattle.std.proofs.Common.{◌∙◌, ◌+◌, ◌++◌, refl, ap, subst}
 use Rattle.world_model.specs.Counts.{late_in}
 use Rattle.run_ledger.specs.Stands.{Stands}
 use Rattle.grow_run.specs.Summaries.{summary_of}
+use Rattle.net_world.proofs.StandLaws.{fits_within}
 use Rattle.net_world.proofs.RunLaws.{fits_as, leaves_as, entries_are}
 use Rattle.grow_run.proofs.growth.Growth.make.Goals as goal
+
+pub step-requires-clause-fits : goal.step-requires-clause-fits
+step-requires-clause-fits g c = fits_within c.args.self.now.world.version c.args.event.now c.requires.fits
 
 pub count_lines-requires : goal.count_lines-requires
 count_lines-requires g c =

@@ -5,8 +5,11 @@ use Rattle.network_laws.proofs.Visits.{event_ends}
 use Rattle.world_routes.proofs.Reaching.{event_keeps_routes}
 use Rattle.world_model.specs.World.{acted}
 use Rattle.net_world.specs.Stands.{WorldStands}
-use Rattle.net_world.proofs.StandLaws.{fits_there}
+use Rattle.net_world.proofs.StandLaws.{fits_there, typed_fits, typed_there}
 use Rattle.net_world.proofs.world.World.step.Goals as goal
+
+pub act-requires-clause-fits : goal.act-requires-clause-fits
+act-requires-clause-fits g c = typed_there c.args.self.now _ c.args.event.now (sym c.self.view_is) c.keep_types.ensures c.requires.fits
 
 pub returns-clause-ok : goal.returns-clause-ok
 returns-clause-ok g c = λ w h.
@@ -16,7 +19,7 @@ returns-clause-ok g c = λ w h.
       list = done.list;
       world = record {
         is = c.count.ensures.stands (acted w c.args.event.now).world done.network;
-        sound = event_sound w c.args.event.now (fits_there w c.args.event.now c.args.self.now (sym h.is.version) c.requires.fits) h.sound;
+        sound = event_sound w c.args.event.now (fits_there w c.args.event.now c.args.self.now (sym h.is.version) (typed_fits c.args.self.now.version c.args.event.now c.keep_types.ensures c.requires.fits)) h.sound;
       };
     }
 
@@ -24,19 +27,19 @@ pub returns-in_err-lines-clause-balance : goal.returns-in_err-lines-clause-balan
 returns-in_err-lines-clause-balance g c = λ f w s. event_balances f w c.args.event.now s
 
 pub returns-in_err-lines-clause-sound : goal.returns-in_err-lines-clause-sound
-returns-in_err-lines-clause-sound g c = λ w v s. event_sound w c.args.event.now (fits_there w c.args.event.now c.args.self.now v c.requires.fits) s
+returns-in_err-lines-clause-sound g c = λ w v s. event_sound w c.args.event.now (fits_there w c.args.event.now c.args.self.now v (typed_fits c.args.self.now.version c.args.event.now c.keep_types.ensures c.requires.fits)) s
 
 pub returns-in_err-lines-clause-visits : goal.returns-in_err-lines-clause-visits
-returns-in_err-lines-clause-visits g c = λ w v s. event_ends w c.args.event.now (fits_there w c.args.event.now c.args.self.now v c.requires.fits) s
+returns-in_err-lines-clause-visits g c = λ w v s. event_ends w c.args.event.now (fits_there w c.args.event.now c.args.self.now v (typed_fits c.args.self.now.version c.args.event.now c.keep_types.ensures c.requires.fits)) s
 
 pub returns-clause-balance : goal.returns-clause-balance
 returns-clause-balance g c = λ f w s. event_balances f w c.args.event.now s
 
 pub returns-clause-sound : goal.returns-clause-sound
-returns-clause-sound g c = λ w v s. event_sound w c.args.event.now (fits_there w c.args.event.now c.args.self.now v c.requires.fits) s
+returns-clause-sound g c = λ w v s. event_sound w c.args.event.now (fits_there w c.args.event.now c.args.self.now v (typed_fits c.args.self.now.version c.args.event.now c.keep_types.ensures c.requires.fits)) s
 
 pub returns-clause-visits : goal.returns-clause-visits
-returns-clause-visits g c = λ w v s. event_ends w c.args.event.now (fits_there w c.args.event.now c.args.self.now v c.requires.fits) s
+returns-clause-visits g c = λ w v s. event_ends w c.args.event.now (fits_there w c.args.event.now c.args.self.now v (typed_fits c.args.self.now.version c.args.event.now c.keep_types.ensures c.requires.fits)) s
 
 pub returns-in_err-lines-clause-routes : goal.returns-in_err-lines-clause-routes
 returns-in_err-lines-clause-routes g c = λ w. event_keeps_routes w c.args.event.now

@@ -1,13 +1,13 @@
 use Rattle.std.proofs.Common.{refl, sym, ◌∙◌, subst}
 use Rattle.world_model.specs.Sound.{event_fits}
-use Rattle.net_world.proofs.StandLaws.{if_ok}
+use Rattle.net_world.proofs.StandLaws.{if_ok, fits_within}
 use Rattle.port_world.proofs.Standing.{makes_stand}
 use Rattle.port_world.proofs.ports.Ports.make.Goals as goal
 
 pub step-requires-clause-fits : goal.step-requires-clause-fits
 step-requires-clause-fits g c =
     let v = c.requires.ready.is.world.is.version ∙ c.requires.ready.is.version in
-    subst (λ v. event_fits v c.args.event.now) (sym v) c.requires.fits
+    fits_within c.args.self.now.world.version c.args.event.now (subst (λ v. event_fits v c.args.event.now) (sym v) c.requires.fits)
 
 pub returns-clause-made : goal.returns-clause-made
 returns-clause-made g c = λ s h.
