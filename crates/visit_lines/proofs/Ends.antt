@@ -96,7 +96,7 @@ unfolding lines_at
 at_lines h here before acts [] same none = none_ends
 at_lines h here before acts (v ∷ []) same (one v front back there is) =
     one_ends v (before ++ map (At h) front) (map (At h) back)
-    (ap (λ as. before ++ map (At h) as) is ∙ ap (λ ls. before ++ ls) (map-append (At h) front (ended_act v ∷ back))
+    (ap (λ more. before ++ map (At h) more) is ∙ ap (λ ls. before ++ ls) (map-append (At h) front (ended_act v ∷ back))
     ∙ sym (append_assoc before (map (At h) front) (At h (ended_act v) ∷ map (At h) back))
     ∙ ap (λ g. (before ++ map (At h) front) ++ At g (ended_act v) ∷ map (At h) back) (sym (there ∙ same)))
 
