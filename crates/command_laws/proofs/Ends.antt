@@ -16,7 +16,7 @@ pub grow_so : (seed k : ℕ) (cause : Cause) (old new : Outside) (n m : SinkStat
 grow_so seed k cause old new n m call = elim (given (Some (grow seed k)) cause old new n m call) [
   | inl same ↦ elim (grown_so seed k call.found old.out new.out call.does.1) [
     | inl done ↦ inl (same ∙ done)
-    | inr other ↦ elim other [ inl poor ↦ inr (inl (same ∙ poor)) | inr failed ↦ inr (inr (same ∙ failed.0, inl failed.1)) ]
+    | inr other ↦ elim other [ inl poor ↦ inr (inl (same ∙ poor)) | inr w ↦ inr (inr (same ∙ w.0, inl w.1)) ]
   ]
   | inr other ↦ elim other [ inl poor ↦ inr (inl poor) | inr unwritten ↦ inr (inr (unwritten.0, inr unwritten.1)) ]
 ]

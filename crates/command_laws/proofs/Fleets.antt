@@ -1,5 +1,5 @@
 -- How a fleet stands that a fault of children ended, and its lines after every answer.
-use Rattle.std.proofs.Common.{◌≡◌, ◌⊎◌, inl, inr, ℕ, ◌≤◌, IsTrue, List, [], length, Option, Some, Result, Ok, Err, sym, ap, ◌∙◌, subst, arith}
+use Rattle.std.proofs.Common.{◌≡◌, ◌⊎◌, inl, inr, ℕ, IsTrue, List, [], Some, Result, Ok, Err, sym, ap, ◌∙◌, subst, arith}
 use Rattle.network_plan.specs.declared.fleet.Fleet.{Fleet}
 use Rattle.node_io.specs.Outsides.{Outside}
 use Rattle.node_io.specs.Sinks.{SinkState, WritesPrefix}

@@ -1,7 +1,6 @@
 -- What the run of a node keeps, and that a log replays to its run's lines.
 use Rattle.std.proofs.Common.{◌≡◌, ◌⊎◌, ℕ, ◌<◌, ◌≤◌, ◌^◌, IsTrue, Bool, true, false, cond, nat_lt, List, ◌++◌, length, Option, Some, None, Result, Ok, Err, refl, sym, ap, ◌∙◌, subst}
 use Rattle.std.proofs.lemmas.Bool.{le-ltb}
-use Rattle.plan_base.specs.declared.tree.Packet.{Packet}
 use Rattle.link_window.specs.declared.window.Version.{Version}
 use Rattle.link_window.specs.declared.window.Version.TheVariants.{One, Two}
 use Rattle.service_api.specs.Services.{ServiceState}
@@ -33,16 +32,16 @@ use Rattle.node_serve.proofs.Again.{again}
 use Rattle.call_causes.specs.declared.status.Cause.{Cause}
 use Rattle.call_causes.specs.declared.status.Cause.TheVariants.{Done, NoMemory}
 use Rattle.call_causes.specs.declared.status.Refusal.TheVariants.{TooLong}
-use Rattle.file_commands.specs.Said.{Said, nothing, outside, says, said_by, said_within, said_at, line_limit}
+use Rattle.file_commands.specs.Said.{Said, outside, says, said_by, said_within, said_at, line_limit}
 use Rattle.run_commands.specs.Keeping.{KeepsNodeRun, node_at}
 use Rattle.run_commands.specs.Schedules.{schedule_limit, schedule_said, log_node, log_trace}
 use Rattle.run_commands.proofs.Logs.{log_said}
-use Rattle.live_commands.specs.Nodes.{config_said, own_services, own_node, moment, begun_config, begun_with}
+use Rattle.live_commands.specs.Nodes.{config_said, own_services, moment, begun_config, begun_with}
 use Rattle.planet_cli.specs.Requests.{node, replay}
 use Rattle.planet_cli.specs.Does.{serving_in}
 use Rattle.planet_cli.specs.Calls.{Calls}
 use Rattle.planet_cli.specs.Replays.{ReplaysLog}
-use Rattle.planet_cli.specs.Outcomes.{Outcome, whole, outcome_by, outcome_of, IsWhole, WritesOut}
+use Rattle.planet_cli.specs.Outcomes.{whole, outcome_by, outcome_of, IsWhole, WritesOut}
 use Rattle.planet_cli.proofs.Giving.{is_written, is_complete}
 use Rattle.planet_cli.proofs.NodeKeeping.{begins, entries_keep, log_keeps}
 use Rattle.planet_cli.proofs.Serving.{node_serves}

@@ -1,5 +1,5 @@
 -- An event's lines have the end of its visit, and no other.
-use Rattle.std.proofs.Common.{◌≡◌, ℕ, ◌+◌, Bool, true, false, cond, List, [], ◌∷◌, ◌++◌, length, refl, sym, ap, ◌∙◌, append_assoc, arith}
+use Rattle.std.proofs.Common.{◌≡◌, ℕ, Bool, true, false, cond, List, [], ◌∷◌, ◌++◌, length, refl, sym, ap, ◌∙◌, append_assoc, arith}
 use Rattle.std.specs.Prelude.{map, filter, slice_get, ◌==◌, Option, Some, None, Result, Ok, Err}
 use Rattle.std.proofs.lemmas.List.{map-append}
 use Rattle.std.proofs.lemmas.List.Elements.{filter-append}
@@ -30,7 +30,7 @@ use Rattle.world_model.specs.declared.lines.Line.TheVariants.{At}
 use Rattle.world_model.specs.declared.lines.Wired.{Wired}
 use Rattle.world_model.specs.declared.lines.Handing.{Handing}
 use Rattle.world_model.specs.declared.lines.Handing.TheVariants.{Taking, Leaving}
-use Rattle.world_model.specs.World.{WorldState, EventResult, lines_at, step_at, step_place, steps, none_before, forged_at, place_of, wire_place, hand_line, hand_at, hand_to, hand_frame, hand_place, hands, happens}
+use Rattle.world_model.specs.World.{WorldState, lines_at, step_at, step_place, steps, none_before, forged_at, place_of, wire_place, hand_line, hand_at, hand_to, hand_frame, hand_place, hands, happens}
 use Rattle.world_model.specs.Counts.{line_sum}
 use Rattle.world_model.specs.Visits.{Visiting, one_visit, frame_visits, visits_as, stamped_visits, read_visits, bytes_visits, chunk_visits, item_at, at_node, at_host, of_wired, delivered_visits, event_visits, line_ends}
 use Rattle.network_laws.proofs.AllVisits.{event_has}
@@ -96,7 +96,7 @@ unfolding lines_at
 at_lines h here before acts [] same none = none_ends
 at_lines h here before acts (v ∷ []) same (one v front back there is) =
     one_ends v (before ++ map (At h) front) (map (At h) back)
-    (ap (λ as. before ++ map (At h) as) is ∙ ap (λ ls. before ++ ls) (map-append (At h) front (ended_act v ∷ back))
+    (ap (λ more. before ++ map (At h) more) is ∙ ap (λ ls. before ++ ls) (map-append (At h) front (ended_act v ∷ back))
     ∙ sym (append_assoc before (map (At h) front) (At h (ended_act v) ∷ map (At h) back))
     ∙ ap (λ g. (before ++ map (At h) front) ++ At g (ended_act v) ∷ map (At h) back) (sym (there ∙ same)))
 
