@@ -6,7 +6,7 @@ use Rattle.network_plan.specs.declared.node.Log.{Log}
 use Rattle.line_files.specs.declared.fault.LineReason.TheVariants.{TwiceNamed}
 use Rattle.node_io.specs.FileMaps.{FileMap}
 use Rattle.node_io.specs.FileStates.{FilesState}
-use Rattle.call_causes.specs.Memory.{IsOwn}
+use Rattle.file_commands.specs.Own.{IsOwn}
 use Rattle.call_causes.specs.declared.status.Cause.{Cause}
 use Rattle.call_causes.specs.declared.status.Cause.TheVariants.{Done, Usage, Refused, ReadFault, WriteFault, LinkFault, SpawnFault, NoMemory, NodesFailed}
 use Rattle.call_causes.specs.declared.status.Refusal.{Refusal}
@@ -65,7 +65,7 @@ module _ (k : ℕ) (hosts : List Host) (said : FileMap → Said Log) (name : Lis
   -- one of a host that a log before it has
   pub takes_twice : (l : Log) → Takes said name old new (Ok l) → is_listed l.node.here hosts ≡ true
       → Takes (λ held. said_then (said held) (of_new_host k hosts)) name old new (Err (Refused (OfLog k 2 TwiceNamed)))
-  takes_twice l t e = record { only = t.only; asked = t.asked; did = (refl, λ seen. ap (λ s. said_then s (of_new_host k hosts)) (t.did seen) ∙ judged l true e) }
+  takes_twice l t e = record { only = t.only; asked = t.asked; did = (tt, λ seen. ap (λ s. said_then s (of_new_host k hosts)) (t.did seen) ∙ judged l true e) }
 
   -- none
   pub takes_unread : (c : Cause) → Takes said name old new (Err c) → Takes (λ held. said_then (said held) (of_new_host k hosts)) name old new (Err c)

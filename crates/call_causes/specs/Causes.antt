@@ -6,6 +6,9 @@ use Rattle.node_io.specs.Outsides.{Outside}
 use Rattle.call_causes.specs.declared.status.Cause.{Cause}
 use Rattle.call_causes.specs.declared.status.Cause.TheVariants.{Done, Usage, Refused, ReadFault, WriteFault, LinkFault, SpawnFault, NoMemory, NodesFailed}
 use Rattle.call_causes.specs.declared.status.Refusal.{Refusal}
+use Rattle.call_causes.specs.declared.status.Refusal.TheVariants.{Line}
+use Rattle.line_files.specs.declared.fault.LineFault.{LineFault}
+use Rattle.line_files.specs.declared.fault.LineFault.TheVariants as faults
 
 -- the exit code of a cause
 abbrev pub code_of : Cause → ℕ
@@ -18,6 +21,11 @@ code_of LinkFault = 5
 code_of SpawnFault = 6
 code_of NoMemory = 7
 code_of (NodesFailed h s) = 8
+
+-- the cause of a file of lines that isn't read
+abbrev pub cause_of : LineFault → Cause
+cause_of (faults.Line n reason) = Refused (Line n reason)
+cause_of faults.NoMemory = NoMemory
 
 -- a fault of writing comes only where the count of the output, of the files or of the notes rose
 abbrev pub WriteRose : Outside → Outside → SinkState → SinkState → Type 0

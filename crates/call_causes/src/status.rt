@@ -1,4 +1,6 @@
-use line_files::LineReason;
+ghost use Rattle.std.specs.Prelude.{◌≡◌};
+
+use line_files::{LineFault, LineReason};
 use packet_frame::FrameFault;
 use plan_base::Host;
 use program_text::TextFault;
@@ -33,6 +35,19 @@ pub enum Cause {
     NoMemory,
     /// The first child with a nonzero status: its host and the status. Code 8.
     NodesFailed(Host, u8),
+}
+
+impl From<LineFault> for Cause {
+    ghost use Rattle.call_causes.specs.Causes.{cause_of};
+
+    ghost from_gives = { λ f c. c ≡ cause_of f };
+
+    fn from(fault: LineFault) -> Cause {
+        match fault {
+            LineFault::Line(line, reason) => Cause::Refused(Refusal::Line(line, reason)),
+            LineFault::NoMemory => Cause::NoMemory,
+        }
+    }
 }
 
 /// Why a file is refused.

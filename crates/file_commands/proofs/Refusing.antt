@@ -1,50 +1,42 @@
 -- Refusals of what bytes say, by cases of what they hold.
-use Rattle.std.proofs.Common.{◌≡◌, ◌⊎◌, inl, inr, ℕ, Bool, true, false, cond, List, Result, Ok, Err, refl, sym, ap, ◌∙◌, subst}
+use Rattle.std.proofs.Common.{◌≡◌, ◌≢◌, ◌⊎◌, inl, inr, ℕ, List, Result, Ok, Err, refl, sym, ap, ◌∙◌, subst}
 use Rattle.hex.specs.declared.error.FromHexError.{FromHexError}
-use Rattle.plan_base.specs.declared.tree.Program.{Program}
 use Rattle.line_files.specs.declared.fault.LineFault.{LineFault}
 use Rattle.line_files.specs.declared.fault.LineFault.TheVariants as faults
 use Rattle.program_text.specs.declared.fault.TextFault.{TextFault}
 use Rattle.program_text.specs.declared.fault.TextFault.TheVariants as texts
 use Rattle.program_text.specs.Reasons.{fault_byte}
 use Rattle.packet_frame.specs.Decoding.{frame_of}
-use Rattle.call_causes.specs.Memory.{holds_memory, cause_at, stop_of}
-use Rattle.call_causes.specs.declared.status.Refusal.{Refusal}
+use Rattle.program_text.specs.Texts.{program_of}
+use Rattle.program_faults.proofs.Whole.{text_own}
+use Rattle.file_faults.specs.Refusals.{FaultHolds}
+use Rattle.call_causes.specs.Causes.{cause_of}
 use Rattle.call_causes.specs.declared.status.Refusal.TheVariants.{Line, At}
 use Rattle.call_causes.specs.declared.status.Cause.{Cause}
 use Rattle.call_causes.specs.declared.status.Cause.TheVariants.{Done, Usage, Refused, ReadFault, WriteFault, LinkFault, SpawnFault, NoMemory, NodesFailed}
 use Rattle.file_commands.specs.Said.{Said, nothing, outside, says, said_by}
 use Rattle.file_commands.specs.Takes.{Refuses}
-use Rattle.file_commands.specs.Checks.{sizes_of}
+use Rattle.file_commands.specs.Checks.{sizes_of, program_said}
 use Rattle.file_commands.specs.Shows.{decoded_said}
 
-refuses_by : {A : Type 0} (said : Said A) (r : Refusal) (memory : Bool) → holds_memory r ≡ memory → said ≡ outside r → Refuses said (cond memory NoMemory (Refused r))
-refuses_by said r true e h = tt
-refuses_by said r false e h = (e, h)
+line_refuses : (A : Type 0) (fault : LineFault) (cause : Cause) → FaultHolds fault → cause ≡ cause_of fault → Refuses {A = A} (said_by (Err fault)) cause
+line_refuses A (faults.Line n reason) cause own is = subst (Refuses {A = A} (outside (Line n reason))) (sym is) (own, refl)
+line_refuses A faults.NoMemory cause own is = absurd own
 
--- a refusal that is told
-pub refuses_told : {A : Type 0} (said : Said A) (r : Refusal) (cause : Cause) → cause ≡ cause_at r → said ≡ outside r → Refuses said cause
-refuses_told said r cause is h = subst (Refuses said) (sym is) (refuses_by said r (holds_memory r) refl h)
-
-line_refuses : (A : Type 0) (fault : LineFault) (cause : Cause) → cause ≡ stop_of fault → Refuses {A = A} (said_by (Err fault)) cause
-line_refuses A (faults.Line n reason) cause is = refuses_told (outside (Line n reason)) (Line n reason) cause is refl
-line_refuses A faults.NoMemory cause is = subst (Refuses {A = A} nothing) (sym is) tt
-
--- what a reader of lines answered
-pub lines_refuse : {A : Type 0} (read : Result A LineFault) (fault : LineFault) (cause : Cause) → (fault ≡ faults.NoMemory) ⊎ (read ≡ Err fault) → cause ≡ stop_of fault → Refuses (said_by read) cause
-lines_refuse {A} read fault cause (inr e) is = subst (λ x. Refuses (said_by x) cause) (sym e) (line_refuses A fault cause is)
-lines_refuse read fault cause (inl none) is =
-    let wants : cause ≡ NoMemory = is ∙ ap stop_of none in
+-- what a reader of lines answered, of which no first refusal is or holds `NoMemory`
+pub lines_refuse : {A : Type 0} (read : Result A LineFault) (fault : LineFault) (cause : Cause) → ((e : LineFault) → read ≡ Err e → FaultHolds e) → (fault ≡ faults.NoMemory) ⊎ (read ≡ Err fault) → cause ≡ cause_of fault
+    → Refuses (said_by read) cause
+lines_refuse {A} read fault cause own (inr e) is = subst (λ x. Refuses (said_by x) cause) (sym e) (line_refuses A fault cause (own fault e) is)
+lines_refuse read fault cause own (inl none) is =
+    let wants : cause ≡ NoMemory = is ∙ ap cause_of none in
     subst (Refuses (said_by read)) (sym wants) tt
 
 -- a text that is no program
-pub text_refused : (read : Result Program TextFault) (fault : TextFault) (at : ℕ) (cause : Cause) → (fault ≡ texts.NoMemory) ⊎ (read ≡ Err fault) → at ≡ fault_byte fault → cause ≡ cause_at (At at fault)
-    → Refuses (sizes_of read) cause
-text_refused read fault at cause (inl none) place is =
-    let wants : cause ≡ NoMemory = is ∙ ap (λ f. cause_at (At at f)) none in
-    subst (Refuses (sizes_of read)) (sym wants) tt
-text_refused read fault at cause (inr e) place is =
-    refuses_told (sizes_of read) (At at fault) cause is (ap sizes_of e ∙ ap (λ b. outside (At b fault)) (sym place))
+pub text_refused : (text : List ℕ) (fault : TextFault) (at : ℕ) → fault ≢ texts.NoMemory → (fault ≡ texts.NoMemory) ⊎ (program_of text ≡ Err fault) → at ≡ fault_byte fault
+    → Refuses (program_said text) (Refused (At at fault))
+unfolding program_said
+text_refused text fault at some (inl none) place = absurd (some none)
+text_refused text fault at some (inr e) place = (text_own text fault e, ap sizes_of e ∙ ap (λ b. outside (At b fault)) (sym place))
 
 -- bytes that no hex digits stand for
 pub undecoded : (said : Said (List ℕ)) (cause : Cause) → Refuses said cause → Refuses (decoded_said said) cause

@@ -1,25 +1,22 @@
 -- A text without the line feed that it may have at its end, and how long it is; a frame that is refused.
-use Rattle.std.proofs.Common.{◌≡◌, ◌≤◌, ◌⊎◌, inl, inr, Some, Ok, Err, subst, ℕ, ◌+◌, ◌-◌, ◌==◌, Bool, true, false, List, [], ◌∷◌, length, take, get_or, refl, sym, ◌∙◌, ap, arith}
+use Rattle.std.proofs.Common.{◌≡◌, ◌≢◌, ◌≤◌, ◌⊎◌, inl, inr, Some, Ok, Err, subst, ℕ, ◌+◌, ◌-◌, ◌==◌, Bool, true, false, List, [], ◌∷◌, length, take, get_or, refl, sym, ◌∙◌, ap, arith}
 use Rattle.std.specs.Prelude.{nat_lt, if◌then◌else◌}
 use Rattle.std.proofs.lemmas.Bool.{eq-eqb, ne_eqb, le-ltb}
 use Rattle.std.proofs.lemmas.List.{length-take}
 use Rattle.hex.specs.Hex.{decode_of, IsBytes}
 use Rattle.hex.proofs.HexLemmas.{decode_of-ok}
 use Rattle.packet_frame.specs.declared.fault.FrameFault.{FrameFault}
-use Rattle.link_window.specs.declared.window.Version.{Version}
 use Rattle.link_window.specs.declared.window.Version.TheVariants.{One, Two}
 use Rattle.packet_frame.specs.Typed.{FrameFirst}
 use Rattle.packet_frame.specs.Stamped.{StampedFirst}
 use Rattle.packet_frame.specs.Decoding.{unstamped, read_by}
 use Rattle.packet_frame.proofs.OneAnswer.{first_is}
 use Rattle.packet_frame.proofs.Versions.{refused_by_two}
-use Rattle.call_causes.specs.Memory.{cause_at}
-use Rattle.call_causes.specs.declared.status.Cause.{Cause}
-use Rattle.call_causes.specs.declared.status.Cause.TheVariants.{NoMemory}
+use Rattle.frame_faults.proofs.Whole.{frame_own, stamped_own}
+use Rattle.call_causes.specs.declared.status.Cause.TheVariants.{Refused}
 use Rattle.call_causes.specs.declared.status.Refusal.TheVariants.{Frame}
 use Rattle.file_commands.specs.Takes.{Refuses}
 use Rattle.file_commands.specs.Shows.{without_feed, framed_said}
-use Rattle.file_commands.proofs.Refusing.{refuses_told}
 
 pub no_text : (text : List ℕ) → length text ≡ 0 → text ≡ without_feed text
 no_text [] h = refl
@@ -52,21 +49,12 @@ decoded_bytes text bytes h = (decode_of-ok text bytes h).3
 
 -- ---- a frame that is refused
 
-module _ (v : Version) (bytes : List ℕ) (e : FrameFault) (cause : Cause) (is : cause ≡ cause_at (Frame e)) where
-  no_room : e ≡ FrameFault.NoMemory → Refuses (framed_said (read_by v bytes)) cause
-  no_room none =
-      let wants : cause ≡ NoMemory = is ∙ ap (λ f. cause_at (Frame f)) none in
-      subst (Refuses (framed_said (read_by v bytes))) (sym wants) tt
+pub first_refused : (bytes : List ℕ) (e : FrameFault) → e ≢ FrameFault.NoMemory → IsBytes bytes → (e ≡ FrameFault.NoMemory) ⊎ FrameFirst e bytes
+    → Refuses (framed_said (read_by One bytes)) (Refused (Frame e))
+first_refused bytes e some h (inl none) = absurd (some none)
+first_refused bytes e some h (inr first) = (frame_own bytes h e first, ap framed_said (ap unstamped (first_is bytes e h first)))
 
-  judged : read_by v bytes ≡ Err e → Refuses (framed_said (read_by v bytes)) cause
-  judged first = refuses_told (framed_said (read_by v bytes)) (Frame e) cause is (ap framed_said first)
-
-pub first_refused : (bytes : List ℕ) (e : FrameFault) (cause : Cause) → cause ≡ cause_at (Frame e) → IsBytes bytes → (e ≡ FrameFault.NoMemory) ⊎ FrameFirst e bytes
-    → Refuses (framed_said (read_by One bytes)) cause
-first_refused bytes e cause is h (inl none) = no_room One bytes e cause is none
-first_refused bytes e cause is h (inr first) = judged One bytes e cause is (ap unstamped (first_is bytes e h first))
-
-pub second_refused : (bytes : List ℕ) (e : FrameFault) (cause : Cause) → cause ≡ cause_at (Frame e) → IsBytes bytes → (e ≡ FrameFault.NoMemory) ⊎ StampedFirst e bytes
-    → Refuses (framed_said (read_by Two bytes)) cause
-second_refused bytes e cause is h (inl none) = no_room Two bytes e cause is none
-second_refused bytes e cause is h (inr first) = judged Two bytes e cause is (refused_by_two bytes e h first)
+pub second_refused : (bytes : List ℕ) (e : FrameFault) → e ≢ FrameFault.NoMemory → IsBytes bytes → (e ≡ FrameFault.NoMemory) ⊎ StampedFirst e bytes
+    → Refuses (framed_said (read_by Two bytes)) (Refused (Frame e))
+second_refused bytes e some h (inl none) = absurd (some none)
+second_refused bytes e some h (inr first) = (stamped_own bytes e h first, ap framed_said (refused_by_two bytes e h first))

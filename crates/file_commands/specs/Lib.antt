@@ -1,4 +1,5 @@
 pub mod Said
+pub mod Own
 pub mod Takes
 pub mod Renders
 pub mod Checks

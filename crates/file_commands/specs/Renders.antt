@@ -1,7 +1,7 @@
 -- What a command that reads one file and writes one text does to the output.
 use Rattle.std.specs.Prelude.{ℕ, ◌≡◌, ◌⊎◌, List}
 use Rattle.node_io.specs.Sinks.{SinkState, Writes, WritesPrefix, FailsIn}
-use Rattle.call_causes.specs.Memory.{IsOwn}
+use Rattle.file_commands.specs.Own.{IsOwn}
 use Rattle.call_causes.specs.declared.status.Cause.{Cause}
 use Rattle.call_causes.specs.declared.status.Cause.TheVariants.{Done, Usage, Refused, ReadFault, WriteFault, LinkFault, SpawnFault, NoMemory, NodesFailed}
 use Rattle.file_commands.specs.Said.{Said, outside, SaysOf}

@@ -3,7 +3,7 @@ use Rattle.std.specs.Prelude.{ℕ, ◌≡◌, IsTrue, List, Result, Ok, Err, Mat
 use Rattle.node_io.specs.Causes.{HasRisen}
 use Rattle.node_io.specs.FileMaps.{FileMap, MayName}
 use Rattle.node_io.specs.FileStates.{FilesState, OnlyReads}
-use Rattle.call_causes.specs.Memory.{IsOwn}
+use Rattle.file_commands.specs.Own.{IsOwn}
 use Rattle.call_causes.specs.declared.status.Cause.{Cause}
 use Rattle.call_causes.specs.declared.status.Cause.TheVariants.{Done, Usage, Refused, ReadFault, WriteFault, LinkFault, SpawnFault, NoMemory, NodesFailed}
 use Rattle.file_commands.specs.Said.{Said, outside, says}

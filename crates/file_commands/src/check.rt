@@ -6,11 +6,11 @@ ghost use Rattle.file_commands.specs.Takes.{Refuses};
 ghost use Rattle.file_commands.specs.Checks.{program_limit, program_said, sizes_text};
 
 use crate::command::{FileCommand, print};
-use call_causes::{Cause, Refusal, cause_at};
+use call_causes::{Cause, Refusal};
 use node_io::Sink;
 use plan_base::Program;
 use plan_sizes::{Counted, code_size};
-use program_text::{place_of, read_program};
+use program_text::{TextFault, place_of, read_program};
 use std::alloc::{AllocError, Global};
 
 /// The most bytes of a program's text.
@@ -39,9 +39,10 @@ fn line_of(alloc: Global, text: &[u8]) -> Result<String, Cause>
         (λ why. Refuses (program_said text.now) why) }
 {
     match read_program(alloc, text) {
+        Err(TextFault::NoMemory) => Err(Cause::NoMemory),
         Err(fault) => {
             let at = place_of(&fault);
-            Err(cause_at(Refusal::At(at, fault)))
+            Err(Cause::Refused(Refusal::At(at, fault)))
         }
         Ok(checked) => match sizes_line(alloc, checked.program()) {
             Ok(line) => Ok(line),

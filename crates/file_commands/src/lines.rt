@@ -1,10 +1,11 @@
 ghost use Rattle.std.specs.Prelude.{◌≡◌, ◌≤◌, ◌<◌, ◌^◌, ◌⊎◌, List, ℕ, Result, Ok, Err, IfOk, IfErr, length};
 ghost use Rattle.line_files.specs.declared.fault.LineFault.{LineFault as Fault};
+ghost use Rattle.file_faults.specs.Refusals.{FaultHolds};
 ghost use Rattle.file_commands.specs.Said.{all_of, said_by, said_in, lines_said};
 ghost use Rattle.file_commands.specs.Takes.{Reads, Takes};
 
 use audit_files::{AuditFile, read_audit};
-use call_causes::{Cause, Refusal, stop_at};
+use call_causes::{Cause, Refusal};
 use cut_files::{CutFile, read_cut};
 use line_files::LineFault;
 use network_plan::{AskFile, Fleet, Log, ServeConfig};
@@ -43,6 +44,9 @@ pub trait LineValue: Drop + Sized {
 
     ghost keeps: { Self → Type 0 };
 
+    // no first refusal of such a file is or holds `NoMemory`
+    ghost own: { (bytes : List ℕ) (e : Fault) → said bytes ≡ Err e → FaultHolds e };
+
     /// Reads the value. Condition: at most 4,194,304 bytes.
     fn read(alloc: Global, bytes: &[u8]) -> Result<Self, LineFault>
         requires { length bytes.now ≤ 4194304 }
@@ -53,11 +57,14 @@ pub trait LineValue: Drop + Sized {
 
 impl LineValue for AskFile {
     ghost use Rattle.network_plan.specs.NodeRules.{KeepsAsk};
+    ghost use Rattle.file_faults.proofs.AskHolds.{ask_holds};
     ghost use Rattle.node_files.specs.Asks.{ask_of};
 
     ghost said = { ask_of };
 
     ghost keeps = { KeepsAsk };
+
+    ghost own = { ask_holds };
 
     fn read(alloc: Global, bytes: &[u8]) -> Result<AskFile, LineFault> {
         read_ask(alloc, bytes)
@@ -66,11 +73,14 @@ impl LineValue for AskFile {
 
 impl LineValue for Fleet {
     ghost use Rattle.network_plan.specs.NodeRules.{KeepsFleet};
+    ghost use Rattle.file_faults.proofs.FleetHolds.{fleet_holds};
     ghost use Rattle.node_files.specs.Fleets.{fleet_of};
 
     ghost said = { fleet_of };
 
     ghost keeps = { KeepsFleet };
+
+    ghost own = { fleet_holds };
 
     fn read(alloc: Global, bytes: &[u8]) -> Result<Fleet, LineFault> {
         read_fleet(alloc, bytes)
@@ -79,11 +89,14 @@ impl LineValue for Fleet {
 
 impl LineValue for ServeConfig {
     ghost use Rattle.network_plan.specs.NodeRules.{KeepsServe};
+    ghost use Rattle.file_faults.proofs.ConfigHolds.{config_holds};
     ghost use Rattle.node_files.specs.Configs.{config_of};
 
     ghost said = { config_of };
 
     ghost keeps = { KeepsServe };
+
+    ghost own = { config_holds };
 
     fn read(alloc: Global, bytes: &[u8]) -> Result<ServeConfig, LineFault> {
         read_config(alloc, bytes)
@@ -92,11 +105,14 @@ impl LineValue for ServeConfig {
 
 impl LineValue for Log {
     ghost use Rattle.network_plan.specs.NodeRules.{KeepsLog};
+    ghost use Rattle.file_faults.proofs.LogHolds.{log_holds};
     ghost use Rattle.node_files.specs.Logs.{log_of};
 
     ghost said = { log_of };
 
     ghost keeps = { KeepsLog };
+
+    ghost own = { log_holds };
 
     fn read(alloc: Global, bytes: &[u8]) -> Result<Log, LineFault> {
         read_log(alloc, bytes)
@@ -104,11 +120,14 @@ impl LineValue for Log {
 }
 
 impl LineValue for CutFile {
+    ghost use Rattle.file_faults.proofs.CutHolds.{cut_holds};
     ghost use Rattle.cut_files.specs.Cuts.{cut_of, KeepsCut};
 
     ghost said = { cut_of };
 
     ghost keeps = { KeepsCut };
+
+    ghost own = { cut_holds };
 
     fn read(alloc: Global, bytes: &[u8]) -> Result<CutFile, LineFault> {
         read_cut(alloc, bytes)
@@ -117,11 +136,14 @@ impl LineValue for CutFile {
 
 impl LineValue for AuditFile {
     ghost use Rattle.audit_files.specs.AuditFiles.{audit_of};
+    ghost use Rattle.file_faults.proofs.AuditHolds.{audit_holds};
     ghost use Rattle.audit_files.specs.AuditRules.{KeepsAudit};
 
     ghost said = { audit_of };
 
     ghost keeps = { KeepsAudit };
+
+    ghost own = { audit_holds };
 
     fn read(alloc: Global, bytes: &[u8]) -> Result<AuditFile, LineFault> {
         read_audit(alloc, bytes)
@@ -137,7 +159,7 @@ fn value_in<V: LineValue>(alloc: Global, bytes: &[u8]) -> Result<V, Cause>
 {
     match V::read(alloc, bytes) {
         Ok(value) => Ok(value),
-        Err(fault) => Err(stop_at(fault)),
+        Err(fault) => Err(Cause::from(fault)),
     }
 }
 

@@ -8,12 +8,12 @@ ghost use Rattle.file_commands.specs.Takes.{Refuses, Reads};
 ghost use Rattle.file_commands.specs.Shows.{frame_limit, without_feed, bytes_said, version_shown, framed_said, frame_said};
 
 use crate::command::{FileCommand, print};
-use call_causes::{Cause, Refusal, cause_at};
+use call_causes::{Cause, Refusal};
 use frame_text::print_frame;
 use hex::FromHexError;
 use link_window::Version;
 use node_io::Sink;
-use packet_frame::{Stamped, get_frame, get_frame2};
+use packet_frame::{FrameFault, Stamped, get_frame, get_frame2};
 use plan_base::Bytes;
 use std::alloc::Global;
 
@@ -64,6 +64,7 @@ fn version_of(bytes: &[u8]) -> Version
 }
 
 // The frame that the bytes spell in version 1.
+#[tactic(auto, using(crate::proofs::ShowLemmas::first_refused))]
 fn first_framed(alloc: Global, bytes: &[u8]) -> Result<Stamped, Cause>
     requires { IsBytes bytes.now }
     ensures { MatchResult result (λ x. read_by One bytes.now ≡ Ok (stamped_plain x))
@@ -71,11 +72,13 @@ fn first_framed(alloc: Global, bytes: &[u8]) -> Result<Stamped, Cause>
 {
     match get_frame(alloc, bytes, None) {
         Ok(frame) => Ok(Stamped { stamp: None, frame }),
-        Err(refusal) => Err(cause_at(Refusal::Frame(refusal))),
+        Err(FrameFault::NoMemory) => Err(Cause::NoMemory),
+        Err(refusal) => Err(Cause::Refused(Refusal::Frame(refusal))),
     }
 }
 
 // The frame that the bytes spell in version 2.
+#[tactic(auto, using(crate::proofs::ShowLemmas::second_refused))]
 fn second_framed(alloc: Global, bytes: &[u8]) -> Result<Stamped, Cause>
     requires { IsBytes bytes.now }
     ensures { MatchResult result (λ x. read_by Two bytes.now ≡ Ok (stamped_plain x))
@@ -83,7 +86,8 @@ fn second_framed(alloc: Global, bytes: &[u8]) -> Result<Stamped, Cause>
 {
     match get_frame2(alloc, bytes, None) {
         Ok(frame) => Ok(frame),
-        Err(refusal) => Err(cause_at(Refusal::Frame(refusal))),
+        Err(FrameFault::NoMemory) => Err(Cause::NoMemory),
+        Err(refusal) => Err(Cause::Refused(Refusal::Frame(refusal))),
     }
 }
 

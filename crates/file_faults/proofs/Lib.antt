@@ -6,3 +6,6 @@ pub mod FleetHolds
 pub mod AskHolds
 pub mod ConfigHolds
 pub mod LogHolds
+pub mod CutHolds
+pub mod PortHolds
+pub mod AuditHolds

@@ -10,14 +10,20 @@ ghost use Rattle.node_files.specs.Asks.{ask_of};
 ghost use Rattle.node_files.specs.Configs.{config_of};
 ghost use Rattle.node_files.specs.Fleets.{fleet_of};
 ghost use Rattle.node_files.specs.Logs.{log_of};
+ghost use Rattle.cut_files.specs.Cuts.{cut_of};
+ghost use Rattle.port_files.specs.PortFiles.{port_of};
+ghost use Rattle.audit_files.specs.AuditFiles.{audit_of};
 ghost use Rattle.file_faults.specs.Refusals.{FaultHolds};
 
 /// No first refusal of a file of lines is or holds `NoMemory`.
-#[tactic(auto, using(crate::proofs::ScheduleHolds::schedule_holds, crate::proofs::ConfigHolds::config_holds, crate::proofs::LogHolds::log_holds, crate::proofs::AskHolds::ask_holds, crate::proofs::FleetHolds::fleet_holds))]
+#[tactic(auto, using(crate::proofs::ScheduleHolds::schedule_holds, crate::proofs::ConfigHolds::config_holds, crate::proofs::LogHolds::log_holds, crate::proofs::AskHolds::ask_holds, crate::proofs::FleetHolds::fleet_holds, crate::proofs::CutHolds::cut_holds, crate::proofs::PortHolds::port_holds, crate::proofs::AuditHolds::audit_holds))]
 pub fn refusals_hold_no_memory()
     ensures schedules { (bytes : List ℕ) (e : LineFault) → schedule_of bytes ≡ Err e → FaultHolds e }
     ensures configurations { (bytes : List ℕ) (e : LineFault) → config_of bytes ≡ Err e → FaultHolds e }
     ensures logs { (bytes : List ℕ) (e : LineFault) → log_of bytes ≡ Err e → FaultHolds e }
     ensures requests { (bytes : List ℕ) (e : LineFault) → ask_of bytes ≡ Err e → FaultHolds e }
     ensures fleets { (bytes : List ℕ) (e : LineFault) → fleet_of bytes ≡ Err e → FaultHolds e }
+    ensures cuts { (bytes : List ℕ) (e : LineFault) → cut_of bytes ≡ Err e → FaultHolds e }
+    ensures ports { (bytes : List ℕ) (e : LineFault) → port_of bytes ≡ Err e → FaultHolds e }
+    ensures audits { (bytes : List ℕ) (e : LineFault) → audit_of bytes ≡ Err e → FaultHolds e }
 {}

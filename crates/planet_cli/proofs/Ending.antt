@@ -7,7 +7,7 @@ use Rattle.node_io.specs.Outsides.{Outside}
 use Rattle.node_io.specs.Sinks.{SinkState, WritesPrefix}
 use Rattle.node_io.proofs.SinkLaws.{prefix_none}
 use Rattle.call_causes.specs.Causes.{IfRefused, Gives}
-use Rattle.call_causes.specs.Memory.{IsOwn}
+use Rattle.file_commands.specs.Own.{IsOwn}
 use Rattle.call_causes.specs.declared.status.Cause.{Cause}
 use Rattle.call_causes.specs.declared.status.Cause.TheVariants.{Done, Usage, Refused, ReadFault, WriteFault, LinkFault, SpawnFault, NoMemory, NodesFailed}
 use Rattle.call_causes.specs.declared.status.Refusal.{Refusal}

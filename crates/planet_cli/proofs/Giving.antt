@@ -5,7 +5,7 @@ use Rattle.node_io.specs.FileMaps.{FileMap}
 use Rattle.node_io.specs.Outsides.{Outside}
 use Rattle.node_io.specs.Sinks.{SinkState, Writes, FailsIn}
 use Rattle.call_causes.specs.Causes.{IfRefused, Gives}
-use Rattle.call_causes.specs.Memory.{IsOwn}
+use Rattle.file_commands.specs.Own.{IsOwn}
 use Rattle.call_causes.specs.Notes.{note_text, Notes, told, no_memory, failed}
 use Rattle.call_causes.specs.declared.status.Cause.{Cause}
 use Rattle.call_causes.specs.declared.status.Cause.TheVariants.{Done, Usage, Refused, ReadFault, WriteFault, LinkFault, SpawnFault, NoMemory, NodesFailed}

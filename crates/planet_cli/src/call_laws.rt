@@ -4,7 +4,7 @@ ghost use Rattle.node_io.specs.Causes.{HasRisen};
 ghost use Rattle.node_io.specs.Outsides.{Outside};
 ghost use Rattle.node_io.specs.Sinks.{SinkState, Writes, FailsIn};
 ghost use Rattle.call_causes.specs.Causes.{IfRefused, Gives};
-ghost use Rattle.call_causes.specs.Memory.{IsOwn};
+ghost use Rattle.file_commands.specs.Own.{IsOwn};
 ghost use Rattle.call_causes.specs.Notes.{note_text};
 ghost use Rattle.call_causes.specs.declared.status.Cause.{Cause as Why};
 ghost use Rattle.call_causes.specs.declared.status.Refusal.{Refusal as Reason};

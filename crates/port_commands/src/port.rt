@@ -48,12 +48,15 @@ impl PortScript {
 }
 
 impl LineValue for PortScript {
+    ghost use Rattle.file_faults.proofs.PortHolds.{port_holds};
     ghost use Rattle.port_files.specs.PortFiles.{port_of};
     ghost use Rattle.port_files.specs.PortRules.{KeepsPort};
 
     ghost said = { port_of };
 
     ghost keeps = { KeepsPort };
+
+    ghost own = { port_holds };
 
     fn read(alloc: Global, bytes: &[u8]) -> Result<PortScript, LineFault> {
         match read_port(alloc, bytes) {

@@ -7,29 +7,33 @@ use Rattle.line_files.specs.declared.fault.LineFault.TheVariants as faults
 use Rattle.schedule_text.specs.Schedules.{schedule_of}
 use Rattle.node_files.specs.Logs.{log_of}
 use Rattle.node_io.specs.Sinks.{SinkState}
-use Rattle.call_causes.specs.Memory.{stop_of}
+use Rattle.file_faults.specs.Refusals.{FaultHolds}
+use Rattle.file_faults.proofs.ScheduleHolds.{schedule_holds}
+use Rattle.file_faults.proofs.LogHolds.{log_holds}
+use Rattle.call_causes.specs.Causes.{cause_of}
 use Rattle.call_causes.specs.declared.status.Cause.{Cause}
 use Rattle.call_causes.specs.declared.status.Cause.TheVariants.{NoMemory}
-use Rattle.call_causes.specs.declared.status.Refusal.TheVariants.{Line}
-use Rattle.file_commands.specs.Said.{outside}
 use Rattle.file_commands.specs.Takes.{Refuses}
 use Rattle.file_commands.specs.Renders.{Prints, Renders}
-use Rattle.file_commands.proofs.Refusing.{refuses_told}
 use Rattle.file_commands.proofs.Rendering.{renders_none, renders_text}
 use Rattle.run_commands.specs.Schedules.{Replayed, as_log, is_header_fault, replayed_by, replayed_of, replay_text, log_trace, run_said, schedule_said}
 
-line_refuses : (fault : LineFault) (cause : Cause) → cause ≡ stop_of fault → Refuses (run_said (Err fault)) cause
-line_refuses (faults.Line n reason) cause is = refuses_told (outside (Line n reason)) (Line n reason) cause is refl
-line_refuses faults.NoMemory cause is = subst (Refuses (run_said (Err faults.NoMemory))) (sym is) tt
+line_refuses : (fault : LineFault) (cause : Cause) → FaultHolds fault → cause ≡ cause_of fault → Refuses (run_said (Err fault)) cause
+line_refuses (faults.Line n reason) cause own is = subst (Refuses (run_said (Err (faults.Line n reason)))) (sym is) (own, refl)
+line_refuses faults.NoMemory cause own is = absurd own
 
-run_refuses : (read : Result Replayed LineFault) (fault : LineFault) (cause : Cause) → (fault ≡ faults.NoMemory) ⊎ (read ≡ Err fault) → cause ≡ stop_of fault → Refuses (run_said read) cause
-run_refuses read fault cause (inr e) is = subst (λ x. Refuses (run_said x) cause) (sym e) (line_refuses fault cause is)
+-- why bytes say nothing to replay: memory, or a first refusal that is none and holds none
+abbrev Unread : Result Replayed LineFault → LineFault → Type 0
+Unread read fault = (fault ≡ faults.NoMemory) ⊎ (FaultHolds fault × (read ≡ Err fault))
+
+run_refuses : (read : Result Replayed LineFault) (fault : LineFault) (cause : Cause) → Unread read fault → cause ≡ cause_of fault → Refuses (run_said read) cause
+run_refuses read fault cause (inr u) is = subst (λ x. Refuses (run_said x) cause) (sym u.1) (line_refuses fault cause u.0 is)
 run_refuses read fault cause (inl none) is =
-    let wants : cause ≡ NoMemory = is ∙ ap stop_of none in
+    let wants : cause ≡ NoMemory = is ∙ ap cause_of none in
     subst (Refuses (run_said read)) (sym wants) tt
 
 module _ (bytes : List ℕ) where
-  no_text : (fault : LineFault) (cause : Cause) (s : SinkState) → (fault ≡ faults.NoMemory) ⊎ (replayed_of bytes ≡ Err fault) → cause ≡ stop_of fault → Renders (schedule_said bytes) cause s s
+  no_text : (fault : LineFault) (cause : Cause) (s : SinkState) → Unread (replayed_of bytes) fault → cause ≡ cause_of fault → Renders (schedule_said bytes) cause s s
   unfolding schedule_said
   no_text fault cause s h is = renders_none (schedule_said bytes) cause s (run_refuses (replayed_of bytes) fault cause h is)
 
@@ -45,10 +49,10 @@ module _ (bytes : List ℕ) where
       | inr e ↦ ap (λ r. replayed_by r bytes) e ∙ ap (λ t. if t then as_log (log_of bytes) else Err fault) b
     ]
 
-    pub schedule_refused : (cause : Cause) (s : SinkState) → is_header_fault fault ≡ false → cause ≡ stop_of fault → Renders (schedule_said bytes) cause s s
+    pub schedule_refused : (cause : Cause) (s : SinkState) → is_header_fault fault ≡ false → cause ≡ cause_of fault → Renders (schedule_said bytes) cause s s
     schedule_refused cause s b is = elim h [
       | inl none ↦ no_text fault cause s (inl none) is
-      | inr e ↦ no_text fault cause s (inr (ap (λ r. replayed_by r bytes) e ∙ ap (λ t. if t then as_log (log_of bytes) else Err fault) b)) is
+      | inr e ↦ no_text fault cause s (inr (schedule_holds bytes fault e, ap (λ r. replayed_by r bytes) e ∙ ap (λ t. if t then as_log (log_of bytes) else Err fault) b)) is
     ]
 
   -- a log
@@ -57,8 +61,8 @@ module _ (bytes : List ℕ) where
     unfolding schedule_said
     log_printed x cause a b e p = renders_text (schedule_said bytes) (log_trace x) cause a b (ap run_said (other ∙ ap as_log e)) p
 
-    pub log_refused : (fault : LineFault) (cause : Cause) (s : SinkState) → (fault ≡ faults.NoMemory) ⊎ (log_of bytes ≡ Err fault) → cause ≡ stop_of fault → Renders (schedule_said bytes) cause s s
+    pub log_refused : (fault : LineFault) (cause : Cause) (s : SinkState) → (fault ≡ faults.NoMemory) ⊎ (log_of bytes ≡ Err fault) → cause ≡ cause_of fault → Renders (schedule_said bytes) cause s s
     log_refused fault cause s h is = elim h [
       | inl none ↦ no_text fault cause s (inl none) is
-      | inr e ↦ no_text fault cause s (inr (other ∙ ap as_log e)) is
+      | inr e ↦ no_text fault cause s (inr (log_holds bytes fault e, other ∙ ap as_log e)) is
     ]

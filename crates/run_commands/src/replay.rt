@@ -8,7 +8,7 @@ ghost use Rattle.world_model.specs.World.{opening_services};
 ghost use Rattle.file_commands.specs.Renders.{Prints, Renders};
 ghost use Rattle.run_commands.specs.Schedules.{schedule_limit, schedule_said, is_header_fault, replayed_of, as_log, replay_text, log_trace};
 
-use call_causes::{Cause, stop_at};
+use call_causes::Cause;
 use file_commands::FileCommand;
 use line_files::{LineFault, LineReason};
 use log_replay::{ReplayFault, run_log};
@@ -88,7 +88,7 @@ fn replay_log<K: Sink>(alloc: Global, bytes: &[u8], out: &mut K) -> Cause
 {
     match read_log(alloc, bytes) {
         Ok(log) => run_log_read(alloc, &log, out),
-        Err(fault) => stop_at(fault),
+        Err(fault) => Cause::from(fault),
     }
 }
 
@@ -102,7 +102,7 @@ fn replay_other<K: Sink>(alloc: Global, bytes: &[u8], fault: LineFault, out: &mu
     if is_header_fault(&fault) {
         replay_log(alloc, bytes, out)
     } else {
-        stop_at(fault)
+        Cause::from(fault)
     }
 }
 
