@@ -1,9 +1,7 @@
 -- What the services hold, and what they stand for.
-use Rattle.std.specs.Prelude.{◌≡◌, ℤ, pos, ◌≤ℤ◌, false, [], Option, Some, None, Result, Ok, Err}
-use Rattle.plan_base.specs.declared.memory.NoMemory.{NoMemory}
+use Rattle.std.specs.Prelude.{ℤ, pos, ◌≤ℤ◌, false, [], Option, Some, None}
 use Rattle.table_rows.specs.Rows.{last_key}
-use Rattle.service_api.specs.declared.answer.Answer.{Answer}
-use Rattle.service_api.specs.Services.{Rows, Served, ServiceState}
+use Rattle.service_api.specs.Services.{Rows, ServiceState}
 use Rattle.example_services.specs.declared.services.Counts.{Counts}
 use Rattle.example_services.specs.Serving.{offer}
 
@@ -32,8 +30,3 @@ standing c = record { offer = offer; rows = counting c.number; begun = counting_
 -- none was called, and no `begin` is open
 abbrev pub opening : ServiceState
 opening = record { offer = offer; rows = counting (pos 1); begun = None; ready = false }
-
--- the answer and the rows are those that the call means; the rows stay where memory was refused
-abbrev pub Meets : Served → Rows → Result Answer NoMemory → Rows → Type 0
-Meets s old (Ok a) new = s ≡ record { answer = a; rows = new }
-Meets s old (Err e) new = new ≡ old

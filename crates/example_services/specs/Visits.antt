@@ -1,26 +1,11 @@
 -- A visit of a packet by itself: the meaning of its chunk, and what it leaves of the services.
-use Rattle.std.specs.Prelude.{◌≡◌, Bool, true, false, if◌then◌else◌, None}
+use Rattle.std.specs.Prelude.{◌≡◌}
 use Rattle.plan_base.specs.declared.tree.Packet.{Packet}
 use Rattle.service_api.specs.declared.ctx.Ctx.{Ctx}
-use Rattle.service_api.specs.Services.{ServiceState, begun_now, made_ready, kept, abandoned}
-use Rattle.plan_meaning.specs.declared.outcome.Outcome.{Outcome}
-use Rattle.plan_meaning.specs.declared.outcome.Outcome.TheVariants.{WorkSpent}
+use Rattle.service_api.specs.Services.{ServiceState, begun_now, made_ready}
 use Rattle.plan_meaning.specs.declared.outcome.Visit.{Visit}
 use Rattle.plan_meaning.specs.Visit.{IsVisit, allowance}
-
--- no `begin` is open
-pub record IsResting (n : ServiceState) : Type 0 where
-  pub closed : n.begun ≡ None
-  pub waits : n.ready ≡ false
-
--- whether an outcome is that of spent work
-abbrev pub is_spent : Outcome → Bool
-is_spent WorkSpent = true
-is_spent _ = false
-
--- the services once a visit is closed: undone where its work was spent
-abbrev pub closed : Bool → ServiceState → ServiceState
-closed spent n = if spent then abandoned n else kept n
+use Rattle.node_core.specs.Turns.{closed, is_spent}
 
 -- the visit was made, and its changes may be kept
 pub record IsMade (p : Packet) (ctx : Ctx) (old : ServiceState) (r : Visit) (new : ServiceState) : Type 0 where

@@ -9,8 +9,6 @@ mod fault;
 mod laws;
 mod offered;
 mod packets;
-#[cfg(test)]
-mod runs;
 mod service;
 mod services;
 mod serving;

@@ -1,8 +1,8 @@
 ghost use Rattle.std.specs.Prelude.{◌≡◌};
-ghost use Rattle.service_api.specs.Services.{Rows};
+ghost use Rattle.service_registry.specs.Meets.{Meets, Tells};
 ghost use Rattle.example_services.specs.Offered as offered;
 ghost use Rattle.example_services.specs.Serving as spec;
-ghost use Rattle.example_services.specs.Counts.{counting, IsNumber, Meets};
+ghost use Rattle.example_services.specs.Counts.{counting, IsNumber};
 
 use crate::answers::{hello, refused};
 use crate::offered::called;
@@ -41,7 +41,7 @@ fn count(alloc: Global, number: &mut i64, args: &[Value]) -> Result<Answer, NoMe
 
 /// `greet`.
 fn greet(alloc: Global, args: &[Value]) -> Result<Answer, NoMemory>
-    ensures { (rows : Rows) → Meets (spec.serve_as ExampleService.Greet args.now rows) rows result rows }
+    ensures { Tells (spec.serve_as ExampleService.Greet args.now) result }
 {
     match args {
         [whom] => Ok(Answer::Gives(

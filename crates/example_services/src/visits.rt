@@ -2,8 +2,8 @@
 ghost use Rattle.std.specs.Prelude.{◌≡◌, ◌≤◌, ◌+◌, length, IfOk, OnOk, OnErr, IsSome, IsTrue};
 ghost use Rattle.service_api.specs.Services.{AreGoodRows};
 ghost use Rattle.plan_meaning.specs.Visit.{bounds};
-ghost use Rattle.example_services.specs.Visits as spec;
-ghost use Rattle.example_services.specs.Visits.{IsResting, IsMade, IsVisited, closed};
+ghost use Rattle.node_core.specs.Turns.{IsResting, closed, is_spent as spent};
+ghost use Rattle.example_services.specs.Visits.{IsMade, IsVisited};
 
 use chunk_types::CheckedPacket;
 use plan_base::NoMemory;
@@ -14,7 +14,7 @@ use std::alloc::Global;
 
 /// Whether an outcome is that of spent work.
 fn is_spent(outcome: &Outcome) -> bool
-    ensures { result ≡ spec.is_spent outcome.now }
+    ensures { result ≡ spent outcome.now }
 {
     match outcome {
         Outcome::WorkSpent => true,
@@ -64,7 +64,7 @@ fn close<S: Services>(services: &mut S, is_spent: bool)
 ///
 /// Conditions: the purse of the surroundings is the packet's bound and their source the family's host, there are at most 8
 /// neighbours, and no `begin` is open. Where memory is refused the services stay.
-#[tactic(auto, using(crate::proofs::Turns::visited, crate::proofs::Turns::undone, crate::proofs::Turns::rests_closed, crate::proofs::Turns::rests_abandoned))]
+#[tactic(auto, using(crate::proofs::Turns::visited, node_core::proofs::TurnLaws::undone, node_core::proofs::TurnLaws::rests_closed, node_core::proofs::TurnLaws::rests_abandoned))]
 pub fn visit_once<S: Services>(
     alloc: Global,
     services: &mut S,

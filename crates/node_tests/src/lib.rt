@@ -1,6 +1,8 @@
-//! Nodes, their logs and their tables: what no command of the program shows.
+//! Nodes, their logs, their tables and services of one's own: what no command of the program shows.
 #![tactic(auto)]
 
+#[cfg(test)]
+mod examples;
 #[cfg(test)]
 mod logs;
 #[cfg(test)]
