@@ -14,6 +14,6 @@ ghost use Rattle.plan_meaning.specs.Visit.{IsVisit};
 
 /// Where an allowance of work suffices for a visit, every greater one gives the same: outcome, effects, work and services.
 pub fn greater_allowances()
-    ensures greater { (k : Chunk) (ctx : Ctx) (family : Family) (n : ServiceState) (v w : ℕ) (r : Visit) (new : ServiceState)
+    ensures { (k : Chunk) (ctx : Ctx) (family : Family) (n : ServiceState) (v w : ℕ) (r : Visit) (new : ServiceState)
         → v ≤ w → IsVisit v k ctx family n r new → r.outcome ≢ outcome.WorkSpent → IsVisit w k ctx family n r new }
 {}

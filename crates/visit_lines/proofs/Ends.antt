@@ -93,8 +93,8 @@ data Lines (lines : List Line) : List Visiting → Type 0 where
 
 at_lines : (h here : Host) (before : List Line) (acts : List Act) (vs : List Visiting) → here ≡ h → Shown here acts vs → Lines (before ++ lines_at h acts) vs
 unfolding lines_at
-at_lines h here before acts [] same none = none_ends
-at_lines h here before acts (v ∷ []) same (one v front back there is) =
+at_lines h here before acts vs same none = none_ends
+at_lines h here before acts vs same (one v front back there is) =
     one_ends v (before ++ map (At h) front) (map (At h) back)
     (ap (λ more. before ++ map (At h) more) is ∙ ap (λ ls. before ++ ls) (map-append (At h) front (ended_act v ∷ back))
     ∙ sym (append_assoc before (map (At h) front) (At h (ended_act v) ∷ map (At h) back))
@@ -171,8 +171,8 @@ none_among (x ∷ lines) e =
     ap (λ n. cond (n == 1) (x ∷ filter is_end lines) (filter is_end lines)) first ∙ none_among lines rest
 
 are_ends : (lines : List Line) (vs : List Visiting) → Lines lines vs → line_sum line_ends lines ≡ length vs → filter is_end lines ≡ map ended_line vs
-are_ends lines [] none_ends e = none_among lines e
-are_ends lines (v ∷ []) (one_ends v front back is) e =
+are_ends lines vs none_ends e = none_among lines e
+are_ends lines vs (one_ends v front back is) e =
     let split = line_sum-append line_ends front (ended_line v ∷ back) in
     let sum = line_sum-cons line_ends (ended_line v) back in
     let all : line_sum line_ends (front ++ ended_line v ∷ back) ≡ 1 = sym (ap (line_sum line_ends) is) ∙ e in
