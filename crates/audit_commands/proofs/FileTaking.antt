@@ -157,6 +157,7 @@ said_or d (outside r) = d
 said_or d (says v) = v
 
 pub says_same : {A : Type 0} (v w : A) → says v ≡ says w → v ≡ w
+unfolding said_or
 says_same v w e = ap (said_or v) e
 
 -- the logs were read, and their text was written

@@ -6,9 +6,14 @@ use Rattle.node_io.specs.Outsides.{Outside}
 use Rattle.call_causes.specs.declared.status.Cause.{Cause}
 use Rattle.call_causes.specs.declared.status.Cause.TheVariants.{Done, Usage, Refused, ReadFault, WriteFault, LinkFault, SpawnFault, NoMemory, NodesFailed}
 use Rattle.call_causes.specs.declared.status.Refusal.{Refusal}
-use Rattle.call_causes.specs.declared.status.Refusal.TheVariants.{Line}
+use Rattle.call_causes.specs.declared.status.Refusal.TheVariants.{Line, At, Frame}
 use Rattle.line_files.specs.declared.fault.LineFault.{LineFault}
 use Rattle.line_files.specs.declared.fault.LineFault.TheVariants as faults
+use Rattle.packet_frame.specs.declared.fault.FrameFault.{FrameFault}
+use Rattle.packet_frame.specs.declared.fault.FrameFault.TheVariants as framing
+use Rattle.program_text.specs.declared.fault.TextFault.{TextFault}
+use Rattle.program_text.specs.declared.fault.TextFault.TheVariants as texts
+use Rattle.program_text.specs.Reasons.{fault_byte}
 
 -- the exit code of a cause
 abbrev pub code_of : Cause → ℕ
@@ -26,6 +31,16 @@ code_of (NodesFailed h s) = 8
 abbrev pub cause_of : LineFault → Cause
 cause_of (faults.Line n reason) = Refused (Line n reason)
 cause_of faults.NoMemory = NoMemory
+
+-- the cause of bytes that are no frame
+abbrev pub frame_cause : FrameFault → Cause
+frame_cause framing.NoMemory = NoMemory
+frame_cause fault = Refused (Frame fault)
+
+-- the cause of a text that is no program
+abbrev pub text_cause : TextFault → Cause
+text_cause texts.NoMemory = NoMemory
+text_cause fault = Refused (At (fault_byte fault) fault)
 
 -- a fault of writing comes only where the count of the output, of the files or of the notes rose
 abbrev pub WriteRose : Outside → Outside → SinkState → SinkState → Type 0

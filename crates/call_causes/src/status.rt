@@ -3,7 +3,7 @@ ghost use Rattle.std.specs.Prelude.{◌≡◌};
 use line_files::{LineFault, LineReason};
 use packet_frame::FrameFault;
 use plan_base::Host;
-use program_text::TextFault;
+use program_text::{TextFault, place_of};
 
 /// How a call of the product ended.
 #[derive(Drop)]
@@ -46,6 +46,35 @@ impl From<LineFault> for Cause {
         match fault {
             LineFault::Line(line, reason) => Cause::Refused(Refusal::Line(line, reason)),
             LineFault::NoMemory => Cause::NoMemory,
+        }
+    }
+}
+
+impl From<FrameFault> for Cause {
+    ghost use Rattle.call_causes.specs.Causes.{frame_cause};
+
+    ghost from_gives = { λ f c. c ≡ frame_cause f };
+
+    fn from(fault: FrameFault) -> Cause {
+        match fault {
+            FrameFault::NoMemory => Cause::NoMemory,
+            other => Cause::Refused(Refusal::Frame(other)),
+        }
+    }
+}
+
+impl From<TextFault> for Cause {
+    ghost use Rattle.call_causes.specs.Causes.{text_cause};
+
+    ghost from_gives = { λ f c. c ≡ text_cause f };
+
+    fn from(fault: TextFault) -> Cause {
+        match fault {
+            TextFault::NoMemory => Cause::NoMemory,
+            other => {
+                let at = place_of(&other);
+                Cause::Refused(Refusal::At(at, other))
+            }
         }
     }
 }

@@ -1,5 +1,5 @@
 -- Refusals of what bytes say, by cases of what they hold.
-use Rattle.std.proofs.Common.{◌≡◌, ◌≢◌, ◌⊎◌, inl, inr, ℕ, List, Result, Ok, Err, refl, sym, ap, ◌∙◌, subst}
+use Rattle.std.proofs.Common.{◌≡◌, ◌⊎◌, inl, inr, ℕ, List, Result, Ok, Err, refl, sym, ap, ◌∙◌, subst}
 use Rattle.hex.specs.declared.error.FromHexError.{FromHexError}
 use Rattle.line_files.specs.declared.fault.LineFault.{LineFault}
 use Rattle.line_files.specs.declared.fault.LineFault.TheVariants as faults
@@ -8,9 +8,10 @@ use Rattle.program_text.specs.declared.fault.TextFault.TheVariants as texts
 use Rattle.program_text.specs.Reasons.{fault_byte}
 use Rattle.packet_frame.specs.Decoding.{frame_of}
 use Rattle.program_text.specs.Texts.{program_of}
+use Rattle.program_faults.specs.Refusals.{HoldsNoMemory}
 use Rattle.program_faults.proofs.Whole.{text_own}
 use Rattle.file_faults.specs.Refusals.{FaultHolds}
-use Rattle.call_causes.specs.Causes.{cause_of}
+use Rattle.call_causes.specs.Causes.{cause_of, text_cause}
 use Rattle.call_causes.specs.declared.status.Refusal.TheVariants.{Line, At}
 use Rattle.call_causes.specs.declared.status.Cause.{Cause}
 use Rattle.call_causes.specs.declared.status.Cause.TheVariants.{Done, Usage, Refused, ReadFault, WriteFault, LinkFault, SpawnFault, NoMemory, NodesFailed}
@@ -31,12 +32,20 @@ lines_refuse read fault cause own (inl none) is =
     let wants : cause ≡ NoMemory = is ∙ ap cause_of none in
     subst (Refuses (said_by read)) (sym wants) tt
 
+-- the cause of a refusal that holds no `NoMemory` is the refusal
+text_told : (fault : TextFault) → HoldsNoMemory fault → text_cause fault ≡ Refused (At (fault_byte fault) fault)
+text_told (texts.Lex f) own = refl
+text_told (texts.Parse f) own = refl
+text_told (texts.Ty f at) own = refl
+text_told texts.NoMemory own = absurd own
+
 -- a text that is no program
-pub text_refused : (text : List ℕ) (fault : TextFault) (at : ℕ) → fault ≢ texts.NoMemory → (fault ≡ texts.NoMemory) ⊎ (program_of text ≡ Err fault) → at ≡ fault_byte fault
-    → Refuses (program_said text) (Refused (At at fault))
+pub text_refused : (text : List ℕ) (fault : TextFault) (cause : Cause) → (fault ≡ texts.NoMemory) ⊎ (program_of text ≡ Err fault) → cause ≡ text_cause fault → Refuses (program_said text) cause
 unfolding program_said
-text_refused text fault at some (inl none) place = absurd (some none)
-text_refused text fault at some (inr e) place = (text_own text fault e, ap sizes_of e ∙ ap (λ b. outside (At b fault)) (sym place))
+text_refused text fault cause (inl none) is = subst (Refuses (program_said text)) (sym (is ∙ ap text_cause none)) tt
+text_refused text fault cause (inr e) is =
+    let own = text_own text fault e in
+    subst (Refuses (program_said text)) (sym (is ∙ text_told fault own)) (own, ap sizes_of e)
 
 -- bytes that no hex digits stand for
 pub undecoded : (said : Said (List ℕ)) (cause : Cause) → Refuses said cause → Refuses (decoded_said said) cause

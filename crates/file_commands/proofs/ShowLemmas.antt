@@ -1,5 +1,5 @@
 -- A text without the line feed that it may have at its end, and how long it is; a frame that is refused.
-use Rattle.std.proofs.Common.{◌≡◌, ◌≢◌, ◌≤◌, ◌⊎◌, inl, inr, Some, Ok, Err, subst, ℕ, ◌+◌, ◌-◌, ◌==◌, Bool, true, false, List, [], ◌∷◌, length, take, get_or, refl, sym, ◌∙◌, ap, arith}
+use Rattle.std.proofs.Common.{◌≡◌, ◌≤◌, ◌⊎◌, inl, inr, Some, Ok, Err, subst, ℕ, ◌+◌, ◌-◌, ◌==◌, Bool, true, false, List, [], ◌∷◌, length, take, get_or, refl, sym, ◌∙◌, ap, arith}
 use Rattle.std.specs.Prelude.{nat_lt, if◌then◌else◌}
 use Rattle.std.proofs.lemmas.Bool.{eq-eqb, ne_eqb, le-ltb}
 use Rattle.std.proofs.lemmas.List.{length-take}
@@ -12,9 +12,13 @@ use Rattle.packet_frame.specs.Stamped.{StampedFirst}
 use Rattle.packet_frame.specs.Decoding.{unstamped, read_by}
 use Rattle.packet_frame.proofs.OneAnswer.{first_is}
 use Rattle.packet_frame.proofs.Versions.{refused_by_two}
+use Rattle.frame_faults.specs.Refusals.{HoldsNoMemory}
 use Rattle.frame_faults.proofs.Whole.{frame_own, stamped_own}
+use Rattle.call_causes.specs.Causes.{frame_cause}
+use Rattle.call_causes.specs.declared.status.Cause.{Cause}
 use Rattle.call_causes.specs.declared.status.Cause.TheVariants.{Refused}
 use Rattle.call_causes.specs.declared.status.Refusal.TheVariants.{Frame}
+use Rattle.file_commands.specs.Said.{Said, outside}
 use Rattle.file_commands.specs.Takes.{Refuses}
 use Rattle.file_commands.specs.Shows.{without_feed, framed_said}
 
@@ -49,12 +53,34 @@ decoded_bytes text bytes h = (decode_of-ok text bytes h).3
 
 -- ---- a frame that is refused
 
-pub first_refused : (bytes : List ℕ) (e : FrameFault) → e ≢ FrameFault.NoMemory → IsBytes bytes → (e ≡ FrameFault.NoMemory) ⊎ FrameFirst e bytes
-    → Refuses (framed_said (read_by One bytes)) (Refused (Frame e))
-first_refused bytes e some h (inl none) = absurd (some none)
-first_refused bytes e some h (inr first) = (frame_own bytes h e first, ap framed_said (ap unstamped (first_is bytes e h first)))
+-- the cause of a refusal that holds no `NoMemory` is the refusal
+frame_told : (fault : FrameFault) → HoldsNoMemory fault → frame_cause fault ≡ Refused (Frame fault)
+frame_told FrameFault.TooLong own = refl
+frame_told (FrameFault.Truncated at) own = refl
+frame_told FrameFault.BadMagic own = refl
+frame_told FrameFault.BadVersion own = refl
+frame_told FrameFault.BadKind own = refl
+frame_told (FrameFault.Spell f) own = refl
+frame_told FrameFault.BoundTooLarge own = refl
+frame_told (FrameFault.BadOrder at) own = refl
+frame_told (FrameFault.Trailing at) own = refl
+frame_told (FrameFault.IllTyped f) own = refl
+frame_told FrameFault.IllHandler own = refl
+frame_told FrameFault.NoMemory own = absurd own
 
-pub second_refused : (bytes : List ℕ) (e : FrameFault) → e ≢ FrameFault.NoMemory → IsBytes bytes → (e ≡ FrameFault.NoMemory) ⊎ StampedFirst e bytes
-    → Refuses (framed_said (read_by Two bytes)) (Refused (Frame e))
-second_refused bytes e some h (inl none) = absurd (some none)
-second_refused bytes e some h (inr first) = (stamped_own bytes e h first, ap framed_said (refused_by_two bytes e h first))
+-- what a reading of a version gave, of which no first refusal is or holds `NoMemory`
+frame_refuses : (said : Said (List ℕ)) (e : FrameFault) (cause : Cause) → HoldsNoMemory e → said ≡ outside (Frame e) → cause ≡ frame_cause e → Refuses said cause
+frame_refuses said e cause own first is = subst (Refuses said) (sym (is ∙ frame_told e own)) (own, first)
+
+poor : (said : Said (List ℕ)) (e : FrameFault) (cause : Cause) → e ≡ FrameFault.NoMemory → cause ≡ frame_cause e → Refuses said cause
+poor said e cause none is = subst (Refuses said) (sym (is ∙ ap frame_cause none)) tt
+
+pub first_refused : (bytes : List ℕ) (e : FrameFault) (cause : Cause) → IsBytes bytes → (e ≡ FrameFault.NoMemory) ⊎ FrameFirst e bytes → cause ≡ frame_cause e → Refuses (framed_said (read_by One bytes)) cause
+first_refused bytes e cause h (inl none) is = poor (framed_said (read_by One bytes)) e cause none is
+first_refused bytes e cause h (inr first) is =
+    frame_refuses (framed_said (read_by One bytes)) e cause (frame_own bytes h e first) (ap framed_said (ap unstamped (first_is bytes e h first))) is
+
+pub second_refused : (bytes : List ℕ) (e : FrameFault) (cause : Cause) → IsBytes bytes → (e ≡ FrameFault.NoMemory) ⊎ StampedFirst e bytes → cause ≡ frame_cause e → Refuses (framed_said (read_by Two bytes)) cause
+second_refused bytes e cause h (inl none) is = poor (framed_said (read_by Two bytes)) e cause none is
+second_refused bytes e cause h (inr first) is =
+    frame_refuses (framed_said (read_by Two bytes)) e cause (stamped_own bytes e h first) (ap framed_said (refused_by_two bytes e h first)) is

@@ -6,11 +6,11 @@ ghost use Rattle.file_commands.specs.Takes.{Refuses};
 ghost use Rattle.file_commands.specs.Checks.{program_limit, program_said, sizes_text};
 
 use crate::command::{FileCommand, print};
-use call_causes::{Cause, Refusal};
+use call_causes::Cause;
 use node_io::Sink;
 use plan_base::Program;
 use plan_sizes::{Counted, code_size};
-use program_text::{TextFault, place_of, read_program};
+use program_text::read_program;
 use std::alloc::{AllocError, Global};
 
 /// The most bytes of a program's text.
@@ -32,18 +32,14 @@ fn sizes_line(alloc: Global, code: &Program) -> Result<String, AllocError>
 }
 
 // The line of the program that a text is. Condition: at most 65,536 bytes.
-#[tactic(auto, using(crate::proofs::Refusing::text_refused), unfolding(crate::specs::Checks::program_said))]
+#[tactic(auto, unfolding(crate::specs::Checks::program_said))]
 fn line_of(alloc: Global, text: &[u8]) -> Result<String, Cause>
     requires { length text.now ≤ 65536 }
     ensures { MatchResult result (λ line. program_said text.now ≡ says (string_bytes line))
         (λ why. Refuses (program_said text.now) why) }
 {
     match read_program(alloc, text) {
-        Err(TextFault::NoMemory) => Err(Cause::NoMemory),
-        Err(fault) => {
-            let at = place_of(&fault);
-            Err(Cause::Refused(Refusal::At(at, fault)))
-        }
+        Err(fault) => Err(Cause::from(fault)),
         Ok(checked) => match sizes_line(alloc, checked.program()) {
             Ok(line) => Ok(line),
             Err(AllocError) => Err(Cause::NoMemory),

@@ -13,7 +13,7 @@ use frame_text::print_frame;
 use hex::FromHexError;
 use link_window::Version;
 use node_io::Sink;
-use packet_frame::{FrameFault, Stamped, get_frame, get_frame2};
+use packet_frame::{Stamped, get_frame, get_frame2};
 use plan_base::Bytes;
 use std::alloc::Global;
 
@@ -64,7 +64,6 @@ fn version_of(bytes: &[u8]) -> Version
 }
 
 // The frame that the bytes spell in version 1.
-#[tactic(auto, using(crate::proofs::ShowLemmas::first_refused))]
 fn first_framed(alloc: Global, bytes: &[u8]) -> Result<Stamped, Cause>
     requires { IsBytes bytes.now }
     ensures { MatchResult result (λ x. read_by One bytes.now ≡ Ok (stamped_plain x))
@@ -72,13 +71,11 @@ fn first_framed(alloc: Global, bytes: &[u8]) -> Result<Stamped, Cause>
 {
     match get_frame(alloc, bytes, None) {
         Ok(frame) => Ok(Stamped { stamp: None, frame }),
-        Err(FrameFault::NoMemory) => Err(Cause::NoMemory),
-        Err(refusal) => Err(Cause::Refused(Refusal::Frame(refusal))),
+        Err(fault) => Err(Cause::from(fault)),
     }
 }
 
 // The frame that the bytes spell in version 2.
-#[tactic(auto, using(crate::proofs::ShowLemmas::second_refused))]
 fn second_framed(alloc: Global, bytes: &[u8]) -> Result<Stamped, Cause>
     requires { IsBytes bytes.now }
     ensures { MatchResult result (λ x. read_by Two bytes.now ≡ Ok (stamped_plain x))
@@ -86,8 +83,7 @@ fn second_framed(alloc: Global, bytes: &[u8]) -> Result<Stamped, Cause>
 {
     match get_frame2(alloc, bytes, None) {
         Ok(frame) => Ok(frame),
-        Err(FrameFault::NoMemory) => Err(Cause::NoMemory),
-        Err(refusal) => Err(Cause::Refused(Refusal::Frame(refusal))),
+        Err(fault) => Err(Cause::from(fault)),
     }
 }
 

@@ -46,7 +46,7 @@ entries_fit v (Lost ∷ es) a two = entries_fit v es (All-tail (KeepsEntry v) Lo
 
 log_kept : (l : Log) → KeepsLog l → Kept (logged_of l)
 unfolding new_node
-log_kept l k = record { fits = begins l k; begin = (l.node.link, refl); entries = λ two. entries_fit l.node.version l.events k.events two }
+log_kept l k = record { fits = begins l.node l.missing k.node; begin = (l.node.link, refl); entries = λ two. entries_fit l.node.version l.events k.events two }
 
 -- what a file is seen to say as a log keeps the rules of logs
 said_keeps : (name : List ℕ) (files : FileMap) (l : Log) → lines_said log_of name files ≡ says l → KeepsLog l

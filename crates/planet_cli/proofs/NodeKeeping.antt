@@ -16,7 +16,8 @@ use Rattle.packet_frame.specs.Decoding.{read_by}
 use Rattle.packet_frame.proofs.Versions.{found_by}
 use Rattle.network_plan.specs.declared.node.Log.{Log}
 use Rattle.network_plan.specs.declared.node.NodeConfig.{NodeConfig}
-use Rattle.network_plan.specs.declared.package.PackageName.{PackageName}
+use Rattle.service_api.specs.declared.package.PackageName.{PackageName}
+use Rattle.service_api.specs.Services.{ServiceState}
 use Rattle.network_plan.specs.declared.event.Event.{Event}
 use Rattle.network_plan.specs.declared.event.Event.TheVariants as event
 use Rattle.network_plan.specs.declared.event.LogEvent.{LogEvent}
