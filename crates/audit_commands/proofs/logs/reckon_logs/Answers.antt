@@ -1,4 +1,5 @@
 use Rattle.std.proofs.Common.{◌≡◌, ◌+◌, true, refl, sym, ap, arith}
+use Rattle.std.proofs.lemmas.Result.{err_from_is_err_and}
 use Rattle.std.proofs.lemmas.List.Elements.{All-get_or}
 use Rattle.network_plan.specs.FileNames.{is_file_name}
 use Rattle.audit_commands.proofs.Names.{name_is_text}
@@ -20,8 +21,9 @@ pub returns-in_err-log : goal.returns-in_err-log
 returns-in_err-log g c =
     let state = g.F.Files.state in
     let l = c.loop-name in
-    along_stopped c.args.links.now c.args.names.now l.name-index (l.number + 1) c.name-item.result (state c.args.files.now) (state l.files) (state c.take_log.new.files) l.reckoning l.invariant.along c.loop-name-test.true c.name-item.is
-    (ap (λ m. m + 1) l.invariant.number) c.in_err-log.field-0 (takes_named _ _ _ _ _ _ _ _ c.as_slice.ensures c.as_str.ensures c.in_err-log.ensures.takes)
+    let p = err_from_is_err_and c.from_residual.result c.from_residual.ensures.1 in
+    rw (p.1, p.2) (along_stopped c.args.links.now c.args.names.now l.name-index (l.number + 1) c.name-item.result (state c.args.files.now) (state l.files) (state c.take_log.new.files) l.reckoning l.invariant.along c.loop-name-test.true c.name-item.is
+    (ap (λ m. m + 1) l.invariant.number) c.in_err-log.field-0.0 (takes_named _ _ _ _ _ _ _ _ c.as_slice.ensures c.as_str.ensures c.in_err-log.ensures.takes))
 
 pub reckon_log-requires : goal.reckon_log-requires
 reckon_log-requires g c = c.in_ok-log.ensures.rules
