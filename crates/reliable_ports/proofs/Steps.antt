@@ -12,7 +12,7 @@ abbrev pub message : ℕ → List Body → Option Body
 message zero os = None
 message (suc i) os = slice_get os i
 
--- what the receiver delivered is a prefix of what was offered, and what came early agrees with the rest
+-- the bodies delivered and some rest are those offered, and what came early agrees with that rest
 pub record Receives (os : List Body) (r : Receiving) : Type 0 where
   pub rest : List Body
   pub prefix : r.delivered ++ rest ≡ os
