@@ -1,4 +1,4 @@
-pub mod Ends
+pub mod Endings
 pub mod Fleets
 pub mod Nodes
-pub mod Runs
+pub mod Replays

@@ -1,4 +1,4 @@
-use Rattle.command_laws.proofs.Ends.{grow_so}
+use Rattle.command_laws.proofs.Endings.{grow_so}
 use Rattle.command_laws.proofs.ends.grow_ends.Goals as goal
 
 pub returns : goal.returns

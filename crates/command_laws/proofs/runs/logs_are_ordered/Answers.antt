@@ -1,4 +1,4 @@
-use Rattle.command_laws.proofs.Runs.{log_ordered}
+use Rattle.command_laws.proofs.Replays.{log_ordered}
 use Rattle.command_laws.proofs.runs.logs_are_ordered.Goals as goal
 
 pub returns : goal.returns

@@ -1,4 +1,4 @@
-use Rattle.command_laws.proofs.Runs.{trace_written, trace_whole}
+use Rattle.command_laws.proofs.Replays.{trace_written, trace_whole}
 use Rattle.command_laws.proofs.runs.replays_are_whole.Goals as goal
 
 pub returns-clause-written : goal.returns-clause-written

@@ -1,4 +1,4 @@
-use Rattle.command_laws.proofs.Runs.{node_keeps}
+use Rattle.command_laws.proofs.Replays.{node_keeps}
 use Rattle.command_laws.proofs.runs.served_keeps.Goals as goal
 
 pub returns : goal.returns
