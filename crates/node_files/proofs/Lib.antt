@@ -1,6 +1,7 @@
 pub mod PartLaws
 pub mod Placed
 pub mod NodeLaws
+pub mod NodeLines
 pub mod AskLaws
 pub mod FleetLaws
 pub mod ConfigLaws

@@ -1,16 +1,14 @@
 -- The text of a log reads as that log.
-use Rattle.std.proofs.Common.{◌≡◌, ℕ, ◌+◌, ◌<◌, ◌≤◌, ◌^◌, Bool, true, false, cond, eqb, ltb, ◌||◌, List, [], ◌∷◌, ◌++◌, length, length-append, append_assoc, append-nil, map, Option, Some, None, Result, Ok, refl, sym, ap, subst, ◌∙◌, arith}
+use Rattle.std.proofs.Common.{◌≡◌, ℕ, ◌+◌, ◌<◌, ◌≤◌, ◌^◌, Bool, true, false, List, [], ◌∷◌, ◌++◌, length, append_assoc, append-nil, map, Option, Some, None, Ok, refl, sym, ap, subst, ◌∙◌, arith}
 use Rattle.std.specs.List.{All, list_any, flat_map}
 use Rattle.std.specs.Fmt.{decimal}
 use lib.Chars.{codes}
-use Rattle.std.proofs.lemmas.Bool.{lt-ltb, le-ltb, le-leb, ne_eqb, eqb-true}
+use Rattle.std.proofs.lemmas.Bool.{lt-ltb, le-leb}
 use Rattle.std.proofs.lemmas.List.Concat.{flat_map-cons}
-use Rattle.std.proofs.lemmas.List.Elements.{All-nil, All-cons, All-head, All-tail}
-use Rattle.small_laws.proofs.Bools.{and_both}
+use Rattle.std.proofs.lemmas.List.Elements.{All-head, All-tail}
 use Rattle.plan_base.specs.declared.ids.Host.{Host}
 use Rattle.plan_base.specs.declared.ids.Dev.{Dev}
 use Rattle.service_api.specs.declared.package.PackageName.{PackageName}
-use Rattle.service_api.specs.declared.package.PackageName.TheVariants as packages
 use Rattle.plan_base.specs.declared.name.Name.{Name}
 use Rattle.plan_base.specs.Words.{is_name}
 use Rattle.plan_base.specs.declared.tree.Chunk.{Chunk}
@@ -31,39 +29,29 @@ use Rattle.network_plan.specs.declared.node.Log.{Log}
 use Rattle.network_plan.specs.Hosts.{host_of, is_listed}
 use Rattle.network_plan.specs.Rules.{PackagesDiffer, MayName, KeepsInjection, MayArrive}
 use Rattle.network_plan.specs.NodeRules.{Ascend, DevicesAscend, IsNeighbour, first_link, KeepsBoot, KeepsNode, KeepsEntry, KeepsLog}
-use Rattle.line_files.specs.declared.fault.LineReason.{LineReason}
 use Rattle.line_files.specs.Lines.{lines, words, spaced, behind}
 use Rattle.line_files.specs.Files.{is_skipped, read_on}
-use Rattle.line_files.specs.Packages.{package_of, same_package, package_at}
-use Rattle.line_files.specs.HostLists.{is_above, host_more, hosts_from, hosts_with}
+use Rattle.line_files.specs.Packages.{same_package}
 use Rattle.line_files.specs.HexWords.{sized, hex_at}
 use Rattle.line_files.specs.Handlers.{named_handler, handler_at}
 use Rattle.line_files.proofs.Again.{line_first}
 use Rattle.schedule_laws.specs.Written.{package_word, handler_words, IsNamed}
-use Rattle.schedule_laws.proofs.WordLaws.{Free, IsFree, words_are, line_is, number_free, name_free, hex_free}
+use Rattle.schedule_laws.proofs.WordLaws.{line_is, name_free, hex_free}
 use Rattle.schedule_laws.proofs.ReadSteps.{number_ok}
-use Rattle.schedule_laws.proofs.NetworkRead.{all_middle, fresh_package}
+use Rattle.schedule_laws.proofs.NetworkRead.{fresh_package}
 use Rattle.node_files.specs.declared.log.LogStage.{LogStage}
 use Rattle.node_files.specs.declared.log.LogStage.TheVariants as stages
 use Rattle.node_files.specs.declared.log.LogReading.{LogReading}
-use Rattle.node_files.specs.Parts.{behind_word, last_number, usual_line}
-use Rattle.node_files.specs.Nodes.{host_line, hosts_line, has_device, neighbour_at, placed, device_of}
+use Rattle.node_files.specs.Parts.{behind_word}
+use Rattle.node_files.specs.Nodes.{device_of}
 use Rattle.node_files.specs.ChunkWords.{chunk_at}
 use Rattle.node_files.specs.Logs.{behind_host, own_line, boot_line, network_line, device_line, missing_line, events_line, node_rest, node_line, inject_entry, frame_entry, control_entry, take_entry, entry_rest, entry_line, log_step_at, log_said, log_format, nothing_logged, log_of}
 use Rattle.node_files.specs.LogTexts as text
 use Rattle.node_files.specs.LogTexts.{closing, line_text, entry_words, entry_text, host_words, hosts_words, spaced_host, device_words, missing_words, header_text, boot_words, boot_text, head_text, log_text, CanSpell, IsSpellable}
-use Rattle.node_files.proofs.Placed.{placed_step}
+use Rattle.node_files.proofs.NodeLines.{Clean, clean_more, usual_again, clean_number, last_reads, host_reads, host_clean, more_to, room_for, hosts_read, hosts_clean, listed_small, before, free_there, placed_last, neighbour_reads, hosts_of_neighbours, package_clean, package_reads}
 use Rattle.node_files.proofs.ChunkLaws.{typed_again, chunk_weighs}
 
 -- ---- lines of words
-
--- no word has a space or a line feed
-abbrev Clean : List (List ℕ) → Type 0
-Clean ws = Free 32 ws × Free 10 ws
-
--- one word more
-clean_more : (w : List ℕ) (ws : List (List ℕ)) → IsFree w → Clean ws → Clean (w ∷ ws)
-clean_more w ws f c = ((f.0, c.0), (f.1, c.1))
 
 closing_is : (ws : List (List ℕ)) → closing ws ≡ behind ws ++ (10 ∷ [])
 closing_is [] = refl
@@ -112,27 +100,7 @@ leads_line w ws s u c step n more = record {
   is = ap (λ (l : List (List ℕ)). read_on log_format n l s) (lines_again w ws more c) ∙ step_on n (spaced (w ∷ ws)) (lines more) s u (step n);
 }
 
--- a line that says something is read by its words
-usual_again : (n : ℕ) (w : List ℕ) (ws : List (List ℕ)) (s u : LogReading) (read : List (List ℕ) → Result LogReading LineReason) → is_skipped (spaced (w ∷ ws)) ≡ false → Clean (w ∷ ws) → read (w ∷ ws) ≡ Ok u → usual_line n (spaced (w ∷ ws)) s read ≡ Ok u
-usual_again n w ws s u read says c e = rw (says, words_are w ws c.0, e) refl
-
--- ---- numbers
-
-clean_number : (n : ℕ) → n < 2 ^ 64 → (ws : List (List ℕ)) → Clean ws → Clean (decimal n ∷ ws)
-clean_number n small ws c = clean_more (decimal n) ws (number_free n small) c
-
-last_reads : (low high n : ℕ) → n < 2 ^ 64 → low ≤ n → n ≤ high → last_number low high (decimal n ∷ []) ≡ Ok n
-unfolding last_number
-last_reads low high n small a b = rw (number_ok low high n [] small a b) refl
-
 -- ---- the node's own host
-
-host_reads : (h : Host) → h.0 < 2 ^ 32 → host_line (host_words h) ≡ Ok h
-unfolding host_line behind_word
-host_reads h small = rw (last_reads 0 4294967295 h.0 (omega (arith, small)) (omega arith) (omega (arith, small))) refl
-
-host_clean : (h : Host) → h.0 < 2 ^ 32 → Clean (host_words h)
-host_clean h small = clean_more (codes "host") (decimal h.0 ∷ []) (refl, refl) (clean_number h.0 (omega (arith, small)) [] (tt, tt))
 
 -- a state behind some lines
 abbrev state : Version → ℕ → LogStage → Host → List Host → List (Host × Dev) → List PackageName → List LogEvent → LogReading
@@ -188,38 +156,6 @@ handler_clean (Some name) named = clean_more (codes "handler") (name ∷ []) (re
 module _ (v : Version) (b : ℕ) where
   -- ---- the hosts of the network
 
-  above_all : (seen : List Host) (h : Host) (hs : List Host) → Ascend (seen ++ (h ∷ hs)) → is_above seen h.0 ≡ true
-  above_all [] h hs a = refl
-  above_all (s ∷ ss) h hs a = and_both (ltb s.0 h.0) (is_above ss h.0) (lt-ltb s.0 h.0 (all_middle (λ g. s.0 < g.0) ss h hs a.0)) (above_all ss h hs a.1)
-
-  more_to : {A : Type 0} (all seen : List A) (x : A) (xs : List A) → seen ++ (x ∷ xs) ≡ all → (seen ++ (x ∷ [])) ++ xs ≡ all
-  more_to all seen x xs e = append_assoc seen (x ∷ []) xs ∙ e
-
-  room_for : {A : Type 0} (all seen : List A) (x : A) (xs : List A) (n : ℕ) → seen ++ (x ∷ xs) ≡ all → length all ≤ n → length seen < n
-  room_for {A} all seen x xs n e few = omega (arith, ap (λ (l : List A). length l) e, length-append seen (x ∷ xs), few)
-
-  one_host : (seen : List Host) (h : Host) (ws : List (List ℕ)) → h.0 < 2 ^ 32 → length seen < 32 → is_above seen h.0 ≡ true → host_more seen (decimal h.0 ∷ ws) ≡ Ok (seen ++ (h ∷ []), ws)
-  unfolding host_more
-  one_host seen h ws small room above = rw (number_ok 0 4294967295 h.0 ws (omega (arith, small)) (omega arith) (omega (arith, small)), lt-ltb (length seen) 32 room, above) refl
-
-  hosts_again : (all seen hs : List Host) → seen ++ hs ≡ all → length all ≤ 32 → Ascend all → All (λ h. h.0 < 2 ^ 32) all → hosts_from seen (map (λ h. decimal h.0) hs) ≡ Ok all
-  unfolding hosts_from
-  hosts_again all seen [] e few a small = ap (λ (l : List Host). Ok l) (sym (append-nil seen) ∙ e)
-  hosts_again all seen (h ∷ hs) e few a small =
-      let ws = map (λ (g : Host). decimal g.0) hs in
-      let ascends : Ascend (seen ++ (h ∷ hs)) = subst Ascend (sym e) a in
-      let smalls : All (λ g. g.0 < 2 ^ 32) (seen ++ (h ∷ hs)) = subst (λ (l : List Host). All (λ g. g.0 < 2 ^ 32) l) (sym e) small in
-      rw (one_host seen h ws (all_middle (λ g. g.0 < 2 ^ 32) seen h hs smalls) (room_for all seen h hs 32 e few) (above_all seen h hs ascends))
-      (hosts_again all (seen ++ (h ∷ [])) hs (more_to all seen h hs e) few a small)
-
-  hosts_read : (here : Host) (hosts : List Host) → length hosts ≤ 32 → Ascend hosts → All (λ h. h.0 < 2 ^ 32) hosts → is_listed here hosts ≡ true → hosts_line here (hosts_words hosts) ≡ Ok hosts
-  unfolding hosts_line behind_word hosts_with
-  hosts_read here hosts few a small listed = rw (hosts_again hosts [] hosts refl few a small, listed) refl
-
-  hosts_clean : (hs : List Host) → All (λ h. h.0 < 2 ^ 32) hs → Clean (map (λ h. decimal h.0) hs)
-  hosts_clean [] small = (tt, tt)
-  hosts_clean (h ∷ hs) small = clean_number h.0 (omega (arith, All-head (λ (g : Host). g.0 < 2 ^ 32) h hs small)) (map (λ g. decimal g.0) hs) (hosts_clean hs (All-tail (λ (g : Host). g.0 < 2 ^ 32) h hs small))
-
   says_hosts : (ws : List (List ℕ)) → is_skipped (spaced (codes "hosts" ∷ ws)) ≡ false
   says_hosts ws = refl
 
@@ -231,60 +167,14 @@ module _ (v : Version) (b : ℕ) where
       leads_line (codes "hosts") ws (state v b stages.Hosts here [] [] [] []) (state v b (stages.Node false) here hosts [] [] []) clean
       (λ n. usual_again n (codes "hosts") ws (state v b stages.Hosts here [] [] [] []) (state v b (stages.Node false) here hosts [] [] []) (λ vs. network_line vs (state v b stages.Hosts here [] [] [] [])) (says_hosts ws) clean (rw (hosts_read here hosts few a small listed) refl))
 
-  listed_by : (t b : Bool) (h here : Host) → eqb h.0 here.0 ≡ t → (t || b) ≡ true → h.0 < 2 ^ 32 → (b ≡ true → here.0 < 2 ^ 32) → here.0 < 2 ^ 32
-  listed_by true b h here q r small again = omega (arith, eqb-true h.0 here.0 q, small)
-  listed_by false b h here q r small again = again r
-
-  listed_small : (here : Host) (hosts : List Host) → is_listed here hosts ≡ true → All (λ h. h.0 < 2 ^ 32) hosts → here.0 < 2 ^ 32
-  listed_small here [] e small = absurd cc
-  listed_small here (h ∷ hs) e small =
-      listed_by (eqb h.0 here.0) (is_listed here hs) h here refl e (All-head (λ (g : Host). g.0 < 2 ^ 32) h hs small)
-      (λ r. listed_small here hs r (All-tail (λ (g : Host). g.0 < 2 ^ 32) h hs small))
-
   -- ---- neighbours
-
-  before : (seen : List (Host × Dev)) (n : Host × Dev) (ns : List (Host × Dev)) → DevicesAscend (seen ++ (n ∷ ns)) → All (λ m. m.1.0 < n.1.0) seen
-  before [] n ns a = All-nil (λ (m : Host × Dev). m.1.0 < n.1.0)
-  before (m ∷ ms) n ns a = All-cons (λ (k : Host × Dev). k.1.0 < n.1.0) m ms (all_middle (λ (k : Host × Dev). m.1.0 < k.1.0) ms n ns a.0) (before ms n ns a.1)
-
-  free_by : (m n : Host × Dev) (b : Bool) → m.1.0 < n.1.0 → b ≡ false → (eqb m.1.0 n.1.0 || b) ≡ false
-  free_by m n b less e = rw (ne_eqb m.1.0 n.1.0 (λ same. omega (arith, less, same)), e) refl
-
-  free_there : (seen : List (Host × Dev)) (n : Host × Dev) → All (λ m. m.1.0 < n.1.0) seen → has_device n.1.0 seen ≡ false
-  free_there [] n h = refl
-  free_there (m ∷ ms) n h = free_by m n (has_device n.1.0 ms) (All-head (λ (k : Host × Dev). k.1.0 < n.1.0) m ms h) (free_there ms n (All-tail (λ (k : Host × Dev). k.1.0 < n.1.0) m ms h))
-
-  last_by : (t : Bool) (n m : Host × Dev) (ms zs : List (Host × Dev)) → t ≡ false → cond t (n ∷ m ∷ ms) (m ∷ zs) ≡ m ∷ zs
-  last_by true n m ms zs e = absurd cc
-  last_by false n m ms zs e = refl
-
-  placed_last : (seen : List (Host × Dev)) (n : Host × Dev) → All (λ m. m.1.0 < n.1.0) seen → placed device_of n seen ≡ seen ++ (n ∷ [])
-  placed_last [] n h = refl
-  placed_last (m ∷ ms) n h =
-      placed_step device_of n m ms
-      ∙ last_by (ltb n.1.0 m.1.0) n m ms (placed device_of n ms) (ge-ltb n.1.0 m.1.0 (All-head (λ (k : Host × Dev). k.1.0 < n.1.0) m ms h))
-      ∙ ap (λ (l : List (Host × Dev)). m ∷ l) (placed_last ms n (All-tail (λ (k : Host × Dev). k.1.0 < n.1.0) m ms h))
-    where
-      ge-ltb : (a b : ℕ) → b < a → ltb a b ≡ false
-      ge-ltb a b less = le-ltb a b (omega (arith, less))
 
   device_clean : (n : Host × Dev) → n.0.0 < 2 ^ 32 → n.1.0 ≤ 8 → Clean (device_words n)
   device_clean n small few = clean_more (codes "dev") (decimal n.1.0 ∷ decimal n.0.0 ∷ []) (refl, refl) (clean_number n.1.0 (omega (arith, few)) (decimal n.0.0 ∷ []) (clean_number n.0.0 (omega (arith, small)) [] (tt, tt)))
 
-  neighbour_reads : (here : Host) (hosts : List Host) (seen : List (Host × Dev)) (n : Host × Dev) → n.0.0 < 2 ^ 32 → IsNeighbour here hosts n → has_device n.1.0 seen ≡ false → neighbour_at here hosts seen (decimal n.1.0 ∷ decimal n.0.0 ∷ []) ≡ Ok (n, [])
-  unfolding neighbour_at
-  neighbour_reads here hosts seen n small k free =
-      rw (
-        number_ok 1 8 n.1.0 (decimal n.0.0 ∷ []) (omega (arith, k.device.1)) k.device.0 k.device.1,
-        free,
-        number_ok 0 4294967295 n.0.0 [] (omega (arith, small)) (omega arith) (omega (arith, small)),
-        k.listed,
-        ne_eqb n.0.0 here.0 k.apart,
-      ) refl
-
   device_reads : (here : Host) (hosts : List Host) (seen : List (Host × Dev)) (n : Host × Dev) → n.0.0 < 2 ^ 32 → IsNeighbour here hosts n → All (λ m. m.1.0 < n.1.0) seen → device_line (decimal n.1.0 ∷ decimal n.0.0 ∷ []) (state v b (stages.Node false) here hosts seen [] []) ≡ Ok (state v b (stages.Node false) here hosts (seen ++ (n ∷ [])) [] [])
   unfolding device_line
-  device_reads here hosts seen n small k lower = rw (neighbour_reads here hosts seen n small k (free_there seen n lower), placed_last seen n lower) refl
+  device_reads here hosts seen n small k lower = rw (neighbour_reads here hosts seen n [] small k (free_there seen n lower), placed_last device_of seen n lower) refl
 
   device_leads : (here : Host) (hosts : List Host) (seen : List (Host × Dev)) (n : Host × Dev) → n.0.0 < 2 ^ 32 → IsNeighbour here hosts n → All (λ m. m.1.0 < n.1.0) seen
       → LeadsTo (text.device_line n) (state v b (stages.Node false) here hosts seen [] []) (state v b (stages.Node false) here hosts (seen ++ (n ∷ [])) [] [])
@@ -295,9 +185,6 @@ module _ (v : Version) (b : ℕ) where
       let u = state v b (stages.Node false) here hosts (seen ++ (n ∷ [])) [] [] in
       leads_line (codes "dev") ws s u (device_clean n small k.device.1)
       (λ i. usual_again i (codes "dev") ws s u (λ vs. node_line false vs s) refl (device_clean n small k.device.1) (device_reads here hosts seen n small k lower))
-
-  hosts_of_neighbours : (here : Host) (hosts : List Host) (n : Host × Dev) → IsNeighbour here hosts n → All (λ h. h.0 < 2 ^ 32) hosts → n.0.0 < 2 ^ 32
-  hosts_of_neighbours here hosts n k small = listed_small n.0 hosts k.listed small
 
   devices_lead : (here : Host) (hosts : List Host) (all seen ns : List (Host × Dev)) → seen ++ ns ≡ all → All (λ h. h.0 < 2 ^ 32) hosts → All (IsNeighbour here hosts) ns → DevicesAscend all
       → LeadsTo (flat_map text.device_line ns) (state v b (stages.Node false) here hosts seen [] []) (state v b (stages.Node false) here hosts all [] [])
@@ -313,20 +200,6 @@ module _ (v : Version) (b : ℕ) where
       (devices_lead here hosts all (seen ++ (n ∷ [])) ns (more_to all seen n ns e) small (All-tail (IsNeighbour here hosts) n ns k) a))
 
   -- ---- missing packages
-
-  package_again : (p : PackageName) → package_of (package_word p) ≡ Some p
-  package_again packages.Net = refl
-  package_again packages.Resident = refl
-  package_again packages.Host = refl
-
-  package_clean : (p : PackageName) → Clean (package_word p ∷ [])
-  package_clean packages.Net = ((refl, tt), (refl, tt))
-  package_clean packages.Resident = ((refl, tt), (refl, tt))
-  package_clean packages.Host = ((refl, tt), (refl, tt))
-
-  package_reads : (seen : List PackageName) (p : PackageName) → list_any (same_package p) seen ≡ false → package_at seen (package_word p ∷ []) ≡ Ok (seen ++ (p ∷ []), [])
-  unfolding package_at
-  package_reads seen p new = rw (package_again p, new) refl
 
   missing_reads : (lacks : Bool) (here : Host) (hosts : List Host) (ns : List (Host × Dev)) (seen : List PackageName) (p : PackageName) → list_any (same_package p) seen ≡ false
       → node_line lacks (missing_words p) (state v b (stages.Node lacks) here hosts ns seen []) ≡ Ok (state v b (stages.Node true) here hosts ns (seen ++ (p ∷ [])) [])
@@ -539,7 +412,7 @@ head_leads n missing k d =
     let rest = line_text (hosts_words n.hosts) ++ (devices ++ tail) in
     let last = state v b stages.Events n.here n.hosts n.neighbours missing [] in
     leads_then (header_text v) (line_text (host_words n.here) ++ (boot_text v b ++ rest)) (front One 0 stages.Header (host_of 0)) (front v 0 stages.Host (host_of 0)) last (header_leads v)
-    (leads_then (line_text (host_words n.here)) (boot_text v b ++ rest) (front v 0 stages.Host (host_of 0)) (front v 0 (behind_host v) n.here) last (host_leads v n.here (listed_small v b n.here n.hosts k.here k.numbers))
+    (leads_then (line_text (host_words n.here)) (boot_text v b ++ rest) (front v 0 stages.Host (host_of 0)) (front v 0 (behind_host v) n.here) last (host_leads v n.here (listed_small n.here n.hosts k.here k.numbers))
     (leads_then (boot_text v b) rest (front v 0 (behind_host v) n.here) (front v b stages.Hosts n.here) last (boot_leads v b n.here k.boot)
     (leads_then (line_text (hosts_words n.hosts)) (devices ++ tail) (front v b stages.Hosts n.here) (state v b (stages.Node false) n.here n.hosts [] [] []) last (hosts_lead v b n.here n.hosts k.few k.ascend k.numbers k.here)
     (leads_then devices tail (state v b (stages.Node false) n.here n.hosts [] [] []) (state v b (stages.Node false) n.here n.hosts n.neighbours [] []) last (devices_lead v b n.here n.hosts n.neighbours [] n.neighbours refl k.numbers k.neighbours k.devices)

@@ -20,7 +20,7 @@ use Rattle.plan_base.specs.declared.tree.Chunk.{Chunk}
 use Rattle.plan_base.specs.declared.tree.Fun.{Fun}
 use Rattle.plan_base.specs.Sizes.{chunk_weight}
 use Rattle.typing_rules.specs.Handlers.{is_handler}
-use Rattle.chunk_types.specs.Chunks.{refusal_of}
+use Rattle.chunk_types.specs.Chunks.{refusal_of, IsCheckedChunk}
 use Rattle.program_text.specs.Texts.{args_of_text}
 use Rattle.link_window.specs.declared.window.Version.{Version}
 use Rattle.link_window.specs.declared.window.Version.TheVariants.{One, Two}
@@ -47,7 +47,7 @@ use Rattle.schedule_text.specs.Parts.{is_called, program_at}
 use Rattle.schedule_text.specs.declared.keyword.EventWord.{EventWord}
 use Rattle.schedule_text.specs.declared.keyword.EventWord.TheVariants as event
 use Rattle.schedule_text.specs.Schedules.{event_word, with_event, injected_at, inject_line, send_line, frame_at, deliver_line, repeat_line, lose_line, tick_line, raw_line, event_rest, event_line, staying, step, file_after, schedule_format}
-use Rattle.schedule_laws.specs.Written.{NamedText, Written, handler_words, event_words, IsWritten, IsNamed, EventIsWritten}
+use Rattle.schedule_laws.specs.Written.{NamedText, Written, handler_words, event_words, IsCall, IsWritten, IsNamed, EventIsWritten}
 use Rattle.schedule_laws.proofs.WordLaws.{Free, words_are, words_rest, number_free, name_free, hex_free}
 use Rattle.schedule_laws.proofs.ReadSteps.{then_ok, allowed_ok, below_ok, within_ok, number_ok, host_ok, device_ok, Leads, leads-nil, leads-cons}
 use Rattle.schedule_laws.proofs.NetworkRead.{file_at}
@@ -83,11 +83,11 @@ name_found name (g ∷ gs) f e = by (bytes_eq g.name name) refl (λ h. name_foun
     by true is more h = let same : g ≡ f = cc in subst (λ x. x.name ≡ name) same ((bytes_eq-Decides g.name name).0 is)
     by false is more h = more h
 
-entry_ok : (c : Chunk) (f : Fun) (ws : List (List ℕ)) → find (has_name c.entry) c.code.funs ≡ Some f → entry_at c.code.funs (c.entry ∷ ws) ≡ Ok (f, ws)
+pub entry_ok : (c : Chunk) (f : Fun) (ws : List (List ℕ)) → find (has_name c.entry) c.code.funs ≡ Some f → entry_at c.code.funs (c.entry ∷ ws) ≡ Ok (f, ws)
 unfolding entry_at
 entry_ok c f ws e = then_ok _ f _ _ (ap (λ o. ok_or o BadArgument) e) refl
 
-args_ok : (c : Chunk) (text : List ℕ) → length text ≤ 65536 → args_of_text text ≡ Some c.args → args_at (words text) ≡ Ok c.args
+pub args_ok : (c : Chunk) (text : List ℕ) → length text ≤ 65536 → args_of_text text ≡ Some c.args → args_at (words text) ≡ Ok c.args
 unfolding args_at
 args_ok c text short e =
     then_ok (rest_at (words text)) text _ _ (rest_all text)
@@ -106,19 +106,25 @@ handler_ok Two c (Some name) text may named e =
     then_ok _ name _ _ (ap (λ b. cond b (Ok name) (Err BadArgument)) named)
     (then_ok _ tt _ _ (allowed_ok (is_handler c.code name) BadArgument may) refl)
 
-injection_ok : (version : Version) (ps : List NamedText) (w : Written) (c : Chunk) (bound : ℕ) (handler : Option Name) → IsWritten ps w c → IsNamed handler → KeepsInjection version c bound handler
-    → injection_at version c.code (c.entry ∷ decimal bound ∷ (handler_words handler ++ words w.args)) ≡ Ok (c, bound, handler)
-unfolding injection_at
-injection_ok version ps w c bound handler k named keeps =
-    let ws = handler_words handler ++ words w.args in
+-- a function with a text of arguments that are called is the chunk
+pub call_is : (args : List ℕ) (c : Chunk) (k : IsCall args c) → IsCheckedChunk c → typed_chunk (chunk_with c.code k.function.name c.args) ≡ Ok c
+call_is args c k checked =
     let same : chunk_with c.code k.function.name c.args ≡ c = ap (λ name. chunk_with c.code name c.args) (name_found c.entry c.code.funs k.function k.found) in
+    ap typed_chunk same ∙ chunk_ok c (not_refused c (args_formed args c.args k.short k.says) checked)
+
+-- what is injected is read as it is written
+pub injection_ok : (version : Version) (args : List ℕ) (c : Chunk) (bound : ℕ) (handler : Option Name) → IsCall args c → IsNamed handler → KeepsInjection version c bound handler
+    → injection_at version c.code (c.entry ∷ decimal bound ∷ (handler_words handler ++ words args)) ≡ Ok (c, bound, handler)
+unfolding injection_at
+injection_ok version args c bound handler k named keeps =
+    let ws = handler_words handler ++ words args in
     then_ok _ (k.function, decimal bound ∷ ws) _ _ (entry_ok c k.function (decimal bound ∷ ws) k.found)
     (then_ok _ (bound, ws) _ _ (number_ok 0 65535 bound ws (omega (arith, keeps.0.0)) (omega arith) keeps.0.0)
-    (then_ok _ (handler, words w.args) _ _ (handler_ok version c handler w.args keeps.1 named k.args)
-    (then_ok _ c.args _ _ (args_ok c w.args k.short k.args)
-    (then_ok _ c _ _ (ap typed_chunk same ∙ chunk_ok c (not_refused c (args_formed w.args c.args k.short k.args) keeps.0.1)) refl))))
+    (then_ok _ (handler, words args) _ _ (handler_ok version c handler args keeps.1 named k.says)
+    (then_ok _ c.args _ _ (args_ok c args k.short k.says)
+    (then_ok _ c _ _ (call_is args c k keeps.0.1) refl))))
 
-weighed_ok : (sum : ℕ) (c : Chunk) → sum + (1 + chunk_weight c) ≤ 16777216 → weighed sum c ≡ Ok (sum + (1 + chunk_weight c))
+pub weighed_ok : (sum : ℕ) (c : Chunk) → sum + (1 + chunk_weight c) ≤ 16777216 → weighed sum c ≡ Ok (sum + (1 + chunk_weight c))
 unfolding weighed
 weighed_ok sum c few = then_ok _ tt _ _ (within_ok (sum + (1 + chunk_weight c)) 16777216 TooMany few) refl
 
@@ -140,7 +146,7 @@ injected_ok ps by s h c bound handler ready known keeps k named =
     let ws = call_words (by c) c bound handler in
     then_ok _ (h, (by c).program ∷ ws) _ _ (host_ok s.hosts h _ (ready.small h known) known)
     (then_ok _ (titled k.program, ws) _ _ (ap (λ q. program_at q ((by c).program ∷ ws)) ready.programs ∙ program_ok ps (by c) c _ k)
-    (then_ok _ (c, bound, handler) _ _ (ap (λ code. injection_at s.version code ws) k.code ∙ injection_ok s.version ps (by c) c bound handler k named keeps) refl))
+    (then_ok _ (c, bound, handler) _ _ (ap (λ code. injection_at s.version code ws) k.code ∙ injection_ok s.version (by c).args c bound handler k.call named keeps) refl))
 
 -- the words of an event's line, as they are read
 abbrev read_words : (Chunk → Written) → WorldEvent → List (List ℕ)
@@ -243,7 +249,7 @@ event_said ps by s (happens.Raw h d bytes) ready room keeps k few = event_known 
 host_free : (hosts : List HostSpec) (h : Host) → SmallHosts hosts → has_host h hosts ≡ true → (without 32 (decimal h.0) ≡ true) × (without 10 (decimal h.0) ≡ true)
 host_free hosts h small known = number_free h.0 (let n = small h known in omega (arith, n))
 
-handler_free : (sep : ℕ) (handler : Option Name) → IsNamed handler → ((w : List ℕ) → is_name w ≡ true → without sep w ≡ true) → without sep (codes "handler") ≡ true → (rest : List (List ℕ)) → Free sep rest → Free sep (handler_words handler ++ rest)
+pub handler_free : (sep : ℕ) (handler : Option Name) → IsNamed handler → ((w : List ℕ) → is_name w ≡ true → without sep w ≡ true) → without sep (codes "handler") ≡ true → (rest : List (List ℕ)) → Free sep rest → Free sep (handler_words handler ++ rest)
 handler_free sep None named free word rest k = k
 handler_free sep (Some name) named free word rest k = (word, (free name named, k))
 
@@ -256,10 +262,10 @@ event_line_free ps by version hosts (happens.Inject h c bound handler) small kee
     (
       (name_free (by c).program k.0).1,
       (
-        (name_free c.entry k.1.entry).1,
+        (name_free c.entry k.1.call.entry).1,
         (
           (number_free bound (omega (arith, keeps.1.0.0))).1,
-          handler_free 10 handler k.2 (λ w n. (name_free w n).1) refl ((by c).args ∷ []) (k.1.line, tt),
+          handler_free 10 handler k.2 (λ w n. (name_free w n).1) refl ((by c).args ∷ []) (k.1.call.line, tt),
         ),
       ),
     ),
@@ -285,7 +291,7 @@ event_words_are ps by version hosts (happens.Inject h c bound handler) small kee
         (
           (name_free (by c).program k.0).0,
           (
-            (name_free c.entry k.1.entry).0,
+            (name_free c.entry k.1.call.entry).0,
             (
               (number_free bound (omega (arith, keeps.1.0.0))).0,
               subst (λ ws. Free 32 ws) (append-nil (handler_words handler)) (handler_free 32 handler k.2 (λ w n. (name_free w n).0) refl [] tt),

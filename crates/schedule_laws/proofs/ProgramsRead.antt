@@ -109,7 +109,7 @@ map-length : {X Y : Type 0} (f : X → Y) (xs : List X) → length (map f xs) �
 map-length f [] = refl
 map-length f (x ∷ xs) = omega (arith, map-length f xs)
 
-map-push : {X Y : Type 0} (f : X → Y) (xs : List X) (x : X) → map f xs ++ f x ∷ [] ≡ map f (xs ++ x ∷ [])
+pub map-push : {X Y : Type 0} (f : X → Y) (xs : List X) (x : X) → map f xs ++ f x ∷ [] ≡ map f (xs ++ x ∷ [])
 map-push f [] x = refl
 map-push f (y ∷ ys) x = ap (λ z. f y ∷ z) (map-push f ys x)
 

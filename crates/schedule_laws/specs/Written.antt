@@ -116,17 +116,21 @@ abbrev pub NamesDiffer : List NamedText → Type 0
 NamesDiffer [] = Unit {0}
 NamesDiffer (p ∷ ps) = (list_any (λ q. bytes_eq p.name q.name) ps ≡ false) × NamesDiffer ps
 
--- a chunk is written by the name of its program, and by a text that says its arguments
+-- a call of a chunk is written by its function's name, and by a text that says its arguments
+pub record IsCall (args : List ℕ) (c : Chunk) : Type 0 where
+  pub entry : is_name c.entry ≡ true
+  pub function : Fun
+  pub found : find (has_name c.entry) c.code.funs ≡ Some function
+  pub says : args_of_text args ≡ Some c.args
+  pub short : length args ≤ 65536
+  pub line : is_line args ≡ true
+
+-- a chunk is written by the name of its program, and by its call
 pub record IsWritten (programs : List NamedText) (w : Written) (c : Chunk) : Type 0 where
   pub program : NamedText
   pub listed : find (λ p. bytes_eq p.name w.program) programs ≡ Some program
   pub code : program.program ≡ c.code
-  pub entry : is_name c.entry ≡ true
-  pub function : Fun
-  pub found : find (has_name c.entry) c.code.funs ≡ Some function
-  pub args : args_of_text w.args ≡ Some c.args
-  pub short : length w.args ≤ 65536
-  pub line : is_line w.args ≡ true
+  pub call : IsCall w.args c
 
 -- a handler's name is one
 abbrev pub IsNamed : Option Name → Type 0

@@ -1,0 +1,5 @@
+pub mod Leading
+pub mod FleetRead
+pub mod AskRead
+pub mod ConfigHead
+pub mod ConfigRead

@@ -1,0 +1,4 @@
+pub mod Words
+pub mod Configs
+pub mod Asks
+pub mod Fleets
