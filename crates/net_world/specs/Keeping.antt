@@ -31,4 +31,4 @@ pub record KeepsRun (s : Schedule) : Type 0 where
   pub leads : (k : ℕ) → WireLeads s.topology.links (world_at s k).wire
   pub sound : (k : ℕ) → IsSound (world_at s k)
   pub visits : (k : ℕ) → All EndsWell (visits_after k s.events (opening s.topology))
-  pub routes : (k : ℕ) → All BringsNone (take k s.events) → RunKeepsRoutes (take k s.events) (opening s.topology)
+  pub routes : (k : ℕ) → All (BringsNone s.topology.version) (take k s.events) → RunKeepsRoutes (take k s.events) (opening s.topology)

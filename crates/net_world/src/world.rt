@@ -118,7 +118,7 @@ impl<S: Services> World<S> {
             → IsSound (spec.happens w event.now).world }
         ensures visits { (w : WorldState) → w.version ≡ self.old.version → IsSound w
             → All EndsWell (event_visits w event.now) }
-        ensures routes { (w : WorldState) → Reached w → BringsNone event.now
+        ensures routes { (w : WorldState) → Reached w → BringsNone w.version event.now
             → KeepsRoutes w (spec.happens w event.now) }
     {
         keep_types(event);

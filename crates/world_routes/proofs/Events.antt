@@ -5,6 +5,7 @@ use Rattle.std.proofs.lemmas.List.{map-set, map_push}
 use Rattle.std.proofs.lemmas.List.Elements.{All-nil, All-cons, All-append, All-map, All-push, All-set}
 use Rattle.plan_base.specs.declared.ids.Host.{Host}
 use Rattle.plan_base.specs.declared.ids.Dev.{Dev}
+use Rattle.link_window.specs.declared.window.Version.{Version}
 use Rattle.packet_frame.specs.declared.frame.PlainFrame.{PlainFrame}
 use Rattle.packet_frame.specs.declared.frame.PlainStamped.{PlainStamped}
 use Rattle.packet_frame.specs.declared.fault.FrameFault.{FrameFault}
@@ -36,7 +37,7 @@ use Rattle.world_model.specs.declared.lines.Handing.{Handing}
 use Rattle.world_model.specs.declared.lines.Handing.TheVariants.{Taking, Leaving}
 use Rattle.world_model.specs.World.{Cables, WorldState, EventResult, nothing, lines_at, step_at, step_place, steps, none_before, forged_frame, forged, forged_at, place_of, far_end, send_taken, send_at, send_over, send_place, sends, wire_place, hand_line, as_handed, wire_after, hand_at, hand_to, hand_frame, hand_place, hands, lose_frame, lose_place, loses, acted, happens}
 use Rattle.world_model.specs.Wires.{WireLeads}
-use Rattle.world_routes.specs.Roads.{routing_in, BringsNone}
+use Rattle.world_routes.specs.Roads.{routing_in, CarriesNone, BringsNone}
 use Rattle.world_routes.specs.Routes.{FrameHasWay, IsRoutedAct, IsRouted}
 use Rattle.world_routes.proofs.Cut.{cut_stamped, cut_lane, cut_node, cut_wired, cut, end_of, wiring, get_map, set_same, map_remove, contains_get, goes_over, place_is}
 use Rattle.world_routes.proofs.Steps.{GoesDefault, StepKeeps, inject_keeps, tick_keeps, bytes_keep, HopsOn, stamped_keeps}
@@ -50,6 +51,8 @@ pub record EventKeeps (w : WorldState) (h : EventResult) : Type 0 where
   pub queues : All (λ node. QueuesKeep GoesDefault node.queues) h.world.nodes
   pub wire : All (λ x. GoesDefault x.frame) h.world.wire
   pub leads : WireLeads w.links h.world.wire
+  pub version : h.world.version ≡ w.version
+  pub versions : All (λ node. node.version ≡ w.version) h.world.nodes
   pub lines : All IsRouted h.lines
 
 nothing_keeps : (w : WorldState) → WorldHolds w → EventKeeps w (nothing w)
@@ -60,6 +63,8 @@ nothing_keeps w h = record {
   queues = h.queues;
   wire = h.wire;
   leads = h.leads;
+  version = refl;
+  versions = h.versions;
   lines = All-cons IsRouted Nothing [] tt (All-nil IsRouted);
 }
 
@@ -81,18 +86,19 @@ acts_routed : (h : Host) (acts : List Act) → All IsRoutedAct acts → All IsRo
 unfolding lines_at
 acts_routed h acts all = All-map IsRouted (At h) acts all
 
--- a step of every node
-record Steps (far : Wiring) (step : NodeState → Step) : Type 0 where
-  keeps : (node : NodeState) → QueuesKeep GoesDefault node.queues → StepKeeps far (λ w. Unit {0}) node (step node)
+-- a step of every node of a version
+record Steps (far : Wiring) (v : Version) (step : NodeState → Step) : Type 0 where
+  keeps : (node : NodeState) → node.version ≡ v → QueuesKeep GoesDefault node.queues → StepKeeps far (λ w. Unit {0}) node (step node)
   stays : (node : NodeState) → NodeStays node (step node).node
 
 step_at_keeps : (w : WorldState) (h : Host) (before : NodeState → List Line) (step : NodeState → Step) (at : ℕ) (o : Option NodeState) → ((node : NodeState) → All IsRouted (before node))
-    → Steps (wiring w.links) step → place_of w.nodes h ≡ Some at → slice_get w.nodes at ≡ o → WorldHolds w → EventKeeps w (step_at w h before step at o)
+    → Steps (wiring w.links) w.version step → place_of w.nodes h ≡ Some at → slice_get w.nodes at ≡ o → WorldHolds w → EventKeeps w (step_at w h before step at o)
 unfolding step_at
 step_at_keeps w h before step at None quiet s place get k = nothing_keeps w k
 step_at_keeps w h before step at (Some node) quiet s place get k =
     let p = place_is w h at node place get in
-    let one = s.keeps node (all_get (λ n. QueuesKeep GoesDefault n.queues) w.nodes at node k.queues get) in
+    let version = all_get (λ n. n.version ≡ w.version) w.nodes at node k.versions get in
+    let one = s.keeps node version (all_get (λ n. QueuesKeep GoesDefault n.queues) w.nodes at node k.queues get) in
     let stays = s.stays node in
     record {
       links = refl;
@@ -102,17 +108,19 @@ step_at_keeps w h before step at (Some node) quiet s place get k =
       queues = All-set (λ n. QueuesKeep GoesDefault n.queues) w.nodes at (step node).node one.queues k.queues;
       wire = k.wire;
       leads = k.leads;
+      version = refl;
+      versions = All-set (λ n. n.version ≡ w.version) w.nodes at (step node).node (stays.version ∙ version) k.versions;
       lines = All-append IsRouted (before node) (lines_at h (step node).acts) (quiet node) (acts_routed h (step node).acts one.acts);
     }
 
 step_place_keeps : (w : WorldState) (h : Host) (before : NodeState → List Line) (step : NodeState → Step) (o : Option ℕ) → ((node : NodeState) → All IsRouted (before node))
-    → Steps (wiring w.links) step → place_of w.nodes h ≡ o → WorldHolds w → EventKeeps w (step_place w h before step o)
+    → Steps (wiring w.links) w.version step → place_of w.nodes h ≡ o → WorldHolds w → EventKeeps w (step_place w h before step o)
 unfolding step_place
 step_place_keeps w h before step None quiet s place k = nothing_keeps w k
 step_place_keeps w h before step (Some at) quiet s place k = step_at_keeps w h before step at (slice_get w.nodes at) quiet s place refl k
 
 steps_keep : (w : WorldState) (h : Host) (before : NodeState → List Line) (step : NodeState → Step) → ((node : NodeState) → All IsRouted (before node))
-    → Steps (wiring w.links) step → WorldHolds w → EventKeeps w (steps w h before step)
+    → Steps (wiring w.links) w.version step → WorldHolds w → EventKeeps w (steps w h before step)
 unfolding steps
 steps_keep w h before step quiet s k = step_place_keeps w h before step (place_of w.nodes h) quiet s refl k
 
@@ -155,6 +163,8 @@ send_first_keeps w h d at to node n (x ∷ queue) leads place get e k =
       queues = All-set (λ n. QueuesKeep GoesDefault n.queues) w.nodes at new t.rest k.queues;
       wire = All-push (λ y. GoesDefault y.frame) w.wire wired k.wire t.frame;
       leads = All-push (λ (y : Wired). far_end w.links y.from.host y.from.dev ≡ Some y.to) w.wire wired k.leads leads;
+      version = refl;
+      versions = All-set (λ n. n.version ≡ w.version) w.nodes at new (all_get (λ n. n.version ≡ w.version) w.nodes at node k.versions get) k.versions;
       lines = All-append IsRouted (lines_at h (act ∷ [])) (line ∷ []) (acts_routed h (act ∷ []) (All-cons IsRoutedAct act [] tt (All-nil IsRoutedAct))) (All-cons IsRouted line [] tt (All-nil IsRouted));
     }
 
@@ -243,6 +253,9 @@ hand_at_keeps w how place x at (Some node) on at_host get k =
       queues = All-set (λ n. QueuesKeep GoesDefault n.queues) w.nodes at step.node one.queues k.queues;
       wire = all_after (λ y. GoesDefault y.frame) how w.wire place x on (λ h. h) k.wire;
       leads = all_after IsLeading how w.wire place x on (λ h. h) k.leads;
+      version = refl;
+      versions = All-set (λ n. n.version ≡ w.version) w.nodes at step.node
+          ((stamped_stays node x.to.dev x.frame).node.version ∙ all_get (λ n. n.version ≡ w.version) w.nodes at node k.versions get) k.versions;
       lines = All-cons IsRouted (hand_line how x.number) (lines_at x.to.host step.acts) (hand_routed how x.number) (acts_routed x.to.host step.acts one.acts);
     }
 
@@ -275,6 +288,8 @@ lose_frame_keeps w place (Some x) on k = record {
   queues = k.queues;
   wire = all_remove (λ y. GoesDefault y.frame) w.wire place k.wire;
   leads = all_remove (λ (y : Wired). far_end w.links y.from.host y.from.dev ≡ Some y.to) w.wire place k.leads;
+  version = refl;
+  versions = k.versions;
   lines = All-cons IsRouted (Off x.number) (Lost (what_of x.frame.frame) ∷ []) tt (All-cons IsRouted (Lost (what_of x.frame.frame)) [] tt (All-nil IsRouted));
 }
 
@@ -289,25 +304,25 @@ loses_keep w number k = lose_place_keeps w (wire_place w.wire number) k
 
 -- ---- events
 
-acted_keeps : (w : WorldState) (e : WorldEvent) → BringsNone e → WorldHolds w → EventKeeps w (acted w e)
+acted_keeps : (w : WorldState) (e : WorldEvent) → BringsNone w.version e → WorldHolds w → EventKeeps w (acted w e)
 acted_keeps w (Inject h chunk bound handler) n k = steps_keep w h none_before (λ node. inject_step [] node chunk bound handler) (λ node. All-nil IsRouted)
-    (record { keeps = λ node q. inject_keeps (wiring w.links) (λ v. Unit {0}) node chunk bound handler q; stays = λ node. inject_stays node chunk bound handler }) k
+    (record { keeps = λ node v q. inject_keeps (wiring w.links) (λ v. Unit {0}) node chunk bound handler q; stays = λ node. inject_stays node chunk bound handler }) k
 acted_keeps w (Send h d) n k = sends_keep w h d k
 acted_keeps w (Deliver number) n k = hands_keep w Taking number k
 acted_keeps w (Repeat number) n k = hands_keep w Leaving number k
 acted_keeps w (Lose number) n k = loses_keep w number k
 acted_keeps w (Tick h) n k = steps_keep w h none_before tick_step (λ node. All-nil IsRouted)
-    (record { keeps = λ node q. tick_keeps (wiring w.links) (λ v. Unit {0}) node q; stays = λ node. (tick_stays node).node }) k
+    (record { keeps = λ node v q. tick_keeps (wiring w.links) (λ v. Unit {0}) node q; stays = λ node. (tick_stays node).node }) k
 acted_keeps w (Raw h d bytes) n k = steps_keep w h (forged_at h bytes) (λ node. arrive_step node d bytes) (λ node. forged_routed h (read_by node.version bytes))
-    (record { keeps = λ node q. bytes_keep (wiring w.links) (λ v. Unit {0}) node d bytes (n node.version) q; stays = λ node. (arrive_stays node d bytes).node }) k
+    (record { keeps = λ node is q. bytes_keep (wiring w.links) (λ v. Unit {0}) node d bytes (subst (λ v. CarriesNone (read_by v bytes)) (sym is) n) q; stays = λ node. (arrive_stays node d bytes).node }) k
 
 -- each event keeps them, and is some moves
-pub event_keeps : (w : WorldState) (e : WorldEvent) → BringsNone e → WorldHolds w → EventKeeps w (happens w e)
+pub event_keeps : (w : WorldState) (e : WorldEvent) → BringsNone w.version e → WorldHolds w → EventKeeps w (happens w e)
 event_keeps w e n k =
     let a = acted_keeps w e n k in
-    record { links = a.links; goes = a.goes; hosts = a.hosts; queues = a.queues; wire = a.wire; leads = a.leads; lines = a.lines }
+    record { links = a.links; goes = a.goes; hosts = a.hosts; queues = a.queues; wire = a.wire; leads = a.leads; version = a.version; versions = a.versions; lines = a.lines }
 
-pub event_holds : (w : WorldState) (e : WorldEvent) → BringsNone e → WorldHolds w → WorldHolds (happens w e).world
+pub event_holds : (w : WorldState) (e : WorldEvent) → BringsNone w.version e → WorldHolds w → WorldHolds (happens w e).world
 event_holds w e n k =
     let a = event_keeps w e n k in
     let P : Cables → Type 0 = λ links. CutHolds (wiring links) (cut (happens w e).world) in
@@ -317,4 +332,5 @@ event_holds w e n k =
       queues = a.queues;
       wire = a.wire;
       leads = let Q : Cables → Type 0 = λ links. WireLeads links (happens w e).world.wire in subst Q (sym a.links) a.leads;
+      versions = subst (λ v. All (λ node. node.version ≡ v) (happens w e).world.nodes) (sym a.version) a.versions;
     }

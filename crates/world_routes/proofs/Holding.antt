@@ -32,13 +32,14 @@ use Rattle.world_routes.proofs.Cut.{cut_frame, cut_stamped, cut_wired, cut, end_
 use Rattle.world_routes.proofs.Steps.{IsDefault, GoesDefault}
 
 -- the law of routes holds of the network cut down; nodes and neighbours are hosts of the network; packets go by the one routing
--- function; frames on the wire lead to the other ends of their links
+-- function; frames on the wire lead to the other ends of their links; and each node is of the network's version
 pub record WorldHolds (w : WorldState) : Type 0 where
   pub routes : CutHolds (wiring w.links) (cut w)
   pub hosts : All (λ node. HostsHold (routing_of node)) w.nodes
   pub queues : All (λ node. QueuesKeep GoesDefault node.queues) w.nodes
   pub wire : All (λ x. GoesDefault x.frame) w.wire
   pub leads : WireLeads w.links w.wire
+  pub versions : All (λ node. node.version ≡ w.version) w.nodes
 
 -- ---- looking up
 

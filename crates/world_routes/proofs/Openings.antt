@@ -184,6 +184,10 @@ node_default : (t : Topology) (s : HostSpec) → QueuesKeep GoesDefault (opening
 unfolding opening_node new_node
 node_default t s = none_kept GoesDefault (first_moment t.version)
 
+node_version : (t : Topology) (s : HostSpec) → (opening_node t s).version ≡ t.version
+unfolding opening_node new_node
+node_version t s = refl
+
 pub opening_holds : (t : Topology) → KeepsNetwork t → WorldHolds (opening t)
 unfolding opening
 opening_holds t k = record {
@@ -193,4 +197,5 @@ opening_holds t k = record {
   queues = All-map (λ n. QueuesKeep GoesDefault n.queues) (opening_node t) t.hosts (λ i d lt. node_default t _);
   wire = All-nil (λ x. GoesDefault x.frame);
   leads = All-nil (λ (x : Wired). far_end t.links x.from.host x.from.dev ≡ Some x.to);
+  versions = All-map (λ n. n.version ≡ t.version) (opening_node t) t.hosts (λ i d lt. node_version t _);
 }

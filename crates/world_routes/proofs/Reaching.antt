@@ -28,22 +28,25 @@ use Rattle.world_routes.proofs.Openings.{opening_holds}
 record RunHolds (es : List WorldEvent) (w : WorldState) : Type 0 where
   holds : WorldHolds (world_after es w)
   links : (world_after es w).links ≡ w.links
+  version : (world_after es w).version ≡ w.version
   goes : Goes (wiring w.links) (cut w) (cut (world_after es w))
   routed : All (λ e. IsRouted e.line) (history_of es w)
 
-run_holds : (es : List WorldEvent) (w : WorldState) → All BringsNone es → WorldHolds w → RunHolds es w
+run_holds : (es : List WorldEvent) (w : WorldState) → All (BringsNone w.version) es → WorldHolds w → RunHolds es w
 unfolding world_after history_of entries
-run_holds [] w n k = record { holds = k; links = refl; goes = Stays (cut w); routed = All-nil (λ e. IsRouted e.line) }
+run_holds [] w n k = record { holds = k; links = refl; version = refl; goes = Stays (cut w); routed = All-nil (λ e. IsRouted e.line) }
 run_holds (e ∷ es) w n k =
-    let inside = All-head BringsNone e es n in
+    let inside = All-head (BringsNone w.version) e es n in
     let one = event_keeps w e inside k in
     let after = (happens w e).world in
-    let more = run_holds es after (All-tail BringsNone e es n) (event_holds w e inside k) in
+    let later = subst (λ v. All (BringsNone v) es) (sym one.version) (All-tail (BringsNone w.version) e es n) in
+    let more = run_holds es after later (event_holds w e inside k) in
     let P : Cables → Type 0 = λ links. Goes (wiring links) (cut after) (cut (world_after es after)) in
     let IsRight : Entry → Type 0 = λ x. IsRouted x.line in
     record {
       holds = more.holds;
       links = more.links ∙ one.links;
+      version = more.version ∙ one.version;
       goes = goes_over (wiring w.links) (cut w) (cut after) (cut (world_after es after)) one.goes (subst P one.links more.goes);
       routed = All-append IsRight (entries w e) (history_of es after) (All-map IsRight (entry_at (w.made + 1)) (happens w e).lines one.lines) more.routed;
     }
@@ -96,7 +99,7 @@ journey_way : (x : Host) (w : WorldState) (n : Host) (k : ℕ) → WorldHolds w 
 journey_way x w n k h (Rests v m) = Ends v m
 journey_way x w n k h (Waits v m d other over) =
     let o = held_over v h x m d other over in
-    Hops v [] m o.row zero o.hop (All-nil BringsNone) (Ends (world_after [] v) o.row.«next»)
+    Hops v [] m o.row zero o.hop (All-nil (BringsNone v.version)) (Ends (world_after [] v) o.row.«next»)
 journey_way x w n k h (Rides v es m y j other over from packet inside on rest) =
     let o = held_over v h x m y.from.dev other over in
     let run = run_holds es v inside h in
@@ -115,19 +118,28 @@ routes_held w h = held_routes w h (λ n x k c e journey. way_short x w n k c h e
 
 pub opening_reached : (t : Topology) → KeepsNetwork t → Reached (opening t)
 unfolding world_after
-opening_reached t k = record { topology = t; keeps = k; events = []; inside = All-nil BringsNone; is = refl }
+opening_reached t k = record { topology = t; keeps = k; events = []; inside = All-nil (BringsNone t.version); is = refl }
 
-pub event_reaches : (w : WorldState) (e : WorldEvent) → Reached w → BringsNone e → Reached (happens w e).world
+reached_run : (w : WorldState) (r : Reached w) → RunHolds r.events (opening r.topology)
+unfolding opening
+reached_run w r = run_holds r.events (opening r.topology) r.inside (opening_holds r.topology r.keeps)
+
+reached_version : (w : WorldState) (r : Reached w) → w.version ≡ r.topology.version
+unfolding opening
+reached_version w r = ap (λ (v : WorldState). v.version) r.is ∙ (reached_run w r).version
+
+pub event_reaches : (w : WorldState) (e : WorldEvent) → Reached w → BringsNone w.version e → Reached (happens w e).world
+unfolding opening
 event_reaches w e r n = record {
   topology = r.topology;
   keeps = r.keeps;
   events = r.events ++ e ∷ [];
-  inside = All-push BringsNone r.events e r.inside n;
+  inside = All-push (BringsNone r.topology.version) r.events e r.inside (subst (λ v. BringsNone v e) (reached_version w r) n);
   is = ap (λ v. (happens v e).world) r.is ∙ sym (after_append r.events (e ∷ []) (opening r.topology) ∙ after_one e (world_after r.events (opening r.topology)));
 }
 
 reached_is : (w : WorldState) → Reached w → WorldHolds w
-reached_is w r = subst WorldHolds (sym r.is) (run_holds r.events (opening r.topology) r.inside (opening_holds r.topology r.keeps)).holds
+reached_is w r = subst WorldHolds (sym r.is) (reached_run w r).holds
 
 pub reached_hold : (w : WorldState) → Reached w → RoutesHold w
 reached_hold w r = routes_held w (reached_is w r)
@@ -135,7 +147,7 @@ reached_hold w r = routes_held w (reached_is w r)
 pub reached_dist : (w : WorldState) (n x : Host) (c d : ℕ) → Reached w → cost_at w.nodes n x ≡ Some c → IsDist w.links n x d → d ≤ c
 reached_dist w n x c d r e dist = held_dist w (reached_is w r) n x c d e dist
 
-pub event_keeps_routes : (w : WorldState) (e : WorldEvent) → Reached w → BringsNone e → KeepsRoutes w (happens w e)
+pub event_keeps_routes : (w : WorldState) (e : WorldEvent) → Reached w → BringsNone w.version e → KeepsRoutes w (happens w e)
 event_keeps_routes w e r n =
     let k = reached_is w r in
     let one = event_keeps w e n k in
@@ -145,7 +157,8 @@ event_keeps_routes w e r n =
       routed = one.lines;
     }
 
-pub run_keeps_routes : (t : Topology) (es : List WorldEvent) → KeepsNetwork t → All BringsNone es → RunKeepsRoutes es (opening t)
+pub run_keeps_routes : (t : Topology) (es : List WorldEvent) → KeepsNetwork t → All (BringsNone t.version) es → RunKeepsRoutes es (opening t)
+unfolding opening
 run_keeps_routes t es k n = record {
   holds = λ j. routes_held (world_after (take j es) (opening t)) (front j).holds;
   rises = λ j.
@@ -153,12 +166,15 @@ run_keeps_routes t es k n = record {
       let whole : world_after (drop j es) w ≡ world_after es (opening t) =
       sym (after_append (take j es) (drop j es) (opening t)) ∙ ap (λ fs. world_after fs (opening t)) (take-append-drop j es) in
       let P : WorldState → Type 0 = λ v. NoneRises w.nodes v.nodes in
-      subst P whole (rises_of w (world_after (drop j es) w) (run_holds (drop j es) w (All-drop BringsNone j es n) (front j).holds).goes);
+      subst P whole (rises_of w (world_after (drop j es) w) (run_holds (drop j es) w (later j) (front j).holds).goes);
   routed = (run_holds es (opening t) n (opening_holds t k)).routed;
 }
   where
     front : (j : ℕ) → RunHolds (take j es) (opening t)
-    front j = run_holds (take j es) (opening t) (All-take BringsNone j es n) (opening_holds t k)
+    front j = run_holds (take j es) (opening t) (All-take (BringsNone t.version) j es n) (opening_holds t k)
+
+    later : (j : ℕ) → All (BringsNone (world_after (take j es) (opening t)).version) (drop j es)
+    later j = subst (λ v. All (BringsNone v) (drop j es)) (sym (front j).version) (All-drop (BringsNone t.version) j es n)
 
 pub ways_short : (x : Host) (w : WorldState) (n : Host) (k c : ℕ) → Reached w → cost_at w.nodes n x ≡ Some c → Way x w n k → k ≤ c
 ways_short x w n k c r e way = way_short x w n k c (reached_is w r) e way

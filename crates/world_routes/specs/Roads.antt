@@ -64,10 +64,10 @@ abbrev pub CarriesNone : Result PlainStamped FrameFault → Type 0
 CarriesNone (Ok x) = IsAsk x.frame
 CarriesNone (Err e) = Unit {0}
 
--- an event that brings no packet and no advert from outside: bytes that it brings are none to a node of either version
-abbrev pub BringsNone : WorldEvent → Type 0
-BringsNone (Raw h d bytes) = (v : Version) → CarriesNone (read_by v bytes)
-BringsNone _ = Unit {0}
+-- an event that brings no packet and no advert from outside into a network of this version
+abbrev pub BringsNone : Version → WorldEvent → Type 0
+BringsNone v (Raw h d bytes) = CarriesNone (read_by v bytes)
+BringsNone v _ = Unit {0}
 
 -- the node of n, which isn't x's, routes to x by this row
 pub record IsHop (w : WorldState) (x n : Host) (row : RouteRow) : Type 0 where
@@ -78,7 +78,7 @@ pub record IsHop (w : WorldState) (x n : Host) (row : RouteRow) : Type 0 where
 -- route that its node has by then, and any events may lie between that and its arrival there
 pub data Way (x : Host) : WorldState → Host → ℕ → Type 0 where
   Ends : (w : WorldState) (n : Host) → Way x w n zero
-  Hops : (w : WorldState) (es : List WorldEvent) (n : Host) (row : RouteRow) (k : ℕ) → IsHop w x n row → All BringsNone es → Way x (world_after es w) row.«next» k → Way x w n (suc k)
+  Hops : (w : WorldState) (es : List WorldEvent) (n : Host) (row : RouteRow) (k : ℕ) → IsHop w x n row → All (BringsNone w.version) es → Way x (world_after es w) row.«next» k → Way x w n (suc k)
 
 -- ---- journeys
 
@@ -99,5 +99,5 @@ IsPacketFor x _ = ⊥
 pub data Journey (x : Host) : WorldState → Host → ℕ → Type 0 where
   Rests : (w : WorldState) (n : Host) → Journey x w n zero
   Waits : (w : WorldState) (n : Host) (d : Dev) → n ≢ x → HopsOver w x n d → Journey x w n (suc zero)
-  Rides : (w : WorldState) (es : List WorldEvent) (n : Host) (y : Wired) (k : ℕ) → n ≢ x → HopsOver w x n y.from.dev → y.from.host ≡ n → IsPacketFor x y.frame.frame → All BringsNone es
+  Rides : (w : WorldState) (es : List WorldEvent) (n : Host) (y : Wired) (k : ℕ) → n ≢ x → HopsOver w x n y.from.dev → y.from.host ≡ n → IsPacketFor x y.frame.frame → All (BringsNone w.version) es
       → Contains (world_after es w).wire y → Journey x (world_after es w) y.to.host k → Journey x w n (suc k)

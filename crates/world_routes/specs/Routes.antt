@@ -26,7 +26,7 @@ pub record Reached (w : WorldState) : Type 0 where
   pub topology : Topology
   pub keeps : KeepsNetwork topology
   pub events : List WorldEvent
-  pub inside : All BringsNone events
+  pub inside : All (BringsNone topology.version) events
   pub is : w ≡ world_after events (opening topology)
 
 -- ---- what holds

@@ -22,7 +22,7 @@ pub fn openings_are_reached()
 
 /// What an event that brings no packet and no advert from outside makes of a network that is reached is reached.
 pub fn events_reach()
-    ensures { (w : WorldState) (e : WorldEvent) → Reached w → BringsNone e → Reached (happens w e).world }
+    ensures { (w : WorldState) (e : WorldEvent) → Reached w → BringsNone w.version e → Reached (happens w e).world }
 {}
 
 /// What holds of routes holds in every network that is reached.
@@ -32,12 +32,13 @@ pub fn routes_hold()
 
 /// No event raises a cost, or drops a packet for want of a route.
 pub fn events_keep_routes()
-    ensures { (w : WorldState) (e : WorldEvent) → Reached w → BringsNone e → KeepsRoutes w (happens w e) }
+    ensures { (w : WorldState) (e : WorldEvent) → Reached w → BringsNone w.version e → KeepsRoutes w (happens w e) }
 {}
 
 /// The same for every run, after each of its events.
 pub fn runs_keep_routes()
-    ensures { (t : Topology) (es : List WorldEvent) → KeepsNetwork t → All BringsNone es → RunKeepsRoutes es (opening t) }
+    ensures { (t : Topology) (es : List WorldEvent) → KeepsNetwork t → All (BringsNone t.version) es
+        → RunKeepsRoutes es (opening t) }
 {}
 
 /// A cost is at least the length of a shortest walk.
