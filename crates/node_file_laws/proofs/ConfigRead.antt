@@ -121,6 +121,9 @@ inject_free p by c i k w = (
   ),
 )
 
+from_none : (n : ℕ) → 0 + n ≡ n
+from_none n = omega arith
+
 -- nothing is injected without a program
 none_injected : (is : List Injection) → All (λ i. ⊥) is → [] ≡ is
 none_injected [] k = refl
@@ -244,7 +247,7 @@ module _ (given : Option ProgramText) (by : Chunk → List ℕ) (c : ServeConfig
         checked = Some p.program;
         weight = weights c.at;
         leads = behind_lines config_format (program_lines p.text) (injected_lines c.at) number plain (behind p begun [] 0) (behind p begun c.at (weights c.at)) (program_leads p k number)
-            (injects_lead p begun c.at [] 0 (weights c.at) refl refl is.rules.weight is.rules.injects w (number + length (program_lines p.text)));
+            (injects_lead p begun c.at [] 0 (weights c.at) refl (from_none (weights c.at)) is.rules.weight is.rules.injects w (number + length (program_lines p.text)));
       }
 
   -- the program, if there is one, and what is injected

@@ -6,7 +6,6 @@ use lib.Chars.{codes}
 use Rattle.std.proofs.lemmas.List.Elements.{All-head, All-tail}
 use Rattle.line_files.specs.declared.fault.LineFault.{LineFault}
 use Rattle.line_files.specs.declared.programs.OpenProgram.{OpenProgram}
-use Rattle.line_files.specs.Lines.{lines}
 use Rattle.line_files.specs.Reads.{and_then}
 use Rattle.line_files.specs.Files.{Format, read_on, file_of}
 use Rattle.line_files.specs.Inside.{after_lines}
