@@ -27,10 +27,12 @@ use Rattle.packet_frame.specs.Faults.{of_spelling, of_number}
 use Rattle.packet_frame.specs.Fields.{told, number, magic_at, version_at, known_kind, kind_of, kind_at, judged, bound_at, route_at, count_at, row_host_at, cost_at}
 use Rattle.packet_frame.specs.Forms.{FrameItem, the_magic, the_version, the_kind, a_host, a_serial, a_bound, a_route, a_carried_chunk, some_rows, rows_behind, a_cost, the_end, either_version, the_form}
 use Rattle.packet_frame.specs.Versions.{either_version_at, form_of, known_form, form_at}
-use Rattle.packet_frame.specs.Frames.{past, nothing_left, frame_step, SpellingFault}
+use Rattle.packet_frame.specs.Frames.{past, nothing_left, frame_step, a_frame, begins, SpellingFault}
 use Rattle.packet_frame.specs.Frames as frames
+use Rattle.packet_frame.specs.Stamped.{a_stamped_frame, StampedFault}
+use Rattle.packet_frame.specs.Stamped as stamped
 use Rattle.packet_frame.proofs.FieldLaws.{told_ok, judged_ok}
-use Rattle.flat_faults.specs.Flat.{is_chunk, FlatFault, at_field, behind_field, in_chunk, behind_chunk, FlatSpellingFault, too_long, misspelled}
+use Rattle.flat_faults.specs.Flat.{is_chunk, FlatFault, at_field, behind_field, in_chunk, behind_chunk, FlatSpellingFault, FlatStampedFault, too_long, misspelled}
 
 -- ---- readings of whole parts
 
@@ -218,13 +220,29 @@ from_flat {e} (in_chunk {more} {f} d h q) =
 from_flat (behind_chunk {more} {f} {g} c h k) =
     later a_carried_chunk more (from_front f) more (from_front g) (ap (λ r. past more (told of_spelling r)) (only_by a_whole_chunk (chunk_part_lawful 3) (λ _. refl) f g c h)) (from_flat k)
 
-pub frame_is_flat : (bytes : List ℕ) (e : FrameFault) → IsBytes bytes → SpellingFault e bytes ↔ FlatSpellingFault e bytes
-frame_is_flat bytes e b = (there, back)
-  where
-    there : SpellingFault e bytes → FlatSpellingFault e bytes
-    there (frames.too_long h q) = too_long h q
-    there (frames.misspelled h q) = misspelled h (to_flat q (record { at = 0; rest = bytes }) refl b)
+module _ (bytes : List ℕ) (e : FrameFault) (are : IsBytes bytes) where
+  -- the fields of a whole frame, whatever they are
+  fields_flat : (all : List FrameItem) → FirstFault frame_step e all (begins bytes) → FlatFault e all (record { at = 0; rest = bytes })
+  fields_flat all q = to_flat q (record { at = 0; rest = bytes }) refl are
 
-    back : FlatSpellingFault e bytes → SpellingFault e bytes
-    back (too_long h q) = frames.too_long h q
-    back (misspelled h q) = frames.misspelled h (from_flat q)
+  plain_flat : SpellingFault e bytes → FlatSpellingFault e bytes
+  plain_flat (frames.too_long h q) = too_long h q
+  plain_flat (frames.misspelled h q) = misspelled h (fields_flat a_frame q)
+
+  plain_from : FlatSpellingFault e bytes → SpellingFault e bytes
+  plain_from (too_long h q) = frames.too_long h q
+  plain_from (misspelled h q) = frames.misspelled h (from_flat q)
+
+  stamped_flat : StampedFault e bytes → FlatStampedFault e bytes
+  stamped_flat (stamped.too_long h q) = too_long h q
+  stamped_flat (stamped.misspelled h q) = misspelled h (fields_flat a_stamped_frame q)
+
+  stamped_from : FlatStampedFault e bytes → StampedFault e bytes
+  stamped_from (too_long h q) = stamped.too_long h q
+  stamped_from (misspelled h q) = stamped.misspelled h (from_flat q)
+
+pub frame_is_flat : (bytes : List ℕ) (e : FrameFault) → IsBytes bytes → SpellingFault e bytes ↔ FlatSpellingFault e bytes
+frame_is_flat bytes e are = (plain_flat bytes e are, plain_from bytes e are)
+
+pub stamped_is_flat : (bytes : List ℕ) (e : FrameFault) → IsBytes bytes → StampedFault e bytes ↔ FlatStampedFault e bytes
+stamped_is_flat bytes e are = (stamped_flat bytes e are, stamped_from bytes e are)

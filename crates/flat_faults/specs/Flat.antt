@@ -9,6 +9,7 @@ use Rattle.packet_frame.specs.declared.fault.FrameFault.{FrameFault}
 use Rattle.packet_frame.specs.Faults.{of_spelling}
 use Rattle.packet_frame.specs.Forms.{FrameItem, a_carried_chunk}
 use Rattle.packet_frame.specs.Frames.{frame_step, a_frame}
+use Rattle.packet_frame.specs.Stamped.{a_stamped_frame}
 
 -- whether a field is the chunk
 abbrev pub is_chunk : FrameItem → Bool
@@ -24,7 +25,15 @@ pub data FlatFault (e : FrameFault) : List FrameItem → Front → Type 0 where
   in_chunk : {more : List FrameItem} {f : Front} (d : SpellFault) → FirstFaultAt d (a_chunk 3) f → e ≡ of_spelling d → FlatFault e (a_carried_chunk ∷ more) f
   behind_chunk : {more : List FrameItem} {f g : Front} (c : Chunk) → SpelledAt a_whole_chunk f c g → FlatFault e more g → FlatFault e (a_carried_chunk ∷ more) f
 
+-- the first fault of bytes of which all this is to read
+pub data FlatFaultOf (all : List FrameItem) (e : FrameFault) (bytes : List ℕ) : Type 0 where
+  too_long : 16512 < length bytes → e ≡ FrameFault.TooLong → FlatFaultOf all e bytes
+  misspelled : length bytes ≤ 16512 → FlatFault e all (record { at = 0; rest = bytes }) → FlatFaultOf all e bytes
+
 -- the first fault of bytes that spell no frame
-pub data FlatSpellingFault (e : FrameFault) (bytes : List ℕ) : Type 0 where
-  too_long : 16512 < length bytes → e ≡ FrameFault.TooLong → FlatSpellingFault e bytes
-  misspelled : length bytes ≤ 16512 → FlatFault e a_frame (record { at = 0; rest = bytes }) → FlatSpellingFault e bytes
+abbrev pub FlatSpellingFault : FrameFault → List ℕ → Type 0
+FlatSpellingFault = FlatFaultOf a_frame
+
+-- the first fault of bytes that spell no frame of version 2
+abbrev pub FlatStampedFault : FrameFault → List ℕ → Type 0
+FlatStampedFault = FlatFaultOf a_stamped_frame

@@ -11,7 +11,8 @@ ghost use Rattle.chunk_spelling.specs.Programs.{program_part};
 ghost use Rattle.chunk_spelling.specs.Spelling.{from_front, FirstFaultAt, a_whole_type, a_whole_value, a_whole_chunk};
 ghost use Rattle.packet_frame.specs.declared.fault.FrameFault.{FrameFault};
 ghost use Rattle.packet_frame.specs.Frames.{SpellingFault};
-ghost use Rattle.flat_faults.specs.Flat.{FlatSpellingFault};
+ghost use Rattle.packet_frame.specs.Stamped.{StampedFault};
+ghost use Rattle.flat_faults.specs.Flat.{FlatSpellingFault, FlatStampedFault};
 
 /// A reading of a type, a value, a program or a chunk is refused exactly with the first fault of its agenda, each item of
 /// which is a field of its own, a tag, a count or a judgement of what was passed over.
@@ -25,4 +26,9 @@ pub fn readings_fail_first()
 /// The first fault of a frame is the first of its fields, of which a chunk is judged by its own agenda, down to the bytes.
 pub fn frame_faults_are_flat()
     ensures { (bytes : List ℕ) (e : FrameFault) → IsBytes bytes → SpellingFault e bytes ↔ FlatSpellingFault e bytes }
+{}
+
+/// The same of a frame of version 2, whose stamp, handler and rows are fields among the others.
+pub fn stamped_faults_are_flat()
+    ensures { (bytes : List ℕ) (e : FrameFault) → IsBytes bytes → StampedFault e bytes ↔ FlatStampedFault e bytes }
 {}
