@@ -1,5 +1,5 @@
 -- A network with one event more, and with all of them.
-use Rattle.std.proofs.Common.{◌≡◌, ℕ, suc, ◌+◌, ◌-◌, ◌<◌, ◌≤◌, List, [], ◌∷◌, ◌++◌, length, refl, sym, ap, ◌∙◌, append_assoc, subst, arith}
+use Rattle.std.proofs.Common.{◌≡◌, ℕ, suc, ◌+◌, ◌-◌, ◌*◌, ◌^◌, ◌<◌, ◌≤◌, List, [], ◌∷◌, ◌++◌, length, refl, sym, ap, ◌∙◌, append_assoc, subst, arith}
 use Rattle.std.proofs.lemmas.List.{append-nil, length-append}
 use Rattle.std.proofs.lemmas.List.Elements.{All-nil, All-push}
 use Rattle.rand_pcg.specs.Lcg.{Lcg}
@@ -17,8 +17,9 @@ use Rattle.network_laws.proofs.Opening.{opening_version, opening_sound}
 use Rattle.run_ledger.specs.Stands.{Stands}
 use Rattle.run_ledger.proofs.Runs.{world_after-push, history_of-push, event_fits_ledger}
 use Rattle.grow_run.specs.Grow.{ring, next_event, grown, Grow}
-use Rattle.grow_run.specs.Summaries.{summary_of, grown_text, GrowText}
+use Rattle.grow_run.specs.Summaries.{HasRoom, summary_of, grown_text, GrowText}
 use Rattle.grow_run.proofs.RingRules.{ring_keeps}
+use Rattle.grow_run.proofs.Summing.{room_less, room_first}
 use Rattle.net_world.specs.Stands.{WorldStands}
 use Rattle.net_world.specs.Running.{AllLeave, IsCountable}
 use Rattle.net_world.proofs.RunLaws.{opening_made}
@@ -40,6 +41,7 @@ pub record Grows {S : Type 0} (stands : S → ServiceState) (ping : Host → Hos
   pub number : g.world.made ≡ made
   pub ledger : Stands (history_of events (opening ring)) g.ledger
   pub summary : g.summary ≡ summary_of (history_of events (opening ring))
+  pub room : HasRoom ((50000 - made) * 2 ^ 64) g.summary
 
 one_more : (ping : Host → Host → Chunk) (m : ℕ) (g after : Lcg) (w : WorldState) (e : WorldEvent) → (e, after) ≡ next_event ping g w → e ∷ grown ping m after (happens w e).world ≡ grown ping (suc m) g w
 unfolding grown
@@ -68,6 +70,7 @@ module _ {S : Type 0} (stands : S → ServiceState) (ping : Host → Host → Ch
     number = world.is.made ∙ opening_made ring;
     ledger = subst (λ h. Stands h g.ledger) nothing_made ledger;
     summary = summary ∙ ap summary_of nothing_made;
+    room = room_first g.summary ((50000 - 0) * 2 ^ 64) (omega arith) summary;
   }
 
   -- the lines of the next event can be counted
@@ -77,6 +80,10 @@ module _ {S : Type 0} (stands : S → ServiceState) (ping : Host → Host → Ch
     is = grows.world;
     fits = event_fits_ledger ring grows.events e g.ledger ring_keeps grows.fits fits (subst (λ k. k < 50000) (sym grows.many) few) grows.ledger;
   }
+
+  -- there is room for the lines of the next event
+  pub grows_room : (made : ℕ) (g : Growth S) → Grows stands ping n first made g → made < 50000 → HasRoom (2 ^ 64) g.summary
+  grows_room made g grows few = room_less g.summary ((50000 - made) * 2 ^ 64) (2 ^ 64) (omega (arith, few)) grows.room
 
   -- what the next event leaves is what its lines leave by the wire
   pub grows_leave : (made : ℕ) (g : Growth S) (e : WorldEvent) (grows : Grows stands ping n first made g) → AllLeave (history_of grows.events (opening ring)) (world_after grows.events (opening ring)) e
@@ -88,14 +95,15 @@ module _ {S : Type 0} (stands : S → ServiceState) (ping : Host → Host → Ch
       let there : EventsFit (opening ring).version grows.events = subst (λ v. EventsFit v grows.events) (sym (opening_version ring)) grows.fits in
       grows.world.is.version ∙ run_version grows.events (opening ring) there (opening_sound ring ring_keeps) ∙ opening_version ring
 
-  pub grows_next : (made : ℕ) (g new : Growth S) (after : Lcg) (e : WorldEvent) (grows : Grows stands ping n first made g) → made < n
+  pub grows_next : (made : ℕ) (g new : Growth S) (after : Lcg) (e : WorldEvent) (grows : Grows stands ping n first made g) → made < n → made < 50000
       → (e, after) ≡ next_event ping g.words (world_after grows.events (opening ring)) → new.words ≡ after → event_fits One e
       → WorldStands stands new.world (happens (world_after grows.events (opening ring)) e).world
       → new.world.made ≡ g.world.made + 1
       → Stands (history_of grows.events (opening ring) ++ entries (world_after grows.events (opening ring)) e) new.ledger
       → new.summary ≡ summary_of (history_of grows.events (opening ring) ++ entries (world_after grows.events (opening ring)) e)
+      → ((m : ℕ) → HasRoom (m + 2 ^ 64) g.summary → HasRoom m new.summary)
       → Grows stands ping n first (made + 1) new
-  grows_next made g new after e grows within drawn words fits world number ledger summary =
+  grows_next made g new after e grows within few drawn words fits world number ledger summary room =
       let w = world_after grows.events (opening ring) in
       let left : suc (n - (made + 1)) ≡ n - made = omega (arith, within) in
       let pushed = world_after-push grows.events e (opening ring) in
@@ -112,6 +120,7 @@ module _ {S : Type 0} (stands : S → ServiceState) (ping : Host → Host → Ch
         number = number ∙ ap (λ k. k + 1) grows.number;
         ledger = subst (λ h. Stands h new.ledger) (sym history) ledger;
         summary = summary ∙ ap summary_of (sym history);
+        room = room ((50000 - (made + 1)) * 2 ^ 64) (room_less g.summary ((50000 - made) * 2 ^ 64) ((50000 - (made + 1)) * 2 ^ 64 + 2 ^ 64) (omega (arith, few)) grows.room);
       }
 
   all_made : (made : ℕ) (g : Growth S) (grows : Grows stands ping n first made g) → n ≤ made → grows.events ≡ grown ping n first (opening ring)

@@ -1,5 +1,5 @@
 -- The summary of a growing network.
-use Rattle.std.specs.Prelude.{ℕ, ◌+◌, List, ◌++◌, length, min, sum_by, codes}
+use Rattle.std.specs.Prelude.{ℕ, ◌+◌, ◌^◌, ◌<◌, List, ◌++◌, length, sum_by, codes}
 use Rattle.std.specs.Fmt.{decimal}
 use Rattle.plan_base.specs.declared.ids.Host.{Host}
 use Rattle.plan_base.specs.declared.tree.Chunk.{Chunk}
@@ -16,11 +16,8 @@ use Rattle.world_model.specs.Counts.{tally}
 use Rattle.world_model.specs.Texts.{families}
 use Rattle.world_model.specs.Visits.{line_ends}
 use Rattle.grow_run.specs.declared.summary.Summary.{Summary}
+use Rattle.grow_run.specs.declared.sums.Sums.{Sums}
 use Rattle.grow_run.specs.Grow.{Grow, ring}
-
--- a count stands still at the largest number of 64 bits
-abbrev pub capped : ℕ → ℕ
-capped n = min n 18446744073709551615
 
 -- ---- lines
 
@@ -41,41 +38,49 @@ line_lost _ = 0
 
 -- counts with those of one more line
 abbrev pub with_line : Line → Summary → Summary
-with_line l s = record { lines = capped (s.lines + 1); visits = capped (s.visits + line_ends l); drops = capped (s.drops + line_drops l); lost = capped (s.lost + line_lost l) }
+with_line l s = record { lines = s.lines + 1; visits = s.visits + line_ends l; drops = s.drops + line_drops l; lost = s.lost + line_lost l }
+
+-- each count stays below 2^128 with n more
+abbrev pub HasRoom : ℕ → Summary → Type 0
+HasRoom n s = (s.lines + n < 2 ^ 128) × (s.visits + n < 2 ^ 128) × (s.drops + n < 2 ^ 128) × (s.lost + n < 2 ^ 128)
 
 -- the counts of a history
 unfoldable pub summary_of : List Entry → Summary
 summary_of h = record {
-  lines = capped (length h);
-  visits = capped (tally line_ends h);
-  drops = capped (tally line_drops h);
-  lost = capped (tally line_lost h);
+  lines = length h;
+  visits = tally line_ends h;
+  drops = tally line_drops h;
+  lost = tally line_lost h;
 }
 
 -- ---- all families
 
--- two sums together
-abbrev pub plus : Row → Row → Row
-plus a b = record { granted = capped (a.granted + b.granted); hops = capped (a.hops + b.hops); evals = capped (a.evals + b.evals); live = capped (a.live + b.live); left = capped (a.left + b.left) }
+-- sums with those of one more row
+abbrev pub plus : Sums → Row → Sums
+plus a b = record { granted = a.granted + b.granted; hops = a.hops + b.hops; evals = a.evals + b.evals; live = a.live + b.live; left = a.left + b.left }
+
+-- each sum stays below 2^128 with n more
+abbrev pub SumsHaveRoom : ℕ → Sums → Type 0
+SumsHaveRoom n s = (s.granted + n < 2 ^ 128) × (s.hops + n < 2 ^ 128) × (s.evals + n < 2 ^ 128) × (s.live + n < 2 ^ 128) × (s.left + n < 2 ^ 128)
 
 -- the sums of the counts of all rows
-unfoldable pub row_sums : List FamilyRow → Row
+unfoldable pub row_sums : List FamilyRow → Sums
 row_sums rows = record {
-  granted = capped (sum_by (λ e. e.1.granted) rows);
-  hops = capped (sum_by (λ e. e.1.hops) rows);
-  evals = capped (sum_by (λ e. e.1.evals) rows);
-  live = capped (sum_by (λ e. e.1.live) rows);
-  left = capped (sum_by (λ e. e.1.left) rows);
+  granted = sum_by (λ e. e.1.granted) rows;
+  hops = sum_by (λ e. e.1.hops) rows;
+  evals = sum_by (λ e. e.1.evals) rows;
+  live = sum_by (λ e. e.1.live) rows;
+  left = sum_by (λ e. e.1.left) rows;
 }
 
 -- the sums of the counts of all families of a history, and of what they have in a network
-unfoldable pub all_sums : List Entry → WorldState → Row
+unfoldable pub all_sums : List Entry → WorldState → Sums
 all_sums h w = record {
-  granted = capped (sum_by (λ f. count.granted f h) (families h));
-  hops = capped (sum_by (λ f. count.hops f h) (families h));
-  evals = capped (sum_by (λ f. count.evals f h) (families h));
-  live = capped (sum_by (λ f. count.live f w) (families h));
-  left = capped (sum_by (λ f. count.left f h) (families h));
+  granted = sum_by (λ f. count.granted f h) (families h);
+  hops = sum_by (λ f. count.hops f h) (families h);
+  evals = sum_by (λ f. count.evals f h) (families h);
+  live = sum_by (λ f. count.live f w) (families h);
+  left = sum_by (λ f. count.left f h) (families h);
 }
 
 -- ---- texts
@@ -93,11 +98,11 @@ abbrev pub happened_text : Summary → List ℕ
 happened_text s = (codes "lines " ++ decimal s.lines) ++ ((codes "\nvisits " ++ decimal s.visits) ++ ((codes " drops " ++ decimal s.drops) ++ ((codes " lost " ++ decimal s.lost) ++ codes "\n")))
 
 -- what the families were granted, paid, have and left
-abbrev pub sums_text : Row → List ℕ
+abbrev pub sums_text : Sums → List ℕ
 sums_text r = (codes "granted " ++ decimal r.granted) ++ ((codes " hops " ++ decimal r.hops) ++ ((codes " evals " ++ decimal r.evals) ++ ((codes " live " ++ decimal r.live) ++ ((codes " left " ++ decimal r.left) ++ codes "\n"))))
 
 -- a summary
-unfoldable pub summary_text : ℕ → ℕ → Summary → Row → List ℕ
+unfoldable pub summary_text : ℕ → ℕ → Summary → Sums → List ℕ
 summary_text seed n s r = asked_text seed n ++ (size_text n ++ (happened_text s ++ (sums_text r ++ codes "end\n")))
 
 -- the summary of a history

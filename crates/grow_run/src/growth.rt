@@ -8,7 +8,7 @@ ghost use Rattle.world_model.specs.Sound.{event_fits, EventsFit};
 ghost use Rattle.link_window.specs.declared.window.Version.TheVariants.{One};
 ghost use Rattle.run_ledger.specs.Stands.{Stands};
 ghost use Rattle.grow_run.specs.Grow as grow;
-ghost use Rattle.grow_run.specs.Summaries.{summary_of, grown_text};
+ghost use Rattle.grow_run.specs.Summaries.{HasRoom, summary_of, grown_text};
 ghost use Rattle.net_world.specs.Stands.{WorldStands};
 ghost use Rattle.net_world.specs.Running.{AllLeave, IsCountable};
 ghost use Rattle.grow_run.specs.Events.{grown_history};
@@ -62,6 +62,7 @@ impl<S: Services> Growth<S> {
         requires fits { event_fits self.old.world.version event.now }
         requires few { self.old.world.made < 2 ^ 32 - 2 }
         requires counts { IsCountable S.stands self.old.world event.now self.old.ledger }
+        requires room { HasRoom (2 ^ 64) self.old.summary }
         ensures world { (w : WorldState) → WorldStands S.stands self.old.world w
             → OnOk result (WorldStands S.stands self.new.world (happens w event.now).world) }
         ensures counts { (w : WorldState) (h : List Entry) → WorldStands S.stands self.old.world w
@@ -69,6 +70,8 @@ impl<S: Services> Growth<S> {
             → self.old.summary ≡ summary_of h
             → OnOk result (Stands (h ++ entries w event.now) self.new.ledger
             × (self.new.summary ≡ summary_of (h ++ entries w event.now))) }
+        ensures room { (n : ℕ) → HasRoom (n + 2 ^ 64) self.old.summary
+            → OnOk result (HasRoom n self.new.summary) }
         ensures made { (self.new.words ≡ self.old.words)
             × OnOk result (self.new.world.made ≡ self.old.world.made + 1) }
     {

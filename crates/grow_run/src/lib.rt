@@ -18,6 +18,6 @@ pub use choice::Choice;
 pub use draws::{begin, choose};
 pub use run::grow;
 pub use summary::Summary;
-pub use sums::totals;
+pub use sums::{Sums, totals};
 pub use text::put_summary;
 pub use topology::ring;

@@ -1,4 +1,4 @@
-ghost use Rattle.std.specs.Prelude.{◌≡◌, ◌++◌, ℕ, List, [], map};
+ghost use Rattle.std.specs.Prelude.{◌≡◌, ◌≤◌, ◌+◌, ◌++◌, ℕ, List, [], length, map};
 ghost use Rattle.world_model.specs.declared.lines.Entry.{Entry};
 ghost use Rattle.world_model.specs.World.{entry_at};
 ghost use Rattle.world_model.specs.Visits.{line_ends};
@@ -7,21 +7,22 @@ ghost use Rattle.grow_run.specs.Summaries as spec;
 use node_model::Act;
 use world_model::Line;
 
-/// What happened in a network so far. A count stands still at 2^64 - 1.
+/// What happened in a network so far.
 #[derive(Clone, Copy, PartialEq, Eq)]
 pub struct Summary {
     /// The lines of its trace, without the first.
-    pub lines: u64,
+    pub lines: u128,
     /// Its visits.
-    pub visits: u64,
+    pub visits: u128,
     /// The packets and adverts that nodes dropped.
-    pub drops: u64,
+    pub drops: u128,
     /// The frames that were lost.
-    pub lost: u64,
+    pub lost: u128,
 }
 
-fn visits(line: &Line) -> u64
-    ensures { result ≡ line_ends line.now }
+fn visits(line: &Line) -> u128
+    ensures visits { result ≡ line_ends line.now }
+    ensures few { result ≤ 1 }
 {
     match line {
         Line::At(_, Act::Ended(_, _, _, _)) => 1,
@@ -29,8 +30,9 @@ fn visits(line: &Line) -> u64
     }
 }
 
-fn drops(line: &Line) -> u64
-    ensures { result ≡ spec.line_drops line.now }
+fn drops(line: &Line) -> u128
+    ensures drops { result ≡ spec.line_drops line.now }
+    ensures few { result ≤ 1 }
 {
     match line {
         Line::At(_, Act::Dropped(_, _, _)) => 1,
@@ -39,8 +41,9 @@ fn drops(line: &Line) -> u64
     }
 }
 
-fn lost(line: &Line) -> u64
-    ensures { result ≡ spec.line_lost line.now }
+fn lost(line: &Line) -> u128
+    ensures lost { result ≡ spec.line_lost line.now }
+    ensures few { result ≤ 1 }
 {
     match line {
         Line::Lost(_) => 1,
@@ -61,22 +64,27 @@ impl Summary {
         }
     }
 
-    /// The counts with those of one more line.
+    /// The counts with those of one more line. Condition: each has room for it.
     fn with_line(self, line: &Line) -> Summary
-        ensures { result ≡ spec.with_line line.now self }
+        requires { spec.HasRoom 1 self }
+        ensures counted { result ≡ spec.with_line line.now self }
+        ensures room { (n : ℕ) → spec.HasRoom (n + 1) self → spec.HasRoom n result }
     {
         Summary {
-            lines: self.lines.saturating_add(1),
-            visits: self.visits.saturating_add(visits(line)),
-            drops: self.drops.saturating_add(drops(line)),
-            lost: self.lost.saturating_add(lost(line)),
+            lines: self.lines + 1,
+            visits: self.visits + visits(line),
+            drops: self.drops + drops(line),
+            lost: self.lost + lost(line),
         }
     }
 
-    /// Counts the lines of an event.
+    /// Counts the lines of an event. Condition: each count has room for them.
     pub fn count(&mut self, lines: &[Line])
-        ensures { (h : List Entry) (n : ℕ) → self.old ≡ spec.summary_of h
+        requires { spec.HasRoom (length lines.now) self.old }
+        ensures counted { (h : List Entry) (n : ℕ) → self.old ≡ spec.summary_of h
             → self.new ≡ spec.summary_of (h ++ map (entry_at n) lines.now) }
+        ensures room { (n : ℕ) → spec.HasRoom (n + length lines.now) self.old
+            → spec.HasRoom n self.new }
     {
         for line in lines {
             *self = self.with_line(line);

@@ -1,28 +1,44 @@
-ghost use Rattle.std.specs.Prelude.{◌≡◌};
+ghost use Rattle.std.specs.Prelude.{◌≡◌, ◌^◌};
 ghost use Rattle.bound_ledger.specs.Rows.{OneEach};
 ghost use Rattle.grow_run.specs.Summaries as spec;
 
 use bound_ledger::{Ledger, Row};
 
-/// The sums of two rows.
-fn plus(a: Row, b: Row) -> Row
-    ensures { result ≡ spec.plus a b }
+/// The sums of the counts of some rows.
+#[derive(Clone, Copy, PartialEq, Eq)]
+pub struct Sums {
+    /// What they were granted.
+    pub granted: u128,
+    /// What they paid for hops.
+    pub hops: u128,
+    /// What they paid for evals.
+    pub evals: u128,
+    /// What they still have.
+    pub live: u128,
+    /// What they left.
+    pub left: u128,
+}
+
+/// The sums with those of one more row. Condition: each has room for a number of 64 bits.
+fn plus(sums: Sums, row: Row) -> Sums
+    requires { spec.SumsHaveRoom (2 ^ 64) sums }
+    ensures { result ≡ spec.plus sums row }
 {
-    Row {
-        granted: a.granted.saturating_add(b.granted),
-        hops: a.hops.saturating_add(b.hops),
-        evals: a.evals.saturating_add(b.evals),
-        live: a.live.saturating_add(b.live),
-        left: a.left.saturating_add(b.left),
+    Sums {
+        granted: sums.granted + u128::from(row.granted),
+        hops: sums.hops + u128::from(row.hops),
+        evals: sums.evals + u128::from(row.evals),
+        live: sums.live + u128::from(row.live),
+        left: sums.left + u128::from(row.left),
     }
 }
 
-/// The sums of all rows. A sum stands still at 2^64 - 1.
-pub fn totals(ledger: &Ledger) -> Row
+/// The sums of all rows.
+pub fn totals(ledger: &Ledger) -> Sums
     ensures sums { result ≡ spec.row_sums ledger.now }
     ensures once { OneEach ledger.now }
 {
-    let mut sums = Row {
+    let mut sums = Sums {
         granted: 0,
         hops: 0,
         evals: 0,

@@ -3,25 +3,26 @@ ghost use Rattle.std.specs.Fmt.{decimal};
 ghost use Rattle.grow_run.specs.Summaries as spec;
 
 use crate::summary::Summary;
-use bound_ledger::Row;
-use node_core::put_number;
+use crate::sums::Sums;
+use itoa::Buffer;
 use plan_base::{Bytes, NoMemory};
 use std::alloc::Global;
 
 /// A word and a number.
-fn put_count(out: &mut Bytes, word: &[u8], n: u64) -> Result<(), NoMemory>
+fn put_count(out: &mut Bytes, word: &[u8], n: u128) -> Result<(), NoMemory>
     ensures { OnOk result (out.new ≡ out.old ++ (word.now ++ decimal n)) }
 {
     out.add_all(word)?;
-    put_number(out, n)?;
+    let mut digits = Buffer::new();
+    out.add_all(digits.format(n).as_bytes())?;
     Ok(())
 }
 
 fn put_asked(out: &mut Bytes, seed: u64, events: u64) -> Result<(), NoMemory>
     ensures { OnOk result (out.new ≡ out.old ++ spec.asked_text seed events) }
 {
-    put_count(out, b"planet grow ", seed)?;
-    put_count(out, b" ", events)?;
+    put_count(out, b"planet grow ", u128::from(seed))?;
+    put_count(out, b" ", u128::from(events))?;
     out.add_all(b"\n")?;
     Ok(())
 }
@@ -29,7 +30,7 @@ fn put_asked(out: &mut Bytes, seed: u64, events: u64) -> Result<(), NoMemory>
 fn put_size(out: &mut Bytes, events: u64) -> Result<(), NoMemory>
     ensures { OnOk result (out.new ≡ out.old ++ spec.size_text events) }
 {
-    put_count(out, b"hosts 8 links 8 events ", events)?;
+    put_count(out, b"hosts 8 links 8 events ", u128::from(events))?;
     out.add_all(b"\n")?;
     Ok(())
 }
@@ -45,7 +46,7 @@ fn put_happened(out: &mut Bytes, summary: Summary) -> Result<(), NoMemory>
     Ok(())
 }
 
-fn put_sums(out: &mut Bytes, sums: Row) -> Result<(), NoMemory>
+fn put_sums(out: &mut Bytes, sums: Sums) -> Result<(), NoMemory>
     ensures { OnOk result (out.new ≡ out.old ++ spec.sums_text sums) }
 {
     put_count(out, b"granted ", sums.granted)?;
@@ -64,7 +65,7 @@ fn put_summary_text(
     seed: u64,
     events: u64,
     summary: Summary,
-    sums: Row,
+    sums: Sums,
 ) -> Result<(), NoMemory>
     ensures { OnOk result (out.new ≡ out.old ++ spec.summary_text seed events summary sums) }
 {
@@ -84,7 +85,7 @@ pub fn put_summary(
     seed: u64,
     events: u64,
     summary: Summary,
-    sums: Row,
+    sums: Sums,
 ) -> Result<(), NoMemory>
     ensures whole { OnOk result
         (out.new ≡ out.old ++ spec.summary_text seed events summary sums) }

@@ -7,5 +7,7 @@ pub returns : goal.returns
 returns c =
     let seed = codes "planet grow " ++ decimal c.args.seed in
     let events = codes " " ++ decimal c.args.events in
-    c.in_ok-add_all.ensures.ok ∙ ap (λ x. x ++ codes "\n") (c.in_ok-put_count-2.ensures ∙ ap (λ x. x ++ events) c.in_ok-put_count.ensures)
+    let first = c.in_ok-put_count.ensures ∙ ap (λ n. c.args.out.now ++ (codes "planet grow " ++ decimal n)) c.from.ensures in
+    let second = c.in_ok-put_count-2.ensures ∙ ap (λ n. c.put_count.new.out ++ (codes " " ++ decimal n)) c.from-2.ensures in
+    c.in_ok-add_all.ensures.ok ∙ ap (λ x. x ++ codes "\n") (second ∙ ap (λ x. x ++ events) first)
     ∙ append_assoc (c.args.out.now ++ seed) events (codes "\n") ∙ append_assoc c.args.out.now seed (events ++ codes "\n")

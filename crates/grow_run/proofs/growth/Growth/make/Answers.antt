@@ -1,7 +1,8 @@
-use Rattle.std.proofs.Common.{◌∙◌, ◌+◌, ◌++◌, refl, ap, subst}
+use Rattle.std.proofs.Common.{◌∙◌, ◌+◌, ◌^◌, ◌++◌, length, refl, ap, subst, arith}
 use Rattle.world_model.specs.Counts.{late_in}
 use Rattle.run_ledger.specs.Stands.{Stands}
 use Rattle.grow_run.specs.Summaries.{summary_of}
+use Rattle.grow_run.proofs.Summing.{room_less}
 use Rattle.net_world.proofs.StandLaws.{fits_within}
 use Rattle.net_world.proofs.RunLaws.{fits_as, leaves_as, entries_are}
 use Rattle.grow_run.proofs.growth.Growth.make.Goals as goal
@@ -17,6 +18,9 @@ count_lines-requires g c =
     let rows = c.args.self.now.ledger in
     record { fits = fits_as rows _ _ _ _ late (c.as_slice.ensures ∙ lines) counts.fits }
 
+pub count-requires : goal.count-requires
+count-requires g c = room_less c.args.self.now.summary (2 ^ 64) (length c.as_slice-2.result.now) (omega arith) c.requires.room
+
 pub returns-clause-world : goal.returns-clause-world
 returns-clause-world g c = λ w h. (c.in_ok-lines.ensures.ok w h).world
 
@@ -27,5 +31,8 @@ returns-clause-counts g c = λ w old h l s t.
     let counted = entries_are w c.args.event.now _ (c.args.self.now.world.made + 1) c.args.self.now.world.made refl h.is.made (c.as_slice.ensures ∙ lines) in
     let summed = entries_are w c.args.event.now _ (c.args.self.now.world.made + 1) c.args.self.now.world.made refl h.is.made (c.as_slice-2.ensures ∙ lines) in (
       subst (λ x. Stands (old ++ x) c.count_lines.new.ledger) counted (c.in_ok-count_lines.ensures old (c.args.self.now.world.made + 1) (leaves_as old w c.args.event.now _ _ _ late counted (c.as_slice.ensures ∙ lines) l) s),
-      c.count.ensures old (c.args.self.now.world.made + 1) t ∙ ap (λ x. summary_of (old ++ x)) summed,
+      c.count.ensures.counted old (c.args.self.now.world.made + 1) t ∙ ap (λ x. summary_of (old ++ x)) summed,
     )
+
+pub returns-clause-room : goal.returns-clause-room
+returns-clause-room g c = λ n r. c.count.ensures.room n (room_less c.args.self.now.summary (n + 2 ^ 64) (n + length c.as_slice-2.result.now) (omega arith) r)
