@@ -22,4 +22,4 @@ pub returns-clause-counted : goal.returns-clause-counted
 returns-clause-counted c = λ h n s. summary_all h n c.args.lines.now c.loop-line.line-index c.loop-line.self c.loop-line-test.false (c.loop-line.invariant.counted h n s)
 
 pub returns-clause-room : goal.returns-clause-room
-returns-clause-room c = λ n r. c.loop-line.invariant.room n (room_less c.args.self.now (n + length c.args.lines.now) (n + c.loop-line.line-index) (omega (arith, c.loop-line.auto.lines)) r)
+returns-clause-room c = λ n r. c.loop-line.invariant.room n (room_less c.args.self.now (n + length c.args.lines.now) (n + c.loop-line.line-index) (omega (arith, c.loop-line.auto.line-index-end)) r)
