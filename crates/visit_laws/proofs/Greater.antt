@@ -1,6 +1,6 @@
 -- A greater allowance gives the same visit.
 use Rattle.std.proofs.Common.{◌≡◌, ◌≢◌, ℕ, ◌+◌, ◌-◌, ◌≤◌, Result, Ok, Err, sym, ap, ◌∙◌, subst, arith}
-use Rattle.core.specs.Result.{IfOk}
+use Rattle.std.specs.Prelude.{IfOk}
 use Rattle.plan_base.specs.declared.ids.Family.{Family}
 use Rattle.plan_base.specs.declared.memory.NoMemory.{NoMemory as WantsMemory}
 use Rattle.plan_base.specs.declared.tree.Chunk.{Chunk}
