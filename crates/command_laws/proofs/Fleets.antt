@@ -19,11 +19,8 @@ use Rattle.live_commands.specs.Fleets.{RunsAs, fleet_said, fleet_cause, Shop}
 use Rattle.planet_cli.specs.Requests.{fleet}
 use Rattle.planet_cli.specs.Does.{shop_in}
 use Rattle.planet_cli.specs.Calls.{Calls}
-use Rattle.planet_cli.proofs.Views.{Took, took, left, view}
+use Rattle.planet_cli.proofs.Views.{says_one, Took, took, left, view}
 use Rattle.command_laws.specs.Fleets.{Unstarted, Unwaited, WritesLines}
-
-says_one : {A : Type 0} (a b : A) → says a ≡ says b → a ≡ b
-says_one a b e = cc
 
 stopped_by : (f : Fleet) (result : Result FleetEnd FleetFault) (old new : Outside) → RunsFleet f.children old.children new.children old.out new.out result → fleet_cause result ≡ SpawnFault
     → Unstarted f old new ⊎ Unwaited f old new

@@ -17,11 +17,8 @@ use Rattle.live_commands.specs.Nodes.{ServesAs, config_said, serve_cause}
 use Rattle.planet_cli.specs.Requests.{node}
 use Rattle.planet_cli.specs.Does.{serving_in}
 use Rattle.planet_cli.specs.Calls.{Calls}
-use Rattle.planet_cli.proofs.Views.{Took, took, left, view}
+use Rattle.planet_cli.proofs.Views.{says_one, Took, took, left, view}
 use Rattle.planet_cli.proofs.Giving.{done_found}
-
-says_one : {A : Type 0} (a b : A) → says a ≡ says b → a ≡ b
-says_one a b e = cc
 
 -- what an answer that is done tells
 done_so : {T : Type 0} (P : Type 0) (result : Result T ServeFault) → serve_cause result ≡ Done → OnOk result P → P

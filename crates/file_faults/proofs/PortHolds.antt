@@ -5,6 +5,7 @@ use Rattle.std.specs.Option.{ok_or}
 use Rattle.file_faults.proofs.FileHolds.{OnRefusal, done_refuses, none_refuses, file_holds}
 use Rattle.file_faults.proofs.LineHolds.{Holds, then_holds, done_holds, allowed_holds, ok_or_holds, word_at_holds, end_at_holds, number_at_holds, hex_at_holds}
 use Rattle.file_faults.proofs.NodeHolds.{behind_word_holds, header_holds, usual_holds}
+use Rattle.file_faults.proofs.ScheduleHolds as schedule
 use Rattle.file_faults.specs.Refusals.{FaultHolds}
 use Rattle.line_files.specs.HexWords.{hex_at}
 use Rattle.line_files.specs.Numbers.{number_at}
@@ -21,6 +22,7 @@ use Rattle.port_files.specs.declared.file.PortStage.{PortStage}
 use Rattle.port_files.specs.declared.file.PortStage.TheVariants as stages
 use Rattle.port_files.specs.declared.file.PortWord.{PortWord}
 use Rattle.port_files.specs.declared.file.PortWord.TheVariants as word
+use Rattle.schedule_text.specs.Schedules as schedules
 use lib.Chars.{codes}
 
 end_host_holds : (ws : List (List ℕ)) → Holds (end_host ws)
@@ -31,11 +33,8 @@ end_host_holds ws =
     done_holds (host_of n.0, n.1)))
 
 frame_at_holds : (ws : List (List ℕ)) → Holds (frame_at ws)
-unfolding frame_at
-frame_at_holds ws =
-    then_holds (number_at 0 4294967295 ws) _ (number_at_holds 0 4294967295 ws) (λ k.
-    then_holds (end_at k.1) _ (end_at_holds k.1) (λ u1.
-    done_holds k.0))
+unfolding frame_at schedules.frame_at
+frame_at_holds ws = schedule.frame_at_holds ws
 
 offer_line_holds : (ws : List (List ℕ)) (s : PortReading) → Holds (offer_line ws s)
 unfolding offer_line

@@ -155,7 +155,7 @@ send_line_holds ws s =
     then_holds (end_at d.1) _ (end_at_holds d.1) (λ u2.
     done_holds (with_event s (happens.Send h.0 d.0)))))
 
-frame_at_holds : (ws : List (List ℕ)) → Holds (frame_at ws)
+pub frame_at_holds : (ws : List (List ℕ)) → Holds (frame_at ws)
 unfolding frame_at
 frame_at_holds ws =
     then_holds (number_at 0 4294967295 ws) _ (number_at_holds 0 4294967295 ws) (λ k.

@@ -1,20 +1,18 @@
 -- What the code keeps of logs, one act, one frame, one entry and one log after the other.
-use Rattle.std.proofs.Common.{◌≡◌, ℕ, suc, ◌+◌, ◌<◌, ◌≤◌, Bool, true, false, if◌then◌else◌, List, [], ◌∷◌, ◌++◌, map, length, take, get_or, Option, Some, None, Ok, refl, sym, ap, subst, ◌∙◌, arith, append-nil, append_assoc}
-use Rattle.std.specs.List.{filter_map, cons_option, AllByRecursion}
+use Rattle.std.proofs.Common.{◌≡◌, ℕ, suc, ◌+◌, ◌<◌, ◌≤◌, true, false, if◌then◌else◌, List, [], ◌∷◌, ◌++◌, length, take, get_or, Option, Some, None, refl, sym, ap, subst, ◌∙◌, arith, append-nil, append_assoc}
+use Rattle.std.specs.List.{cons_option, AllByRecursion}
 use Rattle.std.proofs.lemmas.Grind.{take_at_read}
 use Rattle.std.proofs.lemmas.List.{take_all, length-take-le, map-append}
 use Rattle.std.proofs.lemmas.List.Elements.{filter_map-append}
-use Rattle.wire_bytes.specs.Fields.{IsBytes}
 use Rattle.link_window.specs.declared.window.Stamp.{Stamp}
 use Rattle.link_window.specs.declared.window.Version.{Version}
-use Rattle.link_window.specs.declared.window.Version.TheVariants.{One, Two}
+use Rattle.link_window.specs.declared.window.Version.TheVariants.{Two}
 use Rattle.plan_base.specs.declared.ids.Host.{Host}
 use Rattle.plan_base.specs.declared.ids.Dev.{Dev}
 use Rattle.plan_base.specs.declared.ids.Family.{Family}
 use Rattle.packet_frame.specs.declared.frame.PlainFrame.{PlainFrame}
 use Rattle.packet_frame.specs.declared.frame.PlainStamped.{PlainStamped}
-use Rattle.packet_frame.specs.Bytes.{frame_bytes}
-use Rattle.packet_frame.specs.Stamped.{stamped_bytes, bytes_with, BearsStamp, AcceptsBy}
+use Rattle.packet_frame.specs.Stamped.{stamped_bytes, BearsStamp, AcceptsBy}
 use Rattle.packet_frame.specs.Decoding.{read_by}
 use Rattle.packet_frame.proofs.Versions.{accepted_by as read_again}
 use Rattle.spelled_frame.specs.Spelled.{IsOnItsWay, version_of as version_by}
@@ -28,25 +26,25 @@ use Rattle.service_api.specs.Services.{ServiceState}
 use Rattle.service_meaning.specs.Offered.{InstalledPackages}
 use Rattle.service_meaning.specs.Beginning.{opening_standing}
 use Rattle.node_model.specs.declared.acts.Act.{Act}
-use Rattle.node_model.specs.State.{NodeState, new_node, no_queues}
+use Rattle.node_model.specs.State.{NodeState, new_node}
 use Rattle.node_model.specs.Node.{node_step}
 use Rattle.node_core.specs.Turns.{IsResting}
 use Rattle.serve_model.specs.Runs.{acts_of, node_by, node_after}
 use Rattle.world_model.specs.declared.lines.LinkEnd.{LinkEnd}
 use Rattle.world_model.specs.World.{Cables}
 use Rattle.ledger_audit.specs.Crossings.{Crossing, Arrival}
-use Rattle.ledger_audit.specs.Runs.{is_accepted, accepts, sends_frame, sends, numbered}
+use Rattle.ledger_audit.specs.Runs.{is_accepted, accepts, sends, numbered}
 use Rattle.ledger_audit.specs.Audits.{Logged, version_in}
-use Rattle.ledger_audit.specs.Spelling.{Begins, FrameReads, BytesCome, EntryReads, EntriesRead, ReadsAgain}
-use Rattle.ledger_audit.proofs.Versions.{version_told}
+use Rattle.ledger_audit.specs.Spelling.{Begins, FrameReads, EntryReads, EntriesRead, ReadsAgain}
+use Rattle.ledger_audit.proofs.Versions.{version_told, told_plain}
 use Rattle.ledger_audit.proofs.Refusals.{none_event}
 use Rattle.fleet_audit.specs.declared.keys.CrossingKey.{CrossingKey}
 use Rattle.fleet_audit.specs.declared.reckoning.Arrived.{Arrived}
 use Rattle.fleet_audit.specs.declared.reckoning.Reckoning.{Reckoning}
 use Rattle.fleet_audit.specs.Keys.{crossing_of}
-use Rattle.fleet_audit.specs.Tallies.{none as no_frames, one_sent, tally_in, Changes, Tallied}
-use Rattle.fleet_audit.specs.Books.{none as no_sums, plus, counts_in, act_counts, acts_counts}
-use Rattle.fleet_audit.specs.Pasts.{Past, nothing, with_acts, with_sent, with_accepted, with_host, arrived_from, accepted_by, taken_by, TakenReads, with_frames, with_entry, with_entries, with_log, with_logs, arrival_of, arrivals_of, injected_by, injected, Holds, IsReckoned, logged_of}
+use Rattle.fleet_audit.specs.Tallies.{none as no_frames, one_sent, tally_in, Changes}
+use Rattle.fleet_audit.specs.Books.{none as no_sums, plus, counts_in, act_counts}
+use Rattle.fleet_audit.specs.Pasts.{Past, nothing, with_acts, with_sent, with_accepted, with_host, arrived_from, accepted_by, taken_by, TakenReads, with_frames, with_entry, with_entries, with_log, with_logs, arrival_of, arrivals_of, injected_by, injected, Holds, IsReckoned}
 use Rattle.fleet_audit.proofs.TallyLaws.{tallied_sent}
 use Rattle.fleet_audit.proofs.ActLaws.{counts_push, no_counts}
 
@@ -154,12 +152,6 @@ sent_held p old new x c h is changes hosts arrived book injects = record {
 
 -- ---- frames that are read again
 
-plain_told : (x : PlainFrame) → version_in (frame_bytes x) ≡ One
-unfolding frame_bytes
-plain_told (PlainFrame.Packet p) = refl
-plain_told (PlainFrame.Advert a) = refl
-plain_told (PlainFrame.Ask bound c) = refl
-
 way_of : (x : PlainFrame) → BearsStamp x → IsOnItsWay x
 way_of (PlainFrame.Packet p) b = tt
 way_of (PlainFrame.Advert a) b = tt
@@ -167,7 +159,7 @@ way_of (PlainFrame.Ask bound c) b = absurd b
 
 told_so : (o : Option Stamp) (x : PlainFrame) (bytes : List ℕ) → AcceptsBy (version_by o) bytes (record { stamp = o; frame = x }) → version_in (stamped_bytes (record { stamp = o; frame = x })) ≡ version_by o
 unfolding stamped_bytes
-told_so None x bytes a = plain_told x
+told_so None x bytes a = told_plain x
 told_so (Some s) x bytes a = sym (ap version_in a.is) ∙ version_told Two bytes (record { stamp = Some s; frame = x }) a (way_of x a.read.0)
 
 -- bytes that are accepted as a frame are read as it again

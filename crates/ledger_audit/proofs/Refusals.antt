@@ -4,7 +4,6 @@ use Rattle.std.specs.Prelude.{◌==◌, Result, Ok, Err, slice_get}
 use Rattle.std.specs.List.{list_any}
 use Rattle.plan_base.specs.declared.ids.Dev.{Dev}
 use Rattle.plan_base.specs.declared.ids.Family.{Family}
-use Rattle.plan_base.specs.declared.tree.Chunk.{Chunk}
 use Rattle.plan_base.specs.declared.tree.Packet.{Packet}
 use Rattle.packet_frame.specs.declared.frame.PlainFrame.{PlainFrame}
 use Rattle.packet_frame.specs.declared.fault.FrameFault.{FrameFault}
@@ -25,13 +24,14 @@ use Rattle.plan_meaning.specs.declared.sent.Sent.{Sent}
 use Rattle.network_plan.specs.declared.event.Event.{Event}
 use Rattle.network_plan.specs.declared.event.Event.TheVariants as event
 use Rattle.node_model.specs.declared.acts.Act.{Act}
-use Rattle.node_model.specs.declared.acts.Act.TheVariants.{Arrived, Noted, Ended, Dropped, Misplaced, Asked, SerialsSpent, Injected, Heard}
+use Rattle.node_model.specs.declared.acts.Act.TheVariants.{Arrived, Noted, Ended, Dropped, Asked}
 use Rattle.node_model.specs.declared.acts.Reason.TheVariants as reason
 use Rattle.node_model.specs.declared.acts.Lane.{Lane}
-use Rattle.node_model.specs.State.{Queues, NodeState, routing_of, is_host, leads_to}
+use Rattle.node_model.specs.State.{Queues, NodeState, routing_of, is_host}
 use Rattle.settled_visit.specs.declared.settling.Settled.{Settled}
 use Rattle.node_model.specs.Visits.{visit_at, settled_at}
-use Rattle.node_model.specs.Node.{Step, node_step, inject_step, arrive_step, arrived, asked_plain, asked, drop_act, lane_room, mark, takes_as, stamped_as, stamped_step, control_step, tick_step, take_step, packet_step, forward_step, forward_by, advert_step, frame_step, visited, handled_acts, visit_acts, visit_sends, sends_acts, send_act, send_queues, has_room, packet_sending, onward, only_acts, hearing, next_serial, injected_packet}
+use Rattle.node_model.specs.Node.{node_step, arrive_step, arrived, asked_plain, asked, drop_act, lane_room, mark, takes_as, stamped_as, stamped_step, control_step, packet_step, forward_step, forward_by, frame_step, visited, handled_acts, visit_acts, visit_sends, sends_acts, send_act, send_queues, has_room, packet_sending}
+use Rattle.node_laws.proofs.Staying.{inject_frame, arrive_frame, tick_frame}
 use Rattle.node_model.specs.Counts.{came, frame_live, if_fresh, bytes_came}
 use Rattle.ledger_audit.specs.Runs.{is_refusal, is_accepted}
 
@@ -158,73 +158,20 @@ accepted_taken node d bytes e = by (read_by node.version bytes) refl e
 
 -- ---- frames
 
-abbrev NoFrame : Step → Type 0
-NoFrame s = s.frame ≡ None
-
-none_visited : (acts : List Act) (node : NodeState) (p : Packet) → NoFrame (visited acts node p)
-unfolding visited
-none_visited acts node p = refl
-
-none_inject : (acts : List Act) (node : NodeState) (c : Chunk) (b : ℕ) (o : Option Name) → NoFrame (inject_step acts node c b o)
-unfolding inject_step visited
-none_inject acts node c b o = by (node.serial == 18446744073709551615)
-  where
-    by : (t : Bool) → NoFrame (cond t (record { acts = acts ++ SerialsSpent ∷ []; frame = None; node = node }) (visited (acts ++ Injected (record { source = node.here; serial = node.serial }) b ∷ []) (next_serial node) (injected_packet node c b o)))
-    by true = refl
-    by false = refl
-
-none_by : (node : NodeState) (d : Dev) (p : Packet) (h : Hop) → NoFrame (forward_by node d p h)
-unfolding forward_by
-none_by node d p (To host over) = refl
-none_by node d p NoService = refl
-none_by node d p NoRoute = refl
-
-none_packet : (node : NodeState) (d : Dev) (p : Packet) → NoFrame (packet_step node d p)
-unfolding packet_step forward_step
-none_packet node d p = by (is_host p.dest node.here) (p.bound == 0)
-  where
-    by : (t u : Bool) → NoFrame (cond t (visited (Arrived d ∷ []) node p) (cond u (record { acts = Arrived d ∷ Dropped reason.NoBound p.family 0 ∷ []; frame = None; node = node }) (forward_by node d p (hop (all_routes (routing_of node)) p.route node.here p.dest))))
-    by true u = none_visited (Arrived d ∷ []) node p
-    by false true = refl
-    by false false = none_by node d p (hop (all_routes (routing_of node)) p.route node.here p.dest)
-
-none_advert : (node : NodeState) (d : Dev) (a : Advert) → NoFrame (advert_step node d a)
-unfolding advert_step
-none_advert node d a = by (leads_to node.neighbours d a.host)
-  where
-    by : (t : Bool) → (if t then only_acts (Arrived d) (Heard d) (hearing node d a) else only_acts (Arrived d) Misplaced node).frame ≡ None
-    by true = refl
-    by false = refl
-
-none_frame : (node : NodeState) (d : Dev) (x : PlainFrame) → NoFrame (frame_step node d x)
-none_frame node d (PlainFrame.Packet p) = none_packet node d p
-none_frame node d (PlainFrame.Advert a) = none_advert node d a
-none_frame node d (PlainFrame.Ask b c) = refl
-
-none_as : (node : NodeState) (d : Dev) (x : PlainStamped) (t : Took) → NoFrame (stamped_as node d x t)
-none_as node d x Fresh = none_frame node d x.frame
-none_as node d x Repeated = refl
-none_as node d x TooOld = refl
-
-pub none_arrived : (node : NodeState) (d : Dev) (r : Result PlainStamped FrameFault) → NoFrame (arrived node d r)
-unfolding stamped_step
-none_arrived node d (Err e) = refl
-none_arrived node d (Ok x) = none_as node d x (takes_as node.seen d x.stamp)
-
-none_asked_plain : (node : NodeState) (x : PlainFrame) → NoFrame (asked_plain node x)
+none_asked_plain : (node : NodeState) (x : PlainFrame) → (asked_plain node x).frame ≡ None
 none_asked_plain node (PlainFrame.Packet p) = refl
 none_asked_plain node (PlainFrame.Advert a) = refl
-none_asked_plain node (PlainFrame.Ask b c) = none_inject (Asked ∷ []) node c b None
+none_asked_plain node (PlainFrame.Ask b c) = inject_frame (Asked ∷ []) node c b None
 
-pub none_asked : (node : NodeState) (r : Result PlainStamped FrameFault) → NoFrame (asked node r)
+none_asked : (node : NodeState) (r : Result PlainStamped FrameFault) → (asked node r).frame ≡ None
 none_asked node (Err e) = refl
 none_asked node (Ok x) = none_asked_plain node x.frame
 
 -- each event but a taking gives no frame
 pub none_event : (node : NodeState) (e : Event) → ((d : Dev) → e ≡ event.Take d → ⊥) → (node_step node e).frame ≡ None
-unfolding arrive_step control_step tick_step
-none_event node (event.Inject c b o) n = none_inject [] node c b o
-none_event node (event.Frame d bytes) n = none_arrived node d (read_by node.version bytes)
+unfolding control_step
+none_event node (event.Inject c b o) n = inject_frame [] node c b o
+none_event node (event.Frame d bytes) n = arrive_frame node d bytes
 none_event node (event.Control bytes) n = none_asked node (read_by node.version bytes)
-none_event node event.Tick n = refl
+none_event node event.Tick n = tick_frame node
 none_event node (event.Take d) n = absurd (n d refl)

@@ -11,7 +11,7 @@ use Rattle.packet_frame.specs.Stamped.{packet_with, bytes_with, stamped_bytes, I
 use Rattle.spelled_frame.specs.Spelled.{IsOnItsWay}
 use Rattle.ledger_audit.specs.Audits.{version_in}
 
-told_plain : (x : PlainFrame) → version_in (frame_bytes x) ≡ One
+pub told_plain : (x : PlainFrame) → version_in (frame_bytes x) ≡ One
 unfolding frame_bytes
 told_plain (PlainFrame.Packet p) = refl
 told_plain (PlainFrame.Advert a) = refl

@@ -18,13 +18,10 @@ use Rattle.planet_cli.specs.Requests.{inject, grow}
 use Rattle.planet_cli.specs.Does.{Does, wire_in}
 use Rattle.planet_cli.specs.Calls.{Calls}
 use Rattle.planet_cli.specs.Laws.{AsksAtMost, MaySend}
-use Rattle.planet_cli.proofs.Views.{Took, took, left, view}
+use Rattle.planet_cli.proofs.Views.{says_one, Took, took, left, view}
 use Rattle.planet_cli.proofs.Giving.{done_found, given, well}
 
 -- ---- requests
-
-says_one : {A : Type 0} (a b : A) → says a ≡ says b → a ≡ b
-says_one a b e = cc
 
 sent_whole : (a : AskFile) (result : Result (Unit {0}) AskFault) (old new : Wire) → ask_cause result ≡ Done → Asks a old.link new.link old.out new.out result
     → (Bound a old.link new.link × Sent a old.link new.link) × Writes old.out new.out (ask_line a)

@@ -10,6 +10,7 @@ use Rattle.plan_base.specs.declared.ids.Host.{Host}
 use Rattle.line_files.specs.declared.fault.LineFault.{LineFault}
 use Rattle.line_files.specs.declared.fault.LineFault.TheVariants as faults
 use Rattle.line_files.specs.declared.fault.LineReason.TheVariants.{TwiceNamed}
+use Rattle.line_files.proofs.Keeping.{either_false}
 use Rattle.network_plan.specs.Hosts.{is_listed}
 use Rattle.network_plan.specs.NodeRules.{KeepsEntry, KeepsLog}
 use Rattle.network_plan.specs.declared.node.Log.{Log}
@@ -71,15 +72,11 @@ all_push : (P : Logged → Type 0) (logs : List Log) (l : Log) → AllByRecursio
 all_push P [] l a h = (h, tt)
 all_push P (x ∷ logs) l a h = (a.0, all_push P logs l a.1 h)
 
-or_false : (a b : Bool) → (a || b) ≡ false → (a ≡ false) × (b ≡ false)
-or_false true b e = absurd cc
-or_false false b e = (refl, e)
-
 apart_push : (logs : List Log) (l : Log) → is_listed l.node.here (hosts_in logs) ≡ false → HostsApart (map logged_of logs) → HostsApart (map logged_of (logs ++ l ∷ []))
 unfolding new_node
 apart_push [] l e h = (tt, tt)
 apart_push (x ∷ logs) l e h =
-    let split = or_false (eqb x.node.here.0 l.node.here.0) (is_listed l.node.here (hosts_in logs)) e in
+    let split = either_false (eqb x.node.here.0 l.node.here.0) (is_listed l.node.here (hosts_in logs)) e in
     (all_push (λ m. m.node.here.0 ≢ x.node.here.0) logs l h.0 (λ q. eqb-false x.node.here.0 l.node.here.0 split.0 (sym q)), apart_push logs l split.1 h.1)
 
 pub record Apart (logs : List Log) : Type 0 where

@@ -29,7 +29,7 @@ use Rattle.planet_cli.specs.Requests.{fleet}
 use Rattle.planet_cli.specs.Does.{shop_in}
 use Rattle.planet_cli.specs.Calls.{Calls}
 use Rattle.planet_cli.specs.Laws.{IfEnded, IsEnded, RunsAtMost}
-use Rattle.planet_cli.proofs.Views.{Took, took, left, view}
+use Rattle.planet_cli.proofs.Views.{says_one, Took, took, left, view}
 use Rattle.planet_cli.proofs.Giving.{given, carried, unfailed}
 
 -- ---- ends
@@ -68,9 +68,6 @@ ran_so f (Err fleets.NoMemory) old new p = tt
 
 ran_as : (f : Fleet) (c : Cause) (old new : Shop) → RunsAs f c old new → IfEnded c (λ end. RunsFleet f.children old.children new.children old.out new.out (Ok end))
 ran_as f c old new p = subst (λ k. IfEnded k (λ end. RunsFleet f.children old.children new.children old.out new.out (Ok end))) (sym p.is) (ran_so f p.result old new p.runs)
-
-says_one : {A : Type 0} (a b : A) → says a ≡ says b → a ≡ b
-says_one a b e = cc
 
 -- ---- fronts
 

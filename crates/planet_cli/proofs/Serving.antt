@@ -32,7 +32,7 @@ use Rattle.planet_cli.specs.Does.{Does, wire_in, serving_in}
 use Rattle.planet_cli.specs.Calls.{Calls}
 use Rattle.planet_cli.specs.Outcomes.{Outcome, whole, runs, outcome_by, outcome_of, IsAccepted}
 use Rattle.planet_cli.specs.Laws.{ServesAtMost}
-use Rattle.planet_cli.proofs.Views.{Took, took, left, view}
+use Rattle.planet_cli.proofs.Views.{says_one, Took, took, left, view}
 use Rattle.planet_cli.proofs.Fleets.{unread}
 use Rattle.planet_cli.proofs.Giving.{given, done_found, well}
 
@@ -111,9 +111,6 @@ done_or_poor cfg turns old new (Ok x) p w l o = inl refl
 done_or_poor cfg turns old new (Err faults.LinkFault) p w l o = absurd (l p.serves.faults)
 done_or_poor cfg turns old new (Err faults.WriteFault) p w l o = elim p.serves.faults [ inl rose ↦ absurd (w rose) | inr rose ↦ absurd (o rose) ]
 done_or_poor cfg turns old new (Err faults.NoMemory) p w l o = inr refl
-
-says_one : {A : Type 0} (a b : A) → says a ≡ says b → a ≡ b
-says_one a b e = cc
 
 -- ---- calls
 

@@ -9,6 +9,10 @@ use Rattle.file_commands.specs.Takes.{Untaken, TakeResult, Takes, TakesAndActs}
 use Rattle.file_commands.specs.Renders.{Prints}
 use Rattle.audit_commands.specs.Audits.{audit_said, AuditsFile}
 
+-- a file says one value
+pub says_one : {A : Type 0} (a b : A) → says a ≡ says b → a ≡ b
+says_one a b e = cc
+
 pub data Took {A S : Type 0} (said : FileMap → Said A) (Acts : A → Cause → S → S → Type 0) (files read : FilesState) (cause : Cause) (old new : S) : Type 0 where
   took : (v : A) → (IsTrue files.observable → said files.held ≡ says v) → Acts v cause old new → Took said Acts files read cause old new
   left : Untaken said files read cause → new ≡ old → Took said Acts files read cause old new
