@@ -16,8 +16,8 @@ ghost use Rattle.planet_cli.specs.Requests.{node, replay};
 ghost use Rattle.planet_cli.specs.Does.{serving_in};
 ghost use Rattle.planet_cli.specs.Calls.{Calls};
 ghost use Rattle.planet_cli.specs.Replays.{ReplaysLog};
-ghost use Rattle.command_laws.specs.Runs.{first_node, made_run, KeepsOrder, KeepsServing, KeepsUpTo};
-ghost use Rattle.command_laws.specs.Runs.{AgreesServing, ReplaysSo};
+ghost use Rattle.command_laws.specs.Runs.{first_node, made_run, KeepsOrder, KeepsServing};
+ghost use Rattle.command_laws.specs.Runs.{AgreesServing, KeepsUpTo, ReplaysSo};
 
 use call_causes::Cause;
 

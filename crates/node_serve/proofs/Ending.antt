@@ -18,8 +18,9 @@ use Rattle.node_serve.specs.Fronts.{AppendsFront}
 use Rattle.node_serve.specs.Sendings.{frames_of}
 use Rattle.node_serve.specs.Shown.{run_log, run_trace, IsReadable, Agrees, Reached, Stopped, UsedUpTo}
 use Rattle.node_serve.specs.Desks.{Desk, Serving, desk_of, with_clock, seen_at, start_at}
-use Rattle.node_serve.specs.Served.{run_in, IsBound, MayBind, Begins, AgreesEarly, EndsEarly, Served, Begun}
+use Rattle.node_serve.specs.Served.{run_in, IsBound, MayBind, Begins, EndsEarly, Served, Begun}
 use Rattle.serve_model.proofs.Going.{ext_refl, turns_grows}
+use Rattle.node_serve.proofs.FrameLaws.{frames_of_run}
 use Rattle.node_serve.proofs.Agreeing.{agrees_more, agrees_all}
 use Rattle.node_serve.proofs.Showing.{text_more}
 
@@ -147,7 +148,6 @@ module _ (cfg : ServeConfig) (node : NodeState) (n : ℕ) (first : Desk) (mid la
         log = subst (λ r. ChangesOnly first.files.held last.files.held cfg.log (run_log cfg r)) same a.shows.sees.log;
         out = taken ∙ ap (λ l. l ++ codes "end\n") a.shows.sees.out ∙ append_assoc first.out.taken (run_trace cfg a.done) (codes "end\n") ∙ ap (λ r. first.out.taken ++ (run_trace cfg r ++ codes "end\n")) same;
         sent = a.shows.sees.sent ∙ ap (λ r. first.link.sent ++ r.sent) same;
-        frames = subst (λ r. r.sent ≡ frames_of node r.events) same a.shows.frames;
         binds = binds ∙ b.binds;
         script = script ∙ ap (drop n) b.script;
         answers = answers;
@@ -227,5 +227,5 @@ unfolding node_run whole_trace
 whole_agrees cfg node n old new s =
     let run = run_in cfg node n old s.refused in
     let last = codes "end\n" in
-    agrees_all cfg (start_at (desk_of old) node) (seen_at (desk_of new)) run [] (length last) (turns_grows cfg old.link.script old.clock.last old.clock.answers n s.refused (opened node)) s.frames
+    agrees_all cfg (start_at (desk_of old) node) (seen_at (desk_of new)) run [] (length last) (turns_grows cfg old.link.script old.clock.last old.clock.answers n s.refused (opened node)) (frames_of_run cfg node old.link.script old.clock.last old.clock.answers n s.refused)
     (s.log.here ∙ ap Some (sym (append-nil (run_log cfg run)))) (s.out ∙ ap (λ l. old.out.taken ++ (run_trace cfg run ++ l)) (sym (take-length last))) s.sent

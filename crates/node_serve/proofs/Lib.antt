@@ -1,4 +1,5 @@
 pub mod Showing
+pub mod FrameLaws
 pub mod Agreeing
 pub mod Following
 pub mod Looping

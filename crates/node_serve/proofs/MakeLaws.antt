@@ -9,7 +9,7 @@ use Rattle.packet_frame.specs.declared.frame.PlainStamped.{PlainStamped}
 use Rattle.packet_frame.specs.Stamped.{stamped_bytes}
 use Rattle.network_plan.specs.Hosts.{dev_of}
 use Rattle.network_plan.specs.declared.event.Event.{Event}
-use Rattle.network_plan.specs.declared.event.Event.TheVariants.{Inject, Frame, Control, Take}
+use Rattle.network_plan.specs.declared.event.Event.TheVariants.{Inject, Frame, Take}
 use Rattle.network_plan.specs.declared.event.LogEvent.{LogEvent}
 use Rattle.network_plan.specs.declared.event.LogEvent.TheVariants as entry
 use Rattle.network_plan.specs.declared.serve.ServeConfig.{ServeConfig}
@@ -24,13 +24,14 @@ use Rattle.node_model.specs.State.{NodeState}
 use Rattle.node_core.specs.declared.node.Node.{Node}
 use Rattle.node_core.specs.Stands.{NodeStands}
 use Rattle.node_core.specs.Queued.{queued_at}
-use Rattle.serve_model.specs.Runs.{Running, acts_of, node_by, entries_at, with_entry, holding, marked, then_do, make, first_on, arrival, inject_one, inject_to, hear, frames_in, queued_on, come_back, take_back, loop_back, send_taken, take_send, repeat_send, flush_device, flush_to, turn, time_at, turns, peers_of}
+use Rattle.serve_model.specs.Runs.{Running, acts_of, node_by, entries_at, with_entry, holding, marked, then_do, make, first_on, inject_one, inject_to, hear, frames_in, queued_on, come_back, take_back, loop_back, send_taken, take_send, repeat_send, flush_device, flush_to, turn, time_at, turns, peers_of}
 use Rattle.serve_model.specs.Texts.{lines_text}
 use Rattle.serve_model.specs.Follow.{entry_of}
 use Rattle.node_serve.specs.Sendings.{sending, sent_at, frames_of, SendsNone}
 use Rattle.node_serve.specs.Shown.{Seen, Start, run_log, Sees, Shows, Reached, Stopped, Leaves, UsedUpTo}
 use Rattle.node_io.proofs.Taking.{rest_next}
 use Rattle.node_serve.proofs.Showing.{sees_entry, sees_sent, shows_holding}
+use Rattle.node_serve.proofs.FrameLaws.{sends_on}
 use Rattle.node_serve.proofs.Agreeing.{frames_next, shows_unsent, fronts_unsent, fronts_log, fronts_lines}
 use Rattle.node_serve.proofs.Following.{reached_make, stopped_make, back_lost, send_lost, sent_events, send_took, send_failed}
 use Rattle.node_serve.specs.declared.server.Server.{Server}
@@ -82,14 +83,6 @@ module _ {S : Type 0} (stands : S → ServiceState) (cfg : ServeConfig) (base : 
         frame = w.frame;
       }
 
--- what arrives sends nothing
-pub sends_none : (x : Heard) → SendsNone (arrival x)
-sends_none x = by (x.0.0 == 0)
-  where
-    by : (own : Bool) → SendsNone (if own then Control x.1 else Frame x.0 x.1)
-    by true node = refl
-    by false node = refl
-
 -- ---- parts of a server
 
 pub stands_marked : {S : Type 0} (stands : S → ServiceState) (server after : Server S) (r : Running) (t : ℕ) → StandsFor stands server r → after.node ≡ server.node → after.last ≡ t → after.held ≡ server.held → after.steps ≡ server.steps → StandsFor stands after (marked t r)
@@ -128,18 +121,12 @@ sees_taken cfg base old new d None r h f t k s = record {
 }
 sees_taken cfg base old new d (Some x) r h f t k s = sees_sent cfg base old new d x (stamped_bytes x) r h refl f t k s
 
--- a taking for a neighbour sends the frame that it took
-sends_on : (r : Running) (d : Dev) (x : Option PlainStamped) → 0 < d.0 → x ≡ first_on r.node d → sent_at r.node (entry.Step (Take d)) ≡ sending d x
-sends_on r d x there e =
-    let other : (d.0 == 0) ≡ false = grind (arith, nat_tests, there) in
-    ap (λ b. if b then [] else sending d (first_on r.node d)) other ∙ ap (sending d) (sym e)
-
 frames_taken : (cfg : ServeConfig) (base : Start) (old : Seen) (r : Running) (d : Dev) (x : Option PlainStamped) → Shows cfg base old r → 0 < d.0 → x ≡ first_on r.node d
     → (send_taken d x (with_entry (entry.Step (Take d)) r)).sent ≡ frames_of base.node (send_taken d x (with_entry (entry.Step (Take d)) r)).events
 unfolding with_entry
 frames_taken cfg base old r d x h there e =
     let taken = with_entry (entry.Step (Take d)) r in
-    sent_by d x taken ∙ ap (λ l. l ++ sending d x) h.frames ∙ ap (λ l. frames_of base.node r.events ++ l) (sym (sends_on r d x there e))
+    sent_by d x taken ∙ ap (λ l. l ++ sending d x) h.frames ∙ ap (λ l. frames_of base.node r.events ++ l) (sym (sends_on r.node d there ∙ ap (sending d) (sym e)))
     ∙ sym (frames_next base.node (entry.Step (Take d)) r h.sees.grows) ∙ ap (frames_of base.node) (sym (sent_events d x taken))
 
 -- a frame that was taken, and sent or not

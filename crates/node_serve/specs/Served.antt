@@ -10,7 +10,6 @@ use Rattle.serve_model.specs.Runs.{Running, opened, peers_of, node_run}
 use Rattle.serve_model.specs.Texts.{whole_trace}
 use Rattle.serve_model.specs.Follow.{lost_places}
 use Rattle.node_serve.specs.Fronts.{AppendsFront}
-use Rattle.node_serve.specs.Sendings.{frames_of}
 use Rattle.node_serve.specs.Shown.{run_log, IsReadable, Shows, HasLogged, Agrees, UsedUpTo}
 use Rattle.node_serve.specs.Desks.{Desk, Serving, desk_of, seen_at, start_at}
 
@@ -57,7 +56,6 @@ pub record Served (cfg : ServeConfig) (node : NodeState) (turns : ℕ) (old new 
   pub log : ChangesOnly old.files.held new.files.held cfg.log (run_log cfg (run_in cfg node turns old refused))
   pub out : new.out.taken ≡ old.out.taken ++ whole_trace cfg.node.here (run_in cfg node turns old refused).entries
   pub sent : new.link.sent ≡ old.link.sent ++ (run_in cfg node turns old refused).sent
-  pub frames : (run_in cfg node turns old refused).sent ≡ frames_of node (run_in cfg node turns old refused).events
   pub binds : IsBound cfg old.link new.link
   pub script : new.link.script ≡ drop turns old.link.script
   pub answers : new.clock.answers ≡ drop turns old.clock.answers

@@ -47,7 +47,6 @@ module _ (cfg : ServeConfig) (n : NodeState) (turns : ℕ) (old new : Serving) (
     log = subst (λ f. ChangesOnly f new.files.held cfg.log (run_log cfg (run_in cfg n turns old x.refused))) held x.log;
     out = x.out;
     sent = x.sent;
-    frames = x.frames;
     binds = x.binds;
     script = x.script;
     answers = x.answers;
