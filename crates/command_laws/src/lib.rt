@@ -11,5 +11,6 @@ mod runs;
 
 pub use ends::{cut_notes, fleet_lines, fleet_stops, grow_ends};
 pub use files::{node_keeps_files, node_makes_its_log, unbound};
-pub use runs::{failed_keeps, logs_are_ordered, logs_replay, replays_are_whole};
-pub use runs::{served_agrees, served_keeps};
+pub use runs::{
+    failed_keeps, logs_are_ordered, logs_replay, replays_are_whole, served_agrees, served_keeps,
+};

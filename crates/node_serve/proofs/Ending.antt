@@ -73,17 +73,17 @@ module _ (cfg : ServeConfig) (old new : Desk) where
   pub early_trace : ChangesOnly old.files.held new.files.held cfg.log (head_text cfg.node cfg.missing) → AppendsFront old.out.taken new.out.taken (codes "planet trace 1\n")
       → new.link.sent ≡ old.link.sent → IsBound cfg old.link new.link → new.link.script ≡ old.link.script → EndsEarly cfg old new
   early_trace log out sent binds script =
-    let head = head_text cfg.node cfg.missing in
-    record {
-    log = begun (length (head_text cfg.node cfg.missing)) (subst (ChangesOnly old.files.held new.files.held cfg.log) (sym (take-length (head_text cfg.node cfg.missing))) log);
-    out = out;
-    agrees = record {
-      sent = sent;
-      out = inr (record { more = []; there = log.here ∙ ap Some (sym (append-nil head) ∙ sym (append-nil (head ++ []))) }, out);
-    };
-    binds = inr binds;
-    script = script;
-  }
+      let head = head_text cfg.node cfg.missing in
+      record {
+        log = begun (length (head_text cfg.node cfg.missing)) (subst (ChangesOnly old.files.held new.files.held cfg.log) (sym (take-length (head_text cfg.node cfg.missing))) log);
+        out = out;
+        agrees = record {
+          sent = sent;
+          out = inr (record { more = []; there = log.here ∙ ap Some (sym (append-nil head) ∙ sym (append-nil (head ++ []))) }, out);
+        };
+        binds = inr binds;
+        script = script;
+      }
 
   -- the log was begun in part, or not at all
   pub early_log : SavesFront old.files.held new.files.held cfg.log (head_text cfg.node cfg.missing) → new.out.taken ≡ old.out.taken → new.link.sent ≡ old.link.sent → MayBind cfg old.link new.link → new.link.script ≡ old.link.script → EndsEarly cfg old new
