@@ -1,5 +1,5 @@
 -- What the run of a node keeps, and that a log replays to its run's lines.
-use Rattle.std.proofs.Common.{◌≡◌, ◌⊎◌, ℕ, ◌<◌, ◌≤◌, ◌^◌, IsTrue, Bool, true, false, cond, nat_lt, List, ◌++◌, length, Option, Some, None, Result, Ok, Err, refl, sym, ap, ◌∙◌, subst}
+use Rattle.std.proofs.Common.{◌≡◌, ◌⊎◌, inl, inr, ℕ, ◌<◌, ◌≤◌, ◌^◌, IsTrue, Bool, true, false, cond, nat_lt, List, [], ◌++◌, length, take, Option, Some, None, Result, Ok, Err, refl, sym, ap, ◌∙◌, subst}
 use Rattle.std.proofs.lemmas.Bool.{le-ltb}
 use Rattle.link_window.specs.declared.window.Version.{Version}
 use Rattle.link_window.specs.declared.window.Version.TheVariants.{One, Two}
@@ -26,9 +26,10 @@ use Rattle.node_laws.proofs.Contexts.{node_ordered}
 use Rattle.serve_model.specs.Runs.{played}
 use Rattle.serve_model.specs.Texts.{whole_trace}
 use Rattle.node_serve.specs.Desks.{Serving, IsSeen, desk_of}
-use Rattle.node_serve.specs.Served.{Served}
+use Rattle.node_serve.specs.Served.{Served, Begun}
 use Rattle.node_serve.specs.Again.{ReadsAgain}
 use Rattle.node_serve.proofs.Again.{again}
+use Rattle.node_serve.proofs.Ending.{whole_agrees}
 use Rattle.call_causes.specs.declared.status.Cause.{Cause}
 use Rattle.call_causes.specs.declared.status.Cause.TheVariants.{Done, NoMemory}
 use Rattle.call_causes.specs.declared.status.Refusal.TheVariants.{TooLong}
@@ -44,8 +45,9 @@ use Rattle.planet_cli.specs.Replays.{ReplaysLog}
 use Rattle.planet_cli.specs.Outcomes.{whole, outcome_by, outcome_of, IsWhole, WritesOut}
 use Rattle.planet_cli.proofs.Giving.{is_written, is_complete}
 use Rattle.planet_cli.proofs.NodeKeeping.{begins, entries_keep, log_keeps}
-use Rattle.planet_cli.proofs.Serving.{node_serves}
-use Rattle.command_laws.specs.Runs.{first_node, made_run, KeepsOrder, KeepsServing, ReplaysSo}
+use Rattle.planet_cli.specs.Laws.{ServesAtMost}
+use Rattle.planet_cli.proofs.Serving.{node_serves, node_fronts}
+use Rattle.command_laws.specs.Runs.{first_node, made_run, KeepsOrder, KeepsServing, KeepsUpTo, AgreesServing, ReplaysSo}
 
 -- ---- what a file says keeps its rules
 
@@ -99,6 +101,40 @@ pub node_keeps : (file : List ℕ) (turns : ℕ) (cause : Cause) (old new : Outs
     → (cfg : ServeConfig) → config_said file old.files.held ≡ says cfg → cause ≡ Done → KeepsServing cfg turns (serving_in old) (serving_in new)
 node_keeps file turns cause old new n m call seen clock cfg e done =
     serving_keeps cfg turns (serving_in old) (serving_in new) (config_keeps file old.files.held cfg e) (node_serves file turns cause old new n m call seen clock cfg e done)
+
+-- ---- after every answer
+
+begun_keep : (cfg : ServeConfig) (turns : ℕ) (old new : Serving) → KeepsServe cfg → (b : Begun (begun_config cfg old) (first_node cfg old) turns (begun_with cfg old) new)
+    → KeepsNodeRun (first_node cfg old) (take b.steps (made_run cfg turns old b.refused).events)
+begun_keep cfg turns old new k b =
+    entries_keep (begun_config cfg old).node (own_services cfg) (take b.steps (made_run cfg turns old b.refused).events)
+    (booted_fits (moment cfg.node.version old.clock) cfg.node (own_services cfg) (begins cfg.node cfg.missing k.node))
+    (λ i d h. (b.readable i d h).keeps)
+
+up_to : (cfg : ServeConfig) (turns : ℕ) (old new : Serving) → KeepsServe cfg → ServesAtMost (says cfg) turns old new → KeepsUpTo cfg turns old new
+up_to cfg turns old new k (inl s) = inl (serving_keeps cfg turns old new k s)
+up_to cfg turns old new k (inr (inl b)) = inr (inl (record {
+  begun = b;
+  keeps = begun_keep cfg turns old new k b;
+  ordered = λ n p. node_ordered (node_at (first_node cfg old) (take b.steps (made_run cfg turns old b.refused).events) n) p ((begun_keep cfg turns old new k b).fits n);
+}))
+up_to cfg turns old new k (inr (inr u)) = inr (inr u)
+
+agree_so : (cfg : ServeConfig) (turns : ℕ) (old new : Serving) → ServesAtMost (says cfg) turns old new → AgreesServing cfg turns old new
+agree_so cfg turns old new (inl s) = record { refused = s.refused; agrees = inr (whole_agrees (begun_config cfg old) (first_node cfg old) turns (begun_with cfg old) new s) }
+agree_so cfg turns old new (inr (inl b)) = record { refused = b.refused; agrees = b.agrees }
+agree_so cfg turns old new (inr (inr u)) = record { refused = []; agrees = inl (record { sent = ap (λ (s : Serving). s.link.sent) u.0; out = inl (ap (λ (s : Serving). s.out.taken) u.0) }) }
+
+module _ (file : List ℕ) (turns : ℕ) (cause : Cause) (old new : Outside) (n m : SinkState) (call : Calls (Some (node file turns)) cause old new n m) (seen : IsSeen (desk_of (serving_in old))) (clock : IsTrue old.clock.observable)
+    (cfg : ServeConfig) (e : config_said file old.files.held ≡ says cfg) where
+  fronts : ServesAtMost (says cfg) turns (serving_in old) (serving_in new)
+  fronts = subst (λ s. ServesAtMost s turns (serving_in old) (serving_in new)) e (node_fronts file turns cause old new n m call seen clock)
+
+  pub node_up_to : KeepsUpTo cfg turns (serving_in old) (serving_in new)
+  node_up_to = up_to cfg turns (serving_in old) (serving_in new) (config_keeps file old.files.held cfg e) fronts
+
+  pub node_agrees : AgreesServing cfg turns (serving_in old) (serving_in new)
+  node_agrees = agree_so cfg turns (serving_in old) (serving_in new) fronts
 
 pub log_ordered : (words : List (List ℕ)) (files : FilesState) (l : Log) → ReplaysLog words files l → KeepsOrder (log_node l) l.events
 log_ordered words files l r n p = node_ordered (node_at (log_node l) l.events n) p ((log_keeps words files l r).fits n)

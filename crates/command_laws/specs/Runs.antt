@@ -1,5 +1,5 @@
--- What a node that is done leaves: the run that it made, and a log whose replay gives its lines.
-use Rattle.std.specs.Prelude.{ℕ, ◌≡◌, ◌≤◌, List, ◌++◌, length, Some}
+-- What a node leaves: the run that it made, whole or in part, and a log whose replay gives the lines of a whole one.
+use Rattle.std.specs.Prelude.{ℕ, ◌≡◌, ◌≤◌, ◌⊎◌, List, ◌++◌, length, take, Some}
 use Rattle.plan_base.specs.declared.tree.Packet.{Packet}
 use Rattle.network_plan.specs.declared.serve.ServeConfig.{ServeConfig}
 use Rattle.node_io.specs.FileMaps.{file_at}
@@ -9,11 +9,13 @@ use Rattle.node_model.specs.Contexts.{IsOrdered}
 use Rattle.node_model.specs.Visits.{around}
 use Rattle.network_plan.specs.declared.event.LogEvent.{LogEvent}
 use Rattle.serve_model.specs.Runs.{Running}
-use Rattle.node_serve.specs.Desks.{Serving}
-use Rattle.node_serve.specs.Served.{Served, run_in}
+use Rattle.node_serve.specs.Desks.{Serving, desk_of, seen_at, start_at}
+use Rattle.node_serve.specs.Shown.{Agrees}
+use Rattle.node_serve.specs.Served.{Served, AgreesEarly, Begun, run_in}
 use Rattle.run_commands.specs.Keeping.{KeepsNodeRun, node_at}
 use Rattle.live_commands.specs.Nodes.{own_node, begun_config, begun_with}
 use Rattle.planet_cli.specs.Requests.{replay}
+use Rattle.planet_cli.specs.Laws.{Untouched}
 use Rattle.planet_cli.specs.Outcomes.{whole, outcome_of}
 
 -- the node of a configuration at its beginning, and its run with these steps refused
@@ -33,6 +35,22 @@ pub record KeepsServing (cfg : ServeConfig) (turns : ℕ) (old new : Serving) : 
   pub served : Served (begun_config cfg old) (first_node cfg old) turns (begun_with cfg old) new
   pub keeps : KeepsNodeRun (first_node cfg old) (made_run cfg turns old served.refused).events
   pub ordered : KeepsOrder (first_node cfg old) (made_run cfg turns old served.refused).events
+
+-- a prefix of the run was made, and after every number of its entries the node keeps its limits, and all that the whole one keeps
+pub record KeepsBegun (cfg : ServeConfig) (turns : ℕ) (old new : Serving) : Type 0 where
+  pub begun : Begun (begun_config cfg old) (first_node cfg old) turns (begun_with cfg old) new
+  pub keeps : KeepsNodeRun (first_node cfg old) (take begun.steps (made_run cfg turns old begun.refused).events)
+  pub ordered : KeepsOrder (first_node cfg old) (take begun.steps (made_run cfg turns old begun.refused).events)
+
+-- whole, or in part, or no step was made
+abbrev pub KeepsUpTo : ServeConfig → ℕ → Serving → Serving → Type 0
+KeepsUpTo cfg turns old new = KeepsServing cfg turns old new ⊎ (KeepsBegun cfg turns old new ⊎ Untouched old new)
+
+-- for a run with some steps refused, what was written and sent belongs to entries that the log has; or the opening came to no entry
+pub record AgreesServing (cfg : ServeConfig) (turns : ℕ) (old new : Serving) : Type 0 where
+  pub refused : List ℕ
+  pub agrees : AgreesEarly (begun_config cfg old) (desk_of old) (desk_of new)
+      ⊎ Agrees (begun_config cfg old) (start_at (desk_of old) (first_node cfg old)) (seen_at (desk_of new)) (made_run cfg turns old refused).events
 
 -- the log stands in its file, the trace was written, and a replay of the log, of a file within its limit, is whole and gives that trace
 pub record ReplaysSo (log : List ℕ) (old new : Outside) : Type 0 where

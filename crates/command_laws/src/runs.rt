@@ -16,7 +16,8 @@ ghost use Rattle.planet_cli.specs.Requests.{node, replay};
 ghost use Rattle.planet_cli.specs.Does.{serving_in};
 ghost use Rattle.planet_cli.specs.Calls.{Calls};
 ghost use Rattle.planet_cli.specs.Replays.{ReplaysLog};
-ghost use Rattle.command_laws.specs.Runs.{first_node, made_run, KeepsOrder, KeepsServing, ReplaysSo};
+ghost use Rattle.command_laws.specs.Runs.{first_node, made_run, KeepsOrder, KeepsServing};
+ghost use Rattle.command_laws.specs.Runs.{AgreesServing, KeepsUpTo, ReplaysSo};
 
 use call_causes::Cause;
 
@@ -30,6 +31,30 @@ pub fn served_keeps()
         → config_said file old.files.held ≡ says cfg
         → cause ≡ Cause.Done
         → KeepsServing cfg turns (serving_in old) (serving_in new) }
+{}
+
+/// After every answer the steps made up to it keep their limits and their order: those of the whole run, or those of a prefix
+/// of it where it failed, among them one that could not be written whole.
+pub fn failed_keeps()
+    ensures { (file : List ℕ) (turns : ℕ) (cause : Why) (old new : Outside) (n m : SinkState)
+        → Calls (Some (node file turns)) cause old new n m
+        → IsSeen (desk_of (serving_in old))
+        → IsTrue old.clock.observable
+        → (cfg : Config)
+        → config_said file old.files.held ≡ says cfg
+        → KeepsUpTo cfg turns (serving_in old) (serving_in new) }
+{}
+
+/// After every answer log, output and frames sent know of each other: what was written and sent belongs to steps that the log
+/// has, and the frames sent are those that its entries send, but perhaps the last one's.
+pub fn served_agrees()
+    ensures { (file : List ℕ) (turns : ℕ) (cause : Why) (old new : Outside) (n m : SinkState)
+        → Calls (Some (node file turns)) cause old new n m
+        → IsSeen (desk_of (serving_in old))
+        → IsTrue old.clock.observable
+        → (cfg : Config)
+        → config_said file old.files.held ≡ says cfg
+        → AgreesServing cfg turns (serving_in old) (serving_in new) }
 {}
 
 /// In the replay of a log, what stands around each visit is in order.

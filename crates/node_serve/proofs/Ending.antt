@@ -1,5 +1,5 @@
 -- What a run has done when it ends.
-use Rattle.std.proofs.Common.{◌≡◌, ℕ, ◌+◌, inl, inr, List, [], ◌++◌, length, take, drop, refl, sym, ◌∙◌, ap, subst, arith, codes, append_assoc, append-nil}
+use Rattle.std.proofs.Common.{◌≡◌, ℕ, ◌+◌, inl, inr, List, [], ◌++◌, length, take, drop, Some, refl, sym, ◌∙◌, ap, subst, arith, codes, append_assoc, append-nil}
 use Rattle.std.specs.List.{All, flat_map}
 use Rattle.std.proofs.lemmas.List.Elements.{All-nil}
 use Rattle.std.proofs.Math.Seq.{take-append-add, take-append_seam, take-length}
@@ -15,9 +15,13 @@ use Rattle.serve_model.specs.Texts.{trace_line, lines_text, begun_trace, whole_t
 use Rattle.serve_model.specs.Follow.{Ext, lost_after, lost_places}
 use Rattle.serve_model.proofs.Places.{own_places}
 use Rattle.node_serve.specs.Fronts.{AppendsFront}
-use Rattle.node_serve.specs.Shown.{run_log, run_trace, IsReadable, Reached, Stopped, UsedUpTo}
-use Rattle.node_serve.specs.Desks.{Desk, Serving, desk_of, with_clock, seen_at}
+use Rattle.node_serve.specs.Sendings.{frames_of}
+use Rattle.node_serve.specs.Shown.{run_log, run_trace, IsReadable, Agrees, Reached, Stopped, UsedUpTo}
+use Rattle.node_serve.specs.Desks.{Desk, Serving, desk_of, with_clock, seen_at, start_at}
 use Rattle.node_serve.specs.Served.{run_in, IsBound, MayBind, Begins, EndsEarly, Served, Begun}
+use Rattle.serve_model.proofs.Going.{ext_refl, turns_grows}
+use Rattle.node_serve.proofs.FrameLaws.{frames_of_run}
+use Rattle.node_serve.proofs.Agreeing.{agrees_more, agrees_all}
 use Rattle.node_serve.proofs.Showing.{text_more}
 
 -- ---- texts of a run that goes on
@@ -48,13 +52,18 @@ module _ (cfg : ServeConfig) (old new : Desk) where
   -- the link was bound, and the log and the trace were begun
   pub begins : ChangesOnly old.files.held new.files.held cfg.log (head_text cfg.node cfg.missing) → new.files.target ≡ cfg.log → new.out.taken ≡ old.out.taken ++ codes "planet trace 1\n"
       → new.link.sent ≡ old.link.sent → IsBound cfg old.link new.link → new.link.script ≡ old.link.script → Begins cfg old new
+  unfolding frames_of
   begins log is_log out sent binds script = record {
     shows = λ node. record {
-      log = subst (ChangesOnly old.files.held new.files.held cfg.log) (sym (head_is node)) log;
-      target = is_log;
-      out = out ∙ ap (λ l. old.out.taken ++ l) (sym (first_is node));
-      sent = sent ∙ sym (append-nil old.link.sent);
-      readable = All-nil (IsReadable cfg.node.version);
+      sees = record {
+        grows = ext_refl (opened node);
+        log = subst (ChangesOnly old.files.held new.files.held cfg.log) (sym (head_is node)) log;
+        target = is_log;
+        out = out ∙ ap (λ l. old.out.taken ++ l) (sym (first_is node));
+        sent = sent ∙ sym (append-nil old.link.sent);
+        readable = All-nil (IsReadable cfg.node.version);
+      };
+      frames = refl;
     };
     binds = binds;
     script = script;
@@ -63,20 +72,25 @@ module _ (cfg : ServeConfig) (old new : Desk) where
   -- the trace was begun in part
   pub early_trace : ChangesOnly old.files.held new.files.held cfg.log (head_text cfg.node cfg.missing) → AppendsFront old.out.taken new.out.taken (codes "planet trace 1\n")
       → new.link.sent ≡ old.link.sent → IsBound cfg old.link new.link → new.link.script ≡ old.link.script → EndsEarly cfg old new
-  early_trace log out sent binds script = record {
-    log = begun (length (head_text cfg.node cfg.missing)) (subst (ChangesOnly old.files.held new.files.held cfg.log) (sym (take-length (head_text cfg.node cfg.missing))) log);
-    out = out;
-    sent = sent;
-    binds = inr binds;
-    script = script;
-  }
+  early_trace log out sent binds script =
+      let head = head_text cfg.node cfg.missing in
+      record {
+        log = begun (length (head_text cfg.node cfg.missing)) (subst (ChangesOnly old.files.held new.files.held cfg.log) (sym (take-length (head_text cfg.node cfg.missing))) log);
+        out = out;
+        agrees = record {
+          sent = sent;
+          out = inr (record { more = []; there = log.here ∙ ap Some (sym (append-nil head) ∙ sym (append-nil (head ++ []))) }, out);
+        };
+        binds = inr binds;
+        script = script;
+      }
 
   -- the log was begun in part, or not at all
   pub early_log : SavesFront old.files.held new.files.held cfg.log (head_text cfg.node cfg.missing) → new.out.taken ≡ old.out.taken → new.link.sent ≡ old.link.sent → MayBind cfg old.link new.link → new.link.script ≡ old.link.script → EndsEarly cfg old new
   early_log log out sent binds script = record {
     log = log;
     out = record { count = 0; is = out ∙ sym (append-nil old.out.taken) };
-    sent = sent;
+    agrees = record { sent = sent; out = inl out };
     binds = binds;
     script = script;
   }
@@ -101,7 +115,9 @@ module _ (cfg : ServeConfig) (old new : Desk) where
         places = refl;
         log = saves_more (run_log cfg whole) (flat_map entry_text whole.events) refl h.log;
         out = record { count = more.0; is = h.out.is ∙ ap (λ l. old.out.taken ++ l) (more.1 ∙ ap (take more.0) (sym (append_assoc (codes "planet trace 1\n") lines (codes "end\n")))) };
-        sent = record { count = 0; is = h.sent ∙ sym (append-nil old.link.sent) };
+        sent = record { count = 0; is = h.agrees.sent ∙ sym (append-nil old.link.sent) };
+        readable = All-nil (IsReadable cfg.node.version);
+        agrees = inl h.agrees;
         binds = h.binds;
         script = record { count = 0; few = omega arith; is = h.script };
         answers = record { count = 0; few = omega arith; is = refl };
@@ -119,7 +135,7 @@ module _ (cfg : ServeConfig) (node : NodeState) (n : ℕ) (first : Desk) (mid la
   same_run refused = ap (λ x. turns cfg x mid.clock.last mid.clock.answers n refused (opened node)) b.script
 
   -- the whole run
-  pub served : {stands : Running → Type 0} (out : SinkState) → Reached stands cfg (seen_at first) (seen_at (desk_of last)) (opened node) (turns cfg mid.link.script mid.clock.last mid.clock.answers n)
+  pub served : {stands : Running → Type 0} (out : SinkState) → Reached stands cfg (start_at first node) (seen_at (desk_of last)) (opened node) (turns cfg mid.link.script mid.clock.last mid.clock.answers n)
       → out.taken ≡ last.out.taken ++ codes "end\n" → last.link.binds ≡ mid.link.binds → last.link.script ≡ drop n mid.link.script → last.clock.answers ≡ drop n mid.clock.answers
       → Served cfg node n (with_clock first mid.clock) (record last { out = out })
   unfolding whole_trace
@@ -129,17 +145,17 @@ module _ (cfg : ServeConfig) (node : NodeState) (n : ℕ) (first : Desk) (mid la
       record {
         refused = refused;
         places = ap (λ r. lost_places r.events) same;
-        log = subst (λ r. ChangesOnly first.files.held last.files.held cfg.log (run_log cfg r)) same a.shows.log;
-        out = taken ∙ ap (λ l. l ++ codes "end\n") a.shows.out ∙ append_assoc first.out.taken (run_trace cfg a.done) (codes "end\n") ∙ ap (λ r. first.out.taken ++ (run_trace cfg r ++ codes "end\n")) same;
-        sent = a.shows.sent ∙ ap (λ r. first.link.sent ++ r.sent) same;
+        log = subst (λ r. ChangesOnly first.files.held last.files.held cfg.log (run_log cfg r)) same a.shows.sees.log;
+        out = taken ∙ ap (λ l. l ++ codes "end\n") a.shows.sees.out ∙ append_assoc first.out.taken (run_trace cfg a.done) (codes "end\n") ∙ ap (λ r. first.out.taken ++ (run_trace cfg r ++ codes "end\n")) same;
+        sent = a.shows.sees.sent ∙ ap (λ r. first.link.sent ++ r.sent) same;
         binds = binds ∙ b.binds;
         script = script ∙ ap (drop n) b.script;
         answers = answers;
-        readable = subst (λ r. All (IsReadable cfg.node.version) r.events) same a.shows.readable;
+        readable = subst (λ r. All (IsReadable cfg.node.version) r.events) same a.shows.sees.readable;
       }
 
   -- a prefix of it
-  pub stopped : Stopped cfg (seen_at first) (seen_at (desk_of last)) (opened node) (turns cfg mid.link.script mid.clock.last mid.clock.answers n)
+  pub stopped : Stopped cfg (start_at first node) (seen_at (desk_of last)) (opened node) (turns cfg mid.link.script mid.clock.last mid.clock.answers n)
       → last.link.binds ≡ mid.link.binds → UsedUpTo n mid.link.script last.link.script → UsedUpTo n mid.clock.answers last.clock.answers
       → Begun cfg node n (with_clock first mid.clock) last
   unfolding whole_trace
@@ -147,6 +163,7 @@ module _ (cfg : ServeConfig) (node : NodeState) (n : ℕ) (first : Desk) (mid la
       let refused = lost_places a.done.events in
       let whole = run_in cfg node n (with_clock first mid.clock) refused in
       let x : Ext a.done whole = subst (Ext a.done) (same_run refused) (a.within refused (own_places a.done.events)) in
+      let front : take (length a.done.events) whole.events ≡ a.done.events = ap (take (length a.done.events)) x.log ∙ take-append_seam a.done.events x.events in
       let log = log_goes_on cfg a.done whole x in
       let trace = trace_goes_on cfg a.done whole x in
       let in_log = front_longer a.shows.count (run_log cfg a.done) log.0 in
@@ -154,7 +171,7 @@ module _ (cfg : ServeConfig) (node : NodeState) (n : ℕ) (first : Desk) (mid la
       record {
         refused = refused;
         steps = length a.done.events;
-        places = ap lost_places (sym (ap (take (length a.done.events)) x.log ∙ take-append_seam a.done.events x.events));
+        places = ap lost_places (sym front);
         log = begun in_log.0 (subst (ChangesOnly first.files.held last.files.held cfg.log) (in_log.1 ∙ ap (take in_log.0) (sym log.1)) a.shows.log);
         out = record {
           count = in_trace.0;
@@ -162,13 +179,15 @@ module _ (cfg : ServeConfig) (node : NodeState) (n : ℕ) (first : Desk) (mid la
               ∙ ap (λ l. first.out.taken ++ l) (in_trace.1 ∙ ap (take in_trace.0) (sym (append_assoc (run_trace cfg a.done) trace.0 (codes "end\n")) ∙ ap (λ l. l ++ codes "end\n") (sym trace.1)));
         };
         sent = record { count = length a.done.sent; is = a.shows.sent ∙ ap (λ l. first.link.sent ++ l) (sym (ap (take (length a.done.sent)) x.frames ∙ take-append_seam a.done.sent x.sent)) };
+        readable = subst (All (IsReadable cfg.node.version)) (sym front) a.shows.readable;
+        agrees = inr (subst (Agrees cfg (start_at first node) (seen_at (desk_of last))) (sym x.log) (agrees_more cfg (start_at first node) (seen_at (desk_of last)) a.done.events x.events a.shows.agrees));
         binds = inr (binds ∙ b.binds);
         script = used b.script script;
         answers = answers;
       }
 
   -- all of it but the end of the trace
-  pub cut : {stands : Running → Type 0} (out : SinkState) → Reached stands cfg (seen_at first) (seen_at (desk_of last)) (opened node) (turns cfg mid.link.script mid.clock.last mid.clock.answers n)
+  pub cut : {stands : Running → Type 0} (out : SinkState) → Reached stands cfg (start_at first node) (seen_at (desk_of last)) (opened node) (turns cfg mid.link.script mid.clock.last mid.clock.answers n)
       → AppendsFront last.out.taken out.taken (codes "end\n") → last.link.binds ≡ mid.link.binds → last.link.script ≡ drop n mid.link.script → last.clock.answers ≡ drop n mid.clock.answers
       → Begun cfg node n (with_clock first mid.clock) (record last { out = out })
   unfolding whole_trace
@@ -176,20 +195,37 @@ module _ (cfg : ServeConfig) (node : NodeState) (n : ℕ) (first : Desk) (mid la
       let refused = lost_places a.done.events in
       let whole = run_in cfg node n (with_clock first mid.clock) refused in
       let same : a.done ≡ whole = a.is refused (own_places a.done.events) ∙ same_run refused in
+      let front : take (length a.done.events) whole.events ≡ a.done.events = sym (ap (λ r. take (length a.done.events) r.events) same) ∙ take-length a.done.events in
       let trace = run_trace cfg a.done in
       record {
         refused = refused;
         steps = length a.done.events;
-        places = ap lost_places (sym (take-length a.done.events) ∙ ap (λ r. take (length a.done.events) r.events) same);
+        places = ap lost_places (sym front);
         log = begun (length (run_log cfg whole)) (subst (ChangesOnly first.files.held last.files.held cfg.log) (sym (take-length (run_log cfg whole)))
-            (subst (λ r. ChangesOnly first.files.held last.files.held cfg.log (run_log cfg r)) same a.shows.log));
+            (subst (λ r. ChangesOnly first.files.held last.files.held cfg.log (run_log cfg r)) same a.shows.sees.log));
         out = record {
           count = length trace + taken.count;
-          is = taken.is ∙ ap (λ l. l ++ take taken.count (codes "end\n")) a.shows.out ∙ append_assoc first.out.taken trace (take taken.count (codes "end\n"))
+          is = taken.is ∙ ap (λ l. l ++ take taken.count (codes "end\n")) a.shows.sees.out ∙ append_assoc first.out.taken trace (take taken.count (codes "end\n"))
               ∙ ap (λ l. first.out.taken ++ l) (sym (take-append-add trace (codes "end\n") taken.count) ∙ ap (λ r. take (length trace + taken.count) (run_trace cfg r ++ codes "end\n")) same);
         };
-        sent = record { count = length a.done.sent; is = a.shows.sent ∙ ap (λ l. first.link.sent ++ l) (sym (take-length a.done.sent) ∙ ap (λ r. take (length a.done.sent) r.sent) same) };
+        sent = record { count = length a.done.sent; is = a.shows.sees.sent ∙ ap (λ l. first.link.sent ++ l) (sym (take-length a.done.sent) ∙ ap (λ r. take (length a.done.sent) r.sent) same) };
+        readable = subst (All (IsReadable cfg.node.version)) (sym front) a.shows.sees.readable;
+        agrees = inr (subst (λ r. Agrees cfg (start_at first node) (seen_at (desk_of (record last { out = out }))) r.events) same
+            (agrees_all cfg (start_at first node) (seen_at (desk_of (record last { out = out }))) a.done [] taken.count a.shows.sees.grows a.shows.frames
+            (a.shows.sees.log.here ∙ ap Some (sym (append-nil (run_log cfg a.done))))
+            (taken.is ∙ ap (λ l. l ++ take taken.count (codes "end\n")) a.shows.sees.out ∙ append_assoc first.out.taken trace (take taken.count (codes "end\n")))
+            a.shows.sees.sent));
         binds = inr (binds ∙ b.binds);
         script = record { count = n; few = omega arith; is = script ∙ ap (drop n) b.script };
         answers = record { count = n; few = omega arith; is = answers };
       }
+
+-- ---- a whole run
+
+pub whole_agrees : (cfg : ServeConfig) (node : NodeState) (n : ℕ) (old new : Serving) (s : Served cfg node n old new) → Agrees cfg (start_at (desk_of old) node) (seen_at (desk_of new)) (run_in cfg node n old s.refused).events
+unfolding node_run whole_trace
+whole_agrees cfg node n old new s =
+    let run = run_in cfg node n old s.refused in
+    let last = codes "end\n" in
+    agrees_all cfg (start_at (desk_of old) node) (seen_at (desk_of new)) run [] (length last) (turns_grows cfg old.link.script old.clock.last old.clock.answers n s.refused (opened node)) (frames_of_run cfg node old.link.script old.clock.last old.clock.answers n s.refused)
+    (s.log.here ∙ ap Some (sym (append-nil (run_log cfg run)))) (s.out ∙ ap (λ l. old.out.taken ++ (run_trace cfg run ++ l)) (sym (take-length last))) s.sent

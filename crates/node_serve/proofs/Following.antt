@@ -10,22 +10,23 @@ use Rattle.network_plan.specs.declared.event.LogEvent.TheVariants.{Step, Lost}
 use Rattle.network_plan.specs.declared.serve.ServeConfig.{ServeConfig}
 use Rattle.serve_model.specs.Runs.{Running, Action, then_do, with_entry, marked, holding, is_refused, make, tick, first_on, come_back, take_back, send_taken, take_send, release}
 use Rattle.serve_model.specs.Follow.{Ext, Grows, entry_of, is_lost, Fits}
-use Rattle.node_serve.specs.Shown.{Seen, Shows, Fronts, Reached, Stopped, Leaves}
+use Rattle.node_serve.specs.Shown.{Seen, Start, Shows, Fronts, Reached, Stopped, Leaves}
 use Rattle.serve_model.proofs.Going.{ext_refl, ext_trans, ext_entry, ext_marked, ext_holding, send_taken_ext, come_back_grows}
 use Rattle.serve_model.proofs.Places.{fits_before, fits_entry}
-use Rattle.node_serve.proofs.Showing.{fronts_whole}
+use Rattle.node_serve.proofs.Showing.{shows_marked, shows_holding}
+use Rattle.node_serve.proofs.Agreeing.{fronts_whole}
 
 -- ---- nothing is done
 
-pub reached_same : (stands : Running → Type 0) (cfg : ServeConfig) (base seen : Seen) (r : Running) (act : Action) → ((refused : List ℕ) → act refused r ≡ r) → stands r → Shows cfg base seen r → Reached stands cfg base seen r act
+pub reached_same : (stands : Running → Type 0) (cfg : ServeConfig) (base : Start) (seen : Seen) (r : Running) (act : Action) → ((refused : List ℕ) → act refused r ≡ r) → stands r → Shows cfg base seen r → Reached stands cfg base seen r act
 reached_same stands cfg base seen r act same h s = record { done = r; grows = ext_refl r; is = λ refused f. sym (same refused); stands_for = h; shows = s }
 
-pub stopped_same : (cfg : ServeConfig) (base seen : Seen) (r : Running) (act : Action) → Grows act → Shows cfg base seen r → Stopped cfg base seen r act
+pub stopped_same : (cfg : ServeConfig) (base : Start) (seen : Seen) (r : Running) (act : Action) → Grows act → Shows cfg base seen r → Stopped cfg base seen r act
 stopped_same cfg base seen r act g s = record { done = r; grows = ext_refl r; within = λ refused f. g refused r; shows = fronts_whole cfg base seen r s }
 
 -- ---- one after the other
 
-pub reached_then : {before after : Running → Type 0} {cfg : ServeConfig} {base mid seen : Seen} {r : Running} {f g : Action} (a : Reached before cfg base mid r f) → Reached after cfg base seen a.done g → Reached after cfg base seen r (then_do f g)
+pub reached_then : {before after : Running → Type 0} {cfg : ServeConfig} {base : Start} {mid seen : Seen} {r : Running} {f g : Action} (a : Reached before cfg base mid r f) → Reached after cfg base seen a.done g → Reached after cfg base seen r (then_do f g)
 reached_then {r = r} {g = g} a b = record {
   done = b.done;
   grows = ext_trans r a.done b.done a.grows b.grows;
@@ -34,7 +35,7 @@ reached_then {r = r} {g = g} a b = record {
   shows = b.shows;
 }
 
-pub stopped_then : {before : Running → Type 0} {cfg : ServeConfig} {base mid seen : Seen} {r : Running} {f g : Action} (a : Reached before cfg base mid r f) → Stopped cfg base seen a.done g → Stopped cfg base seen r (then_do f g)
+pub stopped_then : {before : Running → Type 0} {cfg : ServeConfig} {base : Start} {mid seen : Seen} {r : Running} {f g : Action} (a : Reached before cfg base mid r f) → Stopped cfg base seen a.done g → Stopped cfg base seen r (then_do f g)
 stopped_then {r = r} {g = g} a b = record {
   done = b.done;
   grows = ext_trans r a.done b.done a.grows b.grows;
@@ -42,7 +43,7 @@ stopped_then {r = r} {g = g} a b = record {
   shows = b.shows;
 }
 
-pub stopped_first : {cfg : ServeConfig} {base seen : Seen} {r : Running} {f : Action} (g : Action) → Grows g → Stopped cfg base seen r f → Stopped cfg base seen r (then_do f g)
+pub stopped_first : {cfg : ServeConfig} {base : Start} {seen : Seen} {r : Running} {f : Action} (g : Action) → Grows g → Stopped cfg base seen r f → Stopped cfg base seen r (then_do f g)
 stopped_first {r = r} {f = f} g more a = record {
   done = a.done;
   grows = a.grows;
@@ -50,19 +51,19 @@ stopped_first {r = r} {f = f} g more a = record {
   shows = a.shows;
 }
 
-pub leaves_then : {T E : Type 0} {before : Running → Type 0} (after : Running → Type 0) {cfg : ServeConfig} {base mid : Seen} (seen : Seen) {r : Running} {f : Action} (g : Action) (result : Result T E) (a : Reached before cfg base mid r f) → Leaves after cfg base seen a.done g result → Leaves after cfg base seen r (then_do f g) result
+pub leaves_then : {T E : Type 0} {before : Running → Type 0} (after : Running → Type 0) {cfg : ServeConfig} {base : Start} {mid : Seen} (seen : Seen) {r : Running} {f : Action} (g : Action) (result : Result T E) (a : Reached before cfg base mid r f) → Leaves after cfg base seen a.done g result → Leaves after cfg base seen r (then_do f g) result
 leaves_then after seen g (Ok x) a b = reached_then a b
 leaves_then after seen g (Err e) a b = stopped_then a b
 
 -- ---- the same action in other words
 
-pub reached_as : {stands : Running → Type 0} {cfg : ServeConfig} {base seen : Seen} {r : Running} {f : Action} (g : Action) → ((refused : List ℕ) → f refused r ≡ g refused r) → Reached stands cfg base seen r f → Reached stands cfg base seen r g
+pub reached_as : {stands : Running → Type 0} {cfg : ServeConfig} {base : Start} {seen : Seen} {r : Running} {f : Action} (g : Action) → ((refused : List ℕ) → f refused r ≡ g refused r) → Reached stands cfg base seen r f → Reached stands cfg base seen r g
 reached_as g same a = record { done = a.done; grows = a.grows; is = λ refused h. a.is refused h ∙ same refused; stands_for = a.stands_for; shows = a.shows }
 
-pub stopped_as : {cfg : ServeConfig} {base seen : Seen} {r : Running} {f : Action} (g : Action) → ((refused : List ℕ) → f refused r ≡ g refused r) → Stopped cfg base seen r f → Stopped cfg base seen r g
+pub stopped_as : {cfg : ServeConfig} {base : Start} {seen : Seen} {r : Running} {f : Action} (g : Action) → ((refused : List ℕ) → f refused r ≡ g refused r) → Stopped cfg base seen r f → Stopped cfg base seen r g
 stopped_as g same a = record { done = a.done; grows = a.grows; within = λ refused h. subst (Ext a.done) (same refused) (a.within refused h); shows = a.shows }
 
-pub leaves_as : {T E : Type 0} (stands : Running → Type 0) (cfg : ServeConfig) (base seen : Seen) (r : Running) (f g : Action) (result : Result T E) → ((refused : List ℕ) → f refused r ≡ g refused r) → Leaves stands cfg base seen r f result → Leaves stands cfg base seen r g result
+pub leaves_as : {T E : Type 0} (stands : Running → Type 0) (cfg : ServeConfig) (base : Start) (seen : Seen) (r : Running) (f g : Action) (result : Result T E) → ((refused : List ℕ) → f refused r ≡ g refused r) → Leaves stands cfg base seen r f result → Leaves stands cfg base seen r g result
 leaves_as stands cfg base seen r f g (Ok x) same a = reached_as g same a
 leaves_as stands cfg base seen r f g (Err e) same a = stopped_as g same a
 
@@ -86,7 +87,7 @@ lost_of : (b : Bool) (e : Event) → is_lost (entry_of b e) ≡ b
 lost_of true e = refl
 lost_of false e = refl
 
-pub reached_make : (stands : Running → Type 0) (cfg : ServeConfig) (base seen : Seen) (r : Running) (e : Event) (b : Bool) → stands (with_entry (entry_of b e) r) → Shows cfg base seen (with_entry (entry_of b e) r) → Reached stands cfg base seen r (make e)
+pub reached_make : (stands : Running → Type 0) (cfg : ServeConfig) (base : Start) (seen : Seen) (r : Running) (e : Event) (b : Bool) → stands (with_entry (entry_of b e) r) → Shows cfg base seen (with_entry (entry_of b e) r) → Reached stands cfg base seen r (make e)
 reached_make stands cfg base seen r e b h s = record {
   done = with_entry (entry_of b e) r;
   grows = ext_entry (entry_of b e) r;
@@ -95,7 +96,7 @@ reached_make stands cfg base seen r e b h s = record {
   shows = s;
 }
 
-pub stopped_make : (cfg : ServeConfig) (base seen : Seen) (r : Running) (e : Event) (b : Bool) → Fronts cfg base seen (with_entry (entry_of b e) r) → Stopped cfg base seen r (make e)
+pub stopped_make : (cfg : ServeConfig) (base : Start) (seen : Seen) (r : Running) (e : Event) (b : Bool) → Fronts cfg base seen (with_entry (entry_of b e) r) → Stopped cfg base seen r (make e)
 stopped_make cfg base seen r e b s = record {
   done = with_entry (entry_of b e) r;
   grows = ext_entry (entry_of b e) r;
@@ -105,7 +106,7 @@ stopped_make cfg base seen r e b s = record {
 
 -- ---- a frame to the node itself
 
-pub back_lost : (stands : Running → Type 0) (cfg : ServeConfig) (base seen : Seen) (r : Running) → stands (with_entry Lost r) → Shows cfg base seen (with_entry Lost r) → Reached stands cfg base seen r take_back
+pub back_lost : (stands : Running → Type 0) (cfg : ServeConfig) (base : Start) (seen : Seen) (r : Running) → stands (with_entry Lost r) → Shows cfg base seen (with_entry Lost r) → Reached stands cfg base seen r take_back
 unfolding take_back
 back_lost stands cfg base seen r h s = record {
   done = with_entry Lost r;
@@ -121,7 +122,7 @@ back_is refused r d x f =
     let taken = with_entry (Step (Take (dev_of 0))) r in
     sym (if_false (is_refused refused r) (with_entry Lost r) (come_back (first_on r.node (dev_of 0)) refused taken) (entry_fits refused (Step (Take (dev_of 0))) r (fits_before refused taken d x f)))
 
-pub back_took : {T E : Type 0} (stands : Running → Type 0) (cfg : ServeConfig) (base seen : Seen) (r : Running) (x : Option PlainStamped) (result : Result T E) → x ≡ first_on r.node (dev_of 0)
+pub back_took : {T E : Type 0} (stands : Running → Type 0) (cfg : ServeConfig) (base : Start) (seen : Seen) (r : Running) (x : Option PlainStamped) (result : Result T E) → x ≡ first_on r.node (dev_of 0)
     → Leaves stands cfg base seen (with_entry (Step (Take (dev_of 0))) r) (come_back x) result → Leaves stands cfg base seen r take_back result
 back_took stands cfg base seen r x (Ok y) e a =
     let taken = with_entry (Step (Take (dev_of 0))) r in
@@ -142,7 +143,7 @@ back_took stands cfg base seen r x (Err y) e a =
     }
 
 -- a step of take_back that could not be written
-pub stopped_back : (cfg : ServeConfig) (base seen : Seen) (r : Running) → Stopped cfg base seen r (make (Take (dev_of 0))) → Stopped cfg base seen r take_back
+pub stopped_back : (cfg : ServeConfig) (base : Start) (seen : Seen) (r : Running) → Stopped cfg base seen r (make (Take (dev_of 0))) → Stopped cfg base seen r take_back
 unfolding take_back make
 stopped_back cfg base seen r a = record {
   done = a.done;
@@ -156,17 +157,17 @@ stopped_back cfg base seen r a = record {
 
 -- ---- a tick
 
-pub tick_over : (stands after : Running → Type 0) (cfg : ServeConfig) (base seen : Seen) (r : Running) (period t : ℕ) → nat_le (r.last + period) t ≡ true → (a : Reached stands cfg base seen r (make Tick)) → after (marked t a.done) → Reached after cfg base seen r (tick period t)
+pub tick_over : (stands after : Running → Type 0) (cfg : ServeConfig) (base : Start) (seen : Seen) (r : Running) (period t : ℕ) → nat_le (r.last + period) t ≡ true → (a : Reached stands cfg base seen r (make Tick)) → after (marked t a.done) → Reached after cfg base seen r (tick period t)
 unfolding tick
 tick_over stands after cfg base seen r period t over a h = record {
   done = marked t a.done;
   grows = ext_trans r a.done (marked t a.done) a.grows (ext_marked t a.done);
   is = λ refused f. ap (marked t) (a.is refused f) ∙ sym (if_true (nat_le (r.last + period) t) (marked t (make Tick refused r)) r over);
   stands_for = h;
-  shows = record { log = a.shows.log; target = a.shows.target; out = a.shows.out; sent = a.shows.sent; readable = a.shows.readable };
+  shows = shows_marked cfg base seen t a.done a.shows;
 }
 
-pub tick_stopped : (cfg : ServeConfig) (base seen : Seen) (r : Running) (period t : ℕ) → nat_le (r.last + period) t ≡ true → Stopped cfg base seen r (make Tick) → Stopped cfg base seen r (tick period t)
+pub tick_stopped : (cfg : ServeConfig) (base : Start) (seen : Seen) (r : Running) (period t : ℕ) → nat_le (r.last + period) t ≡ true → Stopped cfg base seen r (make Tick) → Stopped cfg base seen r (tick period t)
 unfolding tick
 tick_stopped cfg base seen r period t over a = record {
   done = a.done;
@@ -187,7 +188,7 @@ unfolding take_send
 held_is d r h refused = if_true r.held r (if is_refused refused r then holding true (with_entry Lost r) else send_taken d (first_on r.node d) (with_entry (Step (Take d)) r)) h
 
 -- a taking was refused in this turn
-pub send_held : (stands : Running → Type 0) (cfg : ServeConfig) (base seen : Seen) (r : Running) (d : Dev) → r.held ≡ true → stands r → Shows cfg base seen r → Reached stands cfg base seen r (take_send d)
+pub send_held : (stands : Running → Type 0) (cfg : ServeConfig) (base : Start) (seen : Seen) (r : Running) (d : Dev) → r.held ≡ true → stands r → Shows cfg base seen r → Reached stands cfg base seen r (take_send d)
 send_held stands cfg base seen r d h st s = reached_same stands cfg base seen r (take_send d) (held_is d r h) st s
 
 free_is : (d : Dev) (r : Running) → r.held ≡ false → (refused : List ℕ) → take_send d refused r ≡ (if is_refused refused r then holding true (with_entry Lost r) else send_taken d (first_on r.node d) (with_entry (Step (Take d)) r))
@@ -195,24 +196,24 @@ unfolding take_send
 free_is d r h refused = if_false r.held r (if is_refused refused r then holding true (with_entry Lost r) else send_taken d (first_on r.node d) (with_entry (Step (Take d)) r)) h
 
 -- the taking is refused
-pub send_lost : (stands : Running → Type 0) (cfg : ServeConfig) (base seen : Seen) (r : Running) (d : Dev) → r.held ≡ false → stands (holding true (with_entry Lost r)) → Shows cfg base seen (with_entry Lost r) → Reached stands cfg base seen r (take_send d)
+pub send_lost : (stands : Running → Type 0) (cfg : ServeConfig) (base : Start) (seen : Seen) (r : Running) (d : Dev) → r.held ≡ false → stands (holding true (with_entry Lost r)) → Shows cfg base seen (with_entry Lost r) → Reached stands cfg base seen r (take_send d)
 send_lost stands cfg base seen r d h st s = record {
   done = holding true (with_entry Lost r);
   grows = ext_trans r (with_entry Lost r) (holding true (with_entry Lost r)) (ext_entry Lost r) (ext_holding true (with_entry Lost r));
   is = λ refused f. sym (free_is d r h refused ∙ if_true (is_refused refused r) (holding true (with_entry Lost r)) (send_taken d (first_on r.node d) (with_entry (Step (Take d)) r)) (entry_fits refused Lost r f));
   stands_for = st;
-  shows = record { log = s.log; target = s.target; out = s.out; sent = s.sent; readable = s.readable };
+  shows = shows_holding cfg base seen true (with_entry Lost r) s;
 }
 
 took_is : (d : Dev) (r : Running) → r.held ≡ false → (refused : List ℕ) → Fits refused (with_entry (Step (Take d)) r).events → send_taken d (first_on r.node d) (with_entry (Step (Take d)) r) ≡ take_send d refused r
 took_is d r h refused f = sym (free_is d r h refused ∙ if_false (is_refused refused r) (holding true (with_entry Lost r)) (send_taken d (first_on r.node d) (with_entry (Step (Take d)) r)) (entry_fits refused (Step (Take d)) r f))
 
-sent_events : (d : Dev) (x : Option PlainStamped) (r : Running) → (send_taken d x r).events ≡ r.events
+pub sent_events : (d : Dev) (x : Option PlainStamped) (r : Running) → (send_taken d x r).events ≡ r.events
 sent_events d None r = refl
 sent_events d (Some x) r = refl
 
 -- the frame was taken, and sent
-pub send_took : (stands : Running → Type 0) (cfg : ServeConfig) (base seen : Seen) (r : Running) (d : Dev) (x : Option PlainStamped) → r.held ≡ false → x ≡ first_on r.node d
+pub send_took : (stands : Running → Type 0) (cfg : ServeConfig) (base : Start) (seen : Seen) (r : Running) (d : Dev) (x : Option PlainStamped) → r.held ≡ false → x ≡ first_on r.node d
     → stands (send_taken d x (with_entry (Step (Take d)) r)) → Shows cfg base seen (send_taken d x (with_entry (Step (Take d)) r)) → Reached stands cfg base seen r (take_send d)
 send_took stands cfg base seen r d x h e st s =
     let taken = with_entry (Step (Take d)) r in
@@ -225,18 +226,18 @@ send_took stands cfg base seen r d x h e st s =
     }
 
 -- the frame was taken, and could not be sent
-pub send_failed : (cfg : ServeConfig) (base seen : Seen) (r : Running) (d : Dev) → r.held ≡ false → Shows cfg base seen (with_entry (Step (Take d)) r) → Stopped cfg base seen r (take_send d)
+pub send_failed : (cfg : ServeConfig) (base : Start) (seen : Seen) (r : Running) (d : Dev) → r.held ≡ false → Fronts cfg base seen (with_entry (Step (Take d)) r) → Stopped cfg base seen r (take_send d)
 send_failed cfg base seen r d h s =
     let taken = with_entry (Step (Take d)) r in
     record {
       done = taken;
       grows = ext_entry (Step (Take d)) r;
       within = λ refused f. subst (Ext taken) (took_is d r h refused f) (send_taken_ext d (first_on r.node d) taken);
-      shows = fronts_whole cfg base seen taken s;
+      shows = s;
     }
 
 -- a step of take_send that could not be written
-pub send_stopped : (cfg : ServeConfig) (base seen : Seen) (r : Running) (d : Dev) → r.held ≡ false → Stopped cfg base seen r (make (Take d)) → Stopped cfg base seen r (take_send d)
+pub send_stopped : (cfg : ServeConfig) (base : Start) (seen : Seen) (r : Running) (d : Dev) → r.held ≡ false → Stopped cfg base seen r (make (Take d)) → Stopped cfg base seen r (take_send d)
 unfolding make
 send_stopped cfg base seen r d h a = record {
   done = a.done;
@@ -256,7 +257,7 @@ match_err Q P X (Ok x) h a = absurd h
 match_err Q P X (Err e) h a = a
 
 -- an action after a turn's sendings were let free again
-pub leaves_released : {T E : Type 0} (after : Running → Type 0) (cfg : ServeConfig) (base seen : Seen) (r : Running) (g : Action) (result : Result T E) → Leaves after cfg base seen (holding false r) g result → Leaves after cfg base seen r (then_do release g) result
+pub leaves_released : {T E : Type 0} (after : Running → Type 0) (cfg : ServeConfig) (base : Start) (seen : Seen) (r : Running) (g : Action) (result : Result T E) → Leaves after cfg base seen (holding false r) g result → Leaves after cfg base seen r (then_do release g) result
 leaves_released after cfg base seen r g (Ok x) a = record {
   done = a.done;
   grows = ext_trans r (holding false r) a.done (ext_holding false r) a.grows;
@@ -271,6 +272,6 @@ leaves_released after cfg base seen r g (Err e) a = record {
   shows = a.shows;
 }
 
-pub leaves_err : {T E : Type 0} (Q : E → Type 0) (stands : Running → Type 0) (cfg : ServeConfig) (base seen : Seen) (r : Running) (act : Action) (result : Result T E) → IsErrAnd result Q → Stopped cfg base seen r act → Leaves stands cfg base seen r act result
+pub leaves_err : {T E : Type 0} (Q : E → Type 0) (stands : Running → Type 0) (cfg : ServeConfig) (base : Start) (seen : Seen) (r : Running) (act : Action) (result : Result T E) → IsErrAnd result Q → Stopped cfg base seen r act → Leaves stands cfg base seen r act result
 leaves_err Q stands cfg base seen r act (Ok x) h a = absurd h
 leaves_err Q stands cfg base seen r act (Err e) h a = a

@@ -16,6 +16,7 @@ use Rattle.serve_model.specs.Runs.{Running, Action, then_do, make, tick}
 use Rattle.serve_model.specs.Follow.{Grows}
 use Rattle.serve_model.proofs.Going.{make_grows}
 use Rattle.node_serve.specs.Stays.{StandsFor}
+use Rattle.node_serve.specs.Sendings.{SendsNone}
 use Rattle.node_serve.specs.Steps.{Written, in_log, in_trace}
 use Rattle.node_serve.specs.Desks.{Desk, desk, seen_at, IsSeen, OthersStay, OnlyServes, KeepsDesk, Faults}
 use Rattle.node_serve.specs.Goes.{Goes, MakesStep}
@@ -145,11 +146,11 @@ pub no_link : LinkState
 no_link = record { observable = true; script = []; sent = []; binds = []; bound = []; faults = 0 }
 
 -- a step, with what it gave or without
-pub goes_made : {S T : Type 0} (stands : S → ServiceState) (cfg : ServeConfig) (e : Event) (first after : Server S) (a b : Desk) (made : StepOutcome) (x : T) → MakesStep stands cfg e first after a b (Ok made) → Goes {T = T} stands cfg (make e) first after a b (Ok x)
-goes_made stands cfg e first after a b made x m = record {
+pub goes_made : {S T : Type 0} (stands : S → ServiceState) (cfg : ServeConfig) (e : Event) (first after : Server S) (a b : Desk) (made : StepOutcome) (x : T) → SendsNone e → MakesStep stands cfg e first after a b (Ok made) → Goes {T = T} stands cfg (make e) first after a b (Ok x)
+goes_made stands cfg e first after a b made x none m = record {
   keeps = m.keeps;
   faults = tt;
-  run = λ seen base r st sh. made_reached stands cfg base (seen_at b) r e made after (m.run seen base r st sh);
+  run = λ seen base r st sh. made_reached stands cfg base (seen_at a) (seen_at b) r e made after none sh (m.run seen base r st sh);
 }
 
 pub goes_unmade : {S T : Type 0} (stands : S → ServiceState) (cfg : ServeConfig) (e : Event) (first after : Server S) (a b : Desk) (fault : ServeFault) → MakesStep stands cfg e first after a b (Err fault) → Goes {T = T} stands cfg (make e) first after a b (Err fault)

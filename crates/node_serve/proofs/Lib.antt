@@ -1,4 +1,6 @@
 pub mod Showing
+pub mod FrameLaws
+pub mod Agreeing
 pub mod Following
 pub mod Looping
 pub mod Joining

@@ -12,7 +12,7 @@ use Rattle.node_io.specs.Links.{next_heard}
 use Rattle.serve_model.specs.Runs.{Running, Action, then_do, inject_one, inject_to, repeat_send, flush_to, turn, time_at, turns, peers_of}
 use Rattle.serve_model.specs.Follow.{Ext}
 use Rattle.serve_model.proofs.Going.{ext_refl, ext_trans, inject_one_grows, take_send_grows, flush_device_grows, turn_grows}
-use Rattle.node_serve.specs.Shown.{Seen, Reached, Stopped}
+use Rattle.node_serve.specs.Shown.{Seen, Start, Reached, Stopped}
 use Rattle.node_serve.proofs.Following.{reached_then, reached_as, stopped_then, stopped_as}
 
 -- each step goes on from the one before
@@ -28,7 +28,7 @@ goes_on A up n (suc more) refused r =
 goes_to : (A : ℕ → Action) → GoesUp A → (n m : ℕ) → n ≤ m → (refused : List ℕ) (r : Running) → Ext (A n refused r) (A m refused r)
 goes_to A up n m h refused r = let same : n + (m - n) ≡ m = omega arith in subst (λ k. Ext (A n refused r) (A k refused r)) same (goes_on A up n (m - n) refused r)
 
-stopped_more : {cfg : ServeConfig} {base seen : Seen} {r : Running} (f g : Action) → ((refused : List ℕ) → Ext (f refused r) (g refused r)) → Stopped cfg base seen r f → Stopped cfg base seen r g
+stopped_more : {cfg : ServeConfig} {base : Start} {seen : Seen} {r : Running} (f g : Action) → ((refused : List ℕ) → Ext (f refused r) (g refused r)) → Stopped cfg base seen r f → Stopped cfg base seen r g
 stopped_more {r = r} f g more a = record {
   done = a.done;
   grows = a.grows;
@@ -39,17 +39,17 @@ stopped_more {r = r} f g more a = record {
 -- ---- a loop
 
 -- one more step
-pub loop_next : {before after : Running → Type 0} {cfg : ServeConfig} {base mid seen : Seen} {r : Running} (A : ℕ → Action) (f : Action) (i : ℕ) → ((refused : List ℕ) → then_do (A i) f refused r ≡ A (i + 1) refused r)
+pub loop_next : {before after : Running → Type 0} {cfg : ServeConfig} {base : Start} {mid seen : Seen} {r : Running} (A : ℕ → Action) (f : Action) (i : ℕ) → ((refused : List ℕ) → then_do (A i) f refused r ≡ A (i + 1) refused r)
     → (a : Reached before cfg base mid r (A i)) → Reached after cfg base seen a.done f → Reached after cfg base seen r (A (i + 1))
 loop_next A f i next a b = reached_as (A (i + 1)) next (reached_then a b)
 
 -- a step that stopped stops all
-pub loop_stops : {before : Running → Type 0} {cfg : ServeConfig} {base mid seen : Seen} {r : Running} (A : ℕ → Action) → GoesUp A → (f : Action) (i m : ℕ) → i < m → ((refused : List ℕ) → then_do (A i) f refused r ≡ A (i + 1) refused r)
+pub loop_stops : {before : Running → Type 0} {cfg : ServeConfig} {base : Start} {mid seen : Seen} {r : Running} (A : ℕ → Action) → GoesUp A → (f : Action) (i m : ℕ) → i < m → ((refused : List ℕ) → then_do (A i) f refused r ≡ A (i + 1) refused r)
     → (a : Reached before cfg base mid r (A i)) → Stopped cfg base seen a.done f → Stopped cfg base seen r (A m)
 loop_stops {r = r} A up f i m h next a b = stopped_more (A (i + 1)) (A m) (λ refused. goes_to A up (i + 1) m (omega (arith, h)) refused r) (stopped_as (A (i + 1)) next (stopped_then a b))
 
 -- the last step was made
-pub loop_ends : {stands : Running → Type 0} {cfg : ServeConfig} {base seen : Seen} {r : Running} (A : ℕ → Action) (i m : ℕ) → i ≤ m → m ≤ i → Reached stands cfg base seen r (A i) → Reached stands cfg base seen r (A m)
+pub loop_ends : {stands : Running → Type 0} {cfg : ServeConfig} {base : Start} {seen : Seen} {r : Running} (A : ℕ → Action) (i m : ℕ) → i ≤ m → m ≤ i → Reached stands cfg base seen r (A i) → Reached stands cfg base seen r (A m)
 loop_ends {r = r} A i m h k a = let same : i ≡ m = omega (arith, h, k) in reached_as (A m) (λ refused. ap (λ n. A n refused r) same) a
 
 -- ---- injections

@@ -24,36 +24,46 @@ use Rattle.node_model.specs.State.{NodeState}
 use Rattle.node_core.specs.declared.node.Node.{Node}
 use Rattle.node_core.specs.Stands.{NodeStands}
 use Rattle.node_core.specs.Queued.{queued_at}
-use Rattle.serve_model.specs.Runs.{Running, acts_of, node_by, entries_at, with_entry, holding, marked, then_do, make, inject_one, inject_to, hear, frames_in, queued_on, come_back, take_back, loop_back, send_taken, take_send, repeat_send, flush_device, flush_to, turn, time_at, turns, peers_of}
+use Rattle.serve_model.specs.Runs.{Running, acts_of, node_by, entries_at, with_entry, holding, marked, then_do, make, first_on, inject_one, inject_to, hear, frames_in, queued_on, come_back, take_back, loop_back, send_taken, take_send, repeat_send, flush_device, flush_to, turn, time_at, turns, peers_of}
 use Rattle.serve_model.specs.Texts.{lines_text}
 use Rattle.serve_model.specs.Follow.{entry_of}
-use Rattle.node_serve.specs.Shown.{Seen, run_log, Shows, Reached, Stopped, Leaves, UsedUpTo}
+use Rattle.node_serve.specs.Sendings.{sending, sent_at, frames_of, SendsNone}
+use Rattle.node_serve.specs.Shown.{Seen, Start, run_log, Sees, Shows, Reached, Stopped, Leaves, UsedUpTo}
 use Rattle.node_io.proofs.Taking.{rest_next}
-use Rattle.node_serve.proofs.Showing.{shows_entry, fronts_log, fronts_lines, shows_sent}
-use Rattle.node_serve.proofs.Following.{reached_make, stopped_make, back_lost, send_lost, send_took, send_failed}
+use Rattle.node_serve.proofs.Showing.{sees_entry, sees_sent, shows_holding}
+use Rattle.node_serve.proofs.FrameLaws.{sends_on}
+use Rattle.node_serve.proofs.Agreeing.{frames_next, shows_unsent, fronts_unsent, fronts_log, fronts_lines}
+use Rattle.node_serve.proofs.Following.{reached_make, stopped_make, back_lost, send_lost, sent_events, send_took, send_failed}
 use Rattle.node_serve.specs.declared.server.Server.{Server}
 use Rattle.node_serve.specs.declared.steps.StepOutcome.{StepOutcome}
 use Rattle.node_serve.specs.declared.steps.StepOutcome.TheVariants.{Lost, Took}
 use Rattle.node_serve.specs.declared.steps.StepTexts.{StepTexts}
-use Rattle.node_serve.specs.Steps.{was_lost, Written, WrittenFront, in_log, in_trace, sending}
+use Rattle.node_serve.specs.Steps.{was_lost, Written, WrittenFront, in_log, in_trace}
 use Rattle.node_serve.specs.Stays.{StandsFor, Makes}
 
-pub made_reached : {S : Type 0} (stands : S → ServiceState) (cfg : ServeConfig) (base seen : Seen) (r : Running) (e : Event) (made : StepOutcome) (server : Server S) → Makes stands cfg base seen r e made server → Reached (StandsFor stands server) cfg base seen r (make e)
-made_reached stands cfg base seen r e made server m = reached_make (StandsFor stands server) cfg base seen r e (was_lost made) m.stands_for m.shows
+-- an entry that sends nothing
+none_of : (b : Bool) (e : Event) (node : NodeState) → SendsNone e → sent_at node (entry_of b e) ≡ []
+none_of true e node none = refl
+none_of false e node none = none node
+
+pub made_reached : {S : Type 0} (stands : S → ServiceState) (cfg : ServeConfig) (base : Start) (old seen : Seen) (r : Running) (e : Event) (made : StepOutcome) (server : Server S) → SendsNone e → Shows cfg base old r
+    → Makes stands cfg base seen r e made server → Reached (StandsFor stands server) cfg base seen r (make e)
+made_reached stands cfg base old seen r e made server none sh m =
+    reached_make (StandsFor stands server) cfg base seen r e (was_lost made) m.stands_for (shows_unsent cfg base old seen (entry_of (was_lost made) e) r sh (none_of (was_lost made) e r.node none) m.sees)
 
 -- the lines of a step with this number are those of the next entry
 lines_are : (here : Host) (n k : ℕ) (r : Running) (e : LogEvent) → n ≡ k + 1 → k ≡ length r.events → lines_text here (entries_at n (acts_of r.node e)) ≡ lines_text here (entries_at (length r.events + 1) (acts_of r.node e))
 lines_are here n k r e number steps = ap (λ m. lines_text here (entries_at m (acts_of r.node e))) (number ∙ ap (λ m. m + 1) steps)
 
-module _ {S : Type 0} (stands : S → ServiceState) (cfg : ServeConfig) (base old new : Seen) (r : Running) (e : Event) (n : ℕ) (texts : StepTexts) (server : Server S) (node : Node S)
+module _ {S : Type 0} (stands : S → ServiceState) (cfg : ServeConfig) (base : Start) (old new : Seen) (r : Running) (e : Event) (n : ℕ) (texts : StepTexts) (server : Server S) (node : Node S)
     (st : StandsFor stands server r) (sh : Shows cfg base old r) (number : n ≡ server.steps + 1) (w : Written stands cfg.node n r.node e texts node) where
   pub step_stopped : (line lines : List ℕ) → line ≡ texts.line → lines ≡ texts.lines → WrittenFront old.files new.files old.target line old.taken new.taken lines → new.sent ≡ old.sent → Stopped cfg base new r (make e)
   step_stopped line lines l m (in_log front same) sent =
       stopped_make cfg base new r e (was_lost texts.made)
-      (fronts_log cfg base old new (entry_of (was_lost texts.made) e) r sh (subst (WritesFront old.files new.files old.target) (l ∙ w.line) front) same sent)
+      (fronts_log cfg base old new (entry_of (was_lost texts.made) e) r sh w.readable (subst (WritesFront old.files new.files old.target) (l ∙ w.line) front) same sent)
   step_stopped line lines l m (in_trace log front) sent =
       stopped_make cfg base new r e (was_lost texts.made)
-      (fronts_lines cfg base old new (entry_of (was_lost texts.made) e) r sh (subst (WritesMore old.files new.files old.target) (l ∙ w.line) log)
+      (fronts_lines cfg base old new (entry_of (was_lost texts.made) e) r sh w.readable (subst (WritesMore old.files new.files old.target) (l ∙ w.line) log)
       (subst (AppendsFront old.taken new.taken) (m ∙ w.lines ∙ lines_are cfg.node.here n server.steps r (entry_of (was_lost texts.made) e) number st.steps) front) sent)
 
   pub step_made : (after : Server S) (line lines : List ℕ) → line ≡ texts.line → lines ≡ texts.lines → WritesMore old.files new.files old.target line → new.taken ≡ old.taken ++ lines → new.target ≡ old.target → new.sent ≡ old.sent
@@ -68,7 +78,7 @@ module _ {S : Type 0} (stands : S → ServiceState) (cfg : ServeConfig) (base ol
           held = ah ∙ st.held;
           steps = as_ ∙ number ∙ ap (λ k. k + 1) st.steps ∙ sym (length-append r.events (entry ∷ []));
         };
-        shows = shows_entry cfg base old new entry r sh w.readable (subst (WritesMore old.files new.files old.target) (l ∙ w.line) log) target
+        sees = sees_entry cfg base old new entry r sh.sees w.readable (subst (WritesMore old.files new.files old.target) (l ∙ w.line) log) target
             (out ∙ ap (λ x. old.taken ++ x) (m ∙ w.lines ∙ lines_are cfg.node.here n server.steps r entry number st.steps)) sent;
         frame = w.frame;
       }
@@ -84,13 +94,13 @@ stands_holding stands server after r b st n l h k = record { node = subst (λ x.
 -- ---- what a step gave
 
 -- a refused taking for the node itself
-pub back_refused : {S : Type 0} (stands : S → ServiceState) (cfg : ServeConfig) (base seen : Seen) (r : Running) (server : Server S) → Makes stands cfg base seen r (Take (dev_of 0)) Lost server → Reached (StandsFor stands server) cfg base seen r take_back
-back_refused stands cfg base seen r server m = back_lost (StandsFor stands server) cfg base seen r m.stands_for m.shows
+pub back_refused : {S : Type 0} (stands : S → ServiceState) (cfg : ServeConfig) (base : Start) (old seen : Seen) (r : Running) (server : Server S) → Shows cfg base old r → Makes stands cfg base seen r (Take (dev_of 0)) Lost server → Reached (StandsFor stands server) cfg base seen r take_back
+back_refused stands cfg base old seen r server sh m = back_lost (StandsFor stands server) cfg base seen r m.stands_for (shows_unsent cfg base old seen entry.Lost r sh refl m.sees)
 
 -- a refused taking for a neighbour
-pub send_refused : {S : Type 0} (stands : S → ServiceState) (cfg : ServeConfig) (base seen : Seen) (r : Running) (d : Dev) (server after : Server S) → r.held ≡ false → Makes stands cfg base seen r (Take d) Lost server
+pub send_refused : {S : Type 0} (stands : S → ServiceState) (cfg : ServeConfig) (base : Start) (old seen : Seen) (r : Running) (d : Dev) (server after : Server S) → r.held ≡ false → Shows cfg base old r → Makes stands cfg base seen r (Take d) Lost server
     → after.node ≡ server.node → after.last ≡ server.last → after.held ≡ true → after.steps ≡ server.steps → Reached (StandsFor stands after) cfg base seen r (take_send d)
-send_refused stands cfg base seen r d server after h m n l k s = send_lost (StandsFor stands after) cfg base seen r d h (stands_holding stands server after (with_entry entry.Lost r) true m.stands_for n l k s) m.shows
+send_refused stands cfg base old seen r d server after h sh m n l k s = send_lost (StandsFor stands after) cfg base seen r d h (stands_holding stands server after (with_entry entry.Lost r) true m.stands_for n l k s) (shows_unsent cfg base old seen entry.Lost r sh refl m.sees)
 
 sent_by : (d : Dev) (x : Option PlainStamped) (r : Running) → (send_taken d x r).sent ≡ r.sent ++ sending d x
 sent_by d None r = sym (append-nil r.sent)
@@ -100,31 +110,42 @@ stands_sent : {S : Type 0} (stands : S → ServiceState) (server : Server S) (d 
 stands_sent stands server d None r st = st
 stands_sent stands server d (Some x) r st = record { node = st.node; last = st.last; held = st.held; steps = st.steps }
 
-shows_taken : (cfg : ServeConfig) (base old new : Seen) (d : Dev) (x : Option PlainStamped) (r : Running) → Shows cfg base old r → new.files ≡ old.files → new.target ≡ old.target → new.taken ≡ old.taken → new.sent ≡ old.sent ++ sending d x → Shows cfg base new (send_taken d x r)
-shows_taken cfg base old new d None r h f t k s = record {
+sees_taken : (cfg : ServeConfig) (base : Start) (old new : Seen) (d : Dev) (x : Option PlainStamped) (r : Running) → Sees cfg base old r → new.files ≡ old.files → new.target ≡ old.target → new.taken ≡ old.taken → new.sent ≡ old.sent ++ sending d x → Sees cfg base new (send_taken d x r)
+sees_taken cfg base old new d None r h f t k s = record {
+  grows = h.grows;
   log = subst (λ y. ChangesOnly base.files y cfg.log (run_log cfg r)) (sym f) h.log;
   target = t ∙ h.target;
   out = k ∙ h.out;
   sent = s ∙ append-nil old.sent ∙ h.sent;
   readable = h.readable;
 }
-shows_taken cfg base old new d (Some x) r h f t k s = shows_sent cfg base old new d x (stamped_bytes x) r h refl f t k s
+sees_taken cfg base old new d (Some x) r h f t k s = sees_sent cfg base old new d x (stamped_bytes x) r h refl f t k s
+
+frames_taken : (cfg : ServeConfig) (base : Start) (old : Seen) (r : Running) (d : Dev) (x : Option PlainStamped) → Shows cfg base old r → 0 < d.0 → x ≡ first_on r.node d
+    → (send_taken d x (with_entry (entry.Step (Take d)) r)).sent ≡ frames_of base.node (send_taken d x (with_entry (entry.Step (Take d)) r)).events
+unfolding with_entry
+frames_taken cfg base old r d x h there e =
+    let taken = with_entry (entry.Step (Take d)) r in
+    sent_by d x taken ∙ ap (λ l. l ++ sending d x) h.frames ∙ ap (λ l. frames_of base.node r.events ++ l) (sym (sends_on r.node d there ∙ ap (sending d) (sym e)))
+    ∙ sym (frames_next base.node (entry.Step (Take d)) r h.sees.grows) ∙ ap (frames_of base.node) (sym (sent_events d x taken))
 
 -- a frame that was taken, and sent or not
-pub send_result : {S T E : Type 0} (stands : S → ServiceState) (cfg : ServeConfig) (base old new : Seen) (r : Running) (d : Dev) (x : Option PlainStamped) (server : Server S) (result : Result T E) → r.held ≡ false → Makes stands cfg base old r (Take d) (Took x) server
+pub send_result : {S T E : Type 0} (stands : S → ServiceState) (cfg : ServeConfig) (base : Start) (before old new : Seen) (r : Running) (d : Dev) (x : Option PlainStamped) (server : Server S) (result : Result T E) → r.held ≡ false → 0 < d.0 → Shows cfg base before r → Makes stands cfg base old r (Take d) (Took x) server
     → MatchResult result (λ _. new.sent ≡ old.sent ++ sending d x) (λ _. new.sent ≡ old.sent) → new.files ≡ old.files → new.target ≡ old.target → new.taken ≡ old.taken → Leaves (StandsFor stands server) cfg base new r (take_send d) result
-send_result stands cfg base old new r d x server (Ok y) h m s f t k =
+send_result stands cfg base before old new r d x server (Ok y) h there sh m s f t k =
     let taken = with_entry (entry.Step (Take d)) r in
-    send_took (StandsFor stands server) cfg base new r d x h (m.frame refl) (stands_sent stands server d x taken m.stands_for) (shows_taken cfg base old new d x taken m.shows f t k s)
-send_result stands cfg base old new r d x server (Err y) h m s f t k =
+    send_took (StandsFor stands server) cfg base new r d x h (m.frame refl) (stands_sent stands server d x taken m.stands_for)
+    (record { sees = sees_taken cfg base old new d x taken m.sees f t k s; frames = frames_taken cfg base before r d x sh there (m.frame refl) })
+send_result stands cfg base before old new r d x server (Err y) h there sh m s f t k =
     let taken = with_entry (entry.Step (Take d)) r in
-    send_failed cfg base new r d h (record {
-      log = subst (λ z. ChangesOnly base.files z cfg.log (run_log cfg taken)) (sym f) m.shows.log;
-      target = t ∙ m.shows.target;
-      out = k ∙ m.shows.out;
-      sent = s ∙ m.shows.sent;
-      readable = m.shows.readable;
-    })
+    send_failed cfg base new r d h (fronts_unsent cfg base before new (entry.Step (Take d)) r sh (record {
+      grows = m.sees.grows;
+      log = subst (λ z. ChangesOnly base.files z cfg.log (run_log cfg taken)) (sym f) m.sees.log;
+      target = t ∙ m.sees.target;
+      out = k ∙ m.sees.out;
+      sent = s ∙ m.sees.sent;
+      readable = m.sees.readable;
+    }))
 
 -- ---- tests of the code, and of the definition
 
@@ -208,11 +229,11 @@ pub turns_next : (cfg : ServeConfig) (script : List Arrival) (last : ℕ) (answe
 unfolding turns
 turns_next cfg script last answers i r refused = ap (λ n. turns cfg script last answers n refused r) (add_one i)
 
-pub shows_held : (cfg : ServeConfig) (base seen : Seen) (r : Running) → Shows cfg base seen r → Shows cfg base seen (holding false r)
-shows_held cfg base seen r s = record { log = s.log; target = s.target; out = s.out; sent = s.sent; readable = s.readable }
+pub shows_held : (cfg : ServeConfig) (base : Start) (seen : Seen) (r : Running) → Shows cfg base seen r → Shows cfg base seen (holding false r)
+shows_held cfg base seen r s = shows_holding cfg base seen false r s
 
 -- what a step gave, by its case
-pub made_as : {S : Type 0} (stands : S → ServiceState) (cfg : ServeConfig) (base seen : Seen) (r : Running) (e : Event) (made now : StepOutcome) (server : Server S) → made ≡ now → Makes stands cfg base seen r e made server → Makes stands cfg base seen r e now server
+pub made_as : {S : Type 0} (stands : S → ServiceState) (cfg : ServeConfig) (base : Start) (seen : Seen) (r : Running) (e : Event) (made now : StepOutcome) (server : Server S) → made ≡ now → Makes stands cfg base seen r e made server → Makes stands cfg base seen r e now server
 made_as stands cfg base seen r e made now server same m = subst (λ x. Makes stands cfg base seen r e x server) same m
 
 -- no frame was queued for the node itself

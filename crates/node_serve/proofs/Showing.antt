@@ -1,10 +1,9 @@
 -- What stands outside when one more step was written.
-use Rattle.std.proofs.Common.{◌≡◌, ℕ, ◌+◌, List, [], ◌∷◌, ◌++◌, length, take, Option, Some, None, IsSome, unwrap_or, refl, sym, ◌∙◌, ap, subst, codes, append_assoc, append-nil}
+use Rattle.std.proofs.Common.{◌≡◌, ℕ, ◌+◌, Bool, List, [], ◌∷◌, ◌++◌, length, Option, Some, None, IsSome, unwrap_or, refl, sym, ◌∙◌, ap, subst, codes, append_assoc, append-nil}
 use Rattle.std.specs.List.{All, flat_map}
 use Rattle.std.proofs.lemmas.List.Elements.{All-nil, All-cons, All-append}
 use Rattle.std.proofs.lemmas.Bool.{false≢true}
 use Rattle.std.proofs.lemmas.Grind.{flat_map-append}
-use Rattle.std.proofs.Math.Seq.{take-append-add, take-length}
 use Rattle.link_window.specs.declared.window.Version.{Version}
 use Rattle.network_plan.specs.declared.event.LogEvent.{LogEvent}
 use Rattle.network_plan.specs.declared.serve.ServeConfig.{ServeConfig}
@@ -13,10 +12,10 @@ use Rattle.packet_frame.specs.declared.frame.PlainStamped.{PlainStamped}
 use Rattle.packet_frame.specs.Stamped.{stamped_bytes}
 use Rattle.node_files.specs.LogTexts.{head_text, entry_text}
 use Rattle.node_io.specs.FileMaps.{FileMap, file_at, contents, ChangesOnly, WritesMore}
-use Rattle.node_serve.specs.Fronts.{AppendsFront, WritesFront}
-use Rattle.serve_model.specs.Runs.{Running, acts_of, entries_at, with_entry, with_sent}
+use Rattle.serve_model.specs.Runs.{Running, opened, acts_of, entries_at, with_entry, marked, holding, with_sent}
 use Rattle.serve_model.specs.Texts.{trace_line, lines_text, begun_trace}
-use Rattle.node_serve.specs.Shown.{Seen, run_log, run_trace, IsReadable, Shows, Fronts}
+use Rattle.serve_model.proofs.Going.{ext_trans, ext_entry, ext_marked, ext_holding, ext_sent}
+use Rattle.node_serve.specs.Shown.{Seen, Start, run_log, run_trace, IsReadable, Sees, Shows}
 
 -- ---- files
 
@@ -52,20 +51,21 @@ pub trace_more : (cfg : ServeConfig) (e : LogEvent) (r : Running) → run_trace 
 unfolding begun_trace lines_text with_entry
 trace_more cfg e r = text_more (codes "planet trace 1\n") (trace_line cfg.node.here) r.entries (entries_at (length r.events + 1) (acts_of r.node e))
 
--- ---- a step that was written, whole or in part
+-- ---- a step that was written
 
-sent_same : (e : LogEvent) (r : Running) → (with_entry e r).sent ≡ r.sent
+pub sent_same : (e : LogEvent) (r : Running) → (with_entry e r).sent ≡ r.sent
 unfolding with_entry
 sent_same e r = refl
 
-readable_more : (v : Version) (e : LogEvent) (r : Running) → All (IsReadable v) r.events → IsReadable v e → All (IsReadable v) (with_entry e r).events
+pub readable_more : (v : Version) (e : LogEvent) (r : Running) → All (IsReadable v) r.events → IsReadable v e → All (IsReadable v) (with_entry e r).events
 unfolding with_entry
 readable_more v e r h k = All-append (IsReadable v) r.events (e ∷ []) h (All-cons (IsReadable v) e [] k (All-nil (IsReadable v)))
 
-pub shows_entry : (cfg : ServeConfig) (base old new : Seen) (e : LogEvent) (r : Running) → Shows cfg base old r → IsReadable cfg.node.version e
+pub sees_entry : (cfg : ServeConfig) (base : Start) (old new : Seen) (e : LogEvent) (r : Running) → Sees cfg base old r → IsReadable cfg.node.version e
     → WritesMore old.files new.files old.target (entry_text e) → new.target ≡ old.target → new.taken ≡ old.taken ++ next_lines cfg e r → new.sent ≡ old.sent
-    → Shows cfg base new (with_entry e r)
-shows_entry cfg base old new e r h k log target out sent = record {
+    → Sees cfg base new (with_entry e r)
+sees_entry cfg base old new e r h k log target out sent = record {
+  grows = ext_trans (opened base.node) r (with_entry e r) h.grows (ext_entry e r);
   log = subst (ChangesOnly base.files new.files cfg.log) (sym (log_more cfg e r)) (changes_more base.files old.files new.files cfg.log old.target (run_log cfg r) (entry_text e) h.log h.target log);
   target = target ∙ h.target;
   out = out ∙ ap (λ l. l ++ next_lines cfg e r) h.out ∙ append_assoc base.taken (run_trace cfg r) (next_lines cfg e r) ∙ ap (λ l. base.taken ++ l) (sym (trace_more cfg e r));
@@ -73,54 +73,43 @@ shows_entry cfg base old new e r h k log target out sent = record {
   readable = readable_more cfg.node.version e r h.readable k;
 }
 
--- all of it is a prefix
-pub fronts_whole : (cfg : ServeConfig) (base seen : Seen) (r : Running) → Shows cfg base seen r → Fronts cfg base seen r
-fronts_whole cfg base seen r h = record {
-  count = length (run_log cfg r);
-  log = subst (ChangesOnly base.files seen.files cfg.log) (sym (take-length (run_log cfg r))) h.log;
-  out = record { count = length (run_trace cfg r); is = h.out ∙ ap (λ l. base.taken ++ l) (sym (take-length (run_trace cfg r))) };
-  sent = h.sent;
-}
-
--- the log line was written in part
-pub fronts_log : (cfg : ServeConfig) (base old new : Seen) (e : LogEvent) (r : Running) → Shows cfg base old r
-    → WritesFront old.files new.files old.target (entry_text e) → new.taken ≡ old.taken → new.sent ≡ old.sent
-    → Fronts cfg base new (with_entry e r)
-fronts_log cfg base old new e r h log out sent =
-    let before = run_log cfg r in
-    let front = sym (take-append-add before (entry_text e) log.count) ∙ ap (take (length before + log.count)) (sym (log_more cfg e r)) in
-    let traced = sym (take-append-add (run_trace cfg r) (next_lines cfg e r) 0) ∙ ap (take (length (run_trace cfg r) + 0)) (sym (trace_more cfg e r)) in
-    record {
-      count = length before + log.count;
-      log = subst (ChangesOnly base.files new.files cfg.log) front (changes_more base.files old.files new.files cfg.log old.target before (take log.count (entry_text e)) h.log h.target log.is);
-      out = record { count = length (run_trace cfg r) + 0; is = out ∙ h.out ∙ ap (λ l. base.taken ++ l) (sym (append-nil (run_trace cfg r)) ∙ traced) };
-      sent = sent ∙ h.sent ∙ ap (λ l. base.sent ++ l) (sym (sent_same e r));
-    }
-
--- the log line was written, and its lines in part
-pub fronts_lines : (cfg : ServeConfig) (base old new : Seen) (e : LogEvent) (r : Running) → Shows cfg base old r
-    → WritesMore old.files new.files old.target (entry_text e) → AppendsFront old.taken new.taken (next_lines cfg e r) → new.sent ≡ old.sent
-    → Fronts cfg base new (with_entry e r)
-fronts_lines cfg base old new e r h log out sent =
-    let before = run_trace cfg r in
-    let whole = run_log cfg (with_entry e r) in
-    let logged = subst (ChangesOnly base.files new.files cfg.log) (sym (log_more cfg e r)) (changes_more base.files old.files new.files cfg.log old.target (run_log cfg r) (entry_text e) h.log h.target log) in
-    let front = sym (take-append-add before (next_lines cfg e r) out.count) ∙ ap (take (length before + out.count)) (sym (trace_more cfg e r)) in
-    record {
-      count = length whole;
-      log = subst (ChangesOnly base.files new.files cfg.log) (sym (take-length whole)) logged;
-      out = record { count = length before + out.count; is = out.is ∙ ap (λ l. l ++ take out.count (next_lines cfg e r)) h.out ∙ append_assoc base.taken before (take out.count (next_lines cfg e r)) ∙ ap (λ l. base.taken ++ l) front };
-      sent = sent ∙ h.sent ∙ ap (λ l. base.sent ++ l) (sym (sent_same e r));
-    }
-
 -- a frame that was sent
-pub shows_sent : (cfg : ServeConfig) (base old new : Seen) (d : Dev) (x : PlainStamped) (bytes : List ℕ) (r : Running) → Shows cfg base old r
+pub sees_sent : (cfg : ServeConfig) (base : Start) (old new : Seen) (d : Dev) (x : PlainStamped) (bytes : List ℕ) (r : Running) → Sees cfg base old r
     → bytes ≡ stamped_bytes x → new.files ≡ old.files → new.target ≡ old.target → new.taken ≡ old.taken → new.sent ≡ old.sent ++ (d, bytes) ∷ []
-    → Shows cfg base new (with_sent d x r)
-shows_sent cfg base old new d x bytes r h spelled files target out sent = record {
+    → Sees cfg base new (with_sent d x r)
+sees_sent cfg base old new d x bytes r h spelled files target out sent = record {
+  grows = ext_trans (opened base.node) r (with_sent d x r) h.grows (ext_sent d x r);
   log = subst (λ f. ChangesOnly base.files f cfg.log (run_log cfg r)) (sym files) h.log;
   target = target ∙ h.target;
   out = out ∙ h.out;
   sent = sent ∙ ap (λ l. l ++ (d, bytes) ∷ []) h.sent ∙ append_assoc base.sent r.sent ((d, bytes) ∷ []) ∙ ap (λ b. base.sent ++ (r.sent ++ (d, b) ∷ [])) spelled;
   readable = h.readable;
+}
+
+-- ---- what isn't shown
+
+pub shows_marked : (cfg : ServeConfig) (base : Start) (seen : Seen) (t : ℕ) (r : Running) → Shows cfg base seen r → Shows cfg base seen (marked t r)
+shows_marked cfg base seen t r h = record {
+  sees = record {
+    grows = ext_trans (opened base.node) r (marked t r) h.sees.grows (ext_marked t r);
+    log = h.sees.log;
+    target = h.sees.target;
+    out = h.sees.out;
+    sent = h.sees.sent;
+    readable = h.sees.readable;
+  };
+  frames = h.frames;
+}
+
+pub shows_holding : (cfg : ServeConfig) (base : Start) (seen : Seen) (b : Bool) (r : Running) → Shows cfg base seen r → Shows cfg base seen (holding b r)
+shows_holding cfg base seen b r h = record {
+  sees = record {
+    grows = ext_trans (opened base.node) r (holding b r) h.sees.grows (ext_holding b r);
+    log = h.sees.log;
+    target = h.sees.target;
+    out = h.sees.out;
+    sent = h.sees.sent;
+    readable = h.sees.readable;
+  };
+  frames = h.frames;
 }

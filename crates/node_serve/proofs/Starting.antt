@@ -13,7 +13,7 @@ use Rattle.node_model.specs.State.{NodeState}
 use Rattle.service_api.specs.Services.{ServiceState}
 use Rattle.serve_model.specs.Runs.{opened}
 use Rattle.node_serve.specs.Stays.{StandsFor}
-use Rattle.node_serve.specs.Desks.{Desk, desk, Serving, desk_of, with_clock, seen_at, OthersStay, OnlyServes, KeepsDesk, Faults}
+use Rattle.node_serve.specs.Desks.{Desk, desk, Serving, desk_of, with_clock, start_at, OthersStay, OnlyServes, KeepsDesk, Faults}
 use Rattle.node_serve.specs.Served.{IsBound}
 use Rattle.node_serve.specs.Openings.{BindsNode, MayBindNode, MakesLog, BeginsLog, NoneUnbound, Opens}
 use Rattle.node_serve.specs.Serves.{Finishes, Serves}
@@ -167,7 +167,7 @@ module _ {S : Type 0} (stands : S → ServiceState) (cfg : ServeConfig) (n : ℕ
     keeps = g.keeps;
     faults = g.faults;
     ends = λ seen clock node first st begins.
-        stopped cfg node n first a b begins ((g.goes clock).run seen (seen_at first) (opened node) st (begins.shows node)) g.keeps.binds (g.script seen.2) (g.answers clock);
+        stopped cfg node n first a b begins ((g.goes clock).run seen (start_at first node) (opened node) st (begins.shows node)) g.keeps.binds (g.script seen.2) (g.answers clock);
   }
 
   keeps_out : (o : SinkState) → o.observable ≡ b.out.observable → b.out.faults ≤ o.faults → KeepsDesk (desk_of b) (desk b.files o b.link)
@@ -188,7 +188,7 @@ module _ {S : Type 0} (stands : S → ServiceState) (cfg : ServeConfig) (n : ℕ
       keeps = keeps_both (desk_of a) (desk_of b) (desk b.files o b.link) g.keeps (keeps_out o f.is.same f.is.later);
       faults = inr (omega (arith, g.keeps.only.out_later, f.rose));
       ends = λ seen clock node first st begins.
-          cut cfg node n first a b begins o ((g.goes clock).run seen (seen_at first) (opened node) st (begins.shows node))
+          cut cfg node n first a b begins o ((g.goes clock).run seen (start_at first node) (opened node) st (begins.shows node))
           (record { count = f.count; is = f.is.taken (subst IsTrue (sym g.keeps.only.out) seen.1) }) g.keeps.binds (g.script seen.2) (g.answers clock);
     }
 
@@ -197,7 +197,7 @@ module _ {S : Type 0} (stands : S → ServiceState) (cfg : ServeConfig) (n : ℕ
       keeps = keeps_both (desk_of a) (desk_of b) (desk b.files o b.link) g.keeps (keeps_out o w.same w.later);
       faults = tt;
       ends = λ seen clock node first st begins.
-          served cfg node n first a b begins o ((g.goes clock).run seen (seen_at first) (opened node) st (begins.shows node))
+          served cfg node n first a b begins o ((g.goes clock).run seen (start_at first node) (opened node) st (begins.shows node))
           (w.taken (subst IsTrue (sym g.keeps.only.out) seen.1)) g.keeps.binds (g.script seen.2) (g.answers clock);
     }
 

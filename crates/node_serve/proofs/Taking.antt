@@ -1,5 +1,5 @@
 -- Frames that are taken: those that come back to the node, and those that are sent.
-use Rattle.std.proofs.Common.{◌≡◌, ◌++◌, ◌∷◌, [], true, false, IsTrue, ℕ, List, Option, Some, None, Result, Ok, Err, MatchResult, refl, sym, ap, ◌∙◌, arith, append-nil}
+use Rattle.std.proofs.Common.{◌≡◌, ◌<◌, ◌++◌, ◌∷◌, [], true, false, IsTrue, ℕ, List, Option, Some, None, Result, Ok, Err, MatchResult, refl, sym, ap, ◌∙◌, arith, append-nil}
 use Rattle.plan_base.specs.declared.ids.Dev.{Dev}
 use Rattle.packet_frame.specs.declared.frame.PlainStamped.{PlainStamped}
 use Rattle.packet_frame.specs.Stamped.{stamped_bytes}
@@ -14,7 +14,8 @@ use Rattle.node_io.specs.Sinks.{SinkState}
 use Rattle.node_io.proofs.FileWrites.{only_same}
 use Rattle.serve_model.specs.Runs.{with_entry, come_back, take_back, take_send}
 use Rattle.node_serve.specs.Stays.{StandsFor}
-use Rattle.node_serve.specs.Steps.{sending, SendResult, SendsTaken}
+use Rattle.node_serve.specs.Sendings.{sending}
+use Rattle.node_serve.specs.Steps.{SendResult, SendsTaken}
 use Rattle.node_serve.specs.Desks.{Desk, desk, seen_at, KeepsDesk, Faults}
 use Rattle.node_serve.specs.Goes.{Goes, MakesStep}
 use Rattle.node_serve.specs.declared.server.Server.{Server}
@@ -24,6 +25,7 @@ use Rattle.node_serve.specs.declared.fault.ServeFault.{ServeFault}
 use Rattle.node_serve.specs.declared.fault.ServeFault.TheVariants.{LinkFault, WriteFault, NoMemory}
 use Rattle.node_serve.proofs.Following.{held_is, back_took, stopped_back, send_stopped}
 use Rattle.node_serve.proofs.MakeLaws.{back_refused, send_refused, send_result, made_as}
+use Rattle.node_serve.proofs.Agreeing.{shows_unsent}
 use Rattle.node_serve.proofs.Joining.{others_same, keeps_both, seen_on, faults_from, goes_same}
 
 -- ---- a frame to the node itself
@@ -34,7 +36,7 @@ module _ {S : Type 0} (stands : S → ServiceState) (cfg : ServeConfig) (first m
   back_lost made x is m = record {
     keeps = m.keeps;
     faults = tt;
-    run = λ seen base r st sh. back_refused stands cfg base (seen_at b) r mid (made_as stands cfg base (seen_at b) r (Take (dev_of 0)) made Lost mid is (m.run seen base r st sh));
+    run = λ seen base r st sh. back_refused stands cfg base (seen_at a) (seen_at b) r mid sh (made_as stands cfg base (seen_at b) r (Take (dev_of 0)) made Lost mid is (m.run seen base r st sh));
   }
 
   -- the frame was taken, and comes back
@@ -46,7 +48,7 @@ module _ {S : Type 0} (stands : S → ServiceState) (cfg : ServeConfig) (first m
     run = λ seen base r st sh.
         let took = made_as stands cfg base (seen_at b) r (Take (dev_of 0)) made (Took x) mid is (m.run seen base r st sh) in
         back_took (StandsFor stands last) cfg base (seen_at c) r x result (took.frame refl)
-        (u.run (seen_on a b m.keeps.only seen) base (with_entry (Step (Take (dev_of 0))) r) took.stands_for took.shows);
+        (u.run (seen_on a b m.keeps.only seen) base (with_entry (Step (Take (dev_of 0))) r) took.stands_for (shows_unsent cfg base (seen_at a) (seen_at b) (Step (Take (dev_of 0))) r sh refl took.sees));
   }
 
   -- the step wasn't written
@@ -116,7 +118,7 @@ module _ {S : Type 0} (stands : S → ServiceState) (cfg : ServeConfig) (d : Dev
   send_lost a b made after x free is m n l h k = record {
     keeps = m.keeps;
     faults = tt;
-    run = λ seen base r st sh. send_refused stands cfg base (seen_at b) r d mid after (sym st.held ∙ free) (made_as stands cfg base (seen_at b) r (Take d) made Lost mid is (m.run seen base r st sh)) n l h k;
+    run = λ seen base r st sh. send_refused stands cfg base (seen_at a) (seen_at b) r d mid after (sym st.held ∙ free) sh (made_as stands cfg base (seen_at b) r (Take d) made Lost mid is (m.run seen base r st sh)) n l h k;
   }
 
   -- the step wasn't written
@@ -128,13 +130,13 @@ module _ {S : Type 0} (stands : S → ServiceState) (cfg : ServeConfig) (d : Dev
   }
 
   -- the frame was taken, and sent or not
-  pub send_took : {T : Type 0} (a : Desk) (fs : FilesState) (o : SinkState) (old new : LinkState) (made : StepOutcome) (x : Option PlainStamped) (result : Result T ServeFault) → first.held ≡ false → made ≡ Took x
+  pub send_took : {T : Type 0} (a : Desk) (fs : FilesState) (o : SinkState) (old new : LinkState) (made : StepOutcome) (x : Option PlainStamped) (result : Result T ServeFault) → first.held ≡ false → 0 < d.0 → made ≡ Took x
       → MakesStep stands cfg (Take d) first mid a (desk fs o old) (Ok made) → SendsTaken d x old new result → Goes stands cfg (take_send d) first mid a (desk fs o new) result
-  send_took a fs o old new made x result free is m s = record {
+  send_took a fs o old new made x result free there is m s = record {
     keeps = keeps_both a (desk fs o old) (desk fs o new) m.keeps (sent_keeps d x fs o old new result s);
     faults = faults_from a (desk fs o old) (desk fs o new) result m.keeps.only (sent_faults d x fs o old new result s.did);
     run = λ seen base r st sh.
         let before = seen_on a (desk fs o old) m.keeps.only seen in
-        send_result stands cfg base (seen_at (desk fs o old)) (seen_at (desk fs o new)) r d x mid result (sym st.held ∙ free)
+        send_result stands cfg base (seen_at a) (seen_at (desk fs o old)) (seen_at (desk fs o new)) r d x mid result (sym st.held ∙ free) there sh
         (made_as stands cfg base (seen_at (desk fs o old)) r (Take d) made (Took x) mid is (m.run seen base r st sh)) (sent_so d x fs o old new result before.2 s.did) refl refl refl;
   }

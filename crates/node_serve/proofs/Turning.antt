@@ -10,7 +10,7 @@ use Rattle.node_io.specs.Sinks.{SinkState}
 use Rattle.node_io.proofs.FileWrites.{only_same}
 use Rattle.serve_model.specs.Runs.{Running, Action, hear, turn, turns, time_at, peers_of, release, then_do, holding}
 use Rattle.serve_model.proofs.Going.{hear_grows}
-use Rattle.node_serve.specs.Shown.{Seen, Shows, UsesOne}
+use Rattle.node_serve.specs.Shown.{Start, Shows, UsesOne}
 use Rattle.node_serve.specs.Stays.{StandsFor}
 use Rattle.node_serve.specs.Desks.{Desk, desk, Serving, desk_of, seen_at, KeepsDesk}
 use Rattle.node_serve.specs.Goes.{Goes, GoesTurn, GoesTurns}
@@ -36,8 +36,18 @@ module _ {S : Type 0} (stands : S → ServiceState) (cfg : ServeConfig) (h : Opt
     binds = u.binds;
   }
 
-  heard_shows : (base : Seen) (r : Running) → Shows cfg base (seen_at (desk fs o old)) r → Shows cfg base (seen_at (desk fs o new)) r
-  heard_shows base r sh = record { log = sh.log; target = sh.target; out = sh.out; sent = u.sent ∙ sh.sent; readable = sh.readable }
+  heard_shows : (base : Start) (r : Running) → Shows cfg base (seen_at (desk fs o old)) r → Shows cfg base (seen_at (desk fs o new)) r
+  heard_shows base r sh = record {
+    sees = record {
+      grows = sh.sees.grows;
+      log = sh.sees.log;
+      target = sh.sees.target;
+      out = sh.sees.out;
+      sent = u.sent ∙ sh.sees.sent;
+      readable = sh.sees.readable;
+    };
+    frames = sh.frames;
+  }
 
   -- a frame that arrives
   pub hears_frame : {T : Type 0} (x : Heard) (last : Server S) (fs2 : FilesState) (o2 : SinkState) (result : Result T ServeFault) → (IsTrue old.observable → h ≡ Some x)

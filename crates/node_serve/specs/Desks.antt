@@ -6,7 +6,8 @@ use Rattle.node_io.specs.FileMaps.{file_at}
 use Rattle.node_io.specs.FileStates.{FilesState, OnlyWrites}
 use Rattle.node_io.specs.Links.{LinkState}
 use Rattle.node_io.specs.Sinks.{SinkState}
-use Rattle.node_serve.specs.Shown.{Seen}
+use Rattle.node_model.specs.State.{NodeState}
+use Rattle.node_serve.specs.Shown.{Seen, Start}
 use Rattle.node_serve.specs.declared.fault.ServeFault.{ServeFault}
 use Rattle.node_serve.specs.declared.fault.ServeFault.TheVariants.{LinkFault, WriteFault, NoMemory}
 
@@ -38,6 +39,10 @@ with_clock d clock = record { files = d.files; out = d.out; link = d.link; clock
 -- what of a desk a run changes
 abbrev pub seen_at : Desk → Seen
 seen_at d = record { files = d.files.held; target = d.files.target; taken = d.out.taken; sent = d.link.sent }
+
+-- what a run begins over, where the node is this one
+abbrev pub start_at : Desk → NodeState → Start
+start_at d node = record { files = d.files.held; taken = d.out.taken; sent = d.link.sent; node = node }
 
 -- all of it is observable
 abbrev pub IsSeen : Desk → Type 0

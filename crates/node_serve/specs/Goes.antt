@@ -6,7 +6,7 @@ use Rattle.node_io.specs.Clocks.{Tells}
 use Rattle.node_io.specs.Links.{next_heard}
 use Rattle.service_api.specs.Services.{ServiceState}
 use Rattle.serve_model.specs.Runs.{Running, Action, make, turn, turns, peers_of}
-use Rattle.node_serve.specs.Shown.{Seen, Shows, Stopped, Leaves, UsesOne, UsesUpTo}
+use Rattle.node_serve.specs.Shown.{Start, Shows, Stopped, Leaves, UsesOne, UsesUpTo}
 use Rattle.node_serve.specs.Stays.{StandsFor, Makes}
 use Rattle.node_serve.specs.Desks.{Desk, Serving, desk_of, seen_at, IsSeen, KeepsDesk, Faults}
 use Rattle.node_serve.specs.declared.server.Server.{Server}
@@ -18,7 +18,7 @@ pub record Goes {S T : Type 0} (stands : S → ServiceState) (cfg : ServeConfig)
     (old new : Desk) (result : Result T ServeFault) : Type 0 where
   pub keeps : KeepsDesk old new
   pub faults : Faults old new result
-  pub run : IsSeen old → (base : Seen) (r : Running) → StandsFor stands server r → Shows cfg base (seen_at old) r
+  pub run : IsSeen old → (base : Start) (r : Running) → StandsFor stands server r → Shows cfg base (seen_at old) r
       → Leaves (StandsFor stands after) cfg base (seen_at new) r act result
 
 -- a step was made and written, or a prefix of it
@@ -26,7 +26,7 @@ pub record MakesStep {S : Type 0} (stands : S → ServiceState) (cfg : ServeConf
     (old new : Desk) (result : Result StepOutcome ServeFault) : Type 0 where
   pub keeps : KeepsDesk old new
   pub faults : Faults old new result
-  pub run : IsSeen old → (base : Seen) (r : Running) → StandsFor stands server r → Shows cfg base (seen_at old) r
+  pub run : IsSeen old → (base : Start) (r : Running) → StandsFor stands server r → Shows cfg base (seen_at old) r
       → MatchResult result (λ made. Makes stands cfg base (seen_at new) r e made after) (λ _. Stopped cfg base (seen_at new) r (make e))
 
 -- a turn was made at the time that the clock told, with what the link heard; a failed one may have used no arrival

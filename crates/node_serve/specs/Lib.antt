@@ -1,4 +1,5 @@
 pub mod Fronts
+pub mod Sendings
 pub mod Shown
 pub mod Desks
 pub mod Steps

@@ -10,8 +10,8 @@ use Rattle.serve_model.specs.Runs.{Running, opened, peers_of, node_run}
 use Rattle.serve_model.specs.Texts.{whole_trace}
 use Rattle.serve_model.specs.Follow.{lost_places}
 use Rattle.node_serve.specs.Fronts.{AppendsFront}
-use Rattle.node_serve.specs.Shown.{run_log, IsReadable, Shows, UsedUpTo}
-use Rattle.node_serve.specs.Desks.{Desk, Serving, seen_at}
+use Rattle.node_serve.specs.Shown.{run_log, IsReadable, Shows, HasLogged, Agrees, UsedUpTo}
+use Rattle.node_serve.specs.Desks.{Desk, Serving, desk_of, seen_at, start_at}
 
 -- the run of so many turns with what a node is handed
 abbrev pub run_in : ServeConfig → NodeState → ℕ → Serving → List ℕ → Running
@@ -31,15 +31,21 @@ MayBind cfg old new = (new.binds ≡ old.binds) ⊎ IsBound cfg old new
 
 -- the link was bound, and the log and the trace were begun
 pub record Begins (cfg : ServeConfig) (old new : Desk) : Type 0 where
-  pub shows : (node : NodeState) → Shows cfg (seen_at old) (seen_at new) (opened node)
+  pub shows : (node : NodeState) → Shows cfg (start_at old node) (seen_at new) (opened node)
   pub binds : IsBound cfg old.link new.link
   pub script : new.link.script ≡ old.link.script
+
+-- nothing was sent, and nothing written; or the log has its first lines, and the output a prefix of the trace's first line
+pub record AgreesEarly (cfg : ServeConfig) (old new : Desk) : Type 0 where
+  pub sent : new.link.sent ≡ old.link.sent
+  pub out : (new.out.taken ≡ old.out.taken)
+      ⊎ (HasLogged cfg new.files.held [] × AppendsFront old.out.taken new.out.taken (codes "planet trace 1\n"))
 
 -- only prefixes of the log's first lines and of the trace's first line were written
 pub record EndsEarly (cfg : ServeConfig) (old new : Desk) : Type 0 where
   pub log : SavesFront old.files.held new.files.held cfg.log (head_text cfg.node cfg.missing)
   pub out : AppendsFront old.out.taken new.out.taken (codes "planet trace 1\n")
-  pub sent : new.link.sent ≡ old.link.sent
+  pub agrees : AgreesEarly cfg old new
   pub binds : MayBind cfg old.link new.link
   pub script : new.link.script ≡ old.link.script
 
@@ -60,7 +66,7 @@ pub record SendsFront (old new frames : List Heard) : Type 0 where
   pub count : ℕ
   pub is : new ≡ old ++ take count frames
 
--- a prefix of the run was made, with the steps refused that its log says; what stands outside are prefixes of what the run makes
+-- a prefix of the run was made, with the steps refused that its log says; what stands outside are prefixes of what the run makes, which agree
 pub record Begun (cfg : ServeConfig) (node : NodeState) (turns : ℕ) (old new : Serving) : Type 0 where
   pub refused : List ℕ
   pub steps : ℕ
@@ -68,6 +74,9 @@ pub record Begun (cfg : ServeConfig) (node : NodeState) (turns : ℕ) (old new :
   pub log : SavesFront old.files.held new.files.held cfg.log (run_log cfg (run_in cfg node turns old refused))
   pub out : AppendsFront old.out.taken new.out.taken (whole_trace cfg.node.here (run_in cfg node turns old refused).entries)
   pub sent : SendsFront old.link.sent new.link.sent (run_in cfg node turns old refused).sent
+  pub readable : All (IsReadable cfg.node.version) (take steps (run_in cfg node turns old refused).events)
+  pub agrees : AgreesEarly cfg (desk_of old) (desk_of new)
+      ⊎ Agrees cfg (start_at (desk_of old) node) (seen_at (desk_of new)) (run_in cfg node turns old refused).events
   pub binds : MayBind cfg old.link new.link
   pub script : UsedUpTo turns old.link.script new.link.script
   pub answers : UsedUpTo turns old.clock.answers new.clock.answers

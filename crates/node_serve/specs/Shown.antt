@@ -1,17 +1,19 @@
 -- What stands outside while a run goes on.
-use Rattle.std.specs.Prelude.{◌≡◌, ℕ, ◌≤◌, ◌⊎◌, List, ◌++◌, take, drop, Result, MatchResult}
+use Rattle.std.specs.Prelude.{◌≡◌, ℕ, ◌≤◌, ◌+◌, ◌⊎◌, List, ◌++◌, length, take, drop, Some, Result, MatchResult}
 use Rattle.std.specs.List.{All}
 use Rattle.link_window.specs.declared.window.Version.{Version}
 use Rattle.network_plan.specs.declared.serve.ServeConfig.{ServeConfig}
 use Rattle.network_plan.specs.declared.event.LogEvent.{LogEvent}
 use Rattle.network_plan.specs.NodeRules.{KeepsEntry}
 use Rattle.node_files.specs.LogTexts.{log_text, IsSpellable}
-use Rattle.node_io.specs.FileMaps.{FileMap, ChangesOnly}
+use Rattle.node_io.specs.FileMaps.{FileMap, file_at, ChangesOnly}
 use Rattle.node_serve.specs.Fronts.{AppendsFront}
 use Rattle.node_io.specs.Links.{Heard}
-use Rattle.serve_model.specs.Runs.{Running, Action}
-use Rattle.serve_model.specs.Texts.{begun_trace}
+use Rattle.node_model.specs.State.{NodeState}
+use Rattle.serve_model.specs.Runs.{Running, Action, opened, played}
+use Rattle.serve_model.specs.Texts.{begun_trace, whole_trace}
 use Rattle.serve_model.specs.Follow.{Ext, Fits}
+use Rattle.node_serve.specs.Sendings.{frames_of}
 
 -- the files, the name of the file being written, the bytes that the output took, and the frames sent
 pub record Seen : Type 0 where
@@ -20,9 +22,20 @@ pub record Seen : Type 0 where
   pub taken : List ℕ
   pub sent : List Heard
 
+-- what stood outside when a run began, and its node
+pub record Start : Type 0 where
+  pub files : FileMap
+  pub taken : List ℕ
+  pub sent : List Heard
+  pub node : NodeState
+
+-- the log of some entries
+abbrev pub entries_log : ServeConfig → List LogEvent → List ℕ
+entries_log cfg events = log_text (record { node = cfg.node; missing = cfg.missing; events = events })
+
 -- the log and the trace of a run so far
 abbrev pub run_log : ServeConfig → Running → List ℕ
-run_log cfg r = log_text (record { node = cfg.node; missing = cfg.missing; events = r.events })
+run_log cfg r = entries_log cfg r.events
 
 abbrev pub run_trace : ServeConfig → Running → List ℕ
 run_trace cfg r = begun_trace cfg.node.here r.entries
@@ -32,23 +45,48 @@ pub record IsReadable (v : Version) (e : LogEvent) : Type 0 where
   pub keeps : KeepsEntry v e
   pub spells : IsSpellable e
 
--- since the beginning, the log is that of the run so far, the trace was written, and the frames were sent
-pub record Shows (cfg : ServeConfig) (base seen : Seen) (r : Running) : Type 0 where
+-- since the beginning, the log is that of the run so far, and the trace was written; a frame that was taken may be left to send
+pub record Sees (cfg : ServeConfig) (base : Start) (seen : Seen) (r : Running) : Type 0 where
+  pub grows : Ext (opened base.node) r
   pub log : ChangesOnly base.files seen.files cfg.log (run_log cfg r)
   pub target : seen.target ≡ cfg.log
   pub out : seen.taken ≡ base.taken ++ run_trace cfg r
   pub sent : seen.sent ≡ base.sent ++ r.sent
   pub readable : All (IsReadable cfg.node.version) r.events
 
--- the log and what was written are prefixes of those of the run so far, and its frames were sent
-pub record Fronts (cfg : ServeConfig) (base seen : Seen) (r : Running) : Type 0 where
+-- and the frames that its entries send were sent
+pub record Shows (cfg : ServeConfig) (base : Start) (seen : Seen) (r : Running) : Type 0 where
+  pub sees : Sees cfg base seen r
+  pub frames : r.sent ≡ frames_of base.node r.events
+
+-- the file of the log has the lines of these entries, and perhaps more
+pub record HasLogged (cfg : ServeConfig) (files : FileMap) (events : List LogEvent) : Type 0 where
+  pub more : List ℕ
+  pub there : file_at files cfg.log ≡ Some (entries_log cfg events ++ more)
+
+-- log, output and frames sent know of each other: so many entries were made whole, and perhaps one more was logged; the log has the
+-- lines of all of these, the output the lines of the whole ones and a prefix of the next one's, and the frames sent are those of the whole ones
+pub record Agrees (cfg : ServeConfig) (base : Start) (seen : Seen) (events : List LogEvent) : Type 0 where
+  pub made : ℕ
+  pub logged : ℕ
+  pub next : (logged ≡ made) ⊎ (logged ≡ made + 1)
+  pub few : logged ≤ length events
+  pub log : HasLogged cfg seen.files (take logged events)
+  pub out : AppendsFront base.taken seen.taken (whole_trace cfg.node.here (played 0 base.node (take logged events)))
+  pub lines : length (begun_trace cfg.node.here (played 0 base.node (take made events))) ≤ out.count
+  pub sent : seen.sent ≡ base.sent ++ frames_of base.node (take made events)
+
+-- the log and what was written are prefixes of those of the run so far, and its frames were sent, and they agree
+pub record Fronts (cfg : ServeConfig) (base : Start) (seen : Seen) (r : Running) : Type 0 where
   pub count : ℕ
   pub log : ChangesOnly base.files seen.files cfg.log (take count (run_log cfg r))
   pub out : AppendsFront base.taken seen.taken (run_trace cfg r)
   pub sent : seen.sent ≡ base.sent ++ r.sent
+  pub readable : All (IsReadable cfg.node.version) r.events
+  pub agrees : Agrees cfg base seen r.events
 
 -- from r the run went on as this action does, with the steps refused that its log says, and all of it stands outside
-pub record Reached (stands : Running → Type 0) (cfg : ServeConfig) (base seen : Seen) (r : Running) (act : Action) : Type 0 where
+pub record Reached (stands : Running → Type 0) (cfg : ServeConfig) (base : Start) (seen : Seen) (r : Running) (act : Action) : Type 0 where
   pub done : Running
   pub grows : Ext r done
   pub is : (refused : List ℕ) → Fits refused done.events → done ≡ act refused r
@@ -56,13 +94,13 @@ pub record Reached (stands : Running → Type 0) (cfg : ServeConfig) (base seen 
   pub shows : Shows cfg base seen done
 
 -- from r the run went on to a prefix of what this action does, and prefixes of it stand outside
-pub record Stopped (cfg : ServeConfig) (base seen : Seen) (r : Running) (act : Action) : Type 0 where
+pub record Stopped (cfg : ServeConfig) (base : Start) (seen : Seen) (r : Running) (act : Action) : Type 0 where
   pub done : Running
   pub grows : Ext r done
   pub within : (refused : List ℕ) → Fits refused done.events → Ext done (act refused r)
   pub shows : Fronts cfg base seen done
 
-abbrev pub Leaves : {T E : Type 0} → (Running → Type 0) → ServeConfig → Seen → Seen → Running → Action → Result T E → Type 0
+abbrev pub Leaves : {T E : Type 0} → (Running → Type 0) → ServeConfig → Start → Seen → Running → Action → Result T E → Type 0
 Leaves stands cfg base seen r act result = MatchResult result (λ _. Reached stands cfg base seen r act) (λ _. Stopped cfg base seen r act)
 
 -- one entry of a list was used, or none where the call failed

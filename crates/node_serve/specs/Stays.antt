@@ -7,7 +7,7 @@ use Rattle.node_model.specs.Node.{node_step}
 use Rattle.node_core.specs.Stands.{NodeStands}
 use Rattle.serve_model.specs.Runs.{Running, with_entry}
 use Rattle.serve_model.specs.Follow.{entry_of}
-use Rattle.node_serve.specs.Shown.{Seen, Shows}
+use Rattle.node_serve.specs.Shown.{Seen, Start, Sees}
 use Rattle.node_serve.specs.declared.server.Server.{Server}
 use Rattle.node_serve.specs.declared.steps.StepOutcome.{StepOutcome}
 use Rattle.node_serve.specs.Steps.{was_lost, frame_of}
@@ -19,8 +19,8 @@ pub record StandsFor {S : Type 0} (stands : S → ServiceState) (server : Server
   pub held : server.held ≡ r.held
   pub steps : server.steps ≡ length r.events
 
--- a step was made and written: it was refused, or gave this frame
-pub record Makes {S : Type 0} (stands : S → ServiceState) (cfg : ServeConfig) (base seen : Seen) (r : Running) (e : Event) (made : StepOutcome) (server : Server S) : Type 0 where
+-- a step was made and written: it was refused, or gave this frame, which isn't sent yet
+pub record Makes {S : Type 0} (stands : S → ServiceState) (cfg : ServeConfig) (base : Start) (seen : Seen) (r : Running) (e : Event) (made : StepOutcome) (server : Server S) : Type 0 where
   pub stands_for : StandsFor stands server (with_entry (entry_of (was_lost made) e) r)
-  pub shows : Shows cfg base seen (with_entry (entry_of (was_lost made) e) r)
+  pub sees : Sees cfg base seen (with_entry (entry_of (was_lost made) e) r)
   pub frame : was_lost made ≡ false → frame_of made ≡ (node_step r.node e).frame

@@ -1,13 +1,12 @@
 -- What a step of a serving node gives.
-use Rattle.std.specs.Prelude.{◌≡◌, ℕ, ◌≤◌, ◌⊎◌, Bool, true, false, IsTrue, List, [], ◌∷◌, ◌++◌, Option, Some, None, Result, Ok, Err}
+use Rattle.std.specs.Prelude.{◌≡◌, ℕ, ◌≤◌, ◌⊎◌, Bool, true, false, IsTrue, List, ◌++◌, Option, None, Result, Ok, Err}
 use Rattle.plan_base.specs.declared.ids.Dev.{Dev}
-use Rattle.packet_frame.specs.Stamped.{stamped_bytes}
 use Rattle.node_io.specs.FileMaps.{FileMap, WritesMore}
 use Rattle.node_serve.specs.Fronts.{AppendsFront, WritesFront}
 use Rattle.node_io.specs.Causes.{HasRisen}
 use Rattle.node_io.specs.Sinks.{SinkState, Writes, FailsIn}
 use Rattle.node_io.specs.FileStates.{FilesState, Adds, FailsAdding}
-use Rattle.node_io.specs.Links.{Heard, LinkState}
+use Rattle.node_io.specs.Links.{LinkState}
 use Rattle.packet_frame.specs.declared.frame.PlainStamped.{PlainStamped}
 use Rattle.network_plan.specs.declared.node.NodeConfig.{NodeConfig}
 use Rattle.network_plan.specs.declared.event.Event.{Event}
@@ -20,6 +19,7 @@ use Rattle.node_core.specs.Stands.{NodeStands}
 use Rattle.serve_model.specs.Runs.{acts_of, node_by, entries_at}
 use Rattle.serve_model.specs.Follow.{entry_of}
 use Rattle.serve_model.specs.Texts.{lines_text}
+use Rattle.node_serve.specs.Sendings.{sending}
 use Rattle.node_serve.specs.Shown.{IsReadable}
 use Rattle.node_serve.specs.declared.fault.ServeFault.{ServeFault}
 use Rattle.node_serve.specs.declared.fault.ServeFault.TheVariants.{LinkFault, WriteFault, NoMemory}
@@ -55,11 +55,6 @@ abbrev pub WritesStep : {T E : Type 0} → List ℕ → List ℕ → FilesState 
 WritesStep line lines files files_new out out_new (Ok x) = Adds files files_new line × Writes out out_new lines
 WritesStep line lines files files_new out out_new (Err e) =
     (FailsAdding files files_new line × (out_new ≡ out)) ⊎ (Adds files files_new line × FailsIn out out_new lines)
-
--- a frame that was taken is sent, where there is one
-abbrev pub sending : Dev → Option PlainStamped → List Heard
-sending d None = []
-sending d (Some x) = (d, stamped_bytes x) ∷ []
 
 -- the frame that was taken was sent, or none where the link failed
 abbrev pub SendResult : {T : Type 0} → Dev → Option PlainStamped → LinkState → LinkState → Result T ServeFault → Type 0

@@ -1,4 +1,4 @@
-ghost use Rattle.std.specs.Prelude.{◌≡◌, ◌≤◌, ◌==◌, IsTrue};
+ghost use Rattle.std.specs.Prelude.{◌≡◌, ◌≤◌, ◌<◌, ◌==◌, IsTrue};
 ghost use Rattle.std.specs.List.{list_any};
 ghost use Rattle.node_io.specs.Links.{has_peer, HasPeer};
 ghost use Rattle.serve_model.specs.Runs as spec;
@@ -66,6 +66,7 @@ impl<S: Services> Server<S> {
         requires bound { (L.state link.old).bound ≡ spec.peers_of cfg.now }
         requires peer { HasPeer (spec.peers_of cfg.now) dev }
         requires device { dev.0 ≤ 8 }
+        requires other { 0 < dev.0 }
         ensures goes { Goes S.stands cfg.now (spec.take_send dev) self.old self.new
             (desk (F.state files.old) (K.state out.old) (L.state link.old))
             (desk (F.state files.new) (K.state out.new) (L.state link.new)) result }
@@ -99,6 +100,7 @@ impl<S: Services> Server<S> {
         requires bound { (L.state link.old).bound ≡ spec.peers_of cfg.now }
         requires peer { HasPeer (spec.peers_of cfg.now) dev }
         requires device { dev.0 ≤ 8 }
+        requires other { 0 < dev.0 }
         ensures goes { Goes S.stands cfg.now (spec.repeat_send dev count) self.old self.new
             (desk (F.state files.old) (K.state out.old) (L.state link.old))
             (desk (F.state files.new) (K.state out.new) (L.state link.new)) result }
@@ -125,6 +127,7 @@ impl<S: Services> Server<S> {
         requires writing { IsTrue (F.state files.old).writing }
         requires bound { (L.state link.old).bound ≡ spec.peers_of cfg.now }
         requires device { dev.0 ≤ 8 }
+        requires other { 0 < dev.0 }
         ensures goes { Goes S.stands cfg.now (spec.flush_device (spec.peers_of cfg.now) dev)
             self.old self.new
             (desk (F.state files.old) (K.state out.old) (L.state link.old))

@@ -1,12 +1,15 @@
 //! What follows from the record of a node's serving.
-ghost use Rattle.std.specs.Prelude.{◌≡◌, ◌≤◌, ◌⊎◌, ℕ, IsTrue, IsErrOf, Result, length};
+ghost use Rattle.std.specs.Prelude.{◌≡◌, ◌≤◌, ◌⊎◌, ℕ, IsTrue, IsErrOf, List, Result, length};
 ghost use Rattle.network_plan.specs.NodeRules.{KeepsServe};
 ghost use Rattle.network_plan.specs.declared.serve.ServeConfig.{ServeConfig};
 ghost use Rattle.node_io.specs.Causes.{HasRisen};
 ghost use Rattle.node_io.specs.FileMaps.{Names};
+ghost use Rattle.node_io.specs.declared.link.Arrival.{Arrival};
 ghost use Rattle.node_model.specs.State.{NodeState};
+ghost use Rattle.serve_model.specs.Runs.{node_run};
 ghost use Rattle.node_serve.specs.Again.{ReadsAgain};
 ghost use Rattle.node_serve.specs.Desks.{Serving};
+ghost use Rattle.node_serve.specs.Sendings.{frames_of};
 ghost use Rattle.node_serve.specs.Served.{Served, run_in};
 ghost use Rattle.node_serve.specs.Serves.{Serves};
 ghost use Rattle.node_serve.specs.declared.fault.ServeFault.{ServeFault as Fault};
@@ -46,6 +49,14 @@ pub fn writing_has_failed()
         → IsErrOf result Fault.WriteFault
         → HasRisen old.files.write_faults new.files.write_faults
         ⊎ HasRisen old.out.faults new.out.faults }
+{}
+
+/// The frames of a run are those that the entries of its log send.
+pub fn frames_again()
+    ensures { (cfg : ServeConfig) (node : NodeState) (script : List Arrival) (last : ℕ)
+        (answers : List ℕ) (n : ℕ) (refused : List ℕ)
+        → (node_run cfg node script last answers n refused).sent
+        ≡ frames_of node (node_run cfg node script last answers n refused).events }
 {}
 
 /// The log of a whole run of at most 50,000 entries reads as the log of a node that began so, and the trace of its entries is

@@ -14,5 +14,7 @@ mod steps;
 mod turns;
 
 pub use fault::ServeFault;
-pub use laws::{link_has_failed, log_is_made, nothing_is_read, reads_again, writing_has_failed};
+pub use laws::{
+    frames_again, link_has_failed, log_is_made, nothing_is_read, reads_again, writing_has_failed,
+};
 pub use serving::serve;

@@ -7,6 +7,7 @@ ghost use Rattle.node_io.specs.Links.{LinkState};
 ghost use Rattle.serve_model.specs.Runs as spec;
 ghost use Rattle.node_serve.specs.Desks.{desk};
 ghost use Rattle.node_serve.specs.Goes.{Goes, MakesStep};
+ghost use Rattle.node_serve.specs.Sendings.{SendsNone};
 ghost use Rattle.node_serve.specs.Steps.{WritesStep};
 
 use crate::fault::ServeFault;
@@ -84,7 +85,7 @@ impl<S: Services> Server<S> {
         Ok(texts.made)
     }
 
-    /// Makes a step and writes it.
+    /// Makes a step that sends nothing, and writes it.
     pub(crate) fn step<F: Files, K: Sink>(
         &mut self,
         alloc: Global,
@@ -96,7 +97,7 @@ impl<S: Services> Server<S> {
         requires writing { IsTrue (F.state files.old).writing }
         requires event { IfSome event.now (KeepsNodeEvent cfg.now.node.version) }
         requires within { IfSome event.now (comes_within (version_of self.old.node)) }
-        ensures { (l : LinkState) (e : EventOf) → IfSome event.now (λ x. x ≡ e)
+        ensures { (l : LinkState) (e : EventOf) → IfSome event.now (λ x. x ≡ e) → SendsNone e
             → Goes S.stands cfg.now (spec.make e) self.old self.new
             (desk (F.state files.old) (K.state out.old) l)
             (desk (F.state files.new) (K.state out.new) l) result }

@@ -172,7 +172,7 @@ fn serve_booted<S: Services + Drop, L: Link, C: Clock, F: Files, K: Sink>(
 /// sends what is queued for its neighbours. Each step writes its line of the log, and then its lines of the trace. A step that
 /// finds no memory is logged as lost, changes nothing, and doesn't end the run. Conditions: the configuration keeps its rules,
 /// and no `begin` of the services is open. Where it fails, what was written and sent are prefixes of what the run writes and
-/// sends.
+/// sends, and belong to steps that the log has.
 pub fn serve<S: Services + Drop, L: Link, C: Clock, F: Files, K: Sink>(
     alloc: Global,
     cfg: &ServeConfig,

@@ -2,6 +2,7 @@
 use Rattle.std.proofs.Common.{◌≡◌, ◌⊎◌, inl, inr, ℕ, IsTrue, List, [], Option, Some, None, Result, Ok, Err, MatchResult, refl, sym, ap, ◌∙◌, subst, arith}
 use Rattle.std.proofs.lemmas.List.{append-nil}
 use Rattle.network_plan.specs.declared.fleet.AskFile.{AskFile}
+use Rattle.network_plan.specs.declared.event.LogEvent.{LogEvent}
 use Rattle.network_plan.specs.declared.serve.ServeConfig.{ServeConfig}
 use Rattle.node_io.specs.Causes.{HasRisen}
 use Rattle.node_io.specs.FileMaps.{FileMap, ChangesOnly, SavesFront, untouched}
@@ -14,9 +15,9 @@ use Rattle.fleet_run.specs.Asks.{ask_line}
 use Rattle.link_window.specs.declared.window.Version.{Version}
 use Rattle.link_window.specs.declared.window.Version.TheVariants.{One, Two}
 use Rattle.node_io.specs.Clocks.{ClockState, Tells}
-use Rattle.node_serve.specs.Desks.{Serving, IsSeen, desk_of}
-use Rattle.node_serve.specs.Shown.{run_log}
-use Rattle.node_serve.specs.Served.{Served, Begun, Ends, run_in}
+use Rattle.node_serve.specs.Desks.{Serving, IsSeen, desk_of, seen_at, start_at}
+use Rattle.node_serve.specs.Shown.{run_log, Agrees}
+use Rattle.node_serve.specs.Served.{Served, AgreesEarly, Begun, Ends, run_in}
 use Rattle.node_serve.specs.Moments.{booted, Asks, ServesFrom}
 use Rattle.node_serve.specs.declared.fault.ServeFault.{ServeFault}
 use Rattle.node_serve.specs.declared.fault.ServeFault.TheVariants as faults
@@ -52,6 +53,11 @@ module _ (cfg : ServeConfig) (n : NodeState) (turns : ℕ) (old new : Serving) (
     readable = x.readable;
   }
 
+  agrees_before : (events : List LogEvent) → AgreesEarly cfg (desk_of (record old { files = read })) (desk_of new) ⊎ Agrees cfg (start_at (desk_of (record old { files = read })) n) (seen_at (desk_of new)) events
+      → AgreesEarly cfg (desk_of old) (desk_of new) ⊎ Agrees cfg (start_at (desk_of old) n) (seen_at (desk_of new)) events
+  agrees_before events (inl x) = inl (record { sent = x.sent; out = x.out })
+  agrees_before events (inr x) = inr (subst (λ f. Agrees cfg (record (start_at (desk_of old) n) { files = f }) (seen_at (desk_of new)) events) held x)
+
   begun_before : Begun cfg n turns (record old { files = read }) new → Begun cfg n turns old new
   begun_before x = record {
     refused = x.refused;
@@ -60,6 +66,8 @@ module _ (cfg : ServeConfig) (n : NodeState) (turns : ℕ) (old new : Serving) (
     log = subst (λ f. SavesFront f new.files.held cfg.log (run_log cfg (run_in cfg n turns old x.refused))) held x.log;
     out = x.out;
     sent = x.sent;
+    readable = x.readable;
+    agrees = agrees_before (run_in cfg n turns old x.refused).events x.agrees;
     binds = x.binds;
     script = x.script;
     answers = x.answers;

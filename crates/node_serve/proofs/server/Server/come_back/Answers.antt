@@ -1,4 +1,4 @@
-use Rattle.std.proofs.Common.{◌≡◌, None, arith}
+use Rattle.std.proofs.Common.{◌≡◌, None, refl, arith}
 use Rattle.std.proofs.lemmas.Grind.{common_steps}
 use Rattle.serve_model.specs.Runs.{come_back, make}
 use Rattle.network_plan.specs.Hosts.{dev_of}
@@ -18,7 +18,7 @@ pub returns : goal.returns
 returns g c = λ l.
     let e = Frame (dev_of 0) (stamped_bytes c.in-Some.frame) in
     goes_as g.S.Services.stands c.args.cfg.now (make e) (come_back c.args.frame) c.args.self.now c.step.new.self _ _ c.step.result
-    (λ seen r st. back_makes c.args.frame c.in-Some.frame r c.in-Some.is) (c.step.ensures l e c.arrived.ensures.event)
+    (λ seen r st. back_makes c.args.frame c.in-Some.frame r c.in-Some.is) (c.step.ensures l e c.arrived.ensures.event (λ node. refl))
 
 pub step-requires-clause-event : goal.step-requires-clause-event
 step-requires-clause-event g c = c.arrived.ensures.keeps c.args.cfg.now.node.version

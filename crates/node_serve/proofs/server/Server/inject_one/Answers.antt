@@ -1,4 +1,4 @@
-use Rattle.std.proofs.Common.{Some}
+use Rattle.std.proofs.Common.{Some, refl}
 use Rattle.serve_model.specs.Runs.{inject_one, make}
 use Rattle.network_plan.specs.declared.event.Event.TheVariants.{Inject}
 use Rattle.node_serve.specs.Desks.{desk}
@@ -14,4 +14,4 @@ pub returns : goal.returns
 returns g c = λ l.
     let e = Inject c.args.inject.now.2 c.args.inject.now.1 c.args.inject.now.3 in
     goes_as g.S.Services.stands c.args.cfg.now (make e) (inject_one c.args.turn (Some c.args.inject.now)) c.args.self.now c.step.new.self _ _ c.step.result
-    (λ seen r st. inject_makes c.args.turn c.args.inject.now r (is_same _ _ c.if-inject-turn.false)) (c.step.ensures l e c.injection-event.ensures.event)
+    (λ seen r st. inject_makes c.args.turn c.args.inject.now r (is_same _ _ c.if-inject-turn.false)) (c.step.ensures l e c.injection-event.ensures.event (λ node. refl))
