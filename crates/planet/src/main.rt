@@ -5,16 +5,18 @@
 use live_io::{HostClock, HostSpawner, UdpLink};
 use node_io::{HostFiles, HostSink};
 use plan_base::NoMemory;
-use planet_cli::{Status, planet, program_of, words_of};
+use planet_cli::{Status, planet};
 use std::process::ExitCode;
+use system_words::{arguments_of, program_of, words_of};
 
 /// The exit code where there was no memory for the words.
 const NO_MEMORY: u8 = 7;
 
 fn call(rt: &HostRuntime) -> Result<Status, NoMemory> {
     let alloc = rt.alloc();
-    let words = words_of(alloc, rt)?;
-    let program = program_of(alloc, rt)?;
+    let arguments = arguments_of(alloc, rt)?;
+    let words = words_of(alloc, &arguments)?;
+    let program = program_of(alloc, &arguments)?;
     let mut files = HostFiles::new(rt);
     let mut out = HostSink::new(rt.stdout());
     let mut notes = HostSink::new(rt.stderr());

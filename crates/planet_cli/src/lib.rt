@@ -1,7 +1,6 @@
 //! The top call `planet`: a command by its words, over files, outputs, a link, a clock and children.
 #![tactic(auto)]
 
-mod args;
 mod audit_laws;
 mod by_words;
 mod call_laws;
@@ -14,7 +13,6 @@ mod top;
 mod words;
 mod writing_laws;
 
-pub use args::{program_of, words_of};
 pub use audit_laws::{audit_asked, audited, fleet_accepts_once, fleet_adds_up};
 pub use by_words::run;
 pub use call_causes::{Cause, Refusal, Status};
