@@ -22,15 +22,15 @@ pub struct Task {
 
 /// The numbers of the calls that fail, of each object.
 #[derive(Clone, Copy)]
-pub struct Failing<'a> {
-    pub files: &'a [u64],
-    pub children: &'a [u64],
-    pub link: &'a [u64],
-    pub out: &'a [u64],
+pub struct Failing {
+    pub files: &'static [u64],
+    pub children: &'static [u64],
+    pub link: &'static [u64],
+    pub out: &'static [u64],
 }
 
 /// No call fails.
-pub const NONE: Failing<'static> = Failing {
+pub const NONE: Failing = Failing {
     files: &[],
     children: &[],
     link: &[],
@@ -63,10 +63,6 @@ pub fn bytes(alloc: Global, hex: &str) -> Result<Bytes, NoMemory> {
         Ok(bytes) => Ok(Bytes::of(bytes)),
         Err(_) => Err(NoMemory),
     }
-}
-
-fn calls(alloc: Global, numbers: &[u64]) -> Result<Calls, NoMemory> {
-    Ok(Calls::from_slice(alloc, numbers)?)
 }
 
 fn arrival(alloc: Global, dev: u32, frame: &str) -> Result<Arrival, NoMemory> {
@@ -106,25 +102,28 @@ pub fn one_file(
 ) -> Result<MemFiles, NoMemory> {
     let mut files = FileList::new(alloc);
     files.add(entry(alloc, name, bytes)?)?;
-    MemFiles::new(alloc, files, calls(alloc, fails)?)
+    MemFiles::new(alloc, files, Calls::from_slice(alloc, fails)?)
 }
 
-fn children(alloc: Global, statuses: &[u8], fails: &[u64]) -> Result<MemSpawner, NoMemory> {
+/// Children with these statuses, and the calls of them that fail.
+pub fn children(alloc: Global, statuses: &[u8], fails: &[u64]) -> Result<MemSpawner, NoMemory> {
     let statuses = Statuses::from_slice(alloc, statuses)?;
-    MemSpawner::new(alloc, statuses, calls(alloc, fails)?)
+    MemSpawner::new(alloc, statuses, Calls::from_slice(alloc, fails)?)
 }
 
-fn link(alloc: Global, frames: &[(u32, &str)], fails: &[u64]) -> Result<MemLink, NoMemory> {
+/// A link with these arrivals, and the calls of it that fail.
+pub fn link(alloc: Global, frames: &[(u32, &str)], fails: &[u64]) -> Result<MemLink, NoMemory> {
     let script = arrivals(alloc, frames)?;
-    MemLink::new(alloc, script, calls(alloc, fails)?)
+    MemLink::new(alloc, script, Calls::from_slice(alloc, fails)?)
 }
 
-fn sink(alloc: Global, fails: &[u64]) -> Result<MemSink, NoMemory> {
-    MemSink::new(alloc, calls(alloc, fails)?)
+/// A sink without a byte, and the pushes of it that fail.
+pub fn sink(alloc: Global, fails: &[u64]) -> Result<MemSink, NoMemory> {
+    MemSink::new(alloc, Calls::from_slice(alloc, fails)?)
 }
 
 /// The file and the children of a task, and a clock that always says 0.
-pub fn machine_of(alloc: Global, task: &Task, fails: Failing<'_>) -> Result<Machine, NoMemory> {
+pub fn machine_of(alloc: Global, task: &Task, fails: &Failing) -> Result<Machine, NoMemory> {
     let clock = MemClock::new(alloc, Moments::new(alloc))?;
     let children = children(alloc, task.statuses, fails.children)?;
     let files = one_file(alloc, task.file, task.bytes, fails.files)?;
@@ -135,12 +134,23 @@ pub fn machine_of(alloc: Global, task: &Task, fails: Failing<'_>) -> Result<Mach
     })
 }
 
-/// A link with the arrivals of a task, and an output and notes without a byte.
-pub fn streams_of(alloc: Global, task: &Task, fails: Failing<'_>) -> Result<Streams, NoMemory> {
-    let out = sink(alloc, fails.out)?;
-    let notes = sink(alloc, &[])?;
+/// A link with the arrivals of a task, an output, and notes.
+pub fn streams_over(
+    alloc: Global,
+    task: &Task,
+    fails: &Failing,
+    out: MemSink,
+    notes: MemSink,
+) -> Result<Streams, NoMemory> {
     let link = link(alloc, task.arrivals, fails.link)?;
     Ok(Streams { link, out, notes })
+}
+
+/// A link with the arrivals of a task, and an output and notes without a byte.
+pub fn streams_of(alloc: Global, task: &Task, fails: &Failing) -> Result<Streams, NoMemory> {
+    let out = sink(alloc, fails.out)?;
+    let notes = sink(alloc, &[])?;
+    streams_over(alloc, task, fails, out, notes)
 }
 
 fn planet_code(alloc: Global, words: &Texts, machine: &mut Machine, streams: &mut Streams) -> u8 {

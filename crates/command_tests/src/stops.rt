@@ -1,79 +1,96 @@
 // Outputs that stop behind some bytes, and notes that fail.
 
-use crate::objects::{Machine, NONE, Streams, Task, code, machine_of, streams_of};
+use crate::calls::{End, NOTHING, ends_over};
+use crate::objects::{Machine, NONE, Streams, Task, machine_of, sink, streams_over};
 use crate::reads::reads;
 use crate::rows::{PORT, PORTED, RUN, SCHEDULE};
-use node_io::{Calls, MemSink};
+use node_io::MemSink;
+use plan_base::NoMemory;
 use std::alloc::Global;
-use std::process::Abort;
-use std::test::Fail;
 
-fn replays(bytes: &'static [u8]) -> Task {
-    reads(&["replay", "file.txt"], bytes)
+fn stopping(alloc: Global, task: &Task, count: usize) -> Result<Streams, NoMemory> {
+    let out = MemSink::stopping(alloc, count as u64)?;
+    let notes = sink(alloc, &[])?;
+    streams_over(alloc, task, &NONE, out, notes)
 }
 
-// Whether a call ends with a code, an output and notes.
-fn ends(
-    alloc: Global,
-    task: &Task,
-    machine: &mut Machine,
-    streams: &mut Streams,
-    wanted: (u8, &[u8], &[u8]),
-) -> Result<bool, Fail> {
-    let is = code(alloc, task.words, machine, streams)?;
-    let out = streams.out.taken().as_slice();
-    let notes = streams.notes.taken().as_slice();
-    Ok((is, out, notes) == wanted)
-}
-
-// Whether a call that writes a text, over an output that takes so many bytes of it, writes these, and ends with a write
-// fault.
-fn stops_behind(
-    alloc: Global,
-    task: &Task,
-    text: &'static [u8],
-    count: usize,
-) -> Result<bool, Fail> {
-    let Some(taken) = text.get(..count) else {
-        return Ok(false);
-    };
-    let mut machine = machine_of(alloc, task, NONE)?;
-    let mut streams = streams_of(alloc, task, NONE)?;
-    streams.out = MemSink::stopping(alloc, count as u64)?;
-    let wanted = (4, taken, b"planet: write fault\n".as_slice());
-    ends(alloc, task, &mut machine, &mut streams, wanted)
-}
-
-fn stops(rt: &impl Abort, alloc: Global, task: &Task, text: &'static [u8]) -> Result<(), Fail> {
-    for count in 0..text.len() {
-        assert!(rt; stops_behind(alloc, task, text, count)?);
+fn stops_over(alloc: Global, task: &Task, machine: &mut Machine, end: &End) -> bool {
+    match stopping(alloc, task, end.out.1) {
+        Ok(mut streams) => ends_over(alloc, task, machine, &mut streams, end),
+        Err(_) => false,
     }
-    Ok(())
+}
+
+// Whether a call, over an output that takes so many bytes, writes these and ends with a write fault.
+fn stops_behind(alloc: Global, task: &Task, out: (&'static [u8], usize)) -> bool {
+    let end = End {
+        code: 4,
+        out,
+        note: b"planet: write fault\n",
+        ..NOTHING
+    };
+    match machine_of(alloc, task, &NONE) {
+        Ok(mut machine) => stops_over(alloc, task, &mut machine, &end),
+        Err(_) => false,
+    }
+}
+
+// Whether a call that writes a text stops so behind each number of its bytes.
+fn stops(alloc: Global, task: &Task, text: &'static [u8]) -> bool {
+    for count in 0..text.len() {
+        if !stops_behind(alloc, task, (text, count)) {
+            return false;
+        }
+    }
+    true
 }
 
 #[test]
-fn a_stopping_output_has_taken_a_prefix(rt: HostRuntime) -> Result<(), Fail> {
+fn a_stopping_output_has_taken_a_prefix(rt: HostRuntime) {
     let alloc = rt.alloc();
-    stops(&rt, alloc, &replays(SCHEDULE), RUN)?;
-    stops(&rt, alloc, &reads(&["port", "file.txt"], PORT), PORTED)
+    assert!(rt; stops(alloc, &reads(&["replay", "file.txt"], SCHEDULE), RUN));
+    assert!(rt; stops(alloc, &reads(&["port", "file.txt"], PORT), PORTED));
+}
+
+const UNKNOWN: Task = Task {
+    words: &["replay", "file.txt"],
+    file: "file.txt",
+    bytes: b"planet schedule 9\n",
+    arrivals: &[],
+    statuses: &[],
+};
+
+const UNNOTED: End = End { code: 4, ..NOTHING };
+
+const NOTED: End = End {
+    code: 2,
+    note: b"planet: line 1: BadHeader\n",
+    ..NOTHING
+};
+
+fn unnoted(alloc: Global) -> Result<Streams, NoMemory> {
+    let out = sink(alloc, &[])?;
+    let notes = sink(alloc, &[1])?;
+    streams_over(alloc, &UNKNOWN, &NONE, out, notes)
+}
+
+fn notes_later(alloc: Global, machine: &mut Machine) -> bool {
+    match unnoted(alloc) {
+        Ok(mut streams) => ends_over(alloc, &UNKNOWN, machine, &mut streams, &UNNOTED)
+            && ends_over(alloc, &UNKNOWN, machine, &mut streams, &NOTED),
+        Err(_) => false,
+    }
 }
 
 // Whether a note whose first push fails is a write fault, and the next call notes what is wrong with the file.
-fn note_fails(alloc: Global) -> Result<bool, Fail> {
-    let task = replays(b"planet schedule 9\n");
-    let mut machine = machine_of(alloc, &task, NONE)?;
-    let mut streams = streams_of(alloc, &task, NONE)?;
-    streams.notes = MemSink::new(alloc, Calls::from_slice(alloc, &[1])?)?;
-    let failed = (4, b"".as_slice(), b"".as_slice());
-    let noted = (2, b"".as_slice(), b"planet: line 1: BadHeader\n".as_slice());
-    Ok(
-        ends(alloc, &task, &mut machine, &mut streams, failed)?
-            && ends(alloc, &task, &mut machine, &mut streams, noted)?,
-    )
+fn note_fails(alloc: Global) -> bool {
+    match machine_of(alloc, &UNKNOWN, &NONE) {
+        Ok(mut machine) => notes_later(alloc, &mut machine),
+        Err(_) => false,
+    }
 }
 
 #[test]
-fn a_note_that_fails_is_a_write_fault(rt: HostRuntime) -> Result<(), Fail> {
-    assert!(rt; note_fails(rt.alloc())?);
-    Ok(())
+fn a_note_that_fails_is_a_write_fault(rt: HostRuntime) {
+    assert!(rt; note_fails(rt.alloc()));
 }
