@@ -87,6 +87,14 @@ fn ends_on(alloc: Global, task: &Task, machine: &mut Machine, fails: &Failing, e
     }
 }
 
+/// Whether a task ends so where these calls fail.
+pub fn ends_once(alloc: Global, task: &Task, fails: &Failing, end: &End) -> bool {
+    match machine_of(alloc, task, fails) {
+        Ok(mut machine) => ends_on(alloc, task, &mut machine, fails, end),
+        Err(_) => false,
+    }
+}
+
 /// Whether a task ends as `end` where these calls fail, and made again on the same machine ends as `again`.
 pub fn ends(alloc: Global, task: &Task, fails: &Failing, end: &End, again: &End) -> bool {
     match machine_of(alloc, task, fails) {

@@ -1,12 +1,12 @@
 // Fleets, with each call of the children and the output failing in turn.
 
 use crate::calls::{ALL, End, NOTHING, ends, ends_twice};
-use crate::objects::{Failing, NONE, Task};
+use crate::objects::{At, Task, failing};
 use crate::rows::{FAILED, FLEET, REPORT};
 use std::alloc::Global;
 
 /// The row's fleet, whose children end with 0 and 2.
-pub const STARTS: Task = Task {
+pub static STARTS: Task = Task {
     words: &["fleet", "fleet.txt"],
     file: "fleet.txt",
     bytes: FLEET,
@@ -96,55 +96,66 @@ const UNREPORTED: End = End {
     ..UNSPAWNED
 };
 
-/// The calls of the children that fail, the statuses of those that are started, in this fleet and the next one, and how the
-/// two end.
-type Failed = (&'static [u64], &'static [u8], End, End);
+const UNWRITTEN: End = End {
+    code: 4,
+    note: b"planet: write fault\n",
+    ..NOTHING
+};
 
-fn children_fail(alloc: Global, row: &Failed) -> bool {
-    let fails = Failing {
-        children: row.0,
-        ..NONE
-    };
-    ends(alloc, &starts(FLEET, row.1), &fails, &row.2, &row.3)
+/// The calls that fail, the statuses of the children that are started, in this fleet and the next one, and how the two end.
+type Failed = (At, &'static [u8], End, End);
+
+fn fails(alloc: Global, row: &Failed) -> bool {
+    ends(
+        alloc,
+        &starts(FLEET, row.1),
+        &failing(row.0),
+        &row.2,
+        &row.3,
+    )
 }
 
 // Two starts, and two waitings; and the ninth call, which is the first one of a third fleet.
 static CHILD_FAULTS: [Failed; 5] = [
-    (&[1], &[0, 2], UNSPAWNED, REPORTED),
-    (&[2], &[0, 0, 2], UNSPAWNED, REPORTED),
-    (&[3], &[0, 0, 0, 2], UNSPAWNED, REPORTED),
-    (&[4], &[0, 0, 0, 2], UNREPORTED, REPORTED),
-    (&[9], &[0, 2, 0, 2], REPORTED, REPORTED),
+    (At::Children(&[1]), &[0, 2], UNSPAWNED, REPORTED),
+    (At::Children(&[2]), &[0, 0, 2], UNSPAWNED, REPORTED),
+    (At::Children(&[3]), &[0, 0, 0, 2], UNSPAWNED, REPORTED),
+    (At::Children(&[4]), &[0, 0, 0, 2], UNREPORTED, REPORTED),
+    (At::Children(&[9]), &[0, 2, 0, 2], REPORTED, REPORTED),
 ];
 
 #[test]
 fn each_call_of_the_children_fails(rt: HostRuntime) {
     for row in &CHILD_FAULTS {
-        assert!(rt; children_fail(rt.alloc(), row));
+        assert!(rt; fails(rt.alloc(), row));
     }
 }
 
 // The first fleet makes three calls of the children, the last of which waits for the child that was started, so the
 // seventh call waits for the second child of the second fleet.
-static SECOND_START: Failed = (&[2, 7], &[0, 0, 2], UNSPAWNED, UNREPORTED);
+static SECOND_START: Failed = (At::Children(&[2, 7]), &[0, 0, 2], UNSPAWNED, UNREPORTED);
 
 #[test]
 fn a_failing_second_start_waits_for_the_first_child(rt: HostRuntime) {
-    assert!(rt; children_fail(rt.alloc(), &SECOND_START));
+    assert!(rt; fails(rt.alloc(), &SECOND_START));
 }
 
-fn output_fails(alloc: Global, out: &'static [u64], count: usize) -> bool {
-    let end = End {
-        code: 4,
-        out: (REPORT, count),
-        note: b"planet: write fault\n",
-        ..NOTHING
-    };
-    ends(alloc, &STARTS, &Failing { out, ..NONE }, &end, &REPORTED)
-}
+static OUTPUT_FAULTS: [Failed; 2] = [
+    (At::Out(&[1]), &[0, 2, 0, 2], UNWRITTEN, REPORTED),
+    (
+        At::Out(&[2]),
+        &[0, 2, 0, 2],
+        End {
+            out: (REPORT, 17),
+            ..UNWRITTEN
+        },
+        REPORTED,
+    ),
+];
 
 #[test]
 fn each_push_of_the_output_fails(rt: HostRuntime) {
-    assert!(rt; output_fails(rt.alloc(), &[1], 0));
-    assert!(rt; output_fails(rt.alloc(), &[2], 17));
+    for row in &OUTPUT_FAULTS {
+        assert!(rt; fails(rt.alloc(), row));
+    }
 }

@@ -20,13 +20,15 @@ pub struct Task {
     pub statuses: &'static [u8],
 }
 
-/// The numbers of the calls that fail, of each object.
+/// The numbers of the calls that fail, of each object, and how many bytes the output takes where it stops.
 #[derive(Clone, Copy)]
 pub struct Failing {
     pub files: &'static [u64],
     pub children: &'static [u64],
     pub link: &'static [u64],
     pub out: &'static [u64],
+    pub notes: &'static [u64],
+    pub room: Option<u64>,
 }
 
 /// No call fails.
@@ -35,7 +37,28 @@ pub const NONE: Failing = Failing {
     children: &[],
     link: &[],
     out: &[],
+    notes: &[],
+    room: None,
 };
+
+/// The numbers of the calls of one object that fail.
+#[derive(Clone, Copy)]
+pub enum At {
+    Files(&'static [u64]),
+    Children(&'static [u64]),
+    Link(&'static [u64]),
+    Out(&'static [u64]),
+}
+
+/// These calls fail, and no other one.
+pub fn failing(at: At) -> Failing {
+    match at {
+        At::Files(files) => Failing { files, ..NONE },
+        At::Children(children) => Failing { children, ..NONE },
+        At::Link(link) => Failing { link, ..NONE },
+        At::Out(out) => Failing { out, ..NONE },
+    }
+}
 
 /// The objects that stay from one call to the next.
 #[derive(Drop)]
@@ -134,23 +157,19 @@ pub fn machine_of(alloc: Global, task: &Task, fails: &Failing) -> Result<Machine
     })
 }
 
-/// A link with the arrivals of a task, an output, and notes.
-pub fn streams_over(
-    alloc: Global,
-    task: &Task,
-    fails: &Failing,
-    out: MemSink,
-    notes: MemSink,
-) -> Result<Streams, NoMemory> {
-    let link = link(alloc, task.arrivals, fails.link)?;
-    Ok(Streams { link, out, notes })
+fn output(alloc: Global, fails: &Failing) -> Result<MemSink, NoMemory> {
+    match fails.room {
+        None => sink(alloc, fails.out),
+        Some(count) => MemSink::stopping(alloc, count),
+    }
 }
 
 /// A link with the arrivals of a task, and an output and notes without a byte.
 pub fn streams_of(alloc: Global, task: &Task, fails: &Failing) -> Result<Streams, NoMemory> {
-    let out = sink(alloc, fails.out)?;
-    let notes = sink(alloc, &[])?;
-    streams_over(alloc, task, fails, out, notes)
+    let out = output(alloc, fails)?;
+    let notes = sink(alloc, fails.notes)?;
+    let link = link(alloc, task.arrivals, fails.link)?;
+    Ok(Streams { link, out, notes })
 }
 
 fn planet_code(alloc: Global, words: &Texts, machine: &mut Machine, streams: &mut Streams) -> u8 {

@@ -1,12 +1,12 @@
 // Requests, with each call of the link and the output failing in turn.
 
 use crate::calls::{ALL, End, NOTHING, ends, ends_twice};
-use crate::objects::{Failing, NONE, Task};
+use crate::objects::{At, Task, failing};
 use crate::rows::{ASK, ASKED, REQUEST};
 use std::alloc::Global;
 
 /// The row's request.
-pub const ASKS: Task = Task {
+pub static ASKS: Task = Task {
     words: &["inject", "ask.txt"],
     file: "ask.txt",
     bytes: REQUEST,
@@ -41,17 +41,17 @@ fn a_request_is_sent_once(rt: HostRuntime) {
 }
 
 /// Calls that fail, and how the request then ends.
-type Failed = (Failing, End);
+type Failed = (At, End);
 
 fn fails(alloc: Global, row: &Failed) -> bool {
-    ends(alloc, &ASKS, &row.0, &row.1, &SENT)
+    ends(alloc, &ASKS, &failing(row.0), &row.1, &SENT)
 }
 
 // The binding and the sending.
 static LINK_FAULTS: [Failed; 3] = [
-    (Failing { link: &[1], ..NONE }, NO_LINK),
-    (Failing { link: &[2], ..NONE }, NO_LINK),
-    (Failing { link: &[3], ..NONE }, SENT),
+    (At::Link(&[1]), NO_LINK),
+    (At::Link(&[2]), NO_LINK),
+    (At::Link(&[3]), SENT),
 ];
 
 #[test]
@@ -61,10 +61,7 @@ fn each_call_of_the_link_fails(rt: HostRuntime) {
     }
 }
 
-static OUTPUT_FAULTS: [Failed; 2] = [
-    (Failing { out: &[1], ..NONE }, NO_LINE),
-    (Failing { out: &[2], ..NONE }, SENT),
-];
+static OUTPUT_FAULTS: [Failed; 2] = [(At::Out(&[1]), NO_LINE), (At::Out(&[2]), SENT)];
 
 #[test]
 fn each_push_of_the_output_fails(rt: HostRuntime) {

@@ -1,7 +1,7 @@
 // A node that serves, with each call of its objects failing in turn.
 
 use crate::calls::{ALL, End, NOTHING, ends, ends_twice};
-use crate::objects::{Failing, NONE, Task};
+use crate::objects::{At, Failing, NONE, Task, failing};
 use crate::reads::{UNREAD, reads_fail};
 use crate::rows::{
     ALONE, ANSWER, ANSWERER, ANSWERER_LOG, ANSWERER_TRACE, ASK, ASK_LOG, ASK_TRACE, FOR_HOST_1,
@@ -11,7 +11,7 @@ use crate::rows::{
 use std::alloc::Global;
 
 /// The row's node for four turns.
-const SERVES: Task = Task {
+static SERVES: Task = Task {
     words: &["node", "node.cfg", "4"],
     file: "node.cfg",
     bytes: NODE,
@@ -19,7 +19,7 @@ const SERVES: Task = Task {
     statuses: &[],
 };
 
-const SERVED: End = End {
+static SERVED: End = End {
     out: (TRACE, ALL),
     sent: (1, SENT_ON),
     log: (LOG, ALL),
@@ -67,47 +67,43 @@ fn nodes_write_the_logs_of_their_turns(rt: HostRuntime) {
     }
 }
 
-/// The call that fails, the places up to which the log and the trace are then written, and whether the frame was sent
-/// before.
-type Stop = (&'static [u64], usize, usize, bool);
+/// The call that fails, the code and the note of the end, the places up to which the log and the trace are then written, and
+/// whether the frame was sent before.
+type Stop = (At, (u8, &'static [u8]), usize, usize, bool);
 
-fn stopped(code: u8, note: &'static [u8], stop: &Stop) -> End {
+const LINK_FAULT: (u8, &[u8]) = (5, b"planet: link fault\n");
+
+const WRITE_FAULT: (u8, &[u8]) = (4, b"planet: write fault\n");
+
+fn stopped(stop: &Stop) -> End {
     End {
-        code,
-        note,
-        log: (LOG, stop.1),
-        out: (TRACE, stop.2),
-        sent: (1, if stop.3 { SENT_ON } else { "" }),
+        code: stop.1.0,
+        note: stop.1.1,
+        log: (LOG, stop.2),
+        out: (TRACE, stop.3),
+        sent: (1, if stop.4 { SENT_ON } else { "" }),
     }
 }
 
-// Whether the node ends so where these calls fail, and afterwards serves whole.
-fn stops(alloc: Global, fails: &Failing, end: &End) -> bool {
-    ends(alloc, &SERVES, fails, end, &SERVED)
+// Whether the node ends so where a call fails, and afterwards serves whole.
+fn stops(alloc: Global, stop: &Stop) -> bool {
+    ends(alloc, &SERVES, &failing(stop.0), &stopped(stop), &SERVED)
 }
 
 // The binding, two receivings, the sending, and two receivings.
 static LINK_FAULTS: [Stop; 6] = [
-    (&[1], 0, 0, false),
-    (&[2], 45, 15, false),
-    (&[3], 154, 63, false),
-    (&[4], 270, 121, false),
-    (&[5], 270, 121, true),
-    (&[6], 270, 121, true),
+    (At::Link(&[1]), LINK_FAULT, 0, 0, false),
+    (At::Link(&[2]), LINK_FAULT, 45, 15, false),
+    (At::Link(&[3]), LINK_FAULT, 154, 63, false),
+    (At::Link(&[4]), LINK_FAULT, 270, 121, false),
+    (At::Link(&[5]), LINK_FAULT, 270, 121, true),
+    (At::Link(&[6]), LINK_FAULT, 270, 121, true),
 ];
-
-fn link_fails(alloc: Global, stop: &Stop) -> bool {
-    let fails = Failing {
-        link: stop.0,
-        ..NONE
-    };
-    stops(alloc, &fails, &stopped(5, b"planet: link fault\n", stop))
-}
 
 #[test]
 fn each_call_of_the_link_fails(rt: HostRuntime) {
     for stop in &LINK_FAULTS {
-        assert!(rt; link_fails(rt.alloc(), stop));
+        assert!(rt; stops(rt.alloc(), stop));
     }
 }
 
@@ -118,51 +114,35 @@ fn the_reading_of_its_file_fails(rt: HostRuntime) {
 
 // The making of the log, its lines up to `events`, and the line of each step, behind the three calls of the reading.
 static LOG_FAULTS: [Stop; 6] = [
-    (&[4], 0, 0, false),
-    (&[5], 0, 0, false),
-    (&[6], 45, 15, false),
-    (&[7], 154, 63, false),
-    (&[8], 263, 104, false),
-    (&[9], 270, 121, true),
+    (At::Files(&[4]), WRITE_FAULT, 0, 0, false),
+    (At::Files(&[5]), WRITE_FAULT, 0, 0, false),
+    (At::Files(&[6]), WRITE_FAULT, 45, 15, false),
+    (At::Files(&[7]), WRITE_FAULT, 154, 63, false),
+    (At::Files(&[8]), WRITE_FAULT, 263, 104, false),
+    (At::Files(&[9]), WRITE_FAULT, 270, 121, true),
 ];
-
-fn log_fails(alloc: Global, stop: &Stop) -> bool {
-    let fails = Failing {
-        files: stop.0,
-        ..NONE
-    };
-    stops(alloc, &fails, &stopped(4, b"planet: write fault\n", stop))
-}
 
 #[test]
 fn each_call_of_the_log_fails(rt: HostRuntime) {
     for stop in &LOG_FAULTS {
-        assert!(rt; log_fails(rt.alloc(), stop));
+        assert!(rt; stops(rt.alloc(), stop));
     }
 }
 
 // The first line, the lines of each step, and the last line.
 static OUTPUT_FAULTS: [Stop; 6] = [
-    (&[1], 45, 0, false),
-    (&[2], 154, 15, false),
-    (&[3], 263, 63, false),
-    (&[4], 270, 104, false),
-    (&[5], 281, 121, true),
-    (&[6], 281, 167, true),
+    (At::Out(&[1]), WRITE_FAULT, 45, 0, false),
+    (At::Out(&[2]), WRITE_FAULT, 154, 15, false),
+    (At::Out(&[3]), WRITE_FAULT, 263, 63, false),
+    (At::Out(&[4]), WRITE_FAULT, 270, 104, false),
+    (At::Out(&[5]), WRITE_FAULT, 281, 121, true),
+    (At::Out(&[6]), WRITE_FAULT, 281, 167, true),
 ];
-
-fn output_fails(alloc: Global, stop: &Stop) -> bool {
-    let fails = Failing {
-        out: stop.0,
-        ..NONE
-    };
-    stops(alloc, &fails, &stopped(4, b"planet: write fault\n", stop))
-}
 
 #[test]
 fn each_push_of_the_output_fails(rt: HostRuntime) {
     for stop in &OUTPUT_FAULTS {
-        assert!(rt; output_fails(rt.alloc(), stop));
+        assert!(rt; stops(rt.alloc(), stop));
     }
 }
 

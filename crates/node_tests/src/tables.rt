@@ -18,6 +18,11 @@ static LEFT: [(u64, &[i64]); 5] = [
     (9, &[]),
 ];
 
+/// Two rows, and their keys behind a removal of the first one, which is then put again.
+static PAIR: [(i64, u64); 2] = [(1, 1), (2, 1)];
+
+static TURNED: [i64; 2] = [2, 1];
+
 fn name(alloc: Global) -> Option<Text> {
     Vec::from_slice(alloc, b"t").ok().map(Text::of)
 }
@@ -51,70 +56,96 @@ fn leaves_each(tables: &mut Tables) -> bool {
     true
 }
 
-fn expires(alloc: Global, name: Option<Text>) -> bool {
-    let Some(name) = name else {
-        return false;
-    };
+fn expires_by(alloc: Global, name: &Text) -> bool {
     let mut tables = Tables::new(alloc);
-    put_each(alloc, &mut tables, &name, &ROWS) && leaves_each(&mut tables)
+    put_each(alloc, &mut tables, name, &ROWS) && leaves_each(&mut tables)
+}
+
+fn expires(alloc: Global, name: Option<Text>) -> bool {
+    match name {
+        Some(name) => expires_by(alloc, &name),
+        None => false,
+    }
+}
+
+fn puts(
+    alloc: Global,
+    overlay: &mut Overlay,
+    base: &Tables,
+    name: &Text,
+    key: i64,
+    expiry: u64,
+) -> bool
+    requires { IsOver base.now.rows overlay.old }
+    ensures { IsOver base.now.rows overlay.new }
+{
+    overlay
+        .put(alloc, base, name, key, &Ty::Int, &Value::Int(9), expiry)
+        .is_ok()
 }
 
 // Removes the first key, and puts the second and the first anew.
-fn puts_anew(alloc: Global, overlay: &mut Overlay, tables: &Tables, name: &Text) -> bool
-    requires { IsOver tables.now.rows overlay.old }
-    ensures { IsOver tables.now.rows overlay.new }
+fn changes(alloc: Global, overlay: &mut Overlay, base: &Tables, name: &Text) -> bool
+    requires { IsOver base.now.rows overlay.old }
+    ensures { IsOver base.now.rows overlay.new }
 {
-    let nine = Value::Int(9);
-    overlay.remove(alloc, tables, name, 1).is_ok()
-        && overlay
-            .put(alloc, tables, name, 2, &Ty::Int, &nine, 1)
-            .is_ok()
-        && overlay
-            .put(alloc, tables, name, 1, &Ty::Int, &nine, 1)
-            .is_ok()
+    overlay.remove(alloc, base, name, 1).is_ok()
+        && puts(alloc, overlay, base, name, 2, 1)
+        && puts(alloc, overlay, base, name, 1, 1)
 }
 
-// Whether these changes of the keys 1 and 2 leave the second in front of the first.
-fn keeps_order(alloc: Global, name: Option<Text>) -> bool {
-    let Some(name) = name else {
-        return false;
-    };
-    let mut tables = Tables::new(alloc);
-    let mut overlay = Overlay::new(alloc, 1);
-    if !put_each(alloc, &mut tables, &name, &[(1, 1), (2, 1)])
-        || !puts_anew(alloc, &mut overlay, &tables, &name)
+fn keeps_order_in(alloc: Global, tables: &mut Tables, name: &Text) -> bool {
+    let mut overlay = Overlay::new(alloc, tables.next_key());
+    if !changes(alloc, &mut overlay, tables, name)
         || overlay.fresh_key() != Some(1)
         || tables.reserve(&overlay).is_err()
     {
         return false;
     }
     tables.commit(overlay);
-    has_keys(&tables, &[2, 1]) && tables.next_key() == 2
+    true
 }
 
-// Whether a row of an overlay over a table is found with a type at a tick.
-fn is_found(alloc: Global, overlay: &Overlay, base: &Tables, name: &Text, at: (&Ty, u64)) -> bool {
-    overlay.get(alloc, base, name, 1, at.0, at.1).is_ok()
+fn keeps_order_by(alloc: Global, name: &Text) -> bool {
+    let mut tables = Tables::new(alloc);
+    put_each(alloc, &mut tables, name, &PAIR)
+        && keeps_order_in(alloc, &mut tables, name)
+        && has_keys(&tables, &TURNED)
+        && tables.next_key() == 2
 }
 
-fn is_lost(alloc: Global, overlay: &Overlay, base: &Tables, name: &Text, at: (&Ty, u64)) -> bool {
-    overlay.get(alloc, base, name, 1, at.0, at.1).err() == Some(TableFault::NotFound)
+// Whether these changes of the keys 1 and 2 leave the second in front of the first.
+fn keeps_order(alloc: Global, name: Option<Text>) -> bool {
+    match name {
+        Some(name) => keeps_order_by(alloc, &name),
+        None => false,
+    }
 }
 
-// Whether a number that is put until tick 2 is found before that tick alone, and as no text.
-fn has_a_life(alloc: Global, name: Option<Text>) -> bool {
-    let Some(name) = name else {
-        return false;
-    };
-    let tables = Tables::new(alloc);
+// Whether the number under key 1 is found as a number at a tick, and never as a text.
+fn is_found(alloc: Global, overlay: &Overlay, base: &Tables, name: &Text, now: u64) -> bool {
+    overlay.get(alloc, base, name, 1, &Ty::Int, now).is_ok()
+        && overlay.get(alloc, base, name, 1, &Ty::Str, now).err() == Some(TableFault::NotFound)
+}
+
+fn is_lost(alloc: Global, overlay: &Overlay, base: &Tables, name: &Text, now: u64) -> bool {
+    overlay.get(alloc, base, name, 1, &Ty::Int, now).err() == Some(TableFault::NotFound)
+}
+
+// Whether a number that is put until tick 2 over a table is found before that tick alone.
+fn has_a_life_over(alloc: Global, base: &Tables, name: &Text) -> bool {
     let mut overlay = Overlay::new(alloc, 1);
-    overlay
-        .put(alloc, &tables, &name, 1, &Ty::Int, &Value::Int(1), 2)
-        .is_ok()
-        && is_lost(alloc, &overlay, &tables, &name, (&Ty::Str, 0))
-        && is_found(alloc, &overlay, &tables, &name, (&Ty::Int, 0))
-        && is_found(alloc, &overlay, &tables, &name, (&Ty::Int, 1))
-        && is_lost(alloc, &overlay, &tables, &name, (&Ty::Int, 2))
+    puts(alloc, &mut overlay, base, name, 1, 2)
+        && is_found(alloc, &overlay, base, name, 0)
+        && is_found(alloc, &overlay, base, name, 1)
+        && is_lost(alloc, &overlay, base, name, 2)
+}
+
+fn has_a_life(alloc: Global, name: Option<Text>) -> bool {
+    match name {
+        Some(name) => has_a_life_over(alloc, &Tables::new(alloc), &name),
+        None => false,
+    }
 }
 
 fn gives_one_key(alloc: Global) -> bool {
