@@ -1,7 +1,7 @@
-// Fleets, with each call of the children and the output failing in turn.
+// Fleets, with each call of the children and the output fails_at in turn.
 
 use crate::calls::{ALL, End, NOTHING, ends, ends_twice};
-use crate::objects::{At, Task, failing};
+use crate::objects::{At, Task, fails_at};
 use crate::rows::{FAILED, FLEET, REPORT};
 use std::alloc::Global;
 
@@ -109,7 +109,7 @@ fn fails(alloc: Global, row: &Failed) -> bool {
     ends(
         alloc,
         &starts(FLEET, row.1),
-        &failing(row.0),
+        &fails_at(row.0),
         &row.2,
         &row.3,
     )

@@ -51,7 +51,7 @@ pub enum At {
 }
 
 /// These calls fail, and no other one.
-pub fn failing(at: At) -> Failing {
+pub fn fails_at(at: At) -> Failing {
     match at {
         At::Files(files) => Failing { files, ..NONE },
         At::Children(children) => Failing { children, ..NONE },

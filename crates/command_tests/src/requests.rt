@@ -1,7 +1,7 @@
-// Requests, with each call of the link and the output failing in turn.
+// Requests, with each call of the link and the output fails_at in turn.
 
 use crate::calls::{ALL, End, NOTHING, ends, ends_twice};
-use crate::objects::{At, Task, failing};
+use crate::objects::{At, Task, fails_at};
 use crate::rows::{ASK, ASKED, REQUEST};
 use std::alloc::Global;
 
@@ -44,7 +44,7 @@ fn a_request_is_sent_once(rt: HostRuntime) {
 type Failed = (At, End);
 
 fn fails(alloc: Global, row: &Failed) -> bool {
-    ends(alloc, &ASKS, &failing(row.0), &row.1, &SENT)
+    ends(alloc, &ASKS, &fails_at(row.0), &row.1, &SENT)
 }
 
 // The binding and the sending.

@@ -1,7 +1,7 @@
-// A node that serves, with each call of its objects failing in turn.
+// A node that serves, with each call of its objects fails_at in turn.
 
 use crate::calls::{ALL, End, NOTHING, ends, ends_twice};
-use crate::objects::{At, Failing, NONE, Task, failing};
+use crate::objects::{At, Failing, NONE, Task, fails_at};
 use crate::reads::{UNREAD, reads_fail};
 use crate::rows::{
     ALONE, ANSWER, ANSWERER, ANSWERER_LOG, ANSWERER_TRACE, ASK, ASK_LOG, ASK_TRACE, FOR_HOST_1,
@@ -87,7 +87,7 @@ fn stopped(stop: &Stop) -> End {
 
 // Whether the node ends so where a call fails, and afterwards serves whole.
 fn stops(alloc: Global, stop: &Stop) -> bool {
-    ends(alloc, &SERVES, &failing(stop.0), &stopped(stop), &SERVED)
+    ends(alloc, &SERVES, &fails_at(stop.0), &stopped(stop), &SERVED)
 }
 
 // The binding, two receivings, the sending, and two receivings.
