@@ -1,4 +1,4 @@
-// Fleets, with each call of the children and the output fails_at in turn.
+// Fleets, with each call of the children and the output failing in turn.
 
 use crate::calls::{ALL, End, NOTHING, ends, ends_twice};
 use crate::objects::{At, Task, fails_at};

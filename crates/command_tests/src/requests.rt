@@ -1,4 +1,4 @@
-// Requests, with each call of the link and the output fails_at in turn.
+// Requests, with each call of the link and the output failing in turn.
 
 use crate::calls::{ALL, End, NOTHING, ends, ends_twice};
 use crate::objects::{At, Task, fails_at};

@@ -1,4 +1,4 @@
-// A node that serves, with each call of its objects fails_at in turn.
+// A node that serves, with each call of its objects failing in turn.
 
 use crate::calls::{ALL, End, NOTHING, ends, ends_twice};
 use crate::objects::{At, Failing, NONE, Task, fails_at};
