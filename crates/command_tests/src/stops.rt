@@ -60,23 +60,30 @@ static NOTED: End = End {
     ..NOTHING
 };
 
-fn notes_later(alloc: Global, machine: &mut Machine) -> bool {
-    match streams_of(alloc, &UNKNOWN, &SILENT) {
-        Ok(mut streams) => ends_over(alloc, &UNKNOWN, machine, &mut streams, &UNNOTED)
-            && ends_over(alloc, &UNKNOWN, machine, &mut streams, &NOTED),
+fn notes_over(
+    alloc: Global,
+    task: &Task,
+    machine: &mut Machine,
+    fails: &Failing,
+    ends: (&End, &End),
+) -> bool {
+    match streams_of(alloc, task, fails) {
+        Ok(mut streams) => ends_over(alloc, task, machine, &mut streams, ends.0)
+            && ends_over(alloc, task, machine, &mut streams, ends.1),
         Err(_) => false,
     }
 }
 
-// Whether a note whose first push fails is a write fault, and the next call notes what is wrong with the file.
-fn note_fails(alloc: Global) -> bool {
-    match machine_of(alloc, &UNKNOWN, &NONE) {
-        Ok(mut machine) => notes_later(alloc, &mut machine),
+// Whether two calls over the same notes, of which these pushes fail, end so.
+fn notes(alloc: Global, task: &Task, fails: &Failing, ends: (&End, &End)) -> bool {
+    match machine_of(alloc, task, fails) {
+        Ok(mut machine) => notes_over(alloc, task, &mut machine, fails, ends),
         Err(_) => false,
     }
 }
 
+// A note whose first push fails is a write fault, and the next call notes what is wrong with the file.
 #[test]
 fn a_note_that_fails_is_a_write_fault(rt: HostRuntime) {
-    assert!(rt; note_fails(rt.alloc()));
+    assert!(rt; notes(rt.alloc(), &UNKNOWN, &SILENT, (&UNNOTED, &NOTED)));
 }
