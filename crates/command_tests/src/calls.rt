@@ -3,143 +3,108 @@
 use crate::objects::{Failing, Machine, NONE, Streams, Task, bytes, code, machine_of, streams_of};
 use plan_base::{Bytes, Dev};
 use std::alloc::Global;
-use std::process::Abort;
-use std::test::Fail;
+
+/// Bytes, and how many of them are there: all, where this is more than they are.
+type Front = (&'static [u8], usize);
+
+/// All of some bytes.
+pub const ALL: usize = usize::MAX;
 
 /// How a call ends: its code, its output, its note, the frame that it sends, in hex and with nothing for none, with its
 /// device, and the bytes of `node.log`, none where it isn't made.
 #[derive(Clone, Copy)]
-pub struct End<'a> {
+pub struct End {
     pub code: u8,
-    pub out: &'a [u8],
-    pub note: &'a [u8],
+    pub out: Front,
+    pub note: &'static [u8],
     pub sent: (u32, &'static str),
-    pub log: &'a [u8],
+    pub log: Front,
 }
 
 /// Nothing was done.
-pub const NOTHING: End<'static> = End {
+pub const NOTHING: End = End {
     code: 0,
-    out: b"",
+    out: (b"", ALL),
     note: b"",
     sent: (0, ""),
-    log: b"",
+    log: (b"", ALL),
 };
 
-/// The front of a text up to a place.
-pub fn front(text: &'static [u8], end: usize) -> &'static [u8] {
-    match text.get(..end) {
-        Some(front) => front,
-        None => text,
+fn is_front(bytes: &[u8], wanted: Front) -> bool {
+    match wanted.0.get(..wanted.1) {
+        Some(front) => bytes == front,
+        None => bytes == wanted.0,
     }
 }
 
-fn is_sent(rt: &impl Abort, sent: &(Dev, Bytes), dev: u32, frame: &[u8]) {
-    assert_eq!(rt; sent.0.0, dev);
-    assert_eq!(rt; sent.1.as_slice(), frame);
+fn is_hex(alloc: Global, frame: &[u8], hex: &str) -> bool {
+    match bytes(alloc, hex) {
+        Ok(bytes) => bytes.as_slice() == frame,
+        Err(_) => false,
+    }
 }
 
-fn sends_one(
-    rt: &impl Abort,
-    alloc: Global,
-    sent: &[(Dev, Bytes)],
-    wanted: (u32, &str),
-) -> Result<(), Fail> {
-    let frame = bytes(alloc, wanted.1)?;
-    assert_eq!(rt; sent.len(), 1);
+fn is_sent(alloc: Global, sent: &[(Dev, Bytes)], wanted: (u32, &str)) -> bool {
     for one in sent {
-        is_sent(rt, one, wanted.0, frame.as_slice());
+        if one.0.0 != wanted.0 || !is_hex(alloc, one.1.as_slice(), wanted.1) {
+            return false;
+        }
     }
-    Ok(())
+    sent.len() == usize::from(!wanted.1.is_empty())
 }
 
-fn sends(
-    rt: &impl Abort,
-    alloc: Global,
-    sent: &[(Dev, Bytes)],
-    wanted: (u32, &str),
-) -> Result<(), Fail> {
-    if wanted.1.is_empty() {
-        assert_eq!(rt; sent.len(), 0);
-        return Ok(());
-    }
-    sends_one(rt, alloc, sent, wanted)
-}
-
-// What a node logged.
-fn log_of(machine: &Machine) -> &[u8] {
+// Whether a node logged so.
+fn is_logged(machine: &Machine, wanted: Front) -> bool {
     match machine.files.files().get(b"node.log") {
-        Some(log) => log.as_slice(),
-        None => b"",
+        Some(log) => is_front(log.as_slice(), wanted),
+        None => is_front(b"", wanted),
     }
 }
 
-fn is_written(rt: &impl Abort, streams: &Streams, end: End<'_>) {
-    assert_eq!(rt; streams.notes.taken().as_slice(), end.note);
-    assert_eq!(rt; streams.out.taken().as_slice(), end.out);
+fn is_told(alloc: Global, streams: &Streams, end: &End) -> bool {
+    streams.notes.taken().as_slice() == end.note
+        && is_front(streams.out.taken().as_slice(), end.out)
+        && is_sent(alloc, streams.link.sent().as_slice(), end.sent)
 }
 
-fn is_logged(rt: &impl Abort, machine: &Machine, log: &[u8]) {
-    assert_eq!(rt; log_of(machine), log);
-}
-
-fn ends_over(
-    rt: &impl Abort,
+/// Whether a task ends so over these objects.
+pub fn ends_over(
     alloc: Global,
     task: &Task,
     machine: &mut Machine,
     streams: &mut Streams,
-    end: End<'_>,
-) -> Result<(), Fail> {
-    let code = code(alloc, task.words, machine, streams)?;
-    assert_eq!(rt; code, end.code);
-    is_written(rt, streams, end);
-    is_logged(rt, machine, end.log);
-    sends(rt, alloc, streams.link.sent().as_slice(), end.sent)
+    end: &End,
+) -> bool {
+    code(alloc, task.words, machine, streams) == Ok(end.code)
+        && is_logged(machine, end.log)
+        && is_told(alloc, streams, end)
 }
 
-// A task ends so on this machine.
-fn ends_on(
-    rt: &impl Abort,
-    alloc: Global,
-    task: &Task,
-    machine: &mut Machine,
-    fails: Failing<'_>,
-    end: End<'_>,
-) -> Result<(), Fail> {
-    let mut streams = streams_of(alloc, task, fails)?;
-    ends_over(rt, alloc, task, machine, &mut streams, end)
+fn ends_on(alloc: Global, task: &Task, machine: &mut Machine, fails: &Failing, end: &End) -> bool {
+    match streams_of(alloc, task, fails) {
+        Ok(mut streams) => ends_over(alloc, task, machine, &mut streams, end),
+        Err(_) => false,
+    }
 }
 
-// A task ends as `end` where calls fail, and then as `whole` where none fails.
-fn ends_twice(
-    rt: &impl Abort,
-    alloc: Global,
-    task: &Task,
-    machine: &mut Machine,
-    fails: Failing<'_>,
-    end: End<'_>,
-    whole: End<'_>,
-) -> Result<(), Fail> {
-    ends_on(rt, alloc, task, machine, fails, end)?;
-    ends_on(rt, alloc, task, machine, NONE, whole)
+/// Whether a task ends so where these calls fail.
+pub fn ends_once(alloc: Global, task: &Task, fails: &Failing, end: &End) -> bool {
+    match machine_of(alloc, task, fails) {
+        Ok(mut machine) => ends_on(alloc, task, &mut machine, fails, end),
+        Err(_) => false,
+    }
 }
 
-/// A task ends so where no call fails.
-pub fn ends(rt: &impl Abort, alloc: Global, task: &Task, end: End<'_>) -> Result<(), Fail> {
-    let mut machine = machine_of(alloc, task, NONE)?;
-    ends_on(rt, alloc, task, &mut machine, NONE, end)
+/// Whether a task ends as `end` where these calls fail, and made again on the same machine ends as `again`.
+pub fn ends(alloc: Global, task: &Task, fails: &Failing, end: &End, again: &End) -> bool {
+    match machine_of(alloc, task, fails) {
+        Ok(mut machine) => ends_on(alloc, task, &mut machine, fails, end)
+            && ends_on(alloc, task, &mut machine, &NONE, again),
+        Err(_) => false,
+    }
 }
 
-/// With these calls failing a task ends as `end`, and made again on the same machine it ends as `whole`.
-pub fn fails(
-    rt: &impl Abort,
-    alloc: Global,
-    task: &Task,
-    fails: Failing<'_>,
-    end: End<'_>,
-    whole: End<'_>,
-) -> Result<(), Fail> {
-    let mut machine = machine_of(alloc, task, fails)?;
-    ends_twice(rt, alloc, task, &mut machine, fails, end, whole)
+/// Whether a task ends so, and so again, where no call fails.
+pub fn ends_twice(alloc: Global, task: &Task, end: &End) -> bool {
+    ends(alloc, task, &NONE, end, end)
 }

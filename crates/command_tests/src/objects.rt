@@ -20,22 +20,45 @@ pub struct Task {
     pub statuses: &'static [u8],
 }
 
-/// The numbers of the calls that fail, of each object.
+/// The numbers of the calls that fail, of each object, and how many bytes the output takes where it stops.
 #[derive(Clone, Copy)]
-pub struct Failing<'a> {
-    pub files: &'a [u64],
-    pub children: &'a [u64],
-    pub link: &'a [u64],
-    pub out: &'a [u64],
+pub struct Failing {
+    pub files: &'static [u64],
+    pub children: &'static [u64],
+    pub link: &'static [u64],
+    pub out: &'static [u64],
+    pub notes: &'static [u64],
+    pub room: Option<u64>,
 }
 
 /// No call fails.
-pub const NONE: Failing<'static> = Failing {
+pub const NONE: Failing = Failing {
     files: &[],
     children: &[],
     link: &[],
     out: &[],
+    notes: &[],
+    room: None,
 };
+
+/// The numbers of the calls of one object that fail.
+#[derive(Clone, Copy)]
+pub enum At {
+    Files(&'static [u64]),
+    Children(&'static [u64]),
+    Link(&'static [u64]),
+    Out(&'static [u64]),
+}
+
+/// These calls fail, and no other one.
+pub fn fails_at(at: At) -> Failing {
+    match at {
+        At::Files(files) => Failing { files, ..NONE },
+        At::Children(children) => Failing { children, ..NONE },
+        At::Link(link) => Failing { link, ..NONE },
+        At::Out(out) => Failing { out, ..NONE },
+    }
+}
 
 /// The objects that stay from one call to the next.
 #[derive(Drop)]
@@ -63,10 +86,6 @@ pub fn bytes(alloc: Global, hex: &str) -> Result<Bytes, NoMemory> {
         Ok(bytes) => Ok(Bytes::of(bytes)),
         Err(_) => Err(NoMemory),
     }
-}
-
-fn calls(alloc: Global, numbers: &[u64]) -> Result<Calls, NoMemory> {
-    Ok(Calls::from_slice(alloc, numbers)?)
 }
 
 fn arrival(alloc: Global, dev: u32, frame: &str) -> Result<Arrival, NoMemory> {
@@ -106,25 +125,28 @@ pub fn one_file(
 ) -> Result<MemFiles, NoMemory> {
     let mut files = FileList::new(alloc);
     files.add(entry(alloc, name, bytes)?)?;
-    MemFiles::new(alloc, files, calls(alloc, fails)?)
+    MemFiles::new(alloc, files, Calls::from_slice(alloc, fails)?)
 }
 
-fn children(alloc: Global, statuses: &[u8], fails: &[u64]) -> Result<MemSpawner, NoMemory> {
+/// Children with these statuses, and the calls of them that fail.
+pub fn children(alloc: Global, statuses: &[u8], fails: &[u64]) -> Result<MemSpawner, NoMemory> {
     let statuses = Statuses::from_slice(alloc, statuses)?;
-    MemSpawner::new(alloc, statuses, calls(alloc, fails)?)
+    MemSpawner::new(alloc, statuses, Calls::from_slice(alloc, fails)?)
 }
 
-fn link(alloc: Global, frames: &[(u32, &str)], fails: &[u64]) -> Result<MemLink, NoMemory> {
+/// A link with these arrivals, and the calls of it that fail.
+pub fn link(alloc: Global, frames: &[(u32, &str)], fails: &[u64]) -> Result<MemLink, NoMemory> {
     let script = arrivals(alloc, frames)?;
-    MemLink::new(alloc, script, calls(alloc, fails)?)
+    MemLink::new(alloc, script, Calls::from_slice(alloc, fails)?)
 }
 
-fn sink(alloc: Global, fails: &[u64]) -> Result<MemSink, NoMemory> {
-    MemSink::new(alloc, calls(alloc, fails)?)
+/// A sink without a byte, and the pushes of it that fail.
+pub fn sink(alloc: Global, fails: &[u64]) -> Result<MemSink, NoMemory> {
+    MemSink::new(alloc, Calls::from_slice(alloc, fails)?)
 }
 
 /// The file and the children of a task, and a clock that always says 0.
-pub fn machine_of(alloc: Global, task: &Task, fails: Failing<'_>) -> Result<Machine, NoMemory> {
+pub fn machine_of(alloc: Global, task: &Task, fails: &Failing) -> Result<Machine, NoMemory> {
     let clock = MemClock::new(alloc, Moments::new(alloc))?;
     let children = children(alloc, task.statuses, fails.children)?;
     let files = one_file(alloc, task.file, task.bytes, fails.files)?;
@@ -135,10 +157,17 @@ pub fn machine_of(alloc: Global, task: &Task, fails: Failing<'_>) -> Result<Mach
     })
 }
 
+fn output(alloc: Global, fails: &Failing) -> Result<MemSink, NoMemory> {
+    match fails.room {
+        None => sink(alloc, fails.out),
+        Some(count) => MemSink::stopping(alloc, count),
+    }
+}
+
 /// A link with the arrivals of a task, and an output and notes without a byte.
-pub fn streams_of(alloc: Global, task: &Task, fails: Failing<'_>) -> Result<Streams, NoMemory> {
-    let out = sink(alloc, fails.out)?;
-    let notes = sink(alloc, &[])?;
+pub fn streams_of(alloc: Global, task: &Task, fails: &Failing) -> Result<Streams, NoMemory> {
+    let out = output(alloc, fails)?;
+    let notes = sink(alloc, fails.notes)?;
     let link = link(alloc, task.arrivals, fails.link)?;
     Ok(Streams { link, out, notes })
 }

@@ -1,42 +1,51 @@
 // Commands of one file, with each call of its reading failing in turn.
 
-use crate::calls::{End, NOTHING, fails};
-use crate::fleets::{REPORTED, starts};
+use crate::calls::{ALL, End, NOTHING, ends};
+use crate::fleets::{REPORTED, STARTS};
 use crate::objects::{Failing, NONE, Task};
-use crate::requests::{SENT, asks};
+use crate::requests::{ASKS, SENT};
 use crate::rows::{
-    FLEET, FRAME, LOG, MESSAGE, PART_HELD, PART_LOG, PARTED, PORT, PORTED, PROGRAM, REQUEST, RUN,
-    SCHEDULE, SHOWN, SIZES, TRACE,
+    FRAME, LOG, MESSAGE, PART_HELD, PART_LOG, PARTED, PORT, PORTED, PROGRAM, RUN, SCHEDULE, SHOWN,
+    SIZES, TRACE,
 };
 use std::alloc::Global;
-use std::process::Abort;
-use std::test::Fail;
 
 /// Nothing was read.
-pub const UNREAD: End<'static> = End {
+pub const UNREAD: End = End {
     code: 3,
     note: b"planet: read fault\n",
     ..NOTHING
 };
 
-fn read_fails(
-    rt: &impl Abort,
-    alloc: Global,
-    task: &Task,
-    at: u64,
-    whole: End<'_>,
-) -> Result<(), Fail> {
-    let files = &[at];
-    fails(rt, alloc, task, Failing { files, ..NONE }, UNREAD, whole)
+/// The opening of a file, and its two pulls.
+static CALLS: [Failing; 3] = [
+    Failing {
+        files: &[1],
+        ..NONE
+    },
+    Failing {
+        files: &[2],
+        ..NONE
+    },
+    Failing {
+        files: &[3],
+        ..NONE
+    },
+];
+
+/// Whether nothing is done where the opening of a task's file or one of its two pulls fails, and the next call ends as
+/// `whole`.
+pub fn reads_fail(alloc: Global, task: &Task, whole: &End) -> bool {
+    for fails in &CALLS {
+        if !ends(alloc, task, fails, &UNREAD, whole) {
+            return false;
+        }
+    }
+    true
 }
 
-/// The opening of a task's file and its two pulls fail, and nothing is done; the next call ends as `whole`.
-pub fn reads_fail(rt: &impl Abort, alloc: Global, task: &Task, whole: End<'_>) -> Result<(), Fail> {
-    for at in 1..4 {
-        read_fails(rt, alloc, task, at, whole)?;
-    }
-    Ok(())
-}
+/// The words of a command on `file.txt`, what that holds, and what is written.
+type Reads = (&'static [&'static str], &'static [u8], &'static [u8]);
 
 /// A command on `file.txt`.
 pub fn reads(words: &'static [&'static str], bytes: &'static [u8]) -> Task {
@@ -49,60 +58,29 @@ pub fn reads(words: &'static [&'static str], bytes: &'static [u8]) -> Task {
     }
 }
 
-fn writes(out: &'static [u8]) -> End<'static> {
-    End { out, ..NOTHING }
+fn reads_so(alloc: Global, row: &Reads) -> bool {
+    let whole = End {
+        out: (row.2, ALL),
+        ..NOTHING
+    };
+    reads_fail(alloc, &reads(row.0, row.1), &whole)
 }
 
-#[test]
-fn each_call_of_the_reading_fails(rt: HostRuntime) -> Result<(), Fail> {
-    let alloc = rt.alloc();
-    reads_fail(
-        &rt,
-        alloc,
-        &reads(&["check", "file.txt"], PROGRAM),
-        writes(SIZES),
-    )?;
-    reads_fail(
-        &rt,
-        alloc,
-        &reads(&["show", "file.txt"], FRAME),
-        writes(SHOWN),
-    )?;
-    reads_fail(
-        &rt,
-        alloc,
-        &reads(&["replay", "file.txt"], LOG),
-        writes(TRACE),
-    )?;
-    reads_fail(
-        &rt,
-        alloc,
-        &reads(&["replay", "file.txt"], SCHEDULE),
-        writes(RUN),
-    )?;
-    reads_fail(&rt, alloc, &asks(REQUEST), SENT)?;
-    reads_fail(&rt, alloc, &starts(FLEET, &[0, 2]), REPORTED)
-}
+static READS: [Reads; 7] = [
+    (&["check", "file.txt"], PROGRAM, SIZES),
+    (&["show", "file.txt"], FRAME, SHOWN),
+    (&["replay", "file.txt"], LOG, TRACE),
+    (&["replay", "file.txt"], SCHEDULE, RUN),
+    (&["cut", "file.txt"], MESSAGE, PARTED),
+    (&["gather", "7", "file.txt"], PART_LOG, PART_HELD),
+    (&["port", "file.txt"], PORT, PORTED),
+];
 
 #[test]
-fn each_call_of_the_reading_of_messages_fails(rt: HostRuntime) -> Result<(), Fail> {
-    let alloc = rt.alloc();
-    reads_fail(
-        &rt,
-        alloc,
-        &reads(&["cut", "file.txt"], MESSAGE),
-        writes(PARTED),
-    )?;
-    reads_fail(
-        &rt,
-        alloc,
-        &reads(&["gather", "7", "file.txt"], PART_LOG),
-        writes(PART_HELD),
-    )?;
-    reads_fail(
-        &rt,
-        alloc,
-        &reads(&["port", "file.txt"], PORT),
-        writes(PORTED),
-    )
+fn each_call_of_the_reading_fails(rt: HostRuntime) {
+    for row in &READS {
+        assert!(rt; reads_so(rt.alloc(), row));
+    }
+    assert!(rt; reads_fail(rt.alloc(), &ASKS, &SENT));
+    assert!(rt; reads_fail(rt.alloc(), &STARTS, &REPORTED));
 }

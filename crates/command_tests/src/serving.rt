@@ -1,7 +1,7 @@
 // A node that serves, with each call of its objects failing in turn.
 
-use crate::calls::{End, NOTHING, ends, fails, front};
-use crate::objects::{Failing, NONE, Task};
+use crate::calls::{ALL, End, NOTHING, ends, ends_twice};
+use crate::objects::{At, Failing, NONE, Task, fails_at};
 use crate::reads::{UNREAD, reads_fail};
 use crate::rows::{
     ALONE, ANSWER, ANSWERER, ANSWERER_LOG, ANSWERER_TRACE, ASK, ASK_LOG, ASK_TRACE, FOR_HOST_1,
@@ -9,199 +9,156 @@ use crate::rows::{
     THROUGH_HOST_1, TRACE,
 };
 use std::alloc::Global;
-use std::process::Abort;
-use std::test::Fail;
 
-fn serves(bytes: &'static [u8]) -> Task {
-    Task {
-        words: &["node", "node.cfg", "4"],
-        file: "node.cfg",
-        bytes,
-        arrivals: &[(1, FOR_HOST_1), (1, THROUGH_HOST_1), (1, ""), (1, "ff")],
-        statuses: &[],
-    }
-}
+/// The row's node for four turns.
+static SERVES: Task = Task {
+    words: &["node", "node.cfg", "4"],
+    file: "node.cfg",
+    bytes: NODE,
+    arrivals: &[(1, FOR_HOST_1), (1, THROUGH_HOST_1), (1, ""), (1, "ff")],
+    statuses: &[],
+};
 
-fn serves_once(bytes: &'static [u8], arrivals: &'static [(u32, &'static str)]) -> Task {
-    Task {
-        words: &["node", "node.cfg", "1"],
-        file: "node.cfg",
-        bytes,
-        arrivals,
-        statuses: &[],
-    }
-}
-
-const SERVED: End<'static> = End {
-    out: TRACE,
+static SERVED: End = End {
+    out: (TRACE, ALL),
     sent: (1, SENT_ON),
-    log: LOG,
+    log: (LOG, ALL),
     ..NOTHING
 };
 
-/// A configuration, what arrives in one turn, and how the node then ends.
-type Logged = (&'static [u8], &'static [(u32, &'static str)], End<'static>);
+/// A configuration, what arrives in one turn, and the trace, the frame and the log that come of it.
+type Logged = (
+    &'static [u8],
+    &'static [(u32, &'static str)],
+    &'static [u8],
+    &'static str,
+    &'static [u8],
+);
 
 // A ping to the neighbour, its answer by that one, an ask of the owner, and a part that is delivered to a port.
 static LOGGED: [Logged; 4] = [
-    (
-        SENDER,
-        &[],
-        End {
-            out: SENDER_TRACE,
-            sent: (1, PING),
-            log: SENDER_LOG,
-            ..NOTHING
-        },
-    ),
-    (
-        ANSWERER,
-        &[(1, PING)],
-        End {
-            out: ANSWERER_TRACE,
-            sent: (1, ANSWER),
-            log: ANSWERER_LOG,
-            ..NOTHING
-        },
-    ),
-    (
-        NODE,
-        &[(0, ASK)],
-        End {
-            out: ASK_TRACE,
-            log: ASK_LOG,
-            ..NOTHING
-        },
-    ),
-    (
-        ALONE,
-        &[(0, PART)],
-        End {
-            out: PART_TRACE,
-            log: PART_LOG,
-            ..NOTHING
-        },
-    ),
+    (SENDER, &[], SENDER_TRACE, PING, SENDER_LOG),
+    (ANSWERER, &[(1, PING)], ANSWERER_TRACE, ANSWER, ANSWERER_LOG),
+    (NODE, &[(0, ASK)], ASK_TRACE, "", ASK_LOG),
+    (ALONE, &[(0, PART)], PART_TRACE, "", PART_LOG),
 ];
 
-fn logs(rt: &impl Abort, alloc: Global, row: &Logged) -> Result<(), Fail> {
-    ends(rt, alloc, &serves_once(row.0, row.1), row.2)
+fn logs(alloc: Global, row: &Logged) -> bool {
+    let task = Task {
+        words: &["node", "node.cfg", "1"],
+        bytes: row.0,
+        arrivals: row.1,
+        ..SERVES
+    };
+    let end = End {
+        out: (row.2, ALL),
+        sent: (1, row.3),
+        log: (row.4, ALL),
+        ..NOTHING
+    };
+    ends_twice(alloc, &task, &end)
 }
 
 #[test]
-fn nodes_write_the_logs_of_their_turns(rt: HostRuntime) -> Result<(), Fail> {
-    ends(&rt, rt.alloc(), &serves(NODE), SERVED)?;
+fn nodes_write_the_logs_of_their_turns(rt: HostRuntime) {
+    assert!(rt; ends_twice(rt.alloc(), &SERVES, &SERVED));
     for row in &LOGGED {
-        logs(&rt, rt.alloc(), row)?;
+        assert!(rt; logs(rt.alloc(), row));
     }
-    Ok(())
 }
 
-/// A call that fails, the places up to which the log and the trace are then written, and whether the frame was sent
-/// before.
-type Stop = (u64, usize, usize, bool);
+/// The call that fails, the code and the note of the end, the places up to which the log and the trace are then written, and
+/// whether the frame was sent before.
+type Stop = (At, (u8, &'static [u8]), usize, usize, bool);
 
-fn stopped(code: u8, note: &'static [u8], stop: &Stop) -> End<'static> {
+const LINK_FAULT: (u8, &[u8]) = (5, b"planet: link fault\n");
+
+const WRITE_FAULT: (u8, &[u8]) = (4, b"planet: write fault\n");
+
+fn stopped(stop: &Stop) -> End {
     End {
-        code,
-        note,
-        log: front(LOG, stop.1),
-        out: front(TRACE, stop.2),
-        sent: (1, if stop.3 { SENT_ON } else { "" }),
+        code: stop.1.0,
+        note: stop.1.1,
+        log: (LOG, stop.2),
+        out: (TRACE, stop.3),
+        sent: (1, if stop.4 { SENT_ON } else { "" }),
     }
 }
 
-// The node ends so where these calls fail, and afterwards it serves whole.
-fn stops(rt: &impl Abort, alloc: Global, failing: Failing<'_>, end: End<'_>) -> Result<(), Fail> {
-    fails(rt, alloc, &serves(NODE), failing, end, SERVED)
-}
-
-fn link_fails(rt: &impl Abort, alloc: Global, stop: &Stop) -> Result<(), Fail> {
-    let link = &[stop.0];
-    let end = stopped(5, b"planet: link fault\n", stop);
-    stops(rt, alloc, Failing { link, ..NONE }, end)
+// Whether the node ends so where a call fails, and afterwards serves whole.
+fn stops(alloc: Global, stop: &Stop) -> bool {
+    ends(alloc, &SERVES, &fails_at(stop.0), &stopped(stop), &SERVED)
 }
 
 // The binding, two receivings, the sending, and two receivings.
 static LINK_FAULTS: [Stop; 6] = [
-    (1, 0, 0, false),
-    (2, 45, 15, false),
-    (3, 154, 63, false),
-    (4, 270, 121, false),
-    (5, 270, 121, true),
-    (6, 270, 121, true),
+    (At::Link(&[1]), LINK_FAULT, 0, 0, false),
+    (At::Link(&[2]), LINK_FAULT, 45, 15, false),
+    (At::Link(&[3]), LINK_FAULT, 154, 63, false),
+    (At::Link(&[4]), LINK_FAULT, 270, 121, false),
+    (At::Link(&[5]), LINK_FAULT, 270, 121, true),
+    (At::Link(&[6]), LINK_FAULT, 270, 121, true),
 ];
 
 #[test]
-fn each_call_of_the_link_fails(rt: HostRuntime) -> Result<(), Fail> {
+fn each_call_of_the_link_fails(rt: HostRuntime) {
     for stop in &LINK_FAULTS {
-        link_fails(&rt, rt.alloc(), stop)?;
+        assert!(rt; stops(rt.alloc(), stop));
     }
-    Ok(())
 }
 
 #[test]
-fn the_reading_of_its_file_fails(rt: HostRuntime) -> Result<(), Fail> {
-    reads_fail(&rt, rt.alloc(), &serves(NODE), SERVED)
-}
-
-fn log_fails(rt: &impl Abort, alloc: Global, stop: &Stop) -> Result<(), Fail> {
-    let files = &[stop.0];
-    let end = stopped(4, b"planet: write fault\n", stop);
-    stops(rt, alloc, Failing { files, ..NONE }, end)
+fn the_reading_of_its_file_fails(rt: HostRuntime) {
+    assert!(rt; reads_fail(rt.alloc(), &SERVES, &SERVED));
 }
 
 // The making of the log, its lines up to `events`, and the line of each step, behind the three calls of the reading.
 static LOG_FAULTS: [Stop; 6] = [
-    (4, 0, 0, false),
-    (5, 0, 0, false),
-    (6, 45, 15, false),
-    (7, 154, 63, false),
-    (8, 263, 104, false),
-    (9, 270, 121, true),
+    (At::Files(&[4]), WRITE_FAULT, 0, 0, false),
+    (At::Files(&[5]), WRITE_FAULT, 0, 0, false),
+    (At::Files(&[6]), WRITE_FAULT, 45, 15, false),
+    (At::Files(&[7]), WRITE_FAULT, 154, 63, false),
+    (At::Files(&[8]), WRITE_FAULT, 263, 104, false),
+    (At::Files(&[9]), WRITE_FAULT, 270, 121, true),
 ];
 
 #[test]
-fn each_call_of_the_log_fails(rt: HostRuntime) -> Result<(), Fail> {
+fn each_call_of_the_log_fails(rt: HostRuntime) {
     for stop in &LOG_FAULTS {
-        log_fails(&rt, rt.alloc(), stop)?;
+        assert!(rt; stops(rt.alloc(), stop));
     }
-    Ok(())
-}
-
-fn output_fails(rt: &impl Abort, alloc: Global, stop: &Stop) -> Result<(), Fail> {
-    let out = &[stop.0];
-    let end = stopped(4, b"planet: write fault\n", stop);
-    stops(rt, alloc, Failing { out, ..NONE }, end)
 }
 
 // The first line, the lines of each step, and the last line.
 static OUTPUT_FAULTS: [Stop; 6] = [
-    (1, 45, 0, false),
-    (2, 154, 15, false),
-    (3, 263, 63, false),
-    (4, 270, 104, false),
-    (5, 281, 121, true),
-    (6, 281, 167, true),
+    (At::Out(&[1]), WRITE_FAULT, 45, 0, false),
+    (At::Out(&[2]), WRITE_FAULT, 154, 15, false),
+    (At::Out(&[3]), WRITE_FAULT, 263, 63, false),
+    (At::Out(&[4]), WRITE_FAULT, 270, 104, false),
+    (At::Out(&[5]), WRITE_FAULT, 281, 121, true),
+    (At::Out(&[6]), WRITE_FAULT, 281, 167, true),
 ];
 
 #[test]
-fn each_push_of_the_output_fails(rt: HostRuntime) -> Result<(), Fail> {
+fn each_push_of_the_output_fails(rt: HostRuntime) {
     for stop in &OUTPUT_FAULTS {
-        output_fails(&rt, rt.alloc(), stop)?;
+        assert!(rt; stops(rt.alloc(), stop));
     }
-    Ok(())
 }
 
-// The tenth call of the files is the first one of the next run.
+/// The calls behind the last one of each object; the tenth call of the files is the first one of the next run.
+const BEHIND: Failing = Failing {
+    files: &[10],
+    link: &[7],
+    out: &[7],
+    ..NONE
+};
+
 #[test]
-fn behind_the_last_call_nothing_fails(rt: HostRuntime) -> Result<(), Fail> {
-    let failing = Failing {
-        files: &[10],
-        link: &[7],
-        out: &[7],
-        ..NONE
+fn behind_the_last_call_nothing_fails(rt: HostRuntime) {
+    let again = End {
+        log: (LOG, ALL),
+        ..UNREAD
     };
-    let again = End { log: LOG, ..UNREAD };
-    fails(&rt, rt.alloc(), &serves(NODE), failing, SERVED, again)
+    assert!(rt; ends(rt.alloc(), &SERVES, &BEHIND, &SERVED, &again));
 }

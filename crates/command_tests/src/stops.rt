@@ -1,79 +1,89 @@
 // Outputs that stop behind some bytes, and notes that fail.
 
-use crate::objects::{Machine, NONE, Streams, Task, code, machine_of, streams_of};
+use crate::calls::{End, NOTHING, ends_once, ends_over};
+use crate::objects::{Failing, Machine, NONE, Task, machine_of, streams_of};
 use crate::reads::reads;
 use crate::rows::{PORT, PORTED, RUN, SCHEDULE};
-use node_io::{Calls, MemSink};
 use std::alloc::Global;
-use std::process::Abort;
-use std::test::Fail;
 
-fn replays(bytes: &'static [u8]) -> Task {
-    reads(&["replay", "file.txt"], bytes)
+// Whether a call, over an output that takes so many bytes, writes these and ends with a write fault.
+fn stops_behind(alloc: Global, task: &Task, out: (&'static [u8], usize)) -> bool {
+    let fails = Failing {
+        room: Some(out.1 as u64),
+        ..NONE
+    };
+    let end = End {
+        code: 4,
+        out,
+        note: b"planet: write fault\n",
+        ..NOTHING
+    };
+    ends_once(alloc, task, &fails, &end)
 }
 
-// Whether a call ends with a code, an output and notes.
-fn ends(
+// Whether a call that writes a text stops so behind each number of its bytes.
+fn stops(alloc: Global, task: &Task, text: &'static [u8]) -> bool {
+    for count in 0..text.len() {
+        if !stops_behind(alloc, task, (text, count)) {
+            return false;
+        }
+    }
+    true
+}
+
+#[test]
+fn a_stopping_output_has_taken_a_prefix(rt: HostRuntime) {
+    let alloc = rt.alloc();
+    assert!(rt; stops(alloc, &reads(&["replay", "file.txt"], SCHEDULE), RUN));
+    assert!(rt; stops(alloc, &reads(&["port", "file.txt"], PORT), PORTED));
+}
+
+static UNKNOWN: Task = Task {
+    words: &["replay", "file.txt"],
+    file: "file.txt",
+    bytes: b"planet schedule 9\n",
+    arrivals: &[],
+    statuses: &[],
+};
+
+/// The first push of a note fails.
+static SILENT: Failing = Failing {
+    notes: &[1],
+    ..NONE
+};
+
+static UNNOTED: End = End { code: 4, ..NOTHING };
+
+static NOTED: End = End {
+    code: 2,
+    note: b"planet: line 1: BadHeader\n",
+    ..NOTHING
+};
+
+fn notes_over(
     alloc: Global,
     task: &Task,
     machine: &mut Machine,
-    streams: &mut Streams,
-    wanted: (u8, &[u8], &[u8]),
-) -> Result<bool, Fail> {
-    let is = code(alloc, task.words, machine, streams)?;
-    let out = streams.out.taken().as_slice();
-    let notes = streams.notes.taken().as_slice();
-    Ok((is, out, notes) == wanted)
-}
-
-// Whether a call that writes a text, over an output that takes so many bytes of it, writes these, and ends with a write
-// fault.
-fn stops_behind(
-    alloc: Global,
-    task: &Task,
-    text: &'static [u8],
-    count: usize,
-) -> Result<bool, Fail> {
-    let Some(taken) = text.get(..count) else {
-        return Ok(false);
-    };
-    let mut machine = machine_of(alloc, task, NONE)?;
-    let mut streams = streams_of(alloc, task, NONE)?;
-    streams.out = MemSink::stopping(alloc, count as u64)?;
-    let wanted = (4, taken, b"planet: write fault\n".as_slice());
-    ends(alloc, task, &mut machine, &mut streams, wanted)
-}
-
-fn stops(rt: &impl Abort, alloc: Global, task: &Task, text: &'static [u8]) -> Result<(), Fail> {
-    for count in 0..text.len() {
-        assert!(rt; stops_behind(alloc, task, text, count)?);
+    fails: &Failing,
+    ends: (&End, &End),
+) -> bool {
+    match streams_of(alloc, task, fails) {
+        Ok(mut streams) => ends_over(alloc, task, machine, &mut streams, ends.0)
+            && ends_over(alloc, task, machine, &mut streams, ends.1),
+        Err(_) => false,
     }
-    Ok(())
 }
 
+// Whether two calls over the same notes, of which these pushes fail, end so.
+fn notes(alloc: Global, task: &Task, fails: &Failing, ends: (&End, &End)) -> bool {
+    match machine_of(alloc, task, fails) {
+        Ok(mut machine) => notes_over(alloc, task, &mut machine, fails, ends),
+        Err(_) => false,
+    }
+}
+
+// A note whose first push fails is a write fault, and the next call notes what is wrong with the file.
 #[test]
-fn a_stopping_output_has_taken_a_prefix(rt: HostRuntime) -> Result<(), Fail> {
-    let alloc = rt.alloc();
-    stops(&rt, alloc, &replays(SCHEDULE), RUN)?;
-    stops(&rt, alloc, &reads(&["port", "file.txt"], PORT), PORTED)
-}
-
-// Whether a note whose first push fails is a write fault, and the next call notes what is wrong with the file.
-fn note_fails(alloc: Global) -> Result<bool, Fail> {
-    let task = replays(b"planet schedule 9\n");
-    let mut machine = machine_of(alloc, &task, NONE)?;
-    let mut streams = streams_of(alloc, &task, NONE)?;
-    streams.notes = MemSink::new(alloc, Calls::from_slice(alloc, &[1])?)?;
-    let failed = (4, b"".as_slice(), b"".as_slice());
-    let noted = (2, b"".as_slice(), b"planet: line 1: BadHeader\n".as_slice());
-    Ok(
-        ends(alloc, &task, &mut machine, &mut streams, failed)?
-            && ends(alloc, &task, &mut machine, &mut streams, noted)?,
-    )
-}
-
-#[test]
-fn a_note_that_fails_is_a_write_fault(rt: HostRuntime) -> Result<(), Fail> {
-    assert!(rt; note_fails(rt.alloc())?);
-    Ok(())
+fn a_note_that_fails_is_a_write_fault(rt: HostRuntime) {
+    assert!(rt; notes(rt.alloc(), &UNKNOWN, &SILENT, (&UNNOTED, &NOTED)));
 }

@@ -1,15 +1,16 @@
 // The example of services of one's own: a program that counts and greets, visited twice.
 
-ghost use Rattle.std.specs.Prelude.{◌≡◌, ◌≤◌, length, IfOk};
+ghost use Rattle.std.specs.Prelude.{◌≡◌, ◌≤◌, length, IfSome};
+ghost use Rattle.node_core.specs.Turns.{IsResting};
 
 use chunk_types::CheckedPacket;
 use example_services::{ExampleServices, packet_of, visit_once};
-use plan_base::{Host, Name, Value};
+use plan_base::{Bytes, Host, Name, Value};
 use plan_items::Items;
 use plan_meaning::{Outcome, Visit};
-use service_api::{Ctx, Note, Router};
+use plan_printer::print_value;
+use service_api::{Ctx, Note, Router, Services};
 use std::alloc::Global;
-use std::test::Fail;
 
 const PROGRAM: &[u8] =
     b"svc count : () -> int\nsvc greet : (string) -> string\nfun f() : (int * string) = (count(), greet(\"ann\"))\n";
@@ -33,81 +34,92 @@ fn around(alloc: Global) -> Ctx
 }
 
 // The packet of a text's function `f` with a bound of 5.
-fn packet(alloc: Global, text: &[u8]) -> Result<CheckedPacket, Fail>
+fn packet(alloc: Global, text: &[u8]) -> Option<CheckedPacket>
     requires { length text.now ≤ 65536 }
-    ensures bound { IfOk result (λ p. p.bound ≡ 5) }
-    ensures source { IfOk result (λ p. p.family.source ≡ record { 0 = 1 }) }
+    ensures bound { IfSome result (λ p. p.bound ≡ 5) }
+    ensures source { IfSome result (λ p. p.family.source ≡ record { 0 = 1 }) }
 {
-    let entry = Name::read(alloc, b"f")?;
-    match packet_of(alloc, text, &entry, Host(1), 5) {
-        Ok(packet) => Ok(packet),
-        Err(_) => Err(Fail::from("packet")),
-    }
+    let entry = Name::read(alloc, b"f").ok()?;
+    packet_of(alloc, text, &entry, Host(1), 5).ok()
 }
 
-fn is_pair(value: &Value, number: i64) -> bool {
-    match value {
-        Value::Tuple(parts) => match parts.as_slice() {
-            [Value::Int(n), Value::Str(text)] => {
-                *n == number && text.as_slice() == b"hello".as_slice()
-            }
-            _ => false,
-        },
+fn is_printed(alloc: Global, value: &Value, text: &[u8]) -> bool {
+    let mut out = Bytes::new(alloc);
+    print_value(alloc, value, &mut out).is_ok() && out.as_slice() == text
+}
+
+fn is_ended(alloc: Global, outcome: &Outcome, text: &[u8]) -> bool {
+    match outcome {
+        Outcome::Value(value) => is_printed(alloc, value, text),
+        Outcome::Raised(exn) => exn.0.as_slice() == text,
         _ => false,
     }
 }
 
-fn is_greeting(note: &Note) -> bool {
-    match note {
-        Note::Print(Value::Str(whom)) => whom.as_slice() == b"ann".as_slice(),
-        _ => false,
+fn are_told(alloc: Global, notes: &[Note], text: &[u8]) -> bool {
+    for note in notes {
+        match note {
+            Note::Print(value) if is_printed(alloc, value, text) => {}
+            _ => return false,
+        }
     }
+    true
 }
 
-// Whether a visit gave the number and the greeting, and noted whom it greeted.
-fn gave(visit: &Visit, number: i64) -> bool {
-    let is_told = match visit.notes.as_slice() {
-        [note] => is_greeting(note),
-        _ => false,
-    };
-    match &visit.outcome {
-        Outcome::Value(value) => is_told && is_pair(value, number),
-        _ => false,
-    }
+// Whether a visit ended so, and noted so many times whom it greeted.
+fn ended(alloc: Global, visit: &Visit, text: &[u8], count: usize) -> bool {
+    let notes = visit.notes.as_slice();
+    notes.len() == count
+        && are_told(alloc, notes, b"\"ann\"")
+        && is_ended(alloc, &visit.outcome, text)
 }
 
-fn is_refused(visit: &Visit) -> bool {
-    match &visit.outcome {
-        Outcome::Raised(x) => x.0.as_slice() == b"NoService".as_slice(),
-        _ => false,
-    }
-}
-
-fn counts(alloc: Global) -> Result<bool, Fail> {
-    let packet = packet(alloc, PROGRAM)?;
+// Whether a visit of a packet ends so, with so many notes.
+fn ends(
+    alloc: Global,
+    services: &mut ExampleServices,
+    packet: &CheckedPacket,
+    text: &[u8],
+    count: usize,
+) -> bool
+    requires bound { packet.now.bound ≡ 5 }
+    requires source { packet.now.family.source ≡ record { 0 = 1 } }
+    requires rests { IsResting (⟦<ExampleServices as Services>⟧.stands services.old) }
+    ensures rests { IsResting (⟦<ExampleServices as Services>⟧.stands services.new) }
+{
     let ctx = around(alloc);
-    let mut services = ExampleServices::new();
-    let first = visit_once(alloc, &mut services, &ctx, &packet)?;
-    let second = visit_once(alloc, &mut services, &ctx, &packet)?;
-    Ok(gave(&first, 1) && gave(&second, 2))
+    match visit_once(alloc, services, &ctx, packet) {
+        Ok(visit) => ended(alloc, &visit, text, count),
+        Err(_) => false,
+    }
 }
 
-fn refuses(alloc: Global) -> Result<bool, Fail> {
-    let packet = packet(alloc, OTHER)?;
-    let ctx = around(alloc);
+fn end(alloc: Global, packet: &CheckedPacket, first: &[u8], second: &[u8], count: usize) -> bool
+    requires bound { packet.now.bound ≡ 5 }
+    requires source { packet.now.family.source ≡ record { 0 = 1 } }
+{
     let mut services = ExampleServices::new();
-    let visit = visit_once(alloc, &mut services, &ctx, &packet)?;
-    Ok(is_refused(&visit))
+    ends(alloc, &mut services, packet, first, count)
+        && ends(alloc, &mut services, packet, second, count)
+}
+
+// Whether the first and the second visit of a text's packet end so, each with so many notes.
+fn end_so(alloc: Global, program: &[u8], first: &[u8], second: &[u8], count: usize) -> bool {
+    program.len() <= 1_000
+        && match packet(alloc, program) {
+            Some(packet) => end(alloc, &packet, first, second, count),
+            None => false,
+        }
 }
 
 #[test]
-fn a_program_counts_and_greets(rt: HostRuntime) -> Result<(), Fail> {
-    assert!(rt; counts(rt.alloc())?);
-    Ok(())
+fn a_program_counts_and_greets(rt: HostRuntime) {
+    let first = b"(1, \"hello\")";
+    let second = b"(2, \"hello\")";
+    assert!(rt; end_so(rt.alloc(), PROGRAM, first, second, 1));
 }
 
 #[test]
-fn another_type_is_refused(rt: HostRuntime) -> Result<(), Fail> {
-    assert!(rt; refuses(rt.alloc())?);
-    Ok(())
+fn another_type_is_refused(rt: HostRuntime) {
+    assert!(rt; end_so(rt.alloc(), OTHER, b"NoService", b"NoService", 0));
 }

@@ -6,10 +6,6 @@ mod examples;
 #[cfg(test)]
 mod logs;
 #[cfg(test)]
-mod settles;
-#[cfg(test)]
 mod steps;
 #[cfg(test)]
 mod tables;
-#[cfg(test)]
-mod windows;

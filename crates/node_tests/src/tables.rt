@@ -1,91 +1,30 @@
 // Tables and overlays: the order of their rows, which of them go, and the last key.
 
-ghost use Rattle.std.specs.Prelude.{IfOk};
 ghost use Rattle.resident_tables.specs.Layers.{IsOver};
 
-use plan_base::{NoMemory, Text, Ty, Value};
-use plan_items::{Boxed, Items};
+use plan_base::{Text, Ty, Value};
 use resident_tables::{Overlay, TableFault, Tables};
 use std::alloc::Global;
-use std::test::Fail;
 
-fn name(alloc: Global) -> Result<Text, NoMemory> {
-    Ok(Text::of(Vec::from_slice(alloc, b"t")?))
-}
+/// Keys, each with the tick at which its row goes.
+static ROWS: [(i64, u64); 5] = [(1, 3), (2, 1), (3, 2), (4, 2), (5, 9)];
 
-fn list_of(alloc: Global, item: Ty) -> Result<Ty, NoMemory> {
-    Ok(Ty::List(Boxed::new(alloc, item)?))
-}
+/// Ticks, and the keys that are left then, in their order.
+static LEFT: [(u64, &[i64]); 5] = [
+    (0, &[1, 2, 3, 4, 5]),
+    (1, &[1, 3, 4, 5]),
+    (2, &[1, 5]),
+    (8, &[5]),
+    (9, &[]),
+];
 
-fn list_of_one(alloc: Global) -> Result<Value, NoMemory> {
-    let mut items = Items::new(alloc);
-    items.add(Value::Int(1))?;
-    Ok(Value::List(Boxed::new(alloc, Ty::Int)?, items))
-}
+/// Two rows, and their keys behind a removal of the first one, which is then put again.
+static PAIR: [(i64, u64); 2] = [(1, 1), (2, 1)];
 
-// The list `[1]` under a key, at `int list`, until tick 2.
-fn table(alloc: Global) -> Result<Tables, Fail> {
-    let mut tables = Tables::new(alloc);
-    let ints = list_of(alloc, Ty::Int)?;
-    tables
-        .put(alloc, &name(alloc)?, 1, &ints, &list_of_one(alloc)?, 2)
-        .ok()
-        .ok_or("put")?;
-    Ok(tables)
-}
+static TURNED: [i64; 2] = [2, 1];
 
-fn overlay(alloc: Global, base: &Tables) -> Result<Overlay, Fail> {
-    let mut overlay = Overlay::new(alloc, 1);
-    let ints = list_of(alloc, Ty::Int)?;
-    overlay
-        .put(
-            alloc,
-            base,
-            &name(alloc)?,
-            1,
-            &ints,
-            &list_of_one(alloc)?,
-            2,
-        )
-        .ok()
-        .ok_or("change")?;
-    Ok(overlay)
-}
-
-fn is_so(found: Option<TableFault>, is_found: bool) -> bool {
-    match found {
-        None => is_found,
-        Some(fault) => !is_found && fault == TableFault::NotFound,
-    }
-}
-
-// Whether a look-up in a table at a type and a tick finds it.
-fn finds(alloc: Global, item: Ty, now: u64, is_found: bool) -> Result<bool, Fail> {
-    let tables = table(alloc)?;
-    let ty = list_of(alloc, item)?;
-    let found = tables.get(alloc, &name(alloc)?, 1, &ty, now).err();
-    Ok(is_so(found, is_found))
-}
-
-// The same in an overlay over an empty table.
-fn finds_over(alloc: Global, item: Ty, now: u64, is_found: bool) -> Result<bool, Fail> {
-    let base = Tables::new(alloc);
-    let overlay = overlay(alloc, &base)?;
-    let ty = list_of(alloc, item)?;
-    let found = overlay.get(alloc, &base, &name(alloc)?, 1, &ty, now).err();
-    Ok(is_so(found, is_found))
-}
-
-#[test]
-fn a_row_has_a_type_and_a_life(rt: HostRuntime) -> Result<(), Fail> {
-    assert!(rt;
-        finds(rt.alloc(), Ty::Str, 0, false)? && finds_over(rt.alloc(), Ty::Str, 0, false)?
-    );
-    for (now, is_found) in [(0, true), (1, true), (2, false)] {
-        assert!(rt; finds(rt.alloc(), Ty::Int, now, is_found)?);
-        assert!(rt; finds_over(rt.alloc(), Ty::Int, now, is_found)?);
-    }
-    Ok(())
+fn name(alloc: Global) -> Option<Text> {
+    Vec::from_slice(alloc, b"t").ok().map(Text::of)
 }
 
 fn has_keys(tables: &Tables, keys: &[i64]) -> bool {
@@ -93,71 +32,120 @@ fn has_keys(tables: &Tables, keys: &[i64]) -> bool {
     rows.len() == keys.len() && rows.iter().zip(keys).all(|(row, key)| row.key == *key)
 }
 
-// A number under each key, until a tick.
-fn numbers(alloc: Global, rows: &[(i64, u64)]) -> Result<Tables, Fail> {
-    let name = name(alloc)?;
-    let mut tables = Tables::new(alloc);
+// Puts each key as its number.
+fn put_each(alloc: Global, tables: &mut Tables, name: &Text, rows: &[(i64, u64)]) -> bool {
     for (key, expiry) in rows {
-        tables
-            .put(alloc, &name, *key, &Ty::Int, &Value::Int(*key), *expiry)
-            .ok()
-            .ok_or("put")?;
+        if tables
+            .put(alloc, name, *key, &Ty::Int, &Value::Int(*key), *expiry)
+            .is_err()
+        {
+            return false;
+        }
     }
-    Ok(tables)
+    true
 }
 
-// An overlay that removes the first key, and puts the second and the first anew.
-fn puts_anew(alloc: Global, tables: &Tables) -> Result<Overlay, Fail>
-    ensures { IfOk result (λ changes. IsOver tables.now.rows changes) }
+// Whether a table is left with each list of keys in turn, and without bytes where none is left.
+fn leaves_each(tables: &mut Tables) -> bool {
+    for (now, keys) in &LEFT {
+        tables.expire(*now);
+        if !has_keys(tables, keys) || (tables.counts().bytes == 0) != keys.is_empty() {
+            return false;
+        }
+    }
+    true
+}
+
+fn expires_by(alloc: Global, name: &Text) -> bool {
+    let mut tables = Tables::new(alloc);
+    put_each(alloc, &mut tables, name, &ROWS) && leaves_each(&mut tables)
+}
+
+fn expires(alloc: Global, name: Option<Text>) -> bool {
+    match name {
+        Some(name) => expires_by(alloc, &name),
+        None => false,
+    }
+}
+
+fn puts(
+    alloc: Global,
+    overlay: &mut Overlay,
+    base: &Tables,
+    name: &Text,
+    key: i64,
+    expiry: u64,
+) -> bool
+    requires { IsOver base.now.rows overlay.old }
+    ensures { IsOver base.now.rows overlay.new }
 {
-    let name = name(alloc)?;
+    overlay
+        .put(alloc, base, name, key, &Ty::Int, &Value::Int(9), expiry)
+        .is_ok()
+}
+
+// Removes the first key, and puts the second and the first anew.
+fn changes(alloc: Global, overlay: &mut Overlay, base: &Tables, name: &Text) -> bool
+    requires { IsOver base.now.rows overlay.old }
+    ensures { IsOver base.now.rows overlay.new }
+{
+    overlay.remove(alloc, base, name, 1).is_ok()
+        && puts(alloc, overlay, base, name, 2, 1)
+        && puts(alloc, overlay, base, name, 1, 1)
+}
+
+fn keeps_order_in(alloc: Global, tables: &mut Tables, name: &Text) -> bool {
     let mut overlay = Overlay::new(alloc, tables.next_key());
-    overlay
-        .remove(alloc, tables, &name, 1)
-        .ok()
-        .ok_or("change")?;
-    overlay
-        .put(alloc, tables, &name, 2, &Ty::Int, &Value::Int(9), 1)
-        .ok()
-        .ok_or("change")?;
-    overlay
-        .put(alloc, tables, &name, 1, &Ty::Int, &Value::Int(9), 1)
-        .ok()
-        .ok_or("change")?;
-    Ok(overlay)
-}
-
-fn keeps_order(alloc: Global) -> Result<bool, Fail> {
-    let mut tables = numbers(alloc, &[(1, 1), (2, 1)])?;
-    let mut overlay = puts_anew(alloc, &tables)?;
-    let first = overlay.fresh_key();
-    tables.reserve(&overlay)?;
+    if !changes(alloc, &mut overlay, tables, name)
+        || overlay.fresh_key() != Some(1)
+        || tables.reserve(&overlay).is_err()
+    {
+        return false;
+    }
     tables.commit(overlay);
-    Ok(first == Some(1) && has_keys(&tables, &[2, 1]) && tables.next_key() == 2)
+    true
 }
 
-// A row that is replaced keeps its place, one that was removed comes back at the end.
-#[test]
-fn an_overlay_keeps_the_order_of_puts(rt: HostRuntime) -> Result<(), Fail> {
-    assert!(rt; keeps_order(rt.alloc())?);
-    Ok(())
+fn keeps_order_by(alloc: Global, name: &Text) -> bool {
+    let mut tables = Tables::new(alloc);
+    put_each(alloc, &mut tables, name, &PAIR)
+        && keeps_order_in(alloc, &mut tables, name)
+        && has_keys(&tables, &TURNED)
+        && tables.next_key() == 2
 }
 
-// Whether these keys are left at a tick.
-fn leaves(alloc: Global, now: u64, keys: &[i64]) -> Result<bool, Fail> {
-    let mut tables = numbers(alloc, &[(1, 3), (2, 1), (3, 2), (4, 2), (5, 9)])?;
-    tables.expire(now);
-    Ok(has_keys(&tables, keys) && (tables.counts().bytes == 0) == keys.is_empty())
+// Whether these changes of the keys 1 and 2 leave the second in front of the first.
+fn keeps_order(alloc: Global, name: Option<Text>) -> bool {
+    match name {
+        Some(name) => keeps_order_by(alloc, &name),
+        None => false,
+    }
 }
 
-#[test]
-fn expired_rows_go(rt: HostRuntime) -> Result<(), Fail> {
-    assert!(rt; leaves(rt.alloc(), 0, &[1, 2, 3, 4, 5])?);
-    assert!(rt; leaves(rt.alloc(), 1, &[1, 3, 4, 5])?);
-    assert!(rt; leaves(rt.alloc(), 2, &[1, 5])?);
-    assert!(rt; leaves(rt.alloc(), 8, &[5])?);
-    assert!(rt; leaves(rt.alloc(), 9, &[])?);
-    Ok(())
+// Whether the number under key 1 is found as a number at a tick, and never as a text.
+fn is_found(alloc: Global, overlay: &Overlay, base: &Tables, name: &Text, now: u64) -> bool {
+    overlay.get(alloc, base, name, 1, &Ty::Int, now).is_ok()
+        && overlay.get(alloc, base, name, 1, &Ty::Str, now).err() == Some(TableFault::NotFound)
+}
+
+fn is_lost(alloc: Global, overlay: &Overlay, base: &Tables, name: &Text, now: u64) -> bool {
+    overlay.get(alloc, base, name, 1, &Ty::Int, now).err() == Some(TableFault::NotFound)
+}
+
+// Whether a number that is put until tick 2 over a table is found before that tick alone.
+fn has_a_life_over(alloc: Global, base: &Tables, name: &Text) -> bool {
+    let mut overlay = Overlay::new(alloc, 1);
+    puts(alloc, &mut overlay, base, name, 1, 2)
+        && is_found(alloc, &overlay, base, name, 0)
+        && is_found(alloc, &overlay, base, name, 1)
+        && is_lost(alloc, &overlay, base, name, 2)
+}
+
+fn has_a_life(alloc: Global, name: Option<Text>) -> bool {
+    match name {
+        Some(name) => has_a_life_over(alloc, &Tables::new(alloc), &name),
+        None => false,
+    }
 }
 
 fn gives_one_key(alloc: Global) -> bool {
@@ -165,6 +153,22 @@ fn gives_one_key(alloc: Global) -> bool {
     overlay.fresh_key() == Some(i64::MAX - 1)
         && overlay.fresh_key().is_none()
         && overlay.fresh_key().is_none()
+}
+
+#[test]
+fn a_row_has_a_type_and_a_life(rt: HostRuntime) {
+    assert!(rt; has_a_life(rt.alloc(), name(rt.alloc())));
+}
+
+// A row that is replaced keeps its place, one that was removed comes back at the end.
+#[test]
+fn an_overlay_keeps_the_order_of_puts(rt: HostRuntime) {
+    assert!(rt; keeps_order(rt.alloc(), name(rt.alloc())));
+}
+
+#[test]
+fn expired_rows_go(rt: HostRuntime) {
+    assert!(rt; expires(rt.alloc(), name(rt.alloc())));
 }
 
 #[test]
