@@ -35,12 +35,12 @@ fn differ(alloc: Global, one: &[u8], other: &[u8]) -> bool {
     }
 }
 
-const COMPARES: &[u8] = b"fun f(x : int list) : bool = x = []";
+static COMPARES: &[u8] = b"fun f(x : int list) : bool = x = []";
 
-const SENDS: &[u8] = b"fun f() : unit = OnNeighbor(|f|(), @2, 1, %1)";
+static SENDS: &[u8] = b"fun f() : unit = OnNeighbor(|f|(), @2, 1, %1)";
 
 // A service, exceptions and clauses.
-const DECLARES: &[u8] =
+static DECLARES: &[u8] =
     b"svc print : (string) -> unit exception X fun f() : bool = try raise X handle NoBound => true | _ => false end";
 
 #[test]

@@ -8,7 +8,6 @@ use plan_base::{Bytes, Name};
 use plan_items::Items;
 use plan_printer::print_program;
 use plan_types::Checked;
-use program_text::read_program;
 use std::alloc::Global;
 
 /// What stands before all and how often; before and behind each level; inside the last; behind all.
@@ -32,7 +31,7 @@ fn add_nest(text: &mut String, nest: &Nest) -> bool {
 
 // Whether a text is a program.
 fn is_read(alloc: Global, text: &[u8]) -> bool {
-    text.len() <= 65_536 && read_program(alloc, text).is_ok()
+    program(alloc, text).is_some()
 }
 
 // Whether a program prints as one.

@@ -1,7 +1,7 @@
 // Programs, types and values as they print.
 
 use crate::texts::{add, draft, program, value};
-use plan_base::{Bytes, Program, Value};
+use plan_base::{Bytes, Draft, Program, Value};
 use plan_printer::{print_program, print_value};
 use std::alloc::Global;
 
@@ -102,10 +102,10 @@ fn sends_inside_each_other_are_printed(rt: HostRuntime) {
     }
 }
 
-const OPERATORS: &[u8] =
+static OPERATORS: &[u8] =
     b"exception Lost\nfun f(x : int) : int = (if (x < 1) then (0 - x) else (x * 2))\n";
 
-const TYPES: &[u8] = b"svc s : ((int * bool list) list) -> unit\nfun f() : unit = ()\n";
+static TYPES: &[u8] = b"svc s : ((int * bool list) list) -> unit\nfun f() : unit = ()\n";
 
 #[test]
 fn programs_and_types_print_as_they_are_read(rt: HostRuntime) {
@@ -143,12 +143,14 @@ fn values_print_as_they_are_read(rt: HostRuntime) {
     assert!(rt; value_prints_as(rt.alloc(), text));
 }
 
+fn stand_at(draft: &Draft, declared: &[u32], places: &[u32]) -> bool {
+    draft.decl_at.as_slice() == declared && draft.node_at.as_slice() == places
+}
+
 // Whether the declarations and the expressions of a text stand at these places.
 fn has_places(alloc: Global, text: &[u8], declared: &[u32], places: &[u32]) -> bool {
     match draft(alloc, text) {
-        Some(draft) => {
-            draft.decl_at.as_slice() == declared && draft.node_at.as_slice() == places
-        }
+        Some(draft) => stand_at(&draft, declared, places),
         None => false,
     }
 }
