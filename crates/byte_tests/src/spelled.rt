@@ -7,14 +7,13 @@ use plan_copies::Copied;
 use plan_equality::Same;
 use plan_sizes::{Deep, chunk_nesting, chunk_weight, nesting, type_size, weight};
 use std::alloc::Global;
-use std::test::Fail;
 use wire_bytes::{Cursor, Out};
 
 // The chunk of one function that gives unit, and what follows it.
-const CHUNK: &[u8] = b"\x00\x00\x01\x01\x66\x00\x00\x20\x01\x66\x00\xff";
+static CHUNK: &[u8] = b"\x00\x00\x01\x01\x66\x00\x00\x20\x01\x66\x00\xff";
 
 // The same with itself as an argument.
-const OUTER: &[u8] =
+static OUTER: &[u8] =
     b"\x00\x00\x01\x01\x66\x00\x00\x20\x01\x66\x01\x18\x00\x00\x01\x01\x66\x00\x00\x20\x01\x66\x00";
 
 fn chunk(alloc: Global, bytes: &[u8]) -> Option<Chunk> {
@@ -24,19 +23,18 @@ fn chunk(alloc: Global, bytes: &[u8]) -> Option<Chunk> {
     get_chunk(alloc, &mut Cursor::over(bytes)).ok()
 }
 
-// How many bytes of these a chunk takes, or none.
-fn chunk_stops(alloc: Global, bytes: &[u8]) -> Option<u32> {
+// Whether so many bytes of these are a chunk.
+fn chunk_stops(alloc: Global, bytes: &[u8], at: u32) -> bool {
     if bytes.len() >= 4_000_000 {
-        return None;
+        return false;
     }
     let mut cursor = Cursor::over(bytes);
-    get_chunk(alloc, &mut cursor).ok()?;
-    Some(cursor.at())
+    get_chunk(alloc, &mut cursor).is_ok() && cursor.at() == at
 }
 
 #[test]
 fn what_follows_a_chunk_is_left(rt: HostRuntime) {
-    assert!(rt; chunk_stops(rt.alloc(), CHUNK) == Some(11));
+    assert!(rt; chunk_stops(rt.alloc(), CHUNK, 11));
 }
 
 fn chunk_has(alloc: Global, bytes: &[u8], weight: u64, nesting: u32) -> bool {
@@ -51,93 +49,128 @@ fn a_chunk_nests_one_more_than_its_arguments(rt: HostRuntime) {
     assert!(rt; chunk_has(rt.alloc(), OUTER, 23, 2));
 }
 
-// Whether a packet with this chunk is copied whole.
-fn packet_is_copied(alloc: Global, bytes: &[u8]) -> Result<bool, Fail> {
-    let Some(chunk) = chunk(alloc, bytes) else {
-        return Ok(false);
-    };
+// A packet with this route and this chunk.
+fn packet(alloc: Global, route: &[u8], bytes: &[u8]) -> Option<Packet> {
     let family = Family {
         source: Host(1),
         serial: 2,
     };
-    let packet = Packet {
+    let route = Name::read(alloc, route).ok()?;
+    let chunk = chunk(alloc, bytes)?;
+    Some(Packet {
         family,
         dest: Host(3),
         bound: 4,
-        route: Name::read(alloc, b"defaultRoute")?,
+        route,
         chunk,
         handler: None,
-    };
-    let same = packet.copy(alloc)?;
-    Ok(same.chunk.is(&packet.chunk) && same.bound == 4)
+    })
+}
+
+fn packet_equals_its_copy(alloc: Global, packet: &Packet) -> bool {
+    match packet.copy(alloc) {
+        Ok(same) => same.chunk.is(&packet.chunk) && same.bound == 4,
+        Err(_) => false,
+    }
+}
+
+fn packet_is_copied(alloc: Global, route: &[u8], bytes: &[u8]) -> bool {
+    match packet(alloc, route, bytes) {
+        Some(packet) => packet_equals_its_copy(alloc, &packet),
+        None => false,
+    }
 }
 
 #[test]
-fn a_packet_is_copied_whole(rt: HostRuntime) -> Result<(), Fail> {
-    assert!(rt; packet_is_copied(rt.alloc(), CHUNK)?);
-    Ok(())
+fn a_packet_is_copied_whole(rt: HostRuntime) {
+    assert!(rt; packet_is_copied(rt.alloc(), b"defaultRoute", CHUNK));
+}
+
+fn type_equals_its_copy(alloc: Global, ty: &Ty) -> bool {
+    match ty.copy(alloc) {
+        Ok(same) => same.is(ty),
+        Err(_) => false,
+    }
 }
 
 // Whether bytes are a type of this depth and this size, whose copy is equal to it.
-fn type_has(alloc: Global, bytes: &[u8], depth: u32, size: u64) -> Result<bool, Fail> {
+fn type_has(alloc: Global, bytes: &[u8], depth: u32, size: u64) -> bool {
     if bytes.len() >= 4_000_000 {
-        return Ok(false);
+        return false;
     }
-    let Ok(ty) = get_type(alloc, &mut Cursor::over(bytes)) else {
-        return Ok(false);
-    };
-    Ok(ty.depth() == depth && type_size(&ty) == size && ty.copy(alloc)?.is(&ty))
+    match get_type(alloc, &mut Cursor::over(bytes)) {
+        Ok(ty) => {
+            ty.depth() == depth && type_size(&ty) == size && type_equals_its_copy(alloc, &ty)
+        }
+        Err(_) => false,
+    }
 }
 
 // `(host * dev list)`
 #[test]
-fn a_type_is_as_deep_as_its_parts_and_one_more(rt: HostRuntime) -> Result<(), Fail> {
-    assert!(rt; type_has(rt.alloc(), b"\x0a\x02\x06\x09\x07", 3, 5)?);
-    Ok(())
+fn a_type_is_as_deep_as_its_parts_and_one_more(rt: HostRuntime) {
+    assert!(rt; type_has(rt.alloc(), b"\x0a\x02\x06\x09\x07", 3, 5));
 }
 
-// Whether a string of so many letters weighs so much and nests no chunk.
-fn string_weighs(alloc: Global, letters: u16, wanted: u64) -> Result<bool, Fail> {
-    let mut bytes = Vec::from_slice(alloc, b"\x14".as_slice())?;
-    bytes.extend_from_slice(&letters.to_be_bytes())?;
-    for _ in 0..letters {
-        bytes.push(b'x')?;
+// Puts a part behind bytes, so many times.
+fn add(bytes: &mut Vec<u8>, part: &[u8], times: u32) -> bool {
+    for _ in 0..times {
+        if bytes.extend_from_slice(part).is_err() {
+            return false;
+        }
     }
+    true
+}
+
+// Whether bytes are a value that weighs so much and nests no chunk.
+fn weighs(alloc: Global, bytes: &[u8], wanted: u64) -> bool {
     if bytes.len() >= 4_000_000 {
-        return Ok(false);
+        return false;
     }
-    match get_value(alloc, &mut Cursor::over(bytes.as_slice())) {
-        Ok(text) => Ok(weight(&text) == wanted && nesting(&text) == 0),
-        Err(_) => Ok(false),
+    match get_value(alloc, &mut Cursor::over(bytes)) {
+        Ok(value) => weight(&value) == wanted && nesting(&value) == 0,
+        Err(_) => false,
     }
+}
+
+// The same of a string of so many letters, behind its tag and its length.
+fn string_weighs(alloc: Global, front: &[u8], letters: u32, wanted: u64) -> bool {
+    let mut bytes = Vec::new(alloc);
+    add(&mut bytes, front, 1)
+        && add(&mut bytes, b"x", letters)
+        && weighs(alloc, bytes.as_slice(), wanted)
 }
 
 #[test]
-fn a_string_weighs_three_more_than_its_bytes(rt: HostRuntime) -> Result<(), Fail> {
-    assert!(rt; string_weighs(rt.alloc(), 16_381, 16_384)?);
-    Ok(())
+fn a_string_weighs_three_more_than_its_bytes(rt: HostRuntime) {
+    assert!(rt; string_weighs(rt.alloc(), b"\x14\x3f\xfd", 16_381, 16_384));
+}
+
+// A chunk as a value, up to its one argument.
+static AROUND: &[u8] = b"\x18\x00\x00\x01\x01\x66\x00\x00\x20\x01\x66\x01";
+
+// A chunk as a value, without arguments.
+static INSIDE: &[u8] = b"\x18\x00\x00\x01\x01\x66\x00\x00\x20\x01\x66\x00";
+
+// Whether bytes are read as a value, or refused so.
+fn is_answered(alloc: Global, bytes: &[u8], fault: Option<SpellFault>) -> bool {
+    bytes.len() < 4_000_000 && get_value(alloc, &mut Cursor::over(bytes)).err() == fault
 }
 
 // Chunks that stand inside each other, as a value that is read for itself: so many around one more.
-fn nested_is(alloc: Global, count: u8, fault: Option<SpellFault>) -> Result<bool, Fail> {
+fn nested_is(alloc: Global, count: u32, fault: Option<SpellFault>) -> bool {
     let mut bytes = Vec::new(alloc);
-    for _ in 0..count {
-        bytes.extend_from_slice(b"\x18\x00\x00\x01\x01\x66\x00\x00\x20\x01\x66\x01".as_slice())?;
-    }
-    bytes.extend_from_slice(b"\x18\x00\x00\x01\x01\x66\x00\x00\x20\x01\x66\x00".as_slice())?;
-    if bytes.len() >= 4_000_000 {
-        return Ok(false);
-    }
-    Ok(get_value(alloc, &mut Cursor::over(bytes.as_slice())).err() == fault)
+    add(&mut bytes, AROUND, count)
+        && add(&mut bytes, INSIDE, 1)
+        && is_answered(alloc, bytes.as_slice(), fault)
 }
 
 // Four chunks stand inside each other; the tag of a fifth is refused.
 #[test]
-fn nesting_of_chunks(rt: HostRuntime) -> Result<(), Fail> {
-    assert!(rt; nested_is(rt.alloc(), 3, None)?);
-    let fifth = Some(SpellFault::OverLimit(Limit::Nesting, 48));
-    assert!(rt; nested_is(rt.alloc(), 4, fifth)?);
-    Ok(())
+fn nesting_of_chunks(rt: HostRuntime) {
+    assert!(rt; nested_is(rt.alloc(), 3, None));
+    let fifth = SpellFault::OverLimit(Limit::Nesting, 48);
+    assert!(rt; nested_is(rt.alloc(), 4, Some(fifth)));
 }
 
 // Whether a name is read up to a place, and another one behind it is refused there.
@@ -158,22 +191,32 @@ fn names(rt: HostRuntime) {
     assert!(rt; second_is_refused(rt.alloc(), b"\x0cdefaultRoute\x02if", 13));
 }
 
-// A name, a type and a value, one behind the other.
+// Whether a name, a type and a value, one behind the other, are these bytes.
 #[tactic(auto, using(chunk_writer::proofs::Puts::types, chunk_writer::proofs::Puts::values))]
-fn are_written(alloc: Global, wanted: &[u8]) -> Result<bool, Fail> {
-    let mut out = Out::with_room(alloc, 64)?;
-    let Ok(name) = Name::read(alloc, b"go") else {
-        return Ok(false);
-    };
-    put_name(&name, &mut out);
-    put_type(&Ty::Host, &mut out);
-    put_value(&Value::Int(-2), &mut out);
-    Ok(out.into_vec().as_slice() == wanted)
+fn are_written(alloc: Global, name: &Name, wanted: &[u8]) -> bool {
+    if name.as_slice().len() > 32 {
+        return false;
+    }
+    match Out::with_room(alloc, 64) {
+        Ok(mut out) => {
+            put_name(name, &mut out);
+            put_type(&Ty::Host, &mut out);
+            put_value(&Value::Int(-2), &mut out);
+            out.into_vec().as_slice() == wanted
+        }
+        Err(_) => false,
+    }
+}
+
+fn are_written_behind(alloc: Global, word: &[u8], wanted: &[u8]) -> bool {
+    match Name::read(alloc, word) {
+        Ok(name) => are_written(alloc, &name, wanted),
+        Err(_) => false,
+    }
 }
 
 #[test]
-fn one_after_another(rt: HostRuntime) -> Result<(), Fail> {
+fn one_after_another(rt: HostRuntime) {
     let wanted = b"\x02go\x06\x12\xff\xff\xff\xff\xff\xff\xff\xfe";
-    assert!(rt; are_written(rt.alloc(), wanted)?);
-    Ok(())
+    assert!(rt; are_written_behind(rt.alloc(), b"go", wanted));
 }

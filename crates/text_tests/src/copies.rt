@@ -1,84 +1,101 @@
 // Copies are equal to what they are copies of, and to nothing else; names are words that aren't reserved.
 
-use plan_base::Name;
+use crate::texts::{draft, program, value};
+use plan_base::{Draft, Name, Program, Value};
 use plan_copies::Copied;
 use plan_equality::Same;
-use plan_lexer::lex;
-use plan_parser::{parse, parse_value};
-use program_text::read_program;
 use std::alloc::Global;
-use std::test::Fail;
+
+fn equals_its_copy(alloc: Global, program: &Program) -> bool {
+    match program.copy(alloc) {
+        Ok(same) => same.is(program),
+        Err(_) => false,
+    }
+}
 
 // Whether the program of a text equals its copy.
-fn is_copied(alloc: Global, text: &[u8]) -> Result<bool, Fail> {
-    if text.len() > 65_536 {
-        return Ok(false);
+fn is_copied(alloc: Global, text: &[u8]) -> bool {
+    match program(alloc, text) {
+        Some(program) => equals_its_copy(alloc, program.program()),
+        None => false,
     }
-    let Ok(program) = read_program(alloc, text) else {
-        return Ok(false);
-    };
-    Ok(program.program().copy(alloc)?.is(program.program()))
+}
+
+fn is_another(alloc: Global, text: &[u8], other: &Program) -> bool {
+    match program(alloc, text) {
+        Some(program) => !program.program().is(other),
+        None => false,
+    }
 }
 
 fn differ(alloc: Global, one: &[u8], other: &[u8]) -> bool {
-    if one.len() > 65_536 || other.len() > 65_536 {
-        return false;
-    }
-    match (read_program(alloc, one), read_program(alloc, other)) {
-        (Ok(one), Ok(other)) => !one.program().is(other.program()),
-        _ => false,
+    match program(alloc, other) {
+        Some(other) => is_another(alloc, one, other.program()),
+        None => false,
     }
 }
 
-const COMPARES: &[u8] = b"fun f(x : int list) : bool = x = []";
+static COMPARES: &[u8] = b"fun f(x : int list) : bool = x = []";
 
-const SENDS: &[u8] = b"fun f() : unit = OnNeighbor(|f|(), @2, 1, %1)";
+static SENDS: &[u8] = b"fun f() : unit = OnNeighbor(|f|(), @2, 1, %1)";
 
 // A service, exceptions and clauses.
-const DECLARES: &[u8] =
+static DECLARES: &[u8] =
     b"svc print : (string) -> unit exception X fun f() : bool = try raise X handle NoBound => true | _ => false end";
 
 #[test]
-fn programs_equal_their_copies_and_no_others(rt: HostRuntime) -> Result<(), Fail> {
-    assert!(rt; is_copied(rt.alloc(), COMPARES)?);
-    assert!(rt; is_copied(rt.alloc(), SENDS)?);
-    assert!(rt; is_copied(rt.alloc(), DECLARES)?);
+fn programs_equal_their_copies_and_no_others(rt: HostRuntime) {
+    assert!(rt; is_copied(rt.alloc(), COMPARES));
+    assert!(rt; is_copied(rt.alloc(), SENDS));
+    assert!(rt; is_copied(rt.alloc(), DECLARES));
     assert!(rt; differ(rt.alloc(), COMPARES, SENDS));
-    Ok(())
 }
 
-fn value_is_copied(alloc: Global, text: &[u8], other: &[u8]) -> Result<bool, Fail> {
-    if text.len() > 65_536 || other.len() > 65_536 {
-        return Ok(false);
+fn value_equals_its_copy(alloc: Global, value: &Value) -> bool {
+    match value.copy(alloc) {
+        Ok(same) => same.is(value),
+        Err(_) => false,
     }
-    let (Ok(value), Ok(other)) = (parse_value(alloc, text), parse_value(alloc, other)) else {
-        return Ok(false);
-    };
-    Ok(value.copy(alloc)?.is(&value) && !value.is(&other))
+}
+
+fn is_another_value(alloc: Global, text: &[u8], than: &Value) -> bool {
+    match value(alloc, text) {
+        Some(other) => !than.is(&other),
+        None => false,
+    }
+}
+
+fn value_is_copied(alloc: Global, text: &[u8], other: &[u8]) -> bool {
+    match value(alloc, text) {
+        Some(value) => {
+            value_equals_its_copy(alloc, &value) && is_another_value(alloc, other, &value)
+        }
+        None => false,
+    }
 }
 
 #[test]
-fn a_value_equals_its_copy_and_no_other(rt: HostRuntime) -> Result<(), Fail> {
-    assert!(rt; value_is_copied(rt.alloc(), b"[#\"0102\"]", b"()")?);
-    Ok(())
+fn a_value_equals_its_copy_and_no_other(rt: HostRuntime) {
+    assert!(rt; value_is_copied(rt.alloc(), b"[#\"0102\"]", b"()"));
 }
 
-fn draft_is_copied(alloc: Global, text: &[u8]) -> Result<bool, Fail> {
-    if text.len() > 65_536 {
-        return Ok(false);
+fn draft_equals_its_copy(alloc: Global, draft: &Draft) -> bool {
+    match draft.copy(alloc) {
+        Ok(same) => { same.program.is(&draft.program) && same.decl_at.len() == draft.decl_at.len() }
+        Err(_) => false,
     }
-    let tokens = lex(alloc, text)?;
-    let Ok(draft) = parse(alloc, &tokens, text.len() as u32) else {
-        return Ok(false);
-    };
-    let same = draft.copy(alloc)?;
-    Ok(same.program.is(&draft.program) && same.decl_at.len() == draft.decl_at.len())
+}
+
+fn draft_is_copied(alloc: Global, text: &[u8]) -> bool {
+    match draft(alloc, text) {
+        Some(draft) => draft_equals_its_copy(alloc, &draft),
+        None => false,
+    }
 }
 
 #[test]
-fn a_draft_is_copied_whole(rt: HostRuntime) -> Result<(), Fail> {
-    assert!(rt; draft_is_copied(rt.alloc(), SENDS)?);
-    Ok(())
+fn a_draft_is_copied_whole(rt: HostRuntime) {
+    assert!(rt; draft_is_copied(rt.alloc(), SENDS));
 }
 
 fn is_name(alloc: Global, word: &[u8]) -> bool {

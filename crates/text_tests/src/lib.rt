@@ -8,6 +8,8 @@ mod nestings;
 #[cfg(test)]
 mod printed;
 #[cfg(test)]
+mod texts;
+#[cfg(test)]
 mod tokens;
 #[cfg(test)]
 mod values;

@@ -1,15 +1,14 @@
 // Programs with each form inside itself as deep as it may be: they are checked, printed, read again, sent and received.
 // Where a walk were made twice at each level, none of these would ever end.
 
+use crate::texts::{add, program};
 use chunk_types::{CheckedChunk, chunk_of};
 use packet_frame::{Frame, get_frame, put_ask};
 use plan_base::{Bytes, Name};
 use plan_items::Items;
 use plan_printer::print_program;
 use plan_types::Checked;
-use program_text::read_program;
 use std::alloc::Global;
-use std::test::Fail;
 
 /// What stands before all and how often; before and behind each level; inside the last; behind all.
 type Nest = (
@@ -21,63 +20,63 @@ type Nest = (
     &'static str,
 );
 
-fn text_of(alloc: Global, nest: &Nest) -> Result<String, Fail> {
-    let (front, times, open, close, inside, back) = *nest;
-    let mut text = String::from_str(alloc, front)?;
-    for _ in 0..times {
-        text.push_str(open)?;
-    }
-    text.push_str(inside)?;
-    for _ in 0..times {
-        text.push_str(close)?;
-    }
-    text.push_str(back)?;
-    Ok(text)
-}
-
-fn printed(alloc: Global, program: &Checked) -> Result<Bytes, Fail> {
-    let mut out = Bytes::new(alloc);
-    print_program(alloc, program.program(), &mut out)?;
-    Ok(out)
-}
-
-// The entry `f` without arguments.
-fn chunk(alloc: Global, program: &Checked) -> Option<CheckedChunk> {
-    let entry = Name::read(alloc, b"f").ok()?;
-    chunk_of(alloc, program, &entry, Items::new(alloc)).ok()
+fn add_nest(text: &mut String, nest: &Nest) -> bool {
+    let times = nest.1;
+    add(text, nest.0, 1)
+        && add(text, nest.2, times)
+        && add(text, nest.4, 1)
+        && add(text, nest.3, times)
+        && add(text, nest.5, 1)
 }
 
 // Whether a text is a program.
 fn is_read(alloc: Global, text: &[u8]) -> bool {
-    text.len() <= 65_536 && read_program(alloc, text).is_ok()
+    program(alloc, text).is_some()
+}
+
+// Whether a program prints as one.
+fn is_printed(alloc: Global, program: &Checked) -> bool {
+    let mut out = Bytes::new(alloc);
+    print_program(alloc, program.program(), &mut out).is_ok() && is_read(alloc, out.as_slice())
 }
 
 fn arrives(alloc: Global, bytes: &[u8]) -> bool {
     matches!(get_frame(alloc, bytes, None), Ok(Frame::Ask(5, _)))
 }
 
-// Whether a program that is sent arrives.
-fn is_sent(alloc: Global, program: &Checked) -> Result<bool, Fail> {
-    let Some(chunk) = chunk(alloc, program) else {
-        return Ok(false);
-    };
-    let bytes = put_ask(alloc, 5, &chunk)?;
-    Ok(arrives(alloc, bytes.as_slice()))
+fn chunk_arrives(alloc: Global, chunk: &CheckedChunk) -> bool {
+    match put_ask(alloc, 5, chunk) {
+        Ok(bytes) => arrives(alloc, bytes.as_slice()),
+        Err(_) => false,
+    }
+}
+
+fn call_arrives(alloc: Global, program: &Checked, entry: &Name) -> bool {
+    match chunk_of(alloc, program, entry, Items::new(alloc)) {
+        Ok(chunk) => chunk_arrives(alloc, &chunk),
+        Err(_) => false,
+    }
+}
+
+// Whether a program that is sent with the entry `f` without arguments arrives.
+fn is_sent(alloc: Global, program: &Checked) -> bool {
+    match Name::read(alloc, b"f") {
+        Ok(entry) => call_arrives(alloc, program, &entry),
+        Err(_) => false,
+    }
 }
 
 // Whether a text is a program that prints as one, and that arrives where it is sent.
-fn passes(alloc: Global, text: &[u8]) -> Result<bool, Fail> {
-    if text.len() > 65_536 {
-        return Ok(false);
+fn passes(alloc: Global, text: &[u8]) -> bool {
+    match program(alloc, text) {
+        Some(program) => is_printed(alloc, &program) && is_sent(alloc, &program),
+        None => false,
     }
-    let Ok(program) = read_program(alloc, text) else {
-        return Ok(false);
-    };
-    Ok(is_read(alloc, printed(alloc, &program)?.as_slice()) && is_sent(alloc, &program)?)
 }
 
-fn nest_passes(alloc: Global, nest: &Nest) -> Result<bool, Fail> {
-    passes(alloc, text_of(alloc, nest)?.as_bytes())
+fn nest_passes(alloc: Global, nest: &Nest) -> bool {
+    let mut text = String::new(alloc);
+    add_nest(&mut text, nest) && passes(alloc, text.as_bytes())
 }
 
 static BRANCHES: [Nest; 13] = [
@@ -160,11 +159,10 @@ static BRANCHES: [Nest; 13] = [
 ];
 
 #[test]
-fn branches_inside_each_other(rt: HostRuntime) -> Result<(), Fail> {
+fn branches_inside_each_other(rt: HostRuntime) {
     for nest in &BRANCHES {
-        assert!(rt; nest_passes(rt.alloc(), nest)?);
+        assert!(rt; nest_passes(rt.alloc(), nest));
     }
-    Ok(())
 }
 
 static OPERATORS: [Nest; 14] = [
@@ -185,11 +183,10 @@ static OPERATORS: [Nest; 14] = [
 ];
 
 #[test]
-fn operators_inside_each_other(rt: HostRuntime) -> Result<(), Fail> {
+fn operators_inside_each_other(rt: HostRuntime) {
     for nest in &OPERATORS {
-        assert!(rt; nest_passes(rt.alloc(), nest)?);
+        assert!(rt; nest_passes(rt.alloc(), nest));
     }
-    Ok(())
 }
 
 static CALLS_AND_TYPES: [Nest; 10] = [
@@ -276,9 +273,8 @@ static CALLS_AND_TYPES: [Nest; 10] = [
 ];
 
 #[test]
-fn calls_and_types_inside_each_other(rt: HostRuntime) -> Result<(), Fail> {
+fn calls_and_types_inside_each_other(rt: HostRuntime) {
     for nest in &CALLS_AND_TYPES {
-        assert!(rt; nest_passes(rt.alloc(), nest)?);
+        assert!(rt; nest_passes(rt.alloc(), nest));
     }
-    Ok(())
 }

@@ -1,69 +1,60 @@
 // Programs, types and values as they print.
 
-use plan_base::Bytes;
-use plan_lexer::lex;
-use plan_parser::{parse, parse_value};
+use crate::texts::{add, draft, program, value};
+use plan_base::{Bytes, Draft, Program, Value};
 use plan_printer::{print_program, print_value};
-use program_text::read_program;
 use std::alloc::Global;
-use std::test::Fail;
 
-// A text as it prints, once it is read.
-fn printed(alloc: Global, text: &[u8]) -> Result<Bytes, Fail> {
+// Whether a program prints so.
+fn says(alloc: Global, program: &Program, wanted: &[u8]) -> bool {
     let mut out = Bytes::new(alloc);
-    if text.len() > 65_536 {
-        return Ok(out);
-    }
-    if let Ok(program) = read_program(alloc, text) {
-        print_program(alloc, program.program(), &mut out)?;
-    }
-    Ok(out)
+    print_program(alloc, program, &mut out).is_ok() && out.as_slice() == wanted
 }
 
-fn prints_as(alloc: Global, text: &[u8], wanted: &[u8]) -> Result<bool, Fail> {
-    Ok(printed(alloc, text)?.as_slice() == wanted)
+// Whether a text prints so, once it is read.
+fn prints_as(alloc: Global, text: &[u8], wanted: &[u8]) -> bool {
+    match program(alloc, text) {
+        Some(program) => says(alloc, program.program(), wanted),
+        None => false,
+    }
 }
 
-const FRONT: &str = "fun f() : int = ";
-
-/// A body, and how it prints.
-type Printed = (&'static str, &'static str);
+/// A program, and how it prints.
+type Printed = (&'static [u8], &'static [u8]);
 
 // A `let` of two values, a `raise` without and with its type, a clause with a name, a char and a text that are escaped.
 static PRINTED: [Printed; 6] = [
     (
-        "let val x : int = 1 val y : int = 2 in x end",
-        "let val x : int = 1 in let val y : int = 2 in x end end",
-    ),
-    ("raise Empty", "raise[:int] Empty"),
-    ("raise[:int] Empty", "raise[:int] Empty"),
-    (
-        "try 1 handle Empty => 2 | _ => 3 end",
-        "try 1 handle Empty => 2 | _ => 3 end",
+        b"fun f() : int = let val x : int = 1 val y : int = 2 in x end",
+        b"fun f() : int = let val x : int = 1 in let val y : int = 2 in x end end\n",
     ),
     (
-        "if 'a' = '\\t' then 1 else 2",
-        "(if ('a' = '\\t') then 1 else 2)",
+        b"fun f() : int = raise Empty",
+        b"fun f() : int = raise[:int] Empty\n",
     ),
     (
-        "if \"\\t\\r\" = \"a\" then 1 else 2",
-        "(if (\"\\t\\r\" = \"a\") then 1 else 2)",
+        b"fun f() : int = raise[:int] Empty",
+        b"fun f() : int = raise[:int] Empty\n",
+    ),
+    (
+        b"fun f() : int = try 1 handle Empty => 2 | _ => 3 end",
+        b"fun f() : int = try 1 handle Empty => 2 | _ => 3 end\n",
+    ),
+    (
+        b"fun f() : int = if 'a' = '\\t' then 1 else 2",
+        b"fun f() : int = (if ('a' = '\\t') then 1 else 2)\n",
+    ),
+    (
+        b"fun f() : int = if \"\\t\\r\" = \"a\" then 1 else 2",
+        b"fun f() : int = (if (\"\\t\\r\" = \"a\") then 1 else 2)\n",
     ),
 ];
 
-// Whether a body prints so.
-fn body_prints_as(alloc: Global, body: &str, wanted: &str) -> Result<bool, Fail> {
-    let text = format!(in alloc; "{FRONT}{body}")?;
-    let line = format!(in alloc; "{FRONT}{wanted}\n")?;
-    prints_as(alloc, text.as_bytes(), line.as_bytes())
-}
-
 #[test]
-fn forms_with_more_parts_are_printed(rt: HostRuntime) -> Result<(), Fail> {
-    for (body, wanted) in &PRINTED {
-        assert!(rt; body_prints_as(rt.alloc(), body, wanted)?);
+fn forms_with_more_parts_are_printed(rt: HostRuntime) {
+    for (text, wanted) in &PRINTED {
+        assert!(rt; prints_as(rt.alloc(), text, wanted));
     }
-    Ok(())
 }
 
 /// What stands before and behind each level.
@@ -79,98 +70,94 @@ static SENDS: [Nest; 5] = [
 ];
 
 // 31 levels around `()`.
-fn nested(alloc: Global, nest: &Nest) -> Result<String, Fail> {
-    let (front, back) = *nest;
-    let mut text = String::from_str(alloc, "fun g() : unit = ()\nfun f() : unit = ")?;
-    for _ in 0..31u8 {
-        text.push_str(front)?;
-    }
-    text.push_str("()")?;
-    for _ in 0..31u8 {
-        text.push_str(back)?;
-    }
-    Ok(text)
+fn add_nest(text: &mut String, nest: &Nest) -> bool {
+    add(text, "fun g() : unit = ()\nfun f() : unit = ", 1)
+        && add(text, nest.0, 31)
+        && add(text, "()", 1)
+        && add(text, nest.1, 31)
 }
 
-fn prints_longer(alloc: Global, nest: &Nest) -> Result<bool, Fail> {
-    let text = nested(alloc, nest)?;
-    Ok(printed(alloc, text.as_bytes())?.len() > text.len())
+fn is_longer(alloc: Global, program: &Program, length: usize) -> bool {
+    let mut out = Bytes::new(alloc);
+    print_program(alloc, program, &mut out).is_ok() && out.len() > length
+}
+
+fn prints_longer(alloc: Global, text: &[u8]) -> bool {
+    match program(alloc, text) {
+        Some(program) => is_longer(alloc, program.program(), text.len()),
+        None => false,
+    }
+}
+
+fn nest_prints_longer(alloc: Global, nest: &Nest) -> bool {
+    let mut text = String::new(alloc);
+    add_nest(&mut text, nest) && prints_longer(alloc, text.as_bytes())
 }
 
 // Were a part measured twice at each level, this would never end.
 #[test]
-fn sends_inside_each_other_are_printed(rt: HostRuntime) -> Result<(), Fail> {
+fn sends_inside_each_other_are_printed(rt: HostRuntime) {
     for nest in &SENDS {
-        assert!(rt; prints_longer(rt.alloc(), nest)?);
+        assert!(rt; nest_prints_longer(rt.alloc(), nest));
     }
-    Ok(())
 }
 
-const OPERATORS: &[u8] =
+static OPERATORS: &[u8] =
     b"exception Lost\nfun f(x : int) : int = (if (x < 1) then (0 - x) else (x * 2))\n";
 
-const TYPES: &[u8] = b"svc s : ((int * bool list) list) -> unit\nfun f() : unit = ()\n";
+static TYPES: &[u8] = b"svc s : ((int * bool list) list) -> unit\nfun f() : unit = ()\n";
 
 #[test]
-fn programs_and_types_print_as_they_are_read(rt: HostRuntime) -> Result<(), Fail> {
-    assert!(rt; prints_as(rt.alloc(), OPERATORS, OPERATORS)?);
-    assert!(rt; prints_as(rt.alloc(), TYPES, TYPES)?);
-    Ok(())
+fn programs_and_types_print_as_they_are_read(rt: HostRuntime) {
+    assert!(rt; prints_as(rt.alloc(), OPERATORS, OPERATORS));
+    assert!(rt; prints_as(rt.alloc(), TYPES, TYPES));
 }
 
-fn draft_prints_as(alloc: Global, text: &[u8]) -> Result<bool, Fail> {
-    if text.len() > 65_536 {
-        return Ok(false);
+fn draft_prints_as(alloc: Global, text: &[u8]) -> bool {
+    match draft(alloc, text) {
+        Some(draft) => says(alloc, &draft.program, text),
+        None => false,
     }
-    let tokens = lex(alloc, text)?;
-    let Ok(draft) = parse(alloc, &tokens, text.len() as u32) else {
-        return Ok(false);
-    };
-    let mut out = Bytes::new(alloc);
-    print_program(alloc, &draft.program, &mut out)?;
-    Ok(out.as_slice() == text)
 }
 
 #[test]
-fn drafts_print_as_they_are_read(rt: HostRuntime) -> Result<(), Fail> {
-    assert!(rt; draft_prints_as(rt.alloc(), OPERATORS)?);
-    Ok(())
+fn drafts_print_as_they_are_read(rt: HostRuntime) {
+    assert!(rt; draft_prints_as(rt.alloc(), OPERATORS));
 }
 
-fn value_prints_as(alloc: Global, text: &[u8]) -> Result<bool, Fail> {
-    if text.len() > 65_536 {
-        return Ok(false);
+fn value_says(alloc: Global, value: &Value, wanted: &[u8]) -> bool {
+    let mut out = Bytes::new(alloc);
+    print_value(alloc, value, &mut out).is_ok() && out.as_slice() == wanted
+}
+
+fn value_prints_as(alloc: Global, text: &[u8]) -> bool {
+    match value(alloc, text) {
+        Some(value) => value_says(alloc, &value, text),
+        None => false,
     }
-    let Ok(value) = parse_value(alloc, text) else {
-        return Ok(false);
-    };
-    let mut out = Bytes::new(alloc);
-    print_value(alloc, &value, &mut out)?;
-    Ok(out.as_slice() == text)
 }
 
 #[test]
-fn values_print_as_they_are_read(rt: HostRuntime) -> Result<(), Fail> {
+fn values_print_as_they_are_read(rt: HostRuntime) {
     let text = b"([1, ~2], [:chunk], \"a\\n\\\"\\x7f\", '\\'')";
-    assert!(rt; value_prints_as(rt.alloc(), text)?);
-    Ok(())
+    assert!(rt; value_prints_as(rt.alloc(), text));
 }
 
-// Whether the one function's expressions stand at these places.
-fn has_places(alloc: Global, text: &[u8], places: &[u32]) -> Result<bool, Fail> {
-    if text.len() > 65_536 {
-        return Ok(false);
+fn stand_at(draft: &Draft, declared: &[u32], places: &[u32]) -> bool {
+    draft.decl_at.as_slice() == declared && draft.node_at.as_slice() == places
+}
+
+// Whether the declarations and the expressions of a text stand at these places.
+fn has_places(alloc: Global, text: &[u8], declared: &[u32], places: &[u32]) -> bool {
+    match draft(alloc, text) {
+        Some(draft) => stand_at(&draft, declared, places),
+        None => false,
     }
-    let tokens = lex(alloc, text)?;
-    let Ok(draft) = parse(alloc, &tokens, text.len() as u32) else {
-        return Ok(false);
-    };
-    Ok(draft.decl_at.as_slice() == [0].as_slice() && draft.node_at.as_slice() == places)
 }
 
 #[test]
-fn printed_operators_have_the_places_of_their_left_operands(rt: HostRuntime) -> Result<(), Fail> {
+fn printed_operators_have_the_places_of_their_left_operands(rt: HostRuntime) {
     let text = b"fun f(x : int) : int = (if (x < 1) then (0 - x) else (x * 2))";
-    assert!(rt; has_places(rt.alloc(), text, &[24, 28, 28, 32, 41, 41, 45, 54, 54, 58])?);
-    Ok(())
+    let places = [24, 28, 28, 32, 41, 41, 45, 54, 54, 58];
+    assert!(rt; has_places(rt.alloc(), text, &[0], &places));
 }

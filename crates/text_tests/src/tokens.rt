@@ -1,49 +1,69 @@
 // Tokens, each with what it stands for and its places.
 
-use plan_lexer::{TokenKind, lex};
+use crate::texts::add;
+use plan_lexer::{Token, TokenKind, lex};
 use std::alloc::Global;
 use std::fmt::Write;
-use std::test::Fail;
 
 /// Bytes as text, or `?` where they are none.
 fn as_text(bytes: &[u8]) -> &str {
     std::str::from_utf8(bytes).unwrap_or("?")
 }
 
-/// A kind with what it stands for.
-fn write_kind(out: &mut String, kind: &TokenKind) -> Result<(), Fail> {
-    match kind {
-        TokenKind::Word(name) => write!(out, "word {}", as_text(name.as_slice()))?,
-        TokenKind::Key(key) => write!(out, "key {}", as_text(key.text()))?,
-        TokenKind::Int(number) => write!(out, "int {number}")?,
-        TokenKind::Host(number) => write!(out, "host {number}")?,
-        TokenKind::Dev(number) => write!(out, "dev {number}")?,
-        TokenKind::Part(number) => write!(out, "part {number}")?,
-        TokenKind::Char(code) => write!(out, "char {code}")?,
-        TokenKind::Str(text) => write!(out, "string {}", as_text(text.as_slice()))?,
-        TokenKind::Blob(bytes) => write!(out, "blob {:?}", bytes.as_slice())?,
-        TokenKind::Symbol(symbol) => write!(out, "symbol {}", as_text(symbol.text()))?,
-    }
-    Ok(())
+fn add_text(out: &mut String, kind: &str, text: &[u8]) -> bool {
+    out.push_str(kind).is_ok() && out.push_str(as_text(text)).is_ok()
 }
 
-/// The tokens of a text, each with its places.
-fn shown(alloc: Global, text: &[u8]) -> Result<String, Fail> {
+fn add_number(out: &mut String, kind: &str, number: i64) -> bool {
+    write!(out, "{kind}{number}").is_ok()
+}
+
+fn add_blob(out: &mut String, bytes: &[u8]) -> bool {
+    write!(out, "blob {bytes:?}").is_ok()
+}
+
+/// A kind with what it stands for.
+fn add_kind(out: &mut String, kind: &TokenKind) -> bool {
+    match kind {
+        TokenKind::Word(name) => add_text(out, "word ", name.as_slice()),
+        TokenKind::Key(key) => add_text(out, "key ", key.text()),
+        TokenKind::Int(number) => add_number(out, "int ", *number),
+        TokenKind::Host(number) => add_number(out, "host ", *number as i64),
+        TokenKind::Dev(number) => add_number(out, "dev ", *number as i64),
+        TokenKind::Part(number) => add_number(out, "part ", *number as i64),
+        TokenKind::Char(code) => add_number(out, "char ", *code as i64),
+        TokenKind::Str(text) => add_text(out, "string ", text.as_slice()),
+        TokenKind::Blob(bytes) => add_blob(out, bytes.as_slice()),
+        TokenKind::Symbol(symbol) => add_text(out, "symbol ", symbol.text()),
+    }
+}
+
+fn add_places(out: &mut String, start: u32, stop: u32) -> bool {
+    write!(out, " {start}-{stop};").is_ok()
+}
+
+/// Tokens, each with its places.
+fn add_tokens(out: &mut String, tokens: &[Token]) -> bool {
+    for token in tokens {
+        if !add_kind(out, &token.kind) || !add_places(out, token.start, token.stop) {
+            return false;
+        }
+    }
+    true
+}
+
+fn are(alloc: Global, tokens: &[Token], wanted: &str) -> bool {
     let mut out = String::new(alloc);
-    if text.len() > 65536 {
-        return Ok(out);
-    }
-    let tokens = lex(alloc, text)?;
-    for token in tokens.as_slice() {
-        write_kind(&mut out, &token.kind)?;
-        write!(out, " {}-{};", token.start, token.stop)?;
-    }
-    Ok(out)
+    add_tokens(&mut out, tokens) && out.as_str() == wanted
 }
 
 /// Whether a text has these tokens.
-fn is_read(alloc: Global, text: &[u8], tokens: &str) -> Result<bool, Fail> {
-    Ok(shown(alloc, text)?.as_str() == tokens)
+fn is_read(alloc: Global, text: &[u8], wanted: &str) -> bool {
+    text.len() <= 65_536
+        && match lex(alloc, text) {
+            Ok(tokens) => are(alloc, tokens.as_slice(), wanted),
+            Err(_) => false,
+        }
 }
 
 /// A text and its tokens.
@@ -130,27 +150,24 @@ static SYMBOLS_AND_COMMENTS: [Read; 13] = [
 ];
 
 #[test]
-fn words_and_numbers_are_read(rt: HostRuntime) -> Result<(), Fail> {
+fn words_and_numbers_are_read(rt: HostRuntime) {
     for (text, tokens) in &WORDS_AND_NUMBERS {
-        assert!(rt; is_read(rt.alloc(), text, tokens)?);
+        assert!(rt; is_read(rt.alloc(), text, tokens));
     }
-    Ok(())
 }
 
 #[test]
-fn strings_chars_and_blobs_are_read(rt: HostRuntime) -> Result<(), Fail> {
+fn strings_chars_and_blobs_are_read(rt: HostRuntime) {
     for (text, tokens) in &TEXTS {
-        assert!(rt; is_read(rt.alloc(), text, tokens)?);
+        assert!(rt; is_read(rt.alloc(), text, tokens));
     }
-    Ok(())
 }
 
 #[test]
-fn symbols_and_comments_are_read(rt: HostRuntime) -> Result<(), Fail> {
+fn symbols_and_comments_are_read(rt: HostRuntime) {
     for (text, tokens) in &SYMBOLS_AND_COMMENTS {
-        assert!(rt; is_read(rt.alloc(), text, tokens)?);
+        assert!(rt; is_read(rt.alloc(), text, tokens));
     }
-    Ok(())
 }
 
 /// What stands before, so many times in front, so many times behind, and behind all; the beginning of its tokens, what
@@ -166,16 +183,8 @@ type Long = (
 );
 
 // A text of two parts, each 300 times, between two others.
-fn filled(alloc: Global, front: &str, part: &str, other: &str, back: &str) -> Result<String, Fail> {
-    let mut text = String::from_str(alloc, front)?;
-    for _ in 0..300u32 {
-        text.push_str(part)?;
-    }
-    for _ in 0..300u32 {
-        text.push_str(other)?;
-    }
-    text.push_str(back)?;
-    Ok(text)
+fn fill(text: &mut String, front: &str, part: &str, other: &str, back: &str) -> bool {
+    add(text, front, 1) && add(text, part, 300) && add(text, other, 300) && add(text, back, 1)
 }
 
 static LONG: [Long; 11] = [
@@ -200,18 +209,20 @@ static LONG: [Long; 11] = [
     ("", "(*", "*)", "a", "word a 1200-1201;", "", ""),
 ];
 
+fn long_is_read(alloc: Global, long: &Long, tokens: &str) -> bool {
+    let mut text = String::new(alloc);
+    fill(&mut text, long.0, long.1, long.2, long.3) && is_read(alloc, text.as_bytes(), tokens)
+}
+
 /// Whether a long text has its tokens.
-fn is_long_read(alloc: Global, long: &Long) -> Result<bool, Fail> {
-    let (front, part, other, back, begin, same, end) = *long;
-    let text = filled(alloc, front, part, other, back)?;
-    let tokens = filled(alloc, begin, same, "", end)?;
-    is_read(alloc, text.as_bytes(), tokens.as_str())
+fn has_tokens(alloc: Global, long: &Long) -> bool {
+    let mut tokens = String::new(alloc);
+    fill(&mut tokens, long.4, long.5, "", long.6) && long_is_read(alloc, long, tokens.as_str())
 }
 
 #[test]
-fn each_kind_is_read_at_a_length_of_hundreds(rt: HostRuntime) -> Result<(), Fail> {
+fn each_kind_is_read_at_a_length_of_hundreds(rt: HostRuntime) {
     for long in &LONG {
-        assert!(rt; is_long_read(rt.alloc(), long)?);
+        assert!(rt; has_tokens(rt.alloc(), long));
     }
-    Ok(())
 }

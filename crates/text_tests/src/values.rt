@@ -1,12 +1,12 @@
 // Values and arguments as they are read, and why texts are none.
 
+use crate::texts::{add, value};
 use plan_base::{Limit, Ty, Value};
 use plan_grammar::{ParseFault, Wanted};
 use plan_lexer::{LexFault, Symbol};
 use plan_parser::{ValueFault, parse_args, parse_value};
 use program_text::read_args;
 use std::alloc::Global;
-use std::test::Fail;
 
 /// A text, and the refusal of its tokens.
 type Token = (&'static str, LexFault);
@@ -120,24 +120,19 @@ static ARGUMENTS: [Row; 16] = [
 ];
 
 /// What stands before, a part that stands so many times, what stands behind, and the refusal.
-type Long = (&'static [u8], &'static [u8], u32, &'static [u8], ParseFault);
+type Long = (&'static str, &'static str, u32, &'static str, ParseFault);
 
 // Each limit of a value's text, one past it.
 static LONG_VALUES: [Long; 3] = [
-    (
-        b"[1",
-        b",1",
-        63,
-        b"]",
-        ParseFault::TooMany(Limit::Items, 127),
-    ),
-    (b"(1", b",1", 8, b")", ParseFault::TooMany(Limit::Parts, 17)),
-    (b"[:int", b" list", 7, b"]", ParseFault::TooDeep(0)),
+    ("[1", ",1", 63, "]", ParseFault::TooMany(Limit::Items, 127)),
+    ("(1", ",1", 8, ")", ParseFault::TooMany(Limit::Parts, 17)),
+    ("[:int", " list", 7, "]", ParseFault::TooDeep(0)),
 ];
 
 // Each kind of value.
-static KINDS: [&str; 12] = [
-    "()", "true", "false", "~1", "'a'", "\"a\"", "#\"00\"", "@1", "%1", "[1]", "[:int]", "(1, 2)",
+static KINDS: [&[u8]; 12] = [
+    b"()", b"true", b"false", b"~1", b"'a'", b"\"a\"", b"#\"00\"", b"@1", b"%1", b"[1]", b"[:int]",
+    b"(1, 2)",
 ];
 
 fn value_fault(alloc: Global, text: &[u8]) -> Option<ValueFault> {
@@ -184,27 +179,28 @@ fn each_refusal_of_arguments(rt: HostRuntime) {
     assert!(rt; are_no_arguments(rt.alloc(), "(\"a)", open));
 }
 
+fn is_refused(alloc: Global, text: &[u8], fault: ParseFault) -> bool {
+    value_fault(alloc, text) == Some(ValueFault::Parse(fault))
+}
+
 // Whether a text that begins so, and goes on with a part so many times, is refused so.
-fn is_too_long(alloc: Global, long: &Long) -> Result<bool, Fail> {
-    let (front, part, times, back, fault) = *long;
-    let mut text = Vec::from_slice(alloc, front)?;
-    for _ in 0..times {
-        text.extend_from_slice(part)?;
-    }
-    text.extend_from_slice(back)?;
-    Ok(value_fault(alloc, text.as_slice()) == Some(ValueFault::Parse(fault)))
+fn is_too_long(alloc: Global, long: &Long) -> bool {
+    let mut text = String::new(alloc);
+    add(&mut text, long.0, 1)
+        && add(&mut text, long.1, long.2)
+        && add(&mut text, long.3, 1)
+        && is_refused(alloc, text.as_bytes(), long.4)
 }
 
 #[test]
-fn values_have_limits(rt: HostRuntime) -> Result<(), Fail> {
+fn values_have_limits(rt: HostRuntime) {
     for long in &LONG_VALUES {
-        assert!(rt; is_too_long(rt.alloc(), long)?);
+        assert!(rt; is_too_long(rt.alloc(), long));
     }
-    Ok(())
 }
 
-fn is_a_value(alloc: Global, text: &str) -> bool {
-    text.len() <= 65_536 && parse_value(alloc, text.as_bytes()).is_ok()
+fn is_a_value(alloc: Global, text: &[u8]) -> bool {
+    value(alloc, text).is_some()
 }
 
 #[test]
@@ -215,15 +211,12 @@ fn each_kind_of_value_is_read(rt: HostRuntime) {
 }
 
 fn is_a_tuple(alloc: Global, text: &[u8]) -> bool {
-    text.len() <= 65_536 && matches!(parse_value(alloc, text), Ok(Value::Tuple(_)))
+    matches!(value(alloc, text), Some(Value::Tuple(_)))
 }
 
 fn is_a_list_of_ints(alloc: Global, text: &[u8]) -> bool {
-    if text.len() > 65_536 {
-        return false;
-    }
-    match parse_value(alloc, text) {
-        Ok(Value::List(item, _)) => matches!(item.get(), Ty::Int),
+    match value(alloc, text) {
+        Some(Value::List(item, _)) => matches!(item.get(), Ty::Int),
         _ => false,
     }
 }
@@ -234,19 +227,14 @@ fn values_are_what_they_say(rt: HostRuntime) {
     assert!(rt; is_a_list_of_ints(rt.alloc(), b"[1, 2]"));
 }
 
-// How many arguments a text of few bytes is, or none.
-fn count(alloc: Global, text: &[u8]) -> Result<Option<usize>, Fail> {
-    if text.len() > 100 {
-        return Ok(None);
-    }
-    match read_args(alloc, text)? {
-        Some(args) => Ok(Some(args.len())),
-        None => Ok(None),
-    }
-}
-
-fn has_so_many(alloc: Global, text: &[u8], wanted: Option<usize>) -> Result<bool, Fail> {
-    Ok(count(alloc, text)? == wanted)
+// Whether a text of few bytes is so many arguments, or none.
+fn has_so_many(alloc: Global, text: &[u8], wanted: Option<usize>) -> bool {
+    text.len() <= 100
+        && match read_args(alloc, text) {
+            Ok(Some(args)) => wanted == Some(args.len()),
+            Ok(None) => wanted.is_none(),
+            Err(_) => false,
+        }
 }
 
 static COUNTS: [(&[u8], Option<usize>); 5] = [
@@ -258,9 +246,8 @@ static COUNTS: [(&[u8], Option<usize>); 5] = [
 ];
 
 #[test]
-fn arguments_are_values_in_brackets(rt: HostRuntime) -> Result<(), Fail> {
+fn arguments_are_values_in_brackets(rt: HostRuntime) {
     for (text, wanted) in &COUNTS {
-        assert!(rt; has_so_many(rt.alloc(), text, *wanted)?);
+        assert!(rt; has_so_many(rt.alloc(), text, *wanted));
     }
-    Ok(())
 }
