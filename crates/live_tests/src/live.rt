@@ -160,18 +160,9 @@ fn a_clock_goes_on_from_1970(rt: HostRuntime) {
     assert!(rt; goes_on(&mut HostClock::new(&rt), 1_600_000_000_000));
 }
 
-fn text(alloc: Global, of: &[u8]) -> Option<Text> {
-    match Vec::from_slice(alloc, of) {
-        Ok(all) => Some(Text::of(all)),
-        Err(_) => None,
-    }
-}
-
 fn add_word(alloc: Global, words: &mut Texts, word: &[u8]) -> bool {
-    match text(alloc, word) {
-        Some(word) => words.add(word).is_ok(),
-        None => false,
-    }
+    let mut text = Text::new(alloc);
+    text.add_all(word).is_ok() && words.add(text).is_ok()
 }
 
 // Whether a child that is given words ends with this status, or isn't there where there is none.
@@ -184,10 +175,13 @@ fn ends<S: Spawner>(spawner: &mut S, words: &Texts, status: Option<u8>) -> bool 
 
 // The same of a child of the program with this path.
 fn ends_at(rt: &HostRuntime, path: &[u8], words: &Texts, status: Option<u8>) -> bool {
-    match text(rt.alloc(), path) {
-        Some(path) => ends(&mut HostSpawner::new(rt.alloc(), rt, path), words, status),
-        None => false,
-    }
+    let mut program = Text::new(rt.alloc());
+    program.add_all(path).is_ok()
+        && ends(
+            &mut HostSpawner::new(rt.alloc(), rt, program),
+            words,
+            status,
+        )
 }
 
 // The same of a child that is given these two words.

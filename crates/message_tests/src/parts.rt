@@ -18,11 +18,10 @@ fn add_zeros(bytes: &mut Bytes, count: u32) -> bool {
 }
 
 fn have_bounds(parts: &[Part], bounds: &[u32]) -> bool {
-    parts.len() == bounds.len()
-        && parts
-            .iter()
-            .zip(bounds)
-            .all(|(part, bound)| part.bound == *bound)
+    match (parts, bounds) {
+        ([first, second], [one, other]) => first.bound == *one && second.bound == *other,
+        _ => false,
+    }
 }
 
 // Whether a message is cut with bound 11 into parts with these bounds, or a purse that holds less refuses it where there
@@ -63,20 +62,19 @@ fn add_piece(alloc: Global, values: &mut Items<Value>, count: u32) -> bool {
     add_zeros(&mut piece, count) && values.add(Value::Blob(piece)).is_ok()
 }
 
-// Whether a note for port 7 is this to a gatherer.
-fn is_note(alloc: Global, gather: &mut Gather, value: Value, added: Added) -> bool {
-    match gather.add(alloc, &Note::Port(7, value)) {
+fn is_note(alloc: Global, gather: &mut Gather, note: &Note, added: Added) -> bool {
+    match gather.add(alloc, note) {
         Ok(answer) => answer == added,
         Err(_) => false,
     }
 }
 
-// The same of the note of the part with this index and so many bytes.
+// Whether the note for port 7 of the part with this index and so many bytes is this to a gatherer.
 fn is_part(alloc: Global, gather: &mut Gather, index: i64, count: u32, added: Added) -> bool {
     let mut values = Items::new(alloc);
     add_numbers(&mut values, index)
         && add_piece(alloc, &mut values, count)
-        && is_note(alloc, gather, Value::Tuple(values), added)
+        && is_note(alloc, gather, &Note::Port(7, Value::Tuple(values)), added)
 }
 
 // Whether so many of the two parts are there, and the message has so many bytes once it is whole.
