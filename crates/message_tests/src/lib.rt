@@ -1,9 +1,7 @@
-//! Messages in parts and reliable ports: their programs are read, and worked examples.
+//! Messages in parts and the ends of reliable ports, each call with its answer.
 #![tactic(auto)]
 
 #[cfg(test)]
 mod parts;
 #[cfg(test)]
 mod ports;
-#[cfg(test)]
-mod texts;

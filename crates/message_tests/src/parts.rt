@@ -1,120 +1,134 @@
-// A message of 8,193 zero bytes, cut and gathered.
+// A message of 8,193 zero bytes: it is cut from a purse, and gathered note by note.
 
-use crate::texts::bytes_of;
-use frag_chunks::{Added, CutFault, Gather, Held, Parts, cut};
-use plan_base::{Host, Value};
+use frag_chunks::{Added, CutFault, Gather, Held, Part, cut};
+use plan_base::{Bytes, Host, Value};
 use plan_items::Items;
 use remote_calls::Purse;
 use service_api::Note;
 use std::alloc::Global;
-use std::test::Fail;
 
-const ZEROS: [u8; 8193] = [0; 8193];
-
-// The message cut for port 7 of host 1 with key 5.
-fn cut_zeros(alloc: Global, purse: &mut Purse) -> Result<Parts, CutFault> {
-    let Some(bytes) = bytes_of(alloc, &ZEROS) else {
-        return Err(CutFault::NoMemory);
-    };
-    if bytes.len() < 1 || bytes.len() > 262_144 {
-        return Err(CutFault::NoMemory);
+// Adds so many zero bytes.
+fn add_zeros(bytes: &mut Bytes, count: u32) -> bool {
+    for _ in 0..count {
+        if bytes.add(0).is_err() {
+            return false;
+        }
     }
-    cut(alloc, purse, 11, Host(1), 7, 5, &bytes)
+    true
 }
 
-// The bounds of the parts, and what the purse has left.
-fn bounds(alloc: Global) -> Option<(u32, u32, u32)> {
-    let mut purse = Purse::of(11);
-    let parts = cut_zeros(alloc, &mut purse).ok()?;
-    match parts.as_slice() {
-        [first, second] => Some((first.bound, second.bound, purse.left())),
-        _ => None,
+fn have_bounds(parts: &[Part], bounds: &[u32]) -> bool {
+    match (parts, bounds) {
+        ([first, second], [one, other]) => first.bound == *one && second.bound == *other,
+        _ => false,
     }
+}
+
+// Whether a message is cut with bound 11 into parts with these bounds, or a purse that holds less refuses it where there
+// are none.
+fn is_cut(alloc: Global, purse: &mut Purse, message: &Bytes, bounds: &[u32]) -> bool {
+    message.len() >= 1
+        && message.len() <= 262_144
+        && match cut(alloc, purse, 11, Host(1), 7, 5, message) {
+            Ok(parts) => have_bounds(parts.as_slice(), bounds),
+            Err(fault) => fault == CutFault::NoBound && bounds.is_empty(),
+        }
+}
+
+// The same of a message of so many bytes, and whether the purse has so much left.
+fn leaves(alloc: Global, purse: &mut Purse, count: u32, bounds: &[u32], left: u32) -> bool {
+    let mut message = Bytes::new(alloc);
+    add_zeros(&mut message, count) && is_cut(alloc, purse, &message, bounds) && purse.left() == left
 }
 
 #[test]
 fn a_message_is_cut(rt: HostRuntime) {
-    assert!(rt; bounds(rt.alloc()) == Some((6, 5, 0)));
-}
-
-// What a purse that holds less has left.
-fn refused(alloc: Global) -> Option<u32> {
-    let mut purse = Purse::of(10);
-    match cut_zeros(alloc, &mut purse) {
-        Err(CutFault::NoBound) => Some(purse.left()),
-        _ => None,
-    }
+    assert!(rt; leaves(rt.alloc(), &mut Purse::of(11), 8193, &[6, 5], 0));
 }
 
 #[test]
 fn a_smaller_purse_stays(rt: HostRuntime) {
-    assert!(rt; refused(rt.alloc()) == Some(10));
+    assert!(rt; leaves(rt.alloc(), &mut Purse::of(10), 8193, &[], 10));
 }
 
-// The note of the part with this index, with so many zero bytes.
-fn note_of(alloc: Global, index: i64, size: usize) -> Option<Note> {
-    let piece = bytes_of(alloc, ZEROS.get(..size)?)?;
+fn add_numbers(values: &mut Items<Value>, index: i64) -> bool {
+    values.add(Value::Int(5)).is_ok()
+        && values.add(Value::Int(index)).is_ok()
+        && values.add(Value::Int(2)).is_ok()
+}
+
+fn add_piece(alloc: Global, values: &mut Items<Value>, count: u32) -> bool {
+    let mut piece = Bytes::new(alloc);
+    add_zeros(&mut piece, count) && values.add(Value::Blob(piece)).is_ok()
+}
+
+fn is_note(alloc: Global, gather: &mut Gather, note: &Note, added: Added) -> bool {
+    match gather.add(alloc, note) {
+        Ok(answer) => answer == added,
+        Err(_) => false,
+    }
+}
+
+// Whether the note for port 7 of the part with this index and so many bytes is this to a gatherer.
+fn is_part(alloc: Global, gather: &mut Gather, index: i64, count: u32, added: Added) -> bool {
     let mut values = Items::new(alloc);
-    values.add(Value::Int(5)).ok()?;
-    values.add(Value::Int(index)).ok()?;
-    values.add(Value::Int(2)).ok()?;
-    values.add(Value::Blob(piece)).ok()?;
-    Some(Note::Port(7, Value::Tuple(values)))
+    add_numbers(&mut values, index)
+        && add_piece(alloc, &mut values, count)
+        && is_note(alloc, gather, &Note::Port(7, Value::Tuple(values)), added)
 }
 
-fn added(alloc: Global, gather: &mut Gather, index: i64, size: usize) -> Option<Added> {
-    let note = note_of(alloc, index, size)?;
-    gather.add(alloc, &note).ok()
-}
-
-// How many parts of how many are there, and the length of the message once it is whole.
-fn standing(alloc: Global, gather: &Gather) -> Option<(u32, u32, usize)> {
-    if gather.len() != 1 {
-        return None;
-    }
-    match gather.held(alloc, 0) {
-        Ok(Held::Whole(5, bytes)) => Some((2, 2, bytes.len())),
-        Ok(Held::Missing(5, there, count)) => Some((there, count, 0)),
-        _ => None,
+// Whether so many of the two parts are there, and the message has so many bytes once it is whole.
+fn is_so_far(held: &Held, there: u32, size: usize) -> bool {
+    match held {
+        Held::Whole(5, bytes) => there == 2 && bytes.len() == size,
+        Held::Missing(5, now, 2) => *now == there && size == 0,
+        _ => false,
     }
 }
 
-// The answer to a note, and how the key stands behind it.
-type Step = (Added, (u32, u32, usize));
-
-fn step(alloc: Global, gather: &mut Gather, index: i64, size: usize) -> Option<Step> {
-    let answer = added(alloc, gather, index, size)?;
-    Some((answer, standing(alloc, gather)?))
+fn stands(alloc: Global, gather: &Gather, there: u32, size: usize) -> bool {
+    gather.len() == 1
+        && match gather.held(alloc, 0) {
+            Ok(held) => is_so_far(&held, there, size),
+            Err(_) => false,
+        }
 }
 
 // The second part, the first one, and the second one again.
-fn three_notes(alloc: Global) -> Option<(Step, Step, Step)> {
-    let mut gather = Gather::new(alloc, 7).ok()?;
-    let second = step(alloc, &mut gather, 1, 1)?;
-    let first = step(alloc, &mut gather, 0, 8192)?;
-    let again = step(alloc, &mut gather, 1, 1)?;
-    Some((second, first, again))
+fn gathers(alloc: Global, gather: &mut Gather) -> bool {
+    is_part(alloc, gather, 1, 1, Added::Kept)
+        && stands(alloc, gather, 1, 0)
+        && is_part(alloc, gather, 0, 8192, Added::Kept)
+        && stands(alloc, gather, 2, 8193)
+        && is_part(alloc, gather, 1, 1, Added::Again)
+        && stands(alloc, gather, 2, 8193)
+}
+
+fn are_gathered(alloc: Global) -> bool {
+    match Gather::new(alloc, 7) {
+        Ok(mut gather) => gathers(alloc, &mut gather),
+        Err(_) => false,
+    }
 }
 
 #[test]
 fn parts_are_gathered(rt: HostRuntime) {
-    let whole = (2, 2, 8193);
-    let wanted = (
-        (Added::Kept, (1, 2, 0)),
-        (Added::Kept, whole),
-        (Added::Again, whole),
-    );
-    assert!(rt; three_notes(rt.alloc()) == Some(wanted));
+    assert!(rt; are_gathered(rt.alloc()));
 }
 
-// The answer of a gatherer for another port, and how many keys it has.
-fn stranger(alloc: Global) -> Option<(Added, u32)> {
-    let mut gather = Gather::new(alloc, 8).ok()?;
-    let answer = added(alloc, &mut gather, 0, 8192)?;
-    Some((answer, gather.len()))
+// Whether a gatherer doesn't know the first part, and has no key then.
+fn knows_no_part(alloc: Global, gather: &mut Gather) -> bool {
+    is_part(alloc, gather, 0, 8192, Added::Stranger) && gather.len() == 0
+}
+
+fn is_stranger(alloc: Global) -> bool {
+    match Gather::new(alloc, 8) {
+        Ok(mut gather) => knows_no_part(alloc, &mut gather),
+        Err(_) => false,
+    }
 }
 
 #[test]
 fn notes_for_another_port_are_strangers(rt: HostRuntime) {
-    assert!(rt; stranger(rt.alloc()) == Some((Added::Stranger, 0)));
+    assert!(rt; is_stranger(rt.alloc()));
 }

@@ -1,138 +1,128 @@
-// Two messages that come in the wrong order, and purses that hold too little.
+// What two messages that come in the wrong order are to a receiver, and what two acks are to a sender.
 
-use crate::texts::bytes_of;
-use plan_base::{Host, Value};
-use port_chunks::port_code;
-use reliable_ports::{Ack, AckFault, Came, Receiver, Sender, TransmitFault};
+use plan_base::{Bytes, Host, Value};
+use reliable_ports::{Ack, Came, Receiver, Sender};
 use remote_calls::Purse;
 use std::alloc::Global;
-use std::test::Fail;
 
-#[test]
-fn the_program_is_read(rt: HostRuntime) {
-    assert!(rt; port_code(rt.alloc()).is_ok());
-}
-
-// The number that an offered message has.
-fn offer(alloc: Global, sender: &mut Sender, text: &[u8]) -> Option<u64> {
-    let body = bytes_of(alloc, text)?;
-    if body.len() > 4096 || sender.offered() > 1000 {
-        return None;
-    }
-    sender.offer(alloc, &body).ok()
-}
-
-// Two messages offered: their numbers, whether they are transmitted, and what the purse has left.
-fn transmitted(alloc: Global) -> Option<(u64, u64, bool, bool, u32)> {
-    let mut sender = Sender::new(alloc).ok()?;
-    let first = offer(alloc, &mut sender, b"a")?;
-    let second = offer(alloc, &mut sender, b"b")?;
-    let mut purse = Purse::of(65_535);
-    let one = sender.transmit(alloc, &mut purse, 2, Host(2)).is_ok();
-    let other = sender.transmit(alloc, &mut purse, 1, Host(2)).is_ok();
-    Some((first, second, one, other, purse.left()))
-}
-
-#[test]
-fn each_message_pays_four(rt: HostRuntime) {
-    assert!(rt; transmitted(rt.alloc()) == Some((1, 2, true, true, 65_527)));
-}
-
-fn hear(alloc: Global, receiver: &mut Receiver, seq: i64, text: &[u8]) -> Option<Came> {
-    let body = bytes_of(alloc, text)?;
-    if receiver.delivered().len() > 1000 {
-        return None;
-    }
-    receiver.heard(alloc, seq, &body).ok()
-}
-
-// The number that an ack carries.
-fn acked(alloc: Global, receiver: &Receiver, purse: &mut Purse) -> Option<i64> {
-    if receiver.delivered().len() > 1000 {
-        return None;
-    }
-    let chunk = receiver.ack(alloc, purse, Host(1)).ok()?;
-    match chunk.chunk().args.as_slice() {
-        [_, Value::Int(next)] => Some(*next),
-        _ => None,
-    }
-}
-
-// Message 2 and then 1: each answer, how many are delivered then, and the number that the ack carries.
-type Heard = (Came, usize, i64);
-
-fn heard(
-    alloc: Global,
-    receiver: &mut Receiver,
-    purse: &mut Purse,
+/// A message that comes: its number and its body, what it is to the receiver, how many are delivered then, and the number
+/// that the next ack tells.
+struct Coming {
     seq: i64,
-    text: &[u8],
-) -> Option<Heard> {
-    let came = hear(alloc, receiver, seq, text)?;
-    let next = acked(alloc, receiver, purse)?;
-    Some((came, receiver.delivered().len(), next))
+    body: &'static [u8],
+    came: Came,
+    delivered: usize,
+    next: i64,
 }
 
-fn out_of_order(alloc: Global) -> Option<(Heard, Heard, u32)> {
-    let mut receiver = Receiver::new(alloc).ok()?;
-    let mut purse = Purse::of(65_535);
-    let second = heard(alloc, &mut receiver, &mut purse, 2, b"b")?;
-    let first = heard(alloc, &mut receiver, &mut purse, 1, b"a")?;
-    Some((second, first, purse.left()))
+/// The second message and then the first one.
+static REORDERED: [Coming; 2] = [
+    Coming {
+        seq: 2,
+        body: b"b",
+        came: Came::Ahead,
+        delivered: 0,
+        next: 1,
+    },
+    Coming {
+        seq: 1,
+        body: b"a",
+        came: Came::Delivered(2),
+        delivered: 2,
+        next: 3,
+    },
+];
+
+fn is_heard(alloc: Global, receiver: &mut Receiver, seq: i64, body: &Bytes, came: Came) -> bool {
+    receiver.delivered().len() < 1_000
+        && match receiver.heard(alloc, seq, body) {
+            Ok(answer) => answer == came,
+            Err(_) => false,
+        }
+}
+
+fn comes(alloc: Global, receiver: &mut Receiver, coming: &Coming) -> bool {
+    let mut body = Bytes::new(alloc);
+    body.add_all(coming.body).is_ok() && is_heard(alloc, receiver, coming.seq, &body, coming.came)
+}
+
+// Whether what an ack carries, behind its host, is this number.
+fn is_number(args: &[Value], next: i64) -> bool {
+    match args {
+        [_, Value::Int(number)] => *number == next,
+        _ => false,
+    }
+}
+
+// Whether the ack that a purse pays tells this number.
+fn tells(alloc: Global, receiver: &Receiver, purse: &mut Purse, next: i64) -> bool {
+    receiver.delivered().len() < 1_000
+        && match receiver.ack(alloc, purse, Host(1)) {
+            Ok(chunk) => is_number(chunk.chunk().args.as_slice(), next),
+            Err(_) => false,
+        }
+}
+
+fn come(alloc: Global, receiver: &mut Receiver, purse: &mut Purse, all: &[Coming]) -> bool {
+    for coming in all {
+        if !comes(alloc, receiver, coming)
+            || receiver.delivered().len() != coming.delivered
+            || !tells(alloc, receiver, purse, coming.next)
+        {
+            return false;
+        }
+    }
+    true
+}
+
+// Whether messages come to a receiver so, and their acks leave a purse so much.
+fn leave(alloc: Global, purse: &mut Purse, all: &[Coming], left: u32) -> bool {
+    match Receiver::new(alloc) {
+        Ok(mut receiver) => come(alloc, &mut receiver, purse, all) && purse.left() == left,
+        Err(_) => false,
+    }
 }
 
 #[test]
 fn messages_wait_for_their_turn(rt: HostRuntime) {
-    let wanted = ((Came::Ahead, 0, 1), (Came::Delivered(2), 2, 3), 65_527);
-    assert!(rt; out_of_order(rt.alloc()) == Some(wanted));
+    assert!(rt; leave(rt.alloc(), &mut Purse::of(65_535), &REORDERED, 65_527));
 }
 
-// What two acks are to a sender of two messages, and how many are acknowledged then.
-fn acks(alloc: Global) -> Option<(Ack, Ack, u64)> {
-    let mut sender = Sender::new(alloc).ok()?;
-    offer(alloc, &mut sender, b"a")?;
-    offer(alloc, &mut sender, b"b")?;
-    let old = sender.heard(1);
-    let moved = sender.heard(3);
-    Some((old, moved, sender.acked()))
+fn takes(alloc: Global, sender: &mut Sender, body: &Bytes, number: u64) -> bool {
+    body.len() <= 4_096
+        && sender.offered() < 1_000
+        && match sender.offer(alloc, body) {
+            Ok(given) => given == number,
+            Err(_) => false,
+        }
+}
+
+// Whether a message that is offered has this number.
+fn offers(alloc: Global, sender: &mut Sender, text: &[u8], number: u64) -> bool {
+    let mut body = Bytes::new(alloc);
+    body.add_all(text).is_ok() && takes(alloc, sender, &body, number)
+}
+
+// Whether an ack is this to a sender, of which so many messages are acknowledged then.
+fn hears(sender: &mut Sender, next: i64, ack: Ack, acked: u64) -> bool {
+    sender.heard(next) == ack && sender.acked() == acked
+}
+
+fn moves_on(alloc: Global, sender: &mut Sender) -> bool {
+    offers(alloc, sender, b"a", 1)
+        && offers(alloc, sender, b"b", 2)
+        && hears(sender, 1, Ack::Old, 0)
+        && hears(sender, 3, Ack::Moved, 2)
+}
+
+fn moves(alloc: Global) -> bool {
+    match Sender::new(alloc) {
+        Ok(mut sender) => moves_on(alloc, &mut sender),
+        Err(_) => false,
+    }
 }
 
 #[test]
 fn acks_move_the_sender(rt: HostRuntime) {
-    assert!(rt; acks(rt.alloc()) == Some((Ack::Old, Ack::Moved, 2)));
-}
-
-// The refusals of a transmission without purse and of one that isn't held, and what the purse has left.
-fn without_purse(alloc: Global) -> Option<(bool, bool, u32)> {
-    let mut sender = Sender::new(alloc).ok()?;
-    offer(alloc, &mut sender, b"a")?;
-    let mut purse = Purse::of(3);
-    let unpaid = sender.transmit(alloc, &mut purse, 1, Host(2)).err()?;
-    let unheld = sender.transmit(alloc, &mut purse, 2, Host(2)).err()?;
-    Some((
-        unpaid == TransmitFault::NoBound,
-        unheld == TransmitFault::NotHeld,
-        purse.left(),
-    ))
-}
-
-#[test]
-fn a_purse_of_three_stays(rt: HostRuntime) {
-    assert!(rt; without_purse(rt.alloc()) == Some((true, true, 3)));
-}
-
-// The refusal of an ack, and what the purse has left.
-fn no_ack(alloc: Global) -> Option<(bool, u32)> {
-    let receiver = Receiver::new(alloc).ok()?;
-    if receiver.delivered().len() > 1000 {
-        return None;
-    }
-    let mut purse = Purse::of(3);
-    let refusal = receiver.ack(alloc, &mut purse, Host(1)).err()?;
-    Some((refusal == AckFault::NoBound, purse.left()))
-}
-
-#[test]
-fn an_ack_needs_four(rt: HostRuntime) {
-    assert!(rt; no_ack(rt.alloc()) == Some((true, 3)));
+    assert!(rt; moves(rt.alloc()));
 }
