@@ -1,4 +1,5 @@
 ghost use Rattle.std.specs.Prelude.{◌≡◌, ◌≤◌, length, IfOk, IfSome};
+ghost use Rattle.std.specs.Str.{bytes_eq};
 ghost use Rattle.trace_lines.specs.Lines as spec;
 ghost use Rattle.trace_lines.specs.Traces as whole;
 
@@ -10,9 +11,16 @@ use plan_base::{Bytes, NoMemory};
 use std::alloc::Global;
 use std::str;
 
+/// The place of the first byte that is `sought`.
+pub(crate) fn place_of(text: &[u8], sought: u8) -> Option<usize>
+    ensures { IfSome result (λ i. i ≤ length text.now) }
+{
+    text.iter().position(|b| *b == sought)
+}
+
 /// The text up to the first blank, and what stands behind it: nothing where there is no blank.
 pub(crate) fn cut(text: &[u8]) -> (&[u8], &[u8]) {
-    match text.iter().position(|b| *b == b' ') {
+    match place_of(text, b' ') {
         Some(at) => {
             let (word, rest) = text.split_at(at);
             (word, rest.get(1..).unwrap_or(rest))
@@ -48,6 +56,15 @@ fn guess_entry(alloc: Global, line: &[u8]) -> Result<Option<Entry>, NoMemory> {
     }
 }
 
+/// Whether a line is the text of an entry.
+fn is_entry(alloc: Global, entry: &Entry, line: &[u8]) -> Result<bool, NoMemory>
+    ensures { IfOk result (λ same. same ≡ bytes_eq (spec.entry_text entry.now) line.now) }
+{
+    let mut text = Bytes::new(alloc);
+    put_entry(alloc, &mut text, entry)?;
+    Ok(text.as_slice() == line)
+}
+
 /// The entry whose text a line is. It is guessed, printed and compared.
 pub(crate) fn read_entry(alloc: Global, line: &[u8]) -> Result<Option<Entry>, NoMemory>
     ensures { IfOk result (λ r. IfSome r (λ e. spec.entry_text e ≡ line.now)) }
@@ -55,35 +72,45 @@ pub(crate) fn read_entry(alloc: Global, line: &[u8]) -> Result<Option<Entry>, No
     let Some(entry) = guess_entry(alloc, line)? else {
         return Ok(None);
     };
-    let mut text = Bytes::new(alloc);
-    put_entry(alloc, &mut text, &entry)?;
-    if text.as_slice() == line {
+    if is_entry(alloc, &entry, line)? {
         Ok(Some(entry))
     } else {
         Ok(None)
     }
 }
 
+/// A number behind its name, and what stands behind the blank after it.
+fn named(text: &[u8]) -> Option<(u64, &[u8])> {
+    let (_, rest) = cut(text);
+    let (number, rest) = cut(rest);
+    Some((long(number)?, rest))
+}
+
 /// The row that a line may be.
 fn guess_row(line: &[u8]) -> Option<Row> {
     let (family, rest) = cut(line);
-    let (_, rest) = cut(rest);
-    let (granted, rest) = cut(rest);
-    let (_, rest) = cut(rest);
-    let (hops, rest) = cut(rest);
-    let (_, rest) = cut(rest);
-    let (evals, rest) = cut(rest);
-    let (_, rest) = cut(rest);
-    let (live, rest) = cut(rest);
-    let (_, left) = cut(rest);
+    let (granted, rest) = named(rest)?;
+    let (hops, rest) = named(rest)?;
+    let (evals, rest) = named(rest)?;
+    let (live, rest) = named(rest)?;
+    let (left, _) = named(rest)?;
     Some(Row {
         family: family_of(family)?,
-        granted: long(granted)?,
-        hops: long(hops)?,
-        evals: long(evals)?,
-        live: long(live)?,
-        left: long(left)?,
+        granted,
+        hops,
+        evals,
+        live,
+        left,
     })
+}
+
+/// Whether a line is the text of a row.
+fn is_row(alloc: Global, row: Row, line: &[u8]) -> Result<bool, NoMemory>
+    ensures { IfOk result (λ same. same ≡ bytes_eq (whole.row_text row) line.now) }
+{
+    let mut text = Bytes::new(alloc);
+    put_row(alloc, &mut text, row)?;
+    Ok(text.as_slice() == line)
 }
 
 /// The row whose text a line is. It is guessed, printed and compared.
@@ -93,9 +120,7 @@ pub(crate) fn read_row(alloc: Global, line: &[u8]) -> Result<Option<Row>, NoMemo
     let Some(row) = guess_row(line) else {
         return Ok(None);
     };
-    let mut text = Bytes::new(alloc);
-    put_row(alloc, &mut text, row)?;
-    if text.as_slice() == line {
+    if is_row(alloc, row, line)? {
         Ok(Some(row))
     } else {
         Ok(None)
