@@ -11,22 +11,20 @@ use plan_base::{Bytes, NoMemory};
 use std::alloc::Global;
 use std::str;
 
-/// The place of the first byte that is `sought`.
-pub(crate) fn place_of(text: &[u8], sought: u8) -> Option<usize>
-    ensures { IfSome result (λ i. i ≤ length text.now) }
-{
-    text.iter().position(|b| *b == sought)
-}
-
-/// The text up to the first blank, and what stands behind it: nothing where there is no blank.
-pub(crate) fn cut(text: &[u8]) -> (&[u8], &[u8]) {
-    match place_of(text, b' ') {
+/// The text up to the first such sign, and what stands behind it: nothing where there is none.
+pub(crate) fn cut_at(text: &[u8], sign: u8) -> (&[u8], &[u8]) {
+    match text.iter().position(|b| *b == sign) {
         Some(at) => {
             let (word, rest) = text.split_at(at);
             (word, rest.get(1..).unwrap_or(rest))
         }
         None => (text, b""),
     }
+}
+
+/// The text up to the first blank, and what stands behind it: nothing where there is no blank.
+pub(crate) fn cut(text: &[u8]) -> (&[u8], &[u8]) {
+    cut_at(text, b' ')
 }
 
 /// What stands in front of the last blank, and the text behind it: nothing in front where there is
@@ -86,22 +84,34 @@ fn named(text: &[u8]) -> Option<(u64, &[u8])> {
     Some((long(number)?, rest))
 }
 
-/// The row that a line may be.
-fn guess_row(line: &[u8]) -> Option<Row> {
-    let (family, rest) = cut(line);
-    let (granted, rest) = named(rest)?;
-    let (hops, rest) = named(rest)?;
+/// The row with what the rest of its line may say: evals, what is under way and what is left.
+fn with_rest(row: Row, rest: &[u8]) -> Option<Row> {
     let (evals, rest) = named(rest)?;
     let (live, rest) = named(rest)?;
     let (left, _) = named(rest)?;
     Some(Row {
-        family: family_of(family)?,
-        granted,
-        hops,
         evals,
         live,
         left,
+        ..row
     })
+}
+
+/// The row that a line may be.
+fn guess_row(line: &[u8]) -> Option<Row> {
+    let (family, rest) = cut(line);
+    let family = family_of(family)?;
+    let (granted, rest) = named(rest)?;
+    let (hops, rest) = named(rest)?;
+    let row = Row {
+        family,
+        granted,
+        hops,
+        evals: 0,
+        live: 0,
+        left: 0,
+    };
+    with_rest(row, rest)
 }
 
 /// Whether a line is the text of a row.

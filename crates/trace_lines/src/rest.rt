@@ -1,4 +1,4 @@
-use crate::entry::{cut, cut_last, place_of};
+use crate::entry::{cut, cut_at, cut_last};
 use crate::line::{Line, Reason, What};
 use crate::number::{long, short};
 use crate::write::reason_word;
@@ -7,11 +7,10 @@ use std::alloc::Global;
 
 /// The family that a word may be, as `1.1`.
 pub(crate) fn family_of(word: &[u8]) -> Option<Family> {
-    let at = place_of(word, b'.')?;
-    let (source, serial) = word.split_at(at);
+    let (source, serial) = cut_at(word, b'.');
     Some(Family {
         source: Host(short(source)?),
-        serial: long(serial.get(1..)?)?,
+        serial: long(serial)?,
     })
 }
 
@@ -90,21 +89,28 @@ struct End<'a> {
     left: u32,
 }
 
-/// The end of a visit, as `1.1 () evals 0 left 6`.
-fn end_of(text: &[u8]) -> Option<End<'_>> {
-    let (family, rest) = cut(text);
-    let (front, left) = cut_last(rest);
+/// What a visit paid and left, as `() evals 0 left 6`, behind what stands in front of it.
+fn paid_of(text: &[u8]) -> Option<(&[u8], u32, u32)> {
+    let (front, left) = cut_last(text);
     let (front, _) = cut_last(front);
     let (front, evals) = cut_last(front);
     let (how, _) = cut_last(front);
+    Some((how, short(evals)?, short(left)?))
+}
+
+/// The end of a visit, as `1.1 () evals 0 left 6`.
+fn end_of(text: &[u8]) -> Option<End<'_>> {
+    let (family, rest) = cut(text);
+    let family = family_of(family)?;
+    let (how, evals, left) = paid_of(rest)?;
     if how.is_empty() {
         return None;
     }
     Some(End {
-        family: family_of(family)?,
+        family,
         how,
-        evals: short(evals)?,
-        left: short(left)?,
+        evals,
+        left,
     })
 }
 
@@ -293,13 +299,18 @@ fn lost(text: &[u8]) -> Option<Line> {
 
 /// The line that a word makes without a host.
 fn without_host(alloc: Global, word: &[u8], text: &[u8]) -> Result<Option<Line>, NoMemory> {
-    match word {
-        b"wire" => wire(alloc, text),
-        b"off" => Ok(off(text)),
-        b"again" => Ok(again(text)),
-        b"lost" => Ok(lost(text)),
-        b"nothing" => Ok(Some(Line::Nothing)),
-        _ => Ok(None),
+    if is(word, b"wire") {
+        wire(alloc, text)
+    } else if is(word, b"off") {
+        Ok(off(text))
+    } else if is(word, b"again") {
+        Ok(again(text))
+    } else if is(word, b"lost") {
+        Ok(lost(text))
+    } else if is(word, b"nothing") {
+        Ok(Some(Line::Nothing))
+    } else {
+        Ok(None)
     }
 }
 

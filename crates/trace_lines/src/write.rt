@@ -253,6 +253,15 @@ pub(crate) fn put_entry(alloc: Global, out: &mut Bytes, entry: &Entry) -> Result
     put_line(alloc, out, &entry.line)
 }
 
+/// The end of a row: evals, what is under way and what is left.
+fn put_row_end(alloc: Global, out: &mut Bytes, row: Row) -> Result<(), NoMemory>
+    ensures { OnOk result (out.new ≡ out.old ++ (whole.named_text (codes " evals ") row.evals ++ (whole.named_text (codes " live ") row.live ++ whole.named_text (codes " left ") row.left))) }
+{
+    put_named(alloc, out, b" evals ", row.evals)?;
+    put_named(alloc, out, b" live ", row.live)?;
+    put_named(alloc, out, b" left ", row.left)
+}
+
 /// Appends a row of a ledger, without a line feed.
 #[tactic(auto, unfolding(crate::specs::Traces::row_text))]
 pub(crate) fn put_row(alloc: Global, out: &mut Bytes, row: Row) -> Result<(), NoMemory>
@@ -261,7 +270,5 @@ pub(crate) fn put_row(alloc: Global, out: &mut Bytes, row: Row) -> Result<(), No
     put_family(alloc, out, row.family)?;
     put_named(alloc, out, b" granted ", row.granted)?;
     put_named(alloc, out, b" hops ", row.hops)?;
-    put_named(alloc, out, b" evals ", row.evals)?;
-    put_named(alloc, out, b" live ", row.live)?;
-    put_named(alloc, out, b" left ", row.left)
+    put_row_end(alloc, out, row)
 }
