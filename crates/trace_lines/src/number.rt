@@ -22,5 +22,5 @@ pub(crate) fn long(word: &[u8]) -> Option<u64> {
 
 /// The same below 2^32.
 pub(crate) fn short(word: &[u8]) -> Option<u32> {
-    str::from_utf8(word).ok()?.parse::<u32>().ok()
+    u32::try_from(long(word)?).ok()
 }

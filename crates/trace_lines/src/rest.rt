@@ -1,16 +1,16 @@
-use crate::entry::{cut, cut_last};
+use crate::entry::{cut, cut_at, cut_last};
 use crate::line::{Line, Reason, What};
 use crate::number::{long, short};
+use crate::write::reason_word;
 use plan_base::{Bytes, Dev, Family, Host, NoMemory};
 use std::alloc::Global;
 
 /// The family that a word may be, as `1.1`.
 pub(crate) fn family_of(word: &[u8]) -> Option<Family> {
-    let at = word.iter().position(|b| *b == b'.')?;
-    let (source, serial) = word.split_at(at);
+    let (source, serial) = cut_at(word, b'.');
     Some(Family {
         source: Host(short(source)?),
-        serial: long(serial.get(1..)?)?,
+        serial: long(serial)?,
     })
 }
 
@@ -31,16 +31,21 @@ fn bound_of(text: &[u8]) -> Option<(Family, u32)> {
 }
 
 fn reason_of(word: &[u8]) -> Option<Reason> {
-    match word {
-        b"NoBound" => Some(Reason::NoBound),
-        b"NoService" => Some(Reason::NoService),
-        b"NoRoute" => Some(Reason::NoRoute),
-        b"QueueFull" => Some(Reason::QueueFull),
-        b"LinkSpent" => Some(Reason::LinkSpent),
-        b"Repeated" => Some(Reason::Repeated),
-        b"TooOld" => Some(Reason::TooOld),
-        _ => None,
+    let reasons = [
+        Reason::NoBound,
+        Reason::NoService,
+        Reason::NoRoute,
+        Reason::QueueFull,
+        Reason::LinkSpent,
+        Reason::Repeated,
+        Reason::TooOld,
+    ];
+    for reason in &reasons {
+        if is(word, reason_word(*reason)) {
+            return Some(*reason);
+        }
     }
+    None
 }
 
 /// Whether these words say what else may be dropped or refused.
@@ -58,6 +63,11 @@ fn copied(alloc: Global, text: &[u8]) -> Result<Bytes, NoMemory> {
     Ok(Bytes::of(Vec::from_slice(alloc, text)?))
 }
 
+fn dropped_for(h: Host, reason: Reason, text: &[u8]) -> Option<Line> {
+    let (f, bound) = bound_of(text)?;
+    Some(Line::Dropped(h, reason, f, bound))
+}
+
 /// What was dropped or refused at a host.
 fn dropped(alloc: Global, h: Host, text: &[u8]) -> Result<Option<Line>, NoMemory> {
     if is_refusal(text) {
@@ -67,7 +77,7 @@ fn dropped(alloc: Global, h: Host, text: &[u8]) -> Result<Option<Line>, NoMemory
     let Some(reason) = reason_of(word) else {
         return Ok(None);
     };
-    Ok(bound_of(rest).map(|(f, bound)| Line::Dropped(h, reason, f, bound)))
+    Ok(dropped_for(h, reason, rest))
 }
 
 /// The parts of the end of a visit: the family, the value or the exception, evals and what is left.
@@ -79,21 +89,28 @@ struct End<'a> {
     left: u32,
 }
 
-/// The end of a visit, as `1.1 () evals 0 left 6`.
-fn end_of(text: &[u8]) -> Option<End<'_>> {
-    let (family, rest) = cut(text);
-    let (front, left) = cut_last(rest);
+/// What a visit paid and left, as `() evals 0 left 6`, behind what stands in front of it.
+fn paid_of(text: &[u8]) -> Option<(&[u8], u32, u32)> {
+    let (front, left) = cut_last(text);
     let (front, _) = cut_last(front);
     let (front, evals) = cut_last(front);
     let (how, _) = cut_last(front);
+    Some((how, short(evals)?, short(left)?))
+}
+
+/// The end of a visit, as `1.1 () evals 0 left 6`.
+fn end_of(text: &[u8]) -> Option<End<'_>> {
+    let (family, rest) = cut(text);
+    let family = family_of(family)?;
+    let (how, evals, left) = paid_of(rest)?;
     if how.is_empty() {
         return None;
     }
     Some(End {
-        family: family_of(family)?,
+        family,
         how,
-        evals: short(evals)?,
-        left: short(left)?,
+        evals,
+        left,
     })
 }
 
@@ -193,25 +210,60 @@ fn forged(h: Host, text: &[u8]) -> Option<Line> {
     Some(Line::Forged(h, f, bound))
 }
 
+fn advert(h: Host, text: &[u8]) -> Option<Line> {
+    Some(Line::Advert(h, Dev(signed(text)?)))
+}
+
+fn heard(h: Host, text: &[u8]) -> Option<Line> {
+    Some(Line::Heard(h, Dev(signed(text)?)))
+}
+
+fn ticked(h: Host, text: &[u8]) -> Option<Line> {
+    let (_, now) = cut(text);
+    Some(Line::Ticked(h, long(now)?))
+}
+
+/// The line without a text of its own that a word makes at a host with what stands behind.
+fn plain_at_host(word: &[u8], h: Host, text: &[u8]) -> Option<Line> {
+    if is(word, b"inject") {
+        injected(h, text)
+    } else if is(word, b"forged") {
+        forged(h, text)
+    } else if is(word, b"arrive") {
+        arrived(h, text)
+    } else if is(word, b"spent") {
+        spent(h, text)
+    } else if is(word, b"queue") {
+        queued(h, text)
+    } else if is(word, b"send") {
+        sent(h, text)
+    } else if is(word, b"advert") {
+        advert(h, text)
+    } else if is(word, b"heard") {
+        heard(h, text)
+    } else if is(word, b"tick") {
+        ticked(h, text)
+    } else {
+        None
+    }
+}
+
 /// The line that a word makes at a host with what stands behind.
 fn at_host(alloc: Global, word: &[u8], h: Host, text: &[u8]) -> Result<Option<Line>, NoMemory> {
-    match word {
-        b"print" => printed(alloc, h, text),
-        b"port" => delivered(alloc, h, text),
-        b"value" => gave(alloc, h, text),
-        b"raised" => raised(alloc, h, text),
-        b"drop" => dropped(alloc, h, text),
-        b"handler" => handled(alloc, h, text),
-        b"inject" => Ok(injected(h, text)),
-        b"forged" => Ok(forged(h, text)),
-        b"arrive" => Ok(arrived(h, text)),
-        b"spent" => Ok(spent(h, text)),
-        b"queue" => Ok(queued(h, text)),
-        b"send" => Ok(sent(h, text)),
-        b"advert" => Ok(signed(text).map(|d| Line::Advert(h, Dev(d)))),
-        b"heard" => Ok(signed(text).map(|d| Line::Heard(h, Dev(d)))),
-        b"tick" => Ok(long(cut(text).1).map(|now| Line::Ticked(h, now))),
-        _ => Ok(None),
+    if is(word, b"print") {
+        printed(alloc, h, text)
+    } else if is(word, b"port") {
+        delivered(alloc, h, text)
+    } else if is(word, b"value") {
+        gave(alloc, h, text)
+    } else if is(word, b"raised") {
+        raised(alloc, h, text)
+    } else if is(word, b"drop") {
+        dropped(alloc, h, text)
+    } else if is(word, b"handler") {
+        handled(alloc, h, text)
+    } else {
+        Ok(plain_at_host(word, h, text))
     }
 }
 
@@ -229,16 +281,36 @@ fn wire(alloc: Global, text: &[u8]) -> Result<Option<Line>, NoMemory> {
     Ok(Some(Line::WireShown(n, copied(alloc, hex)?)))
 }
 
+fn off(text: &[u8]) -> Option<Line> {
+    Some(Line::Off(short(text)?))
+}
+
+fn again(text: &[u8]) -> Option<Line> {
+    Some(Line::Again(short(text)?))
+}
+
+fn lost(text: &[u8]) -> Option<Line> {
+    if is(text, b"advert") {
+        return Some(Line::LostAdvert);
+    }
+    let (f, bound) = bound_of(text)?;
+    Some(Line::Lost(f, bound))
+}
+
 /// The line that a word makes without a host.
 fn without_host(alloc: Global, word: &[u8], text: &[u8]) -> Result<Option<Line>, NoMemory> {
-    match word {
-        b"wire" => wire(alloc, text),
-        b"off" => Ok(short(text).map(Line::Off)),
-        b"again" => Ok(short(text).map(Line::Again)),
-        b"lost" if is(text, b"advert") => Ok(Some(Line::LostAdvert)),
-        b"lost" => Ok(bound_of(text).map(|(f, bound)| Line::Lost(f, bound))),
-        b"nothing" => Ok(Some(Line::Nothing)),
-        _ => Ok(None),
+    if is(word, b"wire") {
+        wire(alloc, text)
+    } else if is(word, b"off") {
+        Ok(off(text))
+    } else if is(word, b"again") {
+        Ok(again(text))
+    } else if is(word, b"lost") {
+        Ok(lost(text))
+    } else if is(word, b"nothing") {
+        Ok(Some(Line::Nothing))
+    } else {
+        Ok(None)
     }
 }
 

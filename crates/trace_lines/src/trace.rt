@@ -1,4 +1,4 @@
-ghost use Rattle.std.specs.Prelude.{◌≡◌, ◌++◌, ◌<◌, codes, length, IfOk, IfSome};
+ghost use Rattle.std.specs.Prelude.{◌≡◌, ◌++◌, ◌<◌, codes, length, IfOk, IfSome, OnOk};
 ghost use Rattle.trace_lines.specs.Traces as whole;
 
 use crate::entry::{read_entry, read_row};
@@ -47,60 +47,82 @@ fn after<'a>(bytes: &'a [u8], text: &[u8]) -> Option<&'a [u8]>
     if line == text { Some(rest) } else { None }
 }
 
-/// The entries that the bytes begin with, what stands behind them, and the number of the line there.
-fn read_entries(
+/// Adds the entries that the bytes begin with, and answers what stands behind them, and the number
+/// of the line there.
+fn add_entries<'a>(
     alloc: Global,
-    bytes: &[u8],
+    entries: &mut Items<Entry>,
+    bytes: &'a [u8],
     first: u64,
-) -> Result<(Items<Entry>, &[u8], u64), NoMemory>
-    ensures { IfOk result (λ p. whole.entries_text p.0 ++ p.1.now ≡ bytes.now) }
+) -> Result<(&'a [u8], u64), NoMemory>
+    ensures { IfOk result (λ p. whole.entries_text entries.new ++ p.0.now ≡ whole.entries_text entries.old ++ bytes.now) }
 {
-    let mut entries = Items::new(alloc);
     let mut rest = bytes;
     let mut number = first;
     while let Some((line, more)) = next_line(rest) {
         let Some(entry) = read_entry(alloc, line)? else {
-            return Ok((entries, rest, number));
+            return Ok((rest, number));
         };
         entries.add(entry)?;
         rest = more;
         number = number.saturating_add(1);
     }
-    Ok((entries, rest, number))
+    Ok((rest, number))
 }
 
-/// The rows of a ledger that the bytes begin with, likewise.
-fn read_rows(alloc: Global, bytes: &[u8], first: u64) -> Result<(Items<Row>, &[u8], u64), NoMemory>
-    ensures { IfOk result (λ p. whole.rows_text p.0 ++ p.1.now ≡ bytes.now) }
+/// Adds the rows of a ledger that the bytes begin with, likewise.
+fn add_rows<'a>(
+    alloc: Global,
+    rows: &mut Items<Row>,
+    bytes: &'a [u8],
+    first: u64,
+) -> Result<(&'a [u8], u64), NoMemory>
+    ensures { IfOk result (λ p. whole.rows_text rows.new ++ p.0.now ≡ whole.rows_text rows.old ++ bytes.now) }
 {
-    let mut rows = Items::new(alloc);
     let mut rest = bytes;
     let mut number = first;
     while let Some((line, more)) = next_line(rest) {
         let Some(row) = read_row(alloc, line)? else {
-            return Ok((rows, rest, number));
+            return Ok((rest, number));
         };
         rows.add(row)?;
         rest = more;
         number = number.saturating_add(1);
     }
-    Ok((rows, rest, number))
+    Ok((rest, number))
 }
 
-/// The ledger where the bytes begin with one, likewise.
-fn read_ledger(
-    alloc: Global,
-    bytes: &[u8],
-    first: u64,
-) -> Result<(Option<Items<Row>>, &[u8], u64), NoMemory>
-    ensures { IfOk result (λ p. whole.ledger_text p.0 ++ p.1.now ≡ bytes.now) }
+/// Whether the bytes are the last line of a trace, whose number this is.
+fn end_at(bytes: &[u8], number: u64) -> Result<(), TraceFault>
+    ensures { OnOk result (whole.as_line (codes "end") ≡ bytes.now) }
+{
+    match after(bytes, b"end") {
+        Some(b"") => Ok(()),
+        Some(_) => Err(TraceFault::BadLine(number.saturating_add(1))),
+        None => Err(TraceFault::BadLine(number)),
+    }
+}
+
+/// The rows of a ledger, behind which the trace ends.
+fn read_rows(alloc: Global, bytes: &[u8], first: u64) -> Result<Items<Row>, TraceFault>
+    ensures { IfOk result (λ rows. whole.rows_text rows ++ whole.as_line (codes "end") ≡ bytes.now) }
+{
+    let mut rows = Items::new(alloc);
+    let (rest, number) = add_rows(alloc, &mut rows, bytes, first)?;
+    end_at(rest, number)?;
+    Ok(rows)
+}
+
+/// The ledger where the bytes begin with one. Behind it the trace ends.
+fn read_ledger(alloc: Global, bytes: &[u8], first: u64) -> Result<Option<Items<Row>>, TraceFault>
+    ensures { IfOk result (λ rows. whole.ledger_text rows ++ whole.as_line (codes "end") ≡ bytes.now) }
 {
     match after(bytes, b"ledger") {
-        Some(more) => {
-            let (rows, rest, number) = read_rows(alloc, more, first.saturating_add(1))?;
-            Ok((Some(rows), rest, number))
+        Some(more) => Ok(Some(read_rows(alloc, more, first.saturating_add(1))?)),
+        None => {
+            end_at(bytes, first)?;
+            Ok(None)
         }
-        None => Ok((None, bytes, first)),
     }
 }
 
@@ -114,11 +136,8 @@ pub fn read_trace(alloc: Global, bytes: &[u8]) -> Result<Trace, TraceFault>
     let Some(rest) = after(bytes, b"planet trace 1") else {
         return Err(TraceFault::BadLine(1));
     };
-    let (entries, rest, number) = read_entries(alloc, rest, 2)?;
-    let (ledger, rest, number) = read_ledger(alloc, rest, number)?;
-    match after(rest, b"end") {
-        Some(b"") => Ok(Trace { entries, ledger }),
-        Some(_) => Err(TraceFault::BadLine(number.saturating_add(1))),
-        None => Err(TraceFault::BadLine(number)),
-    }
+    let mut entries = Items::new(alloc);
+    let (rest, number) = add_entries(alloc, &mut entries, rest, 2)?;
+    let ledger = read_ledger(alloc, rest, number)?;
+    Ok(Trace { entries, ledger })
 }

@@ -8,41 +8,60 @@ use crate::number::put_number;
 use plan_base::{Bytes, Dev, Family, Host, NoMemory};
 use std::alloc::Global;
 
+/// A number behind its name.
+fn put_named(alloc: Global, out: &mut Bytes, name: &[u8], n: u64) -> Result<(), NoMemory>
+    ensures { OnOk result (out.new ≡ out.old ++ whole.named_text name.now n) }
+{
+    out.add_all(name)?;
+    put_number(alloc, out, n)
+}
+
 /// Appends a family, as `1.1`.
 pub fn put_family(alloc: Global, out: &mut Bytes, f: Family) -> Result<(), NoMemory>
     ensures { OnOk result (out.new ≡ out.old ++ spec.family_text f) }
 {
     put_number(alloc, out, u64::from(f.source.0))?;
-    out.add_all(b".")?;
-    put_number(alloc, out, f.serial)
+    put_named(alloc, out, b".", f.serial)
+}
+
+/// A family, a blank in front of it.
+fn put_of(alloc: Global, out: &mut Bytes, f: Family) -> Result<(), NoMemory>
+    ensures { OnOk result (out.new ≡ out.old ++ (codes " " ++ spec.family_text f)) }
+{
+    out.add_all(b" ")?;
+    put_family(alloc, out, f)
+}
+
+/// A word, a blank in front of it.
+fn put_word(out: &mut Bytes, word: &[u8]) -> Result<(), NoMemory>
+    ensures { OnOk result (out.new ≡ out.old ++ (codes " " ++ word.now)) }
+{
+    out.add_all(b" ")?;
+    out.add_all(word)?;
+    Ok(())
 }
 
 /// A device.
 fn put_device(alloc: Global, out: &mut Bytes, dev: Dev) -> Result<(), NoMemory>
     ensures { OnOk result (out.new ≡ out.old ++ spec.device_text dev) }
 {
-    out.add_all(b" %")?;
-    put_number(alloc, out, u64::from(dev.0))
+    put_named(alloc, out, b" %", u64::from(dev.0))
 }
 
 /// A family with its bound.
 fn put_bound(alloc: Global, out: &mut Bytes, f: Family, bound: u32) -> Result<(), NoMemory>
     ensures { OnOk result (out.new ≡ out.old ++ spec.bound_text f bound) }
 {
-    out.add_all(b" ")?;
-    put_family(alloc, out, f)?;
-    out.add_all(b" bound ")?;
-    put_number(alloc, out, u64::from(bound))
+    put_of(alloc, out, f)?;
+    put_named(alloc, out, b" bound ", u64::from(bound))
 }
 
 /// What a visit paid and left.
 fn put_paid(alloc: Global, out: &mut Bytes, evals: u32, left: u32) -> Result<(), NoMemory>
     ensures { OnOk result (out.new ≡ out.old ++ spec.paid_text evals left) }
 {
-    out.add_all(b" evals ")?;
-    put_number(alloc, out, u64::from(evals))?;
-    out.add_all(b" left ")?;
-    put_number(alloc, out, u64::from(left))
+    put_named(alloc, out, b" evals ", u64::from(evals))?;
+    put_named(alloc, out, b" left ", u64::from(left))
 }
 
 /// How a visit ended, with what it paid and left.
@@ -56,20 +75,16 @@ fn put_end(
 ) -> Result<(), NoMemory>
     ensures { OnOk result (out.new ≡ out.old ++ spec.end_text f how.now evals left) }
 {
-    out.add_all(b" ")?;
-    put_family(alloc, out, f)?;
-    out.add_all(b" ")?;
-    out.add_all(how)?;
+    put_of(alloc, out, f)?;
+    put_word(out, how)?;
     put_paid(alloc, out, evals, left)
 }
 
 fn put_spent(alloc: Global, out: &mut Bytes, f: Family, left: u32) -> Result<(), NoMemory>
     ensures { OnOk result (out.new ≡ out.old ++ (codes " " ++ (spec.family_text f ++ (codes " left " ++ decimal left)))) }
 {
-    out.add_all(b" ")?;
-    put_family(alloc, out, f)?;
-    out.add_all(b" left ")?;
-    put_number(alloc, out, u64::from(left))
+    put_of(alloc, out, f)?;
+    put_named(alloc, out, b" left ", u64::from(left))
 }
 
 /// A name with the bound that is told to it.
@@ -77,8 +92,7 @@ fn put_told(alloc: Global, out: &mut Bytes, name: &[u8], bound: u32) -> Result<(
     ensures { OnOk result (out.new ≡ out.old ++ spec.told_text name.now bound) }
 {
     out.add_all(name)?;
-    out.add_all(b" bound ")?;
-    put_number(alloc, out, u64::from(bound))
+    put_named(alloc, out, b" bound ", u64::from(bound))
 }
 
 /// A handler that is called, with the bound that it has.
@@ -91,8 +105,7 @@ fn put_called(
 ) -> Result<(), NoMemory>
     ensures { OnOk result (out.new ≡ out.old ++ spec.called_text f name.now bound) }
 {
-    out.add_all(b" ")?;
-    put_family(alloc, out, f)?;
+    put_of(alloc, out, f)?;
     out.add_all(b" ")?;
     put_told(alloc, out, name, bound)
 }
@@ -121,8 +134,7 @@ fn put_dropped(
 ) -> Result<(), NoMemory>
     ensures { OnOk result (out.new ≡ out.old ++ (codes " " ++ (spec.reason_text reason ++ spec.bound_text f bound))) }
 {
-    out.add_all(b" ")?;
-    out.add_all(reason_word(reason))?;
+    put_word(out, reason_word(reason))?;
     put_bound(alloc, out, f, bound)
 }
 
@@ -159,39 +171,25 @@ fn put_sent(alloc: Global, out: &mut Bytes, dev: Dev, what: What) -> Result<(), 
     put_what(alloc, out, what)
 }
 
-/// A word, a blank in front of it.
-fn put_word(out: &mut Bytes, word: &[u8]) -> Result<(), NoMemory>
-    ensures { OnOk result (out.new ≡ out.old ++ (codes " " ++ word.now)) }
-{
-    out.add_all(b" ")?;
-    out.add_all(word)?;
-    Ok(())
-}
-
 /// A number, a blank in front of it.
 fn put_count(alloc: Global, out: &mut Bytes, n: u64) -> Result<(), NoMemory>
     ensures { OnOk result (out.new ≡ out.old ++ (codes " " ++ decimal n)) }
 {
-    out.add_all(b" ")?;
-    put_number(alloc, out, n)
+    put_named(alloc, out, b" ", n)
 }
 
 /// A number and a text, a blank in front of each.
 fn put_pair(alloc: Global, out: &mut Bytes, n: u64, text: &[u8]) -> Result<(), NoMemory>
     ensures { OnOk result (out.new ≡ out.old ++ (codes " " ++ (decimal n ++ (codes " " ++ text.now)))) }
 {
-    out.add_all(b" ")?;
-    put_number(alloc, out, n)?;
-    out.add_all(b" ")?;
-    out.add_all(text)?;
-    Ok(())
+    put_count(alloc, out, n)?;
+    put_word(out, text)
 }
 
 fn put_now(alloc: Global, out: &mut Bytes, now: u64) -> Result<(), NoMemory>
     ensures { OnOk result (out.new ≡ out.old ++ (codes " now " ++ decimal now)) }
 {
-    out.add_all(b" now ")?;
-    put_number(alloc, out, now)
+    put_named(alloc, out, b" now ", now)
 }
 
 /// Appends what stands behind the word and the host of a line.
@@ -230,11 +228,10 @@ pub fn put_rest(alloc: Global, out: &mut Bytes, line: &Line) -> Result<(), NoMem
 fn put_host(alloc: Global, out: &mut Bytes, host: Option<Host>) -> Result<(), NoMemory>
     ensures { OnOk result (out.new ≡ out.old ++ spec.host_text host) }
 {
-    if let Some(h) = host {
-        out.add_all(b" @")?;
-        put_number(alloc, out, u64::from(h.0))?;
+    match host {
+        Some(h) => put_named(alloc, out, b" @", u64::from(h.0)),
+        None => Ok(()),
     }
-    Ok(())
 }
 
 #[tactic(auto, unfolding(crate::specs::Lines::line_text))]
@@ -256,12 +253,13 @@ pub(crate) fn put_entry(alloc: Global, out: &mut Bytes, entry: &Entry) -> Result
     put_line(alloc, out, &entry.line)
 }
 
-/// A number behind its name.
-fn put_named(alloc: Global, out: &mut Bytes, name: &[u8], n: u64) -> Result<(), NoMemory>
-    ensures { OnOk result (out.new ≡ out.old ++ whole.named_text name.now n) }
+/// The end of a row: evals, what is under way and what is left.
+fn put_row_end(alloc: Global, out: &mut Bytes, row: Row) -> Result<(), NoMemory>
+    ensures { OnOk result (out.new ≡ out.old ++ (whole.named_text (codes " evals ") row.evals ++ (whole.named_text (codes " live ") row.live ++ whole.named_text (codes " left ") row.left))) }
 {
-    out.add_all(name)?;
-    put_number(alloc, out, n)
+    put_named(alloc, out, b" evals ", row.evals)?;
+    put_named(alloc, out, b" live ", row.live)?;
+    put_named(alloc, out, b" left ", row.left)
 }
 
 /// Appends a row of a ledger, without a line feed.
@@ -272,7 +270,5 @@ pub(crate) fn put_row(alloc: Global, out: &mut Bytes, row: Row) -> Result<(), No
     put_family(alloc, out, row.family)?;
     put_named(alloc, out, b" granted ", row.granted)?;
     put_named(alloc, out, b" hops ", row.hops)?;
-    put_named(alloc, out, b" evals ", row.evals)?;
-    put_named(alloc, out, b" live ", row.live)?;
-    put_named(alloc, out, b" left ", row.left)
+    put_row_end(alloc, out, row)
 }

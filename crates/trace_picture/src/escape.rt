@@ -1,19 +1,12 @@
-ghost use Rattle.std.specs.Prelude.{◌≡◌, ◌++◌, ◌<◌, ◌≤◌, ◌==◌, ◌&&◌, ◌||◌, true, length, take, get_or, nat_lt, nat_le, OnOk};
+ghost use Rattle.std.specs.Prelude.{◌≡◌, ◌++◌, codes, ◌<◌, ◌≤◌, ◌==◌, ◌&&◌, ◌||◌, true, length, take, get_or, nat_lt, nat_le, OnOk};
 ghost use Rattle.std.specs.List.{list_all};
 ghost use Rattle.trace_picture.specs.Escapes.{byte_text, seen_with, escaped_from, escaped, is_harmless, begins_character, cut_place, shown};
 
+use crate::pieces::put;
 use plan_base::{Bytes, NoMemory};
 
 /// The longest label that is shown whole.
 const MOST_SHOWN: usize = 36;
-
-/// Appends bytes.
-fn put(out: &mut Bytes, more: &[u8]) -> Result<(), NoMemory>
-    ensures { OnOk result (out.new ≡ out.old ++ more.now) }
-{
-    out.add_all(more)?;
-    Ok(())
-}
 
 /// Whether this byte ends U+FFFE or U+FFFF, which XML has not.
 fn is_end_of_none(seen: u8, b: u8) -> bool
@@ -122,6 +115,14 @@ fn cut_place(text: &[u8]) -> usize
     }
 }
 
+/// Appends the front of a long label, escaped.
+fn put_front(out: &mut Bytes, front: &[u8]) -> Result<(), NoMemory>
+    ensures { OnOk result (out.new ≡ out.old ++ (escaped front.now ++ codes "..")) }
+{
+    put_escaped(out, front)?;
+    put(out, b"..")
+}
+
 /// Appends a label, escaped: of a long one the front, and the whole as a note that is shown on
 /// request.
 #[tactic(auto, unfolding(crate::specs::Escapes::shown))]
@@ -131,10 +132,8 @@ pub(crate) fn put_shown(out: &mut Bytes, label: &[u8]) -> Result<(), NoMemory>
     if is_short(label) {
         return put_escaped(out, label);
     }
-    out.add_all(b"<title>")?;
+    put(out, b"<title>")?;
     put_escaped(out, label)?;
-    out.add_all(b"</title>")?;
-    put_escaped(out, &label[..cut_place(label)])?;
-    out.add_all(b"..")?;
-    Ok(())
+    put(out, b"</title>")?;
+    put_front(out, &label[..cut_place(label)])
 }

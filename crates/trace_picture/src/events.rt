@@ -4,10 +4,9 @@ ghost use Rattle.trace_picture.specs.Places.{y_of};
 ghost use Rattle.trace_picture.specs.Pictures.{number_text, across_text, event_text};
 
 use crate::drawing::{Mark, Spot};
-use crate::pieces::{put_path, put_text, y_of};
+use crate::pieces::{put, put_before, put_path, put_text, y_of};
 use plan_base::{Bytes, NoMemory};
 use std::alloc::Global;
-use trace_lines::put_number;
 
 /// Pixels from the top to the line that the number of an event stands on.
 fn number_y(row: u32) -> u64
@@ -22,9 +21,7 @@ fn put_event_number(alloc: Global, out: &mut Bytes, event: u64, row: u32) -> Res
     ensures { OnOk result (out.new ≡ out.old ++ number_text event row) }
 {
     put_text(alloc, out, b"e", 34, number_y(row))?;
-    put_number(alloc, out, event)?;
-    out.add_all(b"</text>\n")?;
-    Ok(())
+    put_before(alloc, out, event, b"</text>\n")
 }
 
 /// Appends a line across, above a row.
@@ -33,8 +30,7 @@ fn put_across(alloc: Global, out: &mut Bytes, row: u32) -> Result<(), NoMemory>
     ensures { OnOk result (out.new ≡ out.old ++ across_text row) }
 {
     put_path(alloc, out, b"e", Spot { across: 0, row })?;
-    out.add_all(b"m9 -9h9999'/>\n")?;
-    Ok(())
+    put(out, b"m9 -9h9999'/>\n")
 }
 
 /// Appends the number of an event and a line across, where it begins.

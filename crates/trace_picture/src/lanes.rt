@@ -22,18 +22,17 @@ fn add_host(hosts: &mut Vec<u32>, host: u32) -> Result<(), AllocError> {
     Ok(())
 }
 
-/// The hosts that the lines name, in rising order.
-pub(crate) fn hosts_of(alloc: Global, entries: &[Entry]) -> Result<Vec<u32>, DrawFault> {
-    let mut hosts = Vec::new(alloc);
+/// Adds the hosts that the lines name, in rising order.
+pub(crate) fn add_hosts(hosts: &mut Vec<u32>, entries: &[Entry]) -> Result<(), DrawFault> {
     for entry in entries {
         if let Some(h) = entry.line.host() {
-            add_host(&mut hosts, h.0)?;
+            add_host(hosts, h.0)?;
             if hosts.len() > MOST_HOSTS {
                 return Err(DrawFault::TooManyHosts);
             }
         }
     }
-    Ok(hosts)
+    Ok(())
 }
 
 /// Where a host's column stands.

@@ -2,11 +2,11 @@ ghost use Rattle.std.specs.Prelude.{◌≡◌, ◌++◌, OnOk};
 ghost use Rattle.std.specs.List.{flat_map};
 ghost use Rattle.trace_picture.specs.Pictures.{heading_text, field_text, paid_text, row_start, granted_text, row_text, ledger_text};
 
-use crate::pieces::{put_text, y_of};
+use crate::pieces::{put, put_before, put_text, put_three, y_of};
 use plan_base::{Bytes, NoMemory};
 use plan_items::Items;
 use std::alloc::Global;
-use trace_lines::{Row, put_family, put_number};
+use trace_lines::{Row, put_family};
 
 /// The heading of the ledger.
 #[tactic(auto, unfolding(crate::specs::Pictures::heading_text))]
@@ -23,12 +23,8 @@ fn heading() -> &'static [u8]
 fn put_field(alloc: Global, out: &mut Bytes, place: &[u8], n: u64) -> Result<(), NoMemory>
     ensures { OnOk result (out.new ≡ out.old ++ field_text place.now n) }
 {
-    out.add_all(b"<tspan x='")?;
-    out.add_all(place)?;
-    out.add_all(b"'>")?;
-    put_number(alloc, out, n)?;
-    out.add_all(b"</tspan>")?;
-    Ok(())
+    put_three(out, b"<tspan x='", place, b"'>")?;
+    put_before(alloc, out, n, b"</tspan>")
 }
 
 /// Appends what a family paid for, and has left.
@@ -55,9 +51,9 @@ fn row_start() -> &'static [u8]
 fn put_granted(alloc: Global, out: &mut Bytes, r: Row) -> Result<(), NoMemory>
     ensures { OnOk result (out.new ≡ out.old ++ granted_text r) }
 {
-    out.add_all(row_start())?;
+    put(out, row_start())?;
     put_family(alloc, out, r.family)?;
-    out.add_all(b"</tspan>")?;
+    put(out, b"</tspan>")?;
     put_field(alloc, out, b"190", r.granted)
 }
 
@@ -68,8 +64,7 @@ fn put_row(alloc: Global, out: &mut Bytes, r: Row) -> Result<(), NoMemory>
 {
     put_granted(alloc, out, r)?;
     put_paid(alloc, out, r)?;
-    out.add_all(b"\n")?;
-    Ok(())
+    put(out, b"\n")
 }
 
 /// Appends the rows of the ledger.
@@ -96,8 +91,7 @@ pub(crate) fn put_ledger(
         return Ok(());
     };
     put_text(alloc, out, b"r", 100, y_of(bottom) + 40)?;
-    out.add_all(heading())?;
+    put(out, heading())?;
     put_rows(alloc, out, rows.as_slice())?;
-    out.add_all(b"</text>\n")?;
-    Ok(())
+    put(out, b"</text>\n")
 }

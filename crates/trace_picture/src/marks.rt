@@ -3,7 +3,7 @@ ghost use Rattle.trace_picture.specs.Kinds.{kind_of, label_text};
 ghost use Rattle.trace_picture.specs.Charts.{lines_of, kinds_of, labels_of, Draws};
 
 use crate::drawing::{Drawing, Kind, Mark, Spot};
-use crate::lanes::{hosts_of, lanes_of};
+use crate::lanes::lanes_of;
 use crate::sights::{Sight, Sights};
 use crate::words::{kind_of, put_label};
 use plan_base::{Bytes, NoMemory};
@@ -120,25 +120,33 @@ fn copied(alloc: Global, ledger: &Option<Items<Row>>) -> Result<Option<Items<Row
     }
 }
 
+/// The chart of a trace whose lines are seen so.
+fn drawing_of(alloc: Global, trace: &Trace, sights: &Sights) -> Result<Drawing, NoMemory>
+    ensures { IfOk result (λ d. Draws trace.now d) }
+{
+    let entries = trace.entries.as_slice();
+    let lanes = lanes_of(alloc, sights.hosts())?;
+    let marks = marks_of(alloc, entries, sights)?;
+    let ledger = copied(alloc, &trace.ledger)?;
+    let width = width_of(lanes.len());
+    let bottom = sights.bottom();
+    let height = height_of(bottom, &trace.ledger);
+    Ok(Drawing {
+        lanes,
+        marks,
+        bottom,
+        ledger,
+        width,
+        height,
+    })
+}
+
 /// The chart of a trace. It has as many arrows as frames went onto the wire, as many crosses as
 /// frames were lost, and as many signs of ends as visits ended.
 pub fn draw(alloc: Global, trace: &Trace) -> Result<Drawing, DrawFault>
     ensures { IfOk result (λ d. Draws trace.now d) }
 {
-    let entries = trace.entries.as_slice();
-    let hosts = hosts_of(alloc, entries)?;
-    let lanes = lanes_of(alloc, hosts.as_slice())?;
-    let sights = Sights::over(alloc, hosts, entries, trace.ledger.is_none())?;
-    let marks = marks_of(alloc, entries, &sights)?;
-    let ledger = copied(alloc, &trace.ledger)?;
-    let width = width_of(lanes.len());
-    let height = height_of(sights.bottom, &trace.ledger);
-    Ok(Drawing {
-        lanes,
-        marks,
-        bottom: sights.bottom,
-        ledger,
-        width,
-        height,
-    })
+    let sights = Sights::over(alloc, trace.entries.as_slice(), trace.ledger.is_none())?;
+    let drawing = drawing_of(alloc, trace, &sights)?;
+    Ok(drawing)
 }

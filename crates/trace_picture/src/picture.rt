@@ -5,13 +5,12 @@ ghost use Rattle.trace_picture.specs.Pictures.{name_text, line_text, lane_text, 
 use crate::drawing::{Drawing, Lane, Mark, Spot};
 use crate::events::put_events;
 use crate::ledger::put_ledger;
-use crate::pieces::{put_path, put_text, x_of, y_of};
+use crate::pieces::{put, put_before, put_between, put_path, put_text, x_of, y_of};
 use crate::signs::put_marks;
 use crate::styles::put_style;
 use crate::ways::put_ways;
 use plan_base::{Bytes, NoMemory};
 use std::alloc::Global;
-use trace_lines::put_number;
 
 /// Appends the heading of the column of a host.
 #[tactic(auto, unfolding(crate::specs::Pictures::name_text), using(std::proofs::Common::append_assoc))]
@@ -19,10 +18,7 @@ fn put_name(alloc: Global, out: &mut Bytes, lane: Lane) -> Result<(), NoMemory>
     ensures { OnOk result (out.new ≡ out.old ++ name_text lane) }
 {
     put_text(alloc, out, b"h", x_of(lane.across), 54)?;
-    out.add_all(b"host ")?;
-    put_number(alloc, out, u64::from(lane.host))?;
-    out.add_all(b"</text>\n")?;
-    Ok(())
+    put_between(alloc, out, b"host ", u64::from(lane.host), b"</text>\n")
 }
 
 /// Appends the line of a column, down to row `bottom`.
@@ -31,10 +27,7 @@ fn put_line(alloc: Global, out: &mut Bytes, across: u32, bottom: u32) -> Result<
     ensures { OnOk result (out.new ≡ out.old ++ line_text across bottom) }
 {
     put_path(alloc, out, b"h", Spot { across, row: 0 })?;
-    out.add_all(b"V")?;
-    put_number(alloc, out, y_of(bottom))?;
-    out.add_all(b"'/>\n")?;
-    Ok(())
+    put_between(alloc, out, b"V", y_of(bottom), b"'/>\n")
 }
 
 /// Appends the column of a host, down to row `bottom`.
@@ -69,12 +62,8 @@ fn picture_start() -> &'static [u8]
 fn put_size(alloc: Global, out: &mut Bytes, width: u64, height: u64) -> Result<(), NoMemory>
     ensures { OnOk result (out.new ≡ out.old ++ size_text width height) }
 {
-    out.add_all(picture_start())?;
-    put_number(alloc, out, width)?;
-    out.add_all(b"' height='")?;
-    put_number(alloc, out, height)?;
-    out.add_all(b"'>\n")?;
-    Ok(())
+    put_between(alloc, out, picture_start(), width, b"' height='")?;
+    put_before(alloc, out, height, b"'>\n")
 }
 
 /// Appends marks: events lie below arrows, and these below signs and labels.
@@ -97,6 +86,5 @@ pub fn put_picture(alloc: Global, out: &mut Bytes, d: &Drawing) -> Result<(), No
     put_lanes(alloc, out, d.bottom, d.lanes.as_slice())?;
     put_all(alloc, out, d.marks.as_slice())?;
     put_ledger(alloc, out, d.bottom, &d.ledger)?;
-    out.add_all(b"</svg>\n")?;
-    Ok(())
+    put(out, b"</svg>\n")
 }

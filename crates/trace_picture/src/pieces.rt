@@ -4,9 +4,65 @@ ghost use Rattle.std.specs.String.{string_bytes};
 ghost use Rattle.trace_picture.specs.Places.{x_of, y_of, point_text, path_text, at_text, text_text};
 
 use crate::drawing::Spot;
-use crate::escape::put_shown;
 use plan_base::{Bytes, NoMemory};
 use std::alloc::{AllocError, Global};
+use trace_lines::put_number;
+
+/// Appends bytes.
+pub(crate) fn put(out: &mut Bytes, more: &[u8]) -> Result<(), NoMemory>
+    ensures { OnOk result (out.new ≡ out.old ++ more.now) }
+{
+    out.add_all(more)?;
+    Ok(())
+}
+
+/// Appends two texts.
+pub(crate) fn put_two(out: &mut Bytes, first: &[u8], second: &[u8]) -> Result<(), NoMemory>
+    ensures { OnOk result (out.new ≡ out.old ++ (first.now ++ second.now)) }
+{
+    put(out, first)?;
+    put(out, second)
+}
+
+/// Appends three texts.
+pub(crate) fn put_three(
+    out: &mut Bytes,
+    first: &[u8],
+    second: &[u8],
+    third: &[u8],
+) -> Result<(), NoMemory>
+    ensures { OnOk result (out.new ≡ out.old ++ (first.now ++ (second.now ++ third.now))) }
+{
+    put(out, first)?;
+    put_two(out, second, third)
+}
+
+/// Appends a number and a text behind it.
+pub(crate) fn put_before(
+    alloc: Global,
+    out: &mut Bytes,
+    n: u64,
+    text: &[u8],
+) -> Result<(), NoMemory>
+    ensures { OnOk result (out.new ≡ out.old ++ (decimal n ++ text.now)) }
+{
+    put_number(alloc, out, n)?;
+    put(out, text)
+}
+
+/// Appends a number between two texts.
+pub(crate) fn put_between(
+    alloc: Global,
+    out: &mut Bytes,
+    front: &[u8],
+    n: u64,
+    text: &[u8],
+) -> Result<(), NoMemory>
+    ensures { OnOk result (out.new ≡ out.old ++ (front.now ++ (decimal n ++ text.now))) }
+{
+    put(out, front)?;
+    put_before(alloc, out, n, text)
+}
 
 /// Pixels from the left.
 pub(crate) fn x_of(across: u32) -> u64
@@ -37,8 +93,7 @@ pub(crate) fn put_point(alloc: Global, out: &mut Bytes, at: Spot) -> Result<(), 
     ensures { OnOk result (out.new ≡ out.old ++ point_text at) }
 {
     let text = point(alloc, at)?;
-    out.add_all(text.as_bytes())?;
-    Ok(())
+    put(out, text.as_bytes())
 }
 
 /// Appends the beginning of a path of this class, up to its first place.
@@ -51,9 +106,7 @@ pub(crate) fn put_path(
 ) -> Result<(), NoMemory>
     ensures { OnOk result (out.new ≡ out.old ++ path_text class.now at) }
 {
-    out.add_all(b"<path class='")?;
-    out.add_all(class)?;
-    out.add_all(b"' d='M")?;
+    put_three(out, b"<path class='", class, b"' d='M")?;
     put_point(alloc, out, at)
 }
 
@@ -76,9 +129,6 @@ pub(crate) fn put_text(
 ) -> Result<(), NoMemory>
     ensures { OnOk result (out.new ≡ out.old ++ text_text class.now x y) }
 {
-    out.add_all(b"<text class='")?;
-    out.add_all(class)?;
     let place = at_text(alloc, x, y)?;
-    out.add_all(place.as_bytes())?;
-    Ok(())
+    put_three(out, b"<text class='", class, place.as_bytes())
 }

@@ -1,6 +1,8 @@
 use crate::drawing::{Spot, Stroke};
-use crate::walk::{Journey, Link, Place, Walk, far_end};
-use std::alloc::{AllocError, Global};
+use crate::lanes::add_hosts;
+use crate::marks::DrawFault;
+use crate::walk::{Journey, Place, Walk, far_end};
+use std::alloc::Global;
 use trace_lines::Entry;
 
 /// How a line is seen.
@@ -16,43 +18,33 @@ pub(crate) struct Sight {
 /// Where all lines stand, and the ways of all frames.
 #[derive(Drop)]
 pub(crate) struct Sights {
-    places: Vec<Place>,
-    journeys: Vec<Journey>,
-    links: Vec<Link>,
+    walk: Walk,
     /// Whether the trace is that of one node's log.
     pub is_log: bool,
-    /// The row below the last line.
-    pub bottom: u32,
 }
 
 impl Sights {
     /// Goes through all lines.
-    pub fn over(
-        alloc: Global,
-        hosts: Vec<u32>,
-        entries: &[Entry],
-        is_log: bool,
-    ) -> Result<Sights, AllocError> {
-        let mut walk = Walk::new(alloc, hosts);
-        let mut places = Vec::new(alloc);
-        for entry in entries {
-            let place = walk.step(entry)?;
-            places.push(place)?;
-        }
-        let bottom = walk.row.saturating_add(1);
-        let (journeys, links) = walk.ways();
-        Ok(Sights {
-            places,
-            journeys,
-            links,
-            is_log,
-            bottom,
-        })
+    pub fn over(alloc: Global, entries: &[Entry], is_log: bool) -> Result<Sights, DrawFault> {
+        let mut walk = Walk::new(alloc);
+        add_hosts(&mut walk.hosts, entries)?;
+        walk.go(entries)?;
+        Ok(Sights { walk, is_log })
+    }
+
+    /// The hosts that have columns, in rising order.
+    pub fn hosts(&self) -> &[u32] {
+        self.walk.hosts.as_slice()
+    }
+
+    /// The row below the last line.
+    pub fn bottom(&self) -> u32 {
+        self.walk.row.saturating_add(1)
     }
 
     /// Half of the way from a sender over its device, as far as is known.
     fn middle(&self, from: u32, device: u32) -> u32 {
-        match far_end(&self.links, from, device) {
+        match far_end(&self.walk.links, from, device) {
             Some(far) => from / 2 + far / 2 + 1,
             None => from.saturating_add(1),
         }
@@ -71,7 +63,10 @@ impl Sights {
 
     fn journey(&self, frame: Option<usize>) -> Option<Journey> {
         match frame {
-            Some(i) => self.journeys.get(i).copied(),
+            Some(i) => match self.walk.journeys.get(i) {
+                Some(j) => Some(*j),
+                None => None,
+            },
             None => None,
         }
     }
@@ -91,24 +86,34 @@ impl Sights {
         }
     }
 
-    /// How the line at place `i` is seen.
-    pub fn sight(&self, i: usize) -> Sight {
-        let place = match self.places.get(i) {
-            Some(p) => *p,
+    /// A line that is about this frame on the wire.
+    fn along(&self, place: Place, journey: Journey) -> Sight {
+        Sight {
+            begins: place.begins,
+            at: place.at,
+            to: self.head(journey),
+            stroke: journey.stroke,
+            is_outside: false,
+        }
+    }
+
+    /// Where the line at place `i` stands.
+    fn place(&self, i: usize) -> Place {
+        match self.walk.places.get(i) {
+            Some(place) => *place,
             None => Place {
                 at: Spot { across: 0, row: 0 },
                 begins: false,
                 frame: None,
             },
-        };
+        }
+    }
+
+    /// How the line at place `i` is seen.
+    pub fn sight(&self, i: usize) -> Sight {
+        let place = self.place(i);
         match self.journey(place.frame) {
-            Some(j) => Sight {
-                begins: place.begins,
-                at: place.at,
-                to: self.head(j),
-                stroke: j.stroke,
-                is_outside: false,
-            },
+            Some(journey) => self.along(place, journey),
             None => self.alone(place),
         }
     }

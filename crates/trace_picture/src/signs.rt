@@ -5,7 +5,7 @@ ghost use Rattle.trace_picture.specs.Pictures.{formed_text, label_y, labelled_te
 
 use crate::drawing::{Kind, Mark};
 use crate::escape::put_shown;
-use crate::pieces::{put_path, put_text, x_of};
+use crate::pieces::{put, put_path, put_text, put_two, x_of};
 use crate::words::{kind_word, sign_path};
 use plan_base::{Bytes, NoMemory};
 use std::alloc::Global;
@@ -19,9 +19,7 @@ fn put_formed(alloc: Global, out: &mut Bytes, form: &[u8], m: &Mark) -> Result<(
         return Ok(());
     }
     put_path(alloc, out, kind_word(m.kind), m.at)?;
-    out.add_all(form)?;
-    out.add_all(b"'/>\n")?;
-    Ok(())
+    put_two(out, form, b"'/>\n")
 }
 
 /// Pixels from the left to a label.
@@ -65,8 +63,7 @@ fn put_labelled(alloc: Global, out: &mut Bytes, label: &[u8], m: &Mark) -> Resul
     let y = label_y(m.kind, m.at.row);
     put_text(alloc, out, kind_word(m.kind), x, y)?;
     put_shown(out, label)?;
-    out.add_all(b"</text>\n")?;
-    Ok(())
+    put(out, b"</text>\n")
 }
 
 /// Appends a mark: its sign and its label.

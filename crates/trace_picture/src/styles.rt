@@ -1,6 +1,7 @@
 ghost use Rattle.std.specs.Prelude.{◌≡◌, ◌++◌, OnOk};
 ghost use Rattle.trace_picture.specs.Styles.{rules_text, heads_text, legend_text, style_text};
 
+use crate::pieces::put_three;
 use plan_base::{Bytes, NoMemory};
 
 /// The rules of the style: colours that people with a colour weakness can tell apart.
@@ -74,8 +75,5 @@ fn legend() -> &'static [u8]
 pub(crate) fn put_style(out: &mut Bytes) -> Result<(), NoMemory>
     ensures { OnOk result (out.new ≡ out.old ++ style_text) }
 {
-    out.add_all(rules())?;
-    out.add_all(heads())?;
-    out.add_all(legend())?;
-    Ok(())
+    put_three(out, rules(), heads(), legend())
 }

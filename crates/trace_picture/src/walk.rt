@@ -39,7 +39,10 @@ const MOST_LINKS: usize = 1_024;
 /// The lines gone through so far.
 #[derive(Drop)]
 pub(crate) struct Walk {
-    hosts: Vec<u32>,
+    /// The hosts that have columns, in rising order.
+    pub hosts: Vec<u32>,
+    /// Where each line stands.
+    pub places: Vec<Place>,
     /// The frames by the order on the wire: frame K is at K - 1.
     pub journeys: Vec<Journey>,
     pub links: Vec<Link>,
@@ -63,9 +66,10 @@ fn takes_row(line: &Line) -> bool {
 
 impl Walk {
     /// No line yet.
-    pub fn new(alloc: Global, hosts: Vec<u32>) -> Walk {
+    pub fn new(alloc: Global) -> Walk {
         Walk {
-            hosts,
+            hosts: Vec::new(alloc),
+            places: Vec::new(alloc),
             journeys: Vec::new(alloc),
             links: Vec::new(alloc),
             row: 0,
@@ -213,7 +217,10 @@ impl Walk {
     /// Frame `number` comes out, and stays on the wire. The label stands where it was sent.
     fn stay_on(&mut self, number: u32) -> Place {
         let place = self.take_off(number);
-        match self.taken.and_then(|frame| self.journeys.get(frame)) {
+        let Some(frame) = self.taken else {
+            return place;
+        };
+        match self.journeys.get(frame) {
             Some(journey) => self.place(journey.from.across, None),
             None => place,
         }
@@ -238,16 +245,20 @@ impl Walk {
         }
     }
 
-    /// The frames, and the links that they showed.
-    pub fn ways(self) -> (Vec<Journey>, Vec<Link>) {
-        (self.journeys, self.links)
-    }
-
-    /// Goes on by a line, and answers where it stands.
-    pub fn step(&mut self, entry: &Entry) -> Result<Place, AllocError> {
+    /// Goes on by a line.
+    fn step(&mut self, entry: &Entry) -> Result<(), AllocError> {
         let begins = self.go_down(entry);
         let place = self.place_of(&entry.line)?;
-        Ok(Place { begins, ..place })
+        self.places.push(Place { begins, ..place })?;
+        Ok(())
+    }
+
+    /// Goes through all lines.
+    pub fn go(&mut self, entries: &[Entry]) -> Result<(), AllocError> {
+        for entry in entries {
+            self.step(entry)?;
+        }
+        Ok(())
     }
 }
 

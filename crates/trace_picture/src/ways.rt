@@ -1,12 +1,22 @@
 ghost use Rattle.std.specs.Prelude.{◌≡◌, ◌++◌, OnOk};
 ghost use Rattle.std.specs.List.{flat_map};
-ghost use Rattle.trace_picture.specs.Pictures.{arrow_text, inward_text, outward_text, way_text};
+ghost use Rattle.trace_picture.specs.Places.{point_text};
+ghost use Rattle.trace_picture.specs.Pictures.{close_path, arrow_text, inward_text, outward_text, way_text};
 
-use crate::drawing::{Kind, Mark};
-use crate::pieces::{put_path, put_point};
+use crate::drawing::{Kind, Mark, Spot};
+use crate::pieces::{put, put_path, put_point, put_two};
 use crate::words::stroke_word;
 use plan_base::{Bytes, NoMemory};
 use std::alloc::Global;
+
+/// Appends how a path goes on to its last place.
+fn put_end(alloc: Global, out: &mut Bytes, step: &[u8], to: Spot) -> Result<(), NoMemory>
+    ensures { OnOk result (out.new ≡ out.old ++ (step.now ++ (point_text to ++ close_path))) }
+{
+    put(out, step)?;
+    put_point(alloc, out, to)?;
+    put(out, b"'/>\n")
+}
 
 /// Appends the arrow of a frame.
 #[tactic(auto, unfolding(crate::specs::Pictures::arrow_text))]
@@ -14,10 +24,7 @@ fn put_arrow(alloc: Global, out: &mut Bytes, m: &Mark) -> Result<(), NoMemory>
     ensures { OnOk result (out.new ≡ out.old ++ arrow_text m.now) }
 {
     put_path(alloc, out, stroke_word(m.stroke), m.at)?;
-    out.add_all(b"L")?;
-    put_point(alloc, out, m.to)?;
-    out.add_all(b"'/>\n")?;
-    Ok(())
+    put_end(alloc, out, b"L", m.to)
 }
 
 /// Appends an arrow from outside, or nothing where the frame came off the wire.
@@ -29,10 +36,7 @@ fn put_inward(alloc: Global, out: &mut Bytes, m: &Mark) -> Result<(), NoMemory>
         return Ok(());
     }
     put_path(alloc, out, stroke_word(m.stroke), m.at)?;
-    out.add_all(b"m-80 -12L")?;
-    put_point(alloc, out, m.at)?;
-    out.add_all(b"'/>\n")?;
-    Ok(())
+    put_end(alloc, out, b"m-80 -12L", m.at)
 }
 
 /// Appends an arrow to the outside, or nothing where the frame went onto the wire.
@@ -44,9 +48,7 @@ fn put_outward(alloc: Global, out: &mut Bytes, m: &Mark) -> Result<(), NoMemory>
         return Ok(());
     }
     put_path(alloc, out, stroke_word(m.stroke), m.at)?;
-    out.add_all(b"l80 12")?;
-    out.add_all(b"'/>\n")?;
-    Ok(())
+    put_two(out, b"l80 12", b"'/>\n")
 }
 
 /// Appends the arrow of a mark, where it has one.

@@ -3,6 +3,7 @@ ghost use Rattle.trace_picture.specs.Kinds.{kind_of, label_text, visit_text, wor
 ghost use Rattle.trace_picture.specs.Signs.{stroke_word, kind_word, sign_path};
 
 use crate::drawing::{Kind, Stroke};
+use crate::pieces::{put, put_two};
 use plan_base::{Bytes, Family, NoMemory};
 use std::alloc::Global;
 use trace_lines::{Line, put_family, put_number, put_rest};
@@ -40,16 +41,14 @@ fn put_visit(alloc: Global, out: &mut Bytes, f: Family, how: &[u8]) -> Result<()
     ensures { OnOk result (out.new ≡ out.old ++ visit_text f how.now) }
 {
     put_family(alloc, out, f)?;
-    out.add_all(b" ")?;
-    out.add_all(how)?;
-    Ok(())
+    put_two(out, b" ", how)
 }
 
 /// Appends a line without its host.
 fn put_words(alloc: Global, out: &mut Bytes, line: &Line) -> Result<(), NoMemory>
     ensures { OnOk result (out.new ≡ out.old ++ words_text line.now) }
 {
-    out.add_all(line.word())?;
+    put(out, line.word())?;
     put_rest(alloc, out, line)
 }
 
@@ -58,10 +57,7 @@ pub(crate) fn put_label(alloc: Global, out: &mut Bytes, line: &Line) -> Result<(
     ensures { OnOk result (out.new ≡ out.old ++ label_text line.now) }
 {
     match line {
-        Line::Printed(_, text) => {
-            out.add_all(text.as_slice())?;
-            Ok(())
-        }
+        Line::Printed(_, text) => put(out, text.as_slice()),
         Line::Gave(_, f, how, _, _) | Line::Raised(_, f, how, _, _) => {
             put_visit(alloc, out, *f, how.as_slice())
         }
