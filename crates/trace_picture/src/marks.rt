@@ -121,13 +121,13 @@ fn copied(alloc: Global, ledger: &Option<Items<Row>>) -> Result<Option<Items<Row
 }
 
 /// The chart of a trace whose lines are seen so.
-fn drawing_of(alloc: Global, trace: &Trace, sights: &Sights) -> Result<Drawing, NoMemory>
+fn drawing_of(alloc: Global, trace: &Trace, sights: &Sights) -> Result<Drawing, DrawFault>
     ensures { IfOk result (λ d. Draws trace.now d) }
 {
     let entries = trace.entries.as_slice();
     let lanes = lanes_of(alloc, sights.hosts())?;
-    let marks = marks_of(alloc, entries, sights)?;
     let ledger = copied(alloc, &trace.ledger)?;
+    let marks = marks_of(alloc, entries, sights)?;
     let width = width_of(lanes.len());
     let bottom = sights.bottom();
     let height = height_of(bottom, &trace.ledger);
@@ -147,6 +147,5 @@ pub fn draw(alloc: Global, trace: &Trace) -> Result<Drawing, DrawFault>
     ensures { IfOk result (λ d. Draws trace.now d) }
 {
     let sights = Sights::over(alloc, trace.entries.as_slice(), trace.ledger.is_none())?;
-    let drawing = drawing_of(alloc, trace, &sights)?;
-    Ok(drawing)
+    drawing_of(alloc, trace, &sights)
 }
