@@ -7,7 +7,7 @@ ghost use Rattle.audit_files.specs.AuditFiles as spec;
 ghost use Rattle.audit_files.specs.AuditFiles.{audit_word, audit_rest, audit_line, audit_step_at, nothing_read, audit_of};
 
 use line_files::{
-    LineFault, LineFile, LineReason, Stop, Words, allow, file_name, is, number, read_file,
+    LineFault, LineFile, LineReason, LineStop, Words, allow, file_name, is, number, read_file,
     says_nothing, stopped_at,
 };
 use network_plan::{Link, Links, has_link};
@@ -102,7 +102,7 @@ impl AuditReading {
 
     /// `log FILE` behind its first word. Reasons: `TooMany` where there are 16, `BadWord`, `TwiceNamed`.
     #[tactic(auto, unfolding(crate::specs::AuditFiles::log_line))]
-    fn log(&mut self, alloc: Global, words: &mut Words<'_>) -> Result<(), Stop>
+    fn log(&mut self, alloc: Global, words: &mut Words<'_>) -> Result<(), LineStop>
         ensures { Leaves result self.new (spec.log_line words.old self.old) }
     {
         allow(self.logs.len() < 16, LineReason::TooMany)?;
@@ -116,7 +116,7 @@ impl AuditReading {
 
     /// `link N D M E` behind its first word. Reasons: `BadWord`, `BadNumber`, `TwiceNamed`, `BadArgument`.
     #[tactic(auto, unfolding(crate::specs::AuditFiles::link_line))]
-    fn link(&mut self, words: &mut Words<'_>) -> Result<(), Stop>
+    fn link(&mut self, words: &mut Words<'_>) -> Result<(), LineStop>
         ensures { Leaves result self.new (spec.link_line words.old self.old) }
     {
         let n = host_end(words)?;
@@ -131,7 +131,12 @@ impl AuditReading {
 
     /// A line behind its first word.
     #[tactic(auto, unfolding(crate::specs::AuditFiles::audit_rest))]
-    fn rest(&mut self, alloc: Global, word: AuditWord, words: &mut Words<'_>) -> Result<(), Stop>
+    fn rest(
+        &mut self,
+        alloc: Global,
+        word: AuditWord,
+        words: &mut Words<'_>,
+    ) -> Result<(), LineStop>
         ensures { Leaves result self.new (audit_rest word words.old self.old) }
     {
         match word {
@@ -142,7 +147,7 @@ impl AuditReading {
 
     /// A line by its words.
     #[tactic(auto, unfolding(crate::specs::AuditFiles::audit_line))]
-    fn said(&mut self, alloc: Global, words: &mut Words<'_>) -> Result<(), Stop>
+    fn said(&mut self, alloc: Global, words: &mut Words<'_>) -> Result<(), LineStop>
         ensures { Leaves result self.new (audit_line words.old self.old) }
     {
         let word = words.next()?;

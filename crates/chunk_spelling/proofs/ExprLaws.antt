@@ -26,9 +26,9 @@ use Rattle.plan_base.specs.declared.tree.Expr.TheVariants as expr
 use Rattle.plan_base.specs.declared.tree.Clause.{Clause, fold-Clause, fold_out-Clause}
 use Rattle.chunk_spelling.specs.declared.tags.ExprTag.{ExprTag}
 use Rattle.chunk_spelling.specs.declared.tags.TheConstants.{EXPR_TAGS}
-use Rattle.chunk_spelling.specs.Items.{Item, an_expr, a_clause, several_clauses}
+use Rattle.chunk_spelling.specs.Items.{ChunkItem, an_expr, a_clause, several_clauses}
 use Rattle.chunk_spelling.specs.Scan.{Scan, Reader, flags, table_field, count_field, tag_of, allowed}
-use Rattle.chunk_spelling.specs.Parts.{Part, Core, Parts, Held, items_of_parts, bytes_of_parts, nodes_of_parts, FormFits, several, formed, tagged_at}
+use Rattle.chunk_spelling.specs.Parts.{Part, Core, Parts, PartValues, items_of_parts, bytes_of_parts, nodes_of_parts, FormFits, several, formed, tagged_at}
 use Rattle.chunk_spelling.specs.Fields.{flag_byte, sized, name_bytes, op_byte}
 use Rattle.chunk_spelling.specs.Types.{type_bytes, type_part}
 use Rattle.chunk_spelling.specs.Exprs.{expr_bytes, expr_bytes_level, clause_bytes, clause_bytes_level, catch_bytes, one_more, expr_tag_at, clause_tag_at, clause_forms, clause_of_parts, clause_parts_by, clause_part, is_none_left, clauses_from, clauses_at, ClausesFit, clauses_part, expr_forms, expr_of_parts, expr_parts, expr_from, expr_within, no_expr, expr_core, expr_part, expr_inner, one_below}
@@ -171,7 +171,7 @@ module _ (room : ℕ) (lawful : Lawful (expr_part room)) where
   clause_is_form_by None e = (refl, (λ i. 0 ∷ sym (append-nil (expr_bytes e)) i), omega arith)
   clause_is_form_by (Some n) e = (refl, (λ i. 1 ∷ (name_bytes n ++ sym (append-nil (expr_bytes e)) i)), omega arith)
 
-  clause_form_is : (t : Bool) (xs : Held (clause_forms (expr_part room) t))
+  clause_form_is : (t : Bool) (xs : PartValues (clause_forms (expr_part room) t))
       → clause_parts_by (expr_part room) (clause_of_parts (expr_part room) t xs).name (clause_of_parts (expr_part room) t xs).body ≡ Some (t, xs)
   clause_form_is false xs = refl
   clause_form_is true xs = refl
@@ -221,7 +221,7 @@ module _ (room : ℕ) (lawful : Lawful (expr_part room)) where
       let small : m.nodes ≤ 4096 = omega (arith, second.count) in
       bind_is _ ((clause_lawful (is_none_left (length xs))).again f m x h.0 first small) (bind_is _ (from_again xs m g h.1 second k) refl)
 
-  from_goes : (n : ℕ) (more : List Item) (f : Scan) → Goes step (clause_items n room more) f (λ _. more) (clauses_from (λ last. (clause_part last room (expr_part room)).read) n f)
+  from_goes : (n : ℕ) (more : List ChunkItem) (f : Scan) → Goes step (clause_items n room more) f (λ _. more) (clauses_from (λ last. (clause_part last room (expr_part room)).read) n f)
   unfolding clauses_from
   from_goes zero more f = idle step {A = List Clause} more f []
   from_goes (suc n) more f =
@@ -305,7 +305,7 @@ module _ (room below : ℕ) (core : Core Expr) where
       let R : ℕ → Type 0 = λ n. FormIs expr_byte 1 (expr_forms deeper caught) (expr_of_parts deeper caught) (expr_parts deeper caught (out-Expr e)) e (expr_bytes e) n in
       subst R (sym (expr_nodes_out e)) (subst Q (sym (expr_bytes_out e)) (subst P (roll-out-Expr e) (level_is (out-Expr e))))
 
-  form_is : (tag : ExprTag) (xs : Held (expr_forms deeper caught tag)) → expr_parts deeper caught (out-Expr (expr_of_parts deeper caught tag xs)) ≡ Some (tag, xs)
+  form_is : (tag : ExprTag) (xs : PartValues (expr_forms deeper caught tag)) → expr_parts deeper caught (out-Expr (expr_of_parts deeper caught tag xs)) ≡ Some (tag, xs)
   unfolding out-Expr out
   form_is ExprTag.Bool xs = ap (expr_parts deeper caught) (expr.outs-Bool xs.0)
   form_is ExprTag.Int xs = ap (expr_parts deeper caught) (expr.outs-Int xs.0)
@@ -367,7 +367,7 @@ module _ (room below : ℕ) (core : Core Expr) where
   all_lawful _ k c = tt
 
   pub within_lawful : (0 < room → Lawful deeper × Lawful caught)
-      → ((more : List Item) (f : Scan) → step (an_expr room) more f ≡ (expr_tag_at room f >>= λ t. Ok (items_of_parts (expr_forms deeper caught t.0) more, t.1)))
+      → ((more : List ChunkItem) (f : Scan) → step (an_expr room) more f ≡ (expr_tag_at room f >>= λ t. Ok (items_of_parts (expr_forms deeper caught t.0) more, t.1)))
       → Lawful (expr_from room (expr_within room below core))
   within_lawful l steps =
       formed_lawful (an_expr room) (expr_tag_at room) (λ _. 0 < room) expr_byte 1 (expr_forms deeper caught) (expr_of_parts deeper caught)

@@ -12,9 +12,9 @@ use Rattle.read_laws.proofs.Agendas.{Goes, chain, one_step, made, many_goes, idl
 use Rattle.plan_base.specs.declared.limit.Limit.{Limit}
 use Rattle.chunk_spelling.specs.declared.fault.SpellFault.{SpellFault}
 use Rattle.chunk_spelling.specs.declared.fault.SpellFault.TheVariants.{BadTag, OverLimit}
-use Rattle.chunk_spelling.specs.Items.{Item, counted, listed}
+use Rattle.chunk_spelling.specs.Items.{ChunkItem, counted, listed}
 use Rattle.chunk_spelling.specs.Scan.{Scan, Reader, number_field, count_field, allowed}
-use Rattle.chunk_spelling.specs.Parts.{Part, Parts, done, ◌&◌, Held, reads, bytes_of_parts, AllFit, nodes_of_parts, items_of_parts, EachFits, counted_at, several, listed_at, list_of, FormFits, tagged_at, formed, joined}
+use Rattle.chunk_spelling.specs.Parts.{Part, Parts, done, ◌&◌, PartValues, reads, bytes_of_parts, AllFit, nodes_of_parts, items_of_parts, EachFits, counted_at, several, listed_at, list_of, FormFits, tagged_at, formed, joined}
 use Rattle.chunk_spelling.specs.Steps.{step}
 use Rattle.chunk_spelling.proofs.Took.{Took, Took-bytes, Took-none, Took-then, Took-first, Took-second, Took-as, between, scan_is}
 use Rattle.chunk_spelling.proofs.FieldLaws.{byte_takes, byte_again, number_takes, number_again, wide16, allowed_ok, allowed_is}
@@ -29,24 +29,24 @@ pub record Taken {A : Type 0} (p : Part A) (f : Scan) (x : A) (g : Scan) : Type 
 pub record Lawful {A : Type 0} (p : Part A) : Type 0 where
   pub takes : (f g : Scan) (x : A) → IsBytes f.front.rest → f.nodes ≤ 4096 → p.read f ≡ Ok (x, g) → Taken p f x g
   pub again : (f g : Scan) (x : A) → p.Fits x → Took f (p.bytes x) (p.nodes x) g → g.nodes ≤ 4096 → p.read f ≡ Ok (x, g)
-  pub goes : (more : List Item) (f : Scan) → Goes step (p.item ∷ more) f (λ _. more) (p.read f)
+  pub goes : (more : List ChunkItem) (f : Scan) → Goes step (p.item ∷ more) f (λ _. more) (p.read f)
 
 abbrev pub AllLawful : Parts → Type 0
 AllLawful done = Unit {0}
 AllLawful (p & ps) = Lawful p × AllLawful ps
 
 -- what a reading of parts took
-pub record AllTaken (ps : Parts) (f : Scan) (xs : Held ps) (g : Scan) : Type 0 where
+pub record AllTaken (ps : Parts) (f : Scan) (xs : PartValues ps) (g : Scan) : Type 0 where
   pub took : Took f (bytes_of_parts ps xs) (nodes_of_parts ps xs) g
   pub fit : AllFit ps xs
   pub within : g.nodes ≤ 4096
 
-pub record PartsTaken {B : Type 0} (ps : Parts) (build : Held ps → B) (f : Scan) (y : B) (g : Scan) : Type 0 where
-  pub held : Held ps
+pub record PartsTaken {B : Type 0} (ps : Parts) (build : PartValues ps → B) (f : Scan) (y : B) (g : Scan) : Type 0 where
+  pub held : PartValues ps
   pub is : y ≡ build held
   pub all : AllTaken ps f held g
 
-pub reads_takes : {B : Type 0} (ps : Parts) → AllLawful ps → (build : Held ps → B) (f g : Scan) (y : B)
+pub reads_takes : {B : Type 0} (ps : Parts) → AllLawful ps → (build : PartValues ps → B) (f g : Scan) (y : B)
     → IsBytes f.front.rest → f.nodes ≤ 4096 → reads ps build f ≡ Ok (y, g) → PartsTaken ps build f y g
 reads_takes done l build f g y h k e =
     let p = ok_inj e in
@@ -59,7 +59,7 @@ reads_takes (p & ps) l build f g y h k e =
     let rest = reads_takes ps l.1 (λ xs. build (x.0, xs)) x.1 g y (Took-bytes t.took h) t.within b.then_read in
     record { held = (x.0, rest.held); is = rest.is; all = record { took = Took-then t.took rest.all.took; fit = (t.fits, rest.all.fit); within = rest.all.within } }
 
-pub reads_again : {B : Type 0} (ps : Parts) → AllLawful ps → (build : Held ps → B) (f g : Scan) (xs : Held ps)
+pub reads_again : {B : Type 0} (ps : Parts) → AllLawful ps → (build : PartValues ps → B) (f g : Scan) (xs : PartValues ps)
     → AllFit ps xs → Took f (bytes_of_parts ps xs) (nodes_of_parts ps xs) g → g.nodes ≤ 4096 → reads ps build f ≡ Ok (build xs, g)
 reads_again done l build f g xs h t k =
     let same : f ≡ g = sym (scan_is g f.front.at f.nodes f.front.rest (omega (arith, t.place)) (sym t.parts) (omega (arith, t.count))) in
@@ -75,7 +75,7 @@ reads_again (p & ps) l build f g xs h t k =
     let small : m.nodes ≤ 4096 = omega (arith, second.count) in
     bind_is _ (l.0.again f m xs.0 h.0 first small) (reads_again ps l.1 (λ ys. build (xs.0, ys)) m g xs.1 h.1 second k)
 
-pub reads_go : {B : Type 0} (ps : Parts) → AllLawful ps → (build : Held ps → B) (more : List Item) (f : Scan)
+pub reads_go : {B : Type 0} (ps : Parts) → AllLawful ps → (build : PartValues ps → B) (more : List ChunkItem) (f : Scan)
     → Goes step (items_of_parts ps more) f (λ _. more) (reads ps build f)
 reads_go done l build more f = idle step more f (build tt)
 reads_go (p & ps) l build more f =
@@ -91,24 +91,24 @@ pub record Tag {T : Type 0} (read : Reader T) (Allowed : T → Type 0) (byte : T
   pub again : (f g : Scan) (t : T) → Allowed t → Took f (byte t ∷ []) cost g → g.nodes ≤ 4096 → read f ≡ Ok (t, g)
 
 -- a tree is its form with its parts, and so are its bytes
-abbrev pub FormIs : {T A : Type 0} (byte : T → ℕ) (cost : ℕ) (forms : T → Parts) (build : (t : T) → Held (forms t) → A)
-    → Option ((t : T) × Held (forms t)) → A → List ℕ → ℕ → Type 0
+abbrev pub FormIs : {T A : Type 0} (byte : T → ℕ) (cost : ℕ) (forms : T → Parts) (build : (t : T) → PartValues (forms t) → A)
+    → Option ((t : T) × PartValues (forms t)) → A → List ℕ → ℕ → Type 0
 FormIs byte cost forms build None x bytes nodes = Unit {0}
 FormIs byte cost forms build (Some y) x bytes nodes =
     (x ≡ build y.0 y.1) × (bytes ≡ byte y.0 ∷ bytes_of_parts (forms y.0) y.1) × (nodes ≡ cost + nodes_of_parts (forms y.0) y.1)
 
-module _ {T A : Type 0} (i : Item) (tag : Reader T) (Allowed : T → Type 0) (byte : T → ℕ) (cost : ℕ) (forms : T → Parts) (build : (t : T) → Held (forms t) → A)
-    (parts : A → Option ((t : T) × Held (forms t))) (bytes : A → List ℕ) (nodes : A → ℕ)
+module _ {T A : Type 0} (i : ChunkItem) (tag : Reader T) (Allowed : T → Type 0) (byte : T → ℕ) (cost : ℕ) (forms : T → Parts) (build : (t : T) → PartValues (forms t) → A)
+    (parts : A → Option ((t : T) × PartValues (forms t))) (bytes : A → List ℕ) (nodes : A → ℕ)
     (law : Tag tag Allowed byte cost) (lawful : (t : T) → Allowed t → AllLawful (forms t))
     (is_form : (x : A) → FormIs byte cost forms build (parts x) x (bytes x) (nodes x))
-    (form_is : (t : T) (xs : Held (forms t)) → parts (build t xs) ≡ Some (t, xs))
-    (steps : (more : List Item) (f : Scan) → step i more f ≡ (tag f >>= λ t. Ok (items_of_parts (forms t.0) more, t.1))) where
+    (form_is : (t : T) (xs : PartValues (forms t)) → parts (build t xs) ≡ Some (t, xs))
+    (steps : (more : List ChunkItem) (f : Scan) → step i more f ≡ (tag f >>= λ t. Ok (items_of_parts (forms t.0) more, t.1))) where
   abbrev part : Part A
   part = formed i tag Allowed forms build parts bytes nodes
 
-  built : (t : T) (xs : Held (forms t)) → FormIs byte cost forms build (Some (t, xs)) (build t xs) (bytes (build t xs)) (nodes (build t xs))
+  built : (t : T) (xs : PartValues (forms t)) → FormIs byte cost forms build (Some (t, xs)) (build t xs) (bytes (build t xs)) (nodes (build t xs))
   built t xs =
-      let P : Option ((u : T) × Held (forms u)) → Type 0 = λ o. FormIs byte cost forms build o (build t xs) (bytes (build t xs)) (nodes (build t xs)) in
+      let P : Option ((u : T) × PartValues (forms u)) → Type 0 = λ o. FormIs byte cost forms build o (build t xs) (bytes (build t xs)) (nodes (build t xs)) in
       subst P (form_is t xs) (is_form (build t xs))
 
   formed_takes : (f g : Scan) (x : A) → IsBytes f.front.rest → f.nodes ≤ 4096 → part.read f ≡ Ok (x, g) → Taken part f x g
@@ -123,11 +123,11 @@ module _ {T A : Type 0} (i : Item) (tag : Reader T) (Allowed : T → Type 0) (by
       let whole : Took f (byte t ∷ bytes_of_parts (forms t) r.held) (cost + nodes_of_parts (forms t) r.held) g = Took-then took.0 r.all.took in
       let is = built t r.held in
       let fits : FormFits Allowed forms (parts (build t r.held)) =
-      let P : Option ((u : T) × Held (forms u)) → Type 0 = FormFits Allowed forms in subst P (sym (form_is t r.held)) (allowed, r.all.fit) in
+      let P : Option ((u : T) × PartValues (forms u)) → Type 0 = FormFits Allowed forms in subst P (sym (form_is t r.held)) (allowed, r.all.fit) in
       let P : A → Type 0 = λ y. Taken part f y g in
       subst P (sym r.is) (record { took = Took-as (sym is.1) (sym is.2) whole; fits = fits; within = r.all.within })
 
-  again_by : (f g : Scan) (x : A) (o : Option ((t : T) × Held (forms t))) → FormIs byte cost forms build o x (bytes x) (nodes x) → FormFits Allowed forms o
+  again_by : (f g : Scan) (x : A) (o : Option ((t : T) × PartValues (forms t))) → FormIs byte cost forms build o x (bytes x) (nodes x) → FormFits Allowed forms o
       → Took f (bytes x) (nodes x) g → g.nodes ≤ 4096 → tagged_at tag forms build f ≡ Ok (x, g)
   unfolding tagged_at
   again_by f g x None is fits took k = absurd fits
@@ -142,7 +142,7 @@ module _ {T A : Type 0} (i : Item) (tag : Reader T) (Allowed : T → Type 0) (by
       bind_is _ (law.again f m y.0 fits.0 (Took-first f g bs cs cost b u) small) (reads_again (forms y.0) (lawful y.0 fits.0) (build y.0) m g y.1 fits.1 second k)
       ∙ (λ j. Ok (sym is.0 j, g))
 
-  formed_goes : (more : List Item) (f : Scan) → Goes step (i ∷ more) f (λ _. more) (part.read f)
+  formed_goes : (more : List ChunkItem) (f : Scan) → Goes step (i ∷ more) f (λ _. more) (part.read f)
   unfolding tagged_at
   formed_goes more f =
       chain step (i ∷ more) f (λ t. items_of_parts (forms t) more) (λ _. more) (tag f) _
@@ -270,23 +270,23 @@ list_lawful p l = record {
 -- ---- constructs without a tag
 
 -- a step that reads nothing
-pub opens : {B : Type 0} (i : Item) (more mid : List Item) (f m : Scan) (r : Scan → Result (B × Scan) SpellFault)
+pub opens : {B : Type 0} (i : ChunkItem) (more mid : List ChunkItem) (f m : Scan) (r : Scan → Result (B × Scan) SpellFault)
     → step i more f ≡ Ok (mid, m) → Goes step mid m (λ _. more) (r m) → Goes step (i ∷ more) f (λ _. more) (r m)
 opens {B} i more mid f m r e k =
     let none : Result (Unit {0} × Scan) SpellFault = Ok (tt, m) in
     chain step {A = Unit {0}} {B = B} (i ∷ more) f (λ _. mid) (λ _. more) none (λ x. r x.1) (one_step step i more f (λ _. mid) none e)
     (λ x h. let same : m ≡ x.1 = ap (λ q. q.1) (ok_inj h) in let P : Scan → Type 0 = λ s. Goes step mid s (λ _. more) (r s) in subst P same k)
 
-module _ {A : Type 0} (i : Item) (forms : Parts) (build : Held forms → A) (parts : A → Held forms) (bytes : A → List ℕ) (nodes : A → ℕ)
-    (lawful : AllLawful forms) (back : (xs : Held forms) → parts (build xs) ≡ xs) (same : (x : A) → build (parts x) ≡ x)
+module _ {A : Type 0} (i : ChunkItem) (forms : Parts) (build : PartValues forms → A) (parts : A → PartValues forms) (bytes : A → List ℕ) (nodes : A → ℕ)
+    (lawful : AllLawful forms) (back : (xs : PartValues forms) → parts (build xs) ≡ xs) (same : (x : A) → build (parts x) ≡ x)
     (bytes_is : (x : A) → bytes x ≡ bytes_of_parts forms (parts x)) (nodes_is : (x : A) → nodes x ≡ nodes_of_parts forms (parts x))
-    (steps : (more : List Item) (f : Scan) → step i more f ≡ Ok (items_of_parts forms more, f)) where
+    (steps : (more : List ChunkItem) (f : Scan) → step i more f ≡ Ok (items_of_parts forms more, f)) where
   pub joined_lawful : Lawful (joined i forms build parts bytes nodes)
   joined_lawful = record {
     takes = λ f g x h k e.
         let r = reads_takes forms lawful build f g x h k e in
         let own : parts x ≡ r.held = ap parts r.is ∙ back r.held in
-        let P : Held forms → Type 0 = λ xs. Took f (bytes_of_parts forms xs) (nodes_of_parts forms xs) g × AllFit forms xs in
+        let P : PartValues forms → Type 0 = λ xs. Took f (bytes_of_parts forms xs) (nodes_of_parts forms xs) g × AllFit forms xs in
         let q : P (parts x) = subst P (sym own) (r.all.took, r.all.fit) in
         record { took = Took-as (sym (bytes_is x)) (sym (nodes_is x)) q.0; fits = q.1; within = r.all.within };
     again = λ f g x fits t k.

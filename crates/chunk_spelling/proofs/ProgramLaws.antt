@@ -24,9 +24,9 @@ use Rattle.plan_base.specs.declared.tree.Svc.{Svc}
 use Rattle.plan_base.specs.declared.tree.Param.{Param}
 use Rattle.plan_base.specs.declared.tree.Fun.{Fun}
 use Rattle.plan_base.specs.declared.tree.Program.{Program}
-use Rattle.chunk_spelling.specs.Items.{Item, a_parameter, a_service, a_function, a_program, code_end}
+use Rattle.chunk_spelling.specs.Items.{ChunkItem, a_parameter, a_service, a_function, a_program, code_end}
 use Rattle.chunk_spelling.specs.Scan.{Scan, Reader, allowed}
-use Rattle.chunk_spelling.specs.Parts.{Part, Parts, Held, AllFit, reads, items_of_parts, bytes_of_parts, nodes_of_parts, several, joined}
+use Rattle.chunk_spelling.specs.Parts.{Part, Parts, PartValues, AllFit, reads, items_of_parts, bytes_of_parts, nodes_of_parts, several, joined}
 use Rattle.chunk_spelling.specs.Fields.{name_bytes, name_part}
 use Rattle.chunk_spelling.specs.Types.{type_bytes, type_part}
 use Rattle.chunk_spelling.specs.Exprs.{expr_bytes, expr_part}
@@ -90,7 +90,7 @@ program_lawful = record {
       let p = b.first in
       let r = reads_takes program_forms parts_lawful program_of_parts (counting 0 f) p.1 p.0 h (omega arith) b.read in
       let own : program_parts p.0 ≡ r.held = ap program_parts r.is in
-      let P : Held program_forms → Type 0 = λ xs. Took (counting 0 f) (bytes_of_parts program_forms xs) (nodes_of_parts program_forms xs) p.1 × AllFit program_forms xs in
+      let P : PartValues program_forms → Type 0 = λ xs. Took (counting 0 f) (bytes_of_parts program_forms xs) (nodes_of_parts program_forms xs) p.1 × AllFit program_forms xs in
       let q : P (program_parts p.0) = subst P (sym own) (r.all.took, r.all.fit) in
       let t : Took (counting 0 f) (program_bytes p.0) (sum_by (λ u. expr_nodes u.body) p.0.funs) p.1 = Took-as (sym (program_bytes_is p.0)) (program_nodes_is p.0) q.0 in
       let a = allowed_ok _ _ (counting_on f.nodes p) (x, g) b.then_read in

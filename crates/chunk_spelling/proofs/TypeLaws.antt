@@ -12,10 +12,10 @@ use Rattle.plan_base.specs.declared.tree.Ty.TheVariants as ty
 use denote.Hole.Carrier.{roll, out}
 use Rattle.chunk_spelling.specs.declared.tags.TypeTag.{TypeTag}
 use Rattle.chunk_spelling.specs.declared.tags.TheConstants.{TYPE_TAGS}
-use Rattle.chunk_spelling.specs.Items.{Item, a_type}
+use Rattle.chunk_spelling.specs.Items.{ChunkItem, a_type}
 use Rattle.chunk_spelling.specs.Steps.{step}
 use Rattle.chunk_spelling.specs.Scan.{Scan, table_field, tag_of}
-use Rattle.chunk_spelling.specs.Parts.{Part, Core, Parts, Held, items_of_parts, bytes_of_parts, FormFits}
+use Rattle.chunk_spelling.specs.Parts.{Part, Core, Parts, PartValues, items_of_parts, bytes_of_parts, FormFits}
 use Rattle.chunk_spelling.specs.Types.{type_bytes, type_bytes_level, type_tag_at, type_forms, type_of_parts, type_parts, no_type, type_from, type_within, type_core, type_part}
 use Rattle.chunk_spelling.proofs.Took.{Took, Took-as}
 use Rattle.std.proofs.lemmas.Bool.{ltb-true, lt-ltb}
@@ -104,7 +104,7 @@ module _ (room below : ℕ) (core : Core Ty) where
       let Q : List ℕ → Type 0 = λ bs. FormIs type_byte 0 (type_forms deeper) (type_of_parts deeper) (type_parts deeper (out-Ty t)) t bs 0 in
       subst Q (sym (type_bytes_out t)) (subst P (roll-out-Ty t) (level_is (out-Ty t)))
 
-  form_is : (tag : TypeTag) (xs : Held (type_forms deeper tag)) → type_parts deeper (out-Ty (type_of_parts deeper tag xs)) ≡ Some (tag, xs)
+  form_is : (tag : TypeTag) (xs : PartValues (type_forms deeper tag)) → type_parts deeper (out-Ty (type_of_parts deeper tag xs)) ≡ Some (tag, xs)
   unfolding out-Ty out
   form_is TypeTag.List xs = ap (type_parts deeper) (ty.outs-List xs.0)
   form_is TypeTag.Tuple xs = ap (type_parts deeper) (ty.outs-Tuple xs.0)
@@ -115,7 +115,7 @@ module _ (room below : ℕ) (core : Core Ty) where
   all_lawful TypeTag.Tuple k = (several_lawful Limit.Parts 2 8 deeper k, tt)
   all_lawful _ k = tt
 
-  within_lawful : (0 < room → Lawful deeper) → ((more : List Item) (f : Scan) → step (a_type room) more f ≡ (type_tag_at room f >>= λ t. Ok (items_of_parts (type_forms deeper t.0) more, t.1)))
+  within_lawful : (0 < room → Lawful deeper) → ((more : List ChunkItem) (f : Scan) → step (a_type room) more f ≡ (type_tag_at room f >>= λ t. Ok (items_of_parts (type_forms deeper t.0) more, t.1)))
       → Lawful (type_from room (type_within room deeper))
   within_lawful l steps =
       formed_lawful (a_type room) (type_tag_at room) (λ _. 0 < room) type_byte 0 (type_forms deeper) (type_of_parts deeper) (λ t. type_parts deeper (out-Ty t)) type_bytes (λ _. 0)

@@ -24,9 +24,9 @@ use Rattle.plan_base.specs.declared.tree.Value.TheVariants as value
 use Rattle.plan_base.specs.declared.tree.Chunk.{Chunk, fold-Chunk, fold_out-Chunk}
 use Rattle.chunk_spelling.specs.declared.tags.ValueTag.{ValueTag}
 use Rattle.chunk_spelling.specs.declared.tags.TheConstants.{VALUE_TAGS}
-use Rattle.chunk_spelling.specs.Items.{Item, a_value, a_chunk, weight_end}
+use Rattle.chunk_spelling.specs.Items.{ChunkItem, a_value, a_chunk, weight_end}
 use Rattle.chunk_spelling.specs.Scan.{Scan, Reader, table_field, tag_of, allowed}
-use Rattle.chunk_spelling.specs.Parts.{Part, Core, Parts, Held, AllFit, reads, items_of_parts, bytes_of_parts, nodes_of_parts, FormFits, several, list_of, tagged_at}
+use Rattle.chunk_spelling.specs.Parts.{Part, Core, Parts, PartValues, AllFit, reads, items_of_parts, bytes_of_parts, nodes_of_parts, FormFits, several, list_of, tagged_at}
 use Rattle.chunk_spelling.specs.Fields.{flag_byte, sized, name_bytes, name_part}
 use Rattle.chunk_spelling.specs.Types.{type_bytes, type_part}
 use Rattle.chunk_spelling.specs.Programs.{program_bytes, program_part}
@@ -131,7 +131,7 @@ module _ (nest room cnest : ℕ) (core : Core Value) (chunks : Core Chunk) (iroo
       let Q : List ℕ → Type 0 = λ bs. FormIs value_byte 0 (value_forms deeper chunk) (value_of_parts deeper chunk) (value_parts deeper chunk (out-Value v)) v bs 0 in
       subst Q (sym (value_bytes_out v)) (subst P (roll-out-Value v) (level_is (out-Value v)))
 
-  form_is : (tag : ValueTag) (xs : Held (value_forms deeper chunk tag)) → value_parts deeper chunk (out-Value (value_of_parts deeper chunk tag xs)) ≡ Some (tag, xs)
+  form_is : (tag : ValueTag) (xs : PartValues (value_forms deeper chunk tag)) → value_parts deeper chunk (out-Value (value_of_parts deeper chunk tag xs)) ≡ Some (tag, xs)
   unfolding out-Value out
   form_is ValueTag.Bool xs = ap (value_parts deeper chunk) (value.outs-Bool xs.0)
   form_is ValueTag.Int xs = ap (value_parts deeper chunk) (value.outs-Int xs.0)
@@ -159,7 +159,7 @@ module _ (nest room cnest : ℕ) (core : Core Value) (chunks : Core Chunk) (iroo
   all_lawful ValueTag.Tuple a c k = (several_lawful Limit.Parts 2 8 deeper (k (ltb-true 0 room a)), tt)
 
   pub within_lawful : (0 < nest → Lawful chunk) → (0 < room → Lawful deeper)
-      → ((more : List Item) (f : Scan) → step (a_value nest room) more f ≡ (value_tag_at nest room f >>= λ t. Ok (items_of_parts (value_forms deeper chunk t.0) more, t.1)))
+      → ((more : List ChunkItem) (f : Scan) → step (a_value nest room) more f ≡ (value_tag_at nest room f >>= λ t. Ok (items_of_parts (value_forms deeper chunk t.0) more, t.1)))
       → Lawful (value_from nest room (value_within nest room chunk deeper))
   within_lawful c k steps =
       formed_lawful (a_value nest room) (value_tag_at nest room) (λ tag. IsTrue (may_open nest room tag)) value_byte 0 (value_forms deeper chunk) (value_of_parts deeper chunk)
@@ -188,7 +188,7 @@ module _ (nest : ℕ) (lawful : Lawful (value_part nest 8)) where
         let p = b.first in
         let r = reads_takes (chunk_forms argument) parts_lawful (chunk_of_parts argument) f p.1 p.0 h k b.read in
         let own : chunk_parts argument p.0 ≡ r.held = ap (chunk_parts argument) r.is in
-        let P : Held (chunk_forms argument) → Type 0 = λ xs. Took f (bytes_of_parts (chunk_forms argument) xs) (nodes_of_parts (chunk_forms argument) xs) p.1 × AllFit (chunk_forms argument) xs in
+        let P : PartValues (chunk_forms argument) → Type 0 = λ xs. Took f (bytes_of_parts (chunk_forms argument) xs) (nodes_of_parts (chunk_forms argument) xs) p.1 × AllFit (chunk_forms argument) xs in
         let q : P (chunk_parts argument p.0) = subst P (sym own) (r.all.took, r.all.fit) in
         let t : Took f (chunk_bytes p.0) 0 p.1 = Took-as (sym (chunk_bytes_is p.0)) (chunk_nodes_is p.0) q.0 in
         let a = allowed_ok _ _ p (x, g) b.then_read in

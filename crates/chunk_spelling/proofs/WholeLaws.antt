@@ -5,7 +5,7 @@ use Rattle.read_laws.specs.Agenda.{FirstFault}
 use Rattle.read_laws.proofs.Binds.{ok_inj}
 use Rattle.read_laws.proofs.Agendas.{one_first_fault, goes_ok, goes_err, no_fault}
 use Rattle.chunk_spelling.specs.declared.fault.SpellFault.{SpellFault}
-use Rattle.chunk_spelling.specs.Items.{Item}
+use Rattle.chunk_spelling.specs.Items.{ChunkItem}
 use Rattle.chunk_spelling.specs.Scan.{Scan}
 use Rattle.chunk_spelling.specs.Parts.{Part}
 use Rattle.chunk_spelling.specs.Steps.{step}

@@ -14,7 +14,7 @@ use Rattle.chunk_spelling.specs.declared.tags.ExprTag.{ExprTag}
 use Rattle.chunk_spelling.specs.declared.tags.TheConstants.{EXPR_TAGS}
 use Rattle.chunk_spelling.specs.Items.{an_expr, a_clause, several_clauses}
 use Rattle.chunk_spelling.specs.Scan.{Scan, Reader, flags, table_field, count_field, allowed}
-use Rattle.chunk_spelling.specs.Parts.{Part, Core, Parts, done, ◌&◌, Held, FormFits, several, tagged_at, formed}
+use Rattle.chunk_spelling.specs.Parts.{Part, Core, Parts, done, ◌&◌, PartValues, FormFits, several, tagged_at, formed}
 use Rattle.chunk_spelling.specs.Fields.{flag_byte, flag_part, int_part, word_part, char_part, text_part, blob_part, sized, name_bytes, name_part, op_byte, op_part, part_number_part}
 use Rattle.chunk_spelling.specs.Types.{type_bytes, type_part}
 
@@ -89,11 +89,11 @@ abbrev pub clause_forms : Part Expr → Bool → Parts
 clause_forms inner false = inner & done
 clause_forms inner true = name_part & inner & done
 
-abbrev pub clause_of_parts : (inner : Part Expr) (named : Bool) → Held (clause_forms inner named) → Clause
+abbrev pub clause_of_parts : (inner : Part Expr) (named : Bool) → PartValues (clause_forms inner named) → Clause
 clause_of_parts inner false xs = record { name = None; body = xs.0 }
 clause_of_parts inner true xs = record { name = Some xs.0; body = xs.1.0 }
 
-abbrev pub clause_parts_by : (inner : Part Expr) → Option (List ℕ) → Expr → Option ((named : Bool) × Held (clause_forms inner named))
+abbrev pub clause_parts_by : (inner : Part Expr) → Option (List ℕ) → Expr → Option ((named : Bool) × PartValues (clause_forms inner named))
 clause_parts_by inner None e = Some (false, (e, tt))
 clause_parts_by inner (Some n) e = Some (true, (n, (e, tt)))
 
@@ -164,7 +164,7 @@ expr_forms inner clauses ExprTag.OnRemote = inner & inner & inner & name_part & 
 expr_forms inner clauses ExprTag.OnNeighbor = inner & inner & inner & inner & done
 expr_forms inner clauses _ = done
 
-abbrev pub expr_of_parts : (inner : Part Expr) (clauses : Part (List Clause)) (tag : ExprTag) → Held (expr_forms inner clauses tag) → Expr
+abbrev pub expr_of_parts : (inner : Part Expr) (clauses : Part (List Clause)) (tag : ExprTag) → PartValues (expr_forms inner clauses tag) → Expr
 expr_of_parts inner clauses ExprTag.Unit xs = expr.Unit
 expr_of_parts inner clauses ExprTag.Bool xs = expr.Bool xs.0
 expr_of_parts inner clauses ExprTag.Int xs = expr.Int xs.0
@@ -194,7 +194,7 @@ expr_of_parts inner clauses ExprTag.Eval xs = expr.Eval xs.0
 expr_of_parts inner clauses ExprTag.OnRemote xs = expr.OnRemote xs.0 xs.1.0 xs.1.1.0 xs.1.1.1.0
 expr_of_parts inner clauses ExprTag.OnNeighbor xs = expr.OnNeighbor xs.0 xs.1.0 xs.1.1.0 xs.1.1.1.0
 
-abbrev pub expr_parts : (inner : Part Expr) (clauses : Part (List Clause)) → Expr-F Expr Clause → Option ((tag : ExprTag) × Held (expr_forms inner clauses tag))
+abbrev pub expr_parts : (inner : Part Expr) (clauses : Part (List Clause)) → Expr-F Expr Clause → Option ((tag : ExprTag) × PartValues (expr_forms inner clauses tag))
 expr_parts inner clauses Expr-F.Unit = Some (ExprTag.Unit, tt)
 expr_parts inner clauses (Expr-F.Bool b) = Some (ExprTag.Bool, (b, tt))
 expr_parts inner clauses (Expr-F.Int z) = Some (ExprTag.Int, (z, tt))

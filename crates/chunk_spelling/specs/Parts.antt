@@ -5,12 +5,12 @@ use Rattle.std.specs.Int.{w8, w16, w32, w64, to_be_bytes, cast_unsigned}
 use Rattle.read_laws.specs.Reading.{◌>>=◌, many}
 use Rattle.plan_base.specs.declared.limit.Limit.{Limit}
 use Rattle.chunk_spelling.specs.declared.fault.SpellFault.{SpellFault}
-use Rattle.chunk_spelling.specs.Items.{Item, counted, listed}
+use Rattle.chunk_spelling.specs.Items.{ChunkItem, counted, listed}
 use Rattle.chunk_spelling.specs.Scan.{Scan, Reader, number_field, count_field}
 
 -- a part: how it is read, how it is spelled, what may be spelled, and how many expressions it has
 pub record Part (A : Type 0) : Type 1 where
-  pub item : Item
+  pub item : ChunkItem
   pub read : Reader A
   pub bytes : A → List ℕ
   pub Fits : A → Type 0
@@ -27,29 +27,29 @@ pub data Parts : Type 1 where
   ◌&◌ : {A : Type 0} → Part A → Parts → Parts
 
 -- what the parts hold, one by one
-abbrev pub Held : Parts → Type 0
-Held done = Unit {0}
-Held (◌&◌ {A} p ps) = A × Held ps
+abbrev pub PartValues : Parts → Type 0
+PartValues done = Unit {0}
+PartValues (◌&◌ {A} p ps) = A × PartValues ps
 
 -- the parts read one after another, and what is made of them
-abbrev pub reads : {B : Type 0} → (ps : Parts) → (Held ps → B) → Reader B
+abbrev pub reads : {B : Type 0} → (ps : Parts) → (PartValues ps → B) → Reader B
 reads done build s = Ok (build tt, s)
 reads (p & ps) build s = p.read s >>= λ x. reads ps (λ xs. build (x.0, xs)) x.1
 
-abbrev pub bytes_of_parts : (ps : Parts) → Held ps → List ℕ
+abbrev pub bytes_of_parts : (ps : Parts) → PartValues ps → List ℕ
 bytes_of_parts done xs = []
 bytes_of_parts (p & ps) xs = p.bytes xs.0 ++ bytes_of_parts ps xs.1
 
-abbrev pub AllFit : (ps : Parts) → Held ps → Type 0
+abbrev pub AllFit : (ps : Parts) → PartValues ps → Type 0
 AllFit done xs = Unit {0}
 AllFit (p & ps) xs = p.Fits xs.0 × AllFit ps xs.1
 
-abbrev pub nodes_of_parts : (ps : Parts) → Held ps → ℕ
+abbrev pub nodes_of_parts : (ps : Parts) → PartValues ps → ℕ
 nodes_of_parts done xs = 0
 nodes_of_parts (p & ps) xs = p.nodes xs.0 + nodes_of_parts ps xs.1
 
 -- the parts put before what was still to read
-abbrev pub items_of_parts : Parts → List Item → List Item
+abbrev pub items_of_parts : Parts → List ChunkItem → List ChunkItem
 items_of_parts done more = more
 items_of_parts (p & ps) more = p.item ∷ items_of_parts ps more
 
@@ -89,18 +89,18 @@ list_of p = record {
 }
 
 -- a tag and the parts of its form
-abbrev pub FormFits : {T : Type 0} → (T → Type 0) → (forms : T → Parts) → Option ((t : T) × Held (forms t)) → Type 0
+abbrev pub FormFits : {T : Type 0} → (T → Type 0) → (forms : T → Parts) → Option ((t : T) × PartValues (forms t)) → Type 0
 FormFits TagFits forms (Some y) = TagFits y.0 × AllFit (forms y.0) y.1
 FormFits TagFits forms None = ⊥
 
-unfoldable pub tagged_at : {T A : Type 0} → Reader T → (forms : T → Parts) → ((t : T) → Held (forms t) → A) → Reader A
+unfoldable pub tagged_at : {T A : Type 0} → Reader T → (forms : T → Parts) → ((t : T) → PartValues (forms t) → A) → Reader A
 tagged_at tag forms build s = do
   t ← tag s
   reads (forms t.0) (build t.0) t.1
 
 -- a construct: a tag that is allowed there, and the parts of its form
-abbrev pub formed : {T A : Type 0} → Item → Reader T → (T → Type 0) → (forms : T → Parts) → ((t : T) → Held (forms t) → A)
-    → (A → Option ((t : T) × Held (forms t))) → (A → List ℕ) → (A → ℕ) → Part A
+abbrev pub formed : {T A : Type 0} → ChunkItem → Reader T → (T → Type 0) → (forms : T → Parts) → ((t : T) → PartValues (forms t) → A)
+    → (A → Option ((t : T) × PartValues (forms t))) → (A → List ℕ) → (A → ℕ) → Part A
 formed i tag Allowed forms build parts bytes nodes = record {
   item = i;
   read = tagged_at tag forms build;
@@ -110,7 +110,7 @@ formed i tag Allowed forms build parts bytes nodes = record {
 }
 
 -- a construct without a tag
-abbrev pub joined : {A : Type 0} → Item → (forms : Parts) → (Held forms → A) → (A → Held forms) → (A → List ℕ) → (A → ℕ) → Part A
+abbrev pub joined : {A : Type 0} → ChunkItem → (forms : Parts) → (PartValues forms → A) → (A → PartValues forms) → (A → List ℕ) → (A → ℕ) → Part A
 joined i forms build parts bytes nodes = record {
   item = i;
   read = reads forms build;

@@ -12,7 +12,7 @@ use Rattle.chunk_spelling.specs.declared.fault.SpellFault.{SpellFault}
 use Rattle.chunk_spelling.specs.declared.fault.SpellFault.TheVariants.{OverLimit}
 use Rattle.chunk_spelling.specs.Items.{a_parameter, a_service, a_function, a_program}
 use Rattle.chunk_spelling.specs.Scan.{Scan, Reader, allowed}
-use Rattle.chunk_spelling.specs.Parts.{Part, Parts, done, ◌&◌, Held, AllFit, reads, several, joined}
+use Rattle.chunk_spelling.specs.Parts.{Part, Parts, done, ◌&◌, PartValues, AllFit, reads, several, joined}
 use Rattle.chunk_spelling.specs.Fields.{name_bytes, name_part}
 use Rattle.chunk_spelling.specs.Types.{type_bytes, type_part}
 use Rattle.chunk_spelling.specs.Exprs.{expr_bytes, expr_part}
@@ -51,10 +51,10 @@ function_part = joined a_function function_forms (λ xs. record { name = xs.0; p
 abbrev pub program_forms : Parts
 program_forms = several Limit.Services 0 64 service_part & several Limit.Exceptions 0 64 name_part & several Limit.Functions 1 64 function_part & done
 
-abbrev pub program_of_parts : Held program_forms → Program
+abbrev pub program_of_parts : PartValues program_forms → Program
 program_of_parts xs = record { svcs = xs.0; exns = xs.1.0; funs = xs.1.1.0 }
 
-abbrev pub program_parts : Program → Held program_forms
+abbrev pub program_parts : Program → PartValues program_forms
 program_parts p = (p.svcs, (p.exns, (p.funs, tt)))
 
 -- the spelling of a program

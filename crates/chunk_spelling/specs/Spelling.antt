@@ -7,7 +7,7 @@ use Rattle.plan_base.specs.declared.tree.Value.{Value}
 use Rattle.plan_base.specs.declared.tree.Chunk.{Chunk}
 use Rattle.plan_base.specs.declared.tree.Program.{Program}
 use Rattle.chunk_spelling.specs.declared.fault.SpellFault.{SpellFault}
-use Rattle.chunk_spelling.specs.Items.{Item}
+use Rattle.chunk_spelling.specs.Items.{ChunkItem}
 use Rattle.chunk_spelling.specs.Scan.{Scan}
 use Rattle.chunk_spelling.specs.Parts.{Part}
 use Rattle.chunk_spelling.specs.Steps.{step}
@@ -42,5 +42,5 @@ abbrev pub from_front : Front → Scan
 from_front f = record { front = f; nodes = 0 }
 
 -- the first fault of an agenda that begins with that item alone
-abbrev pub FirstFaultAt : SpellFault → Item → Front → Type 0
+abbrev pub FirstFaultAt : SpellFault → ChunkItem → Front → Type 0
 FirstFaultAt e i f = FirstFault step e (i ∷ []) (from_front f)

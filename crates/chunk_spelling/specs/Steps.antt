@@ -5,7 +5,7 @@ use Rattle.read_laws.specs.Reading.{◌>>=◌}
 use Rattle.read_laws.specs.Agenda.{times, FirstFault}
 use Rattle.plan_base.specs.declared.limit.Limit.{Limit}
 use Rattle.chunk_spelling.specs.declared.fault.SpellFault.{SpellFault}
-use Rattle.chunk_spelling.specs.Items.{Item, a_flag, an_int, a_word, a_char, a_text, a_blob, a_name, an_operator, a_part_number, a_type, an_expr, several_clauses, a_clause, a_parameter, a_service, a_function, a_program, code_end, a_value, a_chunk, weight_end, counted, listed}
+use Rattle.chunk_spelling.specs.Items.{ChunkItem, a_flag, an_int, a_word, a_char, a_text, a_blob, a_name, an_operator, a_part_number, a_type, an_expr, several_clauses, a_clause, a_parameter, a_service, a_function, a_program, code_end, a_value, a_chunk, weight_end, counted, listed}
 use Rattle.chunk_spelling.specs.Scan.{Scan, number_field, int_field, flag_field, char_field, text_field, blob_field, name_field, operator_field, count_field}
 use Rattle.chunk_spelling.specs.Parts.{items_of_parts}
 use Rattle.chunk_spelling.specs.Types.{type_inner, type_tag_at, type_forms}
@@ -14,17 +14,17 @@ use Rattle.chunk_spelling.specs.Programs.{param_forms, service_forms, function_f
 use Rattle.chunk_spelling.specs.Values.{value_tag_at, value_forms, value_inner, chunk_inner, value_part, chunk_forms, judged_weight}
 
 -- the item was a field of its own
-abbrev pub past : {A : Type 0} → List Item → Result (A × Scan) SpellFault → Result (List Item × Scan) SpellFault
+abbrev pub past : {A : Type 0} → List ChunkItem → Result (A × Scan) SpellFault → Result (List ChunkItem × Scan) SpellFault
 past more r = r >>= λ x. Ok (more, x.1)
 
 -- so many clauses of a `try`, the last of which is the last
-abbrev pub clause_items : ℕ → ℕ → List Item → List Item
+abbrev pub clause_items : ℕ → ℕ → List ChunkItem → List ChunkItem
 clause_items zero room more = more
 clause_items (suc n) room more = a_clause (is_none_left n) room ∷ clause_items n room more
 
 -- A field is judged alone; a form is replaced by its parts, and a count by so many items. What a program or a chunk
 -- weighs is judged once it was read.
-abbrev pub step : Item → List Item → Scan → Result (List Item × Scan) SpellFault
+abbrev pub step : ChunkItem → List ChunkItem → Scan → Result (List ChunkItem × Scan) SpellFault
 step a_flag more s = past more (flag_field s)
 step an_int more s = past more (int_field s)
 step a_word more s = past more (number_field w32 s)

@@ -11,7 +11,7 @@ use Rattle.chunk_spelling.specs.declared.tags.TypeTag.{TypeTag}
 use Rattle.chunk_spelling.specs.declared.tags.TheConstants.{TYPE_TAGS}
 use Rattle.chunk_spelling.specs.Items.{a_type}
 use Rattle.chunk_spelling.specs.Scan.{Scan, Reader, table_field, allowed}
-use Rattle.chunk_spelling.specs.Parts.{Part, Core, Parts, done, ◌&◌, Held, FormFits, several, tagged_at}
+use Rattle.chunk_spelling.specs.Parts.{Part, Core, Parts, done, ◌&◌, PartValues, FormFits, several, tagged_at}
 
 -- a type's bytes, by those of its parts
 abbrev pub type_bytes_level : {X : Type 0} → (X → List ℕ) → Ty-F X → List ℕ
@@ -43,7 +43,7 @@ type_forms inner TypeTag.List = inner & done
 type_forms inner TypeTag.Tuple = several Limit.Parts 2 8 inner & done
 type_forms inner _ = done
 
-abbrev pub type_of_parts : (inner : Part Ty) (tag : TypeTag) → Held (type_forms inner tag) → Ty
+abbrev pub type_of_parts : (inner : Part Ty) (tag : TypeTag) → PartValues (type_forms inner tag) → Ty
 type_of_parts inner TypeTag.Unit xs = ty.Unit
 type_of_parts inner TypeTag.Bool xs = ty.Bool
 type_of_parts inner TypeTag.Int xs = ty.Int
@@ -56,7 +56,7 @@ type_of_parts inner TypeTag.Chunk xs = ty.Chunk
 type_of_parts inner TypeTag.List xs = ty.List xs.0
 type_of_parts inner TypeTag.Tuple xs = ty.Tuple xs.0
 
-abbrev pub type_parts : (inner : Part Ty) → Ty-F Ty → Option ((tag : TypeTag) × Held (type_forms inner tag))
+abbrev pub type_parts : (inner : Part Ty) → Ty-F Ty → Option ((tag : TypeTag) × PartValues (type_forms inner tag))
 type_parts inner Ty-F.Unit = Some (TypeTag.Unit, tt)
 type_parts inner Ty-F.Bool = Some (TypeTag.Bool, tt)
 type_parts inner Ty-F.Int = Some (TypeTag.Int, tt)

@@ -13,7 +13,7 @@ use Rattle.chunk_spelling.specs.declared.tags.ValueTag.{ValueTag}
 use Rattle.chunk_spelling.specs.declared.tags.TheConstants.{VALUE_TAGS}
 use Rattle.chunk_spelling.specs.Items.{a_value, a_chunk}
 use Rattle.chunk_spelling.specs.Scan.{Scan, Reader, table_field, allowed}
-use Rattle.chunk_spelling.specs.Parts.{Part, Core, Parts, done, ◌&◌, Held, AllFit, FormFits, reads, several, list_of, tagged_at}
+use Rattle.chunk_spelling.specs.Parts.{Part, Core, Parts, done, ◌&◌, PartValues, AllFit, FormFits, reads, several, list_of, tagged_at}
 use Rattle.chunk_spelling.specs.Fields.{flag_byte, flag_part, int_part, word_part, char_part, text_part, blob_part, sized, name_bytes, name_part}
 use Rattle.chunk_spelling.specs.Types.{type_bytes, type_part}
 use Rattle.chunk_spelling.specs.Programs.{program_bytes, program_part}
@@ -75,7 +75,7 @@ value_forms inner chunk ValueTag.List = type_part 7 & list_of inner & done
 value_forms inner chunk ValueTag.Tuple = several Limit.Parts 2 8 inner & done
 value_forms inner chunk _ = done
 
-abbrev pub value_of_parts : (inner : Part Value) (chunk : Part Chunk) (tag : ValueTag) → Held (value_forms inner chunk tag) → Value
+abbrev pub value_of_parts : (inner : Part Value) (chunk : Part Chunk) (tag : ValueTag) → PartValues (value_forms inner chunk tag) → Value
 value_of_parts inner chunk ValueTag.Unit xs = value.Unit
 value_of_parts inner chunk ValueTag.Bool xs = value.Bool xs.0
 value_of_parts inner chunk ValueTag.Int xs = value.Int xs.0
@@ -88,7 +88,7 @@ value_of_parts inner chunk ValueTag.Chunk xs = value.Chunk xs.0
 value_of_parts inner chunk ValueTag.List xs = value.List xs.0 xs.1.0
 value_of_parts inner chunk ValueTag.Tuple xs = value.Tuple xs.0
 
-abbrev pub value_parts : (inner : Part Value) (chunk : Part Chunk) → Value-F Value Chunk → Option ((tag : ValueTag) × Held (value_forms inner chunk tag))
+abbrev pub value_parts : (inner : Part Value) (chunk : Part Chunk) → Value-F Value Chunk → Option ((tag : ValueTag) × PartValues (value_forms inner chunk tag))
 value_parts inner chunk Value-F.Unit = Some (ValueTag.Unit, tt)
 value_parts inner chunk (Value-F.Bool b) = Some (ValueTag.Bool, (b, tt))
 value_parts inner chunk (Value-F.Int z) = Some (ValueTag.Int, (z, tt))
@@ -132,10 +132,10 @@ values_within nest chunk (suc room) = value_within nest (suc room) chunk (value_
 abbrev pub chunk_forms : Part Value → Parts
 chunk_forms value = program_part & name_part & several Limit.Arguments 0 8 value & done
 
-abbrev pub chunk_of_parts : (value : Part Value) → Held (chunk_forms value) → Chunk
+abbrev pub chunk_of_parts : (value : Part Value) → PartValues (chunk_forms value) → Chunk
 chunk_of_parts value xs = record { code = xs.0; entry = xs.1.0; args = xs.1.1.0 }
 
-abbrev pub chunk_parts : (value : Part Value) → Chunk → Held (chunk_forms value)
+abbrev pub chunk_parts : (value : Part Value) → Chunk → PartValues (chunk_forms value)
 chunk_parts value c = (c.code, (c.entry, (c.args, tt)))
 
 -- an outermost chunk, inside which three more may stand, and a tag weigh at most 16,384 bytes

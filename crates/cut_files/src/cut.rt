@@ -8,7 +8,7 @@ ghost use Rattle.cut_files.specs.Cuts.{cut_of, KeepsCut};
 
 use crate::keys::key;
 use line_files::{
-    LineFault, LineFile, LineReason, Stop, Words, allow, hex_bytes, is, number, read_file,
+    LineFault, LineFile, LineReason, LineStop, Words, allow, hex_bytes, is, number, read_file,
     says_nothing, stopped_at,
 };
 use plan_base::{Bytes, Host};
@@ -114,7 +114,7 @@ impl CutReading {
 
     /// The host. Reasons: `BadWord`, `BadNumber`.
     #[tactic(auto, unfolding(crate::specs::Cuts::dest_line))]
-    fn dest(&mut self, words: &mut Words<'_>) -> Result<(), Stop>
+    fn dest(&mut self, words: &mut Words<'_>) -> Result<(), LineStop>
         ensures { Leaves result self.new (spec.dest_line words.old self.old) }
     {
         let host = number(words, 0, u32::MAX)?;
@@ -126,7 +126,7 @@ impl CutReading {
 
     /// The port. Reasons: `BadWord`, `BadNumber`.
     #[tactic(auto, unfolding(crate::specs::Cuts::port_line))]
-    fn port(&mut self, words: &mut Words<'_>) -> Result<(), Stop>
+    fn port(&mut self, words: &mut Words<'_>) -> Result<(), LineStop>
         ensures { Leaves result self.new (spec.port_line words.old self.old) }
     {
         let port = number(words, 0, 65_535)?;
@@ -138,7 +138,7 @@ impl CutReading {
 
     /// The key. Reasons: `BadWord`, `BadNumber`.
     #[tactic(auto, unfolding(crate::specs::Cuts::key_line))]
-    fn key(&mut self, words: &mut Words<'_>) -> Result<(), Stop>
+    fn key(&mut self, words: &mut Words<'_>) -> Result<(), LineStop>
         ensures { Leaves result self.new (spec.key_line words.old self.old) }
     {
         let key = key(words)?;
@@ -150,7 +150,7 @@ impl CutReading {
 
     /// The bound. Reasons: `BadWord`, `BadNumber`.
     #[tactic(auto, unfolding(crate::specs::Cuts::bound_line))]
-    fn bound(&mut self, words: &mut Words<'_>) -> Result<(), Stop>
+    fn bound(&mut self, words: &mut Words<'_>) -> Result<(), LineStop>
         ensures { Leaves result self.new (spec.bound_line words.old self.old) }
     {
         let bound = number(words, 1, 65_535)?;
@@ -162,7 +162,7 @@ impl CutReading {
 
     /// The message in hex. Reasons: `BadWord`, `BadArgument`.
     #[tactic(auto, unfolding(crate::specs::Cuts::data_line))]
-    fn data(&mut self, alloc: Global, words: &mut Words<'_>) -> Result<(), Stop>
+    fn data(&mut self, alloc: Global, words: &mut Words<'_>) -> Result<(), LineStop>
         ensures { Leaves result self.new (spec.data_line words.old self.old) }
     {
         let bytes = hex_bytes(alloc, words, 1, BYTES_MAX)?;
@@ -173,7 +173,7 @@ impl CutReading {
     }
 
     /// What stands behind the first word of a line.
-    fn value(&mut self, alloc: Global, word: CutWord, words: &mut Words<'_>) -> Result<(), Stop>
+    fn value(&mut self, alloc: Global, word: CutWord, words: &mut Words<'_>) -> Result<(), LineStop>
         ensures { Leaves result self.new (spec.value_line word words.old self.old) }
     {
         match word {
@@ -187,7 +187,12 @@ impl CutReading {
 
     /// The line with a word. Reasons: `BadWord`, `BadNumber`, `BadArgument`.
     #[tactic(auto, unfolding(crate::specs::Cuts::wanted_line))]
-    fn wanted(&mut self, alloc: Global, word: CutWord, words: &mut Words<'_>) -> Result<(), Stop>
+    fn wanted(
+        &mut self,
+        alloc: Global,
+        word: CutWord,
+        words: &mut Words<'_>,
+    ) -> Result<(), LineStop>
         ensures { Leaves result self.new (spec.wanted_line word words.old self.old) }
     {
         begin(word, words)?;

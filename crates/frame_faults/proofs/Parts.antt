@@ -11,7 +11,7 @@ use Rattle.plan_base.specs.Words.{is_name}
 use Rattle.wire_bytes.specs.Fields.{Front, bytes_at, number_at, int_at}
 use Rattle.chunk_spelling.specs.declared.fault.SpellFault.{SpellFault}
 use Rattle.chunk_spelling.specs.declared.fault.SpellFault.TheVariants.{Truncated, BadTag, BadName, BadUtf8, OverLimit, NoMemory}
-use Rattle.chunk_spelling.specs.Items.{Item, a_flag, an_int, a_word, a_char, a_text, a_blob, a_name, an_operator, a_part_number, a_type, an_expr, several_clauses, a_clause, a_parameter, a_service, a_function, a_program, code_end, a_value, a_chunk, weight_end, counted, listed}
+use Rattle.chunk_spelling.specs.Items.{ChunkItem, a_flag, an_int, a_word, a_char, a_text, a_blob, a_name, an_operator, a_part_number, a_type, an_expr, several_clauses, a_clause, a_parameter, a_service, a_function, a_program, code_end, a_value, a_chunk, weight_end, counted, listed}
 use Rattle.chunk_spelling.specs.Scan.{Scan, whole, number_field, int_field, bytes_field, allowed, tag_of, known, table_field, flag_field, is_scalar, char_field, blob_field, text_field, count_field, name_field, operator_field}
 use Rattle.chunk_spelling.specs.Types.{type_tag_at}
 use Rattle.chunk_spelling.specs.Exprs.{expr_tag_at, clause_tag_at}
@@ -126,10 +126,10 @@ value_tag_own : (nest room : ℕ) (s : Scan) → Own (value_tag_at nest room s)
 unfolding value_tag_at
 value_tag_own nest room s = then_own _ _ (table_own 16 _ s) (λ tag. allowed_own (may_open nest room tag.0) (OverLimit (opening_limit tag.0) s.front.at) tag (λ h. cc))
 
-past_own : {A : Type 0} (more : List Item) (r : Result (A × Scan) SpellFault) → Own r → Own (past more r)
+past_own : {A : Type 0} (more : List ChunkItem) (r : Result (A × Scan) SpellFault) → Own r → Own (past more r)
 past_own more r h = then_own r _ h (λ x. fine _ _)
 
-step_own : (i : Item) (more : List Item) (s : Scan) → Own (step i more s)
+step_own : (i : ChunkItem) (more : List ChunkItem) (s : Scan) → Own (step i more s)
 step_own a_flag more s = past_own more _ (flag_own s)
 step_own an_int more s = past_own more _ (int_own s)
 step_own a_word more s = past_own more _ (number_own w32 s)
@@ -154,9 +154,9 @@ step_own (weight_end nest start) more s = allowed_own _ (OverLimit limits.Weight
 step_own (counted limit least most i) more s = then_own _ _ (count_own limit least most s) (λ n. fine _ _)
 step_own (listed i) more s = then_own _ _ (number_own w16 s) (λ n. fine _ _)
 
-agenda_own : (e : SpellFault) (is : List Item) (s : Scan) → FirstFault step e is s → e ≢ NoMemory
+agenda_own : (e : SpellFault) (is : List ChunkItem) (s : Scan) → FirstFault step e is s → e ≢ NoMemory
 agenda_own e _ _ (here i more s h) = err_own (step i more s) e h (step_own i more s)
 agenda_own e _ _ (later i more s next g h r) = agenda_own e next g r
 
-pub part_own : (e : SpellFault) (i : Item) (f : Front) → FirstFaultAt e i f → e ≢ NoMemory
+pub part_own : (e : SpellFault) (i : ChunkItem) (f : Front) → FirstFaultAt e i f → e ≢ NoMemory
 part_own e i f h = agenda_own e _ _ h

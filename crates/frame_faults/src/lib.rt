@@ -7,7 +7,7 @@
 
 ghost use Rattle.std.specs.Prelude.{◌≡◌, ◌≢◌, ◌↔◌, ℕ, List};
 ghost use Rattle.wire_bytes.specs.Fields.{Front, IsBytes};
-ghost use Rattle.chunk_spelling.specs.Items.{Item};
+ghost use Rattle.chunk_spelling.specs.Items.{ChunkItem};
 ghost use Rattle.chunk_spelling.specs.Spelling.{FirstFaultAt};
 ghost use Rattle.chunk_spelling.specs.declared.fault.SpellFault.{SpellFault};
 ghost use Rattle.chunk_spelling.specs.declared.fault.SpellFault.TheVariants as spelling;
@@ -42,7 +42,7 @@ pub fn stamped_frames_are_refused_first()
 
 /// No first refusal of spelled parts, or of a frame of either version, is or holds `NoMemory`.
 pub fn refusals_hold_no_memory()
-    ensures parts { (e : SpellFault) (i : Item) (f : Front) → FirstFaultAt e i f → e ≢ spelling.NoMemory }
+    ensures parts { (e : SpellFault) (i : ChunkItem) (f : Front) → FirstFaultAt e i f → e ≢ spelling.NoMemory }
     ensures frames { (bytes : List ℕ) (e : FrameFault) → IsBytes bytes → FrameFirst e bytes → HoldsNoMemory e }
     ensures stamped { (bytes : List ℕ) (e : FrameFault) → IsBytes bytes → StampedFirst e bytes → HoldsNoMemory e }
 {}

@@ -22,7 +22,7 @@ use Rattle.node_model.specs.declared.acts.Act.{Act}
 use Rattle.node_model.specs.declared.acts.Act.TheVariants.{Injected, Asked}
 use Rattle.node_model.specs.declared.acts.Lane.{Lane}
 use Rattle.node_model.specs.State.{Queues, NodeState}
-use Rattle.node_model.specs.Node.{Step as Stepped, take_first, take_from, take_step, next_serial, injected_packet, inject_step, visited, asked_plain, asked, control_step, node_step}
+use Rattle.node_model.specs.Node.{NodeStep as Stepped, take_first, take_from, take_step, next_serial, injected_packet, inject_step, visited, asked_plain, asked, control_step, node_step}
 use Rattle.node_model.specs.Numbers.{link_in, numbers_in, Ascend, NumbersFit, FitsAt}
 use Rattle.node_model.specs.Fits.{IsMarked, NodeFits, comes_fit}
 use Rattle.node_laws.proofs.Numbers.{taken_fits, event_rises}

@@ -29,7 +29,7 @@ use Rattle.plan_grammar.specs.Exprs.{begins_clause, literal_key, literal, litera
 use Rattle.plan_grammar.specs.Exprs as read
 use Rattle.grammar_laws.specs.Grammar.{ValAt, NotAt, AndAt, MulAt, PartAt}
 use Rattle.grammar_laws.specs.Agenda as item
-use Rattle.grammar_laws.specs.Agenda.{Item, Form, sym, word, a_name, a_type, open_bracket, more_items, more_vals, clauses, maybe_clause, Step, enter, inside, hand, side, a_val, key_step, symbol_step, operand_step, step}
+use Rattle.grammar_laws.specs.Agenda.{GrammarItem, Form, sym, word, a_name, a_type, open_bracket, more_items, more_vals, clauses, maybe_clause, GrammarStep, enter, inside, hand, side, a_val, key_step, symbol_step, operand_step, step}
 use Rattle.grammar_laws.proofs.TokenFacts.{key_stands}
 use Rattle.grammar_laws.proofs.Follows.{Shorter, skip, joint_stands}
 use Rattle.grammar_laws.proofs.ReadSteps.{Reads}
@@ -39,7 +39,7 @@ use Rattle.grammar_laws.proofs.Works.{Works, Follows, goes_on, stops, begin, aft
 use Rattle.grammar_laws.proofs.TypesWork.{types_work}
 
 -- what is read at a level
-abbrev pub at_item : Level → ℕ → Item
+abbrev pub at_item : Level → ℕ → GrammarItem
 at_item levels.Whole r = item.whole r
 at_item levels.Low r = item.low r
 at_item levels.Negated r = item.negated r
@@ -66,24 +66,24 @@ no_joint_left c f enough = go (joint_of c (next_kind f)) refl
 abbrev refused_clause : Front → Result (List Caught × Front) ParseFault
 refused_clause f = Err (past begins_clause limits.Clauses wanted.AName f)
 
-no_clause : (r : ℕ) (rest : List Item) (f : Front) → Works (clauses r 0 ∷ rest) f (λ _. rest) (refused_clause f)
+no_clause : (r : ℕ) (rest : List GrammarItem) (f : Front) → Works (clauses r 0 ∷ rest) f (λ _. rest) (refused_clause f)
 unfolding step
 no_clause r rest f = begin (clauses r 0) rest f (λ _. rest) _ (stops _ (λ _. rest))
 
 module _ (room : ℕ) (inner : Level → Reader Node)
     (sound : (r : ℕ) → room ≡ suc r → (l : Level) (f : Front) → Reads (AtLevel r l f) (inner l f))
-    (within : (r : ℕ) → room ≡ suc r → (l : Level) (rest : List Item) (f : Front) → Works (at_item l r ∷ rest) f (λ _. rest) (inner l f)) where
+    (within : (r : ℕ) → room ≡ suc r → (l : Level) (rest : List GrammarItem) (f : Front) → Works (at_item l r ∷ rest) f (λ _. rest) (inner l f)) where
   -- an agenda that ends with what was to come
-  abbrev Done : {A : Type 0} → List Item → Front → List Item → Result (A × Front) ParseFault → Type 0
+  abbrev Done : {A : Type 0} → List GrammarItem → Front → List GrammarItem → Result (A × Front) ParseFault → Type 0
   Done now f rest r = Works now f (λ _. rest) r
 
-  abbrev Left : {A : Type 0} → Step → List Item → Result (A × Front) ParseFault → Type 0
+  abbrev Left : {A : Type 0} → GrammarStep → List GrammarItem → Result (A × Front) ParseFault → Type 0
   Left s rest r = Follows s (λ _. rest) r
 
-  type_within : (r : ℕ) → room ≡ suc r → (rest : List Item) (f : Front) → Works (a_type r ∷ rest) f (λ t. hand (type_depth t) rest) (type_to room f)
+  type_within : (r : ℕ) → room ≡ suc r → (rest : List GrammarItem) (f : Front) → Works (a_type r ∷ rest) f (λ t. hand (type_depth t) rest) (type_to room f)
   type_within r e rest f = subst (λ k. Works (a_type r ∷ rest) f (λ t. hand (type_depth t) rest) (type_to k f)) (back e) (types_work r rest f)
 
-  more_work : (r : ℕ) → room ≡ suc r → (limit : Limit) (rest : List Item) (left : ℕ) (done : List Node) (f : Front)
+  more_work : (r : ℕ) → room ≡ suc r → (limit : Limit) (rest : List GrammarItem) (left : ℕ) (done : List Node) (f : Front)
       → Done (more_items limit r left ∷ rest) f rest (more (inner levels.Whole) begins_expr symbols.Comma limit wanted.AnExpr left done f)
   unfolding more step
   more_work r e limit rest zero done f =
@@ -94,7 +94,7 @@ module _ (room : ℕ) (inner : Level → Reader Node)
       (within r e levels.Whole (more_items limit r left ∷ rest) (behind f)) (λ n g. more_work r e limit rest left (done ++ n ∷ []) g)))
       (goes_on (given (λ _. rest) done f)))
 
-  items_work : (r : ℕ) → room ≡ suc r → (close : Symbol) (limit : Limit) (most : ℕ) (rest : List Item) (f : Front)
+  items_work : (r : ℕ) → room ≡ suc r → (close : Symbol) (limit : Limit) (most : ℕ) (rest : List GrammarItem) (f : Front)
       → Done (item.whole r ∷ more_items limit r most ∷ sym close ∷ rest) f rest (items_from inner room close limit most f)
   unfolding items_from
   items_work r e close limit most rest f =
@@ -104,32 +104,32 @@ module _ (room : ℕ) (inner : Level → Reader Node)
       (more_work r e limit (sym close ∷ rest) most (n ∷ []) g)
       (λ all h. symbol_works close rest h (λ _. rest) _ (given (λ _. rest) all (behind h))))
 
-  behind_args : (r : ℕ) → room ≡ suc r → (rest : List Item) (f : Front) → Done (item.args r ∷ rest) f rest (arguments_behind inner room f)
+  behind_args : (r : ℕ) → room ≡ suc r → (rest : List GrammarItem) (f : Front) → Done (item.args r ∷ rest) f rest (arguments_behind inner room f)
   unfolding arguments_behind step
   behind_args r e rest f =
       begin (item.args r) rest f (λ _. rest) _ (both (is_symbol symbols.ParenClose f) _ _ (λ _. rest) _ _ (goes_on (given (λ _. rest) [] (behind f)))
       (both (begins_expr f) _ _ (λ _. rest) _ _ (goes_on (items_work r e symbols.ParenClose limits.Arguments 7 rest f)) (stops _ (λ _. rest))))
 
-  args_work : (rest : List Item) (f : Front) → Done (open_bracket room item.a_call ∷ rest) f rest (arguments inner room f)
+  args_work : (rest : List GrammarItem) (f : Front) → Done (open_bracket room item.a_call ∷ rest) f rest (arguments inner room f)
   unfolding arguments
   args_work rest f = open_works room item.a_call rest f (λ _. rest) _ (λ r e. behind_args r e rest (behind f))
 
-  call_works : (name : Name) (at : ℕ) (rest : List Item) (f : Front) → Done (open_bracket room item.a_call ∷ rest) f rest (call inner room name at f)
+  call_works : (name : Name) (at : ℕ) (rest : List GrammarItem) (f : Front) → Done (open_bracket room item.a_call ∷ rest) f rest (call inner room name at f)
   unfolding call
   call_works name at rest f =
       after (open_bracket room item.a_call ∷ rest) f (λ _. rest) (λ _. rest) (arguments inner room f) _ (args_work rest f) (λ ns g. given (λ _. rest) _ g)
 
-  maybe_call_works : (name : Name) (at : ℕ) (x : Node) (rest : List Item) (f : Front)
+  maybe_call_works : (name : Name) (at : ℕ) (x : Node) (rest : List GrammarItem) (f : Front)
       → Done (item.maybe_call room ∷ rest) f rest (if is_symbol symbols.ParenOpen f then call inner room name at f else Ok (x, f))
   unfolding step
   maybe_call_works name at x rest f =
       begin (item.maybe_call room) rest f (λ _. rest) _ (both (is_symbol symbols.ParenOpen f) _ _ (λ _. rest) _ _ (goes_on (call_works name at rest f)) (goes_on (given (λ _. rest) x f)))
 
-  named_works : (f : Front) (name : Name) → next_kind f ≡ Some (kinds.Word name) → (rest : List Item) → Done (item.maybe_call room ∷ rest) (behind f) rest (named inner room f)
+  named_works : (f : Front) (name : Name) → next_kind f ≡ Some (kinds.Word name) → (rest : List GrammarItem) → Done (item.maybe_call room ∷ rest) (behind f) rest (named inner room f)
   unfolding named name_at
   named_works f name e rest = rw e (maybe_call_works name (place f) _ rest (behind f))
 
-  chunk_works : (rest : List Item) (f : Front) → Done (a_name ∷ sym symbols.Bar ∷ open_bracket room item.a_call ∷ rest) (behind f) rest (chunk inner room f)
+  chunk_works : (rest : List GrammarItem) (f : Front) → Done (a_name ∷ sym symbols.Bar ∷ open_bracket room item.a_call ∷ rest) (behind f) rest (chunk inner room f)
   unfolding chunk
   chunk_works rest f =
       name_works (sym symbols.Bar ∷ open_bracket room item.a_call ∷ rest) (behind f) (λ _. rest) _
@@ -137,7 +137,7 @@ module _ (room : ℕ) (inner : Level → Reader Node)
       (after (open_bracket room item.a_call ∷ rest) (behind (behind (behind f))) (λ _. rest) (λ _. rest) (arguments inner room (behind (behind (behind f)))) _
       (args_work rest (behind (behind (behind f)))) (λ ns g. given (λ _. rest) _ g)))
 
-  tuple_works : (r : ℕ) → room ≡ suc r → (at : ℕ) (n : Node) (rest : List Item) (f : Front)
+  tuple_works : (r : ℕ) → room ≡ suc r → (at : ℕ) (n : Node) (rest : List GrammarItem) (f : Front)
       → Done (more_items limits.Parts r 7 ∷ sym symbols.ParenClose ∷ rest) f rest (tuple inner room at n f)
   unfolding tuple
   tuple_works r e at n rest f =
@@ -145,16 +145,16 @@ module _ (room : ℕ) (inner : Level → Reader Node)
       (more (inner levels.Whole) begins_expr symbols.Comma limits.Parts wanted.AnExpr 7 (n ∷ []) f) _ (more_work r e limits.Parts (sym symbols.ParenClose ∷ rest) 7 (n ∷ []) f)
       (λ all h. symbol_works symbols.ParenClose rest h (λ _. rest) _ (given (λ _. rest) _ (behind h)))
 
-  single_works : (n : Node) (rest : List Item) (f : Front) → Done (sym symbols.ParenClose ∷ rest) f rest (single inner room n f)
+  single_works : (n : Node) (rest : List GrammarItem) (f : Front) → Done (sym symbols.ParenClose ∷ rest) f rest (single inner room n f)
   unfolding single
   single_works n rest f = symbol_works symbols.ParenClose rest f (λ _. rest) _ (given (λ _. rest) n (behind f))
 
-  alone_works : (r : ℕ) (n : Node) (rest : List Item) (f : Front) → is_symbol symbols.Comma f ≡ false
+  alone_works : (r : ℕ) (n : Node) (rest : List GrammarItem) (f : Front) → is_symbol symbols.Comma f ≡ false
       → Done (more_items limits.Parts r 7 ∷ sym symbols.ParenClose ∷ rest) f rest (single inner room n f)
   unfolding step
   alone_works r n rest f none = begin (more_items limits.Parts r 7) (sym symbols.ParenClose ∷ rest) f (λ _. rest) _ (rw none (goes_on (single_works n rest f)))
 
-  grouped_works : (r : ℕ) → room ≡ suc r → (at : ℕ) (rest : List Item) (f : Front)
+  grouped_works : (r : ℕ) → room ≡ suc r → (at : ℕ) (rest : List GrammarItem) (f : Front)
       → Done (item.whole r ∷ more_items limits.Parts r 7 ∷ sym symbols.ParenClose ∷ rest) f rest (grouped inner room at f)
   unfolding grouped
   grouped_works r e at rest f =
@@ -163,23 +163,23 @@ module _ (room : ℕ) (inner : Level → Reader Node)
       (λ n g. either_works (more_items limits.Parts r 7 ∷ sym symbols.ParenClose ∷ rest) g (λ _. rest) (is_symbol symbols.Comma g) _ _
       (λ _. tuple_works r e at n rest g) (λ none. alone_works r n rest g none))
 
-  behind_paren_works : (r : ℕ) → room ≡ suc r → (at : ℕ) (rest : List Item) (f : Front) → Done (item.behind_paren r ∷ rest) f rest (parens_behind inner room at f)
+  behind_paren_works : (r : ℕ) → room ≡ suc r → (at : ℕ) (rest : List GrammarItem) (f : Front) → Done (item.behind_paren r ∷ rest) f rest (parens_behind inner room at f)
   unfolding parens_behind step
   behind_paren_works r e at rest f =
       begin (item.behind_paren r) rest f (λ _. rest) _ (both (is_symbol symbols.ParenClose f) _ _ (λ _. rest) _ _ (goes_on (given (λ _. rest) _ (behind f)))
       (both (begins_expr f) _ _ (λ _. rest) _ _ (goes_on (grouped_works r e at rest f)) (stops _ (λ _. rest))))
 
-  parens_work : (rest : List Item) (f : Front) → Left (enter room f (λ q. item.behind_paren q ∷ rest) (behind f)) rest (parens inner room f)
+  parens_work : (rest : List GrammarItem) (f : Front) → Left (enter room f (λ q. item.behind_paren q ∷ rest) (behind f)) rest (parens inner room f)
   unfolding parens
   parens_work rest f = enters room f (λ q. item.behind_paren q ∷ rest) (behind f) (λ _. rest) _ (λ r e. behind_paren_works r e (place f) rest (behind f))
 
-  typed_nil_works : (r : ℕ) → room ≡ suc r → (at : ℕ) (rest : List Item) (f : Front) → Done (a_type r ∷ sym symbols.BracketClose ∷ rest) (behind f) rest (typed_nil inner room at f)
+  typed_nil_works : (r : ℕ) → room ≡ suc r → (at : ℕ) (rest : List GrammarItem) (f : Front) → Done (a_type r ∷ sym symbols.BracketClose ∷ rest) (behind f) rest (typed_nil inner room at f)
   unfolding typed_nil
   typed_nil_works r e at rest f =
       after (a_type r ∷ sym symbols.BracketClose ∷ rest) (behind f) (λ _. sym symbols.BracketClose ∷ rest) (λ _. rest) (type_to room (behind f)) _
       (type_within r e (sym symbols.BracketClose ∷ rest) (behind f)) (λ t g. symbol_works symbols.BracketClose rest g (λ _. rest) _ (given (λ _. rest) _ (behind g)))
 
-  listing_works : (r : ℕ) → room ≡ suc r → (rest : List Item) (f : Front)
+  listing_works : (r : ℕ) → room ≡ suc r → (rest : List GrammarItem) (f : Front)
       → Done (item.whole r ∷ more_items limits.Items r 62 ∷ sym symbols.BracketClose ∷ rest) f rest (listing inner room f)
   unfolding listing
   listing_works r e rest f =
@@ -189,18 +189,18 @@ module _ (room : ℕ) (inner : Level → Reader Node)
       (more (inner levels.Whole) begins_expr symbols.Comma limits.Items wanted.AnExpr 62 (n ∷ []) g) _ (more_work r e limits.Items (sym symbols.BracketClose ∷ rest) 62 (n ∷ []) g)
       (λ all h. symbol_works symbols.BracketClose rest h (λ _. rest) _ (given (λ _. rest) _ (behind h))))
 
-  behind_bracket_works : (r : ℕ) → room ≡ suc r → (at : ℕ) (rest : List Item) (f : Front) → Done (item.behind_bracket r ∷ rest) f rest (brackets_behind inner room at f)
+  behind_bracket_works : (r : ℕ) → room ≡ suc r → (at : ℕ) (rest : List GrammarItem) (f : Front) → Done (item.behind_bracket r ∷ rest) f rest (brackets_behind inner room at f)
   unfolding brackets_behind step
   behind_bracket_works r e at rest f =
       begin (item.behind_bracket r) rest f (λ _. rest) _ (both (is_symbol symbols.BracketClose f) _ _ (λ _. rest) _ _ (goes_on (given (λ _. rest) _ (behind f)))
       (both (is_symbol symbols.Colon f) _ _ (λ _. rest) _ _ (goes_on (typed_nil_works r e at rest f))
       (both (begins_expr f) _ _ (λ _. rest) _ _ (goes_on (listing_works r e rest f)) (stops _ (λ _. rest)))))
 
-  brackets_work : (rest : List Item) (f : Front) → Left (enter room f (λ q. item.behind_bracket q ∷ rest) (behind f)) rest (brackets inner room f)
+  brackets_work : (rest : List GrammarItem) (f : Front) → Left (enter room f (λ q. item.behind_bracket q ∷ rest) (behind f)) rest (brackets inner room f)
   unfolding brackets
   brackets_work rest f = enters room f (λ q. item.behind_bracket q ∷ rest) (behind f) (λ _. rest) _ (λ r e. behind_bracket_works r e (place f) rest (behind f))
 
-  val_works : (r : ℕ) → room ≡ suc r → (at : ℕ) (rest : List Item) (f : Front) → Done (a_val r rest) f rest (binding inner room at f)
+  val_works : (r : ℕ) → room ≡ suc r → (at : ℕ) (rest : List GrammarItem) (f : Front) → Done (a_val r rest) f rest (binding inner room at f)
   unfolding binding
   val_works r e at rest f =
       key_works keys.Val (a_name ∷ sym symbols.Colon ∷ a_type r ∷ sym symbols.Equal ∷ item.whole r ∷ rest) f (λ _. rest) _
@@ -211,7 +211,7 @@ module _ (room : ℕ) (inner : Level → Reader Node)
       (λ t g. symbol_works symbols.Equal (item.whole r ∷ rest) g (λ _. rest) _
       (after (item.whole r ∷ rest) (behind g) (λ _. rest) (λ _. rest) (inner levels.Whole (behind g)) _ (within r e levels.Whole rest (behind g)) (λ n h. given (λ _. rest) _ h))))))
 
-  vals_work : (r : ℕ) → room ≡ suc r → (rest : List Item) (fuel : ℕ) (done : List Bound) (f : Front) → length f.tokens ≤ fuel
+  vals_work : (r : ℕ) → room ≡ suc r → (rest : List GrammarItem) (fuel : ℕ) (done : List Bound) (f : Front) → length f.tokens ≤ fuel
       → Done (more_vals r ∷ rest) f rest (bindings_from inner room fuel done f)
   unfolding bindings_from step
   vals_work r e rest zero done f enough = begin (more_vals r) rest f (λ _. rest) _ (rw (no_val f enough) (goes_on (given (λ _. rest) done f)))
@@ -222,12 +222,12 @@ module _ (room : ℕ) (inner : Level → Reader Node)
       (λ b g d. vals_work r e rest fuel (done ++ b ∷ []) g (let l = (val_shorter d).less in omega (arith, l, enough)))))
       (goes_on (given (λ _. rest) done f)))
 
-  let_works : (rest : List Item) (f : Front)
+  let_works : (rest : List GrammarItem) (f : Front)
       → Left (enter room f (λ q. a_val q (more_vals q ∷ word keys.In ∷ item.whole q ∷ word keys.End ∷ rest)) (behind f)) rest (let_form inner room f)
   unfolding let_form
   let_works rest f =
       enters room f (λ q. a_val q (more_vals q ∷ word keys.In ∷ item.whole q ∷ word keys.End ∷ rest)) (behind f) (λ _. rest) _
-      (λ r e. let tail : List Item = word keys.In ∷ item.whole r ∷ word keys.End ∷ rest in
+      (λ r e. let tail : List GrammarItem = word keys.In ∷ item.whole r ∷ word keys.End ∷ rest in
       after (a_val r (more_vals r ∷ tail)) (behind f) (λ _. more_vals r ∷ tail) (λ _. rest) (binding inner room (place f) (behind f)) _ (val_works r e (place f) (more_vals r ∷ tail) (behind f))
       (λ b g. after (more_vals r ∷ tail) g (λ _. tail) (λ _. rest) (bindings_from inner room (length g.tokens) (b ∷ []) g) _ (vals_work r e tail (length g.tokens) (b ∷ []) g (omega arith))
       (λ all h. key_works keys.In (item.whole r ∷ word keys.End ∷ rest) h (λ _. rest) _
@@ -235,13 +235,13 @@ module _ (room : ℕ) (inner : Level → Reader Node)
       (λ n i. key_works keys.End rest i (λ _. rest) _ (given (λ _. rest) _ (behind i)))))))
 
   -- what may stand behind a clause
-  abbrev Behind : ℕ → ℕ → List Item → Option Name → List Item
+  abbrev Behind : ℕ → ℕ → List GrammarItem → Option Name → List GrammarItem
   Behind r left rest name = if is_some name then maybe_clause r left ∷ rest else rest
 
-  clause_works : (r : ℕ) → room ≡ suc r → (left : ℕ) (rest : List Item) (f : Front) → Works (clauses r (suc left) ∷ rest) f (λ c. Behind r left rest c.name) (clause inner room f)
+  clause_works : (r : ℕ) → room ≡ suc r → (left : ℕ) (rest : List GrammarItem) (f : Front) → Works (clauses r (suc left) ∷ rest) f (λ c. Behind r left rest c.name) (clause inner room f)
   unfolding clause catch_at step
   clause_works r e left rest f =
-      let next : Caught → List Item = λ c. Behind r left rest c.name in
+      let next : Caught → List GrammarItem = λ c. Behind r left rest c.name in
       begin (clauses r (suc left)) rest f next _ (both_then (is_symbol symbols.Underscore f) _ _ next _ _ _
       (goes_on (symbol_works symbols.FatArrow (item.whole r ∷ rest) (behind f) next _
       (after (item.whole r ∷ rest) (behind (behind f)) (λ _. rest) next (inner levels.Whole (behind (behind f))) _ (within r e levels.Whole rest (behind (behind f)))
@@ -252,36 +252,36 @@ module _ (room : ℕ) (inner : Level → Reader Node)
       (within r e levels.Whole (maybe_clause r left ∷ rest) (behind (behind f)))
       (λ n g. given next (record { name = Some name; body = n }) g))))))
 
-  follows_works : (r left : ℕ) (rest : List Item) (name : Option Name) (f : Front) (won : Result (List Caught × Front) ParseFault) (all : List Caught)
+  follows_works : (r left : ℕ) (rest : List GrammarItem) (name : Option Name) (f : Front) (won : Result (List Caught × Front) ParseFault) (all : List Caught)
       → Done (clauses r left ∷ rest) (behind f) rest won → Done (Behind r left rest name) f rest (if clause_follows name f then won else Ok (all, f))
   unfolding clause_follows step
   follows_works r left rest None f won all k = given (λ _. rest) all f
   follows_works r left rest (Some m) f won all k =
       begin (maybe_clause r left) rest f (λ _. rest) _ (both (is_symbol symbols.Bar f) _ _ (λ _. rest) _ _ (goes_on k) (goes_on (given (λ _. rest) all f)))
 
-  clauses_work : (r : ℕ) → room ≡ suc r → (rest : List Item) (left : ℕ) (done : List Caught) (f : Front) → Done (clauses r left ∷ rest) f rest (clauses_from inner room left done f)
+  clauses_work : (r : ℕ) → room ≡ suc r → (rest : List GrammarItem) (left : ℕ) (done : List Caught) (f : Front) → Done (clauses r left ∷ rest) f rest (clauses_from inner room left done f)
   unfolding clauses_from
   clauses_work r e rest zero done f = no_clause r rest f
   clauses_work r e rest (suc left) done f =
       after (clauses r (suc left) ∷ rest) f (λ c. Behind r left rest c.name) (λ _. rest) (clause inner room f) _ (clause_works r e left rest f)
       (λ c g. follows_works r left rest c.name g _ (done ++ c ∷ []) (clauses_work r e rest left (done ++ c ∷ []) (behind g)))
 
-  try_works : (rest : List Item) (f : Front) → Left (enter room f (λ q. item.whole q ∷ word keys.Handle ∷ clauses q 8 ∷ word keys.End ∷ rest) (behind f)) rest (try_form inner room f)
+  try_works : (rest : List GrammarItem) (f : Front) → Left (enter room f (λ q. item.whole q ∷ word keys.Handle ∷ clauses q 8 ∷ word keys.End ∷ rest) (behind f)) rest (try_form inner room f)
   unfolding try_form
   try_works rest f =
       enters room f (λ q. item.whole q ∷ word keys.Handle ∷ clauses q 8 ∷ word keys.End ∷ rest) (behind f) (λ _. rest) _
-      (λ r e. let tail : List Item = word keys.Handle ∷ clauses r 8 ∷ word keys.End ∷ rest in
+      (λ r e. let tail : List GrammarItem = word keys.Handle ∷ clauses r 8 ∷ word keys.End ∷ rest in
       after (item.whole r ∷ tail) (behind f) (λ _. tail) (λ _. rest) (inner levels.Whole (behind f)) _ (within r e levels.Whole tail (behind f))
       (λ n g. key_works keys.Handle (clauses r 8 ∷ word keys.End ∷ rest) g (λ _. rest) _
       (after (clauses r 8 ∷ word keys.End ∷ rest) (behind g) (λ _. word keys.End ∷ rest) (λ _. rest) (clauses_from inner room 8 [] (behind g)) _
       (clauses_work r e (word keys.End ∷ rest) 8 [] (behind g))
       (λ all h. key_works keys.End rest h (λ _. rest) _ (given (λ _. rest) _ (behind h))))))
 
-  raise_plain_works : (at : ℕ) (rest : List Item) (f : Front) → Done (a_name ∷ rest) f rest (raise_plain inner room at f)
+  raise_plain_works : (at : ℕ) (rest : List GrammarItem) (f : Front) → Done (a_name ∷ rest) f rest (raise_plain inner room at f)
   unfolding raise_plain
   raise_plain_works at rest f = name_works rest f (λ _. rest) _ (λ name. given (λ _. rest) _ (behind f))
 
-  raise_typed_works : (at : ℕ) (rest : List Item) (f : Front)
+  raise_typed_works : (at : ℕ) (rest : List GrammarItem) (f : Front)
       → Left (enter room f (λ q. sym symbols.Colon ∷ a_type q ∷ sym symbols.BracketClose ∷ a_name ∷ rest) (behind f)) rest (raise_typed inner room at f)
   unfolding raise_typed
   raise_typed_works at rest f =
@@ -292,44 +292,44 @@ module _ (room : ℕ) (inner : Level → Reader Node)
       (λ t g. symbol_works symbols.BracketClose (a_name ∷ rest) g (λ _. rest) _
       (name_works rest (behind g) (λ _. rest) _ (λ name. given (λ _. rest) _ (behind (behind g)))))))
 
-  raise_works : (rest : List Item) (f : Front) → Done (item.behind_raise room ∷ rest) (behind f) rest (raise_form inner room f)
+  raise_works : (rest : List GrammarItem) (f : Front) → Done (item.behind_raise room ∷ rest) (behind f) rest (raise_form inner room f)
   unfolding raise_form step
   raise_works rest f =
       begin (item.behind_raise room) rest (behind f) (λ _. rest) _ (both (is_symbol symbols.BracketOpen (behind f)) _ _ (λ _. rest) _ _
       (raise_typed_works (place f) rest (behind f)) (goes_on (raise_plain_works (place f) rest (behind f))))
 
-  comma_works : (r : ℕ) → room ≡ suc r → (rest : List Item) (f : Front) → Done (item.whole r ∷ sym symbols.Comma ∷ rest) f rest (before_comma inner room f)
+  comma_works : (r : ℕ) → room ≡ suc r → (rest : List GrammarItem) (f : Front) → Done (item.whole r ∷ sym symbols.Comma ∷ rest) f rest (before_comma inner room f)
   unfolding before_comma
   comma_works r e rest f =
       after (item.whole r ∷ sym symbols.Comma ∷ rest) f (λ _. sym symbols.Comma ∷ rest) (λ _. rest) (inner levels.Whole f) _ (within r e levels.Whole (sym symbols.Comma ∷ rest) f)
       (λ n g. symbol_works symbols.Comma rest g (λ _. rest) _ (given (λ _. rest) n (behind g)))
 
-  close_works : (r : ℕ) → room ≡ suc r → (rest : List Item) (f : Front) → Done (item.whole r ∷ sym symbols.ParenClose ∷ rest) f rest (before_close inner room f)
+  close_works : (r : ℕ) → room ≡ suc r → (rest : List GrammarItem) (f : Front) → Done (item.whole r ∷ sym symbols.ParenClose ∷ rest) f rest (before_close inner room f)
   unfolding before_close
   close_works r e rest f =
       after (item.whole r ∷ sym symbols.ParenClose ∷ rest) f (λ _. sym symbols.ParenClose ∷ rest) (λ _. rest) (inner levels.Whole f) _ (within r e levels.Whole (sym symbols.ParenClose ∷ rest) f)
       (λ n g. symbol_works symbols.ParenClose rest g (λ _. rest) _ (given (λ _. rest) n (behind g)))
 
-  fold_works : (rest : List Item) (f : Front) → Done (open_bracket room item.a_fold ∷ rest) (behind f) rest (fold_parts inner room f)
+  fold_works : (rest : List GrammarItem) (f : Front) → Done (open_bracket room item.a_fold ∷ rest) (behind f) rest (fold_parts inner room f)
   unfolding fold_parts
   fold_works rest f =
       open_works room item.a_fold rest (behind f) (λ _. rest) _
-      (λ r e. let last : List Item = item.whole r ∷ sym symbols.ParenClose ∷ rest in
+      (λ r e. let last : List GrammarItem = item.whole r ∷ sym symbols.ParenClose ∷ rest in
       name_works (sym symbols.Comma ∷ item.whole r ∷ sym symbols.Comma ∷ last) (behind (behind f)) (λ _. rest) _
       (λ name. symbol_works symbols.Comma (item.whole r ∷ sym symbols.Comma ∷ last) (behind (behind (behind f))) (λ _. rest) _
       (after (item.whole r ∷ sym symbols.Comma ∷ last) (behind (behind (behind (behind f)))) (λ _. last) (λ _. rest) (before_comma inner room (behind (behind (behind (behind f))))) _
       (comma_works r e last (behind (behind (behind (behind f)))))
       (λ a g. after last g (λ _. rest) (λ _. rest) (before_close inner room g) _ (close_works r e rest g) (λ b h. given (λ _. rest) _ h)))))
 
-  foldl_works : (rest : List Item) (f : Front) → Done (open_bracket room item.a_fold ∷ rest) (behind f) rest (foldl_form inner room f)
+  foldl_works : (rest : List GrammarItem) (f : Front) → Done (open_bracket room item.a_fold ∷ rest) (behind f) rest (foldl_form inner room f)
   unfolding foldl_form
   foldl_works rest f = after (open_bracket room item.a_fold ∷ rest) (behind f) (λ _. rest) (λ _. rest) (fold_parts inner room f) _ (fold_works rest f) (λ p g. given (λ _. rest) _ g)
 
-  foldr_works : (rest : List Item) (f : Front) → Done (open_bracket room item.a_fold ∷ rest) (behind f) rest (foldr_form inner room f)
+  foldr_works : (rest : List GrammarItem) (f : Front) → Done (open_bracket room item.a_fold ∷ rest) (behind f) rest (foldr_form inner room f)
   unfolding foldr_form
   foldr_works rest f = after (open_bracket room item.a_fold ∷ rest) (behind f) (λ _. rest) (λ _. rest) (fold_parts inner room f) _ (fold_works rest f) (λ p g. given (λ _. rest) _ g)
 
-  eval_works : (rest : List Item) (f : Front) → Done (open_bracket room item.an_eval ∷ rest) (behind f) rest (eval_form inner room f)
+  eval_works : (rest : List GrammarItem) (f : Front) → Done (open_bracket room item.an_eval ∷ rest) (behind f) rest (eval_form inner room f)
   unfolding eval_form
   eval_works rest f =
       open_works room item.an_eval rest (behind f) (λ _. rest) _
@@ -337,10 +337,10 @@ module _ (room : ℕ) (inner : Level → Reader Node)
       (close_works r e rest (behind (behind f))) (λ a g. given (λ _. rest) _ g))
 
   -- the chunk, the host and the bound, before the last part
-  abbrev Three : ℕ → List Item → List Item
+  abbrev Three : ℕ → List GrammarItem → List GrammarItem
   Three r last = item.whole r ∷ sym symbols.Comma ∷ item.whole r ∷ sym symbols.Comma ∷ item.whole r ∷ sym symbols.Comma ∷ last
 
-  send_works : (form : Form) (rest last : List Item) → ((r : ℕ) → room ≡ suc r → inside form r rest ≡ Three r last) → (f : Front)
+  send_works : (form : Form) (rest last : List GrammarItem) → ((r : ℕ) → room ≡ suc r → inside form r rest ≡ Three r last) → (f : Front)
       → Done (open_bracket room form ∷ rest) (behind f) last (send_parts inner room f)
   unfolding send_parts
   send_works form rest last same f =
@@ -352,17 +352,17 @@ module _ (room : ℕ) (inner : Level → Reader Node)
       (comma_works r e (item.whole r ∷ sym symbols.Comma ∷ last) g)
       (λ b h. after (item.whole r ∷ sym symbols.Comma ∷ last) h (λ _. last) (λ _. last) (before_comma inner room h) _ (comma_works r e last h) (λ c i. given (λ _. last) _ i)))))
 
-  remote_works : (rest : List Item) (f : Front) → Done (open_bracket room item.on_remote ∷ rest) (behind f) rest (remote_form inner room f)
+  remote_works : (rest : List GrammarItem) (f : Front) → Done (open_bracket room item.on_remote ∷ rest) (behind f) rest (remote_form inner room f)
   unfolding remote_form
   remote_works rest f =
       after (open_bracket room item.on_remote ∷ rest) (behind f) (λ _. a_name ∷ sym symbols.ParenClose ∷ rest) (λ _. rest) (send_parts inner room f) _
       (send_works item.on_remote rest (a_name ∷ sym symbols.ParenClose ∷ rest) (λ r e. refl) f)
       (λ p g. name_works (sym symbols.ParenClose ∷ rest) g (λ _. rest) _ (λ name. symbol_works symbols.ParenClose rest (behind g) (λ _. rest) _ (given (λ _. rest) _ (behind (behind g)))))
 
-  neighbor_works : (rest : List Item) (f : Front) → Done (open_bracket room item.on_neighbor ∷ rest) (behind f) rest (neighbor_form inner room f)
+  neighbor_works : (rest : List GrammarItem) (f : Front) → Done (open_bracket room item.on_neighbor ∷ rest) (behind f) rest (neighbor_form inner room f)
   unfolding neighbor_form
   neighbor_works rest f =
-      let last : List Item = item.whole (room - 1) ∷ sym symbols.ParenClose ∷ rest in
+      let last : List GrammarItem = item.whole (room - 1) ∷ sym symbols.ParenClose ∷ rest in
       after_read (SendAt room f) (open_bracket room item.on_neighbor ∷ rest) (behind f) (λ _. last) (λ _. rest) (send_parts inner room f) _
       (send_works item.on_neighbor rest last (λ r e. let same : r ≡ room - 1 = omega (arith, e) in ap (λ k. Three r (item.whole k ∷ sym symbols.ParenClose ∷ rest)) same) f)
       (send_reads room inner sound f)
@@ -372,7 +372,7 @@ module _ (room : ℕ) (inner : Level → Reader Node)
       (let same : found.0 ≡ room - 1 = (let h = found.1 in omega (arith, h)) in same) (close_works found.0 found.1 rest g))
       (λ d h. given (λ _. rest) _ h))
 
-  key_follows : (rest : List Item) (f : Front) (k : Key) → Left (key_step room rest f k) rest (key_form inner room k f)
+  key_follows : (rest : List GrammarItem) (f : Front) (k : Key) → Left (key_step room rest f k) rest (key_form inner room k f)
   unfolding key_form
   key_follows rest f keys.Let = let_works rest f
   key_follows rest f keys.Try = try_works rest f
@@ -386,20 +386,20 @@ module _ (room : ℕ) (inner : Level → Reader Node)
   key_follows rest f keys.False = goes_on (given (λ _. rest) _ (behind f))
   key_follows rest f _ = stops _ (λ _. rest)
 
-  symbol_follows : (rest : List Item) (f : Front) (w : Symbol) → Left (symbol_step room rest f w) rest (symbol_form inner room w f)
+  symbol_follows : (rest : List GrammarItem) (f : Front) (w : Symbol) → Left (symbol_step room rest f w) rest (symbol_form inner room w f)
   unfolding symbol_form
   symbol_follows rest f symbols.ParenOpen = parens_work rest f
   symbol_follows rest f symbols.BracketOpen = brackets_work rest f
   symbol_follows rest f symbols.Bar = goes_on (chunk_works rest f)
   symbol_follows rest f _ = stops _ (λ _. rest)
 
-  picked_works : (rest : List Item) (f : Front) (i : ℕ) → Left (enter room f (λ q. item.operand q ∷ rest) (behind f)) rest (picked inner room i f)
+  picked_works : (rest : List GrammarItem) (f : Front) (i : ℕ) → Left (enter room f (λ q. item.operand q ∷ rest) (behind f)) rest (picked inner room i f)
   unfolding picked
   picked_works rest f i =
       enters room f (λ q. item.operand q ∷ rest) (behind f) (λ _. rest) _
       (λ r e. after (item.operand r ∷ rest) (behind f) (λ _. rest) (λ _. rest) (inner levels.Operand (behind f)) _ (within r e levels.Operand rest (behind f)) (λ a g. given (λ _. rest) _ g))
 
-  kind_follows : (rest : List Item) (f : Front) (o : Option TokenKind) → next_kind f ≡ o → Left (operand_step room rest f o) rest (operand_kind inner room f o)
+  kind_follows : (rest : List GrammarItem) (f : Front) (o : Option TokenKind) → next_kind f ≡ o → Left (operand_step room rest f o) rest (operand_kind inner room f o)
   kind_follows rest f None e = stops _ (λ _. rest)
   kind_follows rest f (Some (kinds.Word n)) e = goes_on (named_works f n e rest)
   kind_follows rest f (Some (kinds.Key k)) e = key_follows rest f k
@@ -412,14 +412,14 @@ module _ (room : ℕ) (inner : Level → Reader Node)
   kind_follows rest f (Some (kinds.Str n)) e = goes_on (given (λ _. rest) _ (behind f))
   kind_follows rest f (Some (kinds.Blob n)) e = goes_on (given (λ _. rest) _ (behind f))
 
-  operand_works : (rest : List Item) (f : Front) → Done (item.operand room ∷ rest) f rest (operand inner room f)
+  operand_works : (rest : List GrammarItem) (f : Front) → Done (item.operand room ∷ rest) f rest (operand inner room f)
   unfolding operand step
   operand_works rest f = begin (item.operand room) rest f (λ _. rest) _ (kind_follows rest f (next_kind f) refl)
 
   -- further operands of a chain, of which there are no more than tokens
   module _ (c : Chain) (one : Reader Node) (One : Front → Node → Front → Type 0) (shorter : (f g : Front) (n : Node) → One f n g → Shorter f g)
-      (reads : (f : Front) → Reads (One f) (one f)) (works : (rest : List Item) (f : Front) → Works (side c room ∷ rest) f (λ _. rest) (one f)) where
-    from_works : (rest : List Item) (fuel : ℕ) (left : Node) (f : Front) → length f.tokens ≤ fuel → Works (item.more_of c room ∷ rest) f (λ _. rest) (chain_from one c fuel left f)
+      (reads : (f : Front) → Reads (One f) (one f)) (works : (rest : List GrammarItem) (f : Front) → Works (side c room ∷ rest) f (λ _. rest) (one f)) where
+    from_works : (rest : List GrammarItem) (fuel : ℕ) (left : Node) (f : Front) → length f.tokens ≤ fuel → Works (item.more_of c room ∷ rest) f (λ _. rest) (chain_from one c fuel left f)
     unfolding chain_from step
     from_works rest zero left f enough = begin (item.more_of c room) rest f (λ _. rest) _ (rw (no_joint_left c f enough) (goes_on (given (λ _. rest) left f)))
     from_works rest (suc fuel) left f enough =
@@ -433,22 +433,22 @@ module _ (room : ℕ) (inner : Level → Reader Node)
             (λ b g d. on (joined j left b) g (let l = (joint_stands c f j e).less in let k = (shorter (behind f) g b d).less in omega (arith, l, k, enough))))
         go on None e = goes_on (given (λ _. rest) left f)
 
-    chained_works : (rest : List Item) (f : Front) → Works (item.chain c room ∷ rest) f (λ _. rest) (chained inner room one c f)
+    chained_works : (rest : List GrammarItem) (f : Front) → Works (item.chain c room ∷ rest) f (λ _. rest) (chained inner room one c f)
     unfolding chained step
     chained_works rest f =
         begin (item.chain c room) rest f (λ _. rest) _
         (goes_on (after (side c room ∷ item.more_of c room ∷ rest) f (λ _. item.more_of c room ∷ rest) (λ _. rest) (one f) _ (works (item.more_of c room ∷ rest) f)
         (λ n g. from_works rest (length g.tokens) n g (omega arith))))
 
-  product_works : (rest : List Item) (f : Front) → Done (item.chain chains.Product room ∷ rest) f rest (product inner room f)
+  product_works : (rest : List GrammarItem) (f : Front) → Done (item.chain chains.Product room ∷ rest) f rest (product inner room f)
   unfolding product
   product_works rest f = chained_works chains.Product (operand inner room) (PartAt room) (λ i g n d. part_shorter d) (operand_reads room inner sound) operand_works rest f
 
-  addition_works : (rest : List Item) (f : Front) → Done (item.chain chains.Sum room ∷ rest) f rest (addition inner room f)
+  addition_works : (rest : List GrammarItem) (f : Front) → Done (item.chain chains.Sum room ∷ rest) f rest (addition inner room f)
   unfolding addition
   addition_works rest f = chained_works chains.Sum (product inner room) (MulAt room) (λ i g n d. mul_shorter d) (product_reads room inner sound) product_works rest f
 
-  list_works : (n : Node) (rest : List Item) (f : Front) → Done (item.maybe_listed room ∷ rest) f rest (if is_symbol symbols.DoubleColon f then before_list inner room n (behind f) else Ok (n, f))
+  list_works : (n : Node) (rest : List GrammarItem) (f : Front) → Done (item.maybe_listed room ∷ rest) f rest (if is_symbol symbols.DoubleColon f then before_list inner room n (behind f) else Ok (n, f))
   unfolding before_list step
   list_works n rest f =
       begin (item.maybe_listed room) rest f (λ _. rest) _ (both (is_symbol symbols.DoubleColon f) _ _ (λ _. rest) _ _
@@ -456,20 +456,20 @@ module _ (room : ℕ) (inner : Level → Reader Node)
       (λ r e. after (item.listed r ∷ rest) (behind f) (λ _. rest) (λ _. rest) (inner levels.Listed (behind f)) _ (within r e levels.Listed rest (behind f)) (λ b h. given (λ _. rest) _ h)))
       (goes_on (given (λ _. rest) n f)))
 
-  listed_works : (rest : List Item) (f : Front) → Done (item.listed room ∷ rest) f rest (read.listed inner room f)
+  listed_works : (rest : List GrammarItem) (f : Front) → Done (item.listed room ∷ rest) f rest (read.listed inner room f)
   unfolding read.listed step
   listed_works rest f =
       begin (item.listed room) rest f (λ _. rest) _
       (goes_on (after (item.chain chains.Sum room ∷ item.maybe_listed room ∷ rest) f (λ _. item.maybe_listed room ∷ rest) (λ _. rest) (addition inner room f) _
       (addition_works (item.maybe_listed room ∷ rest) f) (λ n g. list_works n rest g)))
 
-  compared_works : (n : Node) (rest : List Item) (f : Front) (o : Option Joint)
+  compared_works : (n : Node) (rest : List GrammarItem) (f : Front) (o : Option Joint)
       → Left (if is_some o then Ok (item.listed room ∷ rest, behind f) else Ok (rest, f)) rest (compared inner room n f o)
   compared_works n rest f (Some j) =
       goes_on (after (item.listed room ∷ rest) (behind f) (λ _. rest) (λ _. rest) (read.listed inner room (behind f)) _ (listed_works rest (behind f)) (λ b h. given (λ _. rest) _ h))
   compared_works n rest f None = goes_on (given (λ _. rest) n f)
 
-  comparison_works : (rest : List Item) (f : Front) → Done (item.compared room ∷ rest) f rest (comparison inner room f)
+  comparison_works : (rest : List GrammarItem) (f : Front) → Done (item.compared room ∷ rest) f rest (comparison inner room f)
   unfolding comparison step
   comparison_works rest f =
       begin (item.compared room) rest f (λ _. rest) _
@@ -477,43 +477,43 @@ module _ (room : ℕ) (inner : Level → Reader Node)
       (listed_works (item.maybe_compared room ∷ rest) f)
       (λ n g. begin (item.maybe_compared room) rest g (λ _. rest) _ (compared_works n rest g (joint_of chains.Comparison (next_kind g))))))
 
-  negation_works : (rest : List Item) (f : Front) → Left (enter room f (λ q. item.negated q ∷ rest) (behind f)) rest (negation inner room f)
+  negation_works : (rest : List GrammarItem) (f : Front) → Left (enter room f (λ q. item.negated q ∷ rest) (behind f)) rest (negation inner room f)
   unfolding negation
   negation_works rest f =
       enters room f (λ q. item.negated q ∷ rest) (behind f) (λ _. rest) _
       (λ r e. after (item.negated r ∷ rest) (behind f) (λ _. rest) (λ _. rest) (inner levels.Negated (behind f)) _ (within r e levels.Negated rest (behind f)) (λ a g. given (λ _. rest) _ g))
 
-  negated_works : (rest : List Item) (f : Front) → Done (item.negated room ∷ rest) f rest (read.negated inner room f)
+  negated_works : (rest : List GrammarItem) (f : Front) → Done (item.negated room ∷ rest) f rest (read.negated inner room f)
   unfolding read.negated step
   negated_works rest f =
       begin (item.negated room) rest f (λ _. rest) _ (both (is_key keys.Not f) _ _ (λ _. rest) _ _ (negation_works rest f) (goes_on (comparison_works rest f)))
 
-  conjunction_works : (rest : List Item) (f : Front) → Done (item.chain chains.And room ∷ rest) f rest (conjunction inner room f)
+  conjunction_works : (rest : List GrammarItem) (f : Front) → Done (item.chain chains.And room ∷ rest) f rest (conjunction inner room f)
   unfolding conjunction
   conjunction_works rest f = chained_works chains.And (read.negated inner room) (NotAt room) (λ i g n d. not_shorter d) (negated_reads room inner sound) negated_works rest f
 
-  disjunction_works : (rest : List Item) (f : Front) → Done (item.chain chains.Or room ∷ rest) f rest (disjunction inner room f)
+  disjunction_works : (rest : List GrammarItem) (f : Front) → Done (item.chain chains.Or room ∷ rest) f rest (disjunction inner room f)
   unfolding disjunction
   disjunction_works rest f = chained_works chains.Or (conjunction inner room) (AndAt room) (λ i g n d. and_shorter d) (conjunction_reads room inner sound) conjunction_works rest f
 
-  condition_works : (rest : List Item) (f : Front)
+  condition_works : (rest : List GrammarItem) (f : Front)
       → Left (enter room f (λ q. item.whole q ∷ word keys.Then ∷ item.low q ∷ word keys.Else ∷ item.low q ∷ rest) (behind f)) rest (condition inner room f)
   unfolding condition
   condition_works rest f =
       enters room f (λ q. item.whole q ∷ word keys.Then ∷ item.low q ∷ word keys.Else ∷ item.low q ∷ rest) (behind f) (λ _. rest) _
-      (λ r e. let third : List Item = item.low r ∷ rest in let second : List Item = item.low r ∷ word keys.Else ∷ third in
+      (λ r e. let third : List GrammarItem = item.low r ∷ rest in let second : List GrammarItem = item.low r ∷ word keys.Else ∷ third in
       after (item.whole r ∷ word keys.Then ∷ second) (behind f) (λ _. word keys.Then ∷ second) (λ _. rest) (inner levels.Whole (behind f)) _ (within r e levels.Whole (word keys.Then ∷ second) (behind f))
       (λ c g. key_works keys.Then second g (λ _. rest) _
       (after second (behind g) (λ _. word keys.Else ∷ third) (λ _. rest) (inner levels.Low (behind g)) _ (within r e levels.Low (word keys.Else ∷ third) (behind g))
       (λ a h. key_works keys.Else third h (λ _. rest) _
       (after third (behind h) (λ _. rest) (λ _. rest) (inner levels.Low (behind h)) _ (within r e levels.Low rest (behind h)) (λ b i. given (λ _. rest) _ i))))))
 
-  low_works : (rest : List Item) (f : Front) → Done (item.low room ∷ rest) f rest (read.low inner room f)
+  low_works : (rest : List GrammarItem) (f : Front) → Done (item.low room ∷ rest) f rest (read.low inner room f)
   unfolding read.low step
   low_works rest f =
       begin (item.low room) rest f (λ _. rest) _ (both (is_key keys.If f) _ _ (λ _. rest) _ _ (condition_works rest f) (goes_on (disjunction_works rest f)))
 
-  next_works : (n : Node) (rest : List Item) (f : Front) → Done (item.maybe_next room ∷ rest) f rest (if is_symbol symbols.Semicolon f then before_next inner room n (behind f) else Ok (n, f))
+  next_works : (n : Node) (rest : List GrammarItem) (f : Front) → Done (item.maybe_next room ∷ rest) f rest (if is_symbol symbols.Semicolon f then before_next inner room n (behind f) else Ok (n, f))
   unfolding before_next step
   next_works n rest f =
       begin (item.maybe_next room) rest f (λ _. rest) _ (both (is_symbol symbols.Semicolon f) _ _ (λ _. rest) _ _
@@ -521,14 +521,14 @@ module _ (room : ℕ) (inner : Level → Reader Node)
       (λ r e. after (item.whole r ∷ rest) (behind f) (λ _. rest) (λ _. rest) (inner levels.Whole (behind f)) _ (within r e levels.Whole rest (behind f)) (λ b h. given (λ _. rest) _ h)))
       (goes_on (given (λ _. rest) n f)))
 
-  whole_works : (rest : List Item) (f : Front) → Done (item.whole room ∷ rest) f rest (read.whole inner room f)
+  whole_works : (rest : List GrammarItem) (f : Front) → Done (item.whole room ∷ rest) f rest (read.whole inner room f)
   unfolding read.whole step
   whole_works rest f =
       begin (item.whole room) rest f (λ _. rest) _
       (goes_on (after (item.low room ∷ item.maybe_next room ∷ rest) f (λ _. item.maybe_next room ∷ rest) (λ _. rest) (read.low inner room f) _ (low_works (item.maybe_next room ∷ rest) f)
       (λ n g. next_works n rest g)))
 
-  pub level_works : (l : Level) (rest : List Item) (f : Front) → Done (at_item l room ∷ rest) f rest (at_level inner room l f)
+  pub level_works : (l : Level) (rest : List GrammarItem) (f : Front) → Done (at_item l room ∷ rest) f rest (at_level inner room l f)
   unfolding at_level
   level_works levels.Whole rest f = whole_works rest f
   level_works levels.Low rest f = low_works rest f
@@ -541,7 +541,7 @@ sound_within : (r s : ℕ) → suc r ≡ suc s → (l : Level) (f : Front) → R
 sound_within r s e l f = subst (λ k. Reads (AtLevel k l f) (expr_to (suc r) l f)) (let same : r ≡ s = omega (arith, e) in same) (exprs_read r l f)
 
 -- the reading of an expression works off its agenda
-pub exprs_work : (r : ℕ) (l : Level) (more : List Item) (f : Front) → Works (at_item l r ∷ more) f (λ _. more) (expr_to (suc r) l f)
+pub exprs_work : (r : ℕ) (l : Level) (more : List GrammarItem) (f : Front) → Works (at_item l r ∷ more) f (λ _. more) (expr_to (suc r) l f)
 unfolding expr_to
 exprs_work zero l more f =
     level_works 0 (expr_to 0) (λ r e m g. absurd (let none : 0 ≡ suc r = e in omega (arith, none))) (λ r e m rest g. absurd (let none : 0 ≡ suc r = e in omega (arith, none))) l more f

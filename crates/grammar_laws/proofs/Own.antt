@@ -21,7 +21,7 @@ use Rattle.plan_grammar.specs.Begins.{kind_type, begins_type, begins_operand, be
 use Rattle.plan_grammar.specs.Types.{past}
 use Rattle.plan_grammar.specs.Joints.{joint_of}
 use Rattle.plan_grammar.specs.Exprs.{begins_clause}
-use Rattle.grammar_laws.specs.Agenda.{StepOf, expected, Step, Item, sym, word, a_name, a_type, lists, first_type, behind_first, next_type, behind_next, whole, maybe_next, low, chain, more_of, negated, compared, maybe_compared, listed, maybe_listed, operand, maybe_call, behind_paren, behind_bracket, behind_raise, open_bracket, args, more_items, more_vals, clauses, maybe_clause, types, more_types, params, more_params, declarations, declaration, body, judgement, Counted, enter, key_step, symbol_step, operand_step, name_step, type_step, right_side, body_size, judge, another, step}
+use Rattle.grammar_laws.specs.Agenda.{StepOf, expected, GrammarStep, GrammarItem, sym, word, a_name, a_type, lists, first_type, behind_first, next_type, behind_next, whole, maybe_next, low, chain, more_of, negated, compared, maybe_compared, listed, maybe_listed, operand, maybe_call, behind_paren, behind_bracket, behind_raise, open_bracket, args, more_items, more_vals, clauses, maybe_clause, types, more_types, params, more_params, declarations, declaration, body, judgement, Counted, enter, key_step, symbol_step, operand_step, name_step, type_step, right_side, body_size, judge, another, step}
 
 -- a step that goes on, or refuses for a reason of the tokens' own
 pub Own : {I : Type 0} → StepOf I → Type 0
@@ -71,11 +71,11 @@ first_own step own e _ _ (later i more f next g h r) = first_own step own e next
 
 -- ---- the steps of types, expressions and declarations
 
-enter_own : (r : ℕ) (at : Front) (items : ℕ → List Item) (f : Front) → Own (enter r at items f)
+enter_own : (r : ℕ) (at : Front) (items : ℕ → List GrammarItem) (f : Front) → Own (enter r at items f)
 enter_own zero at items f = too_deep _ (place at)
 enter_own (suc r) at items f = goes_on _ _
 
-key_own : (r : ℕ) (more : List Item) (f : Front) (k : Key) → Own (key_step r more f k)
+key_own : (r : ℕ) (more : List GrammarItem) (f : Front) (k : Key) → Own (key_step r more f k)
 key_own r more f keys.Let = enter_own r f _ (behind f)
 key_own r more f keys.Try = enter_own r f _ (behind f)
 key_own r more f keys.Raise = goes_on _ _
@@ -88,13 +88,13 @@ key_own r more f keys.True = goes_on _ _
 key_own r more f keys.False = goes_on _ _
 key_own r more f _ = expects _ wanted.AnExpr f
 
-symbol_own : (r : ℕ) (more : List Item) (f : Front) (s : Symbol) → Own (symbol_step r more f s)
+symbol_own : (r : ℕ) (more : List GrammarItem) (f : Front) (s : Symbol) → Own (symbol_step r more f s)
 symbol_own r more f symbols.ParenOpen = enter_own r f _ (behind f)
 symbol_own r more f symbols.BracketOpen = enter_own r f _ (behind f)
 symbol_own r more f symbols.Bar = goes_on _ _
 symbol_own r more f _ = expects _ wanted.AnExpr f
 
-operand_own : (r : ℕ) (more : List Item) (f : Front) (k : Option TokenKind) → Own (operand_step r more f k)
+operand_own : (r : ℕ) (more : List GrammarItem) (f : Front) (k : Option TokenKind) → Own (operand_step r more f k)
 operand_own r more f None = expects _ wanted.AnExpr f
 operand_own r more f (Some (kinds.Word _)) = goes_on _ _
 operand_own r more f (Some (kinds.Key k)) = key_own r more f k
@@ -102,25 +102,25 @@ operand_own r more f (Some (kinds.Symbol s)) = symbol_own r more f s
 operand_own r more f (Some (kinds.Part _)) = enter_own r f _ (behind f)
 operand_own r more f (Some _) = goes_on _ _
 
-name_own : (more : List Item) (f : Front) (k : Option TokenKind) → Own (name_step more f k)
+name_own : (more : List GrammarItem) (f : Front) (k : Option TokenKind) → Own (name_step more f k)
 name_own more f None = expects _ wanted.AName f
 name_own more f (Some (kinds.Word _)) = goes_on _ _
 name_own more f (Some _) = expects _ wanted.AName f
 
-type_own : (more : List Item) (f : Front) (t : Option Ty) → Own (type_step more f t)
+type_own : (more : List GrammarItem) (f : Front) (t : Option Ty) → Own (type_step more f t)
 type_own more f (Some t) = goes_on _ _
 type_own more f None = expects _ wanted.AType f
 
-right_own : (begins : Front → Bool) (r : ℕ) (items : ℕ → List Item) (f : Front) → Own (right_side begins r items f)
+right_own : (begins : Front → Bool) (r : ℕ) (items : ℕ → List GrammarItem) (f : Front) → Own (right_side begins r items f)
 right_own begins r items f = either (begins f) _ _ (enter_own r f items f) (expects _ wanted.AnExpr f)
 
-judge_own : (at : ℕ) (size : ℕ × ℕ) (c : Counted) (more : List Item) (f : Front) → Own (judge at size c more f)
+judge_own : (at : ℕ) (size : ℕ × ℕ) (c : Counted) (more : List GrammarItem) (f : Front) → Own (judge at size c more f)
 judge_own at size c more f = either (nat_lt 64 size.0) _ _ (too_deep _ at) (either (nat_lt 4096 (c.exprs + size.1)) _ _ (too_many _ limits.Nodes at) (goes_on _ _))
 
-another_own : (count : ℕ) (l : Limit) (items : List Item) (f : Front) → Own (another count l items f)
+another_own : (count : ℕ) (l : Limit) (items : List GrammarItem) (f : Front) → Own (another count l items f)
 another_own count l items f = either (nat_lt count 64) _ _ (goes_on _ _) (too_many _ l (place f))
 
-step_own : (i : Item) (more : List Item) (f : Front) → Own (step i more f)
+step_own : (i : GrammarItem) (more : List GrammarItem) (f : Front) → Own (step i more f)
 unfolding step
 step_own (sym w) more f = either (is_symbol w f) _ _ (goes_on _ _) (expects _ (wanted.Symbol w) f)
 step_own (word k) more f = either (is_key k f) _ _ (goes_on _ _) (expects _ (wanted.Key k) f)
@@ -170,5 +170,5 @@ step_own (declaration c) more f =
 step_own (body at c) more f = goes_on _ _
 step_own (judgement at start c) more f = judge_own at (body_size start) c more f
 
-pub agenda_own : (e : ParseFault) (is : List Item) (f : Front) → FirstFault step e is f → e ≢ NoMemory
+pub agenda_own : (e : ParseFault) (is : List GrammarItem) (f : Front) → FirstFault step e is f → e ≢ NoMemory
 agenda_own = first_own step step_own

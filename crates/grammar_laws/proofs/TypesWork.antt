@@ -14,7 +14,7 @@ use Rattle.plan_grammar.specs.declared.fault.Wanted.TheVariants as wanted
 use Rattle.plan_grammar.specs.Ahead.{Front, Reader, ◌>>=◌, place, behind, next_kind, is_key, is_symbol}
 use Rattle.plan_grammar.specs.Begins.{kind_type, begins_type}
 use Rattle.plan_grammar.specs.Types.{more, named, is_list_word, after_lists, list_words, behind_lists, lists_of, judged, tuple_type, single_type, group_type, base_type, whole_type, type_to}
-use Rattle.grammar_laws.specs.Agenda.{Item, a_type, lists, first_type, behind_first, next_type, behind_next, sym, Step, enter, hand, type_step, step}
+use Rattle.grammar_laws.specs.Agenda.{GrammarItem, a_type, lists, first_type, behind_first, next_type, behind_next, sym, GrammarStep, enter, hand, type_step, step}
 use Rattle.grammar_laws.proofs.TypesRead.{depth_of_lists}
 use Rattle.grammar_laws.proofs.TypesAre.{left_behind}
 use Rattle.grammar_laws.proofs.Works.{Works, Follows, goes_on, stops, begin, after, given, both, symbol_works, enters}
@@ -26,14 +26,14 @@ deepest_last : (ts : List Ty) (t : Ty) → largest_by type_depth (ts ++ t ∷ []
 deepest_last ts t = fold-append _ _ ts (t ∷ [])
 
 -- the words `list` behind a base, and the judgement at their end
-module _ (start end : ℕ) (base : Ty) (more : List Item) where
-  abbrev Handed : Ty → List Item
+module _ (start end : ℕ) (base : Ty) (more : List GrammarItem) where
+  abbrev Handed : Ty → List GrammarItem
   Handed t = hand (type_depth t) more
 
   abbrev Ends : ℕ × List Token → Result (Ty × Front) ParseFault
   Ends p = judged start p.0 base >>= left_behind (record { tokens = p.1; end = end })
 
-  abbrev Judge : ℕ → List Token → Step
+  abbrev Judge : ℕ → List Token → GrammarStep
   Judge n ts = if nat_lt 8 (type_depth base + n) then Err (TooDeep start) else Ok (hand (type_depth base + n) more, record { tokens = ts; end = end })
 
   ended : (n : ℕ) (ts : List Token) → Follows (Judge n ts) Handed (Ends (n, ts))
@@ -65,16 +65,16 @@ module _ (start end : ℕ) (base : Ty) (more : List Item) where
       go w false = ended n (t ∷ ts)
 
 module _ (room : ℕ) (inner : Reader Ty)
-    (inside : (r : ℕ) → room ≡ suc r → (more : List Item) (f : Front) → Works (a_type r ∷ more) f (λ t. hand (type_depth t) more) (inner f)) where
-  parts_work : (r : ℕ) → room ≡ suc r → (start : ℕ) (rest : List Item) (left : ℕ) (done : List Ty) (f : Front)
+    (inside : (r : ℕ) → room ≡ suc r → (more : List GrammarItem) (f : Front) → Works (a_type r ∷ more) f (λ t. hand (type_depth t) more) (inner f)) where
+  parts_work : (r : ℕ) → room ≡ suc r → (start : ℕ) (rest : List GrammarItem) (left : ℕ) (done : List Ty) (f : Front)
       → Works (behind_next r start left (largest_by type_depth done) ∷ rest) f (λ ts. sym symbols.ParenClose ∷ lists start (1 + largest_by type_depth ts) ∷ rest)
       (more inner begins_type symbols.Star limits.Parts wanted.AType left done f)
   unfolding more step
   parts_work r e start rest zero done f =
-      let next : List Ty → List Item = λ ts. sym symbols.ParenClose ∷ lists start (1 + largest_by type_depth ts) ∷ rest in
+      let next : List Ty → List GrammarItem = λ ts. sym symbols.ParenClose ∷ lists start (1 + largest_by type_depth ts) ∷ rest in
       begin (behind_next r start 0 (largest_by type_depth done)) rest f next _ (both (is_symbol symbols.Star f) _ _ next _ _ (stops _ next) (goes_on (given next done f)))
   parts_work r e start rest (suc left) done f =
-      let next : List Ty → List Item = λ ts. sym symbols.ParenClose ∷ lists start (1 + largest_by type_depth ts) ∷ rest in
+      let next : List Ty → List GrammarItem = λ ts. sym symbols.ParenClose ∷ lists start (1 + largest_by type_depth ts) ∷ rest in
       begin (behind_next r start (suc left) (largest_by type_depth done)) rest f next _ (both (is_symbol symbols.Star f) _ _ next _ _
       (goes_on (after (a_type r ∷ next_type r start left (largest_by type_depth done) ∷ rest) (behind f)
       (λ t. behind_next r start left (max (largest_by type_depth done) (type_depth t)) ∷ rest) next (inner (behind f)) _
@@ -83,10 +83,10 @@ module _ (room : ℕ) (inner : Reader Ty)
       (deepest_last done t) (parts_work r e start rest left (done ++ t ∷ []) g))))
       (goes_on (given next done f)))
 
-  abbrev Based : ℕ → List Item → Ty → List Item
+  abbrev Based : ℕ → List GrammarItem → Ty → List GrammarItem
   Based start more t = lists start (type_depth t) ∷ more
 
-  tuple_works : (r : ℕ) → room ≡ suc r → (start : ℕ) (rest : List Item) (first : Ty) (f : Front)
+  tuple_works : (r : ℕ) → room ≡ suc r → (start : ℕ) (rest : List GrammarItem) (first : Ty) (f : Front)
       → Works (behind_next r start 7 (type_depth first) ∷ rest) f (Based start rest) (tuple_type inner room first f)
   unfolding tuple_type
   tuple_works r e start rest first f =
@@ -100,19 +100,19 @@ module _ (room : ℕ) (inner : Reader Ty)
       alone : (d : ℕ) → max 0 d ≡ d
       alone d = omega arith
 
-  single_works : (start : ℕ) (rest : List Item) (first : Ty) (f : Front)
+  single_works : (start : ℕ) (rest : List GrammarItem) (first : Ty) (f : Front)
       → Works (sym symbols.ParenClose ∷ lists start (type_depth first) ∷ rest) f (Based start rest) (single_type inner room first f)
   unfolding single_type
   single_works start rest first f = symbol_works symbols.ParenClose (lists start (type_depth first) ∷ rest) f (Based start rest) _ (given (Based start rest) first (behind f))
 
-  behind_first_works : (r : ℕ) → room ≡ suc r → (start : ℕ) (rest : List Item) (first : Ty) (f : Front)
+  behind_first_works : (r : ℕ) → room ≡ suc r → (start : ℕ) (rest : List GrammarItem) (first : Ty) (f : Front)
       → Works (behind_first r start (type_depth first) ∷ rest) f (Based start rest) (if is_symbol symbols.Star f then tuple_type inner room first f else single_type inner room first f)
   unfolding step
   behind_first_works r e start rest first f =
       begin (behind_first r start (type_depth first)) rest f (Based start rest) _
       (both (is_symbol symbols.Star f) _ _ (Based start rest) _ _ (goes_on (tuple_works r e start rest first f)) (goes_on (single_works start rest first f)))
 
-  group_works : (rest : List Item) (f : Front)
+  group_works : (rest : List GrammarItem) (f : Front)
       → Follows (enter room f (λ q. a_type q ∷ first_type q (place f) ∷ rest) (behind f)) (Based (place f) rest) (group_type inner room f)
   unfolding group_type
   group_works rest f =
@@ -120,30 +120,30 @@ module _ (room : ℕ) (inner : Reader Ty)
       (λ r e. after (a_type r ∷ first_type r (place f) ∷ rest) (behind f) (λ t. behind_first r (place f) (type_depth t) ∷ rest) (Based (place f) rest) (inner (behind f)) _
       (inside r e (first_type r (place f) ∷ rest) (behind f)) (λ t g. behind_first_works r e (place f) rest t g))
 
-  named_works : (rest : List Item) (f : Front) (o : Option Ty) → Follows (type_step rest f o) (Based (place f) rest) (named f o)
+  named_works : (rest : List GrammarItem) (f : Front) (o : Option Ty) → Follows (type_step rest f o) (Based (place f) rest) (named f o)
   named_works rest f (Some t) = goes_on (given (Based (place f) rest) t (behind f))
   named_works rest f None = stops _ (Based (place f) rest)
 
-  base_works : (rest : List Item) (f : Front) → Works (a_type room ∷ rest) f (Based (place f) rest) (base_type inner room f)
+  base_works : (rest : List GrammarItem) (f : Front) → Works (a_type room ∷ rest) f (Based (place f) rest) (base_type inner room f)
   unfolding base_type step
   base_works rest f =
       begin (a_type room) rest f (Based (place f) rest) _
       (both (is_symbol symbols.ParenOpen f) _ _ (Based (place f) rest) _ _ (group_works rest f) (named_works rest f (kind_type (next_kind f))))
 
-  tail_works : (rest : List Item) (start : ℕ) (base : Ty) (g : Front)
+  tail_works : (rest : List GrammarItem) (start : ℕ) (base : Ty) (g : Front)
       → Works (lists start (type_depth base) ∷ rest) g (λ t. hand (type_depth t) rest) (judged start (list_words g) base >>= left_behind (behind_lists g))
   unfolding list_words behind_lists
   tail_works rest start base g =
       subst (λ d. Works (lists start d ∷ rest) g (λ t. hand (type_depth t) rest) (Ends start g.end base rest (after_lists 0 g.tokens)))
       (let e : type_depth base + 0 ≡ type_depth base = omega arith in e) (words_work start g.end base rest g.tokens 0)
 
-  pub whole_works : (rest : List Item) (f : Front) → Works (a_type room ∷ rest) f (λ t. hand (type_depth t) rest) (whole_type inner room f)
+  pub whole_works : (rest : List GrammarItem) (f : Front) → Works (a_type room ∷ rest) f (λ t. hand (type_depth t) rest) (whole_type inner room f)
   unfolding whole_type
   whole_works rest f =
       after (a_type room ∷ rest) f (Based (place f) rest) (λ t. hand (type_depth t) rest) (base_type inner room f) _ (base_works rest f) (λ base g. tail_works rest (place f) base g)
 
 -- the reading of a type works off its agenda
-pub types_work : (r : ℕ) (more : List Item) (f : Front) → Works (a_type r ∷ more) f (λ t. hand (type_depth t) more) (type_to (suc r) f)
+pub types_work : (r : ℕ) (more : List GrammarItem) (f : Front) → Works (a_type r ∷ more) f (λ t. hand (type_depth t) more) (type_to (suc r) f)
 unfolding type_to
 types_work zero more f = whole_works 0 (type_to 0) (λ r e m g. absurd (let none : 0 ≡ suc r = e in omega (arith, none))) more f
 types_work (suc r) more f =

@@ -43,53 +43,53 @@ pub record Counted : Type 0 where
   pub end : ℕ
 
 -- what must be read; r constructs may still open, and `left` more items may follow
-pub data Item : Type 0 where
+pub data GrammarItem : Type 0 where
   -- a symbol, a reserved word, a name
-  sym : Symbol → Item
-  word : Key → Item
-  a_name : Item
+  sym : Symbol → GrammarItem
+  word : Key → GrammarItem
+  a_name : GrammarItem
   -- a type; the words `list` behind one of that depth which began there; behind the first type in brackets, and behind
   -- further ones, before and after the depth of the type that was just read is known
-  a_type : ℕ → Item
-  lists : ℕ → ℕ → Item
-  first_type : ℕ → ℕ → Item
-  behind_first : ℕ → ℕ → ℕ → Item
-  next_type : ℕ → ℕ → ℕ → ℕ → Item
-  behind_next : ℕ → ℕ → ℕ → ℕ → Item
+  a_type : ℕ → GrammarItem
+  lists : ℕ → ℕ → GrammarItem
+  first_type : ℕ → ℕ → GrammarItem
+  behind_first : ℕ → ℕ → ℕ → GrammarItem
+  next_type : ℕ → ℕ → ℕ → ℕ → GrammarItem
+  behind_next : ℕ → ℕ → ℕ → ℕ → GrammarItem
   -- an expression, and what each level is made of
-  whole : ℕ → Item
-  maybe_next : ℕ → Item
-  low : ℕ → Item
-  chain : Chain → ℕ → Item
-  more_of : Chain → ℕ → Item
-  negated : ℕ → Item
-  compared : ℕ → Item
-  maybe_compared : ℕ → Item
-  listed : ℕ → Item
-  maybe_listed : ℕ → Item
-  operand : ℕ → Item
+  whole : ℕ → GrammarItem
+  maybe_next : ℕ → GrammarItem
+  low : ℕ → GrammarItem
+  chain : Chain → ℕ → GrammarItem
+  more_of : Chain → ℕ → GrammarItem
+  negated : ℕ → GrammarItem
+  compared : ℕ → GrammarItem
+  maybe_compared : ℕ → GrammarItem
+  listed : ℕ → GrammarItem
+  maybe_listed : ℕ → GrammarItem
+  operand : ℕ → GrammarItem
   -- behind a name, `(`, `[` and `raise`; a bracket that must open; arguments behind it; further items
-  maybe_call : ℕ → Item
-  behind_paren : ℕ → Item
-  behind_bracket : ℕ → Item
-  behind_raise : ℕ → Item
-  open_bracket : ℕ → Form → Item
-  args : ℕ → Item
-  more_items : Limit → ℕ → ℕ → Item
+  maybe_call : ℕ → GrammarItem
+  behind_paren : ℕ → GrammarItem
+  behind_bracket : ℕ → GrammarItem
+  behind_raise : ℕ → GrammarItem
+  open_bracket : ℕ → Form → GrammarItem
+  args : ℕ → GrammarItem
+  more_items : Limit → ℕ → ℕ → GrammarItem
   -- further `val`; a clause and those behind it
-  more_vals : ℕ → Item
-  clauses : ℕ → ℕ → Item
-  maybe_clause : ℕ → ℕ → Item
+  more_vals : ℕ → GrammarItem
+  clauses : ℕ → ℕ → GrammarItem
+  maybe_clause : ℕ → ℕ → GrammarItem
   -- behind the bracket of a head: types or parameters, and further ones
-  types : Item
-  more_types : ℕ → Item
-  params : Item
-  more_params : ℕ → Item
+  types : GrammarItem
+  more_types : ℕ → GrammarItem
+  params : GrammarItem
+  more_params : ℕ → GrammarItem
   -- further declarations; one; the body of a function that began there, and the judgement of the body that began at a front
-  declarations : Counted → Item
-  declaration : Counted → Item
-  body : ℕ → Counted → Item
-  judgement : ℕ → Front → Counted → Item
+  declarations : Counted → GrammarItem
+  declaration : Counted → GrammarItem
+  body : ℕ → Counted → GrammarItem
+  judgement : ℕ → Front → Counted → GrammarItem
 
 -- what was taken of an agenda of such items, and where the reading goes on
 abbrev pub StepOf : Type 0 → Type 0
@@ -98,22 +98,22 @@ StepOf I = Result (List I × Front) ParseFault
 abbrev pub expected : {I : Type 0} → Wanted → Front → StepOf I
 expected what f = Err (Expected what (place f))
 
-abbrev pub Step : Type 0
-Step = StepOf Item
+abbrev pub GrammarStep : Type 0
+GrammarStep = StepOf GrammarItem
 
 -- a construct opens here, if one more may
-abbrev pub enter : ℕ → Front → (ℕ → List Item) → Front → Step
+abbrev pub enter : ℕ → Front → (ℕ → List GrammarItem) → Front → GrammarStep
 enter zero at items f = Err (TooDeep (place at))
 enter (suc r) at items f = Ok (items r, f)
 
 -- the depth of a type that ends is handed to what waits for it
-abbrev pub hand : ℕ → List Item → List Item
+abbrev pub hand : ℕ → List GrammarItem → List GrammarItem
 hand deep (first_type r start ∷ more) = behind_first r start deep ∷ more
 hand deep (next_type r start left deepest ∷ more) = behind_next r start left (max deepest deep) ∷ more
 hand deep more = more
 
 -- what a chain joins
-abbrev pub side : Chain → ℕ → Item
+abbrev pub side : Chain → ℕ → GrammarItem
 side chains.Or r = chain chains.And r
 side chains.And r = negated r
 side chains.Comparison r = listed r
@@ -121,11 +121,11 @@ side chains.Sum r = chain chains.Product r
 side chains.Product r = operand r
 
 -- one `val`
-abbrev pub a_val : ℕ → List Item → List Item
+abbrev pub a_val : ℕ → List GrammarItem → List GrammarItem
 a_val r more = word keys.Val ∷ a_name ∷ sym symbols.Colon ∷ a_type r ∷ sym symbols.Equal ∷ whole r ∷ more
 
 -- what stands behind the bracket of a form
-abbrev pub inside : Form → ℕ → List Item → List Item
+abbrev pub inside : Form → ℕ → List GrammarItem → List GrammarItem
 inside a_call r more = args r ∷ more
 inside a_fold r more = a_name ∷ sym symbols.Comma ∷ whole r ∷ sym symbols.Comma ∷ whole r ∷ sym symbols.ParenClose ∷ more
 inside an_eval r more = whole r ∷ sym symbols.ParenClose ∷ more
@@ -135,7 +135,7 @@ inside on_neighbor r more =
     whole r ∷ sym symbols.Comma ∷ whole r ∷ sym symbols.Comma ∷ whole r ∷ sym symbols.Comma ∷ whole r ∷ sym symbols.ParenClose ∷ more
 
 -- what a reserved word, a symbol or another token begins as an operand
-abbrev pub key_step : ℕ → List Item → Front → Key → Step
+abbrev pub key_step : ℕ → List GrammarItem → Front → Key → GrammarStep
 key_step r more f keys.Let = enter r f (λ q. a_val q (more_vals q ∷ word keys.In ∷ whole q ∷ word keys.End ∷ more)) (behind f)
 key_step r more f keys.Try = enter r f (λ q. whole q ∷ word keys.Handle ∷ clauses q 8 ∷ word keys.End ∷ more) (behind f)
 key_step r more f keys.Raise = Ok (behind_raise r ∷ more, behind f)
@@ -148,13 +148,13 @@ key_step r more f keys.True = Ok (more, behind f)
 key_step r more f keys.False = Ok (more, behind f)
 key_step r more f _ = expected wanted.AnExpr f
 
-abbrev pub symbol_step : ℕ → List Item → Front → Symbol → Step
+abbrev pub symbol_step : ℕ → List GrammarItem → Front → Symbol → GrammarStep
 symbol_step r more f symbols.ParenOpen = enter r f (λ q. behind_paren q ∷ more) (behind f)
 symbol_step r more f symbols.BracketOpen = enter r f (λ q. behind_bracket q ∷ more) (behind f)
 symbol_step r more f symbols.Bar = Ok (a_name ∷ sym symbols.Bar ∷ open_bracket r a_call ∷ more, behind f)
 symbol_step r more f _ = expected wanted.AnExpr f
 
-abbrev pub operand_step : ℕ → List Item → Front → Option TokenKind → Step
+abbrev pub operand_step : ℕ → List GrammarItem → Front → Option TokenKind → GrammarStep
 operand_step r more f None = expected wanted.AnExpr f
 operand_step r more f (Some (kinds.Word _)) = Ok (maybe_call r ∷ more, behind f)
 operand_step r more f (Some (kinds.Key k)) = key_step r more f k
@@ -163,16 +163,16 @@ operand_step r more f (Some (kinds.Part _)) = enter r f (λ q. operand q ∷ mor
 operand_step r more f (Some _) = Ok (more, behind f)
 
 -- a name, or a type that one token is
-abbrev pub name_step : List Item → Front → Option TokenKind → Step
+abbrev pub name_step : List GrammarItem → Front → Option TokenKind → GrammarStep
 name_step more f (Some (kinds.Word _)) = Ok (more, behind f)
 name_step more f _ = expected wanted.AName f
 
-abbrev pub type_step : List Item → Front → Option Ty → Step
+abbrev pub type_step : List GrammarItem → Front → Option Ty → GrammarStep
 type_step more f (Some t) = Ok (lists (place f) (type_depth t) ∷ more, behind f)
 type_step more f None = expected wanted.AType f
 
 -- a right side that begins there opens a construct
-abbrev pub right_side : (Front → Bool) → ℕ → (ℕ → List Item) → Front → Step
+abbrev pub right_side : (Front → Bool) → ℕ → (ℕ → List GrammarItem) → Front → GrammarStep
 right_side begins r items f = if begins f then enter r f items f else expected wanted.AnExpr f
 
 -- the depth and the number of the expressions of the body that begins there
@@ -184,28 +184,28 @@ unfoldable pub body_size : Front → ℕ × ℕ
 body_size f = size_of (expr_to 161 levels.Whole f)
 
 -- a function keeps the limits of depth and, with those before it, of expressions
-abbrev pub judge : ℕ → ℕ × ℕ → Counted → List Item → Front → Step
+abbrev pub judge : ℕ → ℕ × ℕ → Counted → List GrammarItem → Front → GrammarStep
 judge at size c more f =
     if nat_lt 64 size.0 then Err (TooDeep at)
     else if nat_lt 4096 (c.exprs + size.1) then Err (TooMany limits.Nodes at)
     else Ok (declarations (record c { funs = c.funs + 1; exprs = c.exprs + size.1 }) ∷ more, f)
 
 -- one more of a kind, behind its word
-abbrev pub another : ℕ → Limit → List Item → Front → Step
+abbrev pub another : ℕ → Limit → List GrammarItem → Front → GrammarStep
 another count limit items f = if nat_lt count 64 then Ok (items, behind f) else Err (TooMany limit (place f))
 
-abbrev pub a_service : Counted → List Item → List Item
+abbrev pub a_service : Counted → List GrammarItem → List GrammarItem
 a_service c more =
     a_name ∷ sym symbols.Colon ∷ sym symbols.ParenOpen ∷ types ∷ sym symbols.Arrow ∷ a_type 160 ∷ declarations (record c { svcs = c.svcs + 1 }) ∷ more
 
-abbrev pub a_function : ℕ → Counted → List Item → List Item
+abbrev pub a_function : ℕ → Counted → List GrammarItem → List GrammarItem
 a_function at c more = a_name ∷ sym symbols.ParenOpen ∷ params ∷ sym symbols.Colon ∷ a_type 160 ∷ sym symbols.Equal ∷ body at c ∷ more
 
-abbrev pub a_param : List Item → List Item
+abbrev pub a_param : List GrammarItem → List GrammarItem
 a_param more = a_name ∷ sym symbols.Colon ∷ a_type 159 ∷ more
 
 -- what is read from the first item of the agenda
-unfoldable pub step : Item → List Item → Front → Step
+unfoldable pub step : GrammarItem → List GrammarItem → Front → GrammarStep
 step (sym w) more f = if is_symbol w f then Ok (more, behind f) else expected (wanted.Symbol w) f
 step (word k) more f = if is_key k f then Ok (more, behind f) else expected (wanted.Key k) f
 step a_name more f = name_step more f (next_kind f)
@@ -288,5 +288,5 @@ step (body at c) more f = Ok (whole 160 ∷ judgement at f c ∷ more, f)
 step (judgement at start c) more f = judge at (body_size start) c more f
 
 -- the first refusal of an agenda that begins with that item alone
-abbrev pub FirstRefusal : ParseFault → Item → Front → Type 0
+abbrev pub FirstRefusal : ParseFault → GrammarItem → Front → Type 0
 FirstRefusal e i f = FirstFault step e (i ∷ []) f

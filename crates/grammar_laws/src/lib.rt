@@ -16,7 +16,7 @@ ghost use Rattle.plan_grammar.specs.Types.{type_to};
 ghost use Rattle.plan_grammar.specs.Exprs.{expr_to};
 ghost use Rattle.grammar_laws.specs.Grammar.{TypeAt, ExprAt};
 ghost use Rattle.grammar_laws.specs.Follow.{EndsType, EndsExpr};
-ghost use Rattle.grammar_laws.specs.Agenda.{Item, a_type, whole, step, FirstRefusal};
+ghost use Rattle.grammar_laws.specs.Agenda.{GrammarItem, a_type, whole, step, FirstRefusal};
 ghost use Rattle.grammar_laws.specs.Answers.{IsAnswered};
 
 /// What is read as a type or an expression is one by the grammar.
@@ -41,7 +41,7 @@ pub fn one_reading()
 pub fn refusals_are_first()
     ensures types { (r : ℕ) (f : Front) (e : ParseFault) → (type_to (suc r) f ≡ Err e) ↔ FirstRefusal e (a_type r) f }
     ensures exprs { (r : ℕ) (f : Front) (e : ParseFault) → (expr_to (suc r) levels.Whole f ≡ Err e) ↔ FirstRefusal e (whole r) f }
-    ensures one { (i : Item) (f : Front) (d e : ParseFault) → FirstRefusal d i f → FirstRefusal e i f → d ≡ e }
+    ensures one { (i : GrammarItem) (f : Front) (d e : ParseFault) → FirstRefusal d i f → FirstRefusal e i f → d ≡ e }
 {}
 
 /// Tokens begin with an expression or have a first refusal, and not both where the expression ends.
@@ -52,5 +52,5 @@ pub fn one_answer()
 
 /// No first refusal of an agenda is `NoMemory`.
 pub fn refusals_hold_no_memory()
-    ensures { (e : ParseFault) (items : List Item) (f : Front) → FirstFault step e items f → e ≢ fault.NoMemory }
+    ensures { (e : ParseFault) (items : List GrammarItem) (f : Front) → FirstFault step e items f → e ≢ fault.NoMemory }
 {}

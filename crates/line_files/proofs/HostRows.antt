@@ -5,8 +5,8 @@ use Rattle.plan_base.specs.declared.ids.Host.{Host}
 use Rattle.network_plan.specs.Hosts.{host_of}
 use Rattle.line_files.specs.declared.fault.LineReason.{LineReason}
 use Rattle.line_files.specs.declared.fault.LineReason.TheVariants.{BadNumber, TooMany, BadArgument}
-use Rattle.line_files.specs.declared.fault.Stop.{Stop}
-use Rattle.line_files.specs.declared.fault.Stop.TheVariants as stops
+use Rattle.line_files.specs.declared.fault.LineStop.{LineStop}
+use Rattle.line_files.specs.declared.fault.LineStop.TheVariants as stops
 use Rattle.line_files.specs.Reads.{◌>>=◌, has_word, allowed, Fails}
 use Rattle.line_files.specs.Numbers.{number_in, number_at}
 use Rattle.line_files.specs.HostLists.{is_above, host_more, hosts_from}
@@ -50,7 +50,7 @@ pub hosts_shorter : (seen next : List Host) (ws rest : List (List ℕ)) → host
 hosts_shorter seen next ws rest e = shorter_is seen ws (next, rest) e
 
 -- a host that is refused
-pub hosts_stop : (seen : List Host) (ws : List (List ℕ)) (e : Stop) → has_word ws ≡ true → Fails e (host_more seen ws) → Fails e (hosts_from seen ws)
+pub hosts_stop : (seen : List Host) (ws : List (List ℕ)) (e : LineStop) → has_word ws ≡ true → Fails e (host_more seen ws) → Fails e (hosts_from seen ws)
 unfolding hosts_from
 hosts_stop seen ws stops.NoMemory h f = tt
 hosts_stop seen [] (stops.Reason r) h f = absurd cc

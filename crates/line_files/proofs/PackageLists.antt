@@ -6,8 +6,8 @@ use Rattle.std.specs.Str.{bytes_eq}
 use lib.Chars.{codes}
 use Rattle.line_files.specs.declared.fault.LineReason.{LineReason}
 use Rattle.line_files.specs.declared.fault.LineReason.TheVariants.{BadWord, TwiceNamed}
-use Rattle.line_files.specs.declared.fault.Stop.{Stop}
-use Rattle.line_files.specs.declared.fault.Stop.TheVariants as stops
+use Rattle.line_files.specs.declared.fault.LineStop.{LineStop}
+use Rattle.line_files.specs.declared.fault.LineStop.TheVariants as stops
 use Rattle.service_api.specs.declared.package.PackageName.{PackageName}
 use Rattle.line_files.specs.Reads.{◌>>=◌, has_word, allowed, Fails}
 use Rattle.line_files.specs.Packages.{package_of, same_package, package_at, one_package, packages_at}
@@ -58,7 +58,7 @@ pub packages_shorter : (seen next : List PackageName) (ws rest : List (List ℕ)
 packages_shorter seen next ws rest e = shorter_is seen ws (next, rest) e
 
 -- a package that is refused
-pub packages_stop : (seen : List PackageName) (ws : List (List ℕ)) (e : Stop) → has_word ws ≡ true → Fails e (one_package seen ws) → Fails e (packages_at seen ws)
+pub packages_stop : (seen : List PackageName) (ws : List (List ℕ)) (e : LineStop) → has_word ws ≡ true → Fails e (one_package seen ws) → Fails e (packages_at seen ws)
 unfolding packages_at
 packages_stop seen ws stops.NoMemory h f = tt
 packages_stop seen [] (stops.Reason r) h f = absurd cc

@@ -6,8 +6,8 @@ use Rattle.line_files.specs.declared.fault.LineReason.{LineReason}
 use Rattle.line_files.specs.declared.fault.LineReason.TheVariants.{BadWord}
 use Rattle.line_files.specs.declared.fault.LineFault.{LineFault}
 use Rattle.line_files.specs.declared.fault.LineFault.TheVariants as faults
-use Rattle.line_files.specs.declared.fault.Stop.{Stop}
-use Rattle.line_files.specs.declared.fault.Stop.TheVariants as stops
+use Rattle.line_files.specs.declared.fault.LineStop.{LineStop}
+use Rattle.line_files.specs.declared.fault.LineStop.TheVariants as stops
 
 infixl 10 ◌>>=◌
 abbrev pub ◌>>=◌ : {A B : Type 0} → Result A LineReason → (A → Result B LineReason) → Result B LineReason
@@ -24,12 +24,12 @@ Reads view (Ok x) rest read = read ≡ Ok (view x, rest)
 Reads view (Err e) rest read = read ≡ Err e
 
 -- a reader that takes memory stopped for the reason that is read, or by running out of memory
-abbrev pub Fails : {Y : Type 0} → Stop → Result Y LineReason → Type 0
+abbrev pub Fails : {Y : Type 0} → LineStop → Result Y LineReason → Type 0
 Fails stops.NoMemory read = Unit {0}
 Fails (stops.Reason r) read = read ≡ Err r
 
 -- a reader that changes a value left it as what is read
-abbrev pub Leaves : {X Y : Type 0} → Result X Stop → Y → Result Y LineReason → Type 0
+abbrev pub Leaves : {X Y : Type 0} → Result X LineStop → Y → Result Y LineReason → Type 0
 Leaves (Ok x) new read = read ≡ Ok new
 Leaves (Err e) new read = Fails e read
 
@@ -59,7 +59,7 @@ rest_at [] = Err BadWord
 rest_at (w ∷ ws) = Ok (spaced (w ∷ ws))
 
 -- what a reader that takes memory gave is what is read
-abbrev pub Gives : {X Y : Type 0} → (X → Y) → Result X Stop → Result Y LineReason → Type 0
+abbrev pub Gives : {X Y : Type 0} → (X → Y) → Result X LineStop → Result Y LineReason → Type 0
 Gives view (Ok x) read = read ≡ Ok (view x)
 Gives view (Err e) read = Fails e read
 
@@ -78,7 +78,7 @@ FileGives view (Ok x) read = read ≡ Ok (view x)
 FileGives view (Err e) read = FileFails e read
 
 -- a reader of a part of a line changed a value, with the words behind
-abbrev pub LeavesBoth : {X Y : Type 0} → Result X Stop → Y → List (List ℕ) → Part Y → Type 0
+abbrev pub LeavesBoth : {X Y : Type 0} → Result X LineStop → Y → List (List ℕ) → Part Y → Type 0
 LeavesBoth (Ok x) new rest read = read ≡ Ok (new, rest)
 LeavesBoth (Err e) new rest read = Fails e read
 
@@ -88,12 +88,12 @@ Tells view (Ok x) read = read ≡ Ok (view x)
 Tells view (Err e) read = read ≡ Err e
 
 -- a stop at its line
-abbrev pub fault_at : ℕ → Stop → LineFault
+abbrev pub fault_at : ℕ → LineStop → LineFault
 fault_at number (stops.Reason r) = faults.Line number r
 fault_at number stops.NoMemory = faults.NoMemory
 
 -- a reader of a part of a line gave what is read, with the words behind
-abbrev pub GivesWith : {X Y : Type 0} → (X → Y) → Result X Stop → List (List ℕ) → Part Y → Type 0
+abbrev pub GivesWith : {X Y : Type 0} → (X → Y) → Result X LineStop → List (List ℕ) → Part Y → Type 0
 GivesWith view (Ok x) rest read = read ≡ Ok (view x, rest)
 GivesWith view (Err e) rest read = Fails e read
 

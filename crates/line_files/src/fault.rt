@@ -48,39 +48,39 @@ impl From<AllocError> for LineFault {
 
 /// Why the reading of a line stopped.
 #[derive(Drop)]
-pub enum Stop {
+pub enum LineStop {
     /// The line is outside the format for this reason.
     Reason(LineReason),
     /// Memory was refused.
     NoMemory,
 }
 
-impl From<AllocError> for Stop {
-    ghost use Rattle.line_files.specs.declared.fault.Stop.TheVariants.{NoMemory};
+impl From<AllocError> for LineStop {
+    ghost use Rattle.line_files.specs.declared.fault.LineStop.TheVariants.{NoMemory};
 
     ghost from_gives = { λ _ e. e ≡ NoMemory };
 
-    fn from(_refused: AllocError) -> Stop {
-        Stop::NoMemory
+    fn from(_refused: AllocError) -> LineStop {
+        LineStop::NoMemory
     }
 }
 
-impl From<LineReason> for Stop {
-    ghost use Rattle.line_files.specs.declared.fault.Stop.TheVariants.{Reason};
+impl From<LineReason> for LineStop {
+    ghost use Rattle.line_files.specs.declared.fault.LineStop.TheVariants.{Reason};
 
     ghost from_gives = { λ r e. e ≡ Reason r };
 
-    fn from(reason: LineReason) -> Stop {
-        Stop::Reason(reason)
+    fn from(reason: LineReason) -> LineStop {
+        LineStop::Reason(reason)
     }
 }
 
-impl From<NoMemory> for Stop {
-    ghost use Rattle.line_files.specs.declared.fault.Stop.TheVariants as stops;
+impl From<NoMemory> for LineStop {
+    ghost use Rattle.line_files.specs.declared.fault.LineStop.TheVariants as stops;
 
     ghost from_gives = { λ _ e. e ≡ stops.NoMemory };
 
-    fn from(_refused: NoMemory) -> Stop {
-        Stop::NoMemory
+    fn from(_refused: NoMemory) -> LineStop {
+        LineStop::NoMemory
     }
 }

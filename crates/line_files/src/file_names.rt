@@ -4,7 +4,7 @@ ghost use Rattle.network_plan.specs.FileNames.{is_file_name};
 ghost use Rattle.line_files.specs.FileNames.{file_name_at};
 ghost use Rattle.line_files.specs.Reads.{GivesWith};
 
-use crate::fault::{LineReason, Stop};
+use crate::fault::{LineReason, LineStop};
 use crate::words::Words;
 use plan_base::Text;
 use std::alloc::Global;
@@ -34,12 +34,12 @@ pub fn as_file_name(word: &[u8]) -> Option<&str>
 
 /// The next word as a file name. Reason: `BadWord`.
 #[tactic(auto, unfolding(crate::specs::FileNames::file_name_at))]
-pub fn file_name(alloc: Global, words: &mut Words<'_>) -> Result<Text, Stop>
+pub fn file_name(alloc: Global, words: &mut Words<'_>) -> Result<Text, LineStop>
     ensures { GivesWith (λ t. t) result words.new (file_name_at words.old) }
 {
     let word = words.next()?;
     let Some(_name) = as_file_name(word) else {
-        return Err(Stop::Reason(LineReason::BadWord));
+        return Err(LineStop::Reason(LineReason::BadWord));
     };
     let name = Vec::from_slice(alloc, word)?;
     Ok(Text::of(name))

@@ -3,7 +3,7 @@ ghost use Rattle.line_files.specs.Handlers as spec;
 ghost use Rattle.line_files.specs.Handlers.{handler_at};
 ghost use Rattle.line_files.specs.Reads.{GivesWith};
 
-use crate::fault::{LineReason, Stop};
+use crate::fault::{LineReason, LineStop};
 use crate::programs::name_of;
 use crate::words::{Words, allow};
 use link_window::Version;
@@ -27,7 +27,7 @@ fn named_handler(
     alloc: Global,
     program: &Program,
     words: &mut Words<'_>,
-) -> Result<Option<Name>, Stop>
+) -> Result<Option<Name>, LineStop>
     ensures { GivesWith (λ n. n) result words.new (spec.named_handler program.now words.old) }
 {
     words.next()?;
@@ -45,7 +45,7 @@ pub fn handler(
     version: Version,
     program: &Program,
     words: &mut Words<'_>,
-) -> Result<Option<Name>, Stop>
+) -> Result<Option<Name>, LineStop>
     ensures { GivesWith (λ n. n) result words.new (handler_at version program.now words.old) }
 {
     if !has_handler(version, words) {

@@ -4,7 +4,7 @@ ghost use Rattle.line_files.specs.HexWords as spec;
 ghost use Rattle.line_files.specs.HexWords.{hex_of, sized, hex_at};
 ghost use Rattle.line_files.specs.Reads.{Finds, GivesWith};
 
-use crate::fault::{LineReason, Stop};
+use crate::fault::{LineReason, LineStop};
 use crate::words::Words;
 use hex::FromHexError;
 use plan_base::{Bytes, NoMemory};
@@ -45,7 +45,7 @@ pub fn hex_bytes(
     words: &mut Words<'_>,
     low: usize,
     high: usize,
-) -> Result<Bytes, Stop>
+) -> Result<Bytes, LineStop>
     ensures read { GivesWith (λ b. b) result words.new (hex_at low high words.old) }
     ensures within { IfOk result (λ b. length b ≤ high) }
 {

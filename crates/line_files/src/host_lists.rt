@@ -3,7 +3,7 @@ ghost use Rattle.line_files.specs.HostLists as spec;
 ghost use Rattle.line_files.specs.HostLists.{host_more, hosts_from, hosts_with};
 ghost use Rattle.line_files.specs.Reads.{LeavesBoth, Gives};
 
-use crate::fault::{LineReason, Stop};
+use crate::fault::{LineReason, LineStop};
 use crate::numbers::number;
 use crate::words::{Words, allow};
 use network_plan::{Hosts, is_listed};
@@ -20,7 +20,7 @@ fn is_above(seen: &[Host], n: u32) -> bool
 /// One host more. Reasons: `BadWord`, `BadNumber`, `TooMany` where there are 32, `BadArgument` where it isn't above
 /// those in `seen`.
 #[tactic(auto, unfolding(crate::specs::HostLists::host_more))]
-fn one_host(words: &mut Words<'_>, seen: &mut Hosts) -> Result<(), Stop>
+fn one_host(words: &mut Words<'_>, seen: &mut Hosts) -> Result<(), LineStop>
     ensures { LeavesBoth result seen.new words.new (host_more seen.old words.old) }
 {
     let n = number(words, 0, u32::MAX)?;
@@ -32,7 +32,7 @@ fn one_host(words: &mut Words<'_>, seen: &mut Hosts) -> Result<(), Stop>
 
 #[tactic(auto, using(crate::proofs::HostRows::hosts_next, crate::proofs::HostRows::hosts_shorter, crate::proofs::HostRows::hosts_stop, crate::proofs::HostRows::hosts_done))]
 /// Hosts until the line ends. Reasons: those of one host.
-fn all_hosts(alloc: Global, words: &mut Words<'_>) -> Result<Hosts, Stop>
+fn all_hosts(alloc: Global, words: &mut Words<'_>) -> Result<Hosts, LineStop>
     ensures { Gives (λ hs. hs) result (hosts_from [] words.old) }
 {
     let mut seen = Items::new(alloc);
@@ -45,7 +45,7 @@ fn all_hosts(alloc: Global, words: &mut Words<'_>) -> Result<Hosts, Stop>
 /// The hosts of a network until the line ends: at most 32, ascending, with `here` among them. Reasons: `BadNumber`,
 /// `TooMany`, `BadArgument`.
 #[tactic(auto, unfolding(crate::specs::HostLists::hosts_with))]
-pub fn hosts(alloc: Global, here: Host, words: &mut Words<'_>) -> Result<Hosts, Stop>
+pub fn hosts(alloc: Global, here: Host, words: &mut Words<'_>) -> Result<Hosts, LineStop>
     ensures { Gives (λ hs. hs) result (hosts_with here words.old) }
 {
     let hosts = all_hosts(alloc, words)?;

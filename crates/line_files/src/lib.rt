@@ -15,7 +15,7 @@ mod package_words;
 mod programs;
 mod words;
 
-pub use fault::{LineFault, LineReason, Stop};
+pub use fault::{LineFault, LineReason, LineStop};
 pub use file_names::{as_file_name, file_name};
 pub use files::{LineFile, read_file};
 pub use handlers::handler;

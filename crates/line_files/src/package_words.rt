@@ -3,7 +3,7 @@ ghost use Rattle.std.specs.List.{list_any};
 ghost use Rattle.line_files.specs.Packages.{package_of, same_package, package_at, packages_at, one_package};
 ghost use Rattle.line_files.specs.Reads.{Leaves, LeavesBoth, Gives};
 
-use crate::fault::{LineReason, Stop};
+use crate::fault::{LineReason, LineStop};
 use crate::words::{Words, allow, is};
 use plan_items::Items;
 use service_api::{PackageName, Packages};
@@ -43,7 +43,7 @@ fn is_seen(seen: &[PackageName], k: PackageName) -> bool
 
 /// The next word as a package, behind those in `seen`. Reasons: `BadWord`, `TwiceNamed`.
 #[tactic(auto, unfolding(crate::specs::Packages::package_at))]
-pub fn package(seen: &mut Packages, words: &mut Words<'_>) -> Result<(), Stop>
+pub fn package(seen: &mut Packages, words: &mut Words<'_>) -> Result<(), LineStop>
     ensures { LeavesBoth result seen.new words.new (package_at seen.old words.old) }
 {
     let word = words.next()?;
@@ -55,7 +55,7 @@ pub fn package(seen: &mut Packages, words: &mut Words<'_>) -> Result<(), Stop>
 
 /// One `without PACKAGE`, behind those in `seen`. Reasons: `BadWord`, `TwiceNamed`.
 #[tactic(auto, unfolding(crate::specs::Packages::one_package))]
-fn without_package(words: &mut Words<'_>, seen: &mut Packages) -> Result<(), Stop>
+fn without_package(words: &mut Words<'_>, seen: &mut Packages) -> Result<(), LineStop>
     ensures { LeavesBoth result seen.new words.new (one_package seen.old words.old) }
 {
     let word = words.next()?;
@@ -65,7 +65,7 @@ fn without_package(words: &mut Words<'_>, seen: &mut Packages) -> Result<(), Sto
 
 #[tactic(auto, using(crate::proofs::PackageLists::packages_next, crate::proofs::PackageLists::packages_shorter, crate::proofs::PackageLists::packages_stop, crate::proofs::PackageLists::packages_done))]
 /// `without PACKAGE` until the line ends. Reasons: `BadWord`, `TwiceNamed`.
-pub fn packages(alloc: Global, words: &mut Words<'_>) -> Result<Packages, Stop>
+pub fn packages(alloc: Global, words: &mut Words<'_>) -> Result<Packages, LineStop>
     ensures { Gives (λ ps. ps) result (packages_at [] words.old) }
 {
     let mut seen = Items::new(alloc);

@@ -10,7 +10,7 @@ ghost use Rattle.line_files.specs.Programs.{opened, with_line, accepted, program
 ghost use Rattle.line_files.specs.Injections.{injection_at};
 ghost use Rattle.line_files.specs.Reads.{Reads, Gives, Tells};
 
-use crate::fault::{LineReason, Stop};
+use crate::fault::{LineReason, LineStop};
 use crate::handlers::handler;
 use crate::numbers::number;
 use crate::words::{Words, allow, is};
@@ -53,20 +53,20 @@ impl OpenProgram {
 }
 
 /// The typed program of a text. Reason: `ProgramRefused`.
-fn accept(alloc: Global, text: &[u8]) -> Result<Checked, Stop>
+fn accept(alloc: Global, text: &[u8]) -> Result<Checked, LineStop>
     requires { length text.now ≤ 65536 }
     ensures { Gives (λ p. p) result (accepted (program_of text.now)) }
 {
     match read_program(alloc, text) {
         Ok(program) => Ok(program),
-        Err(TextFault::NoMemory) => Err(Stop::NoMemory),
-        Err(why) => Err(Stop::Reason(LineReason::ProgramRefused(why))),
+        Err(TextFault::NoMemory) => Err(LineStop::NoMemory),
+        Err(why) => Err(LineStop::Reason(LineReason::ProgramRefused(why))),
     }
 }
 
 /// The typed program of a text of at most 65,536 bytes. Reasons: `TooMany`, `ProgramRefused`.
 #[tactic(auto, unfolding(crate::specs::Programs::program_in))]
-pub fn program(alloc: Global, text: &[u8]) -> Result<Checked, Stop>
+pub fn program(alloc: Global, text: &[u8]) -> Result<Checked, LineStop>
     ensures { Gives (λ p. p) result (program_in text.now) }
 {
     allow(text.len() <= 65_536, LineReason::TooMany)?;
@@ -74,13 +74,13 @@ pub fn program(alloc: Global, text: &[u8]) -> Result<Checked, Stop>
 }
 
 /// A word as a name, or else a reason.
-pub fn name_of(alloc: Global, word: &[u8], reason: LineReason) -> Result<Name, Stop>
+pub fn name_of(alloc: Global, word: &[u8], reason: LineReason) -> Result<Name, LineStop>
     ensures { Gives (λ n. n) result (named_word word.now reason) }
 {
     match Name::read(alloc, word) {
         Ok(name) => Ok(name),
-        Err(NameFault::BadName) => Err(Stop::Reason(reason)),
-        Err(NameFault::NoMemory) => Err(Stop::NoMemory),
+        Err(NameFault::BadName) => Err(LineStop::Reason(reason)),
+        Err(NameFault::NoMemory) => Err(LineStop::NoMemory),
     }
 }
 
@@ -105,7 +105,7 @@ fn known_entry<'a>(funs: &'a [Fun], words: &mut Words<'_>) -> Result<&'a Fun, Li
 /// The rest of the line as arguments, in at most 65,536 bytes. Reasons: `BadWord` where the line has ended,
 /// else `BadArgument`.
 #[tactic(auto, unfolding(crate::specs::Programs::args_at), using(crate::proofs::TextLaws::args_formed, crate::proofs::TextLaws::args_full))]
-fn arguments(alloc: Global, words: &Words<'_>) -> Result<Values, Stop>
+fn arguments(alloc: Global, words: &Words<'_>) -> Result<Values, LineStop>
     ensures read { Gives (λ vs. vs) result (args_at words.now) }
     ensures formed { IfOk result (λ vs. IsTrue (list_all well_formed_value vs)) }
     ensures full { IfOk result (λ vs. IsTrue (list_all value_has_types vs)) }
@@ -114,7 +114,7 @@ fn arguments(alloc: Global, words: &Words<'_>) -> Result<Values, Stop>
     allow(text.len() <= 65_536, LineReason::BadArgument)?;
     match read_args(alloc, text)? {
         Some(args) => Ok(args),
-        None => Err(Stop::Reason(LineReason::BadArgument)),
+        None => Err(LineStop::Reason(LineReason::BadArgument)),
     }
 }
 
@@ -125,15 +125,15 @@ fn typed_chunk(
     program: &Checked,
     entry: &Name,
     args: Values,
-) -> Result<CheckedChunk, Stop>
+) -> Result<CheckedChunk, LineStop>
     requires formed { IsTrue (list_all well_formed_value args) }
     requires full { IsTrue (list_all value_has_types args) }
     ensures { Gives (λ k. k) result (spec.typed_chunk (chunk_with program.now entry.now args)) }
 {
     match chunk_of(alloc, program, entry, args) {
         Ok(chunk) => Ok(chunk),
-        Err(ChunkFault::NoMemory) => Err(Stop::NoMemory),
-        Err(_) => Err(Stop::Reason(LineReason::BadArgument)),
+        Err(ChunkFault::NoMemory) => Err(LineStop::NoMemory),
+        Err(_) => Err(LineStop::Reason(LineReason::BadArgument)),
     }
 }
 
@@ -145,7 +145,7 @@ pub fn injection(
     version: Version,
     program: &Checked,
     words: &mut Words<'_>,
-) -> Result<(CheckedChunk, u32, Option<Name>), Stop>
+) -> Result<(CheckedChunk, u32, Option<Name>), LineStop>
     ensures { Gives (λ i. i) result (injection_at version program.now words.old) }
 {
     let fun = known_entry(program.program().funs.as_slice(), words)?;
@@ -158,7 +158,11 @@ pub fn injection(
 
 /// `ENTRY ARGS` of a program as a typed chunk. Reasons: `BadWord`, `BadArgument`.
 #[tactic(auto, unfolding(crate::specs::Programs::call_at))]
-pub fn call(alloc: Global, program: &Checked, words: &mut Words<'_>) -> Result<CheckedChunk, Stop>
+pub fn call(
+    alloc: Global,
+    program: &Checked,
+    words: &mut Words<'_>,
+) -> Result<CheckedChunk, LineStop>
     ensures { Gives (λ k. k) result (call_at program.now words.old) }
 {
     let fun = known_entry(program.program().funs.as_slice(), words)?;

@@ -6,7 +6,7 @@ ghost use Rattle.line_files.specs.Files.{is_skipped};
 ghost use Rattle.line_files.specs.Handlers.{comes};
 ghost use Rattle.line_files.specs.Reads.{Reads, word_at, rest_at, end_at, has_word, allowed, fault_at};
 
-use crate::fault::{LineFault, LineReason, Stop};
+use crate::fault::{LineFault, LineReason, LineStop};
 use std::marker::Model;
 
 /// The place of the first `b`.
@@ -158,11 +158,11 @@ pub fn says_nothing(line: &[u8]) -> bool
 }
 
 /// A stop at its line.
-pub fn stopped_at(number: u32, stop: Stop) -> LineFault
+pub fn stopped_at(number: u32, stop: LineStop) -> LineFault
     ensures { result ≡ fault_at number stop }
 {
     match stop {
-        Stop::Reason(reason) => LineFault::Line(number, reason),
-        Stop::NoMemory => LineFault::NoMemory,
+        LineStop::Reason(reason) => LineFault::Line(number, reason),
+        LineStop::NoMemory => LineFault::NoMemory,
     }
 }

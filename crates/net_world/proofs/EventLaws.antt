@@ -10,7 +10,7 @@ use Rattle.service_api.specs.Services.{ServiceState}
 use Rattle.spelled_frame.specs.Spelled.{what_of}
 use Rattle.node_model.specs.declared.acts.Acts.{Acts}
 use Rattle.node_model.specs.State.{NodeState}
-use Rattle.node_model.specs.Node.{Step, stamped_step, take_step}
+use Rattle.node_model.specs.Node.{NodeStep, stamped_step, take_step}
 use Rattle.node_core.specs.declared.node.Node.{Node}
 use Rattle.world_model.specs.declared.lines.Line.{Line}
 use Rattle.world_model.specs.declared.lines.Line.TheVariants.{Wire, Off, Lost, Nothing}
@@ -35,20 +35,20 @@ module _ {S : Type 0} (stands : S → ServiceState) where
 
   -- ---- a step of one node
 
-  no_step_at_host : (w : WorldState) (host : Host) (before : NodeState → List Line) (step : NodeState → Step) → place_of w.nodes host ≡ None → steps w host before step ≡ nothing w
+  no_step_at_host : (w : WorldState) (host : Host) (before : NodeState → List Line) (step : NodeState → NodeStep) → place_of w.nodes host ≡ None → steps w host before step ≡ nothing w
   unfolding steps step_place
   no_step_at_host w host before step e = ap (step_place w host before step) e
 
-  pub no_step : (n : Network S) (w : WorldState) (host : Host) (before : NodeState → List Line) (lines : List Line) (step : NodeState → Step) → NetworkStands stands n w → None ≡ place_of w.nodes host → lines ≡ Nothing ∷ []
+  pub no_step : (n : Network S) (w : WorldState) (host : Host) (before : NodeState → List Line) (lines : List Line) (step : NodeState → NodeStep) → NetworkStands stands n w → None ≡ place_of w.nodes host → lines ≡ Nothing ∷ []
       → IsActed stands (steps w host before step) lines n
   no_step n w host before lines step h e l = as_event _ (nothing w) lines n (no_step_at_host w host before step (sym e)) (nothing_happens n w lines h l)
 
-  one_step_at_host : (w : WorldState) (host : Host) (before : NodeState → List Line) (step : NodeState → Step) (at : ℕ) (node : NodeState) → place_of w.nodes host ≡ Some at → slice_get w.nodes at ≡ Some node
+  one_step_at_host : (w : WorldState) (host : Host) (before : NodeState → List Line) (step : NodeState → NodeStep) (at : ℕ) (node : NodeState) → place_of w.nodes host ≡ Some at → slice_get w.nodes at ≡ Some node
       → steps w host before step ≡ steps_at w host at (before node) (step node)
   unfolding steps step_place step_at
   one_step_at_host w host before step at node e f = ap (step_place w host before step) e ∙ ap (step_at w host before step at) f
 
-  pub one_step : (old new : Network S) (w : WorldState) (host : Host) (before : NodeState → List Line) (lines : List Line) (step : NodeState → Step) (at : ℕ) (acts : Acts) (nodes : List (Node S))
+  pub one_step : (old new : Network S) (w : WorldState) (host : Host) (before : NodeState → List Line) (lines : List Line) (step : NodeState → NodeStep) (at : ℕ) (acts : Acts) (nodes : List (Node S))
       → NetworkStands stands old w → Some at ≡ place_of w.nodes host → (s : StepsAt stands step w.nodes at acts nodes) → lines ≡ before s.node ++ lines_at host acts.list
       → new.nodes.items ≡ nodes → new.links ≡ old.links → new.wire ≡ old.wire → new.«next» ≡ old.«next» → new.made ≡ old.made → new.version ≡ old.version
       → IsActed stands (steps w host before step) lines new
@@ -114,11 +114,11 @@ module _ {S : Type 0} (stands : S → ServiceState) where
         → (s : StepsAt stands (λ node. take_step node d) w.nodes at acts nodes) → sends w host d ≡ send_taken w host d at to (take_step s.node d) (take_step s.node d).frame
     taken at to acts nodes e f r s = over_end at to e f ∙ some_room w host d at to s.node (roomy (length w.wire) (subst (λ x. length x < 4096) h.wire r)) s.there
 
-    none_taken : (at : ℕ) (to : LinkEnd) (step : Step) (o : Option PlainStamped) → o ≡ None → send_taken w host d at to step o ≡ nothing w
+    none_taken : (at : ℕ) (to : LinkEnd) (step : NodeStep) (o : Option PlainStamped) → o ≡ None → send_taken w host d at to step o ≡ nothing w
     unfolding send_taken
     none_taken at to step o e = ap (send_taken w host d at to step) e
 
-    some_taken : (at : ℕ) (to : LinkEnd) (step : Step) (o : Option PlainStamped) (x : PlainStamped) → o ≡ Some x → send_taken w host d at to step o ≡ record {
+    some_taken : (at : ℕ) (to : LinkEnd) (step : NodeStep) (o : Option PlainStamped) (x : PlainStamped) → o ≡ Some x → send_taken w host d at to step o ≡ record {
       lines = lines_at host step.acts ++ Wire w.«next» (stamped_bytes x) ∷ [];
       world = record {
         nodes = slice_set w.nodes at step.node;

@@ -25,7 +25,7 @@ use Rattle.node_model.specs.declared.acts.Act.{Act}
 use Rattle.node_model.specs.declared.acts.Acts.{Acts}
 use Rattle.node_model.specs.declared.acts.Lane.{Lane}
 use Rattle.node_model.specs.State.{NodeState, is_host}
-use Rattle.node_model.specs.Node.{Step, stamped_step, arrived, arrive_step, inject_step, take_first, take_from, take_step}
+use Rattle.node_model.specs.Node.{NodeStep, stamped_step, arrived, arrive_step, inject_step, take_first, take_from, take_step}
 use Rattle.node_model.specs.Fits.{IsMarked}
 use Rattle.node_core.specs.declared.node.Node.{Node}
 use Rattle.node_core.specs.Stands.{NodeStands, IsStep}
@@ -198,7 +198,7 @@ module _ {S : Type 0} (stands : S → ServiceState) where
 
   -- ---- steps
 
-  steps_at : (step : NodeState → Step) (nodes : List (Node S)) (states : List NodeState) (at : ℕ) (acts : Acts) (after : Node S) (before : Node S) → AllStand stands nodes states → (f : Found before states at)
+  steps_at : (step : NodeState → NodeStep) (nodes : List (Node S)) (states : List NodeState) (at : ℕ) (acts : Acts) (after : Node S) (before : Node S) → AllStand stands nodes states → (f : Found before states at)
       → IsStep stands (step f.state) acts after → StepsAt stands step states at acts (slice_set nodes at after)
   steps_at step nodes states at acts after before a f done = record {
     node = f.state;
@@ -209,7 +209,7 @@ module _ {S : Type 0} (stands : S → ServiceState) where
   }
 
   -- a step of the node at a place, where it finds memory
-  pub stepped_where : (step : NodeState → Step) (nodes : List (Node S)) (at : ℕ) (d after : Node S) (r : Result Acts NoMemory) (states : List NodeState) → at < length nodes → AllStand stands nodes states
+  pub stepped_where : (step : NodeState → NodeStep) (nodes : List (Node S)) (at : ℕ) (d after : Node S) (r : Result Acts NoMemory) (states : List NodeState) → at < length nodes → AllStand stands nodes states
       → ((s : NodeState) → slice_get states at ≡ Some s → NodeStands stands (get_or nodes at d) s → IfOk r (λ acts. IsStep stands (step s) acts after))
       → IfOk r (λ acts. StepsAt stands step states at acts (slice_set nodes at after))
   stepped_where step nodes at d after r states h a each =
@@ -217,7 +217,7 @@ module _ {S : Type 0} (stands : S → ServiceState) where
       if_ok (λ acts. IsStep stands (step f.state) acts after) (λ acts. StepsAt stands step states at acts (slice_set nodes at after)) r
       (λ acts done. steps_at step nodes states at acts after (get_or nodes at d) a f done) (each f.state f.there f.is)
 
-  pub stepped_at : (step : NodeState → Step) (nodes : List (Node S)) (at : ℕ) (d after : Node S) (r : Result Acts NoMemory) → at < length nodes
+  pub stepped_at : (step : NodeState → NodeStep) (nodes : List (Node S)) (at : ℕ) (d after : Node S) (r : Result Acts NoMemory) → at < length nodes
       → ((s : NodeState) → NodeStands stands (get_or nodes at d) s → IfOk r (λ acts. IsStep stands (step s) acts after))
       → (states : List NodeState) → AllStand stands nodes states → IfOk r (λ acts. StepsAt stands step states at acts (slice_set nodes at after))
   stepped_at step nodes at d after r h each states a = stepped_where step nodes at d after r states h a (λ s e n. each s n)
@@ -270,7 +270,7 @@ module _ {S : Type 0} (stands : S → ServiceState) where
       record {
         node = s.node;
         there = s.there;
-        list = s.list ∙ ap (λ (t : Step). t.acts) e;
-        frame = s.frame ∙ ap (λ (t : Step). t.frame) e;
-        after = subst (AllStand stands new) (ap (λ (t : Step). slice_set states at t.node) e) s.after;
+        list = s.list ∙ ap (λ (t : NodeStep). t.acts) e;
+        frame = s.frame ∙ ap (λ (t : NodeStep). t.frame) e;
+        after = subst (AllStand stands new) (ap (λ (t : NodeStep). slice_set states at t.node) e) s.after;
       }) done

@@ -7,7 +7,7 @@ use Rattle.network_plan.specs.Rules.{MayName}
 use Rattle.service_api.specs.Services.{ServiceState}
 use Rattle.node_model.specs.declared.acts.Acts.{Acts}
 use Rattle.node_model.specs.State.{NodeState}
-use Rattle.node_model.specs.Node.{Step}
+use Rattle.node_model.specs.Node.{NodeStep}
 use Rattle.node_model.specs.Fits.{IsMarked}
 use Rattle.node_core.specs.declared.node.Node.{Node}
 use Rattle.node_core.specs.Stands.{NodeStands}
@@ -47,7 +47,7 @@ pub record IsHappened {S : Type 0} (stands : S → ServiceState) (event : EventR
   pub world : WorldStands stands new event.world
 
 -- the node at a place made a step, and no other changed
-pub record StepsAt {S : Type 0} (stands : S → ServiceState) (step : NodeState → Step) (old : List NodeState) (at : ℕ) (acts : Acts) (new : List (Node S)) : Type 0 where
+pub record StepsAt {S : Type 0} (stands : S → ServiceState) (step : NodeState → NodeStep) (old : List NodeState) (at : ℕ) (acts : Acts) (new : List (Node S)) : Type 0 where
   pub node : NodeState
   pub there : slice_get old at ≡ Some node
   pub list : acts.list ≡ (step node).acts

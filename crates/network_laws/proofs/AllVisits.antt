@@ -34,7 +34,7 @@ use Rattle.node_model.specs.State.{Links, Queues, NodeState, routing_of, is_host
 use Rattle.settled_visit.specs.declared.settling.Settled.{Settled}
 use Rattle.plan_base.specs.declared.ids.Family.{Family}
 use Rattle.node_model.specs.Visits.{visit_at, settled_at}
-use Rattle.node_model.specs.Node.{Step, stepped, lane_room, mark, packet_sending, advert_sending, visit_sends, tick_sends, has_room, drop_act, send_act, send_queues, sends_acts, handled_acts, visit_acts, visited, next_serial, injected_packet, inject_step, forward_by, forward_step, packet_step, hearing, advert_step, frame_step, takes_as, stamped_as, stamped_step, arrived, arrive_step, next_tick, tick_step, take_first, take_from, take_step}
+use Rattle.node_model.specs.Node.{NodeStep, stepped, lane_room, mark, packet_sending, advert_sending, visit_sends, tick_sends, has_room, drop_act, send_act, send_queues, sends_acts, handled_acts, visit_acts, visited, next_serial, injected_packet, inject_step, forward_by, forward_step, packet_step, hearing, advert_step, frame_step, takes_as, stamped_as, stamped_step, arrived, arrive_step, next_tick, tick_step, take_first, take_from, take_step}
 use Rattle.node_model.specs.Counts.{act_sum}
 use Rattle.node_laws.proofs.CountLaws.{act_sum-nil, act_sum-cons, act_sum-append}
 use Rattle.world_model.specs.declared.lines.Line.{Line}
@@ -108,7 +108,7 @@ visit_one m queues p left s =
     )
 
 -- a step with this many ends of visits
-abbrev Ends : Step → ℕ → Type 0
+abbrev Ends : NodeStep → ℕ → Type 0
 Ends step n = act_sum act_ends step.acts ≡ n
 
 visited_one : (act : Act) (node : NodeState) (p : Packet) → act_ends act ≡ 0 → Ends (visited (act ∷ []) node p) 1
@@ -121,7 +121,7 @@ visited_one act node p z =
 two_none : (a b : Act) (node : NodeState) → act_ends a ≡ 0 → act_ends b ≡ 0 → Ends (stepped (a ∷ b ∷ []) None node) 0
 two_none a b node x y = omega (arith, act_sum-cons act_ends a (b ∷ []), act_sum-cons act_ends b [], act_sum-nil act_ends)
 
-step_cases : (t : Bool) (a b : Step) (n m : ℕ) → Ends a n → Ends b m → Ends (cond t a b) (cond t n m)
+step_cases : (t : Bool) (a b : NodeStep) (n m : ℕ) → Ends a n → Ends b m → Ends (cond t a b) (cond t n m)
 step_cases true a b n m x y = x
 step_cases false a b n m x y = y
 
@@ -230,7 +230,7 @@ forged_none h (Ok x) = frame_none h x.frame
 forged_none h (Err e) = line_sum-nil line_ends
 
 -- a step of one node, and its visits
-module _ (w : WorldState) (h : Host) (before : NodeState → List Line) (quiet : (node : NodeState) → line_sum line_ends (before node) ≡ 0) (step : NodeState → Step) (visits : NodeState → List Visiting) (each : (node : NodeState) → Ends (step node) (length (visits node))) where
+module _ (w : WorldState) (h : Host) (before : NodeState → List Line) (quiet : (node : NodeState) → line_sum line_ends (before node) ≡ 0) (step : NodeState → NodeStep) (visits : NodeState → List Visiting) (each : (node : NodeState) → Ends (step node) (length (visits node))) where
   step_at_has : (at : ℕ) (o : Option NodeState) → Has (step_at w h before step at o) (length (at_node visits o))
   unfolding step_at
   step_at_has at None = nothing_has w
@@ -262,7 +262,7 @@ tick_visits : (node : NodeState) → Ends (tick_step node) (length (no_visits no
 unfolding no_visits
 tick_visits node = tick_none node
 
-send_taken_has : (w : WorldState) (h : Host) (d : Dev) (at : ℕ) (to : LinkEnd) (step : Step) (o : Option PlainStamped) → Ends step 0 → Has (send_taken w h d at to step o) 0
+send_taken_has : (w : WorldState) (h : Host) (d : Dev) (at : ℕ) (to : LinkEnd) (step : NodeStep) (o : Option PlainStamped) → Ends step 0 → Has (send_taken w h d at to step o) 0
 unfolding send_taken
 send_taken_has w h d at to step None e = nothing_has w
 send_taken_has w h d at to step (Some x) e =

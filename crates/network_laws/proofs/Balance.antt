@@ -20,7 +20,7 @@ use Rattle.network_plan.specs.declared.event.WorldEvent.{WorldEvent}
 use Rattle.network_plan.specs.declared.event.WorldEvent.TheVariants.{Inject, Send, Deliver, Repeat, Lose, Tick, Raw}
 use Rattle.spelled_frame.specs.Spelled.{what_of}
 use Rattle.node_model.specs.State.{NodeState, new_node}
-use Rattle.node_model.specs.Node.{Step, takes_as, inject_step, stamped_step, arrive_step, tick_step, take_step}
+use Rattle.node_model.specs.Node.{NodeStep, takes_as, inject_step, stamped_step, arrive_step, tick_step, take_step}
 use Rattle.node_model.specs.Counts.{act_sum, act_left, act_stale, what_left, queues_sum, frame_live, if_fresh, if_stale, stamped_came, stamped_stale, bytes_came, bytes_stale, node_live, taken_sum, StepBalances}
 use Rattle.node_model.specs.declared.acts.Act.{Act}
 use Rattle.node_laws.proofs.CountLaws.{no_queues_sum, act_sum-nil, act_sum-cons}
@@ -90,7 +90,7 @@ module _ (f : Family) (late : Bool) where
     law : line_sum (line_granted f) lines + arrived + more + node_live f old
         ≡ given + line_sum (line_hops f) lines + line_sum (line_evals f) lines + line_sum (line_left f late) lines + node_live f new + taken
 
-  step_lines : (h : Host) (before : List Line) (given arrived stale taken : ℕ) (node : NodeState) (step : Step) → Begins before given → StepBalances f arrived stale node step → taken_sum (frame_live f) step.frame ≡ taken
+  step_lines : (h : Host) (before : List Line) (given arrived stale taken : ℕ) (node : NodeState) (step : NodeStep) → Begins before given → StepBalances f arrived stale node step → taken_sum (frame_live f) step.frame ≡ taken
       → LinesBalance (before ++ lines_at h step.acts) given arrived (counted late stale) taken node step.node
   step_lines h before given arrived stale taken node step p b e = record {
     law = omega (
@@ -114,11 +114,11 @@ module _ (f : Family) (late : Bool) where
     );
   }
 
-  no_frame : (step : Step) → step.frame ≡ None → taken_sum (frame_live f) step.frame ≡ 0
+  no_frame : (step : NodeStep) → step.frame ≡ None → taken_sum (frame_live f) step.frame ≡ 0
   no_frame step e = ap (taken_sum (frame_live f)) e
 
   -- steps of a node in a network, behind what is said before
-  record Steps (before : NodeState → List Line) (step : NodeState → Step) : Type 0 where
+  record Steps (before : NodeState → List Line) (step : NodeState → NodeStep) : Type 0 where
     given : NodeState → ℕ
     arrived : NodeState → ℕ
     stale : NodeState → ℕ
@@ -127,7 +127,7 @@ module _ (f : Family) (late : Bool) where
     balances : (node : NodeState) → StepBalances f (arrived node) (stale node) node (step node)
     frame : (node : NodeState) → (step node).frame ≡ None
 
-  step_at_balances : (w : WorldState) (h : Host) (before : NodeState → List Line) (step : NodeState → Step) (at : ℕ) (o : Option NodeState) → Steps before step → slice_get w.nodes at ≡ o
+  step_at_balances : (w : WorldState) (h : Host) (before : NodeState → List Line) (step : NodeState → NodeStep) (at : ℕ) (o : Option NodeState) → Steps before step → slice_get w.nodes at ≡ o
       → Balance w (step_at w h before step at o)
   unfolding step_at
   step_at_balances w h before step at None s e = nothing_balances w
@@ -135,12 +135,12 @@ module _ (f : Family) (late : Bool) where
       let b = step_lines h (before node) (s.given node) (s.arrived node) (s.stale node) 0 node (step node) (s.begins node) (s.balances node) (no_frame (step node) (s.frame node)) in
       record { law = omega (arith, b.law, s.is node, nodes_sum-set (frame_live f) w.nodes at node (step node).node e) }
 
-  step_place_balances : (w : WorldState) (h : Host) (before : NodeState → List Line) (step : NodeState → Step) (o : Option ℕ) → Steps before step → Balance w (step_place w h before step o)
+  step_place_balances : (w : WorldState) (h : Host) (before : NodeState → List Line) (step : NodeState → NodeStep) (o : Option ℕ) → Steps before step → Balance w (step_place w h before step o)
   unfolding step_place
   step_place_balances w h before step None s = nothing_balances w
   step_place_balances w h before step (Some at) s = step_at_balances w h before step at (slice_get w.nodes at) s refl
 
-  steps_balance : (w : WorldState) (h : Host) (before : NodeState → List Line) (step : NodeState → Step) → Steps before step → Balance w (steps w h before step)
+  steps_balance : (w : WorldState) (h : Host) (before : NodeState → List Line) (step : NodeState → NodeStep) → Steps before step → Balance w (steps w h before step)
   unfolding steps
   steps_balance w h before step s = step_place_balances w h before step (place_of w.nodes h) s
 
@@ -173,7 +173,7 @@ module _ (f : Family) (late : Bool) where
     frame = tick_frame;
   })
 
-  send_taken_balances : (w : WorldState) (h : Host) (d : Dev) (at : ℕ) (to : LinkEnd) (node : NodeState) (step : Step) (o : Option PlainStamped)
+  send_taken_balances : (w : WorldState) (h : Host) (d : Dev) (at : ℕ) (to : LinkEnd) (node : NodeState) (step : NodeStep) (o : Option PlainStamped)
       → slice_get w.nodes at ≡ Some node → StepBalances f 0 0 node step → step.frame ≡ o → Balance w (send_taken w h d at to step o)
   unfolding send_taken
   send_taken_balances w h d at to node step None e b q = nothing_balances w

@@ -21,7 +21,7 @@ use Rattle.network_plan.specs.Rules.{IsLinkDevice, KeepsInjection}
 use Rattle.network_plan.specs.declared.event.WorldEvent.{WorldEvent}
 use Rattle.network_plan.specs.declared.event.WorldEvent.TheVariants.{Inject, Send, Deliver, Repeat, Lose, Tick, Raw}
 use Rattle.node_model.specs.State.{Links, NodeState}
-use Rattle.node_model.specs.Node.{Step, takes_as, inject_step, stamped_step, arrive_step, tick_step, take_step}
+use Rattle.node_model.specs.Node.{NodeStep, takes_as, inject_step, stamped_step, arrive_step, tick_step, take_step}
 use Rattle.node_model.specs.Fits.{IsMarked, StampedKeeps, NodeFits}
 use Rattle.node_laws.proofs.Fitting.{FrameTaken, inject_event_fits, stamped_fits, arrive_fits, tick_fits, take_fits}
 use Rattle.node_laws.proofs.Staying.{Stays, inject_stays, stamped_stays, arrive_stays, tick_stays, take_stays}
@@ -107,12 +107,12 @@ nothing_fits : (w : WorldState) → IsSound w → EventFits w (nothing w)
 nothing_fits w s = record { nodes = s.nodes; devices = s.devices; links = s.links; wire = s.wire; stale = s.stale; once = s.once; room = s.room; next = omega arith; made = refl; version = refl }
 
 -- a step that keeps what nodes of a version keep
-record Keeps (v : Version) (step : NodeState → Step) : Type 0 where
+record Keeps (v : Version) (step : NodeState → NodeStep) : Type 0 where
   fits : (node : NodeState) → node.version ≡ v → NodeFits node → NodeFits (step node).node
   stays : (node : NodeState) → Stays node (step node).node
   later : (node : NodeState) → SeenLater node.seen (step node).node.seen
 
-step_at_fits : (w : WorldState) (h : Host) (before : NodeState → List Line) (step : NodeState → Step) (at : ℕ) (o : Option NodeState) → Keeps w.version step → slice_get w.nodes at ≡ o → IsSound w → EventFits w (step_at w h before step at o)
+step_at_fits : (w : WorldState) (h : Host) (before : NodeState → List Line) (step : NodeState → NodeStep) (at : ℕ) (o : Option NodeState) → Keeps w.version step → slice_get w.nodes at ≡ o → IsSound w → EventFits w (step_at w h before step at o)
 unfolding step_at
 step_at_fits w h before step at None k e s = nothing_fits w s
 step_at_fits w h before step at (Some node) k e s = record {
@@ -128,12 +128,12 @@ step_at_fits w h before step at (Some node) k e s = record {
   version = refl;
 }
 
-step_place_fits : (w : WorldState) (h : Host) (before : NodeState → List Line) (step : NodeState → Step) (o : Option ℕ) → Keeps w.version step → IsSound w → EventFits w (step_place w h before step o)
+step_place_fits : (w : WorldState) (h : Host) (before : NodeState → List Line) (step : NodeState → NodeStep) (o : Option ℕ) → Keeps w.version step → IsSound w → EventFits w (step_place w h before step o)
 unfolding step_place
 step_place_fits w h before step None k s = nothing_fits w s
 step_place_fits w h before step (Some at) k s = step_at_fits w h before step at (slice_get w.nodes at) k refl s
 
-steps_fit : (w : WorldState) (h : Host) (before : NodeState → List Line) (step : NodeState → Step) → Keeps w.version step → IsSound w → EventFits w (steps w h before step)
+steps_fit : (w : WorldState) (h : Host) (before : NodeState → List Line) (step : NodeState → NodeStep) → Keeps w.version step → IsSound w → EventFits w (steps w h before step)
 unfolding steps
 steps_fit w h before step k s = step_place_fits w h before step (place_of w.nodes h) k s
 
@@ -164,7 +164,7 @@ below_next v next wire h = All-weaker (WiredFits (StampedKeeps v) next) (λ y. n
 of_version : (a b v : Version) (x : PlainStamped) → a ≡ b → b ≡ v → StampedKeeps a x → StampedKeeps v x
 of_version a b v x p q k = subst (λ u. StampedKeeps u x) (p ∙ q) k
 
-send_taken_fits : (w : WorldState) (h : Host) (d : Dev) (at : ℕ) (to : LinkEnd) (node : NodeState) (step : Step) (o : Option PlainStamped) → to.dev.0 ≤ 8 → nat_lt (length w.wire) 4096 ≡ true → slice_get w.nodes at ≡ Some node
+send_taken_fits : (w : WorldState) (h : Host) (d : Dev) (at : ℕ) (to : LinkEnd) (node : NodeState) (step : NodeStep) (o : Option PlainStamped) → to.dev.0 ≤ 8 → nat_lt (length w.wire) 4096 ≡ true → slice_get w.nodes at ≡ Some node
     → step.frame ≡ o → NodeFits step.node → Stays node step.node → step.node.seen ≡ node.seen → FrameTaken step.node.version step.frame → IsSound w → EventFits w (send_taken w h d at to step o)
 unfolding send_taken
 send_taken_fits w h d at to node step None dev n e q f y l t s = nothing_fits w s

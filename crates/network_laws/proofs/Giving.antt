@@ -24,7 +24,7 @@ use Rattle.network_plan.specs.declared.event.WorldEvent.{WorldEvent}
 use Rattle.network_plan.specs.declared.event.WorldEvent.TheVariants.{Inject, Send, Deliver, Repeat, Lose, Tick, Raw}
 use Rattle.spelled_frame.specs.Spelled.{what_of}
 use Rattle.node_model.specs.State.{NodeState, new_node}
-use Rattle.node_model.specs.Node.{Step, inject_step, stamped_step, arrive_step, tick_step, take_step}
+use Rattle.node_model.specs.Node.{NodeStep, inject_step, stamped_step, arrive_step, tick_step, take_step}
 use Rattle.node_model.specs.Counts.{act_sum, queues_sum, frame_one, taken_sum}
 use Rattle.node_laws.proofs.CountLaws.{act_sum-nil, act_sum-cons, queues_sum-nil}
 use Rattle.node_laws.proofs.Fitting.{Taken, taken_in}
@@ -86,7 +86,7 @@ module _ (f : Family) where
       zeros (a ∷ more) = omega (arith, act_sum-cons (λ a. line_forged f (At h a)) a more, zeros more)
 
   -- the lines of a step behind some lines
-  step_lines : (h : Host) (before : List Line) (node : NodeState) (step : Step) (nodes new : ℕ) → Begins before → StepGives f node step → new + may_give f node ≡ nodes + may_give f step.node
+  step_lines : (h : Host) (before : List Line) (node : NodeState) (step : NodeStep) (nodes new : ℕ) → Begins before → StepGives f node step → new + may_give f node ≡ nodes + may_give f step.node
       → (line_sum (line_injections f) (before ++ lines_at h step.acts) + new ≤ nodes)
       × (line_sum (line_granted f) (before ++ lines_at h step.acts) ≤ 65535 * (line_sum (line_injections f) (before ++ lines_at h step.acts) + line_sum (line_forged f) (before ++ lines_at h step.acts)))
   step_lines h before node step nodes new b g e =
@@ -108,11 +108,11 @@ module _ (f : Family) where
       )
 
   -- steps of a node in a network, behind what is said before
-  record Gives (before : NodeState → List Line) (step : NodeState → Step) : Type 0 where
+  record Gives (before : NodeState → List Line) (step : NodeState → NodeStep) : Type 0 where
     begins : (node : NodeState) → Begins (before node)
     gives : (node : NodeState) → StepGives f node (step node)
 
-  step_at_gives : (w : WorldState) (h : Host) (before : NodeState → List Line) (step : NodeState → Step) (at : ℕ) (o : Option NodeState) → Gives before step → slice_get w.nodes at ≡ o
+  step_at_gives : (w : WorldState) (h : Host) (before : NodeState → List Line) (step : NodeState → NodeStep) (at : ℕ) (o : Option NodeState) → Gives before step → slice_get w.nodes at ≡ o
       → EventGives w (step_at w h before step at o)
   unfolding step_at
   step_at_gives w h before step at None g e = nothing_gives w
@@ -120,12 +120,12 @@ module _ (f : Family) where
       let l = step_lines h (before node) node (step node) (may_give_all w.nodes) (may_give_all (slice_set w.nodes at (step node).node)) (g.begins node) (g.gives node) (may_give_all-set w.nodes at node (step node).node e) in
       record { once = l.0; limit = l.1 }
 
-  step_place_gives : (w : WorldState) (h : Host) (before : NodeState → List Line) (step : NodeState → Step) (o : Option ℕ) → Gives before step → EventGives w (step_place w h before step o)
+  step_place_gives : (w : WorldState) (h : Host) (before : NodeState → List Line) (step : NodeState → NodeStep) (o : Option ℕ) → Gives before step → EventGives w (step_place w h before step o)
   unfolding step_place
   step_place_gives w h before step None g = nothing_gives w
   step_place_gives w h before step (Some at) g = step_at_gives w h before step at (slice_get w.nodes at) g refl
 
-  steps_give : (w : WorldState) (h : Host) (before : NodeState → List Line) (step : NodeState → Step) → Gives before step → EventGives w (steps w h before step)
+  steps_give : (w : WorldState) (h : Host) (before : NodeState → List Line) (step : NodeState → NodeStep) → Gives before step → EventGives w (steps w h before step)
   unfolding steps
   steps_give w h before step g = step_place_gives w h before step (place_of w.nodes h) g
 
@@ -146,7 +146,7 @@ module _ (f : Family) where
   forged_begins h v bytes (Ok x) b e = frame_begins h x.frame (taken_in bytes v x (found_by v bytes x b e))
   forged_begins h v bytes (Err x) b e = no_lines
 
-  send_taken_gives : (w : WorldState) (h : Host) (d : Dev) (at : ℕ) (to : LinkEnd) (node : NodeState) (step : Step) (o : Option PlainStamped)
+  send_taken_gives : (w : WorldState) (h : Host) (d : Dev) (at : ℕ) (to : LinkEnd) (node : NodeState) (step : NodeStep) (o : Option PlainStamped)
       → slice_get w.nodes at ≡ Some node → StepGives f node step → EventGives w (send_taken w h d at to step o)
   unfolding send_taken
   send_taken_gives w h d at to node step None e g = nothing_gives w
@@ -379,10 +379,10 @@ module _ (f : Family) where
   node_none nodes at node e q = omega (arith, nodes_sum-set (frame_one f) nodes at node (record node { queues = [] }) e, queues_sum-nil (frame_one f))
 
   -- what a step must leave, where its lines grant nothing
-  abbrev StepLeaves : Host → List Line → NodeState → Step → Type 0
+  abbrev StepLeaves : Host → List Line → NodeState → NodeStep → Type 0
   StepLeaves h before node step = ungranted (before ++ lines_at h step.acts) ≡ 0 → queues_sum (frame_one f) node.queues ≡ 0 → queues_sum (frame_one f) step.node.queues ≡ 0
 
-  step_at_leaves : (w : WorldState) (h : Host) (before : NodeState → List Line) (step : NodeState → Step) (at : ℕ) (o : Option NodeState) → ((node : NodeState) → StepLeaves h (before node) node (step node)) → slice_get w.nodes at ≡ o
+  step_at_leaves : (w : WorldState) (h : Host) (before : NodeState → List Line) (step : NodeState → NodeStep) (at : ℕ) (o : Option NodeState) → ((node : NodeState) → StepLeaves h (before node) node (step node)) → slice_get w.nodes at ≡ o
       → Leaves w (step_at w h before step at o)
   unfolding step_at
   step_at_leaves w h before step at None k e z q = q
@@ -390,12 +390,12 @@ module _ (f : Family) where
       let one = k node z (node_none w.nodes at node e (omega arith)) in
       omega (arith, nodes_sum-set (frame_one f) w.nodes at node (step node).node e)
 
-  step_place_leaves : (w : WorldState) (h : Host) (before : NodeState → List Line) (step : NodeState → Step) (o : Option ℕ) → ((node : NodeState) → StepLeaves h (before node) node (step node)) → Leaves w (step_place w h before step o)
+  step_place_leaves : (w : WorldState) (h : Host) (before : NodeState → List Line) (step : NodeState → NodeStep) (o : Option ℕ) → ((node : NodeState) → StepLeaves h (before node) node (step node)) → Leaves w (step_place w h before step o)
   unfolding step_place
   step_place_leaves w h before step None k z q = q
   step_place_leaves w h before step (Some at) k z q = step_at_leaves w h before step at (slice_get w.nodes at) k refl z q
 
-  steps_leave : (w : WorldState) (h : Host) (before : NodeState → List Line) (step : NodeState → Step) → ((node : NodeState) → StepLeaves h (before node) node (step node)) → Leaves w (steps w h before step)
+  steps_leave : (w : WorldState) (h : Host) (before : NodeState → List Line) (step : NodeState → NodeStep) → ((node : NodeState) → StepLeaves h (before node) node (step node)) → Leaves w (steps w h before step)
   unfolding steps
   steps_leave w h before step k z q = step_place_leaves w h before step (place_of w.nodes h) k z q
 
@@ -420,7 +420,7 @@ module _ (f : Family) where
       let j = forged_one h (read_by node.version bytes) in
       arrive_adds f node d bytes (omega arith) q
 
-  send_taken_leaves : (w : WorldState) (h : Host) (d : Dev) (at : ℕ) (to : LinkEnd) (node : NodeState) (step : Step) (o : Option PlainStamped) → slice_get w.nodes at ≡ Some node
+  send_taken_leaves : (w : WorldState) (h : Host) (d : Dev) (at : ℕ) (to : LinkEnd) (node : NodeState) (step : NodeStep) (o : Option PlainStamped) → slice_get w.nodes at ≡ Some node
       → (queues_sum (frame_one f) node.queues ≡ 0 → queues_sum (frame_one f) step.node.queues + taken_sum (frame_one f) o ≡ 0) → packets f w ≡ 0 → packets f (send_taken w h d at to step o).world ≡ 0
   unfolding send_taken
   send_taken_leaves w h d at to node step None e k q = q

@@ -22,7 +22,7 @@ use Rattle.network_plan.specs.declared.event.WorldEvent.TheVariants.{Inject, Sen
 use Rattle.spelled_frame.specs.Spelled.{what_of}
 use Rattle.node_model.specs.declared.acts.Act.{Act}
 use Rattle.node_model.specs.State.{NodeState}
-use Rattle.node_model.specs.Node.{Step, takes_as, inject_step, stamped_step, arrive_step, tick_step, take_step}
+use Rattle.node_model.specs.Node.{NodeStep, takes_as, inject_step, stamped_step, arrive_step, tick_step, take_step}
 use Rattle.node_model.specs.Counts.{act_sum, act_stale, frame_live, if_stale, bytes_stale}
 use Rattle.node_laws.proofs.NodeBalance.{inject_event_balances, arrive_balances, tick_balances, take_balances}
 use Rattle.world_model.specs.declared.lines.Line.{Line}
@@ -132,18 +132,18 @@ same_wire p old new w n a = record {
 
 module _ (f : Family) (p : Past) where
   -- steps of a node that say nothing before, in which nothing is stale
-  plain_at : (w : WorldState) (h : Host) (step : NodeState → Step) (at : ℕ) (o : Option NodeState) → ((node : NodeState) → act_sum (act_stale f) (step node).acts ≡ 0) → PastAgrees p w
+  plain_at : (w : WorldState) (h : Host) (step : NodeState → NodeStep) (at : ℕ) (o : Option NodeState) → ((node : NodeState) → act_sum (act_stale f) (step node).acts ≡ 0) → PastAgrees p w
       → Tells f p false (step_at w h none_before step at o)
   unfolding step_at
   plain_at w h step at None z a = nothing_tells f p false w a
   plain_at w h step at (Some node) z a = acts_tell f p false h (step node).acts _ (z node) (same_wire p w _ refl refl a)
 
-  plain_place : (w : WorldState) (h : Host) (step : NodeState → Step) (o : Option ℕ) → ((node : NodeState) → act_sum (act_stale f) (step node).acts ≡ 0) → PastAgrees p w → Tells f p false (step_place w h none_before step o)
+  plain_place : (w : WorldState) (h : Host) (step : NodeState → NodeStep) (o : Option ℕ) → ((node : NodeState) → act_sum (act_stale f) (step node).acts ≡ 0) → PastAgrees p w → Tells f p false (step_place w h none_before step o)
   unfolding step_place
   plain_place w h step None z a = nothing_tells f p false w a
   plain_place w h step (Some at) z a = plain_at w h step at (slice_get w.nodes at) z a
 
-  plain_steps : (w : WorldState) (h : Host) (step : NodeState → Step) → ((node : NodeState) → act_sum (act_stale f) (step node).acts ≡ 0) → PastAgrees p w → Tells f p false (steps w h none_before step)
+  plain_steps : (w : WorldState) (h : Host) (step : NodeState → NodeStep) → ((node : NodeState) → act_sum (act_stale f) (step node).acts ≡ 0) → PastAgrees p w → Tells f p false (steps w h none_before step)
   unfolding steps
   plain_steps w h step z a = plain_place w h step (place_of w.nodes h) z a
 
@@ -185,7 +185,7 @@ module _ (f : Family) (p : Past) where
       let other : (m == n) ≡ false = grind (arith, nat_tests) in
       ap (λ b. b || list_any (λ k. k == n) ns) other ∙ not_among n ns (All-tail (λ m. m < n) m ns a)
 
-  send_taken_tells : (w : WorldState) (h : Host) (d : Dev) (at : ℕ) (to : LinkEnd) (step : Step) (o : Option PlainStamped) → act_sum (act_stale f) step.acts ≡ 0 → PastAgrees p w → Tells f p false (send_taken w h d at to step o)
+  send_taken_tells : (w : WorldState) (h : Host) (d : Dev) (at : ℕ) (to : LinkEnd) (step : NodeStep) (o : Option PlainStamped) → act_sum (act_stale f) step.acts ≡ 0 → PastAgrees p w → Tells f p false (send_taken w h d at to step o)
   unfolding send_taken
   send_taken_tells w h d at to step None z a = nothing_tells f p false w a
   send_taken_tells w h d at to step (Some x) z a =

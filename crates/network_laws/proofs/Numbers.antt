@@ -20,7 +20,7 @@ use Rattle.world_model.specs.declared.lines.Line.{Line}
 use Rattle.world_model.specs.declared.lines.LinkEnd.{LinkEnd}
 use Rattle.network_plan.specs.declared.event.WorldEvent.{WorldEvent}
 use Rattle.network_plan.specs.declared.event.WorldEvent.TheVariants.{Inject, Send, Deliver, Repeat, Lose, Tick, Raw}
-use Rattle.node_model.specs.Node.{Step, inject_step, tick_step, arrive_step, stamped_step, take_first, take_from, take_step}
+use Rattle.node_model.specs.Node.{NodeStep, inject_step, tick_step, arrive_step, stamped_step, take_first, take_from, take_step}
 use Rattle.node_laws.proofs.Staying.{inject_stays, tick_stays, arrive_stays, stamped_stays}
 use Rattle.read_laws.proofs.Binds.{some_inj}
 use Rattle.node_model.specs.Numbers.{Ascend, NumbersFit, FitsAt, link_in, numbers_in}
@@ -221,7 +221,7 @@ module _ (nodes : List NodeState) (wire : List Wired) (at : ℕ) (old new : Node
       by false t = other t (set_at nodes at old new h get same)
 
 -- what a take of a frame did
-record TookFirst (node : NodeState) (d : Dev) (x : PlainStamped) (step : Step) : Type 0 where
+record TookFirst (node : NodeState) (d : Dev) (x : PlainStamped) (step : NodeStep) : Type 0 where
   queue : List PlainStamped
   number : ℕ
   head : slice_get node.queues d.0 ≡ Some (record { frames = x ∷ queue; number = number })
@@ -243,7 +243,7 @@ took_of node d x e = took_from node d x (slice_get node.queues d.0) refl e
 -- ---- events
 
 -- a step of a node at which frames at most join its queues
-record NodeRises (step : NodeState → Step) : Type 0 where
+record NodeRises (step : NodeState → NodeStep) : Type 0 where
   here : (node : NodeState) → (step node).node.here ≡ node.here
   rises : (node : NodeState) (before : List ℕ) (d : ℕ) → FitsAt before d node.queues → FitsAt before d (step node).node.queues
 
@@ -251,7 +251,7 @@ abbrev Differs : EventResult → Type 0
 Differs h = NumbersDiffer h.world.nodes h.world.wire
 
 module _ (w : WorldState) (s : NumbersDiffer w.nodes w.wire) where
-  steps_differ : (h : Host) (before : NodeState → List Line) (step : NodeState → Step) → NodeRises step → Differs (steps w h before step)
+  steps_differ : (h : Host) (before : NodeState → List Line) (step : NodeState → NodeStep) → NodeRises step → Differs (steps w h before step)
   unfolding steps step_place step_at
   steps_differ h before step k = by (place_of w.nodes h)
     where

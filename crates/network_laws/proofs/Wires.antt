@@ -18,7 +18,7 @@ use Rattle.network_plan.specs.declared.event.WorldEvent.TheVariants.{Inject, Sen
 use Rattle.spelled_frame.specs.Spelled.{what_of}
 use Rattle.node_model.specs.declared.acts.Act.{Act}
 use Rattle.node_model.specs.State.{NodeState}
-use Rattle.node_model.specs.Node.{Step, inject_step, stamped_step, arrive_step, tick_step, take_step}
+use Rattle.node_model.specs.Node.{NodeStep, inject_step, stamped_step, arrive_step, tick_step, take_step}
 use Rattle.node_model.specs.Counts.{act_sum}
 use Rattle.node_laws.proofs.CountLaws.{act_sum-nil, act_sum-cons}
 use Rattle.world_model.specs.declared.lines.Line.{Line}
@@ -101,19 +101,19 @@ module _ (n : ℕ) where
   nothing_moves : (w : WorldState) → Moves w (nothing w)
   nothing_moves w = let q = quiet_one Nothing refl refl in record { once = omega (arith, q.sent); account = omega (arith, q.sent, q.off) }
 
-  step_at_moves : (w : WorldState) (h : Host) (before : NodeState → List Line) (step : NodeState → Step) (at : ℕ) (o : Option NodeState) → ((node : NodeState) → Quiet (before node)) → Moves w (step_at w h before step at o)
+  step_at_moves : (w : WorldState) (h : Host) (before : NodeState → List Line) (step : NodeState → NodeStep) (at : ℕ) (o : Option NodeState) → ((node : NodeState) → Quiet (before node)) → Moves w (step_at w h before step at o)
   unfolding step_at
   step_at_moves w h before step at None b = nothing_moves w
   step_at_moves w h before step at (Some node) b =
       let q = quiet_both (before node) (lines_at h (step node).acts) (b node) (quiet_acts h (step node).acts) in
       record { once = omega (arith, q.sent); account = omega (arith, q.sent, q.off) }
 
-  step_place_moves : (w : WorldState) (h : Host) (before : NodeState → List Line) (step : NodeState → Step) (o : Option ℕ) → ((node : NodeState) → Quiet (before node)) → Moves w (step_place w h before step o)
+  step_place_moves : (w : WorldState) (h : Host) (before : NodeState → List Line) (step : NodeState → NodeStep) (o : Option ℕ) → ((node : NodeState) → Quiet (before node)) → Moves w (step_place w h before step o)
   unfolding step_place
   step_place_moves w h before step None b = nothing_moves w
   step_place_moves w h before step (Some at) b = step_at_moves w h before step at (slice_get w.nodes at) b
 
-  steps_move : (w : WorldState) (h : Host) (before : NodeState → List Line) (step : NodeState → Step) → ((node : NodeState) → Quiet (before node)) → Moves w (steps w h before step)
+  steps_move : (w : WorldState) (h : Host) (before : NodeState → List Line) (step : NodeState → NodeStep) → ((node : NodeState) → Quiet (before node)) → Moves w (steps w h before step)
   unfolding steps
   steps_move w h before step b = step_place_moves w h before step (place_of w.nodes h) b
 
@@ -126,7 +126,7 @@ module _ (n : ℕ) where
   quiet_forged h (Ok x) = frame_quiet h x.frame
   quiet_forged h (Err e) = quiet_none
 
-  send_taken_moves : (w : WorldState) (h : Host) (d : Dev) (at : ℕ) (to : LinkEnd) (step : Step) (o : Option PlainStamped) → Moves w (send_taken w h d at to step o)
+  send_taken_moves : (w : WorldState) (h : Host) (d : Dev) (at : ℕ) (to : LinkEnd) (step : NodeStep) (o : Option PlainStamped) → Moves w (send_taken w h d at to step o)
   unfolding send_taken
   send_taken_moves w h d at to step None = nothing_moves w
   send_taken_moves w h d at to step (Some x) =
@@ -282,21 +282,21 @@ record Leads (w : WorldState) (h : EventResult) : Type 0 where
 nothing_leads : (w : WorldState) → WireLeads w.links w.wire → Leads w (nothing w)
 nothing_leads w k = record { links = refl; wire = k }
 
-step_at_leads : (w : WorldState) (h : Host) (before : NodeState → List Line) (step : NodeState → Step) (at : ℕ) (o : Option NodeState) → WireLeads w.links w.wire → Leads w (step_at w h before step at o)
+step_at_leads : (w : WorldState) (h : Host) (before : NodeState → List Line) (step : NodeState → NodeStep) (at : ℕ) (o : Option NodeState) → WireLeads w.links w.wire → Leads w (step_at w h before step at o)
 unfolding step_at
 step_at_leads w h before step at None k = nothing_leads w k
 step_at_leads w h before step at (Some node) k = record { links = refl; wire = k }
 
-step_place_leads : (w : WorldState) (h : Host) (before : NodeState → List Line) (step : NodeState → Step) (o : Option ℕ) → WireLeads w.links w.wire → Leads w (step_place w h before step o)
+step_place_leads : (w : WorldState) (h : Host) (before : NodeState → List Line) (step : NodeState → NodeStep) (o : Option ℕ) → WireLeads w.links w.wire → Leads w (step_place w h before step o)
 unfolding step_place
 step_place_leads w h before step None k = nothing_leads w k
 step_place_leads w h before step (Some at) k = step_at_leads w h before step at (slice_get w.nodes at) k
 
-steps_lead : (w : WorldState) (h : Host) (before : NodeState → List Line) (step : NodeState → Step) → WireLeads w.links w.wire → Leads w (steps w h before step)
+steps_lead : (w : WorldState) (h : Host) (before : NodeState → List Line) (step : NodeState → NodeStep) → WireLeads w.links w.wire → Leads w (steps w h before step)
 unfolding steps
 steps_lead w h before step k = step_place_leads w h before step (place_of w.nodes h) k
 
-send_taken_leads : (w : WorldState) (h : Host) (d : Dev) (at : ℕ) (to : LinkEnd) (step : Step) (o : Option PlainStamped) → far_end w.links h d ≡ Some to → WireLeads w.links w.wire → Leads w (send_taken w h d at to step o)
+send_taken_leads : (w : WorldState) (h : Host) (d : Dev) (at : ℕ) (to : LinkEnd) (step : NodeStep) (o : Option PlainStamped) → far_end w.links h d ≡ Some to → WireLeads w.links w.wire → Leads w (send_taken w h d at to step o)
 unfolding send_taken
 send_taken_leads w h d at to step None e k = nothing_leads w k
 send_taken_leads w h d at to step (Some x) e k = record {

@@ -13,7 +13,7 @@ use Rattle.service_api.specs.Services.{ServiceState}
 use Rattle.dv_routing.specs.Stands.{Stands}
 use Rattle.node_model.specs.declared.acts.Acts.{Acts}
 use Rattle.node_model.specs.State.{NodeState, routing_of}
-use Rattle.node_model.specs.Node.{Step, mark_of}
+use Rattle.node_model.specs.Node.{NodeStep, mark_of}
 use Rattle.spelled_frame.specs.Spelled.{MayCarry}
 use Rattle.node_core.specs.Windows.{AllSeen}
 use Rattle.node_core.specs.declared.node.Node.{Node}
@@ -41,7 +41,7 @@ pub record NodeStands {S : Type 0} (stands : S → ServiceState) (n : Node S) (s
   pub time : n.time ≡ s.now
 
 -- the acts and the frame of a step are those of its definition, and the node stands for the state after it
-pub record IsStep {S : Type 0} (stands : S → ServiceState) (step : Step) (acts : Acts) (new : Node S) : Type 0 where
+pub record IsStep {S : Type 0} (stands : S → ServiceState) (step : NodeStep) (acts : Acts) (new : Node S) : Type 0 where
   pub list : acts.list ≡ step.acts
   pub frame : acts.frame ≡ step.frame
   pub node : NodeStands stands new step.node

@@ -8,7 +8,7 @@ ghost use Rattle.node_files.specs.Asks.{to_line, from_line, bound_line, wanted_l
 
 use crate::parts::{expect, last_number};
 use line_files::{
-    LineFault, LineFile, LineReason, OpenProgram, Stop, Words, call, is, program, read_file,
+    LineFault, LineFile, LineReason, LineStop, OpenProgram, Words, call, is, program, read_file,
     says_nothing, stopped_at,
 };
 use network_plan::AskFile;
@@ -84,7 +84,7 @@ impl AskReading {
 
     /// `to P`. Reasons: `BadWord`, `BadNumber`.
     #[tactic(auto, unfolding(crate::specs::Asks::to_line))]
-    fn to(&mut self, words: &mut Words<'_>) -> Result<(), Stop>
+    fn to(&mut self, words: &mut Words<'_>) -> Result<(), LineStop>
         ensures { Leaves result self.new (to_line words.old self.old) }
     {
         expect(words, b"to")?;
@@ -96,7 +96,7 @@ impl AskReading {
 
     /// `from P`. Reasons: `BadWord`, `BadNumber`.
     #[tactic(auto, unfolding(crate::specs::Asks::from_line))]
-    fn from(&mut self, words: &mut Words<'_>) -> Result<(), Stop>
+    fn from(&mut self, words: &mut Words<'_>) -> Result<(), LineStop>
         ensures { Leaves result self.new (from_line words.old self.old) }
     {
         expect(words, b"from")?;
@@ -108,7 +108,7 @@ impl AskReading {
 
     /// `bound N`. Reasons: `BadWord`, `BadNumber`.
     #[tactic(auto, unfolding(crate::specs::Asks::bound_line))]
-    fn bound(&mut self, words: &mut Words<'_>) -> Result<(), Stop>
+    fn bound(&mut self, words: &mut Words<'_>) -> Result<(), LineStop>
         ensures { Leaves result self.new (bound_line words.old self.old) }
     {
         expect(words, b"bound")?;
@@ -119,7 +119,7 @@ impl AskReading {
 
     /// `entry ENTRY ARGS`. Reason: `BadWord`.
     #[tactic(auto, unfolding(crate::specs::Asks::entry_line))]
-    fn entry(&mut self, alloc: Global, number: u32, words: &mut Words<'_>) -> Result<(), Stop>
+    fn entry(&mut self, alloc: Global, number: u32, words: &mut Words<'_>) -> Result<(), LineStop>
         ensures { Leaves result self.new (spec.entry_line number words.old self.old) }
     {
         expect(words, b"entry")?;
@@ -134,7 +134,7 @@ impl AskReading {
 
     /// `program`. Reason: `BadWord`.
     #[tactic(auto, unfolding(crate::specs::Asks::program_line))]
-    fn program(&mut self, alloc: Global, number: u32, words: &mut Words<'_>) -> Result<(), Stop>
+    fn program(&mut self, alloc: Global, number: u32, words: &mut Words<'_>) -> Result<(), LineStop>
         ensures { Leaves result self.new (spec.program_line number words.old self.old) }
     {
         expect(words, b"program")?;
@@ -152,7 +152,7 @@ impl AskReading {
         word: AskWord,
         number: u32,
         words: &mut Words<'_>,
-    ) -> Result<(), Stop>
+    ) -> Result<(), LineStop>
         ensures { Leaves result self.new (wanted_line word number words.old self.old) }
     {
         match word {
@@ -199,7 +199,7 @@ impl AskReading {
 
     /// The end of the program's text. Reasons: `TooMany`, `ProgramRefused`.
     #[tactic(auto, unfolding(crate::specs::Asks::close_program))]
-    fn close(&mut self, alloc: Global) -> Result<(), Stop>
+    fn close(&mut self, alloc: Global) -> Result<(), LineStop>
         ensures { Leaves result self.new (spec.close_program self.old) }
     {
         let checked = program(alloc, self.program.text.as_slice())?;
@@ -236,7 +236,7 @@ impl AskReading {
 
     /// The request, with this program. Reason: `BadArgument`, `BadWord`.
     #[tactic(auto, unfolding(crate::specs::Asks::request_of))]
-    fn request(&self, alloc: Global, program: &Checked) -> Result<AskFile, Stop>
+    fn request(&self, alloc: Global, program: &Checked) -> Result<AskFile, LineStop>
         ensures { Gives (λ a. a) result (request_of program.now self.now) }
     {
         let mut words = Words::of(self.entry.as_slice());

@@ -7,7 +7,7 @@ ghost use Rattle.node_files.specs.ChunkWords.{spelled_chunk, if_typed, typed_chu
 use chunk_codec::get_chunk;
 use chunk_spelling::SpellFault;
 use chunk_types::{CheckedChunk, ChunkFault, check_chunk};
-use line_files::{LineReason, Stop, Words, hex_bytes};
+use line_files::{LineReason, LineStop, Words, hex_bytes};
 use plan_base::{Chunk, NoMemory};
 use std::alloc::Global;
 use wire_bytes::Cursor;
@@ -69,7 +69,7 @@ fn chunk_in(alloc: Global, bytes: &[u8]) -> Result<Option<CheckedChunk>, NoMemor
 
 /// The next word as a typed chunk in hex. Reasons: `BadWord` where the line has ended, else `BadArgument`.
 #[tactic(auto, unfolding(crate::specs::ChunkWords::chunk_at))]
-pub fn chunk(alloc: Global, words: &mut Words<'_>) -> Result<CheckedChunk, Stop>
+pub fn chunk(alloc: Global, words: &mut Words<'_>) -> Result<CheckedChunk, LineStop>
     ensures { GivesWith (λ k. k) result words.new (spec.chunk_at words.old) }
 {
     let bytes = hex_bytes(alloc, words, 1, 16_383)?;

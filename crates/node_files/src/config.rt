@@ -8,7 +8,7 @@ ghost use Rattle.node_files.specs.Configs.{tail_word, may_come, with_device, tai
 use crate::nodes::{host_line, hosts_line, neighbour, put_neighbour, put_port};
 use crate::parts::{expect, last_number};
 use line_files::{
-    LineFault, LineFile, LineReason, OpenProgram, Stop, Words, allow, file_name, injection, is,
+    LineFault, LineFile, LineReason, LineStop, OpenProgram, Words, allow, file_name, injection, is,
     number, package, program, read_file, says_nothing, stopped_at, version_of, weighed,
 };
 use link_window::Version;
@@ -174,7 +174,7 @@ impl ConfigReading {
 
     /// `port P`. Reasons: `BadWord`, `BadNumber`.
     #[tactic(auto, unfolding(crate::specs::Configs::port_line))]
-    fn port(&mut self, words: &mut Words<'_>) -> Result<(), Stop>
+    fn port(&mut self, words: &mut Words<'_>) -> Result<(), LineStop>
         ensures { Leaves result self.new (spec.port_line words.old self.old) }
     {
         expect(words, b"port")?;
@@ -210,7 +210,7 @@ impl ConfigReading {
 
     /// `control P`. Reasons: `BadWord`, `BadNumber`, `TwiceNamed`.
     #[tactic(auto, unfolding(crate::specs::Configs::control_line))]
-    fn control(&mut self, words: &mut Words<'_>) -> Result<(), Stop>
+    fn control(&mut self, words: &mut Words<'_>) -> Result<(), LineStop>
         ensures { Leaves result self.new (spec.control_line words.old self.old) }
     {
         expect(words, b"control")?;
@@ -223,7 +223,7 @@ impl ConfigReading {
 
     /// `period MS`. Reasons: `BadWord`, `BadNumber`.
     #[tactic(auto, unfolding(crate::specs::Configs::period_line))]
-    fn period(&mut self, words: &mut Words<'_>) -> Result<(), Stop>
+    fn period(&mut self, words: &mut Words<'_>) -> Result<(), LineStop>
         ensures { Leaves result self.new (spec.period_line words.old self.old) }
     {
         expect(words, b"period")?;
@@ -234,7 +234,7 @@ impl ConfigReading {
 
     /// `log FILE`. Reason: `BadWord`.
     #[tactic(auto, unfolding(crate::specs::Configs::log_line))]
-    fn log(&mut self, alloc: Global, words: &mut Words<'_>) -> Result<(), Stop>
+    fn log(&mut self, alloc: Global, words: &mut Words<'_>) -> Result<(), LineStop>
         ensures { Leaves result self.new (spec.log_line words.old self.old) }
     {
         expect(words, b"log")?;
@@ -247,7 +247,12 @@ impl ConfigReading {
 
     /// The line with a word. Reasons: `BadWord`, `BadNumber`, `TooMany`, `BadArgument`, `TwiceNamed`.
     #[tactic(auto, unfolding(crate::specs::Configs::wanted_line))]
-    fn wanted(&mut self, alloc: Global, word: HeadWord, words: &mut Words<'_>) -> Result<(), Stop>
+    fn wanted(
+        &mut self,
+        alloc: Global,
+        word: HeadWord,
+        words: &mut Words<'_>,
+    ) -> Result<(), LineStop>
         ensures { Leaves result self.new (spec.wanted_line word words.old self.old) }
     {
         match word {
@@ -279,7 +284,7 @@ impl ConfigReading {
     /// `dev D HOST PORT` behind its first word. Reasons: `BadWord`, `BadNumber`, `TwiceNamed`, `UnknownHost`,
     /// `BadArgument`.
     #[tactic(auto, unfolding(crate::specs::Configs::device_line))]
-    fn device(&mut self, alloc: Global, words: &mut Words<'_>) -> Result<(), Stop>
+    fn device(&mut self, alloc: Global, words: &mut Words<'_>) -> Result<(), LineStop>
         ensures { Leaves result self.new (spec.device_line words.old self.old) }
     {
         let n = neighbour(
@@ -296,7 +301,7 @@ impl ConfigReading {
 
     /// `without PACKAGE` behind its first word. Reasons: `BadWord`, `TwiceNamed`.
     #[tactic(auto, unfolding(crate::specs::Configs::missing_line))]
-    fn without(&mut self, words: &mut Words<'_>) -> Result<(), Stop>
+    fn without(&mut self, words: &mut Words<'_>) -> Result<(), LineStop>
         ensures { Leaves result self.new (spec.missing_line words.old self.old) }
     {
         package(&mut self.missing, words)?;
@@ -307,7 +312,7 @@ impl ConfigReading {
 
     /// `program` behind its first word. Reason: `BadWord`.
     #[tactic(auto, unfolding(crate::specs::Configs::program_line))]
-    fn program(&mut self, alloc: Global, number: u32, words: &mut Words<'_>) -> Result<(), Stop>
+    fn program(&mut self, alloc: Global, number: u32, words: &mut Words<'_>) -> Result<(), LineStop>
         ensures { Leaves result self.new (spec.program_line number words.old self.old) }
     {
         words.end()?;
@@ -319,11 +324,11 @@ impl ConfigReading {
     /// `at TURN inject ENTRY BOUND ARGS` behind its first word, under version 2 with `handler NAME` in front of ARGS or
     /// without. Reasons: `UnknownProgram`, `BadWord`, `BadNumber`, `BadArgument`, `TooMany`.
     #[tactic(auto, unfolding(crate::specs::Configs::inject_line))]
-    fn inject(&mut self, alloc: Global, words: &mut Words<'_>) -> Result<(), Stop>
+    fn inject(&mut self, alloc: Global, words: &mut Words<'_>) -> Result<(), LineStop>
         ensures { Leaves result self.new (spec.inject_line words.old self.old) }
     {
         let Some(program) = &self.checked else {
-            return Err(Stop::Reason(LineReason::UnknownProgram));
+            return Err(LineStop::Reason(LineReason::UnknownProgram));
         };
         let turn = number(words, 1, 1_000_000)?;
         expect(words, b"inject")?;
@@ -342,7 +347,7 @@ impl ConfigReading {
         word: TailWord,
         number: u32,
         words: &mut Words<'_>,
-    ) -> Result<(), Stop>
+    ) -> Result<(), LineStop>
         ensures { Leaves result self.new (tail_rest word number words.old self.old) }
     {
         match word {
@@ -361,7 +366,7 @@ impl ConfigReading {
         part: TailPart,
         number: u32,
         words: &mut Words<'_>,
-    ) -> Result<(), Stop>
+    ) -> Result<(), LineStop>
         ensures { Leaves result self.new (spec.tail_line part number words.old self.old) }
     {
         let word = words.next()?;
@@ -429,7 +434,7 @@ impl ConfigReading {
 
     /// The end of the program's text. Reasons: `TooMany`, `ProgramRefused`.
     #[tactic(auto, unfolding(crate::specs::Configs::close_program))]
-    fn close(&mut self, alloc: Global) -> Result<(), Stop>
+    fn close(&mut self, alloc: Global) -> Result<(), LineStop>
         ensures { Leaves result self.new (spec.close_program self.old) }
     {
         let checked = program(alloc, self.program.text.as_slice())?;

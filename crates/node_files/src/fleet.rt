@@ -7,7 +7,7 @@ ghost use Rattle.node_files.specs.Fleets.{kid_word, kid_rest, fleet_step_at, no_
 
 use crate::parts::last_number;
 use line_files::{
-    LineFault, LineFile, LineReason, Stop, Words, allow, file_name, is, number, read_file,
+    LineFault, LineFile, LineReason, LineStop, Words, allow, file_name, is, number, read_file,
     says_nothing, stopped_at,
 };
 use network_plan::{Fleet, Kid, Kids};
@@ -41,7 +41,7 @@ impl KidWord {
 
 /// `node HOST FILE TURNS` behind its first word. Reasons: `BadWord`, `BadNumber`.
 #[tactic(auto, unfolding(crate::specs::Fleets::node_kid))]
-fn node_kid(alloc: Global, words: &mut Words<'_>) -> Result<Kid, Stop>
+fn node_kid(alloc: Global, words: &mut Words<'_>) -> Result<Kid, LineStop>
     ensures { Gives (λ k. k) result (spec.node_kid words.old) }
 {
     let host = number(words, 0, u32::MAX)?;
@@ -52,7 +52,7 @@ fn node_kid(alloc: Global, words: &mut Words<'_>) -> Result<Kid, Stop>
 
 /// `ask HOST FILE` behind its first word. Reasons: `BadWord`, `BadNumber`.
 #[tactic(auto, unfolding(crate::specs::Fleets::ask_kid))]
-fn ask_kid(alloc: Global, words: &mut Words<'_>) -> Result<Kid, Stop>
+fn ask_kid(alloc: Global, words: &mut Words<'_>) -> Result<Kid, LineStop>
     ensures { Gives (λ k. k) result (spec.ask_kid words.old) }
 {
     let host = number(words, 0, u32::MAX)?;
@@ -63,7 +63,7 @@ fn ask_kid(alloc: Global, words: &mut Words<'_>) -> Result<Kid, Stop>
 
 /// A child behind its first word. Reasons: `BadWord`, `BadNumber`.
 #[tactic(auto, unfolding(crate::specs::Fleets::kid_rest))]
-fn kid(alloc: Global, word: KidWord, words: &mut Words<'_>) -> Result<Kid, Stop>
+fn kid(alloc: Global, word: KidWord, words: &mut Words<'_>) -> Result<Kid, LineStop>
     ensures { Gives (λ k. k) result (kid_rest word words.old) }
 {
     match word {
@@ -94,7 +94,7 @@ impl FleetReading {
 
     /// A child more. Reasons: `BadWord`, `TooMany` where there are 64, `BadNumber`.
     #[tactic(auto, unfolding(crate::specs::Fleets::kid_line))]
-    fn child(&mut self, alloc: Global, words: &mut Words<'_>) -> Result<(), Stop>
+    fn child(&mut self, alloc: Global, words: &mut Words<'_>) -> Result<(), LineStop>
         ensures { Leaves result self.new (spec.kid_line words.old self.old) }
     {
         let word = words.next()?;

@@ -9,8 +9,8 @@ use crate::chunk_words::chunk;
 use crate::nodes::{host_line, hosts_line, neighbour, put_neighbour};
 use crate::parts::{expect, last_number, last_wide_number};
 use line_files::{
-    LineFault, LineFile, LineReason, Stop, Words, allow, handler, hex_bytes, is, number, package,
-    read_file, says_nothing, stopped_at, version_of,
+    LineFault, LineFile, LineReason, LineStop, Words, allow, handler, hex_bytes, is, number,
+    package, read_file, says_nothing, stopped_at, version_of,
 };
 use link_window::Version;
 use network_plan::{Event, Hosts, Log, LogEvent, LogEvents, NodeConfig, first_link};
@@ -138,7 +138,11 @@ pub struct LogReading {
 /// `inject BOUND HEX` behind its first word, under version 2 with `handler NAME` at its end or without. Reasons:
 /// `BadWord`, `BadNumber`, `BadArgument`.
 #[tactic(auto, unfolding(crate::specs::Logs::inject_entry))]
-fn inject_entry(alloc: Global, version: Version, words: &mut Words<'_>) -> Result<LogEvent, Stop>
+fn inject_entry(
+    alloc: Global,
+    version: Version,
+    words: &mut Words<'_>,
+) -> Result<LogEvent, LineStop>
     ensures { Gives (λ e. e) result (spec.inject_entry version words.old) }
 {
     let bound = number(words, 0, 65_535)?;
@@ -150,7 +154,7 @@ fn inject_entry(alloc: Global, version: Version, words: &mut Words<'_>) -> Resul
 
 /// `frame D HEX` behind its first word. Reasons: `BadWord`, `BadNumber`, `BadArgument`.
 #[tactic(auto, unfolding(crate::specs::Logs::frame_entry))]
-fn frame_entry(alloc: Global, words: &mut Words<'_>) -> Result<LogEvent, Stop>
+fn frame_entry(alloc: Global, words: &mut Words<'_>) -> Result<LogEvent, LineStop>
     ensures { Gives (λ e. e) result (spec.frame_entry words.old) }
 {
     let d = number(words, 0, 8)?;
@@ -161,7 +165,7 @@ fn frame_entry(alloc: Global, words: &mut Words<'_>) -> Result<LogEvent, Stop>
 
 /// `control HEX` behind its first word. Reasons: `BadWord`, `BadArgument`.
 #[tactic(auto, unfolding(crate::specs::Logs::control_entry))]
-fn control_entry(alloc: Global, words: &mut Words<'_>) -> Result<LogEvent, Stop>
+fn control_entry(alloc: Global, words: &mut Words<'_>) -> Result<LogEvent, LineStop>
     ensures { Gives (λ e. e) result (spec.control_entry words.old) }
 {
     let bytes = hex_bytes(alloc, words, 1, 16_513)?;
@@ -171,7 +175,7 @@ fn control_entry(alloc: Global, words: &mut Words<'_>) -> Result<LogEvent, Stop>
 
 /// `take D` behind its first word. Reasons: `BadWord`, `BadNumber`.
 #[tactic(auto, unfolding(crate::specs::Logs::take_entry))]
-fn take_entry(words: &mut Words<'_>) -> Result<LogEvent, Stop>
+fn take_entry(words: &mut Words<'_>) -> Result<LogEvent, LineStop>
     ensures { Gives (λ e. e) result (spec.take_entry words.old) }
 {
     let d = last_number(words, 0, 8)?;
@@ -185,7 +189,7 @@ fn entry(
     version: Version,
     word: EntryWord,
     words: &mut Words<'_>,
-) -> Result<LogEvent, Stop>
+) -> Result<LogEvent, LineStop>
     ensures { Gives (λ e. e) result (entry_rest version word words.old) }
 {
     match word {
@@ -233,7 +237,7 @@ impl LogReading {
 
     /// The node's own host. Reasons: `BadWord`, `BadNumber`.
     #[tactic(auto, unfolding(crate::specs::Logs::own_line))]
-    fn own(&mut self, words: &mut Words<'_>) -> Result<(), Stop>
+    fn own(&mut self, words: &mut Words<'_>) -> Result<(), LineStop>
         ensures { Leaves result self.new (spec.own_line words.old self.old) }
     {
         self.here = host_line(words)?;
@@ -243,7 +247,7 @@ impl LogReading {
 
     /// The moment at which it began. Reasons: `BadWord`, `BadNumber`.
     #[tactic(auto, unfolding(crate::specs::Logs::boot_line))]
-    fn boot(&mut self, words: &mut Words<'_>) -> Result<(), Stop>
+    fn boot(&mut self, words: &mut Words<'_>) -> Result<(), LineStop>
         ensures { Leaves result self.new (spec.boot_line words.old self.old) }
     {
         expect(words, b"boot")?;
@@ -254,7 +258,7 @@ impl LogReading {
 
     /// The hosts of its network. Reasons: `BadWord`, `BadNumber`, `TooMany`, `BadArgument`.
     #[tactic(auto, unfolding(crate::specs::Logs::network_line))]
-    fn network(&mut self, alloc: Global, words: &mut Words<'_>) -> Result<(), Stop>
+    fn network(&mut self, alloc: Global, words: &mut Words<'_>) -> Result<(), LineStop>
         ensures { Leaves result self.new (spec.network_line words.old self.old) }
     {
         self.hosts = hosts_line(alloc, self.here, words)?;
@@ -264,7 +268,7 @@ impl LogReading {
 
     /// `dev D HOST` behind its first word. Reasons: `BadWord`, `BadNumber`, `TwiceNamed`, `UnknownHost`, `BadArgument`.
     #[tactic(auto, unfolding(crate::specs::Logs::device_line))]
-    fn device(&mut self, alloc: Global, words: &mut Words<'_>) -> Result<(), Stop>
+    fn device(&mut self, alloc: Global, words: &mut Words<'_>) -> Result<(), LineStop>
         ensures { Leaves result self.new (spec.device_line words.old self.old) }
     {
         let n = neighbour(
@@ -280,7 +284,7 @@ impl LogReading {
 
     /// `without PACKAGE` behind its first word. Reasons: `BadWord`, `TwiceNamed`.
     #[tactic(auto, unfolding(crate::specs::Logs::missing_line))]
-    fn without(&mut self, words: &mut Words<'_>) -> Result<(), Stop>
+    fn without(&mut self, words: &mut Words<'_>) -> Result<(), LineStop>
         ensures { Leaves result self.new (spec.missing_line words.old self.old) }
     {
         package(&mut self.missing, words)?;
@@ -291,7 +295,7 @@ impl LogReading {
 
     /// `events` behind its first word. Reason: `BadWord`.
     #[tactic(auto, unfolding(crate::specs::Logs::events_line))]
-    fn begin(&mut self, words: &mut Words<'_>) -> Result<(), Stop>
+    fn begin(&mut self, words: &mut Words<'_>) -> Result<(), LineStop>
         ensures { Leaves result self.new (spec.events_line words.old self.old) }
     {
         words.end()?;
@@ -306,7 +310,7 @@ impl LogReading {
         alloc: Global,
         word: NodeWord,
         words: &mut Words<'_>,
-    ) -> Result<(), Stop>
+    ) -> Result<(), LineStop>
         ensures { Leaves result self.new (node_rest word words.old self.old) }
     {
         match word {
@@ -318,7 +322,7 @@ impl LogReading {
 
     /// A line between the hosts and the entries.
     #[tactic(auto, unfolding(crate::specs::Logs::node_line))]
-    fn node(&mut self, alloc: Global, lacks: bool, words: &mut Words<'_>) -> Result<(), Stop>
+    fn node(&mut self, alloc: Global, lacks: bool, words: &mut Words<'_>) -> Result<(), LineStop>
         ensures { Leaves result self.new (spec.node_line lacks words.old self.old) }
     {
         let word = words.next()?;
@@ -329,7 +333,7 @@ impl LogReading {
 
     /// An entry more. Reasons: `BadWord`, `TooMany` where there are 50,000, `BadNumber`, `BadArgument`.
     #[tactic(auto, unfolding(crate::specs::Logs::entry_line))]
-    fn entry(&mut self, alloc: Global, words: &mut Words<'_>) -> Result<(), Stop>
+    fn entry(&mut self, alloc: Global, words: &mut Words<'_>) -> Result<(), LineStop>
         ensures { Leaves result self.new (spec.entry_line words.old self.old) }
     {
         let word = words.next()?;

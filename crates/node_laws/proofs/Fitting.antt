@@ -48,7 +48,7 @@ use Rattle.node_model.specs.State.{Links, Queues, NodeState, routing_of, is_host
 use Rattle.settled_visit.proofs.Sends.{IsGoodSettled, settled_good}
 use Rattle.node_model.specs.Visits.{around, visit_at, settled_at}
 use Rattle.spelled_frame.specs.Spelled.{stamp_with}
-use Rattle.node_model.specs.Node.{Step, stepped, mark_of, mark, takes_as, seen_then, with_seen, noting, stamped_as, stamped_step, asked_plain, take_first, hop_packet, packet_sending, advert_sending, visit_sends, tick_sends, visited, next_serial, injected_packet, inject_step, forward_by, forward_step, packet_step, hearing, advert_step, frame_step, arrived, arrive_step, asked, control_step, next_tick, tick_step, take_from, take_step, node_step}
+use Rattle.node_model.specs.Node.{NodeStep, stepped, mark_of, mark, takes_as, seen_then, with_seen, noting, stamped_as, stamped_step, asked_plain, take_first, hop_packet, packet_sending, advert_sending, visit_sends, tick_sends, visited, next_serial, injected_packet, inject_step, forward_by, forward_step, packet_step, hearing, advert_step, frame_step, arrived, arrive_step, asked, control_step, next_tick, tick_step, take_from, take_step, node_step}
 use Rattle.node_model.specs.Fits.{PacketFits, FrameKeeps, IsMarked, StampedKeeps, QueuesKeep, ServicesFit, NodeFits, comes_fit}
 use Rattle.node_laws.proofs.Keeping.{Sends, Whatever, send_keeps, sends_keep, took}
 use Rattle.node_laws.proofs.VisitLaws.{settled_keeps, visit_fits}
@@ -129,11 +129,11 @@ abbrev pub FrameTaken : Version → Option PlainStamped → Type 0
 FrameTaken v None = Unit {0}
 FrameTaken v (Some x) = StampedKeeps v x
 
-pub record StepFits (step : Step) : Type 0 where
+pub record StepFits (step : NodeStep) : Type 0 where
   pub node : NodeFits step.node
   pub frame : FrameTaken step.node.version step.frame
 
-step_cases : (t : Bool) (a b : Step) → StepFits a → StepFits b → StepFits (cond t a b)
+step_cases : (t : Bool) (a b : NodeStep) → StepFits a → StepFits b → StepFits (cond t a b)
 step_cases true a b x y = x
 step_cases false a b x y = y
 
@@ -232,7 +232,7 @@ frame_taken_fits node d (PlainFrame.Ask bound chunk) h n = still _ node n
 with_seen_fits : (node : NodeState) (seen : List Seen) → NodeFits node → NodeFits (with_seen seen node)
 with_seen_fits node seen n = record { here = n.here; hosts = n.hosts; near = n.near; ordered = n.ordered; services = n.services; queues = n.queues; serial = n.serial; now = n.now }
 
-noting_fits : (node : NodeState) (d : Dev) (stamp : Option Stamp) (step : Step) → StepFits step → StepFits (noting node d stamp step)
+noting_fits : (node : NodeState) (d : Dev) (stamp : Option Stamp) (step : NodeStep) → StepFits step → StepFits (noting node d stamp step)
 noting_fits node d stamp step f = record { node = with_seen_fits step.node (seen_then node.seen d stamp) f.node; frame = f.frame }
 
 as_fits : (node : NodeState) (d : Dev) (x : PlainStamped) (t : Took) → Taken x.frame → NodeFits node → StepFits (stamped_as node d x t)

@@ -34,7 +34,7 @@ use Rattle.node_model.specs.State.{Links, Queues, NodeState, routing_of, is_host
 use Rattle.settled_visit.specs.declared.settling.Settled.{Settled}
 use Rattle.node_model.specs.Visits.{visit_at, settled_at}
 use Rattle.spelled_frame.specs.Spelled.{numbered}
-use Rattle.node_model.specs.Node.{Step, stepped, queue_room, has_room, lane_room, lane_with, queue_push, drop_act, mark, takes_as, stamped_as, stamped_step, take_first, hop_packet, packet_sending, advert_sending, visit_sends, tick_sends, send_act, send_queues, sends_acts, sends_queues, handled_acts, visit_acts, visited, next_serial, injected_packet, inject_step, only_acts, onward, forward_by, forward_step, packet_step, hearing, advert_step, frame_step, arrived, arrive_step, next_tick, tick_step, take_from, take_step}
+use Rattle.node_model.specs.Node.{NodeStep, stepped, queue_room, has_room, lane_room, lane_with, queue_push, drop_act, mark, takes_as, stamped_as, stamped_step, take_first, hop_packet, packet_sending, advert_sending, visit_sends, tick_sends, send_act, send_queues, sends_acts, sends_queues, handled_acts, visit_acts, visited, next_serial, injected_packet, inject_step, only_acts, onward, forward_by, forward_step, packet_step, hearing, advert_step, frame_step, arrived, arrive_step, next_tick, tick_step, take_from, take_step}
 use Rattle.node_model.specs.Counts.{only, is_family, act_sum, act_granted, act_injections, queues_sum, frame_one, packet_one, taken_sum}
 use Rattle.node_laws.proofs.CountLaws.{act_sum-nil, act_sum-cons, act_sum-append, queue_sum-push, queue_sum-cons, queues_sum-set, only-zero}
 use Rattle.node_laws.proofs.VisitLaws.{settled_keeps}
@@ -123,7 +123,7 @@ module _ (c : Act → ℕ) (z : OnlyInjects c) where
       let s = settled_at node p in
       omega (arith, act_sum-append c (act ∷ []) (visit_acts (mark node) node.queues p left s), act_sum-cons c act [], act_sum-nil c, visit_none (mark node) node.queues p left s)
 
-  step_cases : (t : Bool) (a b : Step) → act_sum c a.acts ≡ 0 → act_sum c b.acts ≡ 0 → act_sum c (cond t a b).acts ≡ 0
+  step_cases : (t : Bool) (a b : NodeStep) → act_sum c a.acts ≡ 0 → act_sum c b.acts ≡ 0 → act_sum c (cond t a b).acts ≡ 0
   step_cases true a b x y = x
   step_cases false a b x y = y
 
@@ -255,7 +255,7 @@ module _ (f : Family) where
   only_limit g bound h = elim (is_family f g) as (λ t. cond t bound 0 ≤ 65535 * cond t 1 0) [ true ↦ omega arith | false ↦ omega arith ]
 
   -- a step gives this family at most once, and only where it might; and at most 65,535 with it
-  pub record StepGives (old : NodeState) (step : Step) : Type 0 where
+  pub record StepGives (old : NodeState) (step : NodeStep) : Type 0 where
     pub once : act_sum (act_injections f) step.acts + may_give step.node ≤ may_give old
     pub limit : act_sum (act_granted f) step.acts ≤ 65535 * act_sum (act_injections f) step.acts
 
@@ -279,10 +279,10 @@ module _ (f : Family) where
   unfolding inject_step
   inject_gives node chunk bound handler h = inject_cases (node.serial == 18446744073709551615) node chunk bound handler h
 
-  stamped_stays_gives : (node : NodeState) (step : Step) → StampedStays node step → act_sum (act_injections f) step.acts ≡ 0 → act_sum (act_granted f) step.acts ≡ 0 → StepGives node step
+  stamped_stays_gives : (node : NodeState) (step : NodeStep) → StampedStays node step → act_sum (act_injections f) step.acts ≡ 0 → act_sum (act_granted f) step.acts ≡ 0 → StepGives node step
   stamped_stays_gives node step s i g = record { once = omega (arith, i, same_gives node step.node s.node.here s.serial); limit = omega (arith, g) }
 
-  stays_gives : (node : NodeState) (step : Step) → StepStays node step → act_sum (act_injections f) step.acts ≡ 0 → act_sum (act_granted f) step.acts ≡ 0 → StepGives node step
+  stays_gives : (node : NodeState) (step : NodeStep) → StepStays node step → act_sum (act_injections f) step.acts ≡ 0 → act_sum (act_granted f) step.acts ≡ 0 → StepGives node step
   stays_gives node step s i g = record { once = omega (arith, i, same_gives node step.node s.node.here s.serial); limit = omega (arith, g) }
 
   pub stamped_gives : (node : NodeState) (d : Dev) (x : PlainStamped) → StepGives node (stamped_step node d x)
@@ -341,7 +341,7 @@ module _ (f : Family) where
       let outbox = (settled_at node p).visit.outbox in
       sends_add node.queues (map (packet_sending m) outbox) (packets_of m p.family outbox h (settled_keeps node p).family) q
 
-  adds_cases : (t : Bool) (a b : Step) → count_in a.node.queues ≡ 0 → count_in b.node.queues ≡ 0 → count_in (cond t a b).node.queues ≡ 0
+  adds_cases : (t : Bool) (a b : NodeStep) → count_in a.node.queues ≡ 0 → count_in b.node.queues ≡ 0 → count_in (cond t a b).node.queues ≡ 0
   adds_cases true a b x y = x
   adds_cases false a b x y = y
 

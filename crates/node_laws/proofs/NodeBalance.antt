@@ -36,7 +36,7 @@ use Rattle.node_model.specs.State.{Links, Queues, NodeState, routing_of, is_host
 use Rattle.settled_visit.specs.declared.settling.Settled.{Settled}
 use Rattle.node_model.specs.Visits.{visit_at, settled_at, VisitKeeps}
 use Rattle.spelled_frame.specs.Spelled.{numbered}
-use Rattle.node_model.specs.Node.{Step, stepped, queue_room, has_room, lane_room, lane_with, queue_push, drop_act, mark, takes_as, noting, stamped_as, stamped_step, asked_plain, take_first, packet_sending, advert_sending, visit_sends, tick_sends, send_act, send_queues, sends_acts, sends_queues, with_queues, handled_acts, visit_acts, visited, injected_packet, next_serial, inject_step, only_acts, forward_by, forward_step, packet_step, hearing, advert_step, frame_step, arrived, arrive_step, asked, control_step, next_tick, tick_step, take_from, take_step, node_step}
+use Rattle.node_model.specs.Node.{NodeStep, stepped, queue_room, has_room, lane_room, lane_with, queue_push, drop_act, mark, takes_as, noting, stamped_as, stamped_step, asked_plain, take_first, packet_sending, advert_sending, visit_sends, tick_sends, send_act, send_queues, sends_acts, sends_queues, with_queues, handled_acts, visit_acts, visited, injected_packet, next_serial, inject_step, only_acts, forward_by, forward_step, packet_step, hearing, advert_step, frame_step, arrived, arrive_step, asked, control_step, next_tick, tick_step, take_from, take_step, node_step}
 use Rattle.node_model.specs.Counts.{only, act_sum, act_granted, act_hops, act_evals, act_left, act_stale, what_left, packet_live, frame_live, queues_sum, node_live, if_fresh, if_stale, stamped_came, stamped_stale, bytes_came, bytes_stale, came, stale, StepBalances}
 use Rattle.node_laws.proofs.CountLaws.{only-plus, only_hop, act_sum-nil, act_sum-cons, act_sum-append, queue_sum-push, queue_sum-cons, queues_sum-set, dropped_left, sent_live}
 use Rattle.node_laws.proofs.VisitLaws.{settled_keeps}
@@ -305,7 +305,7 @@ module _ (f : Family) where
   plain_balances : (acts : List Act) (arrived : ℕ) (old new : NodeState) → node_live f old ≡ node_live f new → BeginsBalance acts arrived 0 → StepBalances f arrived 0 old (stepped acts None new)
   plain_balances acts arrived old new e b = record { law = omega (arith, b.hops, b.evals, b.left, b.granted); stale = b.stale }
 
-  same_node_balances : (arrived : ℕ) (old new : NodeState) (step : Step) → node_live f old ≡ node_live f new → StepBalances f arrived 0 new step → StepBalances f arrived 0 old step
+  same_node_balances : (arrived : ℕ) (old new : NodeState) (step : NodeStep) → node_live f old ≡ node_live f new → StepBalances f arrived 0 new step → StepBalances f arrived 0 old step
   same_node_balances arrived old new step e b = record { law = omega (arith, b.law); stale = b.stale }
 
   inject_cases : (t : Bool) (before : List Act) (node : NodeState) (chunk : Chunk) (bound : ℕ) (handler : Option Name) → BeginsBalance before 0 0
@@ -434,7 +434,7 @@ module _ (f : Family) where
       what_is (PlainFrame.Advert a) = refl
       what_is (PlainFrame.Ask bound chunk) = refl
 
-  noting_balances : (node : NodeState) (d : Dev) (stamp : Option Stamp) (step : Step) (arrived : ℕ) → StepBalances f arrived 0 node step → StepBalances f arrived 0 node (noting node d stamp step)
+  noting_balances : (node : NodeState) (d : Dev) (stamp : Option Stamp) (step : NodeStep) (arrived : ℕ) → StepBalances f arrived 0 node step → StepBalances f arrived 0 node (noting node d stamp step)
   noting_balances node d stamp step arrived b = record { law = b.law; stale = b.stale }
 
   as_balances : (node : NodeState) (d : Dev) (x : PlainStamped) (t : Took) → StepBalances f (if_fresh t (frame_live f x.frame)) (if_stale t (frame_live f x.frame)) node (stamped_as node d x t)

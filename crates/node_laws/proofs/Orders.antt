@@ -26,7 +26,7 @@ use Rattle.node_model.specs.declared.acts.Sending.{Sending}
 use Rattle.node_model.specs.State.{Queues, NodeState, routing_of, is_host, leads_to}
 use Rattle.node_model.specs.Visits.{settled_at}
 use Rattle.spelled_frame.specs.Spelled.{numbered}
-use Rattle.node_model.specs.Node.{Step, stepped, queue_room, has_room, number_after, lane_with, queue_push, mark, takes_as, stamped_as, stamped_step, asked_plain, take_first, packet_sending, visit_sends, tick_sends, send_queues, sends_queues, visited, next_serial, injected_packet, inject_step, forward_by, forward_step, packet_step, advert_step, frame_step, arrived, arrive_step, asked, control_step, tick_step, take_from, take_step, node_step}
+use Rattle.node_model.specs.Node.{NodeStep, stepped, queue_room, has_room, number_after, lane_with, queue_push, mark, takes_as, stamped_as, stamped_step, asked_plain, take_first, packet_sending, visit_sends, tick_sends, send_queues, sends_queues, visited, next_serial, injected_packet, inject_step, forward_by, forward_step, packet_step, advert_step, frame_step, arrived, arrive_step, asked, control_step, tick_step, take_from, take_step, node_step}
 use Rattle.node_model.specs.Orders.{frames_of, queue_at, MovesInOrder, joined, taken}
 
 -- one queue set anew, seen at a device
@@ -84,10 +84,10 @@ module _ (d : ℕ) where
 
   -- ---- steps
 
-  abbrev StepJoins : NodeState → Step → Type 0
+  abbrev StepJoins : NodeState → NodeStep → Type 0
   StepJoins node step = JoinsAt node.queues step.node.queues
 
-  cases : (t : Bool) (node : NodeState) (a b : Step) → StepJoins node a → StepJoins node b → StepJoins node (cond t a b)
+  cases : (t : Bool) (node : NodeState) (a b : NodeStep) → StepJoins node a → StepJoins node b → StepJoins node (cond t a b)
   cases true node a b x y = x
   cases false node a b x y = y
 

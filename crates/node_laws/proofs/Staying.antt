@@ -28,7 +28,7 @@ use Rattle.node_model.specs.State.{Links, Queues, NodeState, routing_of, is_host
 use Rattle.node_model.specs.Visits.{settled_at}
 use Rattle.link_window.specs.declared.window.Stamp.{Stamp}
 use Rattle.link_window.specs.Seen.{Seen, seen_with}
-use Rattle.node_model.specs.Node.{Step, stepped, queue_room, has_room, lane_with, queue_push, mark, takes_as, seen_at, seen_then, noting, stamped_as, stamped_step, take_first, packet_sending, advert_sending, visit_sends, tick_sends, send_queues, sends_queues, visited, next_serial, injected_packet, inject_step, only_acts, onward, forward_by, forward_step, packet_step, hearing, advert_step, frame_step, arrived, arrive_step, tick_step, take_from, take_step}
+use Rattle.node_model.specs.Node.{NodeStep, stepped, queue_room, has_room, lane_with, queue_push, mark, takes_as, seen_at, seen_then, noting, stamped_as, stamped_step, take_first, packet_sending, advert_sending, visit_sends, tick_sends, send_queues, sends_queues, visited, next_serial, injected_packet, inject_step, only_acts, onward, forward_by, forward_step, packet_step, hearing, advert_step, frame_step, arrived, arrive_step, tick_step, take_from, take_step}
 
 -- a node with the same host, hosts and neighbours, and as many queues
 pub record Stays (old new : NodeState) : Type 0 where
@@ -72,12 +72,12 @@ sends_count queues [] = refl
 sends_count queues (s ∷ ss) = sends_count (send_queues queues s) ss ∙ send_count queues s
 
 -- a step that changes none of them, nor the serial number, nor what was taken
-pub record StepStays (old : NodeState) (step : Step) : Type 0 where
+pub record StepStays (old : NodeState) (step : NodeStep) : Type 0 where
   pub node : Stays old step.node
   pub serial : step.node.serial ≡ old.serial
   pub seen : step.node.seen ≡ old.seen
 
-cases : (t : Bool) (old : NodeState) (a b : Step) → StepStays old a → StepStays old b → StepStays old (cond t a b)
+cases : (t : Bool) (old : NodeState) (a b : NodeStep) → StepStays old a → StepStays old b → StepStays old (cond t a b)
 cases true old a b x y = x
 cases false old a b x y = y
 
@@ -130,11 +130,11 @@ seen_count seen d (Some s) = place (slice_get seen d.0)
     place (Some old) = length-set seen d.0 (seen_with old s)
 
 -- a step that changes none of them but what was taken
-pub record StampedStays (old : NodeState) (step : Step) : Type 0 where
+pub record StampedStays (old : NodeState) (step : NodeStep) : Type 0 where
   pub node : Stays old step.node
   pub serial : step.node.serial ≡ old.serial
 
-noting_stays : (node : NodeState) (d : Dev) (stamp : Option Stamp) (step : Step) → StepStays node step → StampedStays node (noting node d stamp step)
+noting_stays : (node : NodeState) (d : Dev) (stamp : Option Stamp) (step : NodeStep) → StepStays node step → StampedStays node (noting node d stamp step)
 noting_stays node d stamp step s = record {
   node = record {
     here = s.node.here;
@@ -148,7 +148,7 @@ noting_stays node d stamp step s = record {
   serial = s.serial;
 }
 
-unstamped_stays : (node : NodeState) (step : Step) → StepStays node step → StampedStays node step
+unstamped_stays : (node : NodeState) (step : NodeStep) → StepStays node step → StampedStays node step
 unstamped_stays node step s = record { node = s.node; serial = s.serial }
 
 as_stays : (node : NodeState) (d : Dev) (x : PlainStamped) (t : Took) → StampedStays node (stamped_as node d x t)
@@ -202,10 +202,10 @@ inject_stays node chunk bound handler = inject_cases (node.serial == 18446744073
 
 -- ---- only a take takes a frame
 
-abbrev NoFrame : Step → Type 0
+abbrev NoFrame : NodeStep → Type 0
 NoFrame step = step.frame ≡ None
 
-none_cases : (t : Bool) (a b : Step) → NoFrame a → NoFrame b → NoFrame (cond t a b)
+none_cases : (t : Bool) (a b : NodeStep) → NoFrame a → NoFrame b → NoFrame (cond t a b)
 none_cases true a b x y = x
 none_cases false a b x y = y
 

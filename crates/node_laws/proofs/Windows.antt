@@ -18,7 +18,7 @@ use Rattle.node_model.specs.declared.acts.Act.{Act}
 use Rattle.node_model.specs.declared.acts.Act.TheVariants.{Injected, SerialsSpent}
 use Rattle.node_model.specs.State.{NodeState}
 use Rattle.node_model.specs.Fits.{IsMarked}
-use Rattle.node_model.specs.Node.{Step, stepped, took_by, takes_as, seen_at, seen_then, noting, stamped_as, stamped_step, arrived, arrive_step, visited, next_serial, injected_packet, inject_step, frame_step}
+use Rattle.node_model.specs.Node.{NodeStep, stepped, took_by, takes_as, seen_at, seen_then, noting, stamped_as, stamped_step, arrived, arrive_step, visited, next_serial, injected_packet, inject_step, frame_step}
 use Rattle.node_laws.proofs.Staying.{frame_stays}
 
 -- what isn't fresh on a device isn't fresh there later

@@ -17,7 +17,7 @@ use Rattle.node_model.specs.declared.acts.Lane.{Lane}
 use Rattle.spelled_frame.specs.declared.spelled.What.{What}
 use Rattle.spelled_frame.specs.declared.spelled.What.TheVariants as what
 use Rattle.node_model.specs.State.{Queues, NodeState}
-use Rattle.node_model.specs.Node.{Step, takes_as}
+use Rattle.node_model.specs.Node.{NodeStep, takes_as}
 
 -- whether these are the same family
 unfoldable pub is_family : Family → Family → Bool
@@ -144,7 +144,7 @@ stale f node _ = 0
 
 -- a step of a node: what was granted and what came in is what was paid and left, the growth of the queues, and the frame taken;
 -- and what is stale is in its acts
-pub record StepBalances (f : Family) (arrived late : ℕ) (old : NodeState) (step : Step) : Type 0 where
+pub record StepBalances (f : Family) (arrived late : ℕ) (old : NodeState) (step : NodeStep) : Type 0 where
   pub law : act_sum (act_granted f) step.acts + arrived + node_live f old
       ≡ act_sum (act_hops f) step.acts + act_sum (act_evals f) step.acts + act_sum (act_left f) step.acts + node_live f step.node + taken_sum (frame_live f) step.frame
   pub stale : act_sum (act_stale f) step.acts ≡ late

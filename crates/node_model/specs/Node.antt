@@ -37,12 +37,12 @@ use Rattle.node_model.specs.State.{Links, Queues, NodeState, routing_of, is_host
 use Rattle.node_model.specs.Visits.{around, visit_at, settled_at, services_after}
 
 -- what a step gives: the acts in order, the frame that was taken, and the node afterwards
-pub record Step : Type 0 where
+pub record NodeStep : Type 0 where
   pub acts : List Act
   pub frame : Option PlainStamped
   pub node : NodeState
 
-abbrev pub stepped : List Act → Option PlainStamped → NodeState → Step
+abbrev pub stepped : List Act → Option PlainStamped → NodeState → NodeStep
 stepped acts frame node = record { acts = acts; frame = frame; node = node }
 
 -- ---- frames into queues
@@ -144,7 +144,7 @@ visit_acts m queues p left s =
     ++ (Ended p.family s.visit.outcome s.visit.evals s.visit.left ∷ (handled_acts p.family s.handled left ++ sends_acts queues (visit_sends m s.visit)))
 
 -- a settled visit at a node, after these acts
-unfoldable pub visited : List Act → NodeState → Packet → Step
+unfoldable pub visited : List Act → NodeState → Packet → NodeStep
 visited acts node p = stepped (acts ++ visit_acts (mark node) node.queues p (visit_at node p).left (settled_at node p)) None
     (with_services (with_queues node (sends_queues node.queues (visit_sends (mark node) (settled_at node p).visit))) (services_after (around node p) (begun_now node.services) p))
 
@@ -158,44 +158,44 @@ abbrev pub next_serial : NodeState → NodeState
 next_serial node = record node { serial = node.serial + 1 }
 
 -- an injection after these acts, which is refused where the last serial number would be given
-unfoldable pub inject_step : List Act → NodeState → Chunk → ℕ → Option Name → Step
+unfoldable pub inject_step : List Act → NodeState → Chunk → ℕ → Option Name → NodeStep
 inject_step acts node chunk bound handler = if node.serial == 18446744073709551615 then stepped (acts ++ SerialsSpent ∷ []) None node
     else visited (acts ++ Injected (record { source = node.here; serial = node.serial }) bound ∷ []) (next_serial node) (injected_packet node chunk bound handler)
 
 -- ---- arrivals
 
 -- nothing but two acts
-abbrev pub only_acts : Act → Act → NodeState → Step
+abbrev pub only_acts : Act → Act → NodeState → NodeStep
 only_acts first act node = stepped (first ∷ act ∷ []) None node
 
 -- a packet goes on over a device
-abbrev pub onward : NodeState → Dev → Sending → Step
+abbrev pub onward : NodeState → Dev → Sending → NodeStep
 onward node d s = stepped (Arrived d ∷ send_act node.queues s ∷ []) None (with_queues node (send_queues node.queues s))
 
 -- a packet that goes on by a hop
-unfoldable pub forward_by : NodeState → Dev → Packet → Hop → Step
+unfoldable pub forward_by : NodeState → Dev → Packet → Hop → NodeStep
 forward_by node d p (To host over) = onward node d (packet_sending (mark node) (record { dev = over; packet = p }))
 forward_by node d p NoService = only_acts (Arrived d) (Dropped reason.NoService p.family p.bound) node
 forward_by node d p NoRoute = only_acts (Arrived d) (Dropped reason.NoRoute p.family p.bound) node
 
 -- a packet for another host goes on by its routing function
-unfoldable pub forward_step : NodeState → Dev → Packet → Step
+unfoldable pub forward_step : NodeState → Dev → Packet → NodeStep
 forward_step node d p = if p.bound == 0 then only_acts (Arrived d) (Dropped reason.NoBound p.family 0) node
     else forward_by node d p (hop (all_routes (routing_of node)) p.route node.here p.dest)
 
 -- a packet for this host is visited
-unfoldable pub packet_step : NodeState → Dev → Packet → Step
+unfoldable pub packet_step : NodeState → Dev → Packet → NodeStep
 packet_step node d p = if is_host p.dest node.here then visited (Arrived d ∷ []) node p else forward_step node d p
 
 abbrev pub hearing : NodeState → Dev → Advert → NodeState
 hearing node d a = record node { heard = node.heard ++ (d, a) ∷ [] }
 
 -- an advert is heard where it comes from the neighbour on its device
-unfoldable pub advert_step : NodeState → Dev → Advert → Step
+unfoldable pub advert_step : NodeState → Dev → Advert → NodeStep
 advert_step node d a = if leads_to node.neighbours d a.host then only_acts (Arrived d) (Heard d) (hearing node d a) else only_acts (Arrived d) Misplaced node
 
 -- a frame arrives
-abbrev pub frame_step : NodeState → Dev → PlainFrame → Step
+abbrev pub frame_step : NodeState → Dev → PlainFrame → NodeStep
 frame_step node d (PlainFrame.Packet p) = packet_step node d p
 frame_step node d (PlainFrame.Advert a) = advert_step node d a
 frame_step node d (PlainFrame.Ask bound chunk) = only_acts (Arrived d) Misplaced node
@@ -224,35 +224,35 @@ abbrev pub with_seen : List Seen → NodeState → NodeState
 with_seen seen node = record node { seen = seen }
 
 -- a step at which a fresh stamp is taken
-abbrev pub noting : NodeState → Dev → Option Stamp → Step → Step
+abbrev pub noting : NodeState → Dev → Option Stamp → NodeStep → NodeStep
 noting node d stamp step = stepped step.acts step.frame (with_seen (seen_then node.seen d stamp) step.node)
 
-abbrev pub stamped_as : NodeState → Dev → PlainStamped → Took → Step
+abbrev pub stamped_as : NodeState → Dev → PlainStamped → Took → NodeStep
 stamped_as node d x Fresh = noting node d x.stamp (frame_step node d x.frame)
 stamped_as node d x t = only_acts (Arrived d) (Stale t (what_of x.frame)) node
 
 -- a frame arrives: it is stale where its stamp isn't fresh on its device
-unfoldable pub stamped_step : NodeState → Dev → PlainStamped → Step
+unfoldable pub stamped_step : NodeState → Dev → PlainStamped → NodeStep
 stamped_step node d x = stamped_as node d x (takes_as node.seen d x.stamp)
 
-abbrev pub arrived : NodeState → Dev → Result PlainStamped FrameFault → Step
+abbrev pub arrived : NodeState → Dev → Result PlainStamped FrameFault → NodeStep
 arrived node d (Ok x) = stamped_step node d x
 arrived node d (Err e) = only_acts (Arrived d) (Bad e) node
 
 -- bytes arrive
-unfoldable pub arrive_step : NodeState → Dev → List ℕ → Step
+unfoldable pub arrive_step : NodeState → Dev → List ℕ → NodeStep
 arrive_step node d bytes = arrived node d (read_by node.version bytes)
 
-abbrev pub asked_plain : NodeState → PlainFrame → Step
+abbrev pub asked_plain : NodeState → PlainFrame → NodeStep
 asked_plain node (PlainFrame.Ask bound chunk) = inject_step (Asked ∷ []) node chunk bound None
 asked_plain node x = only_acts Asked Misplaced node
 
-abbrev pub asked : NodeState → Result PlainStamped FrameFault → Step
+abbrev pub asked : NodeState → Result PlainStamped FrameFault → NodeStep
 asked node (Ok x) = asked_plain node x.frame
 asked node (Err e) = only_acts Asked (Bad e) node
 
 -- bytes arrive from the owner: an ask is an injection
-unfoldable pub control_step : NodeState → List ℕ → Step
+unfoldable pub control_step : NodeState → List ℕ → NodeStep
 control_step node bytes = asked node (read_by node.version bytes)
 
 -- ---- ticks
@@ -279,25 +279,25 @@ advert_sending m a link = record {
 unfoldable pub tick_sends : NodeState → List Sending
 tick_sends node = map (advert_sending (mark node) (own_advert (routing_of node))) node.neighbours
 
-unfoldable pub tick_step : NodeState → Step
+unfoldable pub tick_step : NodeState → NodeStep
 tick_step node = stepped (Ticked (next_tick node.now) ∷ sends_acts node.queues (tick_sends node)) None (with_queues (ticking node) (sends_queues node.queues (tick_sends node)))
 
 -- ---- takes
 
-abbrev pub take_first : NodeState → Dev → ℕ → List PlainStamped → Step
+abbrev pub take_first : NodeState → Dev → ℕ → List PlainStamped → NodeStep
 take_first node d n [] = stepped [] None node
 take_first node d n (x ∷ queue) = stepped (Taken d (what_of x.frame) ∷ []) (Some x) (with_queues node (slice_set node.queues d.0 (record { frames = queue; number = n })))
 
-abbrev pub take_from : NodeState → Dev → Option Lane → Step
+abbrev pub take_from : NodeState → Dev → Option Lane → NodeStep
 take_from node d None = stepped [] None node
 take_from node d (Some lane) = take_first node d lane.number lane.frames
 
 -- the first frame of a device is taken; nothing where there is none
-unfoldable pub take_step : NodeState → Dev → Step
+unfoldable pub take_step : NodeState → Dev → NodeStep
 take_step node d = take_from node d (slice_get node.queues d.0)
 
 -- ---- one step of a node
-abbrev pub node_step : NodeState → Event → Step
+abbrev pub node_step : NodeState → Event → NodeStep
 node_step node (event.Inject chunk bound handler) = inject_step [] node chunk bound handler
 node_step node (event.Frame d bytes) = arrive_step node d bytes
 node_step node (event.Control bytes) = control_step node bytes

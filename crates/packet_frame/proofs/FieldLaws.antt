@@ -24,7 +24,7 @@ use Rattle.service_api.specs.declared.advert.AdvertRow.{AdvertRow}
 use Rattle.packet_frame.specs.Bytes.{row_bytes}
 use Rattle.packet_frame.specs.Faults.{of_spelling, of_number}
 use Rattle.packet_frame.specs.Fields.{told, judged, number, bound_at, route_at, carried_at, count_at, row_host_at, cost_at, rows_from, rows_at}
-use Rattle.packet_frame.specs.Forms.{FrameItem, a_host, a_serial, a_bound, a_route, a_carried_chunk, some_rows, rows_behind, a_cost, Field, Fields, done, ◌&◌, Held, reads, bytes_of_fields, AllFit, items_of_fields, host_field, serial_field, bound_field, route_field, chunk_field, rows_field}
+use Rattle.packet_frame.specs.Forms.{FrameItem, a_host, a_serial, a_bound, a_route, a_carried_chunk, some_rows, rows_behind, a_cost, Field, Fields, done, ◌&◌, FieldValues, reads, bytes_of_fields, AllFit, items_of_fields, host_field, serial_field, bound_field, route_field, chunk_field, rows_field}
 use Rattle.service_api.specs.Adverts.{is_above, RowsFit}
 use Rattle.packet_frame.specs.Frames.{frame_step}
 
@@ -226,16 +226,16 @@ rows_kept = record {
 
 -- ---- fields one after another
 
-pub record AllTook (ps : Fields) (f : Scan) (xs : Held ps) (g : Scan) : Type 0 where
+pub record AllTook (ps : Fields) (f : Scan) (xs : FieldValues ps) (g : Scan) : Type 0 where
   pub took : Took f (bytes_of_fields ps xs) 0 g
   pub fit : AllFit ps xs
 
-pub record FieldsTook {B : Type 0} (ps : Fields) (build : Held ps → B) (f : Scan) (y : B) (g : Scan) : Type 0 where
-  pub held : Held ps
+pub record FieldsTook {B : Type 0} (ps : Fields) (build : FieldValues ps → B) (f : Scan) (y : B) (g : Scan) : Type 0 where
+  pub held : FieldValues ps
   pub is : y ≡ build held
   pub all : AllTook ps f held g
 
-pub reads_takes : {B : Type 0} (ps : Fields) → AllKept ps → (build : Held ps → B) (f g : Scan) (y : B)
+pub reads_takes : {B : Type 0} (ps : Fields) → AllKept ps → (build : FieldValues ps → B) (f g : Scan) (y : B)
     → IsBytes f.front.rest → f.nodes ≤ 4096 → reads ps build f ≡ Ok (y, g) → FieldsTook ps build f y g
 reads_takes done l build f g y h k e =
     let p = ok_inj e in
@@ -249,7 +249,7 @@ reads_takes (p & ps) l build f g y h k e =
     let rest = reads_takes ps l.1 (λ xs. build (x.0, xs)) x.1 g y (Took-bytes t.0 h) small b.then_read in
     record { held = (x.0, rest.held); is = rest.is; all = record { took = Took-then t.0 rest.all.took; fit = (t.1, rest.all.fit) } }
 
-pub reads_again : {B : Type 0} (ps : Fields) → AllKept ps → (build : Held ps → B) (f g : Scan) (xs : Held ps)
+pub reads_again : {B : Type 0} (ps : Fields) → AllKept ps → (build : FieldValues ps → B) (f g : Scan) (xs : FieldValues ps)
     → AllFit ps xs → Took f (bytes_of_fields ps xs) 0 g → g.nodes ≤ 4096 → reads ps build f ≡ Ok (build xs, g)
 reads_again done l build f g xs h t k =
     let same : f ≡ g = sym (scan_is g f.front.at f.nodes f.front.rest (omega (arith, t.place)) (sym t.parts) (omega (arith, t.count))) in
@@ -264,7 +264,7 @@ reads_again (p & ps) l build f g xs h t k =
     let small : m.nodes ≤ 4096 = omega (arith, second.count, k) in
     bind_is _ (l.0.again f m xs.0 h.0 first small) (reads_again ps l.1 (λ ys. build (xs.0, ys)) m g xs.1 h.1 second k)
 
-pub reads_go : {B : Type 0} (ps : Fields) → AllKept ps → (build : Held ps → B) (more : List FrameItem) (f : Scan)
+pub reads_go : {B : Type 0} (ps : Fields) → AllKept ps → (build : FieldValues ps → B) (more : List FrameItem) (f : Scan)
     → Goes frame_step (items_of_fields ps more) f (λ _. more) (reads ps build f)
 reads_go done l build more f = idle frame_step more f (build tt)
 reads_go (p & ps) l build more f =

@@ -16,7 +16,7 @@ use Rattle.packet_frame.specs.declared.kind.Kind.{Kind}
 use Rattle.packet_frame.specs.Bytes.{letters, head_bytes, frame_bytes}
 use Rattle.packet_frame.specs.Faults.{of_number}
 use Rattle.packet_frame.specs.Fields.{number, magic_at, version_at, kind_of, known_kind, kind_at}
-use Rattle.packet_frame.specs.Forms.{FrameItem, the_magic, the_version, the_kind, the_end, forms, Held, bytes_of_fields, AllFit, items_of_fields, frame_of_fields, fields_of, FrameFits, IsPlain, frame_at}
+use Rattle.packet_frame.specs.Forms.{FrameItem, the_magic, the_version, the_kind, the_end, forms, FieldValues, bytes_of_fields, AllFit, items_of_fields, frame_of_fields, fields_of, FrameFits, IsPlain, frame_at}
 use Rattle.packet_frame.specs.Frames.{frame_step, nothing_left, a_frame, begins, SpellsFrame, SpellingFault, too_long, misspelled}
 use Rattle.packet_frame.specs.Reading.{Fails}
 use Rattle.packet_frame.proofs.FieldLaws.{AllKept, told_ok, told_is, judged_ok, judged_is, host_kept, serial_kept, bound_kept, route_kept, chunk_kept, rows_kept, reads_takes, reads_again, reads_go}
@@ -57,7 +57,7 @@ known_ok (Some u) s g k e = let p = ok_inj e in (ap (λ q. Some q.0) p, ap (λ q
 known_ok None s g k e = cc
 
 -- what a frame spells, by its kind
-pub frame_is : (k : Kind) (xs : Held (forms k)) → frame_bytes (frame_of_fields k xs) ≡ head_bytes (kind_number k) ++ bytes_of_fields (forms k) xs
+pub frame_is : (k : Kind) (xs : FieldValues (forms k)) → frame_bytes (frame_of_fields k xs) ≡ head_bytes (kind_number k) ++ bytes_of_fields (forms k) xs
 unfolding frame_bytes
 frame_is Kind.Packet xs = ap (λ l. head_bytes 1 ++ (to_be_bytes w32 xs.0 ++ (to_be_bytes w64 xs.1.0 ++ (to_be_bytes w32 xs.1.1.0 ++ (to_be_bytes w32 xs.1.1.1.0 ++ ((length xs.1.1.1.1.0 ∷ xs.1.1.1.1.0) ++ l)))))) (sym (append-nil _))
 frame_is Kind.Advert xs = ap (λ l. head_bytes 2 ++ (to_be_bytes w32 xs.0 ++ l)) (sym (append-nil _))
@@ -68,12 +68,12 @@ same_frame (PlainFrame.Packet p) h = λ i. PlainFrame.Packet (record p { handler
 same_frame (PlainFrame.Advert a) h = refl
 same_frame (PlainFrame.Ask bound c) h = refl
 
-plain_held : (k : Kind) (xs : Held (forms k)) → IsPlain (frame_of_fields k xs)
+plain_held : (k : Kind) (xs : FieldValues (forms k)) → IsPlain (frame_of_fields k xs)
 plain_held Kind.Packet xs = refl
 plain_held Kind.Advert xs = tt
 plain_held Kind.Ask xs = tt
 
-pub fits_held : (k : Kind) (xs : Held (forms k)) → AllFit (forms k) xs → FrameFits (frame_of_fields k xs)
+pub fits_held : (k : Kind) (xs : FieldValues (forms k)) → AllFit (forms k) xs → FrameFits (frame_of_fields k xs)
 fits_held Kind.Packet xs h = h
 fits_held Kind.Advert xs h = h
 fits_held Kind.Ask xs h = h
@@ -142,7 +142,7 @@ frame_takes f g x h small e =
     let P : PlainFrame → Type 0 = λ y. Took f (frame_bytes y) 0 g × (FrameFits y × IsPlain y) in
     subst P (sym r.is) (Took-as (sym (frame_is k r.held)) refl whole, (fits_held k r.held r.all.fit, plain_held k r.held))
 
-again_by : (k : Kind) (xs : Held (forms k)) (f g : Scan) → AllFit (forms k) xs → Took f (head_bytes (kind_number k) ++ bytes_of_fields (forms k) xs) 0 g → g.nodes ≤ 4096
+again_by : (k : Kind) (xs : FieldValues (forms k)) (f g : Scan) → AllFit (forms k) xs → Took f (head_bytes (kind_number k) ++ bytes_of_fields (forms k) xs) 0 g → g.nodes ≤ 4096
     → frame_at f ≡ Ok (frame_of_fields k xs, g)
 unfolding frame_at
 again_by k xs f g fits t small =

@@ -22,7 +22,7 @@ use Rattle.plan_base.specs.declared.tree.Packet.{Packet}
 use Rattle.packet_frame.specs.Bytes.{letters, head_bytes, packet_bytes, rows_bytes, frame_bytes}
 use Rattle.packet_frame.specs.Faults.{of_number}
 use Rattle.packet_frame.specs.Fields.{number, magic_at}
-use Rattle.packet_frame.specs.Forms.{FrameItem, the_magic, the_end, either_version, the_form, forms, Held, bytes_of_fields, AllFit, items_of_fields, frame_of_fields, fields_of, FrameFits}
+use Rattle.packet_frame.specs.Forms.{FrameItem, the_magic, the_end, either_version, the_form, forms, FieldValues, bytes_of_fields, AllFit, items_of_fields, frame_of_fields, fields_of, FrameFits}
 use Rattle.packet_frame.specs.Versions.{either_version_at, form_of, known_form, form_at, stamped_forms, stamped_of_fields, stamped_at}
 use Rattle.packet_frame.specs.Frames.{frame_step}
 use Rattle.packet_frame.specs.Stamped.{stamped_head, bytes_with, stamped_bytes, StampFits, HandlerFits, BearsStamp, IsAsk, IsOfTwo, StampedFits}
@@ -135,7 +135,7 @@ either_known Form.Handled = refl
 abbrev head_of : Form → List ℕ
 head_of k = to_be_bytes w32 letters ++ ((version_number k ∷ []) ++ (form_number k ∷ []))
 
-spelled_is : (k : Form) (xs : Held (stamped_forms k)) → stamped_bytes (stamped_of_fields k xs) ≡ head_of k ++ bytes_of_fields (stamped_forms k) xs
+spelled_is : (k : Form) (xs : FieldValues (stamped_forms k)) → stamped_bytes (stamped_of_fields k xs) ≡ head_of k ++ bytes_of_fields (stamped_forms k) xs
 unfolding stamped_bytes
 spelled_is Form.Ask xs = frame_is Kind.Ask xs
 spelled_is Form.Packet xs =
@@ -149,7 +149,7 @@ spelled_is Form.Advert xs =
     let s : Stamp = record { boot = xs.0; link = xs.1.0 } in
     ap (λ l. stamped_head 2 s ++ (to_be_bytes w32 xs.1.1.0 ++ l)) (sym (append-nil _))
 
-fit_held : (k : Form) (xs : Held (stamped_forms k)) → AllFit (stamped_forms k) xs → StampedFits (stamped_of_fields k xs)
+fit_held : (k : Form) (xs : FieldValues (stamped_forms k)) → AllFit (stamped_forms k) xs → StampedFits (stamped_of_fields k xs)
 fit_held Form.Ask xs h = (h, tt)
 fit_held Form.Packet xs h = (h.1.1, (tt, record { boot = h.0; link = h.1.0 }))
 fit_held Form.Handled xs h =
@@ -177,7 +177,7 @@ stamped_takes f g x h small e =
     let P : PlainStamped → Type 0 = λ y. Took f (stamped_bytes y) 0 g × StampedFits y in
     subst P (sym r.is) (Took-as (sym (spelled_is k r.held)) refl whole, fit_held k r.held r.all.fit)
 
-again_by : (k : Form) (xs : Held (stamped_forms k)) (f g : Scan) → AllFit (stamped_forms k) xs → Took f (head_of k ++ bytes_of_fields (stamped_forms k) xs) 0 g → g.nodes ≤ 4096
+again_by : (k : Form) (xs : FieldValues (stamped_forms k)) (f g : Scan) → AllFit (stamped_forms k) xs → Took f (head_of k ++ bytes_of_fields (stamped_forms k) xs) 0 g → g.nodes ≤ 4096
     → stamped_at f ≡ Ok (stamped_of_fields k xs, g)
 unfolding stamped_at
 again_by k xs f g fits t small =
@@ -199,7 +199,7 @@ again_by k xs f g fits t small =
 -- the form and the fields of a frame that may be spelled
 record Parts (x : PlainStamped) : Type 0 where
   form : Form
-  held : Held (stamped_forms form)
+  held : FieldValues (stamped_forms form)
   is : stamped_of_fields form held ≡ x
   fit : AllFit (stamped_forms form) held
 

@@ -17,7 +17,7 @@ use Rattle.packet_frame.specs.declared.kind.Kind.{Kind}
 use Rattle.packet_frame.specs.Bytes.{letters, head_bytes, frame_bytes}
 use Rattle.packet_frame.specs.Faults.{of_number}
 use Rattle.packet_frame.specs.Fields.{number, magic_at, version_at, kind_of, known_kind, kind_at}
-use Rattle.packet_frame.specs.Forms.{FrameItem, the_magic, the_version, the_kind, the_end, forms, Held, bytes_of_fields, AllFit, items_of_fields, frame_of_fields, fields_of, FrameFits, frame_at}
+use Rattle.packet_frame.specs.Forms.{FrameItem, the_magic, the_version, the_kind, the_end, forms, FieldValues, bytes_of_fields, AllFit, items_of_fields, frame_of_fields, fields_of, FrameFits, frame_at}
 use Rattle.packet_frame.specs.Frames.{frame_step, nothing_left, begins}
 use Rattle.packet_frame.specs.Fields.{Reader}
 use Rattle.packet_frame.specs.Reading.{Fails}

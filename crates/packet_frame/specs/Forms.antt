@@ -44,20 +44,20 @@ pub data Fields : Type 1 where
   ◌&◌ : {A : Type 0} → Field A → Fields → Fields
 
 -- what the fields hold, one by one
-abbrev pub Held : Fields → Type 0
-Held done = Unit {0}
-Held (◌&◌ {A} p ps) = A × Held ps
+abbrev pub FieldValues : Fields → Type 0
+FieldValues done = Unit {0}
+FieldValues (◌&◌ {A} p ps) = A × FieldValues ps
 
 -- the fields read one after another, and what is made of them
-abbrev pub reads : {B : Type 0} → (ps : Fields) → (Held ps → B) → Reader B
+abbrev pub reads : {B : Type 0} → (ps : Fields) → (FieldValues ps → B) → Reader B
 reads done build s = Ok (build tt, s)
 reads (p & ps) build s = p.read s >>= λ x. reads ps (λ xs. build (x.0, xs)) x.1
 
-abbrev pub bytes_of_fields : (ps : Fields) → Held ps → List ℕ
+abbrev pub bytes_of_fields : (ps : Fields) → FieldValues ps → List ℕ
 bytes_of_fields done xs = []
 bytes_of_fields (p & ps) xs = p.bytes xs.0 ++ bytes_of_fields ps xs.1
 
-abbrev pub AllFit : (ps : Fields) → Held ps → Type 0
+abbrev pub AllFit : (ps : Fields) → FieldValues ps → Type 0
 AllFit done xs = Unit {0}
 AllFit (p & ps) xs = p.Fits xs.0 × AllFit ps xs.1
 
@@ -90,7 +90,7 @@ forms Kind.Packet = host_field & serial_field & host_field & bound_field & route
 forms Kind.Advert = host_field & rows_field & done
 forms Kind.Ask = bound_field & chunk_field & done
 
-abbrev pub frame_of_fields : (k : Kind) → Held (forms k) → PlainFrame
+abbrev pub frame_of_fields : (k : Kind) → FieldValues (forms k) → PlainFrame
 frame_of_fields Kind.Packet xs = PlainFrame.Packet (record {
   family = record { source = record { 0 = xs.0 }; serial = xs.1.0 };
   dest = record { 0 = xs.1.1.0 };
@@ -103,7 +103,7 @@ frame_of_fields Kind.Advert xs = PlainFrame.Advert (record { host = record { 0 =
 frame_of_fields Kind.Ask xs = PlainFrame.Ask xs.0 xs.1.0
 
 -- the fields that a frame has
-abbrev pub fields_of : PlainFrame → (k : Kind) × Held (forms k)
+abbrev pub fields_of : PlainFrame → (k : Kind) × FieldValues (forms k)
 fields_of (PlainFrame.Packet p) = (Kind.Packet, (p.family.source.0, (p.family.serial, (p.dest.0, (p.bound, (p.route, (p.chunk, tt)))))))
 fields_of (PlainFrame.Advert a) = (Kind.Advert, (a.host.0, (a.rows, tt)))
 fields_of (PlainFrame.Ask bound c) = (Kind.Ask, (bound, (c, tt)))

@@ -13,7 +13,7 @@ use Rattle.packet_frame.specs.declared.kind.Kind.{Kind}
 use Rattle.packet_frame.specs.declared.kind.Form.{Form}
 use Rattle.packet_frame.specs.Bytes.{letters, packet_bytes, rows_bytes, frame_bytes}
 use Rattle.packet_frame.specs.Fields.{Reader, number, judged, magic_at}
-use Rattle.packet_frame.specs.Forms.{Fields, done, ◌&◌, host_field, bound_field, route_field, chunk_field, Fields, ◌&◌, Held, reads, serial_field, forms, frame_of_fields, FrameFits}
+use Rattle.packet_frame.specs.Forms.{Fields, done, ◌&◌, host_field, bound_field, route_field, chunk_field, Fields, ◌&◌, FieldValues, reads, serial_field, forms, frame_of_fields, FrameFits}
 
 -- ---- what a node of version 2 reads
 
@@ -41,7 +41,7 @@ form_at v s = do
 abbrev pub handled_fields : Fields
 handled_fields = host_field & serial_field & host_field & bound_field & route_field & route_field & chunk_field & done
 
-abbrev pub handled_of_fields : Held handled_fields → PlainFrame
+abbrev pub handled_of_fields : FieldValues handled_fields → PlainFrame
 handled_of_fields xs = PlainFrame.Packet (record {
   family = record { source = record { 0 = xs.0 }; serial = xs.1.0 };
   dest = record { 0 = xs.1.1.0 };
@@ -58,7 +58,7 @@ stamped_forms Form.Packet = serial_field & (serial_field & forms Kind.Packet)
 stamped_forms Form.Handled = serial_field & (serial_field & handled_fields)
 stamped_forms Form.Advert = serial_field & (serial_field & forms Kind.Advert)
 
-abbrev pub stamped_of_fields : (k : Form) → Held (stamped_forms k) → PlainStamped
+abbrev pub stamped_of_fields : (k : Form) → FieldValues (stamped_forms k) → PlainStamped
 stamped_of_fields Form.Ask xs = record { stamp = None; frame = frame_of_fields Kind.Ask xs }
 stamped_of_fields Form.Packet xs = record { stamp = Some (record { boot = xs.0; link = xs.1.0 }); frame = frame_of_fields Kind.Packet xs.1.1 }
 stamped_of_fields Form.Handled xs = record { stamp = Some (record { boot = xs.0; link = xs.1.0 }); frame = handled_of_fields xs.1.1 }

@@ -4,7 +4,7 @@ use Rattle.std.proofs.lemmas.Bool.Decides.{nat_tests}
 use lib.Utf8.{scalar, encode}
 use Rattle.plan_lexer.specs.CharItems.{continuation, shortest, two_bytes, three_bytes, four_bytes, wide_at, hex_value, escaped, hex_escape, escape_at, code_at, item_at}
 use Rattle.plan_lexer.specs.TokenForms.{SpellsItem, plain, wide, letter, digits}
-use Rattle.plan_lexer.specs.declared.item.Item.TheVariants.{Code}
+use Rattle.plan_lexer.specs.declared.item.CharItem.TheVariants.{Code}
 
 wide_two : (c : ℕ) (rest : List ℕ) → 128 ≤ c → c < 2048 → scalar c ≡ true → wide_at ((192 + c / 64) ∷ (128 + c % 64) ∷ rest) ≡ Some (c, 2)
 unfolding wide_at two_bytes continuation shortest

@@ -3,7 +3,7 @@ use Rattle.std.proofs.Common.{◌≡◌, ℕ, zero, suc, ◌+◌, ◌<◌, List,
 use Rattle.std.specs.Char.{encode_utf8}
 use Rattle.plan_lexer.specs.CharItems.{item_at}
 use Rattle.plan_lexer.specs.Quoted.{with_front, string_from, string_by}
-use Rattle.plan_lexer.specs.declared.item.Item.TheVariants.{Closes, Open, Wrong, Code}
+use Rattle.plan_lexer.specs.declared.item.CharItem.TheVariants.{Closes, Open, Wrong, Code}
 use Rattle.plan_lexer.specs.declared.fault.LexFault.{LexFault}
 use Rattle.plan_lexer.specs.declared.fault.LexFault.TheVariants.{BadChar, OpenString}
 

@@ -13,7 +13,7 @@ use Rattle.plan_lexer.specs.Numerals.{digits_len, number_of, number_at, number_b
 use Rattle.plan_lexer.specs.TokenForms.{IsDigits, SpellsItem, plain, wide, letter, digits, SpellsItems, no_items, an_item, SpellsPairs, no_pairs, a_pair}
 use Rattle.plan_lexer.proofs.ItemLemmas.{item_reads}
 use Rattle.plan_lexer.proofs.QuotedLemmas.{string_closes, string_goes}
-use Rattle.plan_lexer.specs.declared.item.Item.TheVariants.{Closes}
+use Rattle.plan_lexer.specs.declared.item.CharItem.TheVariants.{Closes}
 
 pub drop_front : (front rest : List ℕ) → drop (length front) (front ++ rest) ≡ rest
 drop_front [] rest = refl

@@ -4,7 +4,7 @@ use Rattle.std.proofs.lemmas.Bool.Decides.{nat_tests}
 use lib.Utf8.{scalar, encode}
 use Rattle.plan_lexer.specs.CharItems.{continuation, shortest, two_bytes, three_bytes, four_bytes, wide_at, hex_value, escaped, hex_escape, escape_at, code_at, item_at, item_from}
 use Rattle.plan_lexer.specs.TokenForms.{SpellsItem, plain, wide, letter, digits}
-use Rattle.plan_lexer.specs.declared.item.Item.TheVariants.{Closes, Open, Wrong, Code}
+use Rattle.plan_lexer.specs.declared.item.CharItem.TheVariants.{Closes, Open, Wrong, Code}
 
 two_sound : (a b : ℕ) (rest : List ℕ) (c n : ℕ) → 192 ≤ a → a < 224 → two_bytes (a ∷ b ∷ rest) ≡ Some (c, n) → (encode c ≡ a ∷ b ∷ []) × (n ≡ 2) × (128 ≤ c) × (scalar c ≡ true)
 unfolding two_bytes continuation shortest encode

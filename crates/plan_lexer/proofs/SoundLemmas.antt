@@ -9,8 +9,8 @@ use Rattle.plan_lexer.specs.TokenForms.{SpellsItem, SpellsItems, no_items, an_it
 use Rattle.plan_lexer.proofs.SoundItems.{IsFrontItem, item_front, item_cons}
 use Rattle.plan_lexer.proofs.ReadLemmas.{drop_front, get_behind, item_some}
 use Rattle.plan_lexer.proofs.QuotedLemmas.{string_closes, string_open, string_wrong, string_goes}
-use Rattle.plan_lexer.specs.declared.item.Item.{Item}
-use Rattle.plan_lexer.specs.declared.item.Item.TheVariants.{Closes, Open, Wrong, Code}
+use Rattle.plan_lexer.specs.declared.item.CharItem.{CharItem}
+use Rattle.plan_lexer.specs.declared.item.CharItem.TheVariants.{Closes, Open, Wrong, Code}
 use Rattle.plan_lexer.specs.declared.fault.LexFault.{LexFault}
 use Rattle.plan_lexer.specs.declared.fault.LexFault.TheVariants.{BadChar, OpenString}
 
@@ -82,7 +82,7 @@ shorter_behind text c n fuel f small = omega (arith, ap length f.splits ∙ leng
 module _ (start : ℕ) where
   string_step : (fuel : ℕ) → ((at : ℕ) (text : List ℕ) (read : List ℕ × ℕ) → length text ≤ fuel → string_from start at 0 text ≡ Ok read → IsClosed (SpellsItems 34) text at read)
       → (at : ℕ) (text : List ℕ) (read : List ℕ × ℕ) → length text ≤ fuel + 1 → string_from start at 0 text ≡ Ok read
-      → (it : Item) → item_at 34 text ≡ it → IsClosed (SpellsItems 34) text at read
+      → (it : CharItem) → item_at 34 text ≡ it → IsClosed (SpellsItems 34) text at read
   string_step fuel ih at text read small e Closes is =
       let f = closing text is in let same = ok_same ([], at + 1) read (string_from start at 0 text) (string_closes start at text is) e in
       subst (λ r. IsClosed (SpellsItems 34) text at r) same (record { inside = []; rest = f.0; splits = f.1; spells = no_items; place = omega arith })
@@ -167,7 +167,7 @@ char_by_quote start c n text read f true d e =
       place = omega (arith, f.len);
     })
 
-char_step : (start : ℕ) (text : List ℕ) (read : ℕ × ℕ) → (it : Item) → item_at 39 text ≡ it → char_by start text it ≡ Ok read → IsChar text start read
+char_step : (start : ℕ) (text : List ℕ) (read : ℕ × ℕ) → (it : CharItem) → item_at 39 text ≡ it → char_by start text it ≡ Ok read → IsChar text start read
 unfolding char_by
 char_step start text read Closes is e = absurd (not_ok (BadChar start) read e)
 char_step start text read Open is e = absurd (not_ok (BadChar start) read e)

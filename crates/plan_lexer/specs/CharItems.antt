@@ -1,8 +1,8 @@
 -- The items between the quotes of strings and chars.
 use Rattle.std.specs.Prelude.{◌<◌, ◌≤◌, ℕ, ◌+◌, ◌-◌, ◌*◌, List, length, get_or, Option, Some, None, nat_lt, ◌==◌, if◌then◌else◌}
 use lib.Utf8.{scalar}
-use Rattle.plan_lexer.specs.declared.item.Item.{Item}
-use Rattle.plan_lexer.specs.declared.item.Item.TheVariants.{Closes, Open, Wrong, Code}
+use Rattle.plan_lexer.specs.declared.item.CharItem.{CharItem}
+use Rattle.plan_lexer.specs.declared.item.CharItem.TheVariants.{Closes, Open, Wrong, Code}
 
 infixl 10 ◌>>=◌
 abbrev ◌>>=◌ : {A B : Type 0} → Option A → (A → Option B) → Option B
@@ -76,19 +76,19 @@ code_at text =
     (if nat_lt (get_or text 0 0) 127 then Some (get_or text 0 0, 1) else wide_at text))
 
 -- the item that a character makes, if there is one
-abbrev pub item_from : Option (ℕ × ℕ) → Item
+abbrev pub item_from : Option (ℕ × ℕ) → CharItem
 item_from None = Wrong
 item_from (Some c) = Code c.0 c.1
 
 -- what stands at the front of a text before the closing quote: an item, the quote, or the end of the line or the text
-unfoldable pub item_at : ℕ → List ℕ → Item
+unfoldable pub item_at : ℕ → List ℕ → CharItem
 item_at quote text =
     if length text == 0 then Open else
     (if get_or text 0 0 == 10 then Open else
     (if get_or text 0 0 == quote then Closes else item_from (code_at text)))
 
 -- an item takes a byte at least, and no more than there are
-abbrev pub ItemFits : Item → ℕ → Type 0
+abbrev pub ItemFits : CharItem → ℕ → Type 0
 ItemFits (Code code width) len = (0 < width) × (width ≤ len)
 ItemFits Closes len = 0 < len
 ItemFits Open len = Unit {0}

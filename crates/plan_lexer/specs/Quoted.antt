@@ -1,8 +1,8 @@
 -- Strings and chars.
 use Rattle.std.specs.Prelude.{ℕ, zero, suc, ◌+◌, ◌-◌, List, [], ◌∷◌, ◌++◌, get_or, Result, Ok, Err, encode_utf8, ◌==◌, if◌then◌else◌}
 use Rattle.plan_lexer.specs.CharItems.{item_at}
-use Rattle.plan_lexer.specs.declared.item.Item.{Item}
-use Rattle.plan_lexer.specs.declared.item.Item.TheVariants.{Closes, Open, Wrong, Code}
+use Rattle.plan_lexer.specs.declared.item.CharItem.{CharItem}
+use Rattle.plan_lexer.specs.declared.item.CharItem.TheVariants.{Closes, Open, Wrong, Code}
 use Rattle.plan_lexer.specs.declared.fault.LexFault.{LexFault}
 use Rattle.plan_lexer.specs.declared.fault.LexFault.TheVariants.{BadChar, OpenString}
 
@@ -12,7 +12,7 @@ with_front front (Ok read) = Ok (front ++ read.0, read.1)
 with_front front (Err e) = Err e
 
 -- the rest of the string from `start`, by the item at `at` that is next; `behind` reads what follows when so many more bytes are passed
-abbrev pub string_by : ℕ → ℕ → (ℕ → Result (List ℕ × ℕ) LexFault) → Item → Result (List ℕ × ℕ) LexFault
+abbrev pub string_by : ℕ → ℕ → (ℕ → Result (List ℕ × ℕ) LexFault) → CharItem → Result (List ℕ × ℕ) LexFault
 string_by start at behind Closes = Ok ([], at + 1)
 string_by start at behind Open = Err (OpenString start)
 string_by start at behind Wrong = Err (BadChar at)
@@ -29,7 +29,7 @@ unfoldable pub string_at : ℕ → List ℕ → Result (List ℕ × ℕ) LexFaul
 string_at start text = string_from start (start + 1) 0 text
 
 -- a char's code and the bytes of its item, if its closing quote follows
-unfoldable pub char_by : ℕ → List ℕ → Item → Result (ℕ × ℕ) LexFault
+unfoldable pub char_by : ℕ → List ℕ → CharItem → Result (ℕ × ℕ) LexFault
 char_by start text (Code code width) = if get_or text width 0 == 39 then Ok (code, start + width + 2) else Err (BadChar start)
 char_by start text Closes = Err (BadChar start)
 char_by start text Open = Err (BadChar start)

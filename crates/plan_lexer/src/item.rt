@@ -5,7 +5,7 @@ use crate::text::byte_at;
 
 /// What stands at the front of the rest of a string or char.
 #[derive(Clone, Copy, PartialEq, Eq)]
-pub(crate) enum Item {
+pub(crate) enum CharItem {
     /// The closing quote.
     Closes,
     /// The end of the line or of the text.
@@ -201,22 +201,22 @@ fn code_at(text: &[u8]) -> Option<(char, usize)>
 
 /// What stands at the front of a text before the closing quote.
 #[tactic(auto, unfolding(crate::specs::CharItems::item_at))]
-pub(crate) fn item_at(quote: u8, text: &[u8]) -> Item
+pub(crate) fn item_at(quote: u8, text: &[u8]) -> CharItem
     ensures value { result ≡ item_at quote text.now }
     ensures within { ItemFits result (length text.now) }
 {
     if text.is_empty() {
-        return Item::Open;
+        return CharItem::Open;
     }
     let first = byte_at(text, 0);
     if first == b'\n' {
-        return Item::Open;
+        return CharItem::Open;
     }
     if first == quote {
-        return Item::Closes;
+        return CharItem::Closes;
     }
     match code_at(text) {
-        Some((code, width)) => Item::Code(code, width),
-        None => Item::Wrong,
+        Some((code, width)) => CharItem::Code(code, width),
+        None => CharItem::Wrong,
     }
 }

@@ -3,7 +3,7 @@ ghost use Rattle.plan_lexer.specs.Faults.{Gives};
 ghost use Rattle.plan_lexer.specs.Quoted.{string_at, char_at};
 
 use crate::LexFault;
-use crate::item::{Item, item_at};
+use crate::item::{CharItem, item_at};
 use crate::text::byte_at;
 use plan_base::Text;
 use std::alloc::Global;
@@ -20,10 +20,10 @@ pub(crate) fn string_at(alloc: Global, start: u32, text: &[u8]) -> Result<(Text,
     let mut at = start + 1;
     'items: loop {
         match item_at(b'"', rest) {
-            Item::Closes => return Ok((Text::of(string.into_bytes()), at + 1)),
-            Item::Open => return Err(LexFault::OpenString(start)),
-            Item::Wrong => return Err(LexFault::BadChar(at)),
-            Item::Code(code, width) => {
+            CharItem::Closes => return Ok((Text::of(string.into_bytes()), at + 1)),
+            CharItem::Open => return Err(LexFault::OpenString(start)),
+            CharItem::Wrong => return Err(LexFault::BadChar(at)),
+            CharItem::Code(code, width) => {
                 string.push(code)?;
                 rest = &rest[width..];
                 at += width as u32;
@@ -40,15 +40,15 @@ pub(crate) fn char_at(start: u32, text: &[u8]) -> Result<(u32, u32), LexFault>
     ensures within { IfOk result (λ read. (start < read.1) × (read.1 ≤ start + 1 + length text.now)) }
 {
     match item_at(b'\'', text) {
-        Item::Code(code, width) => {
+        CharItem::Code(code, width) => {
             if byte_at(text, width) == b'\'' {
                 Ok((code as u32, start + width as u32 + 2))
             } else {
                 Err(LexFault::BadChar(start))
             }
         }
-        Item::Closes => Err(LexFault::BadChar(start)),
-        Item::Open => Err(LexFault::BadChar(start)),
-        Item::Wrong => Err(LexFault::BadChar(start)),
+        CharItem::Closes => Err(LexFault::BadChar(start)),
+        CharItem::Open => Err(LexFault::BadChar(start)),
+        CharItem::Wrong => Err(LexFault::BadChar(start)),
     }
 }

@@ -29,7 +29,7 @@ use Rattle.plan_grammar.specs.declared.fault.ParseFault.TheVariants.{TooDeep}
 use Rattle.plan_grammar.specs.declared.fault.Wanted.TheVariants as wanted
 use Rattle.plan_grammar.specs.Ahead.{Front, Reader, ◌>>=◌, place, behind, next_kind, is_symbol, need_symbol}
 use Rattle.plan_grammar.specs.Types.{opens}
-use Rattle.plan_parser.specs.declared.item.Item.{Item}
+use Rattle.plan_parser.specs.declared.item.TypedValue.{TypedValue}
 use Rattle.plan_parser.specs.Values.{typed, literal_key, literal, literal_from, begins_value, tuple_of, list_of, judged, fits, tuple_from, tuple, grouped, parens, like, listing, typed_nil, brackets, value_at, value_to, ended, argument_at, arguments_from, arguments_behind, value_of, args_of}
 use Rattle.plan_parser.proofs.FormedTypes.{Kinds, Holds, Any, step, choose, behind_kinds, symbol_holds, Each, each_test, Between, more_holds, more_some, Good, formed_of, formed_roll, depth_roll, type_holds}
 use Rattle.plan_parser.proofs.FormedReads.{KindOf, kind_of_next, text_well}
@@ -42,7 +42,7 @@ pub record GoodValue (n : ℕ) (v : Value) : Type 0 where
   pub deep : value_depth v + 1 ≤ n
   pub flat : nesting v ≡ 0
 
-record GoodItem (n : ℕ) (i : Item) : Type 0 where
+record GoodItem (n : ℕ) (i : TypedValue) : Type 0 where
   value : GoodValue n i.value
   formed : formed_type i.ty ≡ true
   shallow : type_depth i.ty ≤ n
@@ -77,7 +77,7 @@ leaf n l r t q f h d k g s = record {
   shallow = (let e = depth_roll t q ∙ s in omega (arith, e));
 }
 
-abbrev GoodOption : ℕ → Option Item → Type 0
+abbrev GoodOption : ℕ → Option TypedValue → Type 0
 GoodOption n (Some i) = GoodItem (suc n) i
 GoodOption n None = Unit {0}
 
@@ -96,7 +96,7 @@ literal_good n (Some (kinds.Blob b)) k = leaf n (Value-F.Blob b) (v.rolls-Blob b
 literal_good n (Some (kinds.Key w)) k = literal_key_good n w
 literal_good n _ k = tt
 
-literal_holds : (n : ℕ) (f : Front) (o : Option Item) → GoodOption n o → Kinds f.tokens → Holds (GoodItem (suc n)) (literal_from f o)
+literal_holds : (n : ℕ) (f : Front) (o : Option TypedValue) → GoodOption n o → Kinds f.tokens → Holds (GoodItem (suc n)) (literal_from f o)
 literal_holds n f (Some i) q k = (q, behind_kinds f k)
 literal_holds n f None q k = tt
 
@@ -148,7 +148,7 @@ list_good n t vs some few g s l q =
     }
 
 -- several values as a tuple, inside one more bracket
-tuple_good : (n : ℕ) (is : List Item) → 1 ≤ n → Between (GoodItem n) 2 8 is → GoodItem (suc n) (tuple_of is)
+tuple_good : (n : ℕ) (is : List TypedValue) → 1 ≤ n → Between (GoodItem n) 2 8 is → GoodItem (suc n) (tuple_of is)
 tuple_good n is some q =
     let vs = map (λ i. i.value) is in let ts = map (λ i. i.ty) is in
     let p = values_good n vs some (each_map (GoodItem n) (GoodValue n) (λ i. i.value) (λ i h. h.value) is q.all) in
@@ -169,7 +169,7 @@ tuple_good n is some q =
           let d = largest_within type_depth n ts 0 (omega arith) (each_map (GoodItem n) (λ t. type_depth t ≤ n) (λ i. i.ty) (λ i h. h.shallow) is q.all) in omega (arith, e, d));
     }
 
-judged_holds : (n at : ℕ) (t : Ty) (i : Item) (f : Front) → GoodItem n i → Kinds f.tokens → Holds (GoodValue n) (judged t at i f)
+judged_holds : (n at : ℕ) (t : Ty) (i : TypedValue) (f : Front) → GoodItem n i → Kinds f.tokens → Holds (GoodValue n) (judged t at i f)
 unfolding judged
 judged_holds n at t i f q k = choose (GoodValue n) (same_type i.ty t) _ _ (λ _. (q.value, k)) (λ _. tt)
 
@@ -192,18 +192,18 @@ unfolding opens
 opens_some room f k = choose (λ _. 1 ≤ room) (room == 0) _ _ (λ _. tt) (λ e. (grind (arith, nat_tests, e), k))
 
 -- an item has room for its own bracket
-item_some : (n : ℕ) (i : Item) → GoodItem n i → 1 ≤ n
+item_some : (n : ℕ) (i : TypedValue) → GoodItem n i → 1 ≤ n
 item_some n i q = let d = q.value.deep in omega (arith, d)
 
-module _ (inner : Reader Item) (outside room : ℕ) (few : room ≤ 7) (reads : (f : Front) → Kinds f.tokens → Holds (GoodItem room) (inner f)) where
-  tuple_from_holds : (first : Item) (f : Front) → is_symbol symbols.Comma f ≡ true → GoodItem room first → Kinds f.tokens → Holds (GoodItem (suc room)) (tuple_from inner outside room first f)
+module _ (inner : Reader TypedValue) (outside room : ℕ) (few : room ≤ 7) (reads : (f : Front) → Kinds f.tokens → Holds (GoodItem room) (inner f)) where
+  tuple_from_holds : (first : TypedValue) (f : Front) → is_symbol symbols.Comma f ≡ true → GoodItem room first → Kinds f.tokens → Holds (GoodItem (suc room)) (tuple_from inner outside room first f)
   unfolding tuple_from
   tuple_from_holds first f here q k =
       step (Between (GoodItem room) 2 8) (GoodItem (suc room)) _ _ (more_some (GoodItem room) inner reads begins_value symbols.Comma limits.Parts wanted.AValue 6 (first ∷ []) f here (q, tt) k)
       (λ all g p r. step Any (GoodItem (suc room)) _ _ (symbol_holds symbols.ParenClose g r)
       (λ _ h _ s. (tuple_good room all (item_some room first q) p, s)))
 
-  tuple_holds : (first : Item) (f : Front) → GoodItem room first → Kinds f.tokens → Holds (GoodItem (suc room)) (tuple inner outside room first f)
+  tuple_holds : (first : TypedValue) (f : Front) → GoodItem room first → Kinds f.tokens → Holds (GoodItem (suc room)) (tuple inner outside room first f)
   unfolding tuple
   tuple_holds first f q k = choose (GoodItem (suc room)) (is_symbol symbols.Comma f) _ _ (λ here. tuple_from_holds first f here q k) (λ _. tt)
 

@@ -18,19 +18,19 @@ use Rattle.plan_grammar.specs.declared.fault.ParseFault.TheVariants.{Expected, T
 use Rattle.plan_grammar.specs.declared.fault.Wanted.TheVariants as wanted
 use Rattle.plan_grammar.specs.Ahead.{Front, Reader, ◌>>=◌, place, behind, next_kind, is_symbol, need_symbol}
 use Rattle.plan_grammar.specs.Types.{opens, more, type_to}
-use Rattle.plan_parser.specs.declared.item.Item.{Item}
+use Rattle.plan_parser.specs.declared.item.TypedValue.{TypedValue}
 
 -- a value with its type
-abbrev pub typed : Value → Ty → Item
+abbrev pub typed : Value → Ty → TypedValue
 typed value t = record { value = value; ty = t }
 
 -- the value that one token is
-abbrev pub literal_key : Key → Option Item
+abbrev pub literal_key : Key → Option TypedValue
 literal_key keys.True = Some (typed (v.Bool true) ty.Bool)
 literal_key keys.False = Some (typed (v.Bool false) ty.Bool)
 literal_key _ = None
 
-abbrev pub literal : Option TokenKind → Option Item
+abbrev pub literal : Option TokenKind → Option TypedValue
 literal (Some (kinds.Int n)) = Some (typed (v.Int n) ty.Int)
 literal (Some (kinds.Host n)) = Some (typed (v.Host (record { 0 = n })) ty.Host)
 literal (Some (kinds.Dev n)) = Some (typed (v.Dev (record { 0 = n })) ty.Dev)
@@ -40,7 +40,7 @@ literal (Some (kinds.Blob b)) = Some (typed (v.Blob b) ty.Blob)
 literal (Some (kinds.Key k)) = literal_key k
 literal _ = None
 
-abbrev pub literal_from : Front → Option Item → Result (Item × Front) ParseFault
+abbrev pub literal_from : Front → Option TypedValue → Result (TypedValue × Front) ParseFault
 literal_from f (Some i) = Ok (i, behind f)
 literal_from f None = Err (Expected wanted.AValue (place f))
 
@@ -49,15 +49,15 @@ unfoldable pub begins_value : Front → Bool
 begins_value f = is_some (literal (next_kind f)) || (is_symbol symbols.ParenOpen f || is_symbol symbols.BracketOpen f)
 
 -- several values as a tuple
-abbrev pub tuple_of : List Item → Item
+abbrev pub tuple_of : List TypedValue → TypedValue
 tuple_of is = typed (v.Tuple (map (λ i. i.value) is)) (ty.Tuple (map (λ i. i.ty) is))
 
 -- values of one type as a list
-abbrev pub list_of : Ty → List Value → Item
+abbrev pub list_of : Ty → List Value → TypedValue
 list_of t vs = typed (v.List t vs) (ty.List t)
 
 -- an item of a list must have the type of the first
-unfoldable pub judged : Ty → ℕ → Item → Front → Result (Value × Front) ParseFault
+unfoldable pub judged : Ty → ℕ → TypedValue → Front → Result (Value × Front) ParseFault
 judged t at i f = if same_type i.ty t then Ok (i.value, f) else Err (Expected wanted.AValue at)
 
 -- an empty list counts as deep as its element type
@@ -65,24 +65,24 @@ unfoldable pub fits : ℕ → ℕ → Ty → Result (Unit {0}) ParseFault
 fits room at t = if nat_lt room (type_depth t) then Err (TooDeep at) else Ok tt
 
 -- `inner` reads inside one more list or tuple; `room` more may open here; `outside` brackets are open around the whole value
-module _ (inner : Reader Item) (outside room : ℕ) where
+module _ (inner : Reader TypedValue) (outside room : ℕ) where
   -- the further parts of a tuple
-  unfoldable pub tuple_from : Item → Reader Item
+  unfoldable pub tuple_from : TypedValue → Reader TypedValue
   tuple_from first f = do
     all ← more inner begins_value symbols.Comma limits.Parts wanted.AValue 7 (first ∷ []) f
     shut ← need_symbol symbols.ParenClose all.1
     Ok (tuple_of all.0, shut.1)
 
   -- there must be a second part
-  unfoldable pub tuple : Item → Reader Item
+  unfoldable pub tuple : TypedValue → Reader TypedValue
   tuple first f = if is_symbol symbols.Comma f then tuple_from first f else Err (Expected (wanted.Symbol symbols.Comma) (place f))
 
   -- a tuple, whose bracket stands at that place
-  unfoldable pub grouped : ℕ → Reader Item
+  unfoldable pub grouped : ℕ → Reader TypedValue
   grouped at f = if room == 0 then Err (TooDeep at) else (inner f >>= λ first. tuple first.0 first.1)
 
   -- what a round bracket begins
-  unfoldable pub parens : Reader Item
+  unfoldable pub parens : Reader TypedValue
   parens f =
       if is_symbol symbols.ParenClose (behind f) then Ok (typed v.Unit ty.Unit, behind (behind f))
       else if begins_value (behind f) then grouped (place f) (behind f)
@@ -95,7 +95,7 @@ module _ (inner : Reader Item) (outside room : ℕ) where
     judged t (place f) i.0 i.1
 
   -- items in brackets
-  unfoldable pub listing : Reader Item
+  unfoldable pub listing : Reader TypedValue
   listing f = do
     first ← inner f
     all ← more (like first.0.ty) begins_value symbols.Comma limits.Items wanted.AValue 62 (first.0.value ∷ []) first.1
@@ -103,7 +103,7 @@ module _ (inner : Reader Item) (outside room : ℕ) where
     Ok (list_of first.0.ty all.0, shut.1)
 
   -- an empty list with its element type, inside the brackets that are open
-  unfoldable pub typed_nil : ℕ → Reader Item
+  unfoldable pub typed_nil : ℕ → Reader TypedValue
   typed_nil at f = do
     t ← type_to (153 + room - outside) (behind f)
     deep ← fits room at t.0
@@ -111,21 +111,21 @@ module _ (inner : Reader Item) (outside room : ℕ) where
     Ok (list_of t.0 [], shut.1)
 
   -- what a square bracket begins
-  unfoldable pub brackets : Reader Item
+  unfoldable pub brackets : Reader TypedValue
   brackets f = do
     open_bracket ← opens room f
     if is_symbol symbols.Colon (behind f) then typed_nil (place f) (behind f)
         else if begins_value (behind f) then listing (behind f)
         else Err (Expected wanted.AValue (place (behind f)))
 
-  unfoldable pub value_at : Reader Item
+  unfoldable pub value_at : Reader TypedValue
   value_at f =
       if is_symbol symbols.ParenOpen f then parens f
       else if is_symbol symbols.BracketOpen f then brackets f
       else literal_from f (literal (next_kind f))
 
 -- a value, in which so many lists and tuples less one may stand inside each other
-unfoldable pub value_to : ℕ → ℕ → Reader Item
+unfoldable pub value_to : ℕ → ℕ → Reader TypedValue
 value_to outside zero f = Err (TooDeep (place f))
 value_to outside (suc room) f = value_at (value_to outside room) outside room f
 

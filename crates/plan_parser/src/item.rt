@@ -12,18 +12,18 @@ use std::alloc::Global;
 
 /// A value with its type.
 #[derive(Drop)]
-pub struct Item {
+pub struct TypedValue {
     pub value: Value,
     pub ty: Ty,
 }
 
-pub fn typed(value: Value, ty: Ty) -> Item
+pub fn typed(value: Value, ty: Ty) -> TypedValue
     ensures { result ≡ spec.typed value ty }
 {
-    Item { value, ty }
+    TypedValue { value, ty }
 }
 
-fn literal_key(key: Key) -> Option<Item>
+fn literal_key(key: Key) -> Option<TypedValue>
     ensures { result ≡ spec.literal_key key }
 {
     match key {
@@ -34,7 +34,7 @@ fn literal_key(key: Key) -> Option<Item>
 }
 
 /// The value that the next token is by itself.
-fn literal(alloc: Global, ahead: &Ahead<'_>) -> Result<Option<Item>, ParseFault>
+fn literal(alloc: Global, ahead: &Ahead<'_>) -> Result<Option<TypedValue>, ParseFault>
     ensures { Answers (Ok (spec.literal (next_kind ahead.now))) result }
 {
     match ahead.next() {
@@ -75,7 +75,7 @@ pub fn begins_value(ahead: &Ahead<'_>) -> bool
 }
 
 /// Takes the literal that must stand next.
-pub fn literal_at(alloc: Global, ahead: &mut Ahead<'_>) -> Result<Item, ParseFault>
+pub fn literal_at(alloc: Global, ahead: &mut Ahead<'_>) -> Result<TypedValue, ParseFault>
     ensures { Gives (spec.literal_from ahead.old (spec.literal (next_kind ahead.old))) result ahead.new }
 {
     let Some(item) = literal(alloc, ahead)? else {
@@ -87,7 +87,7 @@ pub fn literal_at(alloc: Global, ahead: &mut Ahead<'_>) -> Result<Item, ParseFau
 
 /// Several values as a tuple.
 #[tactic(auto, using(crate::proofs::Items::values_last, crate::proofs::Items::types_last))]
-pub fn tuple_of(alloc: Global, items: Items<Item>) -> Result<Item, ParseFault>
+pub fn tuple_of(alloc: Global, items: Items<TypedValue>) -> Result<TypedValue, ParseFault>
     ensures { Answers (Ok (spec.tuple_of items)) result }
 {
     let mut values = Items::new(alloc);
@@ -96,18 +96,18 @@ pub fn tuple_of(alloc: Global, items: Items<Item>) -> Result<Item, ParseFault>
         values.add(item.value)?;
         types.add(item.ty)?;
     }
-    Ok(Item {
+    Ok(TypedValue {
         value: Value::Tuple(values),
         ty: Ty::Tuple(types),
     })
 }
 
 /// Values of one type as a list.
-pub fn list_of(alloc: Global, ty: Ty, values: Values) -> Result<Item, ParseFault>
+pub fn list_of(alloc: Global, ty: Ty, values: Values) -> Result<TypedValue, ParseFault>
     ensures { Answers (Ok (spec.list_of ty values)) result }
 {
     let of = Boxed::new(alloc, ty.copy(alloc)?)?;
-    Ok(Item {
+    Ok(TypedValue {
         value: Value::List(of, values),
         ty: Ty::List(Boxed::new(alloc, ty)?),
     })

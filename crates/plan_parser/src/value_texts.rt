@@ -8,7 +8,7 @@ ghost use Rattle.plan_parser.specs.Values as spec;
 ghost use Rattle.plan_parser.specs.Values.{value_of, args_of};
 ghost use Rattle.plan_parser.specs.ReadTexts.{Reads, Fails};
 
-use crate::item::{Item, begins_value};
+use crate::item::{TypedValue, begins_value};
 use crate::value_fault::ValueFault;
 use crate::values::{MOST_NESTED, past_value, value_to};
 use plan_base::{Limit, Value, Values};
@@ -35,7 +35,7 @@ fn ended(ahead: &Ahead<'_>) -> Result<(), ParseFault>
 fn argument_at(alloc: Global, ahead: &mut Ahead<'_>) -> Result<Value, ParseFault>
     ensures { Gives (spec.argument_at ahead.old) result ahead.new }
 {
-    let Item { value, ty: _ } = value_to(alloc, 1, MOST_NESTED + 1, ahead)?;
+    let TypedValue { value, ty: _ } = value_to(alloc, 1, MOST_NESTED + 1, ahead)?;
     Ok(value)
 }
 
@@ -86,7 +86,7 @@ fn value_of(alloc: Global, tokens: &[Token], end: u32) -> Result<Value, ParseFau
     ensures { Answers (value_of tokens.now end) result }
 {
     let mut ahead = Ahead::over(tokens, end);
-    let Item { value, ty: _ } = value_to(alloc, 0, MOST_NESTED + 1, &mut ahead)?;
+    let TypedValue { value, ty: _ } = value_to(alloc, 0, MOST_NESTED + 1, &mut ahead)?;
     ended(&ahead)?;
     Ok(value)
 }

@@ -7,7 +7,7 @@ ghost use Rattle.plan_parser.specs.Values as spec;
 ghost use Rattle.plan_parser.specs.Values.{value_to};
 ghost use Rattle.plan_parser.specs.InsideValues.{ReadsValues};
 
-use crate::item::{Item, begins_value, list_of, literal_at, tuple_of, typed};
+use crate::item::{TypedValue, begins_value, list_of, literal_at, tuple_of, typed};
 use plan_base::{Limit, Ty, Value, Values};
 use plan_equality::Same;
 use plan_grammar::{Ahead, ParseFault, Wanted, opens, type_to};
@@ -47,7 +47,7 @@ pub fn past_value(ahead: &Ahead<'_>, limit: Limit) -> ParseFault
 
 /// Refuses an item of a list that hasn't the type of the first.
 #[tactic(auto, unfolding(crate::specs::Values::judged))]
-fn judged(t: &Ty, at: u32, item: Item, ahead: &Ahead<'_>) -> Result<Value, ParseFault>
+fn judged(t: &Ty, at: u32, item: TypedValue, ahead: &Ahead<'_>) -> Result<Value, ParseFault>
     ensures { Gives (spec.judged t.now at item ahead.now) result ahead.now }
 {
     if !item.ty.is(t) {
@@ -68,8 +68,8 @@ fn fits(room: u32, at: u32, t: &Ty) -> Result<(), ParseFault>
     Ok(())
 }
 
-impl<F: Fn(Global, u32, u32, &mut Ahead<'_>) -> Result<Item, ParseFault>> ValueReader<F> {
-    fn inner(&self, ahead: &mut Ahead<'_>) -> Result<Item, ParseFault>
+impl<F: Fn(Global, u32, u32, &mut Ahead<'_>) -> Result<TypedValue, ParseFault>> ValueReader<F> {
+    fn inner(&self, ahead: &mut Ahead<'_>) -> Result<TypedValue, ParseFault>
         requires { ReadsValues self.now.outside self.now.room (F.pre self.now.read) (F.post self.now.read) }
         ensures { Gives (value_to self.now.outside self.now.room ahead.old) result ahead.new }
     {
@@ -81,8 +81,8 @@ impl<F: Fn(Global, u32, u32, &mut Ahead<'_>) -> Result<Item, ParseFault>> ValueR
     fn more_parts(
         &self,
         ahead: &mut Ahead<'_>,
-        parts: Items<Item>,
-    ) -> Result<Items<Item>, ParseFault>
+        parts: Items<TypedValue>,
+    ) -> Result<Items<TypedValue>, ParseFault>
         requires reads { ReadsValues self.now.outside self.now.room (F.pre self.now.read) (F.post self.now.read) }
         requires within { length parts ≤ 8 }
         ensures { Gives (more (value_to self.now.outside self.now.room) spec.begins_value Symbol.Comma Limit.Parts Wanted.AValue (8 - length parts) parts ahead.old) result ahead.new }
@@ -100,7 +100,7 @@ impl<F: Fn(Global, u32, u32, &mut Ahead<'_>) -> Result<Item, ParseFault>> ValueR
 
     /// The further parts of a tuple.
     #[tactic(auto, unfolding(crate::specs::Values::tuple_from))]
-    fn tuple_from(&self, ahead: &mut Ahead<'_>, first: Item) -> Result<Item, ParseFault>
+    fn tuple_from(&self, ahead: &mut Ahead<'_>, first: TypedValue) -> Result<TypedValue, ParseFault>
         requires { ReadsValues self.now.outside self.now.room (F.pre self.now.read) (F.post self.now.read) }
         ensures { Gives (spec.tuple_from (value_to self.now.outside self.now.room) self.now.outside self.now.room first ahead.old) result ahead.new }
     {
@@ -113,7 +113,7 @@ impl<F: Fn(Global, u32, u32, &mut Ahead<'_>) -> Result<Item, ParseFault>> ValueR
 
     /// There must be a second part.
     #[tactic(auto, unfolding(crate::specs::Values::tuple))]
-    fn tuple(&self, ahead: &mut Ahead<'_>, first: Item) -> Result<Item, ParseFault>
+    fn tuple(&self, ahead: &mut Ahead<'_>, first: TypedValue) -> Result<TypedValue, ParseFault>
         requires { ReadsValues self.now.outside self.now.room (F.pre self.now.read) (F.post self.now.read) }
         ensures { Gives (spec.tuple (value_to self.now.outside self.now.room) self.now.outside self.now.room first ahead.old) result ahead.new }
     {
@@ -125,7 +125,7 @@ impl<F: Fn(Global, u32, u32, &mut Ahead<'_>) -> Result<Item, ParseFault>> ValueR
 
     /// A tuple, whose bracket stands at `at`.
     #[tactic(auto, unfolding(crate::specs::Values::grouped))]
-    fn grouped(&self, ahead: &mut Ahead<'_>, at: u32) -> Result<Item, ParseFault>
+    fn grouped(&self, ahead: &mut Ahead<'_>, at: u32) -> Result<TypedValue, ParseFault>
         requires { ReadsValues self.now.outside self.now.room (F.pre self.now.read) (F.post self.now.read) }
         ensures { Gives (spec.grouped (value_to self.now.outside self.now.room) self.now.outside self.now.room at ahead.old) result ahead.new }
     {
@@ -138,7 +138,7 @@ impl<F: Fn(Global, u32, u32, &mut Ahead<'_>) -> Result<Item, ParseFault>> ValueR
 
     /// What a round bracket begins.
     #[tactic(auto, unfolding(crate::specs::Values::parens))]
-    fn parens(&self, ahead: &mut Ahead<'_>) -> Result<Item, ParseFault>
+    fn parens(&self, ahead: &mut Ahead<'_>) -> Result<TypedValue, ParseFault>
         requires { ReadsValues self.now.outside self.now.room (F.pre self.now.read) (F.post self.now.read) }
         ensures { Gives (spec.parens (value_to self.now.outside self.now.room) self.now.outside self.now.room ahead.old) result ahead.new }
     {
@@ -185,11 +185,11 @@ impl<F: Fn(Global, u32, u32, &mut Ahead<'_>) -> Result<Item, ParseFault>> ValueR
 
     /// Items in brackets.
     #[tactic(auto, unfolding(crate::specs::Values::listing))]
-    fn listing(&self, ahead: &mut Ahead<'_>) -> Result<Item, ParseFault>
+    fn listing(&self, ahead: &mut Ahead<'_>) -> Result<TypedValue, ParseFault>
         requires { ReadsValues self.now.outside self.now.room (F.pre self.now.read) (F.post self.now.read) }
         ensures { Gives (spec.listing (value_to self.now.outside self.now.room) self.now.outside self.now.room ahead.old) result ahead.new }
     {
-        let Item { value, ty } = self.inner(ahead)?;
+        let TypedValue { value, ty } = self.inner(ahead)?;
         let mut items = Items::new(self.alloc);
         items.add(value)?;
         let items = self.more_items(ahead, &ty, items)?;
@@ -199,7 +199,7 @@ impl<F: Fn(Global, u32, u32, &mut Ahead<'_>) -> Result<Item, ParseFault>> ValueR
 
     /// An empty list with its element type, where 160 constructs may be open.
     #[tactic(auto, unfolding(crate::specs::Values::typed_nil))]
-    fn typed_nil(&self, ahead: &mut Ahead<'_>, at: u32) -> Result<Item, ParseFault>
+    fn typed_nil(&self, ahead: &mut Ahead<'_>, at: u32) -> Result<TypedValue, ParseFault>
         requires few { (self.now.room ≤ 7) × (self.now.outside ≤ 1) }
         ensures { Gives (spec.typed_nil (value_to self.now.outside self.now.room) self.now.outside self.now.room at ahead.old) result ahead.new }
     {
@@ -212,7 +212,7 @@ impl<F: Fn(Global, u32, u32, &mut Ahead<'_>) -> Result<Item, ParseFault>> ValueR
 
     /// What a square bracket begins.
     #[tactic(auto, unfolding(crate::specs::Values::brackets))]
-    fn brackets(&self, ahead: &mut Ahead<'_>) -> Result<Item, ParseFault>
+    fn brackets(&self, ahead: &mut Ahead<'_>) -> Result<TypedValue, ParseFault>
         requires reads { ReadsValues self.now.outside self.now.room (F.pre self.now.read) (F.post self.now.read) }
         requires few { (self.now.room ≤ 7) × (self.now.outside ≤ 1) }
         ensures { Gives (spec.brackets (value_to self.now.outside self.now.room) self.now.outside self.now.room ahead.old) result ahead.new }
@@ -230,7 +230,7 @@ impl<F: Fn(Global, u32, u32, &mut Ahead<'_>) -> Result<Item, ParseFault>> ValueR
     }
 
     #[tactic(auto, unfolding(crate::specs::Values::value_at))]
-    fn value_at(&self, ahead: &mut Ahead<'_>) -> Result<Item, ParseFault>
+    fn value_at(&self, ahead: &mut Ahead<'_>) -> Result<TypedValue, ParseFault>
         requires reads { ReadsValues self.now.outside self.now.room (F.pre self.now.read) (F.post self.now.read) }
         requires few { (self.now.room ≤ 7) × (self.now.outside ≤ 1) }
         ensures { Gives (spec.value_at (value_to self.now.outside self.now.room) self.now.outside self.now.room ahead.old) result ahead.new }
@@ -251,7 +251,7 @@ pub fn value_to(
     outside: u32,
     room: u32,
     ahead: &mut Ahead<'_>,
-) -> Result<Item, ParseFault>
+) -> Result<TypedValue, ParseFault>
     requires { (room ≤ 8) × (outside ≤ 1) }
     ensures { Gives (value_to outside room ahead.old) result ahead.new }
 {

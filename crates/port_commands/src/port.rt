@@ -1,5 +1,5 @@
 ghost use Rattle.std.specs.Prelude.{◌≡◌, map, IfOk};
-ghost use Rattle.service_registry.specs.Held.{standing};
+ghost use Rattle.service_registry.specs.RegistryState.{standing};
 ghost use Rattle.world_model.specs.World.{opening_services};
 ghost use Rattle.port_files.specs.PortRules.{KeepsPort};
 ghost use Rattle.port_world.specs.Networks.{two_hosts};

@@ -3,7 +3,7 @@ ghost use Rattle.line_files.specs.Reads.{Reads, Leaves};
 ghost use Rattle.port_files.specs.PortFiles as spec;
 
 use crate::file::{PortEvent, PortReading, PortWord};
-use line_files::{LineReason, Stop, Words, allow, hex_bytes, number, wide_number};
+use line_files::{LineReason, LineStop, Words, allow, hex_bytes, number, wide_number};
 use plan_base::{Dev, Host};
 use std::alloc::Global;
 
@@ -42,7 +42,7 @@ fn frame(words: &mut Words<'_>) -> Result<u32, LineReason>
 
 /// `offer HEX` behind its first word. Reasons: `BadWord`, `BadArgument`.
 #[tactic(auto, unfolding(crate::specs::PortFiles::offer_line))]
-fn offer(alloc: Global, reading: &mut PortReading, words: &mut Words<'_>) -> Result<(), Stop>
+fn offer(alloc: Global, reading: &mut PortReading, words: &mut Words<'_>) -> Result<(), LineStop>
     ensures { Leaves result reading.new (spec.offer_line words.old reading.old) }
 {
     let body = hex_bytes(alloc, words, 1, BODY_MAX)?;
@@ -53,7 +53,7 @@ fn offer(alloc: Global, reading: &mut PortReading, words: &mut Words<'_>) -> Res
 
 /// `transmit I` behind its first word. Reasons: `BadWord`, `BadNumber`.
 #[tactic(auto, unfolding(crate::specs::PortFiles::transmit_line))]
-fn transmit(reading: &mut PortReading, words: &mut Words<'_>) -> Result<(), Stop>
+fn transmit(reading: &mut PortReading, words: &mut Words<'_>) -> Result<(), LineStop>
     ensures { Leaves result reading.new (spec.transmit_line words.old reading.old) }
 {
     let seq = wide_number(words)?;
@@ -64,7 +64,7 @@ fn transmit(reading: &mut PortReading, words: &mut Words<'_>) -> Result<(), Stop
 
 /// `send N D` behind its first word. Reasons: `BadWord`, `BadNumber`, `UnknownHost`.
 #[tactic(auto, unfolding(crate::specs::PortFiles::send_line))]
-fn send(reading: &mut PortReading, words: &mut Words<'_>) -> Result<(), Stop>
+fn send(reading: &mut PortReading, words: &mut Words<'_>) -> Result<(), LineStop>
     ensures { Leaves result reading.new (spec.send_line words.old reading.old) }
 {
     let host = end_host(words)?;
@@ -76,7 +76,7 @@ fn send(reading: &mut PortReading, words: &mut Words<'_>) -> Result<(), Stop>
 
 /// `deliver K` behind its first word.
 #[tactic(auto, unfolding(crate::specs::PortFiles::deliver_line))]
-fn deliver(reading: &mut PortReading, words: &mut Words<'_>) -> Result<(), Stop>
+fn deliver(reading: &mut PortReading, words: &mut Words<'_>) -> Result<(), LineStop>
     ensures { Leaves result reading.new (spec.deliver_line words.old reading.old) }
 {
     let k = frame(words)?;
@@ -86,7 +86,7 @@ fn deliver(reading: &mut PortReading, words: &mut Words<'_>) -> Result<(), Stop>
 
 /// `lose K` behind its first word.
 #[tactic(auto, unfolding(crate::specs::PortFiles::lose_line))]
-fn lose(reading: &mut PortReading, words: &mut Words<'_>) -> Result<(), Stop>
+fn lose(reading: &mut PortReading, words: &mut Words<'_>) -> Result<(), LineStop>
     ensures { Leaves result reading.new (spec.lose_line words.old reading.old) }
 {
     let k = frame(words)?;
@@ -96,7 +96,7 @@ fn lose(reading: &mut PortReading, words: &mut Words<'_>) -> Result<(), Stop>
 
 /// `repeat K` behind its first word.
 #[tactic(auto, unfolding(crate::specs::PortFiles::repeat_line))]
-fn repeat(reading: &mut PortReading, words: &mut Words<'_>) -> Result<(), Stop>
+fn repeat(reading: &mut PortReading, words: &mut Words<'_>) -> Result<(), LineStop>
     ensures { Leaves result reading.new (spec.repeat_line words.old reading.old) }
 {
     let k = frame(words)?;
@@ -111,7 +111,7 @@ fn read_rest(
     word: PortWord,
     reading: &mut PortReading,
     words: &mut Words<'_>,
-) -> Result<(), Stop>
+) -> Result<(), LineStop>
     ensures { Leaves result reading.new (spec.event_rest word words.old reading.old) }
 {
     match word {
@@ -130,7 +130,7 @@ pub fn read_event(
     alloc: Global,
     reading: &mut PortReading,
     words: &mut Words<'_>,
-) -> Result<(), Stop>
+) -> Result<(), LineStop>
     ensures { Leaves result reading.new (spec.event_line words.old reading.old) }
 {
     let word = words.next()?;

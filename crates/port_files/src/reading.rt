@@ -9,7 +9,7 @@ ghost use Rattle.port_files.specs.PortFiles.{port_of};
 use crate::events::read_event;
 use crate::file::{PortFile, PortReading, PortStage};
 use line_files::{
-    LineFault, LineFile, LineReason, Stop, Words, allow, is, number, read_file, says_nothing,
+    LineFault, LineFile, LineReason, LineStop, Words, allow, is, number, read_file, says_nothing,
     stopped_at,
 };
 use std::alloc::Global;
@@ -27,7 +27,7 @@ fn begin(word: &[u8], words: &mut Words<'_>) -> Result<(), LineReason>
 impl PortReading {
     /// `bound B C`: the purses. Reasons: `BadWord`, `BadNumber`.
     #[tactic(auto, unfolding(crate::specs::PortFiles::purses_line))]
-    fn purses(&mut self, words: &mut Words<'_>) -> Result<(), Stop>
+    fn purses(&mut self, words: &mut Words<'_>) -> Result<(), LineStop>
         ensures { Leaves result self.new (spec.purses_line words.old self.old) }
     {
         begin(b"bound", words)?;
@@ -42,7 +42,7 @@ impl PortReading {
 
     /// `events`. Reason: `BadWord`.
     #[tactic(auto, unfolding(crate::specs::PortFiles::begin_line))]
-    fn begins(&mut self, words: &mut Words<'_>) -> Result<(), Stop>
+    fn begins(&mut self, words: &mut Words<'_>) -> Result<(), LineStop>
         ensures { Leaves result self.new (spec.begin_line words.old self.old) }
     {
         begin(b"events", words)?;

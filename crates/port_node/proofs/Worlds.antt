@@ -10,7 +10,7 @@ use Rattle.network_plan.specs.declared.event.WorldEvent.{WorldEvent}
 use Rattle.network_plan.specs.declared.event.WorldEvent.TheVariants as event
 use Rattle.node_model.specs.declared.acts.Act.{Act}
 use Rattle.node_model.specs.State.{NodeState}
-use Rattle.node_model.specs.Node.{Step, inject_step, stamped_step, take_step, tick_step}
+use Rattle.node_model.specs.Node.{NodeStep, inject_step, stamped_step, take_step, tick_step}
 use Rattle.world_model.specs.declared.lines.Line.{Line}
 use Rattle.world_model.specs.declared.lines.Line.TheVariants.{Wire}
 use Rattle.world_model.specs.declared.lines.LinkEnd.{LinkEnd}
@@ -58,13 +58,13 @@ module _ (a : Allowed) (closed : IsClosed a) where
   nothing_known w k = record { world = k; lines = (tt, tt) }
 
   -- ---- a step of one node
-  pub at_known : (w : WorldState) (h : Host) (at : ℕ) (before : List Line) (step : Step) → AllByRecursion (LineKnown a) before → WorldKnown a w → StepKnown a step → EventKnown a (steps_at w h at before step)
+  pub at_known : (w : WorldState) (h : Host) (at : ℕ) (before : List Line) (step : NodeStep) → AllByRecursion (LineKnown a) before → WorldKnown a w → StepKnown a step → EventKnown a (steps_at w h at before step)
   at_known w h at before step b k s = record {
     world = record { nodes = all_set (NodeKnown a) w.nodes at step.node k.nodes s.node; wire = k.wire };
     lines = all_append (LineKnown a) before (lines_at h step.acts) b (lines_known h step.acts s.acts);
   }
 
-  steps_known : (w : WorldState) (h : Host) (step : NodeState → Step) → ((node : NodeState) → NodeKnown a node → StepKnown a (step node)) → WorldKnown a w → EventKnown a (steps w h none_before step)
+  steps_known : (w : WorldState) (h : Host) (step : NodeState → NodeStep) → ((node : NodeState) → NodeKnown a node → StepKnown a (step node)) → WorldKnown a w → EventKnown a (steps w h none_before step)
   unfolding steps step_place step_at
   steps_known w h step f k = place (place_of w.nodes h)
     where
@@ -77,7 +77,7 @@ module _ (a : Allowed) (closed : IsClosed a) where
       place (Some at) = one at (slice_get w.nodes at) refl
 
   -- ---- sends
-  taken_known : (w : WorldState) (h : Host) (d : Dev) (at : ℕ) (to : LinkEnd) (step : Step) (o : Option PlainStamped) → step.frame ≡ o → WorldKnown a w → StepKnown a step → EventKnown a (send_taken w h d at to step o)
+  taken_known : (w : WorldState) (h : Host) (d : Dev) (at : ℕ) (to : LinkEnd) (step : NodeStep) (o : Option PlainStamped) → step.frame ≡ o → WorldKnown a w → StepKnown a step → EventKnown a (send_taken w h d at to step o)
   unfolding send_taken
   taken_known w h d at to step None e k s = nothing_known w k
   taken_known w h d at to step (Some x) e k s = record {

@@ -10,7 +10,7 @@ use Rattle.plan_meaning.specs.State.{VisitState}
 use Rattle.node_model.specs.declared.acts.Act.{Act}
 use Rattle.node_model.specs.declared.acts.Act.TheVariants.{Noted}
 use Rattle.node_model.specs.State.{NodeState}
-use Rattle.node_model.specs.Node.{Step}
+use Rattle.node_model.specs.Node.{NodeStep}
 use Rattle.node_model.specs.Fits.{QueuesKeep}
 use Rattle.world_model.specs.declared.lines.Line.{Line}
 use Rattle.world_model.specs.declared.lines.Line.TheVariants.{At}
@@ -48,7 +48,7 @@ TakenKnown a None = Unit {0}
 TakenKnown a (Some x) = StampedKnown a x
 
 -- a step notes what is allowed, and leaves such a node
-pub record StepKnown (a : Allowed) (step : Step) : Type 0 where
+pub record StepKnown (a : Allowed) (step : NodeStep) : Type 0 where
   pub node : NodeKnown a step.node
   pub acts : AllByRecursion (ActKnown a) step.acts
   pub frame : TakenKnown a step.frame

@@ -30,7 +30,7 @@ use Rattle.node_model.specs.declared.acts.Lane.{Lane}
 use Rattle.node_model.specs.State.{Links, Queues, NodeState, routing_of, is_host, leads_to}
 use Rattle.settled_visit.specs.declared.settling.Settled.{Settled}
 use Rattle.node_model.specs.Visits.{visit_at, settled_at}
-use Rattle.node_model.specs.Node.{Step, send_act, send_queues, sends_acts, has_room, packet_sending, visit_sends, handled_acts, visit_acts, visited, inject_step, next_serial, injected_packet, forward_by, forward_step, packet_step, advert_step, frame_step, drop_act, lane_room, mark, takes_as, stamped_as, stamped_step, take_first, tick_step, tick_sends, advert_sending, take_step, take_from, only_acts, onward, hearing}
+use Rattle.node_model.specs.Node.{NodeStep, send_act, send_queues, sends_acts, has_room, packet_sending, visit_sends, handled_acts, visit_acts, visited, inject_step, next_serial, injected_packet, forward_by, forward_step, packet_step, advert_step, frame_step, drop_act, lane_room, mark, takes_as, stamped_as, stamped_step, take_first, tick_step, tick_sends, advert_sending, take_step, take_from, only_acts, onward, hearing}
 use Rattle.world_model.specs.declared.lines.Line.{Line}
 use Rattle.world_model.specs.declared.lines.Line.TheVariants.{Wire}
 use Rattle.world_model.specs.declared.lines.LinkEnd.{LinkEnd}
@@ -173,10 +173,10 @@ lines_bound h [] = refl
 lines_bound h (x ∷ xs) = omega (arith, lines_bound h xs)
 
 -- lines of a step of one node
-at_bound : (w : WorldState) (h : Host) (at : ℕ) (before : List Line) (step : Step) (n : ℕ) → sum_of line_bound before ≡ 0 → Acts step.acts ≤ n → sum_of line_bound (steps_at w h at before step).lines ≤ n
+at_bound : (w : WorldState) (h : Host) (at : ℕ) (before : List Line) (step : NodeStep) (n : ℕ) → sum_of line_bound before ≡ 0 → Acts step.acts ≤ n → sum_of line_bound (steps_at w h at before step).lines ≤ n
 at_bound w h at before step n b s = omega (arith, sum_append line_bound before (lines_at h step.acts), lines_bound h step.acts, b, s)
 
-steps_bound : (w : WorldState) (h : Host) (step : NodeState → Step) (n : ℕ) → ((node : NodeState) → Acts (step node).acts ≤ n) → sum_of line_bound (steps w h none_before step).lines ≤ n
+steps_bound : (w : WorldState) (h : Host) (step : NodeState → NodeStep) (n : ℕ) → ((node : NodeState) → Acts (step node).acts ≤ n) → sum_of line_bound (steps w h none_before step).lines ≤ n
 unfolding steps step_place step_at
 steps_bound w h step n f = place (place_of w.nodes h)
   where
@@ -188,7 +188,7 @@ steps_bound w h step n f = place (place_of w.nodes h)
     place None = omega arith
     place (Some at) = one at (slice_get w.nodes at)
 
-taken_bound : (w : WorldState) (h : Host) (d : Dev) (at : ℕ) (to : LinkEnd) (step : Step) (o : Option PlainStamped) → Acts step.acts ≡ 0 → sum_of line_bound (send_taken w h d at to step o).lines ≤ 0
+taken_bound : (w : WorldState) (h : Host) (d : Dev) (at : ℕ) (to : LinkEnd) (step : NodeStep) (o : Option PlainStamped) → Acts step.acts ≡ 0 → sum_of line_bound (send_taken w h d at to step o).lines ≤ 0
 unfolding send_taken
 taken_bound w h d at to step None e = omega arith
 taken_bound w h d at to step (Some x) e = omega (arith, sum_append line_bound (lines_at h step.acts) (Wire w.«next» (stamped_bytes x) ∷ []), lines_bound h step.acts, e)

@@ -14,7 +14,7 @@ use Rattle.plan_grammar.specs.declared.node.Node.{Node}
 use Rattle.plan_grammar.specs.Ahead.{Front, ◌>>=◌, place, behind, is_key}
 use Rattle.plan_grammar.specs.Nodes.{all_at}
 use Rattle.plan_grammar.specs.Exprs.{expr_to}
-use Rattle.grammar_laws.specs.Agenda.{Item, Counted, a_name, whole, declarations as item_declarations, declaration, body, judgement, size_of, body_size, judge, another, a_service, a_function, step}
+use Rattle.grammar_laws.specs.Agenda.{GrammarItem, Counted, a_name, whole, declarations as item_declarations, declaration, body, judgement, size_of, body_size, judge, another, a_service, a_function, step}
 use Rattle.grammar_laws.proofs.Ends.{nowhere, to_end, None_left, as_refused, refused_as}
 use Rattle.grammar_laws.proofs.ReadSteps.{Reads}
 use Rattle.grammar_laws.proofs.Works.{Works, Follows, goes_on, stops, begin, after, after_read, given, both, both_then, name_works, refuses_first}
@@ -33,7 +33,7 @@ use Rattle.program_grammar.proofs.HeadsWork.{service_works, head_works}
 abbrev counted : ℕ → Gathered → Counted
 counted end all = record { svcs = length all.svcs; exns = length all.exns; funs = length all.funs; exprs = length all.node_at; end = end }
 
-abbrev On : ℕ → List Item → Gathered → List Item
+abbrev On : ℕ → List GrammarItem → Gathered → List GrammarItem
 On end rest all = item_declarations (counted end all) ∷ rest
 
 added : {A : Type 0} (xs ys : List A) → length (xs ++ ys) ≡ length xs + length ys
@@ -43,12 +43,12 @@ added (x ∷ xs) ys = let e = added xs ys in omega (arith, e)
 one_added : {A : Type 0} (xs : List A) (x : A) → length (xs ++ x ∷ []) ≡ length xs + 1
 one_added xs x = added xs (x ∷ [])
 
-another_follows : {B : Type 0} (count : ℕ) (limit : Limit) (items : List Item) (f : Front) (next : B → List Item) (h : Unit {0} × Front → Result (B × Front) ParseFault)
+another_follows : {B : Type 0} (count : ℕ) (limit : Limit) (items : List GrammarItem) (f : Front) (next : B → List GrammarItem) (h : Unit {0} × Front → Result (B × Front) ParseFault)
     → Works items (behind f) next (h (tt, f)) → Follows (another count limit items f) next (one_more count limit f >>= h)
 unfolding one_more
 another_follows count limit items f next h k = both_then (nat_lt count 64) _ _ next (Ok (tt, f)) (Err (TooMany limit (place f))) h (goes_on k) (stops _ next)
 
-judgement_follows : {B : Type 0} (at depth nodes : ℕ) (items : List Item) (f : Front) (next : B → List Item) (h : Unit {0} × Front → Result (B × Front) ParseFault)
+judgement_follows : {B : Type 0} (at depth nodes : ℕ) (items : List GrammarItem) (f : Front) (next : B → List GrammarItem) (h : Unit {0} × Front → Result (B × Front) ParseFault)
     → Works items f next (h (tt, f))
     → Follows (if nat_lt 64 depth then Err (TooDeep at) else if nat_lt 4096 nodes then Err (TooMany limits.Nodes at) else Ok (items, f)) next (judged at depth nodes f >>= h)
 unfolding judged
@@ -66,7 +66,7 @@ pub size_is : (f g : Front) (n : Node) → expr_to 161 levels.Whole f ≡ Ok (n,
 unfolding body_size
 size_is f g n e = ap size_of e
 
-module _ (end : ℕ) (rest : List Item) (all : Gathered) (f : Front) where
+module _ (end : ℕ) (rest : List GrammarItem) (all : Gathered) (f : Front) where
   service_follows : Follows (another (length all.svcs) limits.Services (a_service (counted end all) rest) f) (On end rest) (with_service all f)
   unfolding with_service
   service_follows =

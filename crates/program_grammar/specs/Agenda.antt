@@ -7,11 +7,11 @@ use Rattle.plan_grammar.specs.declared.node.Node.{Node}
 use Rattle.plan_grammar.specs.Ahead.{Front}
 use Rattle.plan_grammar.specs.Nodes.{all_at}
 use Rattle.grammar_laws.specs.Grammar.{ExprAt}
-use Rattle.grammar_laws.specs.Agenda.{Item, declarations, whole, body_size, FirstRefusal}
+use Rattle.grammar_laws.specs.Agenda.{GrammarItem, declarations, whole, body_size, FirstRefusal}
 use Rattle.program_grammar.specs.Grammar.{ProgramAt}
 
 -- declarations up to the end, where nothing is declared so far
-abbrev pub a_program : ℕ → Item
+abbrev pub a_program : ℕ → GrammarItem
 a_program end = declarations (record { svcs = 0; exns = 0; funs = 0; exprs = 0; end = end })
 
 -- the first refusal of the tokens of a text of that length

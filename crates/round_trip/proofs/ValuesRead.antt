@@ -24,7 +24,7 @@ use Rattle.plan_grammar.specs.declared.fault.ParseFault.{ParseFault}
 use Rattle.plan_grammar.specs.declared.fault.Wanted.TheVariants as wanted
 use Rattle.plan_grammar.specs.Ahead.{Front, Reader, ◌>>=◌, place, behind, next_kind, is_symbol, is_symbol_kind}
 use Rattle.plan_grammar.specs.Types.{opens, more, type_to}
-use Rattle.plan_parser.specs.declared.item.Item.{Item}
+use Rattle.plan_parser.specs.declared.item.TypedValue.{TypedValue}
 use Rattle.plan_parser.specs.Values.{typed, literal, literal_from, begins_value, tuple_of, list_of, judged, fits, tuple_from, tuple, grouped, parens, like, listing, typed_nil, brackets, value_at, value_to, ended, value_of}
 use Rattle.printed_forms.specs.Pieces.{listed}
 use Rattle.text_laws.specs.Lexes.{kinds_of}
@@ -39,7 +39,7 @@ use Rattle.round_trip.specs.Readable.{IsReadable, AreOfType, AreReadable}
 use Rattle.round_trip.specs.Readable.{IsReadable as R, AreOfType as O, AreReadable as M}
 
 -- the item is that value with that type
-record IsItem (w : Value) (t : Ty) (i : Item) : Type 0 where
+record IsItem (w : Value) (t : Ty) (i : TypedValue) : Type 0 where
   value : i.value ≡ w
   type : i.ty ≡ t
 
@@ -81,7 +81,7 @@ literal_took outside room w t k x e l p b f rest h =
     rw (symbol_is symbols.ParenOpen f (k ∷ rest) h ∙ p) (rw (symbol_is symbols.BracketOpen f (k ∷ rest) h ∙ b)
     (took_by (ap (λ o. literal_from f (literal o)) (next_is f (k ∷ rest) h) ∙ ap (literal_from f) l) (took (typed x t) (behind f) (behind_is f k rest h) (record { value = e; type = refl }))))
 
-some_begins : (o : Option Item) (i : Item) (b c : Bool) → o ≡ Some i → (is_some o || (b || c)) ≡ true
+some_begins : (o : Option TypedValue) (i : TypedValue) (b c : Bool) → o ≡ Some i → (is_some o || (b || c)) ≡ true
 some_begins o i b c e = rw e refl
 
 literal_read : (outside room : ℕ) (w : Value) (t : Ty) (k : TokenKind) (x : Value) → x ≡ w → literal (Some k) ≡ Some (typed x t) → is_symbol_kind symbols.ParenOpen (Some k) ≡ false → is_symbol_kind symbols.BracketOpen (Some k) ≡ false
@@ -187,13 +187,13 @@ Pairs = List (Value × Ty)
 abbrev pair_kinds : Value × Ty → Kinds
 pair_kinds y = value_kinds y.0
 
-abbrev is_pair : Value × Ty → Item → Type 0
+abbrev is_pair : Value × Ty → TypedValue → Type 0
 is_pair y i = IsItem y.0 y.1 i
 
 abbrev PartsRead : ℕ → ℕ → Pairs → Type 0
 PartsRead outside room ys = AllRead (value_to outside room) begins_value symbols.Comma limits.Parts wanted.AValue pair_kinds is_pair anything ys
 
-parts_are : (one : Reader Item) (ys : Pairs) (is : List Item) → AllGood one begins_value symbols.Comma limits.Parts wanted.AValue pair_kinds is_pair anything ys is
+parts_are : (one : Reader TypedValue) (ys : Pairs) (is : List TypedValue) → AllGood one begins_value symbols.Comma limits.Parts wanted.AValue pair_kinds is_pair anything ys is
     → (map (λ i. i.value) is ≡ map (λ y. y.0) ys) × (map (λ i. i.ty) is ≡ map (λ y. y.1) ys)
 parts_are one [] [] g = (refl, refl)
 parts_are one (y ∷ ys) (i ∷ is) g =
@@ -205,7 +205,7 @@ pairs_listed : (ys : Pairs) → listed (mark symbols.Comma) (mark symbols.Comma)
 pairs_listed [] = refl
 pairs_listed (y ∷ ys) = ap (λ s. mark symbols.Comma ++ (value_kinds y.0 ++ s)) (pairs_listed ys)
 
-tuple_from_took : (outside room : ℕ) (a : Value) (t : Ty) (ys : Pairs) → length ys ≤ 7 → PartsRead outside room ys → (i : Item) → IsItem a t i → (g : Front) (rest : Kinds)
+tuple_from_took : (outside room : ℕ) (a : Value) (t : Ty) (ys : Pairs) → length ys ≤ 7 → PartsRead outside room ys → (i : TypedValue) → IsItem a t i → (g : Front) (rest : Kinds)
     → kinds_at g ≡ listed (mark symbols.Comma) (mark symbols.Comma) pair_kinds ys ++ (kind.Symbol symbols.ParenClose ∷ rest)
     → Took (tuple_from (value_to outside room) outside room i g) rest (IsItem (v.Tuple (a ∷ map (λ y. y.0) ys)) (ty.Tuple (t ∷ map (λ y. y.1) ys)))
 unfolding tuple_from

@@ -9,13 +9,13 @@ use Rattle.service_api.specs.declared.advert.Advert.{Advert}
 use Rattle.dv_routing.specs.Routing.{Routing, cost, own_advert}
 use Rattle.dv_routing.specs.Laws.{NoRise}
 use Rattle.dv_routing.proofs.Rises.{no_rise_self, cost_rises}
-use Rattle.route_laws.specs.Network.{Wiring, Frame, Parcel, Told, Node, Network, routing_of, routings, IsAt, with_node, with_queue, queued, heard_by, Moves, Routed, Handed, Tells, Sent, Hears, Leaves, Goes, Stays, Then}
+use Rattle.route_laws.specs.Network.{Wiring, RouteFrame, Parcel, Told, Node, Network, routing_of, routings, IsAt, with_node, with_queue, queued, heard_by, Moves, Routed, Handed, Tells, Sent, Hears, Leaves, Goes, Stays, Then}
 use Rattle.route_laws.specs.Truths.{NoneRises, RowTrue, AdvertTrue, FrameTrue, QueuesTrue, NodeHolds, RoutesHold}
 use Rattle.route_laws.proofs.Lookups.{get_set, all_get, all_remove, none_rises_self, none_rises_over, rises_set, routings_set, routings_get}
 use Rattle.route_laws.proofs.Truth.{frame_rises, node_rises, same_end, parcel_true, neighbour_true, advert_true}
 
 -- a network with one node in another's place and another wire, all true by the costs before
-pub set_holds : (far : Wiring) (w : Network) (at : ℕ) (old node : Node) (wire : List ((Host × Dev) × Frame)) → RoutesHold far w → slice_get w.nodes at ≡ Some old
+pub set_holds : (far : Wiring) (w : Network) (at : ℕ) (old node : Node) (wire : List ((Host × Dev) × RouteFrame)) → RoutesHold far w → slice_get w.nodes at ≡ Some old
     → node.routing.here ≡ old.routing.here → ((x : Host) → NoRise (cost old.routing x) (cost node.routing x)) → NodeHolds far (routings w) node
     → All (λ x. FrameTrue (routings w) x.0.0 x.1) wire → RoutesHold far (record { nodes = slice_set w.nodes at node; wire = wire })
 set_holds far w at old node wire h place here less new frames =
@@ -37,7 +37,7 @@ held : (far : Wiring) (w : Network) (at : ℕ) (node : Node) → RoutesHold far 
 held far w at node h p = all_get (NodeHolds far (routings w)) w.nodes at node h.nodes p.place
 
 -- a queue that is true where its device leads
-queue_set : (far : Wiring) (rs : List Routing) (n : Host) (queues : List (List Frame)) (d : Dev) (queue : List Frame) → QueuesTrue far rs n queues
+queue_set : (far : Wiring) (rs : List Routing) (n : Host) (queues : List (List RouteFrame)) (d : Dev) (queue : List RouteFrame) → QueuesTrue far rs n queues
     → ((end : Host × Dev) → far n d ≡ Some end → All (FrameTrue rs end.0) queue) → QueuesTrue far rs n (slice_set queues d.0 queue)
 queue_set far rs n queues d queue h new e other end get leads = elim (get_set queues d.0 e.0 queue other get) [ inl same ↦ here same | inr before ↦ h e other end before leads ]
   where
@@ -46,7 +46,7 @@ queue_set far rs n queues d queue h new e other end get leads = elim (get_set qu
         let dev : e ≡ d = ap (λ k. let y : Dev = record { 0 = k } in y) (sym same.0) in
         subst (All (FrameTrue rs end.0)) same.1 (new end (ap (far n) (sym dev) ∙ leads))
 
-with_queue_holds : (far : Wiring) (rs : List Routing) (node : Node) (d : Dev) (queue : List Frame) → NodeHolds far rs node
+with_queue_holds : (far : Wiring) (rs : List Routing) (node : Node) (d : Dev) (queue : List RouteFrame) → NodeHolds far rs node
     → ((end : Host × Dev) → far node.routing.here d ≡ Some end → All (FrameTrue rs end.0) queue) → NodeHolds far rs (with_queue node d queue)
 with_queue_holds far rs node d queue h new = record {
   linked = h.linked;
@@ -55,7 +55,7 @@ with_queue_holds far rs node d queue h new = record {
 }
 
 -- a frame more, which is true where its device leads
-queued_holds : (far : Wiring) (w : Network) (at : ℕ) (node : Node) (d : Dev) (queue : List Frame) (frame : Frame) → RoutesHold far w → IsAt w at node
+queued_holds : (far : Wiring) (w : Network) (at : ℕ) (node : Node) (d : Dev) (queue : List RouteFrame) (frame : RouteFrame) → RoutesHold far w → IsAt w at node
     → slice_get node.queues d.0 ≡ Some queue → ((end : Host × Dev) → far node.routing.here d ≡ Some end → FrameTrue (routings w) end.0 frame)
     → RoutesHold far (with_node w at (queued node d queue frame))
 queued_holds far w at node d queue frame h p get true =

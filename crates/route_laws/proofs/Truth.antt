@@ -14,7 +14,7 @@ use Rattle.dv_routing.specs.Laws.{AtMost, NoRise, IsRoute, IsRouteAnswer}
 use Rattle.dv_routing.proofs.Costs.{same_host, least_within}
 use Rattle.dv_routing.proofs.Best.{route_own, route_answer, route_host, same_or_not}
 use Rattle.dv_routing.proofs.Rises.{at_most_some, no_rise_at}
-use Rattle.route_laws.specs.Network.{Wiring, Frame, Parcel, Told, Node, routing_at, cost_at}
+use Rattle.route_laws.specs.Network.{Wiring, RouteFrame, Parcel, Told, Node, routing_at, cost_at}
 use Rattle.route_laws.specs.Truths.{IsKnown, NoneRises, RowTrue, AdvertTrue, LinkTrue, FrameTrue, NodeHolds, Falls}
 use Rattle.route_laws.proofs.Lookups.{at_most_known, rise_at_most, rise_known, cost_found}
 
@@ -23,7 +23,7 @@ use Rattle.route_laws.proofs.Lookups.{at_most_known, rise_at_most, rise_known, c
 pub rows_rise : (rs ss : List Routing) (m : Host) (rows : List AdvertRow) → NoneRises rs ss → All (RowTrue rs m) rows → All (RowTrue ss m) rows
 rows_rise rs ss m rows rises all = All-weaker (RowTrue rs m) (RowTrue ss m) (λ row h. rise_at_most rs ss m row.host row.cost rises h) rows all
 
-pub frame_rises : (rs ss : List Routing) (m : Host) (frame : Frame) → NoneRises rs ss → FrameTrue rs m frame → FrameTrue ss m frame
+pub frame_rises : (rs ss : List Routing) (m : Host) (frame : RouteFrame) → NoneRises rs ss → FrameTrue rs m frame → FrameTrue ss m frame
 frame_rises rs ss m (Parcel x) rises h = rise_known rs ss m x rises h
 frame_rises rs ss m (Told a) rises h = rows_rise rs ss a.host a.rows rises h
 

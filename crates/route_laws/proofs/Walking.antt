@@ -12,7 +12,7 @@ use Rattle.dv_routing.proofs.Best.{route_own, same_or_not}
 use Rattle.dv_routing.proofs.Rises.{at_most_some, no_rise_at}
 use Rattle.route_laws.specs.Network.{Wiring, Parcel, Node, Network, routings, routing_at, cost_at}
 use Rattle.route_laws.specs.Truths.{IsKnown, RowTrue, FrameTrue, NodeHolds, RoutesHold, IsFresh, IsOpening, IsHop, Falls}
-use Rattle.route_laws.specs.Walks.{Walk, Here, Along, IsReached, IsDist, Way, Ends, Hops}
+use Rattle.route_laws.specs.Walks.{LinkWalk, Here, Along, IsReached, IsDist, RouteWay, Ends, Hops}
 use Rattle.route_laws.proofs.Lookups.{all_get, Found, found, cost_found, CostOf, cost_of}
 use Rattle.route_laws.proofs.Truth.{falls, leads, real_route}
 use Rattle.route_laws.proofs.Keep.{goes_keep, goes_rise}
@@ -67,7 +67,7 @@ step_reaches far w n x c h nearer e =
     elim (same_or_not k.routing.here x) [ inl same ↦ stay (sym here ∙ same) | inr other ↦ over k other ]
   where
     stay : n ≡ x → IsReached far n x c
-    stay same = let P : Host → Type 0 = λ m. Walk far x m zero in (zero, omega arith, subst P (sym same) Here)
+    stay same = let P : Host → Type 0 = λ m. LinkWalk far x m zero in (zero, omega arith, subst P (sym same) Here)
 
     over : (k : CostOf (routings w) n x c) → k.routing.here ≢ x → IsReached far n x c
     over k other =
@@ -96,7 +96,7 @@ dist_within far w n x c d h e dist =
     let least : d ≤ r.0 = dist.1 r.0 r.2 in
     omega arith
 
-pub ways_short : (far : Wiring) (x : Host) (w : Network) (n : Host) (k c : ℕ) → RoutesHold far w → cost_at (routings w) n x ≡ Some c → Way far x w n k → k ≤ c
+pub ways_short : (far : Wiring) (x : Host) (w : Network) (n : Host) (k c : ℕ) → RoutesHold far w → cost_at (routings w) n x ≡ Some c → RouteWay far x w n k → k ≤ c
 ways_short far x w n k c h e (Ends v m) = omega arith
 ways_short far x w n k c h e (Hops u v m row j hop goes rest) =
     let f = hop_falls far u x m row h hop in

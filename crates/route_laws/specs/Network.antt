@@ -11,19 +11,19 @@ abbrev pub Wiring : Type 0
 Wiring = Host → Dev → Option (Host × Dev)
 
 -- a frame is a packet for a host, or an advert
-pub data Frame : Type 0 where
-  Parcel : Host → Frame
-  Told : Advert → Frame
+pub data RouteFrame : Type 0 where
+  Parcel : Host → RouteFrame
+  Told : Advert → RouteFrame
 
 -- a node: what it knows of routes, and the frames queued on each device
 pub record Node : Type 0 where
   pub routing : Routing
-  pub queues : List (List Frame)
+  pub queues : List (List RouteFrame)
 
 -- a network: its nodes, and the frames on the wire, each with the end that is to receive it
 pub record Network : Type 0 where
   pub nodes : List Node
-  pub wire : List ((Host × Dev) × Frame)
+  pub wire : List ((Host × Dev) × RouteFrame)
 
 abbrev pub routing_of : Node → Routing
 routing_of node = node.routing
@@ -56,11 +56,11 @@ pub record IsAt (w : Network) (at : ℕ) (node : Node) : Type 0 where
 abbrev pub with_node : Network → ℕ → Node → Network
 with_node w at node = record { nodes = slice_set w.nodes at node; wire = w.wire }
 
-abbrev pub with_queue : Node → Dev → List Frame → Node
+abbrev pub with_queue : Node → Dev → List RouteFrame → Node
 with_queue node d queue = record { routing = node.routing; queues = slice_set node.queues d.0 queue }
 
 -- with a frame more on a device
-abbrev pub queued : Node → Dev → List Frame → Frame → Node
+abbrev pub queued : Node → Dev → List RouteFrame → RouteFrame → Node
 queued node d queue frame = with_queue node d (queue ++ frame ∷ [])
 
 abbrev pub heard_by : Node → Dev → Advert → Node
@@ -70,13 +70,13 @@ heard_by node d a = record { routing = hears node.routing d a; queues = node.que
 -- queued for a neighbour; the first frame of a queue goes onto the wire; an advert on the wire is heard, where it is the
 -- neighbour's; a frame leaves the wire.
 pub data Moves (far : Wiring) : Network → Network → Type 0 where
-  Routed : (w : Network) (at : ℕ) (node : Node) (x : Host) (row : RouteRow) (queue : List Frame) → IsAt w at node → route node.routing x ≡ Some row
+  Routed : (w : Network) (at : ℕ) (node : Node) (x : Host) (row : RouteRow) (queue : List RouteFrame) → IsAt w at node → route node.routing x ≡ Some row
       → slice_get node.queues row.dev.0 ≡ Some queue → Moves far w (with_node w at (queued node row.dev queue (Parcel x)))
-  Handed : (w : Network) (at : ℕ) (node : Node) (m : Host) (d : Dev) (queue : List Frame) → IsAt w at node → Contains node.routing.neighbours (m, d)
+  Handed : (w : Network) (at : ℕ) (node : Node) (m : Host) (d : Dev) (queue : List RouteFrame) → IsAt w at node → Contains node.routing.neighbours (m, d)
       → slice_get node.queues d.0 ≡ Some queue → Moves far w (with_node w at (queued node d queue (Parcel m)))
-  Tells : (w : Network) (at : ℕ) (node : Node) (m : Host) (d : Dev) (queue : List Frame) → IsAt w at node → Contains node.routing.neighbours (m, d)
+  Tells : (w : Network) (at : ℕ) (node : Node) (m : Host) (d : Dev) (queue : List RouteFrame) → IsAt w at node → Contains node.routing.neighbours (m, d)
       → slice_get node.queues d.0 ≡ Some queue → Moves far w (with_node w at (queued node d queue (Told (own_advert node.routing))))
-  Sent : (w : Network) (at : ℕ) (node : Node) (d : Dev) (frame : Frame) (queue : List Frame) (end : Host × Dev) → IsAt w at node
+  Sent : (w : Network) (at : ℕ) (node : Node) (d : Dev) (frame : RouteFrame) (queue : List RouteFrame) (end : Host × Dev) → IsAt w at node
       → slice_get node.queues d.0 ≡ Some (frame ∷ queue) → far node.routing.here d ≡ Some end
       → Moves far w (record { nodes = slice_set w.nodes at (with_queue node d queue); wire = w.wire ++ (end, frame) ∷ [] })
   Hears : (w : Network) (at : ℕ) (node : Node) (d : Dev) (a : Advert) → IsAt w at node → Contains w.wire ((node.routing.here, d), Told a)

@@ -7,7 +7,7 @@ use Rattle.service_api.specs.declared.advert.AdvertRow.{AdvertRow}
 use Rattle.service_api.specs.declared.advert.Advert.{Advert}
 use Rattle.dv_routing.specs.Routing.{Routing, route}
 use Rattle.dv_routing.specs.Laws.{AtMost, NoRise}
-use Rattle.route_laws.specs.Network.{Wiring, Frame, Parcel, Told, Node, Network, routings, routing_at, cost_at}
+use Rattle.route_laws.specs.Network.{Wiring, RouteFrame, Parcel, Told, Node, Network, routings, routing_at, cost_at}
 
 abbrev pub IsKnown : Option ℕ → Type 0
 IsKnown o = (c : ℕ) × (o ≡ Some c)
@@ -35,13 +35,13 @@ pub record IsLinked (far : Wiring) (r : Routing) : Type 0 where
   pub real : (m : Host) (d : Dev) → Contains r.neighbours (m, d) → d.0 ≢ 0
 
 -- a packet that goes to a node has a cost there; an advert is true
-abbrev pub FrameTrue : List Routing → Host → Frame → Type 0
+abbrev pub FrameTrue : List Routing → Host → RouteFrame → Type 0
 FrameTrue nodes m (Parcel x) = IsKnown (cost_at nodes m x)
 FrameTrue nodes m (Told a) = AdvertTrue nodes a
 
 -- frames are true for the node to which their device leads
-abbrev pub QueuesTrue : Wiring → List Routing → Host → List (List Frame) → Type 0
-QueuesTrue far nodes n queues = (d : Dev) (queue : List Frame) (end : Host × Dev) → slice_get queues d.0 ≡ Some queue → far n d ≡ Some end → All (FrameTrue nodes end.0) queue
+abbrev pub QueuesTrue : Wiring → List Routing → Host → List (List RouteFrame) → Type 0
+QueuesTrue far nodes n queues = (d : Dev) (queue : List RouteFrame) (end : Host × Dev) → slice_get queues d.0 ≡ Some queue → far n d ≡ Some end → All (FrameTrue nodes end.0) queue
 
 pub record NodeHolds (far : Wiring) (nodes : List Routing) (node : Node) : Type 0 where
   pub linked : IsLinked far node.routing

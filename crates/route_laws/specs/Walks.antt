@@ -7,19 +7,19 @@ use Rattle.route_laws.specs.Network.{Wiring, Network, Goes}
 use Rattle.route_laws.specs.Truths.{IsHop}
 
 -- a walk to b, with the number of its links
-pub data Walk (far : Wiring) (b : Host) : Host → ℕ → Type 0 where
-  Here : Walk far b b zero
-  Along : (a : Host) (d : Dev) (m : Host) (e : Dev) (k : ℕ) → d.0 ≢ 0 → far a d ≡ Some (m, e) → Walk far b m k → Walk far b a (suc k)
+pub data LinkWalk (far : Wiring) (b : Host) : Host → ℕ → Type 0 where
+  Here : LinkWalk far b b zero
+  Along : (a : Host) (d : Dev) (m : Host) (e : Dev) (k : ℕ) → d.0 ≢ 0 → far a d ≡ Some (m, e) → LinkWalk far b m k → LinkWalk far b a (suc k)
 
 -- a walk of at most this length
 abbrev pub IsReached : Wiring → Host → Host → ℕ → Type 0
-IsReached far a b n = (k : ℕ) × (k ≤ n) × Walk far b a k
+IsReached far a b n = (k : ℕ) × (k ≤ n) × LinkWalk far b a k
 
 -- the length of the shortest walk
 abbrev pub IsDist : Wiring → Host → Host → ℕ → Type 0
-IsDist far a b n = Walk far b a n × ((k : ℕ) → Walk far b a k → n ≤ k)
+IsDist far a b n = LinkWalk far b a n × ((k : ℕ) → LinkWalk far b a k → n ≤ k)
 
 -- a way towards x by default routes, with the number of its hops; anything may happen between two hops
-pub data Way (far : Wiring) (x : Host) : Network → Host → ℕ → Type 0 where
-  Ends : (w : Network) (n : Host) → Way far x w n zero
-  Hops : (v w : Network) (n : Host) (row : RouteRow) (k : ℕ) → IsHop v x n row → Goes far v w → Way far x w row.«next» k → Way far x v n (suc k)
+pub data RouteWay (far : Wiring) (x : Host) : Network → Host → ℕ → Type 0 where
+  Ends : (w : Network) (n : Host) → RouteWay far x w n zero
+  Hops : (v w : Network) (n : Host) (row : RouteRow) (k : ℕ) → IsHop v x n row → Goes far v w → RouteWay far x w row.«next» k → RouteWay far x v n (suc k)

@@ -5,7 +5,7 @@ ghost use Rattle.service_api.specs.declared.router.RouteRow.{RouteRow};
 ghost use Rattle.dv_routing.specs.Routing.{Routing, route as the_route};
 ghost use Rattle.route_laws.specs.Network.{Wiring, Parcel, Node, Network, is_of, IsAt, Goes, routings, routing_at, cost_at};
 ghost use Rattle.route_laws.specs.Truths.{IsKnown, NoneRises, RoutesHold, IsOpening, IsHop, Falls};
-ghost use Rattle.route_laws.specs.Walks.{IsReached, IsDist, Way};
+ghost use Rattle.route_laws.specs.Walks.{IsReached, IsDist, RouteWay};
 
 /// It holds where nothing has happened yet.
 pub fn opening_holds()
@@ -45,7 +45,7 @@ pub fn costs_reach()
 /// A way by default routes has at most as many hops as the cost that was read at its start, whatever happens between
 /// them.
 pub fn ways_are_short()
-    ensures { (far : Wiring) (x : Host) (w : Network) (n : Host) (k c : ℕ) → RoutesHold far w → cost_at (routings w) n x ≡ Some c → Way far x w n k → k ≤ c }
+    ensures { (far : Wiring) (x : Host) (w : Network) (n : Host) (k c : ℕ) → RoutesHold far w → cost_at (routings w) n x ≡ Some c → RouteWay far x w n k → k ≤ c }
 {}
 
 /// The device of a route leads to its next host, and that of a node's route to itself leads to itself.

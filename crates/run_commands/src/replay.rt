@@ -3,7 +3,7 @@ ghost use Rattle.network_plan.specs.Rules.{KeepsRules};
 ghost use Rattle.network_plan.specs.NodeRules.{KeepsLog};
 ghost use Rattle.schedule_text.specs.Schedules.{schedule_of};
 ghost use Rattle.node_files.specs.Logs.{log_of};
-ghost use Rattle.service_registry.specs.Held.{standing};
+ghost use Rattle.service_registry.specs.RegistryState.{standing};
 ghost use Rattle.world_model.specs.World.{opening_services};
 ghost use Rattle.file_commands.specs.Renders.{Prints, Renders};
 ghost use Rattle.run_commands.specs.Schedules.{schedule_limit, schedule_said, is_header_fault, replayed_of, as_log, replay_text, log_trace};

@@ -22,7 +22,7 @@ use Rattle.spelled_frame.specs.Spelled.{what_of}
 use Rattle.node_model.specs.declared.acts.Act.{Act}
 use Rattle.node_model.specs.declared.acts.Act.TheVariants.{Injected, Arrived, Asked, Noted, Ended, Handled, Queued, Dropped, Bad, Misplaced, AdvertQueued, AdvertDropped, AdvertSpent, Stale, Heard, Ticked, Taken, SerialsSpent, NoMemory}
 use Rattle.node_model.specs.State.{NodeState}
-use Rattle.node_model.specs.Node.{Step, stepped, visited, next_serial, injected_packet, inject_step, stamped_step, arrive_step, tick_step, take_step}
+use Rattle.node_model.specs.Node.{NodeStep, stepped, visited, next_serial, injected_packet, inject_step, stamped_step, arrive_step, tick_step, take_step}
 use Rattle.node_model.specs.Counts.{only, is_family, act_sum, act_injections}
 use Rattle.node_laws.proofs.CountLaws.{act_sum-nil, act_sum-cons, only-le}
 use Rattle.node_laws.proofs.Staying.{StepStays, visited_stays, stamped_stays, arrive_stays, tick_stays, take_stays}
@@ -100,7 +100,7 @@ none_granted h acts k =
 -- ---- steps of nodes
 
 -- how often a step grants
-abbrev step_grants : Host → Step → ℕ
+abbrev step_grants : Host → NodeStep → ℕ
 step_grants h step = act_sum (act_grants h) step.acts
 
 same_gives : (f : Family) (old new : NodeState) → new.here ≡ old.here → new.serial ≡ old.serial → may_give f new ≡ may_give f old
@@ -109,7 +109,7 @@ same_gives f old new here serial =
     ap (λ x. cond ((x.0 == f.source.0) && nat_le new.serial f.serial) 1 0) here ∙ ap (λ n. cond ((old.here.0 == f.source.0) && nat_le n f.serial) 1 0) serial
 
 -- a step after which a node goes on with the same serial number
-stays_none : (h : Host) (old : NodeState) (step : Step) → step.node.here ≡ old.here → step.node.serial ≡ old.serial → ((f : Family) → StepGives f old step) → step_grants h step ≡ 0
+stays_none : (h : Host) (old : NodeState) (step : NodeStep) → step.node.here ≡ old.here → step.node.serial ≡ old.serial → ((f : Family) → StepGives f old step) → step_grants h step ≡ 0
 stays_none h old step here serial g = none_granted h step.acts (λ f. omega (arith, (g f).once, same_gives f old step.node here serial))
 
 stamped_none : (h : Host) (node : NodeState) (d : Dev) (x : PlainStamped) → step_grants h (stamped_step node d x) ≡ 0
@@ -131,7 +131,7 @@ next_gives h fh s fs = grind (arith, nat_tests)
 as_much : (a b c d : ℕ) → a ≤ b + c → d ≡ c → a ≤ b + d
 as_much a b c d h e = omega (arith, h, e)
 
-gives_one : (f : Family) (node : NodeState) (step : Step) → StepStays (next_serial node) step → may_give f node ≤ only f (record { source = node.here; serial = node.serial }) 1 + may_give f step.node
+gives_one : (f : Family) (node : NodeState) (step : NodeStep) → StepStays (next_serial node) step → may_give f node ≤ only f (record { source = node.here; serial = node.serial }) 1 + may_give f step.node
 unfolding only is_family may_give
 gives_one f node step s =
     let law = next_gives node.here.0 f.source.0 node.serial f.serial in
@@ -164,23 +164,23 @@ nothing_once : (w : WorldState) → GrantsOnce (nothing w)
 nothing_once w = omega (arith, line_sum-one line_grants Nothing)
 
 -- lines before a step, and the step
-abbrev StepOnce : Host → List Line → Step → Type 0
+abbrev StepOnce : Host → List Line → NodeStep → Type 0
 StepOnce h before step = line_sum line_grants before + step_grants h step ≤ 1
 
-lines_once : (h : Host) (before : List Line) (step : Step) → StepOnce h before step → line_sum line_grants (before ++ lines_at h step.acts) ≤ 1
+lines_once : (h : Host) (before : List Line) (step : NodeStep) → StepOnce h before step → line_sum line_grants (before ++ lines_at h step.acts) ≤ 1
 lines_once h before step o = omega (arith, line_sum-append line_grants before (lines_at h step.acts), line_sum-at line_grants h step.acts)
 
-step_at_once : (w : WorldState) (h : Host) (before : NodeState → List Line) (step : NodeState → Step) (at : ℕ) (o : Option NodeState) → ((node : NodeState) → StepOnce h (before node) (step node)) → GrantsOnce (step_at w h before step at o)
+step_at_once : (w : WorldState) (h : Host) (before : NodeState → List Line) (step : NodeState → NodeStep) (at : ℕ) (o : Option NodeState) → ((node : NodeState) → StepOnce h (before node) (step node)) → GrantsOnce (step_at w h before step at o)
 unfolding step_at
 step_at_once w h before step at None k = nothing_once w
 step_at_once w h before step at (Some node) k = lines_once h (before node) (step node) (k node)
 
-step_place_once : (w : WorldState) (h : Host) (before : NodeState → List Line) (step : NodeState → Step) (o : Option ℕ) → ((node : NodeState) → StepOnce h (before node) (step node)) → GrantsOnce (step_place w h before step o)
+step_place_once : (w : WorldState) (h : Host) (before : NodeState → List Line) (step : NodeState → NodeStep) (o : Option ℕ) → ((node : NodeState) → StepOnce h (before node) (step node)) → GrantsOnce (step_place w h before step o)
 unfolding step_place
 step_place_once w h before step None k = nothing_once w
 step_place_once w h before step (Some at) k = step_at_once w h before step at (slice_get w.nodes at) k
 
-steps_once : (w : WorldState) (h : Host) (before : NodeState → List Line) (step : NodeState → Step) → ((node : NodeState) → StepOnce h (before node) (step node)) → GrantsOnce (steps w h before step)
+steps_once : (w : WorldState) (h : Host) (before : NodeState → List Line) (step : NodeState → NodeStep) → ((node : NodeState) → StepOnce h (before node) (step node)) → GrantsOnce (steps w h before step)
 unfolding steps
 steps_once w h before step k = step_place_once w h before step (place_of w.nodes h) k
 
@@ -197,7 +197,7 @@ choice_once : (t : Bool) (a b : EventResult) → GrantsOnce a → GrantsOnce b �
 choice_once true a b x y = x
 choice_once false a b x y = y
 
-send_taken_once : (w : WorldState) (h : Host) (d : Dev) (at : ℕ) (to : LinkEnd) (step : Step) (o : Option PlainStamped) → step_grants h step ≡ 0 → GrantsOnce (send_taken w h d at to step o)
+send_taken_once : (w : WorldState) (h : Host) (d : Dev) (at : ℕ) (to : LinkEnd) (step : NodeStep) (o : Option PlainStamped) → step_grants h step ≡ 0 → GrantsOnce (send_taken w h d at to step o)
 unfolding send_taken
 send_taken_once w h d at to step None z = nothing_once w
 send_taken_once w h d at to step (Some x) z = omega (

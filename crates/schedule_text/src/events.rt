@@ -6,7 +6,7 @@ use crate::keyword::EventWord;
 use crate::parts::{device, known_host, known_program};
 use crate::reading::Reading;
 use chunk_types::CheckedChunk;
-use line_files::{LineReason, Stop, Words, allow, hex_bytes, injection, number, weighed};
+use line_files::{LineReason, LineStop, Words, allow, hex_bytes, injection, number, weighed};
 use network_plan::WorldEvent;
 use plan_base::{Host, Name};
 use std::alloc::Global;
@@ -19,7 +19,7 @@ fn read_injection(
     alloc: Global,
     reading: &Reading,
     words: &mut Words<'_>,
-) -> Result<(Host, CheckedChunk, u32, Option<Name>), Stop>
+) -> Result<(Host, CheckedChunk, u32, Option<Name>), LineStop>
     ensures { Gives (λ i. i) result (injected_at reading.now words.old) }
 {
     let host = known_host(reading.hosts.as_slice(), words)?;
@@ -30,7 +30,7 @@ fn read_injection(
 
 /// An injection behind its first word. Reasons: those of [`read_injection`], and `TooMany`.
 #[tactic(auto, unfolding(crate::specs::Schedules::inject_line))]
-fn inject(alloc: Global, reading: &mut Reading, words: &mut Words<'_>) -> Result<(), Stop>
+fn inject(alloc: Global, reading: &mut Reading, words: &mut Words<'_>) -> Result<(), LineStop>
     ensures { Leaves result reading.new (inject_line words.old reading.old) }
 {
     let (host, chunk, bound, handler) = read_injection(alloc, reading, words)?;
@@ -44,7 +44,7 @@ fn inject(alloc: Global, reading: &mut Reading, words: &mut Words<'_>) -> Result
 
 /// `send N D` behind its first word. Reasons: `BadWord`, `BadNumber`, `UnknownHost`.
 #[tactic(auto, unfolding(crate::specs::Schedules::send_line))]
-fn send(reading: &mut Reading, words: &mut Words<'_>) -> Result<(), Stop>
+fn send(reading: &mut Reading, words: &mut Words<'_>) -> Result<(), LineStop>
     ensures { Leaves result reading.new (send_line words.old reading.old) }
 {
     let host = known_host(reading.hosts.as_slice(), words)?;
@@ -66,7 +66,7 @@ fn frame(words: &mut Words<'_>) -> Result<u32, LineReason>
 
 /// `deliver K` behind its first word.
 #[tactic(auto, unfolding(crate::specs::Schedules::deliver_line))]
-fn deliver(reading: &mut Reading, words: &mut Words<'_>) -> Result<(), Stop>
+fn deliver(reading: &mut Reading, words: &mut Words<'_>) -> Result<(), LineStop>
     ensures { Leaves result reading.new (deliver_line words.old reading.old) }
 {
     let k = frame(words)?;
@@ -76,7 +76,7 @@ fn deliver(reading: &mut Reading, words: &mut Words<'_>) -> Result<(), Stop>
 
 /// `repeat K` behind its first word.
 #[tactic(auto, unfolding(crate::specs::Schedules::repeat_line))]
-fn repeat(reading: &mut Reading, words: &mut Words<'_>) -> Result<(), Stop>
+fn repeat(reading: &mut Reading, words: &mut Words<'_>) -> Result<(), LineStop>
     ensures { Leaves result reading.new (repeat_line words.old reading.old) }
 {
     let k = frame(words)?;
@@ -86,7 +86,7 @@ fn repeat(reading: &mut Reading, words: &mut Words<'_>) -> Result<(), Stop>
 
 /// `lose K` behind its first word.
 #[tactic(auto, unfolding(crate::specs::Schedules::lose_line))]
-fn lose(reading: &mut Reading, words: &mut Words<'_>) -> Result<(), Stop>
+fn lose(reading: &mut Reading, words: &mut Words<'_>) -> Result<(), LineStop>
     ensures { Leaves result reading.new (lose_line words.old reading.old) }
 {
     let k = frame(words)?;
@@ -96,7 +96,7 @@ fn lose(reading: &mut Reading, words: &mut Words<'_>) -> Result<(), Stop>
 
 /// `tick N` behind its first word. Reasons: `BadWord`, `BadNumber`, `UnknownHost`.
 #[tactic(auto, unfolding(crate::specs::Schedules::tick_line))]
-fn tick(reading: &mut Reading, words: &mut Words<'_>) -> Result<(), Stop>
+fn tick(reading: &mut Reading, words: &mut Words<'_>) -> Result<(), LineStop>
     ensures { Leaves result reading.new (tick_line words.old reading.old) }
 {
     let host = known_host(reading.hosts.as_slice(), words)?;
@@ -108,7 +108,7 @@ fn tick(reading: &mut Reading, words: &mut Words<'_>) -> Result<(), Stop>
 /// `raw N D HEX` behind its first word, of 1 to 16,513 bytes. Reasons: `BadWord`, `BadNumber`, `UnknownHost`,
 /// `BadArgument`.
 #[tactic(auto, unfolding(crate::specs::Schedules::raw_line))]
-fn raw(alloc: Global, reading: &mut Reading, words: &mut Words<'_>) -> Result<(), Stop>
+fn raw(alloc: Global, reading: &mut Reading, words: &mut Words<'_>) -> Result<(), LineStop>
     ensures { Leaves result reading.new (raw_line words.old reading.old) }
 {
     let host = known_host(reading.hosts.as_slice(), words)?;
@@ -126,7 +126,7 @@ fn read_rest(
     kind: EventWord,
     reading: &mut Reading,
     words: &mut Words<'_>,
-) -> Result<(), Stop>
+) -> Result<(), LineStop>
     ensures { Leaves result reading.new (event_rest kind words.old reading.old) }
 {
     match kind {
@@ -142,7 +142,11 @@ fn read_rest(
 
 /// An event.
 #[tactic(auto, unfolding(crate::specs::Schedules::event_line))]
-pub fn read_event(alloc: Global, reading: &mut Reading, words: &mut Words<'_>) -> Result<(), Stop>
+pub fn read_event(
+    alloc: Global,
+    reading: &mut Reading,
+    words: &mut Words<'_>,
+) -> Result<(), LineStop>
     ensures { Leaves result reading.new (event_line words.old reading.old) }
 {
     let word = words.next()?;

@@ -6,7 +6,9 @@ ghost use Rattle.schedule_text.specs.Leaving.{LeavesStage};
 use crate::keyword::NetworkWord;
 use crate::parts::{free_device, is_known_program, known_host};
 use crate::reading::{BegunProgram, NamedProgram, Reading, Stage};
-use line_files::{LineReason, OpenProgram, Stop, Words, allow, name_of, number, packages, program};
+use line_files::{
+    LineReason, LineStop, OpenProgram, Words, allow, name_of, number, packages, program,
+};
 use network_plan::{HostSpec, has_host};
 use plan_base::Host;
 use std::alloc::Global;
@@ -20,7 +22,7 @@ fn is_first(reading: &Reading) -> bool
 
 /// `frames` behind the first word. Reason: `BadWord`.
 #[tactic(auto, unfolding(crate::specs::Schedules::frames_line))]
-fn read_frames(reading: &mut Reading, words: &mut Words<'_>) -> Result<(), Stop>
+fn read_frames(reading: &mut Reading, words: &mut Words<'_>) -> Result<(), LineStop>
     ensures { Leaves result reading.new (frames_line words.old reading.old) }
 {
     allow(is_first(reading), LineReason::BadWord)?;
@@ -32,7 +34,7 @@ fn read_frames(reading: &mut Reading, words: &mut Words<'_>) -> Result<(), Stop>
 /// `host N` and the packages that it lacks, behind the first word. Reasons: `TooMany`, `BadWord`,
 /// `BadNumber`, `TwiceNamed`.
 #[tactic(auto, unfolding(crate::specs::Schedules::host_line))]
-fn read_host(alloc: Global, reading: &mut Reading, words: &mut Words<'_>) -> Result<(), Stop>
+fn read_host(alloc: Global, reading: &mut Reading, words: &mut Words<'_>) -> Result<(), LineStop>
     ensures { Leaves result reading.new (host_line words.old reading.old) }
 {
     allow(reading.hosts.len() < 32, LineReason::TooMany)?;
@@ -50,7 +52,7 @@ fn read_host(alloc: Global, reading: &mut Reading, words: &mut Words<'_>) -> Res
 /// `link N D M E` behind the first word. Reasons: `BadWord`, `BadNumber`, `UnknownHost`, `TwiceNamed`,
 /// `BadArgument`.
 #[tactic(auto, unfolding(crate::specs::Schedules::link_line))]
-fn read_link(reading: &mut Reading, words: &mut Words<'_>) -> Result<(), Stop>
+fn read_link(reading: &mut Reading, words: &mut Words<'_>) -> Result<(), LineStop>
     ensures { Leaves result reading.new (link_line words.old reading.old) }
 {
     let n = known_host(reading.hosts.as_slice(), words)?;
@@ -70,7 +72,7 @@ fn begin_program(
     line: u32,
     reading: &Reading,
     words: &mut Words<'_>,
-) -> Result<BegunProgram, Stop>
+) -> Result<BegunProgram, LineStop>
     ensures { Gives (λ b. b) result (program_line line words.old reading.now) }
 {
     allow(reading.programs.len() < 64, LineReason::TooMany)?;
@@ -87,7 +89,11 @@ fn begin_program(
 
 /// The end of a program's text. Reasons: `TooMany`, `ProgramRefused`.
 #[tactic(auto, unfolding(crate::specs::Schedules::close_program))]
-pub fn end_program(alloc: Global, reading: &mut Reading, begun: BegunProgram) -> Result<(), Stop>
+pub fn end_program(
+    alloc: Global,
+    reading: &mut Reading,
+    begun: BegunProgram,
+) -> Result<(), LineStop>
     ensures { Leaves result reading.new (close_program begun reading.old) }
 {
     let BegunProgram { name, source } = begun;
@@ -104,7 +110,7 @@ fn read_rest(
     line: u32,
     reading: &mut Reading,
     words: &mut Words<'_>,
-) -> Result<Stage, Stop>
+) -> Result<Stage, LineStop>
     ensures { LeavesStage result reading.new (network_rest kind line words.old reading.old) }
 {
     match kind {
@@ -138,7 +144,7 @@ pub fn read_network(
     line: u32,
     reading: &mut Reading,
     words: &mut Words<'_>,
-) -> Result<Stage, Stop>
+) -> Result<Stage, LineStop>
     ensures { LeavesStage result reading.new (network_line line words.old reading.old) }
 {
     let word = words.next()?;

@@ -19,7 +19,7 @@ use Rattle.service_meaning.specs.Offered.{InstalledPackages, offered, type_of}
 use Rattle.service_meaning.specs.Serving.{serve, serve_at, serve_offered}
 use Rattle.service_meaning.proofs.Goods.{serve_good}
 use Rattle.service_registry.proofs.ArgumentReads.{with_next}
-use Rattle.service_registry.specs.Held.{rows_of, rows_begun, IsKept}
+use Rattle.service_registry.specs.RegistryState.{rows_of, rows_begun, IsKept}
 use Rattle.service_registry.specs.Meets.{Meets}
 
 -- ---- a call

@@ -3,10 +3,10 @@ use Rattle.service_api.specs.Services.{IsGoodServe, RefusesOthers}
 use Rattle.service_meaning.specs.Serving.{serve, offer}
 use Rattle.service_meaning.proofs.Goods.{serve_good}
 use Rattle.service_meaning.proofs.Refusals.{refuses}
-use Rattle.service_registry.specs.Held.{Held}
+use Rattle.service_registry.specs.RegistryState.{RegistryState}
 
-pub registry_good : (h : Held) → IsGoodServe (serve h.there)
+pub registry_good : (h : RegistryState) → IsGoodServe (serve h.there)
 registry_good h = serve_good h.there
 
-pub registry_refuses : (h : Held) → RefusesOthers (offer h.there)
+pub registry_refuses : (h : RegistryState) → RefusesOthers (offer h.there)
 registry_refuses h = refuses h.there

@@ -1,4 +1,4 @@
-pub mod Held
+pub mod RegistryState
 pub mod Packages
 pub mod Laws
 pub mod Meets

@@ -1,6 +1,6 @@
 ghost use Rattle.std.specs.Prelude.{◌≡◌, None};
 ghost use Rattle.service_meaning.specs.Beginning.{one_less, present_without, opening_standing};
-ghost use Rattle.service_registry.specs.Held.{standing};
+ghost use Rattle.service_registry.specs.RegistryState.{standing};
 ghost use Rattle.service_registry.specs.Laws.{registry_good, registry_refuses};
 
 use crate::installed_packages::InstalledPackages;
@@ -28,9 +28,9 @@ pub struct Registry {
 
 impl Model for Registry {
     ghost use Rattle.service_api.specs.Services.{AreGoodRows};
-    ghost use Rattle.service_registry.specs.Held.{Held, held_code, held, rows_of, IsKept};
+    ghost use Rattle.service_registry.specs.RegistryState.{RegistryState, held_code, held, rows_of, IsKept};
 
-    ghost Value = { Held };
+    ghost Value = { RegistryState };
 
     ghost coded = { held_code };
 

@@ -4,7 +4,7 @@ ghost use Rattle.resident_tables.specs.Layers.{IsOver};
 ghost use Rattle.resident_tables.specs.Tables.{Table};
 ghost use Rattle.service_api.specs.declared.ctx.Ctx.{Ctx as ACtx};
 ghost use Rattle.service_meaning.specs.Answers as spec;
-ghost use Rattle.service_registry.specs.Held.{rows_over};
+ghost use Rattle.service_registry.specs.RegistryState.{rows_over};
 ghost use Rattle.service_registry.specs.Meets.{Meets};
 ghost use Rattle.table_rows.specs.declared.row.Row.{Row as ARow};
 ghost use Rattle.table_rows.specs.Rows.{fresh_key};

@@ -4,7 +4,7 @@ ghost use Rattle.service_api.specs.Schemes.{instance};
 ghost use Rattle.service_meaning.specs.Answers as spec;
 ghost use Rattle.service_meaning.specs.Offered as offered;
 ghost use Rattle.service_meaning.specs.Serving.{serve, serve_at};
-ghost use Rattle.service_registry.specs.Held.{rows_over};
+ghost use Rattle.service_registry.specs.RegistryState.{rows_over};
 ghost use Rattle.service_registry.specs.Meets.{Meets};
 ghost use Rattle.service_registry.specs.Packages.{present_of};
 

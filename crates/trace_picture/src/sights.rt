@@ -1,7 +1,7 @@
 use crate::drawing::{Spot, Stroke};
 use crate::lanes::add_hosts;
 use crate::marks::DrawFault;
-use crate::walk::{Journey, Place, Walk, far_end};
+use crate::walk::{Journey, LinePlace, TraceWalk, far_end};
 use std::alloc::Global;
 use trace_lines::Entry;
 
@@ -18,7 +18,7 @@ pub(crate) struct Sight {
 /// Where all lines stand, and the ways of all frames.
 #[derive(Drop)]
 pub(crate) struct Sights {
-    walk: Walk,
+    walk: TraceWalk,
     /// Whether the trace is that of one node's log.
     pub is_log: bool,
 }
@@ -26,7 +26,7 @@ pub(crate) struct Sights {
 impl Sights {
     /// Goes through all lines.
     pub fn over(alloc: Global, entries: &[Entry], is_log: bool) -> Result<Sights, DrawFault> {
-        let mut walk = Walk::new(alloc);
+        let mut walk = TraceWalk::new(alloc);
         add_hosts(&mut walk.hosts, entries)?;
         walk.go(entries)?;
         Ok(Sights { walk, is_log })
@@ -72,7 +72,7 @@ impl Sights {
     }
 
     /// A line that is about no frame on the wire. An arrival is then from outside.
-    fn alone(&self, place: Place) -> Sight {
+    fn alone(&self, place: LinePlace) -> Sight {
         Sight {
             begins: place.begins,
             at: place.at,
@@ -87,7 +87,7 @@ impl Sights {
     }
 
     /// A line that is about this frame on the wire.
-    fn along(&self, place: Place, journey: Journey) -> Sight {
+    fn along(&self, place: LinePlace, journey: Journey) -> Sight {
         Sight {
             begins: place.begins,
             at: place.at,
@@ -98,10 +98,10 @@ impl Sights {
     }
 
     /// Where the line at place `i` stands.
-    fn place(&self, i: usize) -> Place {
+    fn place(&self, i: usize) -> LinePlace {
         match self.walk.places.get(i) {
             Some(place) => *place,
-            None => Place {
+            None => LinePlace {
                 at: Spot { across: 0, row: 0 },
                 begins: false,
                 frame: None,

@@ -18,7 +18,7 @@ pub(crate) struct Journey {
 
 /// Where the frames of a device come out.
 #[derive(Clone, Copy, Drop)]
-pub(crate) struct Link {
+pub(crate) struct TraceLink {
     pub across: u32,
     pub device: u32,
     pub far: u32,
@@ -26,7 +26,7 @@ pub(crate) struct Link {
 
 /// Where a line stands, and which frame it is about, by the order on the wire.
 #[derive(Clone, Copy, Drop)]
-pub(crate) struct Place {
+pub(crate) struct LinePlace {
     pub at: Spot,
     pub begins: bool,
     pub frame: Option<usize>,
@@ -38,14 +38,14 @@ const MOST_LINKS: usize = 1_024;
 
 /// The lines gone through so far.
 #[derive(Drop)]
-pub(crate) struct Walk {
+pub(crate) struct TraceWalk {
     /// The hosts that have columns, in rising order.
     pub hosts: Vec<u32>,
     /// Where each line stands.
-    pub places: Vec<Place>,
+    pub places: Vec<LinePlace>,
     /// The frames by the order on the wire: frame K is at K - 1.
     pub journeys: Vec<Journey>,
-    pub links: Vec<Link>,
+    pub links: Vec<TraceLink>,
     pub row: u32,
     event: u64,
     is_row_used: bool,
@@ -64,10 +64,10 @@ fn takes_row(line: &Line) -> bool {
     }
 }
 
-impl Walk {
+impl TraceWalk {
     /// No line yet.
-    pub fn new(alloc: Global) -> Walk {
-        Walk {
+    pub fn new(alloc: Global) -> TraceWalk {
+        TraceWalk {
             hosts: Vec::new(alloc),
             places: Vec::new(alloc),
             journeys: Vec::new(alloc),
@@ -106,7 +106,7 @@ impl Walk {
 
     fn add_link(&mut self, across: u32, device: u32, far: u32) -> Result<(), AllocError> {
         if self.links.len() < MOST_LINKS && far_end(&self.links, across, device).is_none() {
-            self.links.push(Link {
+            self.links.push(TraceLink {
                 across,
                 device,
                 far,
@@ -116,7 +116,7 @@ impl Walk {
     }
 
     /// Puts the frame that was sent last onto the wire.
-    fn set_off(&mut self) -> Result<Place, AllocError> {
+    fn set_off(&mut self) -> Result<LinePlace, AllocError> {
         let at = Spot {
             across: self.sender,
             row: self.row,
@@ -135,8 +135,8 @@ impl Walk {
         Ok(self.place(at.across, Some(frame)))
     }
 
-    fn place(&self, across: u32, frame: Option<usize>) -> Place {
-        Place {
+    fn place(&self, across: u32, frame: Option<usize>) -> LinePlace {
+        LinePlace {
             at: Spot {
                 across,
                 row: self.row,
@@ -147,7 +147,7 @@ impl Walk {
     }
 
     /// The frame came out here. Its arrow ends where it came out first.
-    fn come_out(&mut self, across: u32, device: u32) -> Result<Place, AllocError> {
+    fn come_out(&mut self, across: u32, device: u32) -> Result<LinePlace, AllocError> {
         let place = self.place(across, self.taken);
         let Some(frame) = self.taken else {
             return Ok(place);
@@ -168,7 +168,7 @@ impl Walk {
 
     /// The frame that left the wire was lost. The label stands in the next row. Where the frame came out before, its
     /// arrow stays, and the cross stands where it would have come out again.
-    fn vanish(&mut self) -> Place {
+    fn vanish(&mut self) -> LinePlace {
         let place = self.place(0, self.taken);
         self.next_row();
         self.is_row_used = true;
@@ -183,7 +183,7 @@ impl Walk {
                 across: journey.to.across,
                 row: place.at.row,
             };
-            return Place {
+            return LinePlace {
                 at,
                 frame: None,
                 ..place
@@ -195,7 +195,7 @@ impl Walk {
     }
 
     /// A frame leaves its queue.
-    fn leave(&mut self, across: u32, device: u32, what: What) -> Place {
+    fn leave(&mut self, across: u32, device: u32, what: What) -> LinePlace {
         self.sender = across;
         self.device = device;
         self.what = match what {
@@ -206,7 +206,7 @@ impl Walk {
     }
 
     /// Takes frame `number` off the wire.
-    fn take_off(&mut self, number: u32) -> Place {
+    fn take_off(&mut self, number: u32) -> LinePlace {
         self.taken = match usize::try_from(number) {
             Ok(n) => n.checked_sub(1),
             Err(_) => None,
@@ -215,7 +215,7 @@ impl Walk {
     }
 
     /// Frame `number` comes out, and stays on the wire. The label stands where it was sent.
-    fn stay_on(&mut self, number: u32) -> Place {
+    fn stay_on(&mut self, number: u32) -> LinePlace {
         let place = self.take_off(number);
         let Some(frame) = self.taken else {
             return place;
@@ -230,7 +230,7 @@ impl Walk {
         column(&self.hosts, host.0)
     }
 
-    fn place_of(&mut self, line: &Line) -> Result<Place, AllocError> {
+    fn place_of(&mut self, line: &Line) -> Result<LinePlace, AllocError> {
         match line {
             Line::Sent(h, Dev(d), what) => Ok(self.leave(self.across(*h), *d, *what)),
             Line::Wire(_) | Line::WireShown(..) => self.set_off(),
@@ -249,7 +249,7 @@ impl Walk {
     fn step(&mut self, entry: &Entry) -> Result<(), AllocError> {
         let begins = self.go_down(entry);
         let place = self.place_of(&entry.line)?;
-        self.places.push(Place { begins, ..place })?;
+        self.places.push(LinePlace { begins, ..place })?;
         Ok(())
     }
 
@@ -268,7 +268,7 @@ fn is_open(journey: Journey) -> bool {
 }
 
 /// Where the frames of a device come out, where that is known.
-pub(crate) fn far_end(links: &[Link], across: u32, device: u32) -> Option<u32> {
+pub(crate) fn far_end(links: &[TraceLink], across: u32, device: u32) -> Option<u32> {
     let i = links
         .iter()
         .position(|l| l.across == across && l.device == device)?;

@@ -24,23 +24,23 @@ use Rattle.plan_parser.specs.ReadTexts.{Fails, no_tokens, no_value}
 use Rattle.plan_parser.specs.declared.value_fault.ValueFault.{ValueFault}
 use Rattle.plan_parser.specs.declared.value_fault.ValueFault.TheVariants as faults
 use Rattle.token_faults.proofs.Own.{refused_own}
-use Rattle.value_grammar.specs.Agenda.{Item, sym as a_symbol, a_type, lists, first_type, behind_first, next_type, behind_next, a_value, made, behind_paren, first_part, behind_part, next_part, behind_parts, behind_bracket, element, behind_element, first_item, next_item, behind_item, behind_items, args, more_args, the_end, enter, type_step, literal_type, literal_step, step}
+use Rattle.value_grammar.specs.Agenda.{ValueItem, sym as a_symbol, a_type, lists, first_type, behind_first, next_type, behind_next, a_value, made, behind_paren, first_part, behind_part, next_part, behind_parts, behind_bracket, element, behind_element, first_item, next_item, behind_item, behind_items, args, more_args, the_end, enter, type_step, literal_type, literal_step, step}
 use Rattle.value_grammar.specs.Refusals.{HoldsNoMemory}
 use Rattle.value_grammar.proofs.Whole.{value_refused, args_refused}
 
-enter_own : (r at : ℕ) (items : ℕ → List Item) (f : Front) → Own (enter r at items f)
+enter_own : (r at : ℕ) (items : ℕ → List ValueItem) (f : Front) → Own (enter r at items f)
 enter_own zero at items f = too_deep _ at
 enter_own (suc r) at items f = goes_on _ _
 
-type_own : (more : List Item) (f : Front) (t : Option Ty) → Own (type_step more f t)
+type_own : (more : List ValueItem) (f : Front) (t : Option Ty) → Own (type_step more f t)
 type_own more f (Some t) = goes_on _ _
 type_own more f None = expects _ wanted.AType f
 
-literal_own : (more : List Item) (f : Front) (t : Option Ty) → Own (literal_step more f t)
+literal_own : (more : List ValueItem) (f : Front) (t : Option Ty) → Own (literal_step more f t)
 literal_own more f (Some t) = goes_on _ _
 literal_own more f None = expects _ wanted.AValue f
 
-step_own : (o : ℕ) (i : Item) (more : List Item) (f : Front) → Own (step o i more f)
+step_own : (o : ℕ) (i : ValueItem) (more : List ValueItem) (f : Front) → Own (step o i more f)
 unfolding step
 step_own o (a_symbol w) more f = either (is_symbol w f) _ _ (goes_on _ _) (expects _ (wanted.Symbol w) f)
 step_own o (a_type r) more f = either (is_symbol symbols.ParenOpen f) _ _ (enter_own r (place f) _ (behind f)) (type_own more f (kind_type (next_kind f)))

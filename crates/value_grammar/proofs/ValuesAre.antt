@@ -19,7 +19,7 @@ use Rattle.grammar_laws.proofs.TypesAre.{symbol_ends_type, more_ends, more_adds,
 use Rattle.grammar_laws.proofs.ExprsAre.{comma_shut, comma_shut_list}
 use Rattle.grammar_laws.proofs.Follows.{symbol_here}
 use Rattle.grammar_laws.proofs.TokenFacts.{room_open}
-use Rattle.plan_parser.specs.declared.item.Item.{Item}
+use Rattle.plan_parser.specs.declared.item.TypedValue.{TypedValue}
 use Rattle.plan_parser.specs.Values.{typed, literal, begins_value, tuple_of, list_of, judged, fits, tuple_from, tuple, grouped, parens, like, listing, typed_nil, brackets, value_at, value_to, ended, argument_at, arguments_from, arguments_behind, value_of, args_of}
 use Rattle.value_grammar.specs.Grammar.{IsLiteral, ValueAt, MoreAt, LikeAt, IsValue, ArgsAt, AreArgs}
 use Rattle.value_grammar.specs.Grammar as gram
@@ -34,14 +34,14 @@ record Starts (f : Front) : Type 0 where
   no_colon : is_symbol symbols.Colon f ≡ false
 
 -- a literal is no bracket
-record IsPlain (k : Option TokenKind) (i : Item) : Type 0 where
+record IsPlain (k : Option TokenKind) (i : TypedValue) : Type 0 where
   is : literal k ≡ Some i
   no_open : is_symbol_kind symbols.ParenOpen k ≡ false
   no_bracket : is_symbol_kind symbols.BracketOpen k ≡ false
   no_close : is_symbol_kind symbols.ParenClose k ≡ false
   no_colon : is_symbol_kind symbols.Colon k ≡ false
 
-plain : {k : Option TokenKind} {i : Item} → IsLiteral k i → IsPlain k i
+plain : {k : Option TokenKind} {i : TypedValue} → IsLiteral k i → IsPlain k i
 plain gram.truth = record { is = refl; no_open = refl; no_bracket = refl; no_close = refl; no_colon = refl }
 plain gram.falsehood = record { is = refl; no_open = refl; no_bracket = refl; no_close = refl; no_colon = refl }
 plain (gram.int z) = record { is = refl; no_open = refl; no_bracket = refl; no_close = refl; no_colon = refl }
@@ -51,7 +51,7 @@ plain (gram.char c) = record { is = refl; no_open = refl; no_bracket = refl; no_
 plain (gram.str s) = record { is = refl; no_open = refl; no_bracket = refl; no_close = refl; no_colon = refl }
 plain (gram.blob b) = record { is = refl; no_open = refl; no_bracket = refl; no_close = refl; no_colon = refl }
 
-literal_starts : (f : Front) (i : Item) → IsPlain (next_kind f) i → Starts f
+literal_starts : (f : Front) (i : TypedValue) → IsPlain (next_kind f) i → Starts f
 unfolding begins_value is_symbol
 literal_starts f i p = record { begins = rw p.is refl; no_close = p.no_close; no_colon = p.no_colon }
 
@@ -63,7 +63,7 @@ bracket_starts : (f : Front) → Sym symbols.BracketOpen f → Starts f
 unfolding begins_value is_symbol
 bracket_starts f e = record { begins = rw e refl; no_close = rw e refl; no_colon = rw e refl }
 
-starts : {o r : ℕ} {f g : Front} {i : Item} → ValueAt o r f i g → Starts f
+starts : {o r : ℕ} {f g : Front} {i : TypedValue} → ValueAt o r f i g → Starts f
 starts {f = f} (gram.one_token {i = i} l) = literal_starts f i (plain l)
 starts {f = f} (gram.nothing a b) = paren_starts f a
 starts {f = f} (gram.tuple a d m n b) = paren_starts f a
@@ -72,15 +72,15 @@ starts {f = f} (gram.items a d m n b) = bracket_starts f a
 
 -- ---- each production, by what is read inside it
 
-literal_by : (o room : ℕ) (inner : Reader Item) (f : Front) (i : Item) → IsPlain (next_kind f) i → value_at inner o room f ≡ Ok (i, behind f)
+literal_by : (o room : ℕ) (inner : Reader TypedValue) (f : Front) (i : TypedValue) → IsPlain (next_kind f) i → value_at inner o room f ≡ Ok (i, behind f)
 unfolding value_at is_symbol
 literal_by o room inner f i p = rw (p.no_open, p.no_bracket, p.is) refl
 
-unit_by : (o room : ℕ) (inner : Reader Item) (f : Front) → is_symbol symbols.ParenOpen f ≡ true → is_symbol symbols.ParenClose (behind f) ≡ true → value_at inner o room f ≡ Ok (typed v.Unit ty.Unit, behind2 f)
+unit_by : (o room : ℕ) (inner : Reader TypedValue) (f : Front) → is_symbol symbols.ParenOpen f ≡ true → is_symbol symbols.ParenClose (behind f) ≡ true → value_at inner o room f ≡ Ok (typed v.Unit ty.Unit, behind2 f)
 unfolding value_at parens
 unit_by o room inner f a b = rw (a, b) refl
 
-tuple_by : (o q : ℕ) (inner : Reader Item) (f g h : Front) (i : Item) (is : List Item) → is_symbol symbols.ParenOpen f ≡ true → is_symbol symbols.ParenClose (behind f) ≡ false → begins_value (behind f) ≡ true
+tuple_by : (o q : ℕ) (inner : Reader TypedValue) (f g h : Front) (i : TypedValue) (is : List TypedValue) → is_symbol symbols.ParenOpen f ≡ true → is_symbol symbols.ParenClose (behind f) ≡ false → begins_value (behind f) ≡ true
     → inner (behind f) ≡ Ok (i, g) → is_symbol symbols.Comma g ≡ true → more inner begins_value symbols.Comma limits.Parts wanted.AValue 7 (i ∷ []) g ≡ Ok (is, h) → is_symbol symbols.ParenClose h ≡ true
     → value_at inner o (suc q) f ≡ Ok (tuple_of is, behind h)
 unfolding value_at parens grouped tuple tuple_from need_symbol
@@ -94,30 +94,30 @@ fits_ok : (room at : ℕ) (t : Ty) → type_depth t ≤ room → fits room at t 
 unfolding fits
 fits_ok room at t h = rw (le-ltb room (type_depth t) h) refl
 
-nil_by : (o q : ℕ) (inner : Reader Item) (f g : Front) (t : Ty) → is_symbol symbols.ParenOpen f ≡ false → is_symbol symbols.BracketOpen f ≡ true → is_symbol symbols.Colon (behind f) ≡ true
+nil_by : (o q : ℕ) (inner : Reader TypedValue) (f g : Front) (t : Ty) → is_symbol symbols.ParenOpen f ≡ false → is_symbol symbols.BracketOpen f ≡ true → is_symbol symbols.Colon (behind f) ≡ true
     → type_to (153 + suc q - o) (behind2 f) ≡ Ok (t, g) → fits (suc q) (place f) t ≡ Ok tt → is_symbol symbols.BracketClose g ≡ true → value_at inner o (suc q) f ≡ Ok (list_of t [], behind g)
 unfolding value_at brackets opens typed_nil need_symbol
 nil_by o q inner f g t n a b d e s = rw (n, a, room_open q, b, d, e, s) refl
 
-list_by : (o q : ℕ) (inner : Reader Item) (f g h : Front) (i : Item) (vs : List Value) → is_symbol symbols.ParenOpen f ≡ false → is_symbol symbols.BracketOpen f ≡ true → is_symbol symbols.Colon (behind f) ≡ false
+list_by : (o q : ℕ) (inner : Reader TypedValue) (f g h : Front) (i : TypedValue) (vs : List Value) → is_symbol symbols.ParenOpen f ≡ false → is_symbol symbols.BracketOpen f ≡ true → is_symbol symbols.Colon (behind f) ≡ false
     → begins_value (behind f) ≡ true → inner (behind f) ≡ Ok (i, g) → more (like inner o (suc q) i.ty) begins_value symbols.Comma limits.Items wanted.AValue 62 (i.value ∷ []) g ≡ Ok (vs, h)
     → is_symbol symbols.BracketClose h ≡ true → value_at inner o (suc q) f ≡ Ok (list_of i.ty vs, behind h)
 unfolding value_at brackets opens listing need_symbol
 list_by o q inner f g h i vs n a b c d m s = rw (n, a, room_open q, b, c, d, m, s) refl
 
-like_by : (o room : ℕ) (inner : Reader Item) (t : Ty) (f g : Front) (i : Item) → inner f ≡ Ok (i, g) → i.ty ≡ t → like inner o room t f ≡ Ok (i.value, g)
+like_by : (o room : ℕ) (inner : Reader TypedValue) (t : Ty) (f g : Front) (i : TypedValue) → inner f ≡ Ok (i, g) → i.ty ≡ t → like inner o room t f ≡ Ok (i.value, g)
 unfolding like judged
 like_by o room inner t f g i d e = rw (d, same_type_of i.ty t e) refl
 
 -- a value is read with one more bracket to open
-step : (o r : ℕ) (f : Front) (x : Item × Front) → value_at (value_to o r) o r f ≡ Ok x → value_to o (suc r) f ≡ Ok x
+step : (o r : ℕ) (f : Front) (x : TypedValue × Front) → value_at (value_to o r) o r f ≡ Ok x → value_to o (suc r) f ≡ Ok x
 unfolding value_to
 step o r f x h = h
 
 -- ---- values
 
 mutual
-  pub value_is : {o r : ℕ} {f g : Front} {i : Item} → ValueAt o r f i g → o ≤ 1 → value_to o (suc r) f ≡ Ok (i, g)
+  pub value_is : {o r : ℕ} {f g : Front} {i : TypedValue} → ValueAt o r f i g → o ≤ 1 → value_to o (suc r) f ≡ Ok (i, g)
   value_is {o} {r} {f} (gram.one_token {i = i} l) small = step o r f (i, behind f) (literal_by o r (value_to o r) f i (plain l))
   value_is {o} {r} {f} (gram.nothing a b) small = step o r f (typed v.Unit ty.Unit, behind2 f) (unit_by o r (value_to o r) f (symbol_here f a) (symbol_here (behind f) b))
   value_is {o} {f = f} (gram.tuple {r = q} {g = g} {h = h} {i = i} {j = j} {is = is} a d (gram.one_more comma e rest) few b) small =
@@ -136,7 +136,7 @@ mutual
       step o (suc q) f (list_of i.ty (i.value ∷ vs), behind h)
       (list_by o q (value_to o (suc q)) f g h i (i.value ∷ vs) (bracket_no_paren f a) (symbol_here f a) s.no_colon s.begins (value_is d small) (like_is m small (suc q) 62 (i.value ∷ []) few (comma_shut_list h b)) (symbol_here h b))
 
-  more_is : {o r : ℕ} {f g : Front} {is : List Item} → MoreAt o r f is g → o ≤ 1 → (limit : _) (left : ℕ) (done : List Item) → length is ≤ left → is_symbol symbols.Comma g ≡ false
+  more_is : {o r : ℕ} {f g : Front} {is : List TypedValue} → MoreAt o r f is g → o ≤ 1 → (limit : _) (left : ℕ) (done : List TypedValue) → length is ≤ left → is_symbol symbols.Comma g ≡ false
       → more (value_to o (suc r)) begins_value symbols.Comma limit wanted.AValue left done f ≡ Ok (done ++ is, g)
   more_is {o} {r} {f} gram.no_more small limit left done few shut = more_ends (value_to o (suc r)) begins_value symbols.Comma limit wanted.AValue left done f shut
   more_is {o} {r} {f} {g} (gram.one_more {i = i} {is = is} comma d rest) small limit left done few shut =
@@ -161,11 +161,11 @@ value_read tokens end _ (gram.a_value {g = g} {i = i} d e) = rw (value_is d (ome
 
 -- ---- arguments
 
-argument_is : {f g : Front} {i : Item} → ValueAt 1 7 f i g → argument_at f ≡ Ok (i.value, g)
+argument_is : {f g : Front} {i : TypedValue} → ValueAt 1 7 f i g → argument_at f ≡ Ok (i.value, g)
 unfolding argument_at
 argument_is d = rw (value_is d (omega arith)) refl
 
-more_arguments_are : {f g : Front} {is : List Item} → MoreAt 1 7 f is g → (left : ℕ) (done : List Value) → length is ≤ left → is_symbol symbols.Comma g ≡ false
+more_arguments_are : {f g : Front} {is : List TypedValue} → MoreAt 1 7 f is g → (left : ℕ) (done : List Value) → length is ≤ left → is_symbol symbols.Comma g ≡ false
     → more argument_at begins_value symbols.Comma limits.Arguments wanted.AValue left done f ≡ Ok (done ++ map (λ k. k.value) is, g)
 more_arguments_are {f} gram.no_more left done few shut = more_ends argument_at begins_value symbols.Comma limits.Arguments wanted.AValue left done f shut
 more_arguments_are {f} {g} (gram.one_more {i = i} {is = is} comma d rest) left done few shut =

@@ -25,17 +25,17 @@ use Rattle.grammar_laws.proofs.ReadSteps.{Reads, found, refused, after, either, 
 use Rattle.grammar_laws.proofs.ReadLists.{Added, more_reads}
 use Rattle.grammar_laws.proofs.TypesRead.{types_read}
 use Rattle.grammar_laws.proofs.TokenFacts.{comma_is_no_bracket, room_open}
-use Rattle.plan_parser.specs.declared.item.Item.{Item}
+use Rattle.plan_parser.specs.declared.item.TypedValue.{TypedValue}
 use Rattle.plan_parser.specs.Values.{typed, literal, literal_from, begins_value, tuple_of, list_of, judged, fits, tuple_from, tuple, grouped, parens, like, listing, typed_nil, brackets, value_at, value_to, ended, argument_at, arguments_from, arguments_behind, value_of, args_of}
 use Rattle.value_grammar.specs.Grammar.{IsLiteral, ValueAt, MoreAt, LikeAt, IsValue, ArgsAt, AreArgs}
 use Rattle.value_grammar.specs.Grammar as gram
 
 -- ---- literals
 
-some_literal : (k : Option TokenKind) (i j : Item) → IsLiteral k i → Some i ≡ Some j → IsLiteral k j
+some_literal : (k : Option TokenKind) (i j : TypedValue) → IsLiteral k i → Some i ≡ Some j → IsLiteral k j
 some_literal k i j l h = let same : i ≡ j = cc in subst (IsLiteral k) same l
 
-literal_is : (k : Option TokenKind) (i : Item) → literal k ≡ Some i → IsLiteral k i
+literal_is : (k : Option TokenKind) (i : TypedValue) → literal k ≡ Some i → IsLiteral k i
 literal_is (Some (kinds.Int z)) i h = some_literal _ _ i (gram.int z) h
 literal_is (Some (kinds.Host n)) i h = some_literal _ _ i (gram.host n) h
 literal_is (Some (kinds.Dev n)) i h = some_literal _ _ i (gram.dev n) h
@@ -53,23 +53,23 @@ literal_is None i h = cc
 literal_reads : (o r : ℕ) (f : Front) → Reads (ValueAt o r f) (literal_from f (literal (next_kind f)))
 literal_reads o r f = by_kind (literal (next_kind f)) refl
   where
-    by_kind : (x : Option Item) → literal (next_kind f) ≡ x → Reads (ValueAt o r f) (literal_from f x)
+    by_kind : (x : Option TypedValue) → literal (next_kind f) ≡ x → Reads (ValueAt o r f) (literal_from f x)
     by_kind (Some i) e = found (ValueAt o r f) i (behind f) (gram.one_token (literal_is (next_kind f) i e))
     by_kind None e = refused (ValueAt o r f) _
 
 -- ---- lists and tuples, by what stands inside them
 
 -- what one more reads
-abbrev Inside : ℕ → ℕ → Reader Item → Type 0
+abbrev Inside : ℕ → ℕ → Reader TypedValue → Type 0
 Inside o q inner = (h : Front) → Reads (ValueAt o q h) (inner h)
 
-made_tuple : {o q : ℕ} {f g h : Front} {first : Item} {rest : List Item} → Sym symbols.ParenOpen f → ValueAt o q (behind f) first g → MoreAt o q g rest h → length rest ≤ 7 → Sym symbols.Comma g → Sym symbols.ParenClose h
+made_tuple : {o q : ℕ} {f g h : Front} {first : TypedValue} {rest : List TypedValue} → Sym symbols.ParenOpen f → ValueAt o q (behind f) first g → MoreAt o q g rest h → length rest ≤ 7 → Sym symbols.Comma g → Sym symbols.ParenClose h
     → ValueAt o (suc q) f (tuple_of (first ∷ rest)) (behind h)
 made_tuple here one gram.no_more few comma shut = absurd (comma_is_no_bracket comma shut)
 made_tuple here one (gram.one_more c d rest) few comma shut = gram.tuple here one (gram.one_more c d rest) few shut
 
-module _ (o q room : ℕ) (inner : Reader Item) (ir : Inside o q inner) where
-  tuple_reads : (f : Front) → Sym symbols.ParenOpen f → (first : Item) (g : Front) → ValueAt o q (behind f) first g → Reads (ValueAt o (suc q) f) (tuple inner o room first g)
+module _ (o q room : ℕ) (inner : Reader TypedValue) (ir : Inside o q inner) where
+  tuple_reads : (f : Front) → Sym symbols.ParenOpen f → (first : TypedValue) (g : Front) → ValueAt o q (behind f) first g → Reads (ValueAt o (suc q) f) (tuple inner o room first g)
   unfolding tuple tuple_from
   tuple_reads f here first g one =
       if_symbol (ValueAt o (suc q) f) symbols.Comma g _ _
@@ -81,7 +81,7 @@ module _ (o q room : ℕ) (inner : Reader Item) (ir : Inside o q inner) where
 
   -- an item of a list, by its value
   record IsLike (t : Ty) (h : Front) (x : Value) (k : Front) : Type 0 where
-    item : Item
+    item : TypedValue
     at : ValueAt o q h item k
     value : item.value ≡ x
     type : item.ty ≡ t
@@ -112,7 +112,7 @@ fits_then Q room at t h k = go (nat_lt room (type_depth t)) refl
     go true e = tt
     go false e = k (ltb-false room (type_depth t) e)
 
-module _ (o q : ℕ) (small : o ≤ 1) (inner : Reader Item) (ir : Inside o q inner) where
+module _ (o q : ℕ) (small : o ≤ 1) (inner : Reader TypedValue) (ir : Inside o q inner) where
   type_reads : (h : Front) → Reads (TypeAt (153 + q - o) h) (type_to (153 + suc q - o) h)
   type_reads h = let same : suc (153 + q - o) ≡ 153 + suc q - o = omega (arith, small) in subst (λ n. Reads (TypeAt (153 + q - o) h) (type_to n h)) same (types_read (153 + q - o) h)
 
@@ -142,21 +142,21 @@ module _ (o q : ℕ) (small : o ≤ 1) (inner : Reader Item) (ir : Inside o q in
       (λ _. after (ValueAt o q (behind f)) (ValueAt o (suc q) f) (inner (behind f)) _ (ir (behind f)) (λ first g one. tuple_reads o q (suc q) inner ir f here first g one))
 
 -- what a round bracket begins, by what it groups
-parens_reads : (o room : ℕ) (inner : Reader Item) (f : Front) → Sym symbols.ParenOpen f → Reads (ValueAt o room f) (grouped inner o room (place f) (behind f)) → Reads (ValueAt o room f) (parens inner o room f)
+parens_reads : (o room : ℕ) (inner : Reader TypedValue) (f : Front) → Sym symbols.ParenOpen f → Reads (ValueAt o room f) (grouped inner o room (place f) (behind f)) → Reads (ValueAt o room f) (parens inner o room f)
 unfolding parens
 parens_reads o room inner f here k =
     if_symbol (ValueAt o room f) symbols.ParenClose (behind f) _ _ (λ shut. found (ValueAt o room f) (typed v.Unit ty.Unit) (behind2 f) (gram.nothing here shut))
     (either (ValueAt o room f) (begins_value (behind f)) _ _ (λ _. k) (λ _. refused (ValueAt o room f) _))
 
-none_grouped : (o : ℕ) (inner : Reader Item) (f : Front) → Reads (ValueAt o 0 f) (grouped inner o 0 (place f) (behind f))
+none_grouped : (o : ℕ) (inner : Reader TypedValue) (f : Front) → Reads (ValueAt o 0 f) (grouped inner o 0 (place f) (behind f))
 unfolding grouped
 none_grouped o inner f = refused (ValueAt o 0 f) _
 
-none_bracketed : (o : ℕ) (inner : Reader Item) (f : Front) → Reads (ValueAt o 0 f) (brackets inner o 0 f)
+none_bracketed : (o : ℕ) (inner : Reader TypedValue) (f : Front) → Reads (ValueAt o 0 f) (brackets inner o 0 f)
 unfolding brackets opens
 none_bracketed o inner f = refused (ValueAt o 0 f) _
 
-value_reads_by : (o room : ℕ) (inner : Reader Item) (f : Front) → (Sym symbols.ParenOpen f → Reads (ValueAt o room f) (parens inner o room f)) → (Sym symbols.BracketOpen f → Reads (ValueAt o room f) (brackets inner o room f))
+value_reads_by : (o room : ℕ) (inner : Reader TypedValue) (f : Front) → (Sym symbols.ParenOpen f → Reads (ValueAt o room f) (parens inner o room f)) → (Sym symbols.BracketOpen f → Reads (ValueAt o room f) (brackets inner o room f))
     → Reads (ValueAt o room f) (value_at inner o room f)
 unfolding value_at
 value_reads_by o room inner f k l = if_symbol (ValueAt o room f) symbols.ParenOpen f _ _ k (if_symbol (ValueAt o room f) symbols.BracketOpen f _ _ l (literal_reads o room f))
@@ -193,7 +193,7 @@ pub value_written : (tokens : List Token) (end : ℕ) (x : Value) → value_of t
 unfolding value_of
 value_written tokens end x h = by_answer (value_to 0 8 (record { tokens = tokens; end = end })) refl h
   where
-    by_answer : (r : Result (Item × Front) ParseFault) → value_to 0 8 (record { tokens = tokens; end = end }) ≡ r → (r >>= λ i. ended i.1 >>= λ all. Ok i.0.value) ≡ Ok x → IsValue tokens end x
+    by_answer : (r : Result (TypedValue × Front) ParseFault) → value_to 0 8 (record { tokens = tokens; end = end }) ≡ r → (r >>= λ i. ended i.1 >>= λ all. Ok i.0.value) ≡ Ok x → IsValue tokens end x
     by_answer (Err e) q k = cc
     by_answer (Ok i) q k =
         let d = what_was_read (ValueAt 0 7 (record { tokens = tokens; end = end })) (value_to 0 8 (record { tokens = tokens; end = end })) i.0 i.1 (values_read 0 (omega arith) 7 (record { tokens = tokens; end = end })) q in
@@ -204,12 +204,12 @@ value_written tokens end x h = by_answer (value_to 0 8 (record { tokens = tokens
 
 -- a value that is an argument
 record IsArgument (h : Front) (x : Value) (k : Front) : Type 0 where
-  item : Item
+  item : TypedValue
   at : ValueAt 1 7 h item k
   value : item.value ≡ x
 
 record AreMore (f : Front) (xs : List Value) (g : Front) : Type 0 where
-  items : List Item
+  items : List TypedValue
   at : MoreAt 1 7 f items g
   values : map (λ k. k.value) items ≡ xs
 
@@ -221,7 +221,7 @@ argument_reads h =
 more_next : (f g h : Front) (x : Value) (xs : List Value) → Sym symbols.Comma f → IsArgument (behind f) x g → AreMore g xs h → AreMore f (x ∷ xs) h
 more_next f g h x xs comma one rest = record { items = one.item ∷ rest.items; at = gram.one_more comma one.at rest.at; values = λ i. one.value i ∷ rest.values i }
 
-pub length_values : (is : List Item) → length (map (λ k. k.value) is) ≡ length is
+pub length_values : (is : List TypedValue) → length (map (λ k. k.value) is) ≡ length is
 length_values [] = refl
 length_values (i ∷ is) = ap suc (length_values is)
 

@@ -22,46 +22,46 @@ use Rattle.plan_parser.specs.Values.{begins_value}
 
 -- What must be read. Of lists and tuples r more may stand inside each other, or q inside the one that is open; `left` more
 -- items may follow; numbers besides are places.
-pub data Item : Type 0 where
-  sym : Symbol → Item
+pub data ValueItem : Type 0 where
+  sym : Symbol → ValueItem
   -- a type, with r more brackets inside each other; the words `list` behind one that began there; behind the first type in
   -- brackets and behind further ones, before and after the type that was just read is known
-  a_type : ℕ → Item
-  lists : ℕ → Ty → Item
-  first_type : ℕ → ℕ → Item
-  behind_first : ℕ → ℕ → Ty → Item
-  next_type : ℕ → ℕ → ℕ → List Ty → Item
-  behind_next : ℕ → ℕ → ℕ → List Ty → Item
+  a_type : ℕ → ValueItem
+  lists : ℕ → Ty → ValueItem
+  first_type : ℕ → ℕ → ValueItem
+  behind_first : ℕ → ℕ → Ty → ValueItem
+  next_type : ℕ → ℕ → ℕ → List Ty → ValueItem
+  behind_next : ℕ → ℕ → ℕ → List Ty → ValueItem
   -- a value; a value that ends here, by its type
-  a_value : ℕ → Item
-  made : Ty → Item
+  a_value : ℕ → ValueItem
+  made : Ty → ValueItem
   -- behind the `(` at that place; behind the first part and behind further ones, before and after its type is known
-  behind_paren : ℕ → ℕ → Item
-  first_part : ℕ → Item
-  behind_part : ℕ → Ty → Item
-  next_part : ℕ → ℕ → List Ty → Item
-  behind_parts : ℕ → ℕ → List Ty → Item
+  behind_paren : ℕ → ℕ → ValueItem
+  first_part : ℕ → ValueItem
+  behind_part : ℕ → Ty → ValueItem
+  next_part : ℕ → ℕ → List Ty → ValueItem
+  behind_parts : ℕ → ℕ → List Ty → ValueItem
   -- behind the `[` at that place; the element type behind `[:`, before and after it is known; the first item and further ones
   -- of the type of the first, before and after the type of the item that begins there is known
-  behind_bracket : ℕ → ℕ → Item
-  element : ℕ → ℕ → Item
-  behind_element : ℕ → ℕ → Ty → Item
-  first_item : ℕ → Item
-  next_item : ℕ → ℕ → Ty → ℕ → Item
-  behind_item : ℕ → ℕ → Ty → ℕ → Ty → Item
-  behind_items : ℕ → ℕ → Ty → Item
+  behind_bracket : ℕ → ℕ → ValueItem
+  element : ℕ → ℕ → ValueItem
+  behind_element : ℕ → ℕ → Ty → ValueItem
+  first_item : ℕ → ValueItem
+  next_item : ℕ → ℕ → Ty → ℕ → ValueItem
+  behind_item : ℕ → ℕ → Ty → ℕ → Ty → ValueItem
+  behind_items : ℕ → ℕ → Ty → ValueItem
   -- behind the bracket of arguments; further ones; nothing more
-  args : Item
-  more_args : ℕ → Item
-  the_end : Item
+  args : ValueItem
+  more_args : ℕ → ValueItem
+  the_end : ValueItem
 
 -- a list or a tuple whose bracket stands at that place opens, if one more may
-abbrev pub enter : ℕ → ℕ → (ℕ → List Item) → Front → StepOf Item
+abbrev pub enter : ℕ → ℕ → (ℕ → List ValueItem) → Front → StepOf ValueItem
 enter zero at items f = Err (TooDeep at)
 enter (suc q) at items f = Ok (items q, f)
 
 -- the type of what ends is handed to what waits for it
-abbrev pub hand : Ty → List Item → List Item
+abbrev pub hand : Ty → List ValueItem → List ValueItem
 hand t (first_type r start ∷ more) = behind_first r start t ∷ more
 hand t (next_type r start left ts ∷ more) = behind_next r start left (ts ++ t ∷ []) ∷ more
 hand t (first_part q ∷ more) = behind_part q t ∷ more
@@ -88,16 +88,16 @@ literal_type (Some (kinds.Key k)) = key_literal k
 literal_type _ = None
 
 -- one token that is a type or a value
-abbrev pub type_step : List Item → Front → Option Ty → StepOf Item
+abbrev pub type_step : List ValueItem → Front → Option Ty → StepOf ValueItem
 type_step more f (Some t) = Ok (lists (place f) t ∷ more, behind f)
 type_step more f None = expected wanted.AType f
 
-abbrev pub literal_step : List Item → Front → Option Ty → StepOf Item
+abbrev pub literal_step : List ValueItem → Front → Option Ty → StepOf ValueItem
 literal_step more f (Some t) = Ok (hand t more, behind f)
 literal_step more f None = expected wanted.AValue f
 
 -- what is read from the first item, where so many brackets are open around the whole value
-unfoldable pub step : ℕ → Item → List Item → Front → StepOf Item
+unfoldable pub step : ℕ → ValueItem → List ValueItem → Front → StepOf ValueItem
 step o (sym w) more f = if is_symbol w f then Ok (more, behind f) else expected (wanted.Symbol w) f
 step o (a_type r) more f =
     if is_symbol symbols.ParenOpen f then enter r (place f) (λ q. a_type q ∷ first_type q (place f) ∷ more) (behind f) else type_step more f (kind_type (next_kind f))

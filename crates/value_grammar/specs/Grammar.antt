@@ -14,11 +14,11 @@ use Rattle.plan_lexer.specs.declared.token.Key.TheVariants as keys
 use Rattle.plan_lexer.specs.declared.token.Symbol.TheVariants as symbols
 use Rattle.plan_grammar.specs.Ahead.{Front, behind, next_kind}
 use Rattle.grammar_laws.specs.Grammar.{Sym, TypeAt, behind2}
-use Rattle.plan_parser.specs.declared.item.Item.{Item}
+use Rattle.plan_parser.specs.declared.item.TypedValue.{TypedValue}
 use Rattle.plan_parser.specs.Values.{typed, tuple_of, list_of}
 
 -- a value that one token is
-pub data IsLiteral : Option TokenKind → Item → Type 0 where
+pub data IsLiteral : Option TokenKind → TypedValue → Type 0 where
   truth : IsLiteral (Some (kinds.Key keys.True)) (typed (v.Bool true) ty.Bool)
   falsehood : IsLiteral (Some (kinds.Key keys.False)) (typed (v.Bool false) ty.Bool)
   int : (z : ℤ) → IsLiteral (Some (kinds.Int z)) (typed (v.Int z) ty.Int)
@@ -29,40 +29,40 @@ pub data IsLiteral : Option TokenKind → Item → Type 0 where
   blob : (b : List ℕ) → IsLiteral (Some (kinds.Blob b)) (typed (v.Blob b) ty.Blob)
 
 mutual
-  pub data ValueAt : ℕ → ℕ → Front → Item → Front → Type 0 where
+  pub data ValueAt : ℕ → ℕ → Front → TypedValue → Front → Type 0 where
     -- literal | ( ) | ( value , value { , value } ), of at most 8 parts
-    one_token : {o r : ℕ} {f : Front} {i : Item} → IsLiteral (next_kind f) i → ValueAt o r f i (behind f)
+    one_token : {o r : ℕ} {f : Front} {i : TypedValue} → IsLiteral (next_kind f) i → ValueAt o r f i (behind f)
     nothing : {o r : ℕ} {f : Front} → Sym symbols.ParenOpen f → Sym symbols.ParenClose (behind f) → ValueAt o r f (typed v.Unit ty.Unit) (behind2 f)
-    tuple : {o r : ℕ} {f g h : Front} {i j : Item} {is : List Item}
+    tuple : {o r : ℕ} {f g h : Front} {i j : TypedValue} {is : List TypedValue}
         → Sym symbols.ParenOpen f → ValueAt o r (behind f) i g → MoreAt o r g (j ∷ is) h → length (j ∷ is) ≤ 7 → Sym symbols.ParenClose h
         → ValueAt o (suc r) f (tuple_of (i ∷ j ∷ is)) (behind h)
     -- [ : type ], which counts as deep as the type | [ value { , value } ], of at most 63 values of one type
     no_items : {o r : ℕ} {f g : Front} {t : Ty}
         → Sym symbols.BracketOpen f → Sym symbols.Colon (behind f) → TypeAt (153 + r - o) (behind2 f) t g → type_depth t ≤ suc r → Sym symbols.BracketClose g
         → ValueAt o (suc r) f (list_of t []) (behind g)
-    items : {o r : ℕ} {f g h : Front} {i : Item} {vs : List Value}
+    items : {o r : ℕ} {f g h : Front} {i : TypedValue} {vs : List Value}
         → Sym symbols.BracketOpen f → ValueAt o r (behind f) i g → LikeAt o r i.ty g vs h → length vs ≤ 62 → Sym symbols.BracketClose h
         → ValueAt o (suc r) f (list_of i.ty (i.value ∷ vs)) (behind h)
 
   -- { , value }
-  pub data MoreAt : ℕ → ℕ → Front → List Item → Front → Type 0 where
+  pub data MoreAt : ℕ → ℕ → Front → List TypedValue → Front → Type 0 where
     no_more : {o r : ℕ} {f : Front} → MoreAt o r f [] f
-    one_more : {o r : ℕ} {f g h : Front} {i : Item} {is : List Item} → Sym symbols.Comma f → ValueAt o r (behind f) i g → MoreAt o r g is h → MoreAt o r f (i ∷ is) h
+    one_more : {o r : ℕ} {f g h : Front} {i : TypedValue} {is : List TypedValue} → Sym symbols.Comma f → ValueAt o r (behind f) i g → MoreAt o r g is h → MoreAt o r f (i ∷ is) h
 
   -- { , value }, each of that type
   pub data LikeAt : ℕ → ℕ → Ty → Front → List Value → Front → Type 0 where
     no_like : {o r : ℕ} {t : Ty} {f : Front} → LikeAt o r t f [] f
-    one_like : {o r : ℕ} {t : Ty} {f g h : Front} {i : Item} {vs : List Value}
+    one_like : {o r : ℕ} {t : Ty} {f g h : Front} {i : TypedValue} {vs : List Value}
         → Sym symbols.Comma f → ValueAt o r (behind f) i g → i.ty ≡ t → LikeAt o r t g vs h → LikeAt o r t f (i.value ∷ vs) h
 
 -- a value up to the end, with at most 7 lists and tuples inside each other
 pub data IsValue (tokens : List Token) (end : ℕ) : Value → Type 0 where
-  a_value : {g : Front} {i : Item} → ValueAt 0 7 (record { tokens = tokens; end = end }) i g → g.tokens ≡ [] → IsValue tokens end i.value
+  a_value : {g : Front} {i : TypedValue} → ValueAt 0 7 (record { tokens = tokens; end = end }) i g → g.tokens ≡ [] → IsValue tokens end i.value
 
 -- arguments := ( ) | ( value { , value } ), at most 8, up to the end
 pub data ArgsAt : Front → List Value → Front → Type 0 where
   no_args : {f : Front} → Sym symbols.ParenOpen f → Sym symbols.ParenClose (behind f) → ArgsAt f [] (behind2 f)
-  some_args : {f g h : Front} {i : Item} {is : List Item}
+  some_args : {f g h : Front} {i : TypedValue} {is : List TypedValue}
       → Sym symbols.ParenOpen f → ValueAt 1 7 (behind f) i g → MoreAt 1 7 g is h → length is ≤ 7 → Sym symbols.ParenClose h → ArgsAt f (map (λ k. k.value) (i ∷ is)) (behind h)
 
 pub data AreArgs (tokens : List Token) (end : ℕ) : List Value → Type 0 where

@@ -24,7 +24,7 @@ use Rattle.node_model.specs.declared.acts.Act.{Act}
 use Rattle.node_model.specs.declared.acts.Act.TheVariants.{Injected, Arrived, Noted, Ended}
 use Rattle.node_model.specs.State.{NodeState, is_host}
 use Rattle.node_model.specs.Visits.{visit_at, settled_at}
-use Rattle.node_model.specs.Node.{Step, mark, visit_sends, handled_acts, sends_acts, visit_acts, visited, next_serial, injected_packet, inject_step, packet_step, frame_step, takes_as, stamped_as, stamped_step, arrived, arrive_step}
+use Rattle.node_model.specs.Node.{NodeStep, mark, visit_sends, handled_acts, sends_acts, visit_acts, visited, next_serial, injected_packet, inject_step, packet_step, frame_step, takes_as, stamped_as, stamped_step, arrived, arrive_step}
 use Rattle.world_model.specs.declared.lines.Line.{Line}
 use Rattle.world_model.specs.declared.lines.Line.TheVariants.{At}
 use Rattle.world_model.specs.declared.lines.Wired.{Wired}
@@ -52,7 +52,7 @@ visited_shown acts node p =
     let back = handled_acts p.family s.handled (visit_at node p).left ++ sends_acts node.queues (visit_sends (mark node) s.visit) in
     one (record { node = node; packet = p }) (acts ++ notes) back refl (sym (append_assoc acts notes (Ended p.family s.visit.outcome s.visit.evals s.visit.left ∷ back)))
 
-shown_cases : (here : Host) (t : Bool) (a b : Step) (vs ws : List Visiting) → Shown here a.acts vs → Shown here b.acts ws → Shown here (cond t a b).acts (cond t vs ws)
+shown_cases : (here : Host) (t : Bool) (a b : NodeStep) (vs ws : List Visiting) → Shown here a.acts vs → Shown here b.acts ws → Shown here (cond t a b).acts (cond t vs ws)
 shown_cases here true a b vs ws x y = x
 shown_cases here false a b vs ws x y = y
 
@@ -107,7 +107,7 @@ of_host nodes h at node place get =
     let is = get_or_from_slice_get nodes at node node get in
     same_host node.here h (sym (ap (λ n. is_host n.here h) is) ∙ p.1)
 
-module _ (w : WorldState) (h : Host) (before : NodeState → List Line) (step : NodeState → Step) (visits : NodeState → List Visiting) (each : (node : NodeState) → Shown node.here (step node).acts (visits node)) where
+module _ (w : WorldState) (h : Host) (before : NodeState → List Line) (step : NodeState → NodeStep) (visits : NodeState → List Visiting) (each : (node : NodeState) → Shown node.here (step node).acts (visits node)) where
   step_at_lines : (at : ℕ) (o : Option NodeState) → place_of w.nodes h ≡ Some at → slice_get w.nodes at ≡ o → Lines (step_at w h before step at o).lines (at_node visits o)
   unfolding step_at
   step_at_lines at None place get = none_ends

@@ -22,7 +22,7 @@ use Rattle.network_plan.specs.declared.event.WorldEvent.TheVariants.{Inject, Sen
 use Rattle.spelled_frame.specs.Spelled.{what_of}
 use Rattle.node_model.specs.declared.acts.Act.{Act}
 use Rattle.node_model.specs.State.{Links, NodeState, is_host, new_node}
-use Rattle.node_model.specs.Node.{Step, inject_step, stamped_step, arrive_step, tick_step, take_step}
+use Rattle.node_model.specs.Node.{NodeStep, inject_step, stamped_step, arrive_step, tick_step, take_step}
 use Rattle.world_model.specs.declared.lines.Line.{Line}
 use Rattle.world_model.specs.declared.lines.Line.TheVariants.{At, Forged, Wire, Off, Again, Lost, Nothing}
 use Rattle.world_model.specs.declared.lines.Entry.{Entry}
@@ -96,19 +96,19 @@ unfoldable pub lines_at : Host → List Act → List Line
 lines_at h acts = map (At h) acts
 
 -- a step of the node at a place that moves nothing on the wire, after some lines
-abbrev pub steps_at : WorldState → Host → ℕ → List Line → Step → EventResult
+abbrev pub steps_at : WorldState → Host → ℕ → List Line → NodeStep → EventResult
 steps_at w h at before step = happened (before ++ lines_at h step.acts) (with_node w at step.node)
 
 -- a step of a host's node, behind what it says before; `nothing` where there is none
-unfoldable pub step_at : WorldState → Host → (NodeState → List Line) → (NodeState → Step) → ℕ → Option NodeState → EventResult
+unfoldable pub step_at : WorldState → Host → (NodeState → List Line) → (NodeState → NodeStep) → ℕ → Option NodeState → EventResult
 step_at w h before step at None = nothing w
 step_at w h before step at (Some node) = steps_at w h at (before node) (step node)
 
-unfoldable pub step_place : WorldState → Host → (NodeState → List Line) → (NodeState → Step) → Option ℕ → EventResult
+unfoldable pub step_place : WorldState → Host → (NodeState → List Line) → (NodeState → NodeStep) → Option ℕ → EventResult
 step_place w h before step None = nothing w
 step_place w h before step (Some at) = step_at w h before step at (slice_get w.nodes at)
 
-unfoldable pub steps : WorldState → Host → (NodeState → List Line) → (NodeState → Step) → EventResult
+unfoldable pub steps : WorldState → Host → (NodeState → List Line) → (NodeState → NodeStep) → EventResult
 steps w h before step = step_place w h before step (place_of w.nodes h)
 
 -- ---- injections, ticks, and frames from outside
@@ -140,7 +140,7 @@ raws w h d bytes = steps w h (forged_at h bytes) (λ node. arrive_step node d by
 -- ---- sends
 
 -- the frame that the node took goes onto the wire under the next number
-unfoldable pub send_taken : WorldState → Host → Dev → ℕ → LinkEnd → Step → Option PlainStamped → EventResult
+unfoldable pub send_taken : WorldState → Host → Dev → ℕ → LinkEnd → NodeStep → Option PlainStamped → EventResult
 send_taken w h d at to step None = nothing w
 send_taken w h d at to step (Some x) = happened (lines_at h step.acts ++ Wire w.«next» (stamped_bytes x) ∷ [])
     (record {

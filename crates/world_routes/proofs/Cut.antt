@@ -10,7 +10,7 @@ use Rattle.packet_frame.specs.declared.frame.PlainFrame.{PlainFrame}
 use Rattle.packet_frame.specs.declared.frame.PlainStamped.{PlainStamped}
 use Rattle.dv_routing.specs.Routing.{Routing, route_cost}
 use Rattle.dv_routing.proofs.Costs.{same_host}
-use Rattle.route_laws.specs.Network.{Wiring, Frame, Parcel, Told, Node, Network, routing_of as of_node, routings, routing_at, cost_by, cost_at as cut_cost, IsAt, with_node, Goes, Stays, Then}
+use Rattle.route_laws.specs.Network.{Wiring, RouteFrame, Parcel, Told, Node, Network, routing_of as of_node, routings, routing_at, cost_by, cost_at as cut_cost, IsAt, with_node, Goes, Stays, Then}
 use Rattle.route_laws.proofs.Lookups.{routings_set, routings_get}
 use Rattle.node_model.specs.declared.acts.Lane.{Lane}
 use Rattle.node_model.specs.State.{Queues, NodeState, routing_of, is_host}
@@ -20,19 +20,19 @@ use Rattle.world_model.specs.World.{Cables, WorldState, place_of, far_end}
 use Rattle.world_routes.specs.Roads.{routing_in, route_by, route_at, cost_at}
 
 -- a packet for a host, or an advert; no ask is ever on its way, and an advert without rows stands for it
-abbrev pub cut_frame : PlainFrame → Frame
+abbrev pub cut_frame : PlainFrame → RouteFrame
 cut_frame (PlainFrame.Packet p) = Parcel p.dest
 cut_frame (PlainFrame.Advert a) = Told a
 cut_frame (PlainFrame.Ask bound chunk) = Told (record { host = record { 0 = 0 }; rows = [] })
 
 -- stamps lead nowhere
-abbrev pub cut_stamped : PlainStamped → Frame
+abbrev pub cut_stamped : PlainStamped → RouteFrame
 cut_stamped x = cut_frame x.frame
 
-abbrev pub cut_lane : Lane → List Frame
+abbrev pub cut_lane : Lane → List RouteFrame
 cut_lane lane = map cut_stamped lane.frames
 
-abbrev pub cut_queues : Queues → List (List Frame)
+abbrev pub cut_queues : Queues → List (List RouteFrame)
 cut_queues queues = map cut_lane queues
 
 -- a node by its routing and queues
@@ -42,7 +42,7 @@ node_with r queues = record { routing = r; queues = cut_queues queues }
 abbrev pub cut_node : NodeState → Node
 cut_node node = node_with (routing_of node) node.queues
 
-abbrev pub cut_wired : Wired → (Host × Dev) × Frame
+abbrev pub cut_wired : Wired → (Host × Dev) × RouteFrame
 cut_wired x = ((x.to.host, x.to.dev), cut_stamped x.frame)
 
 abbrev pub cut : WorldState → Network

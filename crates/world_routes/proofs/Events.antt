@@ -17,7 +17,7 @@ use Rattle.spelled_frame.specs.Spelled.{what_of}
 use Rattle.dv_routing.specs.Routing.{Routing, all_routes, is_among}
 use Rattle.dv_routing.specs.Laws.{HostsHold}
 use Rattle.service_api.specs.Routes.{hop}
-use Rattle.route_laws.specs.Network.{Wiring, Frame, Node, Network, with_node as with_cut, with_queue, Sent, Leaves, Goes, Stays, Then}
+use Rattle.route_laws.specs.Network.{Wiring, RouteFrame, Node, Network, with_node as with_cut, with_queue, Sent, Leaves, Goes, Stays, Then}
 use Rattle.route_laws.specs.Truths.{RoutesHold as CutHolds}
 use Rattle.route_laws.proofs.Keep.{goes_keep}
 use Rattle.route_laws.proofs.Lookups.{all_get, all_remove}
@@ -25,7 +25,7 @@ use Rattle.node_model.specs.declared.acts.Act.{Act}
 use Rattle.node_model.specs.declared.acts.Act.TheVariants.{Taken}
 use Rattle.node_model.specs.declared.acts.Lane.{Lane}
 use Rattle.node_model.specs.State.{Links, NodeState, routing_of}
-use Rattle.node_model.specs.Node.{Step, inject_step, stamped_step, arrive_step, tick_step, take_first, take_from, take_step, with_queues}
+use Rattle.node_model.specs.Node.{NodeStep, inject_step, stamped_step, arrive_step, tick_step, take_first, take_from, take_step, with_queues}
 use Rattle.node_model.specs.Fits.{QueuesKeep}
 use Rattle.node_laws.proofs.Keeping.{took}
 use Rattle.node_laws.proofs.Staying.{Stays as NodeStays, inject_stays, stamped_stays, arrive_stays, tick_stays}
@@ -70,7 +70,7 @@ nothing_keeps w h = record {
 
 -- ---- cuts
 
-net_is : (ns ms : List Node) (xs ys : List ((Host × Dev) × Frame)) → ns ≡ ms → xs ≡ ys → ◌≡◌ {A = Network} (record { nodes = ns; wire = xs }) (record { nodes = ms; wire = ys })
+net_is : (ns ms : List Node) (xs ys : List ((Host × Dev) × RouteFrame)) → ns ≡ ms → xs ≡ ys → ◌≡◌ {A = Network} (record { nodes = ns; wire = xs }) (record { nodes = ms; wire = ys })
 net_is ns ms xs ys e f =
     ap (λ zs. let n : Network = record { nodes = zs; wire = xs } in n) e ∙ ap (λ zs. let n : Network = record { nodes = ms; wire = zs } in n) f
 
@@ -87,11 +87,11 @@ unfolding lines_at
 acts_routed h acts all = All-map IsRouted (At h) acts all
 
 -- a step of every node of a version
-record Steps (far : Wiring) (v : Version) (step : NodeState → Step) : Type 0 where
+record Steps (far : Wiring) (v : Version) (step : NodeState → NodeStep) : Type 0 where
   keeps : (node : NodeState) → node.version ≡ v → QueuesKeep GoesDefault node.queues → StepKeeps far (λ w. Unit {0}) node (step node)
   stays : (node : NodeState) → NodeStays node (step node).node
 
-step_at_keeps : (w : WorldState) (h : Host) (before : NodeState → List Line) (step : NodeState → Step) (at : ℕ) (o : Option NodeState) → ((node : NodeState) → All IsRouted (before node))
+step_at_keeps : (w : WorldState) (h : Host) (before : NodeState → List Line) (step : NodeState → NodeStep) (at : ℕ) (o : Option NodeState) → ((node : NodeState) → All IsRouted (before node))
     → Steps (wiring w.links) w.version step → place_of w.nodes h ≡ Some at → slice_get w.nodes at ≡ o → WorldHolds w → EventKeeps w (step_at w h before step at o)
 unfolding step_at
 step_at_keeps w h before step at None quiet s place get k = nothing_keeps w k
@@ -113,13 +113,13 @@ step_at_keeps w h before step at (Some node) quiet s place get k =
       lines = All-append IsRouted (before node) (lines_at h (step node).acts) (quiet node) (acts_routed h (step node).acts one.acts);
     }
 
-step_place_keeps : (w : WorldState) (h : Host) (before : NodeState → List Line) (step : NodeState → Step) (o : Option ℕ) → ((node : NodeState) → All IsRouted (before node))
+step_place_keeps : (w : WorldState) (h : Host) (before : NodeState → List Line) (step : NodeState → NodeStep) (o : Option ℕ) → ((node : NodeState) → All IsRouted (before node))
     → Steps (wiring w.links) w.version step → place_of w.nodes h ≡ o → WorldHolds w → EventKeeps w (step_place w h before step o)
 unfolding step_place
 step_place_keeps w h before step None quiet s place k = nothing_keeps w k
 step_place_keeps w h before step (Some at) quiet s place k = step_at_keeps w h before step at (slice_get w.nodes at) quiet s place refl k
 
-steps_keep : (w : WorldState) (h : Host) (before : NodeState → List Line) (step : NodeState → Step) → ((node : NodeState) → All IsRouted (before node))
+steps_keep : (w : WorldState) (h : Host) (before : NodeState → List Line) (step : NodeState → NodeStep) → ((node : NodeState) → All IsRouted (before node))
     → Steps (wiring w.links) w.version step → WorldHolds w → EventKeeps w (steps w h before step)
 unfolding steps
 steps_keep w h before step quiet s k = step_place_keeps w h before step (place_of w.nodes h) quiet s refl k

@@ -26,7 +26,7 @@ use Rattle.world_model.specs.declared.lines.LinkEnd.{LinkEnd}
 use Rattle.world_model.specs.declared.lines.Wired.{Wired}
 use Rattle.world_model.specs.World.{Cables, WorldState, peer_of, far_end}
 use Rattle.world_model.specs.Wires.{WireLeads}
-use Rattle.world_routes.specs.Roads.{routing_in, route_by, route_at, cost_at, Walk, Here, Along, IsReached, IsDist, IsHop, HopsOver, Journey}
+use Rattle.world_routes.specs.Roads.{routing_in, route_by, route_at, cost_at, CableWalk, Here, Along, IsReached, IsDist, IsHop, HopsOver, Journey}
 use Rattle.world_routes.specs.Routes.{LeadsDown, HasWay, FrameHasWay, RoutesHold}
 use Rattle.world_routes.proofs.Cut.{cut_frame, cut_stamped, cut_wired, cut, end_of, wiring, same_routing, same_cost}
 use Rattle.world_routes.proofs.Steps.{IsDefault, GoesDefault}
@@ -119,7 +119,7 @@ far_peer links a d m e real leads = split (eqb d.0 0) refl leads
     split true h k = absurd (real ((Decides-eqb d.0 0).0 h))
     split false h k = peer (peer_of links a d) k
 
-walk_of : (links : Cables) (b a : Host) (k : ℕ) → cut_walks.Walk (wiring links) b a k → Walk links b a k
+walk_of : (links : Cables) (b a : Host) (k : ℕ) → cut_walks.LinkWalk (wiring links) b a k → CableWalk links b a k
 walk_of links b a k cut_walks.Here = Here
 walk_of links b a k (cut_walks.Along n d m e j real leads rest) = Along n d (record { host = m; dev = e }) j (far_peer links n d m e real leads) (walk_of links b m j rest)
 

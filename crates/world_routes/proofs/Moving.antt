@@ -7,10 +7,10 @@ use Rattle.plan_meaning.specs.declared.sent.Sent.{Sent}
 use Rattle.dv_routing.specs.Routing.{route, own_route, all_routes}
 use Rattle.dv_routing.proofs.Best.{route_own}
 use Rattle.dv_routing.proofs.Hops.{hop_leads}
-use Rattle.route_laws.specs.Network.{Wiring, Frame, Parcel, Node, Network, IsAt, with_node, queued, Moves, Routed, Handed}
+use Rattle.route_laws.specs.Network.{Wiring, RouteFrame, Parcel, Node, Network, IsAt, with_node, queued, Moves, Routed, Handed}
 use Rattle.world_routes.specs.Led.{IsLed}
 
-pub led_moves : (far : Wiring) (w : Network) (at : ℕ) (node : Node) (s : Sent) (queue : List Frame) → IsAt w at node
+pub led_moves : (far : Wiring) (w : Network) (at : ℕ) (node : Node) (s : Sent) (queue : List RouteFrame) → IsAt w at node
     → IsLed node.routing.here node.routing.neighbours (all_routes node.routing) s → slice_get node.queues s.dev.0 ≡ Some queue
     → Moves far w (with_node w at (queued node s.dev queue (Parcel s.packet.dest)))
 led_moves far w at node s queue p led get = elim led.leads [

@@ -15,7 +15,7 @@ use Rattle.dv_routing.specs.Sorted.{sorted_into}
 use Rattle.dv_routing.proofs.Best.{first_or_later}
 use Rattle.dv_routing.proofs.Costs.{eqb_self}
 use Rattle.dv_routing.proofs.Sorting.{sorted_same}
-use Rattle.route_laws.specs.Network.{Frame, Node, routings, routing_at}
+use Rattle.route_laws.specs.Network.{RouteFrame, Node, routings, routing_at}
 use Rattle.route_laws.specs.Truths.{IsLinked, IsFresh, IsOpening}
 use Rattle.route_laws.proofs.Lookups.{all_get}
 use Rattle.route_laws.proofs.Walking.{opening_true}
@@ -148,7 +148,7 @@ neighbour_there t s k link among =
 none_queued : (t : Topology) (s : HostSpec) → All (λ queue. queue ≡ []) (cut_node (opening_node t s)).queues
 unfolding opening_node new_node
 none_queued t s =
-    let P : List Frame → Type 0 = λ queue. queue ≡ [] in
+    let P : List RouteFrame → Type 0 = λ queue. queue ≡ [] in
     let link = first_moment t.version in
     All-map P cut_lane (no_queues link) (All-replicate (λ lane. P (cut_lane lane)) 9 (no_lane link) refl)
 

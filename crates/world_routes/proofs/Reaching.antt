@@ -16,7 +16,7 @@ use Rattle.route_laws.proofs.Keep.{goes_rise}
 use Rattle.world_model.specs.declared.lines.Entry.{Entry}
 use Rattle.world_model.specs.declared.lines.Wired.{Wired}
 use Rattle.world_model.specs.World.{Cables, WorldState, far_end, happens, entry_at, entries, world_after, history_of, opening}
-use Rattle.world_routes.specs.Roads.{cost_at, IsDist, BringsNone, Way, Ends, Hops, Journey, Rests, Waits, Rides}
+use Rattle.world_routes.specs.Roads.{cost_at, IsDist, BringsNone, WorldWay, Ends, Hops, Journey, Rests, Waits, Rides}
 use Rattle.world_routes.specs.Routes.{Reached, RoutesHold, NoneRises, IsRouted, KeepsRoutes, RunKeepsRoutes}
 use Rattle.world_routes.proofs.Cut.{cut, end_of, wiring, same_cost, goes_over}
 use Rattle.world_routes.proofs.Holding.{WorldHolds, held_routes, held_fall, held_dist, held_over}
@@ -71,7 +71,7 @@ after_one e w = refl
 some_cost : (a b : ℕ) → Some a ≡ Some b → a ≡ b
 some_cost a b e = cc
 
-way_short : (x : Host) (w : WorldState) (n : Host) (k c : ℕ) → WorldHolds w → cost_at w.nodes n x ≡ Some c → Way x w n k → k ≤ c
+way_short : (x : Host) (w : WorldState) (n : Host) (k c : ℕ) → WorldHolds w → cost_at w.nodes n x ≡ Some c → WorldWay x w n k → k ≤ c
 unfolding cost_at
 way_short x w n k c h e (Ends v m) = omega arith
 way_short x w n k c h e (Hops v es m row j hop inside rest) =
@@ -95,7 +95,7 @@ first_is a b d e same = ap (λ p. p.0) (pair_is same)
     pair_is z = cc
 
 -- frames go the way of the routes
-journey_way : (x : Host) (w : WorldState) (n : Host) (k : ℕ) → WorldHolds w → Journey x w n k → Way x w n k
+journey_way : (x : Host) (w : WorldState) (n : Host) (k : ℕ) → WorldHolds w → Journey x w n k → WorldWay x w n k
 journey_way x w n k h (Rests v m) = Ends v m
 journey_way x w n k h (Waits v m d other over) =
     let o = held_over v h x m d other over in
@@ -108,7 +108,7 @@ journey_way x w n k h (Rides v es m y j other over from packet inside on rest) =
     let arrives : wiring v.links m y.from.dev ≡ Some (y.to.host, y.to.dev) =
     ap (λ i. wiring v.links i y.from.dev) (sym from) ∙ (ap (λ links. wiring links y.from.host y.from.dev) (sym run.links) ∙ ap end_of there) in
     let same : o.row.«next» ≡ y.to.host = first_is o.row.«next» y.to.host o.end y.to.dev (sym o.leads ∙ arrives) in
-    let P : Host → Type 0 = λ i. Way x after i j in
+    let P : Host → Type 0 = λ i. WorldWay x after i j in
     Hops v es m o.row j o.hop inside (subst P (sym same) (journey_way x after y.to.host j run.holds rest))
 
 routes_held : (w : WorldState) → WorldHolds w → RoutesHold w
@@ -176,7 +176,7 @@ run_keeps_routes t es k n = record {
     later : (j : ℕ) → All (BringsNone (world_after (take j es) (opening t)).version) (drop j es)
     later j = subst (λ v. All (BringsNone v) (drop j es)) (sym (front j).version) (All-drop (BringsNone t.version) j es n)
 
-pub ways_short : (x : Host) (w : WorldState) (n : Host) (k c : ℕ) → Reached w → cost_at w.nodes n x ≡ Some c → Way x w n k → k ≤ c
+pub ways_short : (x : Host) (w : WorldState) (n : Host) (k c : ℕ) → Reached w → cost_at w.nodes n x ≡ Some c → WorldWay x w n k → k ≤ c
 ways_short x w n k c r e way = way_short x w n k c (reached_is w r) e way
 
 pub journeys_short : (x : Host) (w : WorldState) (n : Host) (k c : ℕ) → Reached w → cost_at w.nodes n x ≡ Some c → Journey x w n k → k ≤ c

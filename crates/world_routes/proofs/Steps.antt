@@ -26,7 +26,7 @@ use Rattle.service_api.specs.declared.router.Hop.TheVariants.{To}
 use Rattle.service_api.specs.Routes.{hop, default_route}
 use Rattle.service_api.specs.Services.{begun_now}
 use Rattle.plan_meaning.specs.declared.sent.Sent.{Sent}
-use Rattle.plan_meaning.specs.declared.stop.Stop.TheVariants.{Raised, WorkSpent, Wrong, NoMemory}
+use Rattle.plan_meaning.specs.declared.stop.EvalStop.TheVariants.{Raised, WorkSpent, Wrong, NoMemory}
 use Rattle.plan_meaning.specs.Meaning as means
 use Rattle.plan_meaning.specs.Meaning.{meaning}
 use Rattle.plan_meaning.specs.Run.{After, gave, stopped}
@@ -35,7 +35,7 @@ use Rattle.meaning_laws.specs.Laws.{left_by}
 use Rattle.dv_routing.specs.Routing.{Routing, all_routes, own_advert}
 use Rattle.dv_routing.proofs.Best.{contains_later}
 use Rattle.dv_routing.proofs.Costs.{same_host}
-use Rattle.route_laws.specs.Network.{Wiring, Frame, Told, Network, IsAt, with_node, queued, Moves, Tells, Hears, Goes, Stays, Then}
+use Rattle.route_laws.specs.Network.{Wiring, RouteFrame, Told, Network, IsAt, with_node, queued, Moves, Tells, Hears, Goes, Stays, Then}
 use Rattle.world_routes.specs.Led.{IsLed}
 use Rattle.world_routes.proofs.Leading.{visit_led}
 use Rattle.world_routes.proofs.Moving.{led_moves}
@@ -49,7 +49,7 @@ use Rattle.settled_visit.proofs.Tellings.{Tells as TellsSource}
 use Rattle.settled_visit.proofs.Sends.{all_settled}
 use Rattle.node_model.specs.Visits.{around, evaluated, visit_end, visit_of, visit_at, settled_at}
 use Rattle.spelled_frame.specs.Spelled.{what_of, numbered}
-use Rattle.node_model.specs.Node.{Step, stepped, lane_room, queue_room, has_room, lane_with, queue_push, mark, drop_act, takes_as, noting, stamped_as, stamped_step, arrived, arrive_step, send_act, send_queues, sends_acts, sends_queues, packet_sending, visit_sends, handled_acts, visit_acts, visited, next_serial, injected_packet, inject_step, only_acts, forward_by, forward_step, packet_step, hearing, advert_step, frame_step, next_tick, advert_sending, tick_sends, tick_step}
+use Rattle.node_model.specs.Node.{NodeStep, stepped, lane_room, queue_room, has_room, lane_with, queue_push, mark, drop_act, takes_as, noting, stamped_as, stamped_step, arrived, arrive_step, send_act, send_queues, sends_acts, sends_queues, packet_sending, visit_sends, handled_acts, visit_acts, visited, next_serial, injected_packet, inject_step, only_acts, forward_by, forward_step, packet_step, hearing, advert_step, frame_step, next_tick, advert_sending, tick_sends, tick_step}
 use Rattle.node_model.specs.Fits.{QueuesKeep}
 use Rattle.node_laws.proofs.Keeping.{Sends, send_keeps, sends_keep}
 use Rattle.world_routes.specs.Roads.{IsAsk, CarriesNone}
@@ -72,7 +72,7 @@ stays_at far w at r queues p = subst (Goes far w) (sym (same_net w at (node_with
 module _ (far : Wiring) (r : Routing) where
   -- queueing a frame at a node that knows this is a move
   abbrev pub MayGo : Sending → Type 0
-  MayGo s = (w : Network) (at : ℕ) (queues : Queues) (queue : List Frame) → IsAt w at (node_with r queues) → slice_get (cut_queues queues) s.dev.0 ≡ Some queue
+  MayGo s = (w : Network) (at : ℕ) (queues : Queues) (queue : List RouteFrame) → IsAt w at (node_with r queues) → slice_get (cut_queues queues) s.dev.0 ≡ Some queue
       → Moves far w (with_node w at (queued (node_with r queues) s.dev queue (cut_stamped s.frame)))
 
   pub record MayLeave (s : Sending) : Type 0 where
@@ -89,7 +89,7 @@ module _ (far : Wiring) (r : Routing) where
       → Goes far w (with_node w at (node_with r (cond t (queue_push queues s.dev s.frame (Some lane)) queues)))
   push_goes true w at queues s lane m p e =
       let move = m w at queues (cut_lane lane) p (get_map cut_lane queues s.dev.0 lane e) in
-      let P : List (List Frame) → Type 0 = λ qs. Moves far w (with_node w at (record { routing = r; queues = qs })) in
+      let P : List (List RouteFrame) → Type 0 = λ qs. Moves far w (with_node w at (record { routing = r; queues = qs })) in
       Then w _ _ (subst P (pushed queues s.dev s.frame lane) move) (Stays _)
   push_goes false w at queues s lane m p e = stays_at far w at r queues p
 
@@ -156,7 +156,7 @@ module _ (far : Wiring) (r : Routing) where
 -- ---- steps
 
 -- a step is some moves, where the network keeps this
-pub record StepKeeps (far : Wiring) (On : Network → Type 0) (node : NodeState) (step : Step) : Type 0 where
+pub record StepKeeps (far : Wiring) (On : Network → Type 0) (node : NodeState) (step : NodeStep) : Type 0 where
   pub goes : (w : Network) (at : ℕ) → On w → IsAt w at (cut_node node) → Goes far w (with_node w at (cut_node step.node))
   pub queues : QueuesKeep GoesDefault step.node.queues
   pub acts : All IsRoutedAct step.acts
@@ -205,7 +205,7 @@ module _ (far : Wiring) where
       (All-weaker (Contains node.neighbours) P (λ link among. advert_leaves far (routing_of node) (mark node) link among) node.neighbours (All-contains_itself node.neighbours))
 
   module _ (On : Network → Type 0) where
-    cases : (t : Bool) (node : NodeState) (a b : Step) → StepKeeps far On node a → StepKeeps far On node b → StepKeeps far On node (cond t a b)
+    cases : (t : Bool) (node : NodeState) (a b : NodeStep) → StepKeeps far On node a → StepKeeps far On node b → StepKeeps far On node (cond t a b)
     cases true node a b x y = x
     cases false node a b x y = y
 

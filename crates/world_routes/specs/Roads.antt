@@ -40,17 +40,17 @@ cost_at nodes n x = route_cost (route_at nodes n x)
 -- ---- walks
 
 -- a walk along links to b, with the number of its links
-pub data Walk (links : Cables) (b : Host) : Host → ℕ → Type 0 where
-  Here : Walk links b b zero
-  Along : (a : Host) (d : Dev) (far : LinkEnd) (k : ℕ) → peer_of links a d ≡ Some far → Walk links b far.host k → Walk links b a (suc k)
+pub data CableWalk (links : Cables) (b : Host) : Host → ℕ → Type 0 where
+  Here : CableWalk links b b zero
+  Along : (a : Host) (d : Dev) (far : LinkEnd) (k : ℕ) → peer_of links a d ≡ Some far → CableWalk links b far.host k → CableWalk links b a (suc k)
 
 -- there is a walk of at most this length
 abbrev pub IsReached : Cables → Host → Host → ℕ → Type 0
-IsReached links a b n = (k : ℕ) × (k ≤ n) × Walk links b a k
+IsReached links a b n = (k : ℕ) × (k ≤ n) × CableWalk links b a k
 
 -- the length of a shortest walk
 abbrev pub IsDist : Cables → Host → Host → ℕ → Type 0
-IsDist links a b n = Walk links b a n × ((k : ℕ) → Walk links b a k → n ≤ k)
+IsDist links a b n = CableWalk links b a n × ((k : ℕ) → CableWalk links b a k → n ≤ k)
 
 -- ---- ways
 
@@ -76,9 +76,9 @@ pub record IsHop (w : WorldState) (x n : Host) (row : RouteRow) : Type 0 where
 
 -- a way towards x by default routes, with the number of its hops: at each hop a packet for x is queued for the next host of the
 -- route that its node has by then, and any events may lie between that and its arrival there
-pub data Way (x : Host) : WorldState → Host → ℕ → Type 0 where
-  Ends : (w : WorldState) (n : Host) → Way x w n zero
-  Hops : (w : WorldState) (es : List WorldEvent) (n : Host) (row : RouteRow) (k : ℕ) → IsHop w x n row → All (BringsNone w.version) es → Way x (world_after es w) row.«next» k → Way x w n (suc k)
+pub data WorldWay (x : Host) : WorldState → Host → ℕ → Type 0 where
+  Ends : (w : WorldState) (n : Host) → WorldWay x w n zero
+  Hops : (w : WorldState) (es : List WorldEvent) (n : Host) (row : RouteRow) (k : ℕ) → IsHop w x n row → All (BringsNone w.version) es → WorldWay x (world_after es w) row.«next» k → WorldWay x w n (suc k)
 
 -- ---- journeys
 

@@ -4,7 +4,7 @@ ghost use Rattle.network_plan.specs.Rules.{KeepsNetwork};
 ghost use Rattle.network_plan.specs.declared.schedule.Topology.{Topology};
 ghost use Rattle.network_plan.specs.declared.event.WorldEvent.{WorldEvent};
 ghost use Rattle.world_model.specs.World.{WorldState, happens, opening};
-ghost use Rattle.world_routes.specs.Roads.{cost_at, IsDist, BringsNone, Way, Journey};
+ghost use Rattle.world_routes.specs.Roads.{cost_at, IsDist, BringsNone, WorldWay, Journey};
 ghost use Rattle.world_routes.specs.Routes.{Reached, RoutesHold, KeepsRoutes, RunKeepsRoutes};
 ghost use Rattle.plan_base.specs.declared.tree.Chunk.{Chunk};
 ghost use Rattle.plan_meaning.specs.declared.sent.Sent.{Sent};
@@ -12,7 +12,7 @@ ghost use Rattle.plan_meaning.specs.State.{VisitState};
 ghost use Rattle.plan_meaning.specs.Meaning.{meaning, visited};
 ghost use Rattle.meaning_laws.specs.Laws.{left_by};
 ghost use Rattle.dv_routing.specs.Routing.{all_routes};
-ghost use Rattle.route_laws.specs.Network.{Wiring, Frame, Parcel, Node, Network, IsAt, with_node, queued, Moves};
+ghost use Rattle.route_laws.specs.Network.{Wiring, RouteFrame, Parcel, Node, Network, IsAt, with_node, queued, Moves};
 ghost use Rattle.world_routes.specs.Led.{IsLed, IsLedIn};
 
 /// A beginning within the rules is reached.
@@ -49,7 +49,7 @@ pub fn costs_are_distances()
 /// A way by default routes has at most as many hops as the cost that was read at its start, whatever happens between
 /// them.
 pub fn ways_are_short()
-    ensures { (x : Host) (w : WorldState) (n : Host) (k c : ℕ) → Reached w → cost_at w.nodes n x ≡ Some c → Way x w n k → k ≤ c }
+    ensures { (x : Host) (w : WorldState) (n : Host) (k c : ℕ) → Reached w → cost_at w.nodes n x ≡ Some c → WorldWay x w n k → k ≤ c }
 {}
 
 /// So a packet that is sent to another host is queued at most as often as the cost says that was read at its sender, a last
@@ -65,7 +65,7 @@ pub fn visits_are_led()
 
 /// A send that is led by a node's routes and neighbours and is queued there is a move.
 pub fn led_sends_move()
-    ensures { (far : Wiring) (w : Network) (at : ℕ) (node : Node) (s : Sent) (queue : List Frame) → IsAt w at node
+    ensures { (far : Wiring) (w : Network) (at : ℕ) (node : Node) (s : Sent) (queue : List RouteFrame) → IsAt w at node
         → IsLed node.routing.here node.routing.neighbours (all_routes node.routing) s → slice_get node.queues s.dev.0 ≡ Some queue
         → Moves far w (with_node w at (queued node s.dev queue (Parcel s.packet.dest))) }
 {}

@@ -1,6 +1,6 @@
 use Rattle.std.proofs.Common.{◌≡◌, take}
 use Rattle.std.specs.Prelude.{map}
-use Rattle.service_registry.specs.Held.{standing}
+use Rattle.service_registry.specs.RegistryState.{standing}
 use Rattle.world_model.specs.World.{opening_services}
 use Rattle.port_commands.proofs.port.services_of.Given as goal
 

@@ -8,7 +8,7 @@ use Rattle.table_rows.specs.Rows.{got}
 use Rattle.service_api.specs.declared.ctx.Ctx.{Ctx}
 use Rattle.service_api.specs.Services.{Rows, Served, refused}
 use Rattle.service_meaning.specs.Answers.{got_answer, raised, not_found, key_of}
-use Rattle.service_registry.specs.Held.{rows_over}
+use Rattle.service_registry.specs.RegistryState.{rows_over}
 use Rattle.service_registry.proofs.ArgumentReads.{named_other, named_by, two_items, get_or_any, meets_as}
 use Rattle.service_registry.proofs.resident.get.Goals as goal
 

@@ -5,7 +5,7 @@ use mir.Val.{to_z, of_z}
 use Rattle.value_rules.specs.Rules.{bad_index}
 use Rattle.service_api.specs.Services.{refused}
 use Rattle.service_meaning.specs.Answers.{raised, table_full}
-use Rattle.service_registry.specs.Held.{rows_over}
+use Rattle.service_registry.specs.RegistryState.{rows_over}
 use Rattle.service_registry.proofs.ArgumentReads.{four_items, get_or_any, meets_as, meets_left, rows_path}
 use Rattle.service_registry.proofs.Puts.{put_other, put_by, kept_short, kept_full}
 use Rattle.service_registry.proofs.resident.put.Goals as goal

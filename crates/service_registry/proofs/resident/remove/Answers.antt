@@ -4,7 +4,7 @@ use Rattle.plan_base.specs.declared.tree.Value.TheVariants as value
 use Rattle.table_rows.specs.Rows.{without_row}
 use Rattle.service_api.specs.Services.{Rows, Served, refused}
 use Rattle.service_meaning.specs.Answers.{given, key_of}
-use Rattle.service_registry.specs.Held.{rows_over}
+use Rattle.service_registry.specs.RegistryState.{rows_over}
 use Rattle.service_registry.proofs.ArgumentReads.{named_other, named_by, two_items, get_or_any, meets_as}
 use Rattle.service_registry.proofs.resident.remove.Goals as goal
 

@@ -1,4 +1,4 @@
-use Rattle.service_registry.specs.Held.{rows_over}
+use Rattle.service_registry.specs.RegistryState.{rows_over}
 use Rattle.service_registry.proofs.serving.served_at.Goals as goal
 
 pub returns-in-None-clause-meets : goal.returns-in-None-clause-meets

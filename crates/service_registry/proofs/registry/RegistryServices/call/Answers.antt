@@ -2,7 +2,7 @@ use Rattle.std.proofs.Common.{List, Option, Some, ◌∙◌, sym, subst}
 use Rattle.plan_base.specs.declared.tree.Value.{Value}
 use Rattle.resident_tables.specs.Layers.{Layer}
 use Rattle.service_api.specs.Services.{AreGoodValues}
-use Rattle.service_registry.specs.Held.{rows_over, IsOpen, IsKept}
+use Rattle.service_registry.specs.RegistryState.{rows_over, IsOpen, IsKept}
 use Rattle.service_registry.specs.Packages.{present_of}
 use Rattle.service_registry.proofs.Kept.{meets_good}
 use Rattle.service_registry.proofs.registry.RegistryServices.call.Goals as goal

@@ -10,7 +10,7 @@ use Rattle.resident_tables.specs.Tables.{Table}
 use Rattle.resident_tables.specs.Layers.{Layer, over, IsOver, room_of}
 
 -- the packages that are there; the rows and the next key; those at the open `begin`; whether `ready` was answered since the last `call`
-pub record Held : Type 0 where
+pub record RegistryState : Type 0 where
   pub there : InstalledPackages
   pub rows : Rows
   pub begun : Option Rows
@@ -22,10 +22,10 @@ present_code = code_by (Bool × (Bool × Bool)) (coded× coded_bool (coded× cod
 abbrev pub rows_code : Coded Rows
 rows_code = code_by (List Row × ℤ) (coded× (coded_list row.the_row.coded) coded_ℤ) (λ r. (r.rows, r.«next»)) (λ p. record { rows = p.0; «next» = p.1 }) (λ _. refl)
 
-abbrev pub held_code : Coded Held
+abbrev pub held_code : Coded RegistryState
 held_code = code_by (InstalledPackages × (Rows × (Option Rows × Bool))) (coded× present_code (coded× rows_code (coded× (coded_option rows_code) coded_bool))) (λ h. (h.there, (h.rows, (h.begun, h.ready)))) (λ p. record { there = p.0; rows = p.1.0; begun = p.1.1.0; ready = p.1.1.1 }) (λ _. refl)
 
-abbrev pub standing : Held → ServiceState
+abbrev pub standing : RegistryState → ServiceState
 standing h = record { offer = offer h.there; rows = h.rows; begun = h.begun; ready = h.ready }
 
 -- ---- tables and the changes of a visit
@@ -46,7 +46,7 @@ rows_begun t None = None
 rows_begun t (Some o) = Some (rows_of t)
 
 -- what is held of a table and the changes over it, if a `begin` is open
-abbrev pub held : InstalledPackages → Table → Option Layer → Bool → Held
+abbrev pub held : InstalledPackages → Table → Option Layer → Bool → RegistryState
 held p t o ready = record { there = p; rows = rows_now t o; begun = rows_begun t o; ready = ready }
 
 -- changes that were used over the table alone and leave good rows, for which there is room after `ready`
