@@ -15,7 +15,7 @@ use plan_base::{Bytes, Host};
 use std::alloc::Global;
 
 /// The most bytes of a message.
-const BYTES_MAX: usize = 262_144;
+const MOST_BYTES: usize = 262_144;
 
 /// A message to be cut.
 #[derive(Drop)]
@@ -165,7 +165,7 @@ impl CutReading {
     fn data(&mut self, alloc: Global, words: &mut Words<'_>) -> Result<(), LineStop>
         ensures { Leaves result self.new (spec.data_line words.old self.old) }
     {
-        let bytes = hex_bytes(alloc, words, 1, BYTES_MAX)?;
+        let bytes = hex_bytes(alloc, words, 1, MOST_BYTES)?;
         words.end()?;
         self.bytes = bytes;
         self.stage = CutStage::Behind;

@@ -5,7 +5,7 @@ ghost use Rattle.line_files.specs.Reads.{Reads};
 use line_files::{LineReason, Words, decimal};
 
 /// The greatest key.
-const KEY_MAX: u64 = 9_223_372_036_854_775_807;
+const MOST_KEY: u64 = 9_223_372_036_854_775_807;
 
 /// A number where it is a key.
 fn in_range(n: Option<u64>) -> Option<u64>
@@ -13,7 +13,7 @@ fn in_range(n: Option<u64>) -> Option<u64>
 {
     match n {
         None => None,
-        Some(n) => { if n <= KEY_MAX { Some(n) } else { None } }
+        Some(n) => { if n <= MOST_KEY { Some(n) } else { None } }
     }
 }
 

@@ -14,7 +14,7 @@ use program_text::read_program;
 use std::alloc::{AllocError, Global};
 
 /// The most bytes of a program's text.
-const PROGRAM_MAX: usize = 65_536;
+const MOST_PROGRAM_BYTES: usize = 65_536;
 
 /// `check FILE`: the sizes of a program that is typed.
 pub struct Check;
@@ -53,7 +53,7 @@ impl FileCommand for Check {
     ghost said = { program_said };
 
     fn limit() -> usize {
-        PROGRAM_MAX
+        MOST_PROGRAM_BYTES
     }
 
     #[tactic(auto, using(crate::proofs::Rendering::renders_none, crate::proofs::Rendering::renders_text))]

@@ -10,5 +10,5 @@ mod show;
 pub use by_file::on_file;
 pub use check::Check;
 pub use command::{FileCommand, print};
-pub use lines::{LineValue, value_of};
+pub use lines::{LineValue, MOST_FILE_BYTES, value_of};
 pub use show::Show;

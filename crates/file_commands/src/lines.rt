@@ -15,7 +15,7 @@ use plan_base::Bytes;
 use std::alloc::Global;
 
 /// The most bytes of a file of lines.
-const LINES_MAX: usize = 4_194_304;
+pub const MOST_FILE_BYTES: usize = 4_194_304;
 
 /// Reads the file `name`, which may have at most so many bytes.
 pub fn bytes_of<F: Files>(
@@ -174,7 +174,7 @@ pub fn value_of<V: LineValue, F: Files>(
         (F.state files.old) (F.state files.new) result }
     ensures rules { IfOk result V.keeps }
 {
-    match bytes_of(alloc, files, name, LINES_MAX) {
+    match bytes_of(alloc, files, name, MOST_FILE_BYTES) {
         Ok(bytes) => value_in(alloc, bytes.as_slice()),
         Err(cause) => Err(cause),
     }

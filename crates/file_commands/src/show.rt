@@ -18,7 +18,7 @@ use plan_base::Bytes;
 use std::alloc::Global;
 
 /// The most bytes of a frame in hex: two digits for each byte of the longest frame, and a line feed.
-const HEX_MAX: usize = 33_025;
+const MOST_HEX_BYTES: usize = 33_025;
 
 /// `show FILE`: what a frame in hex says.
 pub struct Show;
@@ -139,7 +139,7 @@ impl FileCommand for Show {
     ghost said = { frame_said };
 
     fn limit() -> usize {
-        HEX_MAX
+        MOST_HEX_BYTES
     }
 
     #[tactic(auto, using(crate::proofs::Rendering::renders_none, crate::proofs::Rendering::renders_text))]

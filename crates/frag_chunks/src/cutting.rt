@@ -12,7 +12,7 @@ use remote_calls::{NoBound, Purse};
 use std::alloc::{AllocError, Global};
 
 /// The most bytes of a part.
-pub const SIZE: usize = 8192;
+pub const MOST_PART_BYTES: usize = 8192;
 
 /// A part of a message: a chunk, and the bound that it is sent with.
 #[derive(Drop)]
@@ -146,11 +146,11 @@ fn piece_of(bytes: &[u8], index: usize) -> &[u8]
     ensures piece { result.now ≡ spec.piece_of bytes.now index }
     ensures few { length result.now ≤ 8192 }
 {
-    let rest = &bytes[SIZE * index..];
-    if rest.len() < SIZE {
+    let rest = &bytes[MOST_PART_BYTES * index..];
+    if rest.len() < MOST_PART_BYTES {
         rest
     } else {
-        &rest[..SIZE]
+        &rest[..MOST_PART_BYTES]
     }
 }
 
@@ -190,7 +190,7 @@ fn count_of(bytes: &[u8]) -> u32
     requires { spec.IsMessage bytes.now }
     ensures { result ≡ spec.parts_in (length bytes.now) }
 {
-    ((bytes.len() + (SIZE - 1)) / SIZE) as u32
+    ((bytes.len() + (MOST_PART_BYTES - 1)) / MOST_PART_BYTES) as u32
 }
 
 /// All parts of a message.

@@ -13,7 +13,7 @@ use std::alloc::Global;
 use std::marker::Model;
 
 /// The most keys that are kept.
-const KEYS: usize = 64;
+const MOST_KEYS: usize = 64;
 
 /// What a note is to a gatherer.
 #[derive(Clone, Copy, PartialEq, Eq)]
@@ -107,7 +107,7 @@ fn add_new(alloc: Global, entries: &mut Vec<Entry>, given: Given<'_>) -> Result<
         (λ a. entries.new.items ≡ spec.after a (as_said given.entry) entries.old.items) }
     ensures err { OnErr result (entries.new.items ≡ entries.old.items) }
 {
-    if entries.len() >= KEYS {
+    if entries.len() >= MOST_KEYS {
         return Ok(Added::Full);
     }
     let (answer, holding) = begin(alloc, given)?;

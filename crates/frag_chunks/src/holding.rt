@@ -6,7 +6,7 @@ ghost use Rattle.frag_chunks.specs.Saying.{as_said, FewIn, FewPlaces};
 ghost use Rattle.frag_chunks.specs.declared.holding.Holding.TheVariants as Shape;
 ghost use Rattle.frag_chunks.specs.declared.gather.Added.TheVariants as Verdict;
 
-use crate::cutting::SIZE;
+use crate::cutting::MOST_PART_BYTES;
 use crate::gather::{Added, Held};
 use crate::given::Given;
 use plan_base::{Bytes, NoMemory};
@@ -35,21 +35,25 @@ pub struct Entry {
 }
 
 /// The most parts of a message.
-const MOST: i64 = 32;
+const MOST_PARTS: i64 = 32;
 
 /// Whether the numbers and the size are those of a part.
 fn is_part(given: Given<'_>) -> bool
     ensures { result ≡
         spec.is_part given.entry.index given.entry.count (length given.entry.piece.now) }
 {
-    if given.count < 1 || given.count > MOST || given.index < 0 || given.index >= given.count {
+    if given.count < 1
+        || given.count > MOST_PARTS
+        || given.index < 0
+        || given.index >= given.count
+    {
         return false;
     }
     let size = given.piece.len();
     if given.index + 1 < given.count {
-        size == SIZE
+        size == MOST_PART_BYTES
     } else {
-        1 <= size && size <= SIZE
+        1 <= size && size <= MOST_PART_BYTES
     }
 }
 

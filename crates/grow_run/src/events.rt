@@ -18,7 +18,7 @@ use service_api::Services;
 use std::alloc::Global;
 
 /// The bound of an injection.
-const BOUND: u32 = 20;
+const PING_BOUND: u32 = 20;
 
 /// The hosts of the network. Each of them ticks once before anything is drawn.
 const HOSTS: u32 = 8;
@@ -32,7 +32,7 @@ fn event_of(alloc: Global, code: &Checked, choice: Choice) -> Result<WorldEvent,
     match choice {
         Choice::Inject(from, to) => {
             let chunk = ping(alloc, code, from, to)?;
-            Ok(WorldEvent::Inject(from, chunk, BOUND, None))
+            Ok(WorldEvent::Inject(from, chunk, PING_BOUND, None))
         }
         Choice::Send(host, dev) => Ok(WorldEvent::Send(host, dev)),
         Choice::Deliver(number) => Ok(WorldEvent::Deliver(number)),

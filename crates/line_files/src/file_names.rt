@@ -11,7 +11,7 @@ use std::alloc::Global;
 use std::str;
 
 /// The longest file name, in bytes.
-const NAME_MAX: usize = 255;
+const MOST_NAME_BYTES: usize = 255;
 
 fn utf8_text(bytes: &[u8]) -> Option<&str>
     ensures { MatchOption result (is_utf8 bytes.now ≡ false) (λ text. (text.now ≡ bytes.now) × (is_utf8 bytes.now ≡ true)) }
@@ -26,7 +26,7 @@ fn utf8_text(bytes: &[u8]) -> Option<&str>
 pub fn as_file_name(word: &[u8]) -> Option<&str>
     ensures { MatchOption result (is_file_name word.now ≡ false) (λ name. (name.now ≡ word.now) × (is_file_name word.now ≡ true)) }
 {
-    if word.is_empty() || word.len() > NAME_MAX {
+    if word.is_empty() || word.len() > MOST_NAME_BYTES {
         return None;
     }
     utf8_text(word)

@@ -3,4 +3,4 @@
 
 mod queue;
 
-pub use queue::{Queue, ROOM};
+pub use queue::{MOST_QUEUED, Queue};

@@ -6,7 +6,7 @@ use std::alloc::Global;
 use std::marker::Model;
 
 /// The number of items that a queue has room for.
-pub const ROOM: u32 = 64;
+pub const MOST_QUEUED: u32 = 64;
 
 /// A queue of at most 64 items, which contracts see as the list of its items from front to end.
 #[derive(Drop)]
@@ -32,7 +32,7 @@ impl<T: Drop> Queue<T> {
     pub fn with_room(alloc: Global) -> Result<Queue<T>, NoMemory>
         ensures { IfOk result (λ q. q ≡ []) }
     {
-        let ring = HeapCircularBuffer::with_capacity(alloc, ROOM as usize)?;
+        let ring = HeapCircularBuffer::with_capacity(alloc, MOST_QUEUED as usize)?;
         Ok(Queue { ring })
     }
 

@@ -5,7 +5,7 @@ ghost use Rattle.link_window.specs.Stands.{WindowStands, number_took, window_too
 ghost use Rattle.link_window.specs.declared.window.Took.TheVariants.{Fresh as FreshOne};
 
 /// The number of places of a window.
-const PLACES: u64 = 1024;
+const WINDOW_PLACES: u64 = 1024;
 
 /// What a frame bears under version 2: the moment at which its sender began, and its number on its device.
 #[derive(Clone, Copy, PartialEq, Eq)]
@@ -63,10 +63,10 @@ impl Window {
     fn judge_number(&self, link: u64) -> Took
         ensures { result ≡ number_took self.now link }
     {
-        if self.top >= PLACES && link <= self.top - PLACES {
+        if self.top >= WINDOW_PLACES && link <= self.top - WINDOW_PLACES {
             return Took::TooOld;
         }
-        if self.turns[(link % PLACES) as usize] == link / PLACES + 1 {
+        if self.turns[(link % WINDOW_PLACES) as usize] == link / WINDOW_PLACES + 1 {
             return Took::Repeated;
         }
         Took::Fresh
@@ -98,7 +98,7 @@ impl Window {
     fn note(&mut self, link: u64)
         ensures { self.new ≡ window_with self.old link }
     {
-        self.turns[(link % PLACES) as usize] = link / PLACES + 1;
+        self.turns[(link % WINDOW_PLACES) as usize] = link / WINDOW_PLACES + 1;
         if link > self.top {
             self.top = link;
         }

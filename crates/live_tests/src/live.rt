@@ -2,7 +2,7 @@ ghost use Rattle.std.specs.Prelude.{◌≡◌, ◌∷◌, [], IfSome};
 ghost use Rattle.node_io.specs.Links.{HasPeer};
 
 use live_io::{HostClock, HostSpawner, UdpLink};
-use node_io::{Clock, Got, Link, Peer, Peers, RECEIVED_MAX, Spawner};
+use node_io::{Clock, Got, Link, MOST_RECEIVED, Peer, Peers, Spawner};
 use plan_base::{Bytes, Dev, Text, Texts};
 use std::alloc::Global;
 use std::net::{Ipv4Addr, UdpSocket};
@@ -61,7 +61,7 @@ fn begins(buf: &[u8; 16_513], frame: &[u8]) -> bool {
 fn hears_itself<L: Link>(link: &mut L, port: u16, peers: &Peers, dev: Dev, frame: &[u8]) -> bool
     requires { HasPeer peers.now dev }
 {
-    let mut buf = [0; RECEIVED_MAX];
+    let mut buf = [0; MOST_RECEIVED];
     link.bind(port, peers).is_ok()
         && link.bind(port, peers).is_ok()
         && link.recv(&mut buf) == Got::Nothing
@@ -84,8 +84,8 @@ fn add_sevens(bytes: &mut Bytes, count: u32) -> bool {
 fn cuts<L: Link>(link: &mut L, port: u16, peers: &Peers, dev: Dev, frame: &[u8]) -> bool
     requires { HasPeer peers.now dev }
 {
-    let mut buf = [0; RECEIVED_MAX];
-    link.bind(port, peers).is_ok() && hears(link, &mut buf, dev, frame, RECEIVED_MAX)
+    let mut buf = [0; MOST_RECEIVED];
+    link.bind(port, peers).is_ok() && hears(link, &mut buf, dev, frame, MOST_RECEIVED)
 }
 
 // A peer on a device at a port.

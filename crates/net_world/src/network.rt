@@ -25,7 +25,7 @@ use wire_numbers::{highest, lowest};
 use world_model::{Handing, Line, Lines, LinkEnd, Wire, Wired};
 
 /// The number of frames that the wire holds.
-const WIRE_ROOM: usize = 4096;
+const MOST_ON_WIRE: usize = 4096;
 
 /// The parts of a network: its nodes, its links, the frames on the wire, the number of the next frame, the
 /// number of events so far and its version.
@@ -139,7 +139,7 @@ impl<S: Services> Network<S> {
         let Some(to) = far_end(self.links.as_slice(), host, dev) else {
             return nothing(alloc);
         };
-        if self.wire.len() >= WIRE_ROOM {
+        if self.wire.len() >= MOST_ON_WIRE {
             return nothing(alloc);
         }
         let Acts { list, frame } = take_at(alloc, &mut self.nodes, at, dev)?;

@@ -11,13 +11,13 @@ use spelled_frame::SpelledFrame;
 use std::alloc::AllocError;
 
 /// The number of frames that a device's queue holds.
-const ROOM: u32 = link_queue::ROOM;
+const MOST_QUEUED: u32 = link_queue::MOST_QUEUED;
 
 /// Whether a device's queue has room.
 fn lane_room(lane: &Lane) -> bool
     ensures { result ≡ spec.lane_room lane.now }
 {
-    lane.frames.len() < ROOM
+    lane.frames.len() < MOST_QUEUED
 }
 
 /// Whether a device has given all its numbers, where the frame needs one.

@@ -27,7 +27,7 @@ pub use counts::raise;
 pub use file_list::FileList;
 pub use host_files::HostFiles;
 pub use host_sink::HostSink;
-pub use link::{Arrival, Arrivals, Got, Link, Peer, Peers, RECEIVED_MAX, SentFrames};
+pub use link::{Arrival, Arrivals, Got, Link, MOST_RECEIVED, Peer, Peers, SentFrames};
 pub use mem_files::MemFiles;
 pub use mem_link::MemLink;
 pub use mem_sink::MemSink;

@@ -6,7 +6,7 @@ use plan_base::{Bytes, Dev};
 use plan_items::Items;
 
 /// The bytes that a receiving has room for: one more than the longest frame.
-pub const RECEIVED_MAX: usize = 16_513;
+pub const MOST_RECEIVED: usize = 16_513;
 
 /// What a receiving answers.
 #[derive(Clone, Copy, PartialEq, Eq)]

@@ -3,7 +3,7 @@ ghost use Rattle.node_io.specs.Links.{has_peer, HasPeer, IsFrameOfPeer, IsHeard,
 ghost use Rattle.node_io.specs.Memory.{link_state, IsDueAtLink, LinkLacksMemory, CountsAtLink};
 
 use crate::counts::{is_due, raise};
-use crate::link::{Arrival, Arrivals, Got, Link, Peer, Peers, RECEIVED_MAX, SentFrames};
+use crate::link::{Arrival, Arrivals, Got, Link, MOST_RECEIVED, Peer, Peers, SentFrames};
 use crate::outside::{Calls, Failed};
 use plan_base::{Bytes, Dev, NoMemory};
 use plan_items::Items;
@@ -70,7 +70,7 @@ fn put_front(bytes: &[u8], buf: &mut [u8]) -> usize
     ensures front { take result buf.new ≡ take 16513 bytes.now }
     ensures room { length buf.new ≡ length buf.old }
 {
-    let count = bytes.len().min(RECEIVED_MAX);
+    let count = bytes.len().min(MOST_RECEIVED);
     buf[..count].copy_from_slice(&bytes[..count]);
     count
 }

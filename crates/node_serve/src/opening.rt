@@ -9,7 +9,7 @@ ghost use Rattle.node_serve.specs.Openings.{BindsNode, BeginsLog, Opens};
 use crate::fault::ServeFault;
 use network_plan::ServeConfig;
 use node_files::put_log_head;
-use node_io::{Files, Link, Peer, Peers, RECEIVED_MAX, Sink, put_all, put_file};
+use node_io::{Files, Link, MOST_RECEIVED, Peer, Peers, Sink, put_all, put_file};
 use plan_base::{Bytes, Dev, NoMemory};
 use std::alloc::Global;
 
@@ -36,7 +36,7 @@ fn peers_at(alloc: Global, control: u16, ports: &[(Dev, u16)]) -> Result<Peers, 
 pub(crate) fn room(alloc: Global) -> Result<Vec<u8>, NoMemory>
     ensures { IfOk result (λ room. length room.items ≡ 16513) }
 {
-    Ok(vec![in alloc; 0; RECEIVED_MAX]?)
+    Ok(vec![in alloc; 0; MOST_RECEIVED]?)
 }
 
 /// Binds the link at the node's own port, with its peers.

@@ -12,18 +12,16 @@ use crate::fault::{ParseFault, Wanted};
 use crate::level::Level;
 use crate::node::{Node, leaf, over};
 use crate::reader::{ExprReader, name_at, need_open};
-use crate::types::{opens, type_to};
+use crate::types::{MOST_PARTS, opens, type_to};
 use plan_base::{Dev, Expr, Host, Limit, Name};
 use plan_items::Items;
 use plan_lexer::{Key, Symbol, TokenKind};
 use std::alloc::Global;
 
 /// The arguments that a call may have.
-const MOST_ARGUMENTS: usize = 8;
-/// The parts that a tuple may have.
-const MOST_PARTS: usize = 8;
+pub const MOST_ARGUMENTS: usize = 8;
 /// The items that brackets may have.
-const MOST_ITEMS: usize = 63;
+pub const MOST_ITEMS: usize = 63;
 
 fn literal_key(key: Key) -> Option<Expr>
     ensures { result ≡ spec.literal_key key }

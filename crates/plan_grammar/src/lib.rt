@@ -17,9 +17,10 @@ mod start;
 mod types;
 
 pub use ahead::Ahead;
+pub use atoms::{MOST_ARGUMENTS, MOST_ITEMS};
 pub use fault::{ParseFault, Wanted};
 pub use level::Level;
 pub use levels::expr_to;
-pub use node::Node;
+pub use node::{MOST_DEPTH, Node};
 pub use reader::name_at;
-pub use types::{begins_type, opens, past_type, type_to};
+pub use types::{MOST_PARTS, begins_type, opens, past_type, type_to};

@@ -20,7 +20,7 @@ use std::alloc::Global;
 /// The deepest type.
 const MOST_TYPE_DEPTH: usize = 8;
 /// The parts that a tuple may have.
-const MOST_PARTS: usize = 8;
+pub const MOST_PARTS: usize = 8;
 
 fn simple_type(key: Key) -> Option<Ty>
     ensures { result ≡ begins.simple_type key }

@@ -7,7 +7,7 @@ ghost use Rattle.plan_parser.specs.Programs as spec;
 use crate::program::Gathered;
 use crate::signature::{Head, MOST_OPEN, head_at, service_at};
 use plan_base::{Draft, Fun, Limit, Places, Program};
-use plan_grammar::{Ahead, Level, Node, ParseFault, Wanted, expr_to, name_at};
+use plan_grammar::{Ahead, Level, MOST_DEPTH, Node, ParseFault, Wanted, expr_to, name_at};
 use plan_items::Items;
 use plan_lexer::{Key, Token};
 use std::alloc::Global;
@@ -16,8 +16,6 @@ use std::alloc::Global;
 const MOST_DECLARATIONS: usize = 64;
 /// The expressions that a program may have.
 const MOST_NODES: usize = 4096;
-/// The deepest expression of a function.
-const MOST_DEPTH: u32 = 64;
 
 /// Refuses the declaration past the limit.
 #[tactic(auto, unfolding(crate::specs::Programs::one_more))]

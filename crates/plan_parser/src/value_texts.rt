@@ -12,13 +12,10 @@ use crate::item::{TypedValue, begins_value};
 use crate::value_fault::ValueFault;
 use crate::values::{MOST_NESTED, past_value, value_to};
 use plan_base::{Limit, Value, Values};
-use plan_grammar::{Ahead, ParseFault, Wanted};
+use plan_grammar::{Ahead, MOST_ARGUMENTS, ParseFault, Wanted};
 use plan_items::Items;
 use plan_lexer::{Symbol, Token, lex};
 use std::alloc::Global;
-
-/// The arguments that an entry may have.
-const MOST_ARGUMENTS: usize = 8;
 
 /// Refuses what follows.
 #[tactic(auto, unfolding(crate::specs::Values::ended))]

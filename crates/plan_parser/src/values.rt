@@ -10,7 +10,7 @@ ghost use Rattle.plan_parser.specs.InsideValues.{ReadsValues};
 use crate::item::{TypedValue, begins_value, list_of, literal_at, tuple_of, typed};
 use plan_base::{Limit, Ty, Value, Values};
 use plan_equality::Same;
-use plan_grammar::{Ahead, ParseFault, Wanted, opens, type_to};
+use plan_grammar::{Ahead, MOST_ITEMS, MOST_PARTS, ParseFault, Wanted, opens, type_to};
 use plan_items::Items;
 use plan_lexer::Symbol;
 use plan_sizes::Deep;
@@ -18,10 +18,6 @@ use std::alloc::Global;
 
 /// The lists and tuples that may stand inside each other.
 pub const MOST_NESTED: u32 = 7;
-/// The parts that a tuple may have.
-const MOST_PARTS: usize = 8;
-/// The items that brackets may have.
-const MOST_ITEMS: usize = 63;
 
 /// What reads values, with the function that reads those inside one more list or tuple.
 #[derive(Clone, Copy)]

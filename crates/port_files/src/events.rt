@@ -8,10 +8,10 @@ use plan_base::{Dev, Host};
 use std::alloc::Global;
 
 /// The most bytes of a body.
-const BODY_MAX: usize = 4_096;
+const MOST_BODY_BYTES: usize = 4_096;
 
 /// The most events.
-const EVENTS_MAX: usize = 50_000;
+const MOST_EVENTS: usize = 50_000;
 
 /// Whether a number is that of an end's host.
 fn is_end(n: u32) -> bool
@@ -45,7 +45,7 @@ fn frame(words: &mut Words<'_>) -> Result<u32, LineReason>
 fn offer(alloc: Global, reading: &mut PortReading, words: &mut Words<'_>) -> Result<(), LineStop>
     ensures { Leaves result reading.new (spec.offer_line words.old reading.old) }
 {
-    let body = hex_bytes(alloc, words, 1, BODY_MAX)?;
+    let body = hex_bytes(alloc, words, 1, MOST_BODY_BYTES)?;
     words.end()?;
     reading.events.add(PortEvent::Offer(body))?;
     Ok(())
@@ -135,6 +135,6 @@ pub fn read_event(
 {
     let word = words.next()?;
     let kind = PortWord::of(word).ok_or(LineReason::BadWord)?;
-    allow(reading.events.len() < EVENTS_MAX, LineReason::TooMany)?;
+    allow(reading.events.len() < MOST_EVENTS, LineReason::TooMany)?;
     read_rest(alloc, kind, reading, words)
 }

@@ -9,7 +9,7 @@ ghost use Rattle.file_commands.specs.Renders.{Prints, Renders};
 ghost use Rattle.run_commands.specs.Schedules.{schedule_limit, schedule_said, is_header_fault, replayed_of, as_log, replay_text, log_trace};
 
 use call_causes::Cause;
-use file_commands::FileCommand;
+use file_commands::{FileCommand, MOST_FILE_BYTES};
 use line_files::{LineFault, LineReason};
 use log_replay::{ReplayFault, run_log};
 use net_world::{RunFault, run};
@@ -21,9 +21,6 @@ use plan_items::Items;
 use schedule_text::read_schedule;
 use service_registry::Registry;
 use std::alloc::Global;
-
-/// The most bytes of a file that is replayed.
-const SCHEDULE_MAX: usize = 4_194_304;
 
 /// `replay FILE`: the trace and the ledger of a schedule, or the trace of a node's log.
 pub struct Replay;
@@ -112,7 +109,7 @@ impl FileCommand for Replay {
     ghost said = { schedule_said };
 
     fn limit() -> usize {
-        SCHEDULE_MAX
+        MOST_FILE_BYTES
     }
 
     #[tactic(auto, using(crate::proofs::Replaying::schedule_printed))]

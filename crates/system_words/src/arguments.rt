@@ -8,7 +8,7 @@ use std::env::FillError;
 use std::rt::Env;
 
 /// The longest argument of a program on Linux, in bytes.
-const ARGUMENT_MAX: usize = 131_072;
+const MOST_ARGUMENT_BYTES: usize = 131_072;
 
 /// An argument, as the system gives it.
 #[derive(Drop)]
@@ -46,7 +46,7 @@ fn argument_in<R: Env>(
 fn argument_at<R: Env>(alloc: Global, system: &R, i: usize) -> Result<Option<Argument>, NoMemory>
     ensures { IfOk result (λ found. IfSome found IsShort) }
 {
-    let mut buf = vec![in alloc; 0u8; ARGUMENT_MAX]?;
+    let mut buf = vec![in alloc; 0u8; MOST_ARGUMENT_BYTES]?;
     argument_in(alloc, system, i, &mut buf)
 }
 
