@@ -8,9 +8,9 @@ use Rattle.plan_base.specs.declared.tree.Fun.{Fun}
 use Rattle.plan_base.specs.declared.tree.Param.{Param}
 use Rattle.plan_base.specs.declared.tree.Program.{Program}
 use Rattle.plan_base.specs.declared.tree.Value.{Value}
-use Rattle.plan_meaning.specs.declared.stop.EvalStop.{EvalStop}
+use Rattle.plan_meaning.specs.declared.stop.Stop.{Stop}
 use Rattle.plan_meaning.specs.State.{VisitState}
-use Rattle.plan_meaning.specs.Run.{RunStep}
+use Rattle.plan_meaning.specs.Run.{Step}
 use Rattle.plan_meaning.specs.Safe.{IsSafe}
 use Rattle.plan_meaning.specs.Meaning.{meaning, bound, entered}
 use Rattle.plan_eval.specs.declared.stack_frame.StackFrame.{StackFrame}
@@ -89,13 +89,13 @@ module _ (code : Program) (fun : ℕ) (f : Fun) (args vs : List Value) (fs : Lis
   pub body_binds : IsSome (bound f.params vs)
   body_binds = rw same (binds_some f.params args many)
 
-  bodies : (codes : List Program) (number : ℕ) (want : RunStep Value) (r : Result Flow EvalStop) (t : VisitState) → slice_get codes number ≡ Some code
+  bodies : (codes : List Program) (number : ℕ) (want : Step Value) (r : Result Flow Stop) (t : VisitState) → slice_get codes number ≡ Some code
       → Flows codes code fun (record { expr = f.body; env = env_of f args [] }) want r t → Bodies codes code number fun f args want r t
   bodies codes number want (Ok (flow.Done v)) t is h = h
   bodies codes number want (Ok (flow.Wait r)) t is h = record { program = is; function = has; binds = binds_some f.params args many; waits = h }
   bodies codes number want (Err e) t is h = h
 
-  pub bodies_from : (codes : List Program) (number : ℕ) (r : Result Flow EvalStop) (t : VisitState) → slice_get codes number ≡ Some code
+  pub bodies_from : (codes : List Program) (number : ℕ) (r : Result Flow Stop) (t : VisitState) → slice_get codes number ≡ Some code
       → Flows codes code fun (record { expr = f.body; env = env_of f vs fs }) (meaning code fun (env_of f vs fs) f.body s) r t → Bodies codes code number fun f args (entered meaning code fun args s) r t
   bodies_from codes number r t is h =
       bodies codes number _ r t is (rw (same, none) at (flows_from codes code fun (record { expr = f.body; env = env_of f vs fs }) _ _ r t body_leads h))
@@ -121,7 +121,7 @@ module _ (codes : List Program) (a : Activation) (code : Program) (f : Fun) (e :
 
 -- ---- the innermost expression of the machine's stack
 
-module _ (codes new : List Program) (outer : List Activation) (a : Activation) (s : VisitState) (linked : AreLinked codes (outer ++ a ∷ [])) (grows : Grows codes new) (r : Result Mode EvalStop) (outer' : List Activation) (t : VisitState) where
+module _ (codes new : List Program) (outer : List Activation) (a : Activation) (s : VisitState) (linked : AreLinked codes (outer ++ a ∷ [])) (grows : Grows codes new) (r : Result Mode Stop) (outer' : List Activation) (t : VisitState) where
   alike : (code : Program) (at : Spot) → slice_get codes a.code ≡ Some code → spot_in codes a ≡ Some at
       → stands_for codes (outer ++ a ∷ []) mode.Run s ≡ all_ended (codes ++ grows.more) outer (ended (codes ++ grows.more) a (meaning code a.fun at.env at.expr s))
   alike code at is there =

@@ -6,7 +6,7 @@ use Rattle.plan_base.specs.declared.tree.Value.{Value}
 use Rattle.plan_base.specs.declared.tree.Chunk.{Chunk}
 use Rattle.typing_rules.specs.TypingNames.{place_of}
 use Rattle.plan_meaning.specs.State.{VisitState}
-use Rattle.plan_meaning.specs.Run.{RunStep}
+use Rattle.plan_meaning.specs.Run.{Step}
 use Rattle.plan_meaning.specs.Meaning.{Env, meaning, bound, entered}
 use Rattle.plan_eval.specs.declared.stack_frame.StackFrame.{StackFrame}
 use Rattle.plan_eval.specs.declared.stack_frame.StackFrame.TheVariants as frame
@@ -29,11 +29,11 @@ pub spot_in_entry : (codes : List Program) (at fun : ℕ) (args : List Value) (c
 unfolding spot_in start_of
 spot_in_entry codes at fun args code f env is there binds = rw (is, there, binds) refl
 
-ended_in_entry : (o : Option Program) (start : Option Spot) (at fun : ℕ) (args : List Value) (r : RunStep Value) → ended_in o start (entry at fun args) r ≡ r
+ended_in_entry : (o : Option Program) (start : Option Spot) (at fun : ℕ) (args : List Value) (r : Step Value) → ended_in o start (entry at fun args) r ≡ r
 ended_in_entry (Some code) start at fun args r = refl
 ended_in_entry None start at fun args r = refl
 
-pub ended_entry : (codes : List Program) (at fun : ℕ) (args : List Value) (r : RunStep Value) → ended codes (entry at fun args) r ≡ r
+pub ended_entry : (codes : List Program) (at fun : ℕ) (args : List Value) (r : Step Value) → ended codes (entry at fun args) r ≡ r
 unfolding ended
 ended_entry codes at fun args r = ended_in_entry (slice_get codes at) (start_of codes (entry at fun args)) at fun args r
 

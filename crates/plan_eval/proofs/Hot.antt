@@ -12,10 +12,10 @@ use Rattle.plan_base.specs.declared.tree.Expr as expr
 use Rattle.plan_base.specs.Sizes.{weight, nesting}
 use Rattle.plan_base.proofs.SizeLaws.{weight_out, nesting_out}
 use Rattle.plan_base.specs.Trees.{ExprLayer, trees}
-use Rattle.plan_meaning.specs.declared.stop.EvalStop.{EvalStop}
-use Rattle.plan_meaning.specs.declared.stop.EvalStop.TheVariants.{Wrong, WorkSpent}
+use Rattle.plan_meaning.specs.declared.stop.Stop.{Stop}
+use Rattle.plan_meaning.specs.declared.stop.Stop.TheVariants.{Wrong, WorkSpent}
 use Rattle.plan_meaning.specs.State.{VisitState}
-use Rattle.plan_meaning.specs.Run.{RunStep, gave, stopped, pure, «next», spend, weighed, is_too_large}
+use Rattle.plan_meaning.specs.Run.{Step, gave, stopped, pure, «next», spend, weighed, is_too_large}
 use Rattle.plan_meaning.specs.Safe.{IsSafe}
 use Rattle.plan_meaning.specs.Meaning.{Env, meaning, bound, as_bool, value_of}
 use Rattle.plan_eval.specs.declared.stack_frame.StackFrame.{StackFrame}
@@ -36,7 +36,7 @@ use Rattle.plan_eval.proofs.Taking.{resume_asks}
 use Rattle.plan_eval.proofs.Backs.{flows_from, gives_here, resume_gave}
 
 -- a name's value, once it is weighed
-pub variable_gives : (codes : List Program) (code : Program) (seen : ℕ) (e : Expr) (x : Name) (f : Fun) (args : List Value) (frames : List StackFrame) (v : Value) (r : Result Flow EvalStop) (s t : VisitState)
+pub variable_gives : (codes : List Program) (code : Program) (seen : ℕ) (e : Expr) (x : Name) (f : Fun) (args : List Value) (frames : List StackFrame) (v : Value) (r : Result Flow Stop) (s t : VisitState)
     → out-Expr e ≡ Expr-F.Var x → IsSome (bound f.params args) → value_from x (argument_of x None f.params args) (Some f.body) frames ≡ Some v
     → Flows codes code seen (record { expr = e; env = env_of f args frames }) (weighed v s) r t
     → Flows codes code seen (record { expr = e; env = env_of f args frames }) (begins code seen (record { expr = e; env = env_of f args frames }) s) r t
@@ -53,20 +53,20 @@ pub number_gives : (code : Program) (seen : ℕ) (e : Expr) (n : ℤ) (env : Env
 number_gives code seen e n env s form = gives_literal code seen env s e (value.Int n) (rw form refl)
 
 -- what passes a part that gave no value
-resumed_stops : (code : Program) (seen : ℕ) (l : ExprLayer) (env : Env) (n : ℕ) (held : List Value) (c : RunStep Value) (x : EvalStop) (s : VisitState) → IsNoTry l → c.after ≡ stopped x s
+resumed_stops : (code : Program) (seen : ℕ) (l : ExprLayer) (env : Env) (n : ℕ) (held : List Value) (c : Step Value) (x : Stop) (s : VisitState) → IsNoTry l → c.after ≡ stopped x s
     → (resumed code seen l env n held c).after ≡ stopped x s
 resumed_stops code seen (Expr-F.Try a ks) env n held c x s other is = absurd other
 resumed_stops code seen l env n held c x s other is = rw is refl
 
 module _ (code : Program) (seen : ℕ) (at : Spot) where
-  pub part_stops_so : (n : ℕ) (held : List Value) (c : RunStep Value) (x : EvalStop) (s : VisitState) → IsNoTry (out-Expr at.expr) → c.after ≡ stopped x s → (resume code seen at (frame.Part n held) c).after ≡ stopped x s
+  pub part_stops_so : (n : ℕ) (held : List Value) (c : Step Value) (x : Stop) (s : VisitState) → IsNoTry (out-Expr at.expr) → c.after ≡ stopped x s → (resume code seen at (frame.Part n held) c).after ≡ stopped x s
   part_stops_so n held c x s other is = resumed_stops code seen (out-Expr at.expr) at.env n held c x s other is
 
-  pub last_stops_so : (n : ℕ) (c : RunStep Value) (x : EvalStop) (s : VisitState) → c.after ≡ stopped x s → (resume code seen at (frame.Last n) c).after ≡ stopped x s
+  pub last_stops_so : (n : ℕ) (c : Step Value) (x : Stop) (s : VisitState) → c.after ≡ stopped x s → (resume code seen at (frame.Last n) c).after ≡ stopped x s
   last_stops_so n c x s is = rw is refl
 
   -- a part that gave its value
-  pub part_came : (n : ℕ) (held : List Value) (c : RunStep Value) (v : Value) (s : VisitState) → c.after ≡ gave v s → Leads (resume code seen at (frame.Part n held) c) (part_gave code seen at n held v s)
+  pub part_came : (n : ℕ) (held : List Value) (c : Step Value) (v : Value) (s : VisitState) → c.after ≡ gave v s → Leads (resume code seen at (frame.Part n held) c) (part_gave code seen at n held v s)
   part_came n held c v s is = onward _ _ _ (resume_gave code seen at c s (frame.Part n held) v is) (part_given code seen at s (out-Expr at.expr) n held v)
 
   -- the first part
@@ -231,7 +231,7 @@ module _ (n : ℤ) (s s1 : VisitState) where
   unfolding weighed is_too_large
   weighs_nine h = rw (weight_int n, nesting_int n) (ap (λ r. («next» r (λ _. pure (value.Int n))).after) h)
 
-  stops_nine : (x : EvalStop) → (spend 9 s).after ≡ stopped x s1 → (weighed (value.Int n) s).after ≡ stopped x s1
+  stops_nine : (x : Stop) → (spend 9 s).after ≡ stopped x s1 → (weighed (value.Int n) s).after ≡ stopped x s1
   unfolding weighed is_too_large
   stops_nine x h = rw (weight_int n, nesting_int n) (ap (λ r. («next» r (λ _. pure (value.Int n))).after) h)
 

@@ -10,15 +10,15 @@ use Rattle.plan_base.specs.declared.tree.Program.{Program}
 use Rattle.plan_base.specs.declared.tree.Value.{Value}
 use Rattle.plan_base.specs.declared.tree.Value as value
 use Rattle.plan_base.specs.declared.tree.Chunk.{Chunk}
-use Rattle.plan_meaning.specs.declared.stop.EvalStop.{EvalStop}
-use Rattle.plan_meaning.specs.declared.stop.EvalStop.TheVariants.{Wrong}
+use Rattle.plan_meaning.specs.declared.stop.Stop.{Stop}
+use Rattle.plan_meaning.specs.declared.stop.Stop.TheVariants.{Wrong}
 use Rattle.plan_meaning.specs.State.{VisitState}
 use Rattle.plan_meaning.specs.Run.{stopped, «next», ◌>>◌, pure, weighed}
 use Rattle.plan_meaning.specs.Meaning.{Env, meaning, as_int, as_host, as_dev, as_chunk, pay_eval, visited, send_remote, send_neighbour}
 use Rattle.plan_eval.specs.Nexts.{part_gave}
 
 module _ (code : Program) (seen : ℕ) (e : Expr) (env : Env) (s : VisitState) where
-  pub chunk_unpaid : (a : Expr) (n : ℕ) (held : List Value) (v : Value) (k : Chunk) (x : EvalStop) (t : VisitState) → out-Expr e ≡ Expr-F.Eval a → as_chunk v ≡ Some k
+  pub chunk_unpaid : (a : Expr) (n : ℕ) (held : List Value) (v : Value) (k : Chunk) (x : Stop) (t : VisitState) → out-Expr e ≡ Expr-F.Eval a → as_chunk v ≡ Some k
       → (pay_eval s).after ≡ stopped x t → (part_gave code seen (record { expr = e; env = env }) n held v s).after ≡ stopped x t
   chunk_unpaid a n held v k x t form is h = rw (form, is) (ap (λ r. («next» («next» r (λ _. visited meaning k >> pure value.Unit)).after weighed).after) h)
 
@@ -26,7 +26,7 @@ module _ (code : Program) (seen : ℕ) (e : Expr) (env : Env) (s : VisitState) w
       → (part_gave code seen (record { expr = e; env = env }) n held v s).after ≡ stopped Wrong s
   no_chunk a n held v form is = rw (form, is) refl
 
-  pub unsent_remote : (a h b : Expr) (r : Name) (n : ℕ) (c w v : Value) (held : List Value) (k : Chunk) (host : Host) (i : ℤ) (x : EvalStop) (t : VisitState)
+  pub unsent_remote : (a h b : Expr) (r : Name) (n : ℕ) (c w v : Value) (held : List Value) (k : Chunk) (host : Host) (i : ℤ) (x : Stop) (t : VisitState)
       → out-Expr e ≡ Expr-F.OnRemote a h b r → as_chunk c ≡ Some k → as_host w ≡ Some host → as_int v ≡ Some i → (send_remote k host i r s).after ≡ stopped x t
       → (part_gave code seen (record { expr = e; env = env }) n (c ∷ w ∷ held) v s).after ≡ stopped x t
   unsent_remote a h b r n c w v held k host i x t form is there much sent = rw (form, is, there, much) (ap (λ q. («next» («next» q (λ _. pure value.Unit)).after weighed).after) sent)
@@ -56,7 +56,7 @@ module _ (code : Program) (seen : ℕ) (e : Expr) (env : Env) (s : VisitState) w
       → (part_gave code seen (record { expr = e; env = env }) n (c ∷ w ∷ held) v s).after ≡ stopped Wrong s
   no_remote_bound a h b r n c w v held k host form is there much = rw (form, is, there, much) refl
 
-  pub unsent_neighbour : (a h b d : Expr) (n : ℕ) (c w u v : Value) (held : List Value) (k : Chunk) (host : Host) (i : ℤ) (dev : Dev) (x : EvalStop) (t : VisitState)
+  pub unsent_neighbour : (a h b d : Expr) (n : ℕ) (c w u v : Value) (held : List Value) (k : Chunk) (host : Host) (i : ℤ) (dev : Dev) (x : Stop) (t : VisitState)
       → out-Expr e ≡ Expr-F.OnNeighbor a h b d → as_chunk c ≡ Some k → as_host w ≡ Some host → as_int u ≡ Some i → as_dev v ≡ Some dev → (send_neighbour k host i dev s).after ≡ stopped x t
       → (part_gave code seen (record { expr = e; env = env }) n (c ∷ w ∷ u ∷ held) v s).after ≡ stopped x t
   unsent_neighbour a h b d n c w u v held k host i dev x t form is there much way sent = rw (form, is, there, much, way) (ap (λ q. («next» («next» q (λ _. pure value.Unit)).after weighed).after) sent)

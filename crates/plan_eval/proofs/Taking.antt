@@ -7,10 +7,10 @@ use Rattle.plan_base.specs.declared.tree.Expr.{Expr-F, out-Expr}
 use Rattle.plan_base.specs.declared.tree.Program.{Program}
 use Rattle.plan_base.specs.declared.tree.Value.{Value}
 use Rattle.plan_base.specs.Trees.{ExprLayer}
-use Rattle.plan_meaning.specs.declared.stop.EvalStop.{EvalStop}
-use Rattle.plan_meaning.specs.declared.stop.EvalStop.TheVariants.{Raised, WorkSpent}
+use Rattle.plan_meaning.specs.declared.stop.Stop.{Stop}
+use Rattle.plan_meaning.specs.declared.stop.Stop.TheVariants.{Raised, WorkSpent}
 use Rattle.plan_meaning.specs.State.{VisitState}
-use Rattle.plan_meaning.specs.Run.{RunStep, gave, stopped, quiet, spend}
+use Rattle.plan_meaning.specs.Run.{Step, gave, stopped, quiet, spend}
 use Rattle.plan_meaning.specs.Meaning.{Env, meaning}
 use Rattle.plan_meaning.specs.Safe.{IsSafe}
 use Rattle.plan_eval.specs.declared.stack_frame.StackFrame.{StackFrame}
@@ -33,11 +33,11 @@ use Rattle.plan_eval.proofs.Gathering.{carries_from}
 -- ---- what a stack asks is asked inside
 
 module _ (code : Program) (seen : ℕ) where
-  resumed_asks : (l : ExprLayer) (env : Env) (n : ℕ) (held : List Value) (p : RunStep Value) → IsSafe (resumed code seen l env n held p).asks → IsSafe p.asks
+  resumed_asks : (l : ExprLayer) (env : Env) (n : ℕ) (held : List Value) (p : Step Value) → IsSafe (resumed code seen l env n held p).asks → IsSafe p.asks
   resumed_asks (Expr-F.Try a ks) env n held p h = h.0.0
   resumed_asks l env n held p h = h.0
 
-  pub resume_asks : (at : Spot) (f : StackFrame) (p : RunStep Value) → IsSafe (resume code seen at f p).asks → IsSafe p.asks
+  pub resume_asks : (at : Spot) (f : StackFrame) (p : Step Value) → IsSafe (resume code seen at f p).asks → IsSafe p.asks
   resume_asks at (frame.Part n held) p h = resumed_asks (out-Expr at.expr) at.env n held p h
   resume_asks at (frame.Last n) p h = h.0
   resume_asks at (frame.Bound v) p h = h.0
@@ -45,20 +45,20 @@ module _ (code : Program) (seen : ℕ) where
   resume_asks at (frame.Items left) p h = h.0
   resume_asks at frame.Chunk p h = h.0
 
-  through_asks : (at : Option Spot) (fs : List StackFrame) (p : RunStep Value) → IsSafe (through code seen at fs p).asks → IsSafe p.asks
+  through_asks : (at : Option Spot) (fs : List StackFrame) (p : Step Value) → IsSafe (through code seen at fs p).asks → IsSafe p.asks
   through_asks at [] p h = h
   through_asks None (f ∷ fs) p h = h
   through_asks (Some at) (f ∷ fs) p h = through_asks (deeper at f) fs p (resume_asks at f _ h)
 
-ended_in_asks : (o : Option Program) (start : Option Spot) (a : Activation) (p : RunStep Value) → IsSafe (ended_in o start a p).asks → IsSafe p.asks
+ended_in_asks : (o : Option Program) (start : Option Spot) (a : Activation) (p : Step Value) → IsSafe (ended_in o start a p).asks → IsSafe p.asks
 ended_in_asks (Some code) start a p h = through_asks code a.fun start a.frames p h
 ended_in_asks None start a p h = h
 
-ended_asks : (codes : List Program) (a : Activation) (p : RunStep Value) → IsSafe (ended codes a p).asks → IsSafe p.asks
+ended_asks : (codes : List Program) (a : Activation) (p : Step Value) → IsSafe (ended codes a p).asks → IsSafe p.asks
 unfolding ended
 ended_asks codes a p h = ended_in_asks (slice_get codes a.code) (start_of codes a) a p h
 
-all_asks : (codes : List Program) (outer : List Activation) (p : RunStep Value) → IsSafe (all_ended codes outer p).asks → IsSafe p.asks
+all_asks : (codes : List Program) (outer : List Activation) (p : Step Value) → IsSafe (all_ended codes outer p).asks → IsSafe p.asks
 all_asks codes [] p h = h
 all_asks codes (a ∷ outer) p h = all_asks codes outer p (ended_asks codes a _ h)
 
@@ -69,19 +69,19 @@ spot_there (Some at) h = (at, refl)
 spot_there None h = absurd (false≢true h)
 
 -- what is done for the innermost activation, wherever it stands
-module _ (codes : List Program) (outer : List Activation) (a : Activation) (decided : Result Next EvalStop) (t t' : VisitState) (r : Result Mode EvalStop) (codes' : List Program) (outer' : List Activation) where
+module _ (codes : List Program) (outer : List Activation) (a : Activation) (decided : Result Next Stop) (t t' : VisitState) (r : Result Mode Stop) (codes' : List Program) (outer' : List Activation) where
   abbrev pub IsApplied : Type 0
-  IsApplied = (code : Program) (at : Spot) (want : RunStep Value) → Stands codes outer a code at → Decides code a.fun at want decided t → IsDone code at decided
+  IsApplied = (code : Program) (at : Spot) (want : Step Value) → Stands codes outer a code at → Decides code a.fun at want decided t → IsDone code at decided
       → Turned (all_ended codes outer (ended codes a want)) r codes' outer' t'
 
-  abbrev pub IsDecided : (Program → Spot → RunStep Value) → Type 0
+  abbrev pub IsDecided : (Program → Spot → Step Value) → Type 0
   IsDecided want = (code : Program) (at : Spot) → slice_get codes a.code ≡ Some code → spot_in codes a ≡ Some at
       → Decides code a.fun at (want code at) decided t × IsDone code at decided
 
-  turned_from : (p q : RunStep Value) → p ≡ q → Turned q r codes' outer' t' → Turned p r codes' outer' t'
+  turned_from : (p q : Step Value) → p ≡ q → Turned q r codes' outer' t' → Turned p r codes' outer' t'
   turned_from p q is h = rw is h
 
-  taken : (want : Program → Spot → RunStep Value) (whole : RunStep Value) → AreLinked codes outer → IsSome (spot_in codes a)
+  taken : (want : Program → Spot → Step Value) (whole : Step Value) → AreLinked codes outer → IsSome (spot_in codes a)
       → ((code : Program) (at : Spot) → slice_get codes a.code ≡ Some code → spot_in codes a ≡ Some at → whole ≡ all_ended codes outer (ended codes a (want code at)))
       → IsDecided want → IsApplied → Turned whole r codes' outer' t'
   taken want whole linked stands same decides applied =
@@ -128,11 +128,11 @@ module _ (codes : List Program) (outer : List Activation) (top a : Activation) (
   safe_below safe code at here there =
       ended_asks codes a _ (all_asks codes outer _ (rw (is, given_frame codes outer code a at f v s here there) at safe))
 
-spent_at : (b : Bool) (s s' : VisitState) (e : EvalStop) (t : VisitState) → (if b then quiet {A = Unit {0}} (stopped WorkSpent s) else quiet (gave tt s')).after ≡ stopped e t → IsFinal e
-spent_at true s s' e t h = let is : WorkSpent ≡ e = cc in subst (λ (x : EvalStop). IsFinal x) is tt
+spent_at : (b : Bool) (s s' : VisitState) (e : Stop) (t : VisitState) → (if b then quiet {A = Unit {0}} (stopped WorkSpent s) else quiet (gave tt s')).after ≡ stopped e t → IsFinal e
+spent_at true s s' e t h = let is : WorkSpent ≡ e = cc in subst (λ (x : Stop). IsFinal x) is tt
 spent_at false s s' e t h = absurd cc
 
-spent_final : (n : ℕ) (s : VisitState) (e : EvalStop) (t : VisitState) → (spend n s).after ≡ stopped e t → IsFinal e
+spent_final : (n : ℕ) (s : VisitState) (e : Stop) (t : VisitState) → (spend n s).after ≡ stopped e t → IsFinal e
 unfolding spend
 spent_final n s e t h = spent_at (nat_lt s.work n) s (record s { work = s.work - n }) e t h
 
@@ -148,7 +148,7 @@ module _ (codes : List Program) (outer : List Activation) (a : Activation) (s : 
   safe_run safe code at here there = ended_asks codes a _ (all_asks codes outer _ (rw (runs_on codes outer code a at s here there) at safe))
 
   -- where the work is spent
-  pub turn_unpaid : (e : EvalStop) (t : VisitState) → (spend 1 s).after ≡ stopped e t → (stands_for codes (outer ++ a ∷ []) mode.Run s).after ≡ stopped e t
+  pub turn_unpaid : (e : Stop) (t : VisitState) → (spend 1 s).after ≡ stopped e t → (stands_for codes (outer ++ a ∷ []) mode.Run s).after ≡ stopped e t
   turn_unpaid e t spent =
       let final = spent_final 1 s e t spent in
       let stands = linked_top codes outer a linked in

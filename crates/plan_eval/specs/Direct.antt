@@ -6,10 +6,10 @@ use Rattle.plan_base.specs.declared.tree.Fun.{Fun}
 use Rattle.plan_base.specs.declared.tree.Program.{Program}
 use Rattle.plan_base.specs.declared.tree.Value.{Value}
 use Rattle.plan_base.specs.declared.tree.Value as value
-use Rattle.plan_meaning.specs.declared.stop.EvalStop.{EvalStop}
-use Rattle.plan_meaning.specs.declared.stop.EvalStop.TheVariants.{Raised, NoMemory}
+use Rattle.plan_meaning.specs.declared.stop.Stop.{Stop}
+use Rattle.plan_meaning.specs.declared.stop.Stop.TheVariants.{Raised, NoMemory}
 use Rattle.plan_meaning.specs.State.{VisitState}
-use Rattle.plan_meaning.specs.Run.{Run, RunStep, gave, stopped, weighed}
+use Rattle.plan_meaning.specs.Run.{Run, Step, gave, stopped, weighed}
 use Rattle.plan_meaning.specs.Meaning.{Env, bound, meaning}
 use Rattle.plan_eval.specs.declared.stack_frame.StackFrame.{StackFrame}
 use Rattle.plan_eval.specs.declared.stack_frame.StackFrame.TheVariants as frame
@@ -52,23 +52,23 @@ innermost_of codes code seen at [] = run_at code seen at
 innermost_of codes code seen at (a ∷ more) = λ s. stands_for codes (a ∷ more) mode.Run s
 
 -- what is left at a spot, as it goes on
-unfoldable pub waits : List Program → Program → ℕ → Spot → Rest → VisitState → RunStep Value
+unfoldable pub waits : List Program → Program → ℕ → Spot → Rest → VisitState → Step Value
 waits codes code seen at r s = through code seen (Some at) (reverse r.frames) (innermost_of codes code seen (spot_from (Some at) (reverse r.frames)) (reverse r.activations) s)
 
 -- an evaluation leads to what is left at a spot
-pub record Waits (codes : List Program) (code : Program) (seen : ℕ) (at : Spot) (want : RunStep Value) (r : Rest) (s : VisitState) : Type 0 where
+pub record Waits (codes : List Program) (code : Program) (seen : ℕ) (at : Spot) (want : Step Value) (r : Rest) (s : VisitState) : Type 0 where
   pub leads : Leads want (waits codes code seen at r s)
   pub stands : IsSome (spot_from (Some at) (reverse r.frames))
   pub linked : AreLinked codes (reverse r.activations)
 
 -- how far an expression at a spot came
-abbrev pub Flows : List Program → Program → ℕ → Spot → RunStep Value → Result Flow EvalStop → VisitState → Type 0
+abbrev pub Flows : List Program → Program → ℕ → Spot → Step Value → Result Flow Stop → VisitState → Type 0
 Flows codes code seen at want (Ok (flow.Done v)) s = want.after ≡ gave v s
 Flows codes code seen at want (Ok (flow.Wait r)) s = Waits codes code seen at want r s
 Flows codes code seen at want (Err e) s = e ≢ NoMemory → want.after ≡ stopped e s
 
 -- an evaluation leads to some activations
-pub record Above (codes : List Program) (want : RunStep Value) (r : Rest) (s : VisitState) : Type 0 where
+pub record Above (codes : List Program) (want : Step Value) (r : Rest) (s : VisitState) : Type 0 where
   pub bare : r.frames ≡ []
   pub first : Activation
   pub more : List Activation
@@ -77,25 +77,25 @@ pub record Above (codes : List Program) (want : RunStep Value) (r : Rest) (s : V
   pub linked : AreLinked codes (first ∷ more)
 
 -- how far a function came
-abbrev pub Enters : List Program → RunStep Value → Result Flow EvalStop → VisitState → Type 0
+abbrev pub Enters : List Program → Step Value → Result Flow Stop → VisitState → Type 0
 Enters codes want (Ok (flow.Done v)) s = want.after ≡ gave v s
 Enters codes want (Ok (flow.Wait r)) s = Above codes want r s
 Enters codes want (Err e) s = e ≢ NoMemory → want.after ≡ stopped e s
 
 -- how far the body of a function with these arguments came, which was entered so
-pub record BodyWaits (codes : List Program) (code : Program) (number fun : ℕ) (f : Fun) (args : List Value) (want : RunStep Value) (r : Rest) (s : VisitState) : Type 0 where
+pub record BodyWaits (codes : List Program) (code : Program) (number fun : ℕ) (f : Fun) (args : List Value) (want : Step Value) (r : Rest) (s : VisitState) : Type 0 where
   pub program : slice_get codes number ≡ Some code
   pub function : slice_get code.funs fun ≡ Some f
   pub binds : IsSome (bound f.params args)
   pub waits : Waits codes code fun (record { expr = f.body; env = env_of f args [] }) want r s
 
-abbrev pub Bodies : List Program → Program → ℕ → ℕ → Fun → List Value → RunStep Value → Result Flow EvalStop → VisitState → Type 0
+abbrev pub Bodies : List Program → Program → ℕ → ℕ → Fun → List Value → Step Value → Result Flow Stop → VisitState → Type 0
 Bodies codes code number fun f args want (Ok (flow.Done v)) s = want.after ≡ gave v s
 Bodies codes code number fun f args want (Ok (flow.Wait r)) s = BodyWaits codes code number fun f args want r s
 Bodies codes code number fun f args want (Err e) s = e ≢ NoMemory → want.after ≡ stopped e s
 
 -- how an open expression went on
-abbrev pub Advances : List Program → Program → ℕ → Spot → RunStep Value → Result Turn EvalStop → VisitState → Type 0
+abbrev pub Advances : List Program → Program → ℕ → Spot → Step Value → Result Turn Stop → VisitState → Type 0
 Advances codes code seen at want (Ok (turn.More n)) s = Leads want (next_step code seen at n s)
 Advances codes code seen at want (Ok (turn.End f)) s = Flows codes code seen at want (Ok f) s
 Advances codes code seen at want (Err e) s = e ≢ NoMemory → want.after ≡ stopped e s
@@ -123,7 +123,7 @@ IsNumber code seen at n = (s : VisitState) → Leads (begins code seen at s) (we
 -- ---- arguments
 
 -- a call with these values so far, and these arguments to be evaluated
-abbrev pub pending : Program → ℕ → Spot → Name → List Value → List Expr → VisitState → RunStep Value
+abbrev pub pending : Program → ℕ → Spot → Name → List Value → List Expr → VisitState → Step Value
 pending code seen at f held [] s = call_of code seen f held s
 pending code seen at f held (x ∷ more) s = resume code seen at (frame.Part (length held) held) (meaning code seen at.env x s)
 
@@ -133,25 +133,25 @@ abbrev pub burden : Rest → ℕ
 burden r = 2 * length r.frames + 2 * frames_in r.activations + length r.activations
 
 -- it spent no less than what waits weighs
-abbrev pub Lasts : ℕ → ℕ → Result Flow EvalStop → ℕ → Type 0
+abbrev pub Lasts : ℕ → ℕ → Result Flow Stop → ℕ → Type 0
 Lasts more old (Ok (flow.Done v)) new = new ≤ old
 Lasts more old (Ok (flow.Wait r)) new = 5 * new + burden r ≤ 5 * old + more
 Lasts more old (Err e) new = new ≤ old
 
 -- the same, and it spent something where it was to begin
-abbrev pub Spends : ℕ → ℕ → Result Flow EvalStop → ℕ → Type 0
+abbrev pub Spends : ℕ → ℕ → Result Flow Stop → ℕ → Type 0
 Spends depth old (Ok (flow.Done v)) new = new < old
 Spends depth old (Ok (flow.Wait r)) new = (5 * new + burden r ≤ 5 * old) × (0 < depth → 5 * new + burden r < 5 * old)
 Spends depth old (Err (Raised x)) new = new < old
 Spends depth old (Err e) new = new ≤ old
 
 -- the same of a function that was entered
-abbrev pub Goes : ℕ → Result Flow EvalStop → ℕ → Type 0
+abbrev pub Goes : ℕ → Result Flow Stop → ℕ → Type 0
 Goes old (Ok (flow.Done v)) new = new < old
 Goes old (Ok (flow.Wait r)) new = 5 * new + burden r ≤ 5 * old + 1
 Goes old (Err e) new = new ≤ old
 
-abbrev pub Turns : ℕ → Result Turn EvalStop → ℕ → Type 0
+abbrev pub Turns : ℕ → Result Turn Stop → ℕ → Type 0
 Turns old (Ok (turn.More n)) new = new < old
 Turns old (Ok (turn.End f)) new = Lasts 3 old (Ok f) new
 Turns old (Err e) new = new ≤ old

@@ -10,9 +10,9 @@ use Rattle.plan_base.specs.declared.tree.Program.{Program}
 use Rattle.plan_base.specs.declared.tree.Value.{Value}
 use Rattle.plan_base.specs.declared.tree.Chunk.{Chunk}
 use Rattle.service_api.specs.Services.{ServiceState}
-use Rattle.plan_meaning.specs.declared.stop.EvalStop.{EvalStop}
+use Rattle.plan_meaning.specs.declared.stop.Stop.{Stop}
 use Rattle.plan_meaning.specs.State.{VisitState, Own, joined}
-use Rattle.plan_meaning.specs.Run.{Run, RunStep, wrong, weighed, ◌>>=◌}
+use Rattle.plan_meaning.specs.Run.{Run, Step, wrong, weighed, ◌>>=◌}
 use Rattle.plan_meaning.specs.Meaning.{Env, bound, entered, visited, meaning, opened_at, called, as_chunk, as_host, as_int, as_dev, send_remote, send_neighbour}
 use Rattle.plan_meaning.specs.Safe.{IsSafe}
 use Rattle.plan_eval.specs.declared.stack_frame.StackFrame.TheVariants as frame
@@ -28,7 +28,7 @@ module _ (code : Program) (seen : ℕ) where
   run_at None = wrong
 
   -- what the expression at a spot then does
-  abbrev pub next_step : Spot → Next → VisitState → RunStep Value
+  abbrev pub next_step : Spot → Next → VisitState → Step Value
   next_step at (next.Give v) s = weighed v s
   next_step at (next.Open f) s = resume code seen at f (run_at (deeper at f) s)
   next_step at (next.Call fun args) s = resume code seen at frame.Body (entered meaning code fun args s)
@@ -36,37 +36,37 @@ module _ (code : Program) (seen : ℕ) where
   next_step at (next.Visit k) s = resume code seen at frame.Chunk (visited meaning k s)
 
   -- what was decided carries the evaluation on
-  abbrev pub Decides : Spot → RunStep Value → Result Next EvalStop → VisitState → Type 0
+  abbrev pub Decides : Spot → Step Value → Result Next Stop → VisitState → Type 0
   Decides at want result s = Carries want (λ n. next_step at n s) result s
 
   -- an expression at a spot, once it spent 1
-  abbrev pub begins : Spot → VisitState → RunStep Value
+  abbrev pub begins : Spot → VisitState → Step Value
   begins at s = (opened_at meaning code seen at.env (out-Expr at.expr) >>= weighed) s
 
   -- what was decided for an expression that begins carries every expression of that form on
-  abbrev pub Starts : ExprLayer → VisitState → Result Next EvalStop → VisitState → Type 0
+  abbrev pub Starts : ExprLayer → VisitState → Result Next Stop → VisitState → Type 0
   Starts layer s result s' = (e : Expr) (env : Env) → out-Expr e ≡ layer
       → Decides (record { expr = e; env = env }) (begins (record { expr = e; env = env }) s) result s'
 
   -- an expression of which a part, behind those that gave `held`, gave v
-  abbrev pub part_gave : Spot → ℕ → List Value → Value → VisitState → RunStep Value
+  abbrev pub part_gave : Spot → ℕ → List Value → Value → VisitState → Step Value
   part_gave at n held v s = (behind code seen (out-Expr at.expr) at.env n held v >>= weighed) s
 
   -- a call of a name with its arguments
-  abbrev pub call_of : Name → List Value → VisitState → RunStep Value
+  abbrev pub call_of : Name → List Value → VisitState → Step Value
   call_of f args s = (called meaning code seen f args >>= weighed) s
 
   -- what was decided when a part gave v carries every expression of that form on
-  abbrev pub Continues : ExprLayer → ℕ → List Value → Value → VisitState → Result Next EvalStop → VisitState → Type 0
+  abbrev pub Continues : ExprLayer → ℕ → List Value → Value → VisitState → Result Next Stop → VisitState → Type 0
   Continues layer n held v s result s' = (e : Expr) (env : Env) → out-Expr e ≡ layer
       → Decides (record { expr = e; env = env }) (part_gave (record { expr = e; env = env }) n held v s) result s'
 
   -- a fold with its value so far and the items that are left
-  abbrev pub fold_on : Spot → Value → List Value → VisitState → RunStep Value
+  abbrev pub fold_on : Spot → Value → List Value → VisitState → Step Value
   fold_on at acc left s = (along code seen (out-Expr at.expr) acc left >>= weighed) s
 
   -- what was decided for a step of a fold carries every expression of that form on
-  abbrev pub FoldsOn : ExprLayer → Value → List Value → VisitState → Result Next EvalStop → VisitState → Type 0
+  abbrev pub FoldsOn : ExprLayer → Value → List Value → VisitState → Result Next Stop → VisitState → Type 0
   FoldsOn layer acc left s result s' = (e : Expr) (env : Env) → out-Expr e ≡ layer
       → Decides (record { expr = e; env = env }) (fold_on (record { expr = e; env = env }) acc left s) result s'
 
@@ -96,6 +96,6 @@ CanDo code at (next.Call fun args) = Enters code fun args
 CanDo code at (next.Step fun args left) = Enters code fun args
 CanDo code at (next.Visit k) = Unit {0}
 
-abbrev pub IsDone : Program → Spot → Result Next EvalStop → Type 0
+abbrev pub IsDone : Program → Spot → Result Next Stop → Type 0
 IsDone code at (Ok n) = CanDo code at n
 IsDone code at (Err e) = Unit {0}

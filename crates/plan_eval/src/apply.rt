@@ -2,9 +2,9 @@
 ghost use Rattle.std.specs.Prelude.{◌≡◌, ◌≢◌, ◌+◌, ◌≤◌, ◌∷◌, ◌++◌, [], ℕ, List, IfOk, OnOk, IsTrue, Some, slice_get};
 ghost use Rattle.plan_base.specs.declared.tree.Program.{Program as Code};
 ghost use Rattle.service_api.specs.Services.{ServiceState};
-ghost use Rattle.plan_meaning.specs.declared.stop.EvalStop.TheVariants as stops;
+ghost use Rattle.plan_meaning.specs.declared.stop.Stop.TheVariants as stops;
 ghost use Rattle.plan_meaning.specs.State.{VisitState, joined};
-ghost use Rattle.plan_meaning.specs.Run.{RunStep, stopped, weighed};
+ghost use Rattle.plan_meaning.specs.Run.{Step, stopped, weighed};
 ghost use Rattle.plan_meaning.specs.Meaning.{entered, meaning};
 ghost use Rattle.plan_eval.specs.declared.stack_frame.Mode.TheVariants as mode;
 ghost use Rattle.plan_eval.specs.declared.next.Next.TheVariants as next;
@@ -19,7 +19,7 @@ use crate::stack_frame::{Activation, Activations, Codes, Mode, StackFrame};
 use plan_base::{Chunk, NoMemory, Program, Value, Values};
 use plan_equality::Same;
 use plan_items::{Items, Shared};
-use plan_meaning::EvalStop;
+use plan_meaning::Stop;
 use std::alloc::Global;
 use typing_rules::place_of;
 use visit_state::State;
@@ -50,8 +50,8 @@ fn enter(
 
 /// Opens a part, or enters a `let`.
 #[tactic(auto, using(crate::proofs::Loads::load_open))]
-fn open(outer: &mut Activations, top: Activation, frame: StackFrame) -> Result<Mode, EvalStop>
-    ensures turned { (codes : List Code) (code : Code) (at : Spot) (want : RunStep Value) (s : VisitState) → Stands codes outer.old top code at
+fn open(outer: &mut Activations, top: Activation, frame: StackFrame) -> Result<Mode, Stop>
+    ensures turned { (codes : List Code) (code : Code) (at : Spot) (want : Step Value) (s : VisitState) → Stands codes outer.old top code at
         → Leads want (next_step code top.fun at (next.Open frame) s) → CanDo code at (next.Open frame)
         → Turned (all_ended codes outer.old (ended codes top want)) result codes outer.new s }
     ensures bounded { (work : ℕ) → IfOk result (λ how. load how outer.new work ≤ load mode.Run (outer.old ++ top ∷ []) work + 3) }
@@ -71,8 +71,8 @@ fn enter_here(
     frame: StackFrame,
     fun: usize,
     args: Values,
-) -> Result<Mode, EvalStop>
-    ensures turned { (codes : List Code) (code : Code) (at : Spot) (want : RunStep Value) (s : VisitState) → Stands codes outer.old top code at
+) -> Result<Mode, Stop>
+    ensures turned { (codes : List Code) (code : Code) (at : Spot) (want : Step Value) (s : VisitState) → Stands codes outer.old top code at
         → WaitsFor at frame → Leads want (resume code top.fun at frame (entered meaning code fun args s)) → Enters code fun args
         → Turned (all_ended codes outer.old (ended codes top want)) result codes outer.new s }
     ensures bounded { (work : ℕ) → IfOk result (λ how. load how outer.new work ≤ load mode.Run (outer.old ++ top ∷ []) work + 3) }
@@ -90,8 +90,8 @@ fn weigh(
     top: Activation,
     v: Value,
     state: &mut State,
-) -> Result<Mode, EvalStop>
-    ensures turned { (codes : List Code) (code : Code) (at : Spot) (want : RunStep Value) (n : ServiceState) → Stands codes outer.old top code at
+) -> Result<Mode, Stop>
+    ensures turned { (codes : List Code) (code : Code) (at : Spot) (want : Step Value) (n : ServiceState) → Stands codes outer.old top code at
         → Leads want (weighed v (joined state.old n))
         → Turned (all_ended codes outer.old (ended codes top want)) result codes outer.new (joined state.new n) }
     ensures bounded { IfOk result (λ how. load how outer.new state.new.work ≤ load mode.Run (outer.old ++ top ∷ []) state.old.work + 3) }
@@ -137,18 +137,18 @@ fn visit_chunk(
     outer: &mut Activations,
     top: Activation,
     chunk: Chunk,
-) -> Result<Mode, EvalStop>
-    ensures turned { (code : Code) (at : Spot) (want : RunStep Value) (s : VisitState) → Stands codes.old outer.old top code at
+) -> Result<Mode, Stop>
+    ensures turned { (code : Code) (at : Spot) (want : Step Value) (s : VisitState) → Stands codes.old outer.old top code at
         → Leads want (next_step code top.fun at (next.Visit chunk) s)
         → Turned (all_ended codes.old outer.old (ended codes.old top want)) result codes.new outer.new s }
     ensures bounded { (work : ℕ) → IfOk result (λ how. load how outer.new work ≤ load mode.Run (outer.old ++ top ∷ []) work + 3) }
 {
     let Chunk { code, entry, args } = chunk;
     let Some(fun) = place_of(&entry, code.get().funs.as_slice()) else {
-        return Err(EvalStop::Wrong);
+        return Err(Stop::Wrong);
     };
     if !enters(&code, fun, &args) {
-        return Err(EvalStop::Wrong);
+        return Err(Stop::Wrong);
     }
     let number = place_program(codes, top.code, code)?;
     enter(alloc, outer, top, StackFrame::Chunk, number, fun, args)?;
@@ -157,20 +157,20 @@ fn visit_chunk(
 
 /// Raises the exception that an open expression ends with, or ends the visit.
 #[tactic(auto, using(crate::proofs::Loads::load_raise))]
-fn halt(outer: &mut Activations, top: Activation, stop: EvalStop) -> Result<Mode, EvalStop>
-    ensures turned { (codes : List Code) (code : Code) (at : Spot) (want : RunStep Value) (s : VisitState) → Stands codes outer.old top code at
+fn halt(outer: &mut Activations, top: Activation, stop: Stop) -> Result<Mode, Stop>
+    ensures turned { (codes : List Code) (code : Code) (at : Spot) (want : Step Value) (s : VisitState) → Stands codes outer.old top code at
         → (stop ≢ stops.NoMemory → want.after ≡ stopped stop s)
         → Turned (all_ended codes outer.old (ended codes top want)) result codes outer.new s }
     ensures bounded { (work : ℕ) → IfOk result (λ how. load how outer.new work ≤ load mode.Run (outer.old ++ top ∷ []) work + 3) }
 {
     match stop {
-        EvalStop::Raised(x) => {
+        Stop::Raised(x) => {
             outer.add(top)?;
             Ok(Mode::Raise(x))
         }
-        EvalStop::WorkSpent => Err(EvalStop::WorkSpent),
-        EvalStop::Wrong => Err(EvalStop::Wrong),
-        EvalStop::NoMemory => Err(EvalStop::NoMemory),
+        Stop::WorkSpent => Err(Stop::WorkSpent),
+        Stop::Wrong => Err(Stop::Wrong),
+        Stop::NoMemory => Err(Stop::NoMemory),
     }
 }
 
@@ -182,8 +182,8 @@ fn go_on(
     top: Activation,
     next: Next,
     state: &mut State,
-) -> Result<Mode, EvalStop>
-    ensures turned { (code : Code) (at : Spot) (want : RunStep Value) (n : ServiceState) → Stands codes.old outer.old top code at
+) -> Result<Mode, Stop>
+    ensures turned { (code : Code) (at : Spot) (want : Step Value) (n : ServiceState) → Stands codes.old outer.old top code at
         → Leads want (next_step code top.fun at next (joined state.old n)) → CanDo code at next
         → Turned (all_ended codes.old outer.old (ended codes.old top want)) result codes.new outer.new (joined state.new n) }
     ensures bounded { IfOk result (λ how. load how outer.new state.new.work ≤ load mode.Run (outer.old ++ top ∷ []) state.old.work + 3) }
@@ -210,10 +210,10 @@ pub fn apply(
     codes: &mut Codes,
     outer: &mut Activations,
     top: Activation,
-    decided: Result<Next, EvalStop>,
+    decided: Result<Next, Stop>,
     state: &mut State,
-) -> Result<Mode, EvalStop>
-    ensures turned { (code : Code) (at : Spot) (want : RunStep Value) (n : ServiceState) → Stands codes.old outer.old top code at
+) -> Result<Mode, Stop>
+    ensures turned { (code : Code) (at : Spot) (want : Step Value) (n : ServiceState) → Stands codes.old outer.old top code at
         → Decides code top.fun at want decided (joined state.old n) → IsDone code at decided
         → Turned (all_ended codes.old outer.old (ended codes.old top want)) result codes.new outer.new (joined state.new n) }
     ensures bounded { IfOk result (λ how. load how outer.new state.new.work ≤ load mode.Run (outer.old ++ top ∷ []) state.old.work + 3) }

@@ -21,14 +21,14 @@ use crate::walk::value_from;
 use plan_base::{Chunk, Exn, Expr, Name, Program, Value};
 use plan_copies::Copied;
 use plan_items::{Boxed, Items, Shared};
-use plan_meaning::EvalStop;
+use plan_meaning::Stop;
 use service_api::Services;
 use std::alloc::Global;
 use visit_state::State;
 
 /// What a name stands for where an activation stands.
 #[tactic(auto, using(crate::proofs::Backs::gives_here, crate::proofs::Backs::none_here))]
-fn named(alloc: Global, here: &Here<'_>, e: &Expr, name: &Name) -> Result<Next, EvalStop>
+fn named(alloc: Global, here: &Here<'_>, e: &Expr, name: &Name) -> Result<Next, Stop>
     requires form { out-Expr e.now ≡ Expr-F.Var name.now }
     requires binds { IsSome (bound here.now.function.now.params here.now.args.now) }
     ensures { (s : VisitState) → Decides here.now.code.now here.now.fun (spot here.now e.now) (begins here.now.code.now here.now.fun (spot here.now e.now) s) result s }
@@ -36,7 +36,7 @@ fn named(alloc: Global, here: &Here<'_>, e: &Expr, name: &Name) -> Result<Next, 
     let outside = argument_of(name, here.function.params.as_slice(), here.args);
     match value_from(name, outside, &here.function.body, here.frames) {
         Some(value) => Ok(Next::Give(value.copy(alloc)?)),
-        None => Err(EvalStop::Wrong),
+        None => Err(Stop::Wrong),
     }
 }
 
@@ -48,7 +48,7 @@ pub fn variable(
     e: &Expr,
     name: &Name,
     state: &mut State,
-) -> Result<Flow, EvalStop>
+) -> Result<Flow, Stop>
     requires form { out-Expr e.now ≡ Expr-F.Var name.now }
     requires binds { IsSome (bound here.now.function.now.params here.now.args.now) }
     ensures flows { (codes : List AProgram) (n : ServiceState) → Flows codes here.now.code.now here.now.fun (spot here.now e.now)
@@ -58,7 +58,7 @@ pub fn variable(
     let outside = argument_of(name, here.function.params.as_slice(), here.args);
     match value_from(name, outside, &here.function.body, here.frames) {
         Some(value) => ended(alloc, value.copy(alloc)?, state),
-        None => Err(EvalStop::Wrong),
+        None => Err(Stop::Wrong),
     }
 }
 
@@ -69,7 +69,7 @@ pub fn number(
     e: &Expr,
     n: i64,
     state: &mut State,
-) -> Result<Flow, EvalStop>
+) -> Result<Flow, Stop>
     requires form { out-Expr e.now ≡ Expr-F.Int n }
     ensures flows { (codes : List AProgram) (m : ServiceState) → Flows codes here.now.code.now here.now.fun (spot here.now e.now)
         (begins here.now.code.now here.now.fun (spot here.now e.now) (joined state.old m)) result (joined state.new m) }
@@ -116,7 +116,7 @@ pub fn leaf_number(here: &Here<'_>, e: &Expr) -> Option<i64>
 
 /// A chunk without arguments.
 #[tactic(auto, using(crate::proofs::Beginning::packs_bare))]
-fn bare_chunk(alloc: Global, code: &Shared<Program>, entry: &Name) -> Result<Next, EvalStop>
+fn bare_chunk(alloc: Global, code: &Shared<Program>, entry: &Name) -> Result<Next, Stop>
     ensures { (seen : ℕ) (s : VisitState) → Starts code.now seen (Expr-F.ChunkOf entry.now []) s result s }
 {
     let chunk = Chunk {
@@ -135,7 +135,7 @@ pub fn begin<S: Services>(
     e: &Expr,
     state: &mut State,
     svc: &mut S,
-) -> Result<Next, EvalStop>
+) -> Result<Next, Stop>
     requires open { IsSome (S.stands svc.old).begun }
     requires binds { IsSome (bound here.now.function.now.params here.now.args.now) }
     requires safe { IsSafe (begins here.now.code.now here.now.fun (spot here.now e.now) (joined state.old (S.stands svc.old))).asks }
@@ -149,7 +149,7 @@ pub fn begin<S: Services>(
     match kind_of(alloc, e)? {
         Kind::Gives(value) => Ok(Next::Give(value)),
         Kind::Named(name) => named(alloc, here, e, name),
-        Kind::Raises(name) => Err(EvalStop::Raised(Exn(name.copy(alloc)?))),
+        Kind::Raises(name) => Err(Stop::Raised(Exn(name.copy(alloc)?))),
         Kind::Calls(name) => called(
             alloc,
             here.code,
@@ -160,7 +160,7 @@ pub fn begin<S: Services>(
             svc,
         ),
         Kind::Packs(name) => bare_chunk(alloc, here.code, name),
-        Kind::Untyped => Err(EvalStop::Wrong),
+        Kind::Untyped => Err(Stop::Wrong),
         Kind::Opens => Ok(Next::Open(StackFrame::Part(0, Items::new(alloc)))),
     }
 }

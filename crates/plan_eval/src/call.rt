@@ -8,7 +8,7 @@ ghost use Rattle.plan_eval.specs.Nexts.{Decides, call_of};
 use crate::next::Next;
 use plan_base::{Name, Program, Values};
 use plan_items::Shared;
-use plan_meaning::EvalStop;
+use plan_meaning::Stop;
 use service_api::Services;
 use std::alloc::Global;
 use typing_rules::{prim_of, service_of};
@@ -24,7 +24,7 @@ pub fn called<S: Services>(
     args: Values,
     state: &mut State,
     svc: &mut S,
-) -> Result<Next, EvalStop>
+) -> Result<Next, Stop>
     requires open { IsSome (S.stands svc.old).begun }
     requires safe { IsSafe (call_of code.now seen f.now args (joined state.old (S.stands svc.old))).asks }
     ensures decides { (at : Spot) → Decides code.now seen at (call_of code.now seen f.now args (joined state.old (S.stands svc.old))) result (joined state.new (S.stands svc.new)) }
@@ -40,6 +40,6 @@ pub fn called<S: Services>(
     }
     match place_among(f, seen, code.get().funs.as_slice()) {
         Some(fun) => Ok(Next::Call(fun, args)),
-        None => Err(EvalStop::Wrong),
+        None => Err(Stop::Wrong),
     }
 }

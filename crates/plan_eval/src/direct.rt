@@ -26,7 +26,7 @@ use crate::turn::Turn;
 use crate::walk::part_or_self;
 use plan_base::{Chunk, Expr, Fun, Name, NoMemory, Op, Program, Values};
 use plan_items::{Items, Shared};
-use plan_meaning::EvalStop;
+use plan_meaning::Stop;
 use service_api::Services;
 use std::alloc::Global;
 use typing_rules::place_of;
@@ -43,7 +43,7 @@ pub fn evaluate<S: Services>(
     depth: u64,
     state: &mut State,
     svc: &mut S,
-) -> Result<Flow, EvalStop>
+) -> Result<Flow, Stop>
     requires open { IsSome (S.stands svc.old).begun }
     requires here { IsHere codes.old here.now }
     requires safe { IsSafe (meaning here.now.code.now here.now.fun (spot here.now e.now).env e.now (joined state.old (S.stands svc.old))).asks }
@@ -59,7 +59,7 @@ pub fn evaluate<S: Services>(
         return Ok(pause(alloc)?);
     }
     if !state.pays(1) {
-        return Err(EvalStop::WorkSpent);
+        return Err(Stop::WorkSpent);
     }
     match e {
         Expr::Int(n) => number(alloc, here, e, *n, state),
@@ -114,7 +114,7 @@ fn general<S: Services>(
     depth: u64,
     state: &mut State,
     svc: &mut S,
-) -> Result<Flow, EvalStop>
+) -> Result<Flow, Stop>
     requires open { IsSome (S.stands svc.old).begun }
     requires here { IsHere codes.old here.now }
     requires safe { IsSafe (begins here.now.code.now here.now.fun (spot here.now e.now) (joined state.old (S.stands svc.old))).asks }
@@ -145,7 +145,7 @@ fn choice<S: Services>(
     depth: u64,
     state: &mut State,
     svc: &mut S,
-) -> Result<Flow, EvalStop>
+) -> Result<Flow, Stop>
     requires form { out-Expr e.now ≡ Expr-F.If t.now a.now b.now }
     requires open { IsSome (S.stands svc.old).begun }
     requires here { IsHere codes.old here.now }
@@ -162,7 +162,7 @@ fn choice<S: Services>(
         Ok(Flow::Done(v)) => match as_bool(&v) {
             Some(true) => last_part(alloc, codes, here, e, 1, a, depth, state, svc),
             Some(false) => last_part(alloc, codes, here, e, 2, b, depth, state, svc),
-            None => Err(EvalStop::Wrong),
+            None => Err(Stop::Wrong),
         },
         Ok(Flow::Wait(rest)) => Ok(inside(alloc, rest, StackFrame::Part(0, Items::new(alloc)))?),
         Err(stop) => Err(stop),
@@ -181,7 +181,7 @@ fn last_part<S: Services>(
     depth: u64,
     state: &mut State,
     svc: &mut S,
-) -> Result<Flow, EvalStop>
+) -> Result<Flow, Stop>
     requires open { IsSome (S.stands svc.old).begun }
     requires here { IsHere codes.old here.now }
     requires part { part_or_self e.now (Some n) ≡ Some part.now }
@@ -211,7 +211,7 @@ fn operation<S: Services>(
     depth: u64,
     state: &mut State,
     svc: &mut S,
-) -> Result<Flow, EvalStop>
+) -> Result<Flow, Stop>
     requires form { out-Expr e.now ≡ Expr-F.Binary op a.now b.now }
     requires open { IsSome (S.stands svc.old).begun }
     requires here { IsHere codes.old here.now }
@@ -261,7 +261,7 @@ fn call<S: Services>(
     depth: u64,
     state: &mut State,
     svc: &mut S,
-) -> Result<Flow, EvalStop>
+) -> Result<Flow, Stop>
     requires form { out-Expr e.now ≡ Expr-F.Call f.now es.now }
     requires open { IsSome (S.stands svc.old).begun }
     requires here { IsHere codes.old here.now }
@@ -301,7 +301,7 @@ fn invoke<S: Services>(
     depth: u64,
     state: &mut State,
     svc: &mut S,
-) -> Result<Flow, EvalStop>
+) -> Result<Flow, Stop>
     requires open { IsSome (S.stands svc.old).begun }
     requires here { IsHere codes.old here.now }
     requires safe { IsSafe (call_of here.now.code.now here.now.fun f.now args (joined state.old (S.stands svc.old))).asks }
@@ -346,7 +346,7 @@ fn proceed<S: Services>(
     depth: u64,
     state: &mut State,
     svc: &mut S,
-) -> Result<Flow, EvalStop>
+) -> Result<Flow, Stop>
     requires open { IsSome (S.stands svc.old).begun }
     requires here { IsHere codes.old here.now }
     requires safe { IsSafe (next_step here.now.code.now here.now.fun (spot here.now e.now) first (joined state.old (S.stands svc.old))).asks }
@@ -379,7 +379,7 @@ fn advance<S: Services>(
     depth: u64,
     state: &mut State,
     svc: &mut S,
-) -> Result<Turn, EvalStop>
+) -> Result<Turn, Stop>
     requires open { IsSome (S.stands svc.old).begun }
     requires here { IsHere codes.old here.now }
     requires safe { IsSafe (next_step here.now.code.now here.now.fun (spot here.now e.now) now (joined state.old (S.stands svc.old))).asks }
@@ -440,7 +440,7 @@ fn opened<S: Services>(
     depth: u64,
     state: &mut State,
     svc: &mut S,
-) -> Result<Turn, EvalStop>
+) -> Result<Turn, Stop>
     requires open { IsSome (S.stands svc.old).begun }
     requires here { IsHere codes.old here.now }
     requires safe { IsSafe (next_step here.now.code.now here.now.fun (spot here.now e.now) (next.Open frame) (joined state.old (S.stands svc.old))).asks }
@@ -453,7 +453,7 @@ fn opened<S: Services>(
     ensures begun { (S.stands svc.new).begun ≡ (S.stands svc.old).begun }
 {
     let Some(part) = part_or_self(e, &frame) else {
-        return Err(EvalStop::Wrong);
+        return Err(Stop::Wrong);
     };
     if is_bound(&frame) {
         return Ok(Turn::End(pause_in(alloc, frame)?));
@@ -474,7 +474,7 @@ fn enter<S: Services>(
     depth: u64,
     state: &mut State,
     svc: &mut S,
-) -> Result<Flow, EvalStop>
+) -> Result<Flow, Stop>
     requires open { IsSome (S.stands svc.old).begun }
     requires program { slice_get codes.old number ≡ Some code.now }
     requires safe { IsSafe (entered meaning code.now fun args (joined state.old (S.stands svc.old))).asks }
@@ -485,10 +485,10 @@ fn enter<S: Services>(
     ensures begun { (S.stands svc.new).begun ≡ (S.stands svc.old).begun }
 {
     let Some(function) = code.get().funs.get(fun) else {
-        return Err(EvalStop::Wrong);
+        return Err(Stop::Wrong);
     };
     if function.params.len() != args.len() {
-        return Err(EvalStop::Wrong);
+        return Err(Stop::Wrong);
     }
     let flow = body_flow(
         alloc, codes, code, number, fun, function, &args, depth, state, svc,
@@ -509,7 +509,7 @@ fn body_flow<S: Services>(
     depth: u64,
     state: &mut State,
     svc: &mut S,
-) -> Result<Flow, EvalStop>
+) -> Result<Flow, Stop>
     requires open { IsSome (S.stands svc.old).begun }
     requires program { slice_get codes.old number ≡ Some code.now }
     requires function { slice_get code.now.funs fun ≡ Some function.now }
@@ -554,7 +554,7 @@ fn visit<S: Services>(
     depth: u64,
     state: &mut State,
     svc: &mut S,
-) -> Result<Flow, EvalStop>
+) -> Result<Flow, Stop>
     requires open { IsSome (S.stands svc.old).begun }
     requires safe { IsSafe (visited meaning chunk (joined state.old (S.stands svc.old))).asks }
     ensures enters { Enters codes.new (visited meaning chunk (joined state.old (S.stands svc.old))) result (joined state.new (S.stands svc.new)) }
@@ -565,7 +565,7 @@ fn visit<S: Services>(
 {
     let Chunk { code, entry, args } = chunk;
     let Some(fun) = place_of(&entry, code.get().funs.as_slice()) else {
-        return Err(EvalStop::Wrong);
+        return Err(Stop::Wrong);
     };
     let number = open_code(codes, &code)?;
     enter(alloc, codes, &code, number, fun, args, depth, state, svc)

@@ -11,7 +11,7 @@ use crate::next::Next;
 use crate::operand::{behind_one, first_of};
 use plan_base::{Expr, Name, NoMemory, Program, Value, Values};
 use plan_items::{Items, Shared};
-use plan_meaning::EvalStop;
+use plan_meaning::Stop;
 use std::alloc::Global;
 use visit_state::place_among;
 
@@ -43,7 +43,7 @@ fn left_step(
     f: &Name,
     acc: Value,
     left: Values,
-) -> Result<Next, EvalStop>
+) -> Result<Next, Stop>
     ensures { (a l : Expr) (s : VisitState) → FoldsOn code.now seen (Expr-F.Foldl f.now a l) acc left s result s }
 {
     let mut rest = left;
@@ -52,7 +52,7 @@ fn left_step(
     };
     match place_among(f, seen, code.get().funs.as_slice()) {
         Some(fun) => Ok(Next::Step(fun, pair(alloc, acc, item)?, rest)),
-        None => Err(EvalStop::Wrong),
+        None => Err(Stop::Wrong),
     }
 }
 
@@ -65,7 +65,7 @@ fn right_step(
     f: &Name,
     acc: Value,
     left: Values,
-) -> Result<Next, EvalStop>
+) -> Result<Next, Stop>
     ensures { (a l : Expr) (s : VisitState) → FoldsOn code.now seen (Expr-F.Foldr f.now a l) acc left s result s }
 {
     let mut rest = left;
@@ -74,7 +74,7 @@ fn right_step(
     };
     match place_among(f, seen, code.get().funs.as_slice()) {
         Some(fun) => Ok(Next::Step(fun, pair(alloc, item, acc)?, rest)),
-        None => Err(EvalStop::Wrong),
+        None => Err(Stop::Wrong),
     }
 }
 
@@ -99,7 +99,7 @@ pub fn left_part(
     f: &Name,
     held: Values,
     v: Value,
-) -> Result<Next, EvalStop>
+) -> Result<Next, Stop>
     ensures { (a l : Expr) (n : ℕ) (s : VisitState) → Continues code.now seen (Expr-F.Foldl f.now a l) n held v s result s }
 {
     let Some(acc) = first_of(held) else {
@@ -107,7 +107,7 @@ pub fn left_part(
     };
     match items_of(v) {
         Some(items) => left_step(alloc, code, seen, f, acc, last_first(items)),
-        None => Err(EvalStop::Wrong),
+        None => Err(Stop::Wrong),
     }
 }
 
@@ -121,7 +121,7 @@ pub fn right_part(
     f: &Name,
     held: Values,
     v: Value,
-) -> Result<Next, EvalStop>
+) -> Result<Next, Stop>
     ensures { (a l : Expr) (n : ℕ) (s : VisitState) → Continues code.now seen (Expr-F.Foldr f.now a l) n held v s result s }
 {
     let Some(acc) = first_of(held) else {
@@ -129,7 +129,7 @@ pub fn right_part(
     };
     match items_of(v) {
         Some(items) => right_step(alloc, code, seen, f, acc, items),
-        None => Err(EvalStop::Wrong),
+        None => Err(Stop::Wrong),
     }
 }
 
@@ -143,13 +143,13 @@ pub fn item_gave(
     e: &Expr,
     acc: Value,
     left: Values,
-) -> Result<Next, EvalStop>
+) -> Result<Next, Stop>
     ensures { (env : Env) (s : VisitState) → Decides code.now seen (record { expr = e.now; env = env })
         (fold_on code.now seen (record { expr = e.now; env = env }) acc left s) result s }
 {
     match e {
         Expr::Foldl(f, _, _) => left_step(alloc, code, seen, f, acc, left),
         Expr::Foldr(f, _, _) => right_step(alloc, code, seen, f, acc, left),
-        _ => Err(EvalStop::Wrong),
+        _ => Err(Stop::Wrong),
     }
 }

@@ -18,7 +18,7 @@ use crate::send::{evaluated, neighbour_part, remote_part};
 use crate::stack_frame::{Activation, Codes, StackFrame};
 use plan_base::{Expr, Program, Value, Values};
 use plan_items::Shared;
-use plan_meaning::EvalStop;
+use plan_meaning::Stop;
 use service_api::Services;
 use std::alloc::Global;
 use visit_state::State;
@@ -35,7 +35,7 @@ fn after_part<S: Services>(
     v: Value,
     state: &mut State,
     svc: &mut S,
-) -> Result<Next, EvalStop>
+) -> Result<Next, Stop>
     requires open { IsSome (S.stands svc.old).begun }
     requires safe { (env : Env) × IsSafe (part_gave code.now seen (record { expr = e.now; env = env }) n held v (joined state.old (S.stands svc.old))).asks }
     ensures decides { (env : Env) → Decides code.now seen (record { expr = e.now; env = env })
@@ -79,7 +79,7 @@ pub fn frame_given<S: Services>(
     v: Value,
     state: &mut State,
     svc: &mut S,
-) -> Result<Next, EvalStop>
+) -> Result<Next, Stop>
     requires open { IsSome (S.stands svc.old).begun }
     requires safe { (env : Env) × IsSafe (resume code.now seen (record { expr = e.now; env = env }) frame (quiet (gave v (joined state.old (S.stands svc.old))))).asks }
     ensures decides { (env : Env) → Decides code.now seen (record { expr = e.now; env = env })
@@ -108,7 +108,7 @@ pub fn give_top<S: Services>(
     v: Value,
     state: &mut State,
     svc: &mut S,
-) -> Result<Next, EvalStop>
+) -> Result<Next, Stop>
     requires open { IsSome (S.stands svc.old).begun }
     requires linked { IsSome (spot_in codes.now top.now) }
     requires safe { (code : Program) (at : Spot) → slice_get codes.now top.now.code ≡ Some code → spot_in codes.now top.now ≡ Some at
@@ -121,7 +121,7 @@ pub fn give_top<S: Services>(
     ensures begun { (S.stands svc.new).begun ≡ (S.stands svc.old).begun }
 {
     let Some(place) = place_in(codes, top) else {
-        return Err(EvalStop::Wrong);
+        return Err(Stop::Wrong);
     };
     match frame {
         StackFrame::Part(n, held) => {

@@ -8,7 +8,7 @@ ghost use Rattle.plan_eval.specs.declared.stack_frame.Mode.TheVariants as mode;
 ghost use Rattle.plan_base.specs.declared.tree.Program.{Program as Code};
 ghost use Rattle.plan_base.specs.declared.tree.Value.{Value as AValue};
 ghost use Rattle.plan_meaning.specs.State.{VisitState};
-ghost use Rattle.plan_meaning.specs.Run.{RunStep};
+ghost use Rattle.plan_meaning.specs.Run.{Step};
 ghost use Rattle.plan_meaning.specs.Meaning.{meaning};
 ghost use Rattle.plan_eval.specs.Direct.{Flows, Grows, Spends};
 ghost use Rattle.plan_eval.specs.Stack.{Spot, spot_in, ended, all_ended, AreLinked, stands_for};
@@ -23,7 +23,7 @@ use crate::rest::{Flow, stacked};
 use crate::stack_frame::{Activation, Activations, Codes, Mode};
 use crate::walk::expr_from;
 use plan_base::{Exn, Value};
-use plan_meaning::EvalStop;
+use plan_meaning::Stop;
 use service_api::Services;
 use std::alloc::Global;
 use visit_state::State;
@@ -37,7 +37,7 @@ fn give<S: Services>(
     v: Value,
     state: &mut State,
     svc: &mut S,
-) -> Result<Mode, EvalStop>
+) -> Result<Mode, Stop>
     requires open { IsSome (S.stands svc.old).begun }
     requires linked { AreLinked codes.old (outer.old ++ top ∷ []) }
     requires safe { IsSafe (stands_for codes.old (outer.old ++ top ∷ []) (mode.Give v) (joined state.old (S.stands svc.old))).asks }
@@ -62,7 +62,7 @@ fn raise(
     top: Activation,
     x: Exn,
     state: &mut State,
-) -> Result<Mode, EvalStop>
+) -> Result<Mode, Stop>
     requires linked { AreLinked codes.old (outer.old ++ top ∷ []) }
     ensures turned { (n : ServiceState) → Turned (stands_for codes.old (outer.old ++ top ∷ []) (mode.Raise x) (joined state.old n)) result codes.new outer.new (joined state.new n) }
     ensures shrinks { IfOk result (λ how. load how outer.new state.new.work < load (mode.Raise x) (outer.old ++ top ∷ []) state.old.work) }
@@ -76,12 +76,8 @@ fn raise(
 }
 
 /// What came of the innermost expression, on the stack.
-fn landed(
-    outer: &mut Activations,
-    top: Activation,
-    flow: Result<Flow, EvalStop>,
-) -> Result<Mode, EvalStop>
-    ensures turned { (codes : List Code) (code : Code) (at : Spot) (want : RunStep AValue) (s : VisitState) → Stands codes outer.old top code at
+fn landed(outer: &mut Activations, top: Activation, flow: Result<Flow, Stop>) -> Result<Mode, Stop>
+    ensures turned { (codes : List Code) (code : Code) (at : Spot) (want : Step AValue) (s : VisitState) → Stands codes outer.old top code at
         → Flows codes code top.fun at want flow s → Turned (all_ended codes outer.old (ended codes top want)) result codes outer.new s }
     ensures shrinks { (depth old new : ℕ) → 0 < depth → Spends depth old flow new
         → IfOk result (λ how. load how outer.new new < load mode.Run (outer.old ++ top ∷ []) old) }
@@ -95,13 +91,13 @@ fn landed(
             stacked(outer, top, rest)?;
             Ok(Mode::Run)
         }
-        Err(EvalStop::Raised(x)) => {
+        Err(Stop::Raised(x)) => {
             outer.add(top)?;
             Ok(Mode::Raise(x))
         }
-        Err(EvalStop::WorkSpent) => Err(EvalStop::WorkSpent),
-        Err(EvalStop::Wrong) => Err(EvalStop::Wrong),
-        Err(EvalStop::NoMemory) => Err(EvalStop::NoMemory),
+        Err(Stop::WorkSpent) => Err(Stop::WorkSpent),
+        Err(Stop::Wrong) => Err(Stop::Wrong),
+        Err(Stop::NoMemory) => Err(Stop::NoMemory),
     }
 }
 
@@ -113,7 +109,7 @@ fn run_top<S: Services>(
     top: &Activation,
     state: &mut State,
     svc: &mut S,
-) -> Result<Flow, EvalStop>
+) -> Result<Flow, Stop>
     requires open { IsSome (S.stands svc.old).begun }
     requires linked { IsSome (spot_in codes.old top.now) }
     requires safe { (code : Code) (at : Spot) → slice_get codes.old top.now.code ≡ Some code → spot_in codes.old top.now ≡ Some at
@@ -126,14 +122,14 @@ fn run_top<S: Services>(
     ensures begun { (S.stands svc.new).begun ≡ (S.stands svc.old).begun }
 {
     let Some(shared) = codes.get(top.code) else {
-        return Err(EvalStop::Wrong);
+        return Err(Stop::Wrong);
     };
     let code = shared.share()?;
     let Some(function) = code.get().funs.get(top.fun) else {
-        return Err(EvalStop::Wrong);
+        return Err(Stop::Wrong);
     };
     let Some(expr) = expr_from(&function.body, top.frames.as_slice()) else {
-        return Err(EvalStop::Wrong);
+        return Err(Stop::Wrong);
     };
     let here = Here {
         code: &code,
@@ -154,7 +150,7 @@ fn begin<S: Services>(
     top: Activation,
     state: &mut State,
     svc: &mut S,
-) -> Result<Mode, EvalStop>
+) -> Result<Mode, Stop>
     requires open { IsSome (S.stands svc.old).begun }
     requires linked { AreLinked codes.old (outer.old ++ top ∷ []) }
     requires safe { IsSafe (stands_for codes.old (outer.old ++ top ∷ []) mode.Run (joined state.old (S.stands svc.old))).asks }
@@ -176,7 +172,7 @@ fn turn<S: Services>(
     how: Mode,
     state: &mut State,
     svc: &mut S,
-) -> Result<Mode, EvalStop>
+) -> Result<Mode, Stop>
     requires open { IsSome (S.stands svc.old).begun }
     requires linked { AreLinked codes.old (outer.old ++ top ∷ []) }
     requires safe { IsSafe (stands_for codes.old (outer.old ++ top ∷ []) how (joined state.old (S.stands svc.old))).asks }
@@ -199,7 +195,7 @@ pub fn run<S: Services>(
     activations: Activations,
     state: &mut State,
     svc: &mut S,
-) -> Result<Value, EvalStop>
+) -> Result<Value, Stop>
     requires open { IsSome (S.stands svc.old).begun }
     requires linked { AreLinked codes activations }
     requires safe { IsSafe (stands_for codes activations mode.Run (joined state.old (S.stands svc.old))).asks }
@@ -218,7 +214,7 @@ pub fn run<S: Services>(
     }
     match how {
         Mode::Give(v) => Ok(v),
-        Mode::Raise(x) => Err(EvalStop::Raised(x)),
-        Mode::Run => Err(EvalStop::Wrong),
+        Mode::Raise(x) => Err(Stop::Raised(x)),
+        Mode::Run => Err(Stop::Wrong),
     }
 }

@@ -9,12 +9,12 @@ ghost use Rattle.plan_eval.specs.declared.stack_frame.StackFrame.TheVariants as 
 ghost use Rattle.plan_base.specs.declared.tree.Expr.{out-Expr};
 ghost use Rattle.service_api.specs.Services.{ServiceState};
 ghost use Rattle.plan_meaning.specs.State.{joined};
-ghost use Rattle.plan_meaning.specs.Run.{RunStep, gave, stopped, weighed};
+ghost use Rattle.plan_meaning.specs.Run.{Step, gave, stopped, weighed};
 ghost use Rattle.plan_meaning.specs.Meaning.{Env, meaning};
 ghost use Rattle.plan_eval.specs.Stack.{Spot, deeper, resume};
 ghost use Rattle.plan_eval.specs.Leads.{Carries};
 ghost use Rattle.plan_base.specs.declared.tree.Value as value;
-ghost use Rattle.plan_meaning.specs.declared.stop.EvalStop.TheVariants as stops;
+ghost use Rattle.plan_meaning.specs.declared.stop.Stop.TheVariants as stops;
 ghost use Rattle.plan_eval.specs.Direct.{Flows, IsNumber, Lasts, Spends};
 ghost use Rattle.plan_eval.specs.Nexts.{Continues, begins, part_gave};
 
@@ -24,7 +24,7 @@ use crate::rest::{Flow, inside};
 use crate::stack_frame::StackFrame;
 use plan_base::{NoMemory, Op, Value, Values};
 use plan_items::Items;
-use plan_meaning::EvalStop;
+use plan_meaning::Stop;
 use std::alloc::Global;
 use visit_state::{State, binary, cons, part};
 
@@ -39,7 +39,7 @@ pub fn behind_one(alloc: Global, n: usize, v: Value) -> Result<StackFrame, NoMem
 
 /// A list with one more item before it.
 #[tactic(auto, using(crate::proofs::Gathering::list_gives, crate::proofs::Gathering::list_stops))]
-fn put_first(x: Value, v: Value) -> Result<Next, EvalStop>
+fn put_first(x: Value, v: Value) -> Result<Next, Stop>
     ensures { (code : Program) (seen : ℕ) (a b : Expr) (n : ℕ) (held : List Value) (s : VisitState) → Continues code seen (Expr-F.Binary op.Cons a b) n (x ∷ held) v s result s }
 {
     Ok(Next::Give(cons(x, v)?))
@@ -47,7 +47,7 @@ fn put_first(x: Value, v: Value) -> Result<Next, EvalStop>
 
 /// What an operator gives of two values.
 #[tactic(auto, using(crate::proofs::Gathering::operator_gives, crate::proofs::Gathering::operator_stops))]
-fn operated(alloc: Global, op: Op, x: Value, v: Value) -> Result<Next, EvalStop>
+fn operated(alloc: Global, op: Op, x: Value, v: Value) -> Result<Next, Stop>
     ensures { (code : Program) (seen : ℕ) (a b : Expr) (n : ℕ) (held : List Value) (s : VisitState) → Continues code seen (Expr-F.Binary op a b) n (x ∷ held) v s result s }
 {
     match op {
@@ -58,7 +58,7 @@ fn operated(alloc: Global, op: Op, x: Value, v: Value) -> Result<Next, EvalStop>
 
 /// What an operator gives of two values, which isn't weighed yet.
 #[tactic(auto, using(crate::proofs::Gathering::list_gives, crate::proofs::Gathering::list_stops, crate::proofs::Gathering::operator_gives, crate::proofs::Gathering::operator_stops))]
-fn computed(alloc: Global, op: Op, x: Value, v: Value) -> Result<Value, EvalStop>
+fn computed(alloc: Global, op: Op, x: Value, v: Value) -> Result<Value, Stop>
     ensures { (code : Program) (seen : ℕ) (e a b : Expr) (env : Env) (s : VisitState) → out-Expr e ≡ Expr-F.Binary op a b
         → Carries (part_gave code seen (record { expr = e; env = env }) 1 (x ∷ []) v s) (λ w. weighed w s) result s }
 {
@@ -69,7 +69,7 @@ fn computed(alloc: Global, op: Op, x: Value, v: Value) -> Result<Value, EvalStop
 }
 
 /// Both operands gave values.
-fn operate(alloc: Global, op: Op, x: Value, v: Value, state: &mut State) -> Result<Flow, EvalStop>
+fn operate(alloc: Global, op: Op, x: Value, v: Value, state: &mut State) -> Result<Flow, Stop>
     ensures flows { (codes : List Program) (code : Program) (seen : ℕ) (e a b : Expr) (env : Env) (m : ServiceState) → out-Expr e ≡ Expr-F.Binary op a b
         → Flows codes code seen (record { expr = e; env = env })
         (part_gave code seen (record { expr = e; env = env }) 1 (x ∷ []) v (joined state.old m)) result (joined state.new m) }
@@ -100,17 +100,17 @@ fn number_paid(state: &mut State) -> bool
 }
 
 /// Both operands are numbers that are at hand.
-pub fn numbers(alloc: Global, op: Op, x: i64, y: i64, state: &mut State) -> Result<Flow, EvalStop>
+pub fn numbers(alloc: Global, op: Op, x: i64, y: i64, state: &mut State) -> Result<Flow, Stop>
     ensures flows { (codes : List Program) (code : Program) (seen : ℕ) (e a b : Expr) (env : Env) (m : ServiceState) → out-Expr e ≡ Expr-F.Binary op a b
         → IsNumber code seen (record { expr = a; env = env }) x → IsNumber code seen (record { expr = b; env = env }) y
         → Flows codes code seen (record { expr = e; env = env }) (begins code seen (record { expr = e; env = env }) (joined state.old m)) result (joined state.new m) }
     ensures lasts { Lasts 3 state.old.work result state.new.work }
 {
     if !number_paid(state) {
-        return Err(EvalStop::WorkSpent);
+        return Err(Stop::WorkSpent);
     }
     if !number_paid(state) {
-        return Err(EvalStop::WorkSpent);
+        return Err(Stop::WorkSpent);
     }
     operate(alloc, op, Value::Int(x), Value::Int(y), state)
 }
@@ -120,10 +120,10 @@ pub fn operands_back(
     alloc: Global,
     op: Op,
     x: Value,
-    flow: Result<Flow, EvalStop>,
+    flow: Result<Flow, Stop>,
     state: &mut State,
-) -> Result<Flow, EvalStop>
-    ensures flows { (codes : List Program) (code : Program) (seen : ℕ) (e a b : Expr) (env : Env) (inner : Spot) (c : RunStep Value) (m : ServiceState) → out-Expr e ≡ Expr-F.Binary op a b
+) -> Result<Flow, Stop>
+    ensures flows { (codes : List Program) (code : Program) (seen : ℕ) (e a b : Expr) (env : Env) (inner : Spot) (c : Step Value) (m : ServiceState) → out-Expr e ≡ Expr-F.Binary op a b
         → deeper (record { expr = e; env = env }) (frame.Part 1 (x ∷ [])) ≡ Some inner
         → Flows codes code seen inner c flow (joined state.old m)
         → Flows codes code seen (record { expr = e; env = env }) (resume code seen (record { expr = e; env = env }) (frame.Part 1 (x ∷ [])) c) result (joined state.new m) }
@@ -139,7 +139,7 @@ pub fn operands_back(
 /// The second operand, or what the operator gives.
 #[tactic(auto, using(crate::proofs::Deciding::second))]
 #[inline(never)]
-pub fn operand(alloc: Global, op: Op, held: Values, v: Value) -> Result<Next, EvalStop>
+pub fn operand(alloc: Global, op: Op, held: Values, v: Value) -> Result<Next, Stop>
     ensures { (code : Program) (seen : ℕ) (a b : Expr) (n : ℕ) (s : VisitState) → Continues code seen (Expr-F.Binary op a b) n held v s result s }
 {
     match first_of(held) {
@@ -162,7 +162,7 @@ pub fn first_of(held: Values) -> Option<Value>
 /// What a part of a tuple gives.
 #[tactic(auto, using(crate::proofs::Gathering::part_gives, crate::proofs::Gathering::part_stops))]
 #[inline(never)]
-pub fn selected(alloc: Global, i: u8, v: &Value) -> Result<Next, EvalStop>
+pub fn selected(alloc: Global, i: u8, v: &Value) -> Result<Next, Stop>
     ensures { (code : Program) (seen : ℕ) (a : Expr) (n : ℕ) (held : List Value) (s : VisitState)
         → Continues code seen (Expr-F.Part i a) n held v.now s result s }
 {

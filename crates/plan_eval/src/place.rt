@@ -2,9 +2,9 @@
 ghost use Rattle.std.specs.Prelude.{◌≡◌, ℕ, MatchOption, None, Some, IsTrue, IsFalse, option_copied};
 ghost use Rattle.plan_eval.specs.Stack.{spot_in};
 ghost use Rattle.plan_eval.specs.Turns.{IsAt, argument_of};
-ghost use Rattle.plan_meaning.specs.declared.stop.EvalStop.TheVariants.{Wrong};
+ghost use Rattle.plan_meaning.specs.declared.stop.Stop.TheVariants.{Wrong};
 ghost use Rattle.plan_meaning.specs.State.{VisitState};
-ghost use Rattle.plan_meaning.specs.Run.{RunStep, stopped};
+ghost use Rattle.plan_meaning.specs.Run.{Step, stopped};
 ghost use Rattle.plan_meaning.specs.Meaning.{Env, entered, meaning};
 ghost use Rattle.plan_eval.specs.Nexts.{Decides, Enters, IsDone};
 
@@ -13,7 +13,7 @@ use crate::stack_frame::{Activation, Codes};
 use crate::walk::{expr_from, part_or_self, same_name};
 use plan_base::{Expr, Fun, Name, Param, Program, Value, Values};
 use plan_items::Shared;
-use plan_meaning::EvalStop;
+use plan_meaning::Stop;
 
 /// The innermost open expression of an activation, its function and its program.
 #[derive(Clone, Copy)]
@@ -79,8 +79,8 @@ pub fn enters(code: &Shared<Program>, fun: usize, args: &Values) -> bool
 
 /// What was decided, or `Wrong` where it can't be done: a part or a function is missing.
 #[tactic(auto, unfolding(crate::specs::Stack::deeper), using(crate::proofs::Naming::no_part, crate::proofs::Naming::no_call, crate::proofs::Naming::no_step, crate::proofs::Naming::has_part))]
-pub fn can_do(place: Place<'_>, decided: Result<Next, EvalStop>) -> Result<Next, EvalStop>
-    ensures { (seen : ℕ) (env : Env) (want : RunStep Value) (s : VisitState)
+pub fn can_do(place: Place<'_>, decided: Result<Next, Stop>) -> Result<Next, Stop>
+    ensures { (seen : ℕ) (env : Env) (want : Step Value) (s : VisitState)
         → Decides place.entry.code.now seen (record { expr = place.entry.expr.now; env = env }) want decided s
         → Decides place.entry.code.now seen (record { expr = place.entry.expr.now; env = env }) want result s
         × IsDone place.entry.code.now (record { expr = place.entry.expr.now; env = env }) result }
@@ -88,19 +88,19 @@ pub fn can_do(place: Place<'_>, decided: Result<Next, EvalStop>) -> Result<Next,
     match decided {
         Ok(Next::Open(frame)) => {
             if part_or_self(place.expr, &frame).is_none() {
-                return Err(EvalStop::Wrong);
+                return Err(Stop::Wrong);
             }
             Ok(Next::Open(frame))
         }
         Ok(Next::Call(fun, args)) => {
             if !enters(place.code, fun, &args) {
-                return Err(EvalStop::Wrong);
+                return Err(Stop::Wrong);
             }
             Ok(Next::Call(fun, args))
         }
         Ok(Next::Step(fun, args, left)) => {
             if !enters(place.code, fun, &args) {
-                return Err(EvalStop::Wrong);
+                return Err(Stop::Wrong);
             }
             Ok(Next::Step(fun, args, left))
         }

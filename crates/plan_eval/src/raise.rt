@@ -3,7 +3,7 @@ ghost use Rattle.std.specs.Prelude.{◌≡◌, ◌+◌, ℕ, List, Some, slice_g
 ghost use Rattle.plan_base.specs.declared.tree.Expr.{Expr, Expr-F, out-Expr};
 ghost use Rattle.plan_base.specs.declared.tree.Program.{Program};
 ghost use Rattle.plan_base.specs.declared.tree.Value.{Value};
-ghost use Rattle.plan_meaning.specs.declared.stop.EvalStop.TheVariants.{Raised};
+ghost use Rattle.plan_meaning.specs.declared.stop.Stop.TheVariants.{Raised};
 ghost use Rattle.plan_meaning.specs.State.{VisitState};
 ghost use Rattle.plan_meaning.specs.Run.{quiet, stopped};
 ghost use Rattle.plan_meaning.specs.Meaning.{Env};
@@ -15,7 +15,7 @@ use crate::next::Next;
 use crate::place::{can_do, place_in};
 use crate::stack_frame::{Activation, Codes, StackFrame};
 use plan_base::{Clause, Clauses, Exn, Expr};
-use plan_meaning::EvalStop;
+use plan_meaning::Stop;
 use visit_state::catches;
 
 /// The number of the body that takes an exception among the parts of its `try`.
@@ -35,62 +35,57 @@ fn body_for(clauses: &[Clause], x: &Exn) -> Option<usize>
 }
 
 /// The expression of a `try` raised an exception: a clause takes it, or it goes on.
-fn try_raised(clauses: &Clauses, x: Exn) -> Result<Next, EvalStop>
+fn try_raised(clauses: &Clauses, x: Exn) -> Result<Next, Stop>
     ensures { (code : Program) (seen : ℕ) (e a : Expr) (env : Env) (n : ℕ) (held : List Value) (s : VisitState) → out-Expr e ≡ Expr-F.Try a clauses.now
         → Decides code seen (record { expr = e; env = env })
         (resume code seen (record { expr = e; env = env }) (frame.Part n held) (quiet (stopped (Raised x) s))) result s }
 {
     match body_for(clauses.as_slice(), &x) {
         Some(number) => Ok(Next::Open(StackFrame::Last(number))),
-        None => Err(EvalStop::Raised(x)),
+        None => Err(Stop::Raised(x)),
     }
 }
 
 /// A part raised an exception: the clauses of a `try` may take it, and every other form passes it on.
 #[tactic(auto, using(plan_base::specs::Trees::trees))]
-fn part_raised(e: &Expr, x: Exn) -> Result<Next, EvalStop>
+fn part_raised(e: &Expr, x: Exn) -> Result<Next, Stop>
     ensures { (code : Program) (seen : ℕ) (env : Env) (n : ℕ) (held : List Value) (s : VisitState) → Decides code seen (record { expr = e.now; env = env })
         (resume code seen (record { expr = e.now; env = env }) (frame.Part n held) (quiet (stopped (Raised x) s))) result s }
 {
     match e {
         Expr::Try(_, clauses) => try_raised(clauses, x),
-        _ => Err(EvalStop::Raised(x)),
+        _ => Err(Stop::Raised(x)),
     }
 }
 
 /// What an open expression does when what its frame waits for raised an exception.
 #[tactic(auto, using(crate::proofs::Catching::passes_frame))]
-pub fn frame_raised(e: &Expr, frame: &StackFrame, x: Exn) -> Result<Next, EvalStop>
+pub fn frame_raised(e: &Expr, frame: &StackFrame, x: Exn) -> Result<Next, Stop>
     ensures { (code : Program) (seen : ℕ) (env : Env) (s : VisitState) → Decides code seen (record { expr = e.now; env = env })
         (resume code seen (record { expr = e.now; env = env }) frame.now (quiet (stopped (Raised x) s))) result s }
 {
     match frame {
         StackFrame::Part(_, _) => part_raised(e, x),
-        StackFrame::Last(_) | StackFrame::Body | StackFrame::Chunk => Err(EvalStop::Raised(x)),
-        StackFrame::Bound(_) | StackFrame::Items(_) => Err(EvalStop::Raised(x)),
+        StackFrame::Last(_) | StackFrame::Body | StackFrame::Chunk => Err(Stop::Raised(x)),
+        StackFrame::Bound(_) | StackFrame::Items(_) => Err(Stop::Raised(x)),
     }
 }
 
 /// What an activation does when an exception reaches its innermost frame, which is off it.
 #[tactic(auto, using(crate::proofs::Naming::at_place, crate::proofs::Catching::passes_frame))]
-pub fn raise_top(
-    codes: &Codes,
-    top: &Activation,
-    frame: &StackFrame,
-    x: Exn,
-) -> Result<Next, EvalStop>
+pub fn raise_top(codes: &Codes, top: &Activation, frame: &StackFrame, x: Exn) -> Result<Next, Stop>
     ensures { (code : Program) (at : Spot) (s : VisitState) → slice_get codes.now top.now.code ≡ Some code → spot_in codes.now top.now ≡ Some at
         → Decides code top.now.fun at (resume code top.now.fun at frame.now (quiet (stopped (Raised x) s))) result s × IsDone code at result }
 {
     let Some(place) = place_in(codes, top) else {
-        return Err(EvalStop::Wrong);
+        return Err(Stop::Wrong);
     };
     match frame {
         StackFrame::Part(_, _) => {
             let decided = part_raised(place.expr, x);
             can_do(place, decided)
         }
-        StackFrame::Last(_) | StackFrame::Body | StackFrame::Chunk => Err(EvalStop::Raised(x)),
-        StackFrame::Bound(_) | StackFrame::Items(_) => Err(EvalStop::Raised(x)),
+        StackFrame::Last(_) | StackFrame::Body | StackFrame::Chunk => Err(Stop::Raised(x)),
+        StackFrame::Bound(_) | StackFrame::Items(_) => Err(Stop::Raised(x)),
     }
 }

@@ -13,7 +13,7 @@ use crate::next::Next;
 use crate::operand::behind_one;
 use crate::stack_frame::StackFrame;
 use plan_base::{Chunk, Name, NoMemory, Value, Values};
-use plan_meaning::EvalStop;
+use plan_meaning::Stop;
 use std::alloc::Global;
 use visit_state::{State, as_chunk, as_dev, as_host, as_int};
 
@@ -31,13 +31,13 @@ fn chunk_of(v: Value) -> Option<Chunk>
 /// An eval, which is paid before its chunk runs.
 #[tactic(auto, using(crate::proofs::Deciding::chunk_paid, crate::proofs::Sending::chunk_unpaid, crate::proofs::Sending::no_chunk))]
 #[inline(never)]
-pub fn evaluated(alloc: Global, v: Value, state: &mut State) -> Result<Next, EvalStop>
+pub fn evaluated(alloc: Global, v: Value, state: &mut State) -> Result<Next, Stop>
     ensures decides { (code : Program) (seen : ℕ) (a : Expr) (n : ℕ) (held : List Value) (s : ServiceState)
         → Continues code seen (Expr-F.Eval a) n held v (joined state.old s) result (joined state.new s) }
     ensures falls { state.new.work ≤ state.old.work }
 {
     let Some(chunk) = chunk_of(v) else {
-        return Err(EvalStop::Wrong);
+        return Err(Stop::Wrong);
     };
     state.pay_eval(alloc)?;
     Ok(Next::Visit(chunk))
@@ -70,20 +70,20 @@ fn send_remote(
     w: &Value,
     v: &Value,
     state: &mut State,
-) -> Result<Next, EvalStop>
+) -> Result<Next, Stop>
     requires safe { RemoteIsSafe r.now c w.now v.now state.old }
     ensures decides { (code : Program) (seen : ℕ) (a h b : Expr) (n : ℕ) (held : List Value) (s : ServiceState)
         → Continues code seen (Expr-F.OnRemote a h b r.now) n (c ∷ w.now ∷ held) v.now (joined state.old s) result (joined state.new s) }
     ensures falls { state.new.work ≤ state.old.work }
 {
     let Some(chunk) = chunk_of(c) else {
-        return Err(EvalStop::Wrong);
+        return Err(Stop::Wrong);
     };
     let Some(host) = as_host(w) else {
-        return Err(EvalStop::Wrong);
+        return Err(Stop::Wrong);
     };
     let Some(bound) = as_int(v) else {
-        return Err(EvalStop::Wrong);
+        return Err(Stop::Wrong);
     };
     state.send_remote(alloc, chunk, host, bound, r)?;
     Ok(Next::Give(Value::Unit))
@@ -98,7 +98,7 @@ pub fn remote_part(
     held: Values,
     v: Value,
     state: &mut State,
-) -> Result<Next, EvalStop>
+) -> Result<Next, Stop>
     requires safe { (c w : Value) (more : List Value) → held ≡ c ∷ w ∷ more → RemoteIsSafe r.now c w v state.old }
     ensures decides { (code : Program) (seen : ℕ) (a h b : Expr) (n : ℕ) (s : ServiceState)
         → Continues code seen (Expr-F.OnRemote a h b r.now) n held v (joined state.old s) result (joined state.new s) }
@@ -107,16 +107,16 @@ pub fn remote_part(
     match held.as_slice() {
         [] => {
             if as_chunk(&v).is_none() {
-                return Err(EvalStop::Wrong);
+                return Err(Stop::Wrong);
             }
             Ok(Next::Open(behind_one(alloc, 1, v)?))
         }
         [c] => {
             if as_chunk(c).is_none() {
-                return Err(EvalStop::Wrong);
+                return Err(Stop::Wrong);
             }
             if as_host(&v).is_none() {
-                return Err(EvalStop::Wrong);
+                return Err(Stop::Wrong);
             }
             Ok(Next::Open(behind_more(2, held, v)?))
         }
@@ -138,23 +138,23 @@ fn send_neighbour(
     u: &Value,
     v: &Value,
     state: &mut State,
-) -> Result<Next, EvalStop>
+) -> Result<Next, Stop>
     requires safe { NeighbourIsSafe c w.now u.now v.now state.old }
     ensures decides { (code : Program) (seen : ℕ) (a h b d : Expr) (n : ℕ) (held : List Value) (s : ServiceState)
         → Continues code seen (Expr-F.OnNeighbor a h b d) n (c ∷ w.now ∷ u.now ∷ held) v.now (joined state.old s) result (joined state.new s) }
     ensures falls { state.new.work ≤ state.old.work }
 {
     let Some(chunk) = chunk_of(c) else {
-        return Err(EvalStop::Wrong);
+        return Err(Stop::Wrong);
     };
     let Some(host) = as_host(w) else {
-        return Err(EvalStop::Wrong);
+        return Err(Stop::Wrong);
     };
     let Some(bound) = as_int(u) else {
-        return Err(EvalStop::Wrong);
+        return Err(Stop::Wrong);
     };
     let Some(dev) = as_dev(v) else {
-        return Err(EvalStop::Wrong);
+        return Err(Stop::Wrong);
     };
     state.send_neighbour(alloc, chunk, host, bound, dev)?;
     Ok(Next::Give(Value::Unit))
@@ -168,7 +168,7 @@ pub fn neighbour_part(
     held: Values,
     v: Value,
     state: &mut State,
-) -> Result<Next, EvalStop>
+) -> Result<Next, Stop>
     requires safe { (c w u : Value) (more : List Value) → held ≡ c ∷ w ∷ u ∷ more → NeighbourIsSafe c w u v state.old }
     ensures decides { (code : Program) (seen : ℕ) (a h b d : Expr) (n : ℕ) (s : ServiceState)
         → Continues code seen (Expr-F.OnNeighbor a h b d) n held v (joined state.old s) result (joined state.new s) }
@@ -177,28 +177,28 @@ pub fn neighbour_part(
     match held.as_slice() {
         [] => {
             if as_chunk(&v).is_none() {
-                return Err(EvalStop::Wrong);
+                return Err(Stop::Wrong);
             }
             Ok(Next::Open(behind_one(alloc, 1, v)?))
         }
         [c] => {
             if as_chunk(c).is_none() {
-                return Err(EvalStop::Wrong);
+                return Err(Stop::Wrong);
             }
             if as_host(&v).is_none() {
-                return Err(EvalStop::Wrong);
+                return Err(Stop::Wrong);
             }
             Ok(Next::Open(behind_more(2, held, v)?))
         }
         [c, w] => {
             if as_chunk(c).is_none() {
-                return Err(EvalStop::Wrong);
+                return Err(Stop::Wrong);
             }
             if as_host(w).is_none() {
-                return Err(EvalStop::Wrong);
+                return Err(Stop::Wrong);
             }
             if as_int(&v).is_none() {
-                return Err(EvalStop::Wrong);
+                return Err(Stop::Wrong);
             }
             Ok(Next::Open(behind_more(3, held, v)?))
         }

@@ -1,4 +1,4 @@
-use Rattle.plan_meaning.specs.declared.stop.EvalStop.TheVariants.{WorkSpent, Wrong}
+use Rattle.plan_meaning.specs.declared.stop.Stop.TheVariants.{WorkSpent, Wrong}
 use Rattle.plan_eval.proofs.Turning.{turn_raised, turn_stopped}
 use Rattle.plan_eval.proofs.apply.halt.Goals as goal
 

@@ -1,7 +1,7 @@
 use Rattle.std.proofs.Common.{◌≡◌, rules, Ok, Err, true, false, ◌∷◌, [], length, slice_get, Some, None, IsSome, refl, sym, ◌∙◌, arith, ◌<◌}
 use Rattle.plan_base.specs.declared.tree.Expr.{Expr-F, out-Expr}
 use Rattle.typing_rules.specs.TypingNames.{place_of}
-use Rattle.plan_meaning.specs.declared.stop.EvalStop.TheVariants.{WorkSpent}
+use Rattle.plan_meaning.specs.declared.stop.Stop.TheVariants.{WorkSpent}
 use Rattle.plan_meaning.specs.State.{joined}
 use Rattle.plan_meaning.specs.Run.{gave}
 use Rattle.plan_meaning.specs.Safe.{IsSafe}

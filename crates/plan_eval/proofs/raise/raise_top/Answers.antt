@@ -1,5 +1,5 @@
 use Rattle.plan_base.specs.declared.tree.Program.{Program}
-use Rattle.plan_meaning.specs.declared.stop.EvalStop.TheVariants.{Raised}
+use Rattle.plan_meaning.specs.declared.stop.Stop.TheVariants.{Raised}
 use Rattle.plan_meaning.specs.Run.{quiet, stopped}
 use Rattle.plan_eval.specs.Stack.{Spot, env_from, resume}
 use Rattle.std.proofs.Common.{Some}
