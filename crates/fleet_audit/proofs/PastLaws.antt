@@ -23,12 +23,9 @@ use Rattle.network_plan.specs.declared.event.LogEvent.{LogEvent}
 use Rattle.network_plan.specs.declared.event.LogEvent.TheVariants.{Step, Lost}
 use Rattle.network_plan.specs.NodeRules.{KeepsNodeEvent}
 use Rattle.service_api.specs.Services.{ServiceState}
-use Rattle.service_meaning.specs.Offered.{InstalledPackages}
-use Rattle.service_meaning.specs.Beginning.{opening_standing}
 use Rattle.node_model.specs.declared.acts.Act.{Act}
 use Rattle.node_model.specs.State.{NodeState, new_node}
 use Rattle.node_model.specs.Node.{node_step}
-use Rattle.node_core.specs.Turns.{IsResting}
 use Rattle.serve_model.specs.Runs.{acts_of, node_by, node_after}
 use Rattle.world_model.specs.declared.lines.LinkEnd.{LinkEnd}
 use Rattle.world_model.specs.World.{Cables}
@@ -47,12 +44,6 @@ use Rattle.fleet_audit.specs.Books.{none as no_sums, plus, counts_in, act_counts
 use Rattle.fleet_audit.specs.Pasts.{Past, nothing, with_acts, with_sent, with_accepted, with_host, arrived_from, accepted_by, taken_by, TakenReads, with_frames, with_entry, with_entries, with_log, with_logs, arrival_of, arrivals_of, injected_by, injected, Holds, IsReckoned}
 use Rattle.fleet_audit.proofs.TallyLaws.{tallied_sent}
 use Rattle.fleet_audit.proofs.ActLaws.{counts_push, no_counts}
-
--- ---- services
-
--- new services have no visit open
-pub new_rests : (s : ServiceState) (p : InstalledPackages) → s ≡ opening_standing p → IsResting s
-new_rests s p is = record { closed = ap (λ t. t.begun) is; waits = ap (λ t. t.ready) is }
 
 -- ---- acts
 

@@ -326,7 +326,7 @@ pub fn nothing_reckoned(alloc: Global) -> Reckoning
 
 /// Makes the steps of a log again, from its node's beginning, and adds what they sent, accepted and did. The number is that
 /// of the log, from 1. Condition: the log keeps its rules.
-#[tactic(auto, using(crate::proofs::PastLaws::new_rests))]
+#[tactic(auto, using(log_replay::proofs::Resting::new_rests))]
 pub fn reckon_log(
     alloc: Global,
     links: &[Link],

@@ -11,7 +11,7 @@ use service_registry::Registry;
 use std::alloc::Global;
 
 // Serves as the node of a configuration that was read.
-#[tactic(auto, using(crate::proofs::Resting::new_rests))]
+#[tactic(auto, using(log_replay::proofs::Resting::new_rests))]
 fn serve_read<F: Files, L: Link, C: Clock, K: Sink>(
     alloc: Global,
     cfg: &ServeConfig,

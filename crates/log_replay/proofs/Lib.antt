@@ -2,3 +2,4 @@ pub mod LineLaws
 pub mod ReplayLaws
 pub mod Printing
 pub mod Within
+pub mod Resting

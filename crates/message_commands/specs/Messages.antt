@@ -9,7 +9,7 @@ use Rattle.service_api.specs.declared.answer.Note.{Note}
 use Rattle.log_gather.specs.Texts.{gather_output}
 use Rattle.log_gather.specs.Notes.{log_notes}
 use Rattle.file_commands.specs.Said.{Said, lines_said}
-use Rattle.run_commands.specs.Schedules.{log_node}
+use Rattle.log_replay.specs.Nodes.{log_node}
 
 -- what the file of this name says to `cut`
 abbrev pub cut_said : List ℕ → FileMap → Said CutFile

@@ -12,7 +12,7 @@ use service_registry::Registry;
 use std::alloc::Global;
 
 // Writes the messages of a log that was read.
-#[tactic(auto, using(run_commands::proofs::Resting::new_rests, node_io::proofs::SinkLaws::prefix_none))]
+#[tactic(auto, using(log_replay::proofs::Resting::new_rests, node_io::proofs::SinkLaws::prefix_none))]
 fn print_messages<K: Sink>(alloc: Global, port: u16, log: &Log, out: &mut K) -> Cause
     requires { KeepsLog log.now }
     ensures { Prints (messages_text port log.now) result (K.state out.old) (K.state out.new) }

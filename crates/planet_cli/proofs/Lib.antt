@@ -17,3 +17,7 @@ pub mod Showing
 pub mod Asking
 pub mod Fleets
 pub mod Serving
+pub mod GrowEnds
+pub mod FleetEnds
+pub mod NodeFiles
+pub mod NodeRuns

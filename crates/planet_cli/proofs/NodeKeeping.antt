@@ -40,7 +40,7 @@ use Rattle.network_laws.proofs.Visits.{ends_well, cases, chunk_ends, bytes_end}
 use Rattle.service_meaning.specs.Beginning.{opening_standing, present_without}
 use Rattle.serve_model.specs.Runs.{node_by, node_after}
 use Rattle.serve_model.proofs.Beginning.{may_begin}
-use Rattle.run_commands.specs.Schedules.{log_node}
+use Rattle.log_replay.specs.Nodes.{log_node}
 use Rattle.world_model.specs.Visits.{one_visit, EndsWell}
 use Rattle.run_commands.specs.Keeping.{node_at, asked_visits, control_visits, step_visits, KeepsNodeRun}
 use Rattle.planet_cli.specs.Replays.{ReplaysLog}

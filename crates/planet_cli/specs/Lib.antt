@@ -8,3 +8,5 @@ pub mod PortCalls
 pub mod Audited
 pub mod Outcomes
 pub mod Laws
+pub mod Fleets
+pub mod Runs

@@ -9,7 +9,7 @@ ghost use Rattle.net_world.specs.Keeping.{KeepsRun};
 ghost use Rattle.call_causes.specs.Causes.{code_of, Explains};
 ghost use Rattle.planet_cli.specs.Requests.{request_of};
 ghost use Rattle.planet_cli.specs.Calls.{Calls};
-ghost use Rattle.run_commands.specs.Schedules.{log_node};
+ghost use Rattle.log_replay.specs.Nodes.{log_node};
 ghost use Rattle.run_commands.specs.Keeping.{KeepsNodeRun};
 ghost use Rattle.planet_cli.specs.Replays.{Replays, ReplaysLog};
 

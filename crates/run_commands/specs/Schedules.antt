@@ -7,10 +7,9 @@ use Rattle.line_files.specs.declared.fault.LineFault.{LineFault}
 use Rattle.line_files.specs.declared.fault.LineFault.TheVariants as faults
 use Rattle.schedule_text.specs.Schedules.{schedule_of}
 use Rattle.node_files.specs.Logs.{log_of}
-use Rattle.node_model.specs.State.{NodeState, new_node}
-use Rattle.service_meaning.specs.Beginning.{opening_standing, present_without}
 use Rattle.serve_model.specs.Runs.{played}
 use Rattle.serve_model.specs.Texts.{whole_trace}
+use Rattle.log_replay.specs.Nodes.{log_node}
 use Rattle.world_model.specs.World.{opening}
 use Rattle.world_model.specs.Texts.{run_text}
 use Rattle.node_io.specs.FileMaps.{FileMap}
@@ -50,10 +49,6 @@ replayed_of bytes = replayed_by (schedule_of bytes) bytes
 -- the trace and the ledger of a schedule's run
 abbrev pub replay_text : Schedule → List ℕ
 replay_text s = run_text s.frames s.events (opening s.topology)
-
--- the node of a log: new, with the services that it doesn't lack, and no rows
-abbrev pub log_node : Log → NodeState
-log_node l = new_node l.node (opening_standing (present_without l.missing))
 
 -- the trace of a log: its steps once more, at that node
 abbrev pub log_trace : Log → List ℕ

@@ -63,7 +63,7 @@ fn is_header_fault(fault: &LineFault) -> bool
 }
 
 // Writes the trace of a log that was read.
-#[tactic(auto, using(crate::proofs::Resting::new_rests))]
+#[tactic(auto, using(log_replay::proofs::Resting::new_rests))]
 fn run_log_read<K: Sink>(alloc: Global, log: &Log, out: &mut K) -> Cause
     requires { KeepsLog log.now }
     ensures { Prints (log_trace log.now) result (K.state out.old) (K.state out.new) }

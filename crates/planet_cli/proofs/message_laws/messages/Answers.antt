@@ -1,7 +1,7 @@
 use Rattle.frag_chunks.specs.Messages.{missing_of}
 use Rattle.frag_chunks.specs.declared.gather.Held.TheVariants as held
 use Rattle.log_gather.proofs.NoteLaws.{key_line}
-use Rattle.run_commands.specs.Schedules.{log_node}
+use Rattle.log_replay.specs.Nodes.{log_node}
 use Rattle.message_commands.specs.Messages.{notes_of}
 use Rattle.planet_cli.proofs.message_laws.messages.Goals as goal
 

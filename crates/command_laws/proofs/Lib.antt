@@ -1,4 +1,0 @@
-pub mod Endings
-pub mod Fleets
-pub mod Nodes
-pub mod Replays

@@ -1,2 +1,0 @@
-pub mod Fleets
-pub mod Runs
