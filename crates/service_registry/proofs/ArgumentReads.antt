@@ -12,12 +12,12 @@ use Rattle.service_registry.specs.Arguments.{int_in, text_in}
 use Rattle.service_registry.specs.Meets.{Meets}
 
 -- the answer at an argument that is there, and else a refusal
-abbrev pub taken : (A : Type 0) → (A → Served) → Option A → Rows → Served
-taken A f (Some a) rows = f a
-taken A f None rows = refused rows
+abbrev pub taken_argument : (A : Type 0) → (A → Served) → Option A → Rows → Served
+taken_argument A f (Some a) rows = f a
+taken_argument A f None rows = refused rows
 
 module _ (rows : Rows) where
-  int_taken : (f : ℤ → Served) (l : ValueLayer) → of_int f l rows ≡ taken ℤ f (int_in l) rows
+  int_taken : (f : ℤ → Served) (l : ValueLayer) → of_int f l rows ≡ taken_argument ℤ f (int_in l) rows
   int_taken f (Value-F.Int z) = refl
   int_taken f Value-F.Unit = refl
   int_taken f (Value-F.Bool b) = refl
@@ -30,7 +30,7 @@ module _ (rows : Rows) where
   int_taken f (Value-F.List t vs) = refl
   int_taken f (Value-F.Tuple vs) = refl
 
-  text_taken : (f : List ℕ → Served) (l : ValueLayer) → of_text f l rows ≡ taken (List ℕ) f (text_in l) rows
+  text_taken : (f : List ℕ → Served) (l : ValueLayer) → of_text f l rows ≡ taken_argument (List ℕ) f (text_in l) rows
   text_taken f (Value-F.Str s) = refl
   text_taken f Value-F.Unit = refl
   text_taken f (Value-F.Bool b) = refl
@@ -43,11 +43,11 @@ module _ (rows : Rows) where
   text_taken f (Value-F.List t vs) = refl
   text_taken f (Value-F.Tuple vs) = refl
 
-  pub int_read : (f : ℤ → Served) (l : ValueLayer) (o : Option ℤ) → o ≡ int_in l → of_int f l rows ≡ taken ℤ f o rows
-  int_read f l o e = int_taken f l ∙ ap (λ x. taken ℤ f x rows) (sym e)
+  pub int_read : (f : ℤ → Served) (l : ValueLayer) (o : Option ℤ) → o ≡ int_in l → of_int f l rows ≡ taken_argument ℤ f o rows
+  int_read f l o e = int_taken f l ∙ ap (λ x. taken_argument ℤ f x rows) (sym e)
 
-  pub text_read : (f : List ℕ → Served) (l : ValueLayer) (o : Option (List ℕ)) → o ≡ text_in l → of_text f l rows ≡ taken (List ℕ) f o rows
-  text_read f l o e = text_taken f l ∙ ap (λ x. taken (List ℕ) f x rows) (sym e)
+  pub text_read : (f : List ℕ → Served) (l : ValueLayer) (o : Option (List ℕ)) → o ≡ text_in l → of_text f l rows ≡ taken_argument (List ℕ) f o rows
+  text_read f l o e = text_taken f l ∙ ap (λ x. taken_argument (List ℕ) f x rows) (sym e)
 
 -- ---- how many arguments there are
 
@@ -92,11 +92,11 @@ module _ (f : List ℕ → ℤ → Served) (rows : Rows) where
   named_other (x ∷ y ∷ z ∷ zs) h = refl
 
   -- by what its arguments are
-  pub named_by : (args : List Value) (x y : Value) (o : Option (List ℕ)) (p : Option ℤ) → args ≡ x ∷ y ∷ [] → o ≡ text_in (out-Value x) → p ≡ int_in (out-Value y) → Named f rows args ≡ taken (List ℕ) (λ name. taken ℤ (f name) p rows) o rows
+  pub named_by : (args : List Value) (x y : Value) (o : Option (List ℕ)) (p : Option ℤ) → args ≡ x ∷ y ∷ [] → o ≡ text_in (out-Value x) → p ≡ int_in (out-Value y) → Named f rows args ≡ taken_argument (List ℕ) (λ name. taken_argument ℤ (f name) p rows) o rows
   named_by args x y o p e g h =
       ap (Named f rows) e
       ∙ text_read rows (λ name. of_int (f name) (out-Value y) rows) (out-Value x) o g
-      ∙ ap (λ (t : List ℕ → Served). taken (List ℕ) t o rows) (λ i name. int_read rows (f name) (out-Value y) p h i)
+      ∙ ap (λ (t : List ℕ → Served). taken_argument (List ℕ) t o rows) (λ i name. int_read rows (f name) (out-Value y) p h i)
 
 pub meets_as : (s t : Served) (old new : Rows) (r : Result Answer NoMemory) → s ≡ t → Meets t old r new → Meets s old r new
 meets_as s t old new r e m = subst (λ (x : Served). Meets x old r new) (sym e) m
