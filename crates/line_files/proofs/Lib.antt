@@ -1,4 +1,5 @@
 pub mod Splits
+pub mod Places
 pub mod Digits
 pub mod TextLaws
 pub mod PackageLists

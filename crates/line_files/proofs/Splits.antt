@@ -1,8 +1,7 @@
 -- How lines and words stand in their bytes.
-use Rattle.std.proofs.Common.{◌≡◌, ℕ, suc, ◌+◌, ◌<◌, ◌≤◌, Bool, true, false, cond, eqb, ltb, not, unwrap_or, Some, None, List, [], ◌∷◌, ◌++◌, length, take, drop, Ok, Err, refl, sym, ap, subst, ◌∙◌, arith}
-use Rattle.std.specs.List.{position, position_or_len}
-use Rattle.std.proofs.lemmas.Bool.{eqb-true, ltb-false}
-use Rattle.std.proofs.lemmas.List.Sums.{prefix_len-le-length}
+use Rattle.std.proofs.Common.{◌≡◌, ℕ, suc, ◌+◌, ◌<◌, ◌≤◌, Bool, true, false, cond, eqb, not, List, [], ◌∷◌, ◌++◌, length, take, drop, Ok, Err, refl, sym, ap, subst, ◌∙◌, arith}
+use Rattle.std.specs.List.{position_or_len}
+use Rattle.std.proofs.lemmas.Bool.{eqb-true}
 use Rattle.std.proofs.lemmas.List.{take_all, drop_all}
 use Rattle.line_files.specs.declared.fault.LineReason.TheVariants.{BadWord}
 use Rattle.line_files.specs.Lines.{begin_with, lines, words, words_left, behind}
@@ -123,11 +122,3 @@ goes_on_is false xs = refl
 pub ended_is : (more : Bool) (xs : List ℕ) → allowed (not more) BadWord ≡ end_at (words_left more xs)
 ended_is true xs = sym (not_ended xs)
 ended_is false xs = refl
-
-place_step : (t : Bool) (n len : ℕ) → n ≤ len → ltb n len ≡ t → unwrap_or (cond t (Some n) None) len ≡ n
-place_step true n len le e = refl
-place_step false n len le e = omega (arith, ltb-false n len e, le)
-
--- the first place, or the end
-pub place_is : {X : Type 0} (p : X → Bool) (xs : List X) → unwrap_or (position p xs) (length xs) ≡ position_or_len p xs
-place_is p xs = place_step (ltb (position_or_len p xs) (length xs)) (position_or_len p xs) (length xs) (prefix_len-le-length (λ x. not (p x)) xs) refl

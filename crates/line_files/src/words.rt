@@ -1,5 +1,5 @@
 ghost use Rattle.std.specs.Prelude.{◌≡◌, true, ◌==◌, ◌<◌, ◌≤◌, ◌∷◌, [], length, MatchOption, MatchResult, IfSome};
-ghost use Rattle.std.specs.List.{position, position_or_len};
+ghost use Rattle.std.specs.List.{position_or_len};
 ghost use Rattle.std.specs.Str.{bytes_eq};
 ghost use Rattle.line_files.specs.Lines.{lines, words_left};
 ghost use Rattle.line_files.specs.Files.{is_skipped};
@@ -7,22 +7,19 @@ ghost use Rattle.line_files.specs.Handlers.{comes};
 ghost use Rattle.line_files.specs.Reads.{Reads, word_at, rest_at, end_at, has_word, allowed, fault_at};
 
 use crate::fault::{LineFault, LineReason, LineStop};
+use memchr::memchr;
 use std::marker::Model;
 
-/// The place of the first `b`.
-fn place_of(text: &[u8], b: u8) -> Option<usize>
-    ensures { result ≡ position (λ x. x == b) text.now }
-{
-    text.iter().position(|x| *x == b)
-}
-
-#[tactic(auto, using(crate::proofs::Splits::place_is))]
+#[tactic(auto, using(crate::proofs::Places::first_is, crate::proofs::Places::none_is))]
 /// The number of bytes before the first `b`, or of all bytes where there is none.
 fn find_byte(text: &[u8], b: u8) -> usize
     ensures place { result ≡ position_or_len (λ x. x == b) text.now }
     ensures within { result ≤ length text.now }
 {
-    place_of(text, b).unwrap_or(text.len())
+    match memchr(b, text) {
+        Some(place) => place,
+        None => text.len(),
+    }
 }
 
 #[tactic(auto, using(crate::proofs::Splits::line_last, crate::proofs::Splits::line_more), unfolding(crate::specs::Lines::lines))]

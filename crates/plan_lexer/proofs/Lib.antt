@@ -3,7 +3,9 @@ pub mod QuotedLemmas
 pub mod ScanLemmas
 pub mod WordLemmas
 pub mod ItemLemmas
+pub mod DigitLemmas
 pub mod ReadLemmas
+pub mod BlobLemmas
 pub mod SpellLemmas
 pub mod TableLemmas
 pub mod PrintLemmas

@@ -48,7 +48,7 @@ unfolding char_at char_by
 char_reads item c h start rest = rw (item_reads 39 item c (39 ∷ rest) (omega arith) (omega arith) h, get_behind item (39 ∷ rest)) refl
 
 -- one pair of digits more
-blob_pair : (start at h l high low : ℕ) (rest : List ℕ) → hex_value h ≡ Some high → hex_value l ≡ Some low
+pub blob_pair : (start at h l high low : ℕ) (rest : List ℕ) → hex_value h ≡ Some high → hex_value l ≡ Some low
     → blob_from start at None (h ∷ l ∷ rest) ≡ with_front ((16 * high + low) ∷ []) (blob_from start (at + 1 + 1) None rest)
 unfolding hex_value
 blob_pair start at h l high low rest e f = grind (arith, nat_tests)

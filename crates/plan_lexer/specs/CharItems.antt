@@ -51,6 +51,15 @@ hex_value b =
     (if nat_lt b 65 then None else (if nat_lt b 71 then Some (b - 55) else
     (if nat_lt b 97 then None else (if nat_lt b 103 then Some (b - 87) else None)))))
 
+-- the byte of two digits, if both are
+abbrev pub pair_of : Option ℕ → Option ℕ → Option ℕ
+pair_of None low = None
+pair_of (Some high) None = None
+pair_of (Some high) (Some low) = Some (16 * high + low)
+
+unfoldable pub pair_value : ℕ → ℕ → Option ℕ
+pair_value high low = pair_of (hex_value high) (hex_value low)
+
 -- the character that a letter stands for behind a backslash
 unfoldable pub escaped : ℕ → Option ℕ
 escaped b =

@@ -1,5 +1,5 @@
 -- Blobs.
-use Rattle.std.specs.Prelude.{ℕ, ◌+◌, ◌*◌, List, [], ◌∷◌, Option, Some, None, Result, Ok, Err, ◌==◌, if◌then◌else◌}
+use Rattle.std.specs.Prelude.{◌≡◌, ℕ, ◌+◌, ◌*◌, List, [], ◌∷◌, length, drop, Option, Some, None, Result, Ok, Err, ◌==◌, if◌then◌else◌}
 use Rattle.plan_lexer.specs.CharItems.{hex_value}
 use Rattle.plan_lexer.specs.Quoted.{with_front}
 use Rattle.plan_lexer.specs.declared.fault.LexFault.{LexFault}
@@ -26,3 +26,7 @@ blob_from start at half (b ∷ more) =
 -- the bytes of a blob that begins at `start`, two places before the text, and the place behind its closing quote
 unfoldable pub blob_at : ℕ → List ℕ → Result (List ℕ × ℕ) LexFault
 blob_at start text = blob_from start (start + 2) None text
+
+-- these bytes are those of the first pairs of a text: with what is read behind them, it reads as it does
+pub record IsFront (text bytes : List ℕ) : Type 0 where
+  pub reads : (start at : ℕ) → with_front bytes (blob_from start (at + 2 * length bytes) None (drop (2 * length bytes) text)) ≡ blob_from start at None text

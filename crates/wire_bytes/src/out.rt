@@ -8,17 +8,18 @@ use std::marker::Model;
 #[derive(Drop)]
 pub struct Out {
     bytes: Vec<u8>,
+    room: u32,
 }
 
 impl Model for Out {
-    ghost use Rattle.std.specs.Prelude.{◌-◌, ◌<◌, ◌^◌, vec_len, vec_capacity};
+    ghost use Rattle.std.specs.Prelude.{◌+◌, ◌≤◌, vec_len, vec_capacity};
     ghost use Rattle.wire_bytes.specs.Fields.{Page};
 
     ghost Value = { Page };
 
-    ghost view = { λ o. record { bytes = o.bytes.items; room = vec_capacity o.bytes - vec_len o.bytes } };
+    ghost view = { λ o. record { bytes = o.bytes.items; room = o.room } };
 
-    ghost invariant = { λ o. vec_capacity o.bytes < 2 ^ 32 };
+    ghost invariant = { λ o. vec_len o.bytes + o.room ≤ vec_capacity o.bytes };
 }
 
 impl Out {
@@ -28,14 +29,14 @@ impl Out {
         ensures room { IfOk result (λ o. o.room ≡ n) }
     {
         let bytes = Vec::with_capacity(alloc, n as usize)?;
-        Ok(Out { bytes })
+        Ok(Out { bytes, room: n })
     }
 
     /// How many more bytes have room.
     pub fn room(&self) -> u32
         ensures { result ≡ self.now.room }
     {
-        (self.bytes.capacity() - self.bytes.len()) as u32
+        self.room
     }
 
     /// Puts a byte. Condition: it has room.
@@ -45,6 +46,7 @@ impl Out {
         ensures room { self.new.room + 1 ≡ self.old.room }
     {
         self.bytes.push_reserved(v);
+        self.room -= 1;
     }
 
     /// Puts a number as two bytes, the higher first. Condition: they have room.
@@ -89,8 +91,9 @@ impl Out {
         ensures bytes { self.new.bytes ≡ self.old.bytes ++ v.now }
         ensures room { self.new.room + length v.now ≡ self.old.room }
     {
-        for b in v {
-            self.bytes.push_reserved(*b);
+        // The room was taken before, so this asks for no memory and succeeds.
+        if self.bytes.extend_from_slice(v).is_ok() {
+            self.room -= v.len() as u32;
         }
     }
 
@@ -98,7 +101,7 @@ impl Out {
     pub fn into_vec(self) -> Vec<u8>
         ensures { result.items ≡ self.bytes }
     {
-        let Out { bytes } = self;
+        let Out { bytes, room: _ } = self;
         bytes
     }
 }
