@@ -16,8 +16,8 @@ here_is true b x xs e is = refl
 here_is false b x xs e is = absurd cc
 
 passed_is : (t : Bool) (b n : ℕ) (xs : List ℕ) → ¬ (t ≡ true) → n ≡ place b xs → suc n ≡ cond (not t) (1 + place b xs) 0
-passed_is true b n xs no e = absurd (no refl)
-passed_is false b n xs no e = omega (arith, e)
+passed_is true b n xs differs e = absurd (differs refl)
+passed_is false b n xs differs e = omega (arith, e)
 
 first_at : (b n : ℕ) (xs : List ℕ) → n < length xs → NoneOf b xs n → eqb (get_or xs n 0) b ≡ true → n ≡ place b xs
 first_at b n [] lt none is = absurd (omega (arith, lt))

@@ -34,11 +34,14 @@ pair_next start at k b text in_text is =
     let h = get_or text k 0 in
     let l = get_or text (k + 1) 0 in
     let first : drop k text ≡ h ∷ drop (suc k) text = drop-cons text k 0 (omega arith) in
-    let second : drop (suc k) text ≡ l ∷ drop (suc (suc k)) text = drop-cons text (suc k) 0 (omega arith) ∙ ap (λ n. get_or text n 0 ∷ drop (suc (suc k)) text) (omega arith) in
+    let place : suc k ≡ k + 1 = omega arith in
+    let second : drop (suc k) text ≡ l ∷ drop (suc (suc k)) text = drop-cons text (suc k) 0 (omega arith) ∙ ap (λ n. get_or text n 0 ∷ drop (suc (suc k)) text) place in
+    let reached : at + 1 + 1 ≡ at + 2 = omega arith in
+    let behind : suc (suc k) ≡ k + 2 = omega arith in
     ap (λ (z : List ℕ). blob_from start at None z) (first ∙ ap (λ (z : List ℕ). h ∷ z) second)
     ∙ pair_by start at h l b (drop (suc (suc k)) text) (hex_value h) (hex_value l) refl refl is
-    ∙ ap (λ n. with_front (b ∷ []) (blob_from start n None (drop (suc (suc k)) text))) (omega arith)
-    ∙ ap (λ n. with_front (b ∷ []) (blob_from start (at + 2) None (drop n text))) (omega arith)
+    ∙ ap (λ n. with_front (b ∷ []) (blob_from start n None (drop (suc (suc k)) text))) reached
+    ∙ ap (λ n. with_front (b ∷ []) (blob_from start (at + 2) None (drop n text))) behind
 
 one_more : (text bytes : List ℕ) (i b : ℕ) → IsFront text bytes → length bytes ≡ i → 2 * i + 1 < length text → pair_value (get_or text (2 * i) 0) (get_or text (2 * i + 1) 0) ≡ Some b
     → IsFront text (bytes ++ b ∷ [])

@@ -40,7 +40,9 @@ unfolding hex_value
 table_is = refl
 
 table_at : (b : ℕ) → b < 256 → get_or digits_table b 0 ≡ worth (hex_value b)
-table_at b h = ap (λ (l : List ℕ). get_or l b 0) table_is ∙ counted_at 256 0 b (λ n. worth (hex_value n)) h
+table_at b h =
+    let here : 0 + b ≡ b = omega arith in
+    ap (λ (l : List ℕ). get_or l b 0) table_is ∙ counted_at 256 0 b (λ n. worth (hex_value n)) h ∙ ap (λ n. worth (hex_value n)) here
 
 value_small : (b v : ℕ) → hex_value b ≡ Some v → v < 16
 unfolding hex_value

@@ -6,6 +6,7 @@ ghost use Rattle.plan_lexer.specs.Hexed.{blob_from, blob_at, IsFront};
 
 use crate::LexFault;
 use crate::item::hex_value;
+use crate::text::after;
 use memchr::memchr;
 use plan_base::Bytes;
 use std::alloc::{AllocError, Global};
@@ -25,9 +26,9 @@ fn room_for(text: &[u8]) -> usize
 fn pair_value(high: u8, low: u8) -> Option<u8>
     ensures { result ≡ pair_value high low }
 {
-    let high = hex_value(high)?;
-    let low = hex_value(low)?;
-    Some(16 * high + low)
+    let first = hex_value(high)?;
+    let second = hex_value(low)?;
+    Some(16 * first + second)
 }
 
 /// The bytes of the pairs of digits that the text of a blob begins with, of at most so many.
@@ -51,7 +52,7 @@ fn front_of(alloc: Global, text: &[u8], most: usize) -> Result<Bytes, AllocError
 /// closing quote.
 fn blob_on(front: Bytes, start: u32, from: u32, text: &[u8]) -> Result<(Bytes, u32), LexFault>
     requires later { start < from }
-    requires short { from + length text.now < 2 ^ 31 }
+    requires short { from + length text.now < 2 ^ 32 }
     ensures value { Gives (λ read. read) result (with_front front (blob_from start from None text.now)) }
     ensures within { IfOk result (λ read. (start < read.1) × (read.1 ≤ from + length text.now)) }
 {
@@ -84,7 +85,6 @@ fn blob_on(front: Bytes, start: u32, from: u32, text: &[u8]) -> Result<(Bytes, u
 }
 
 /// The blob that begins at `start`, two places before the text, and the place behind its closing quote.
-#[tactic(auto, using(crate::proofs::BlobLemmas::blob_whole))]
 pub(crate) fn blob_at(alloc: Global, start: u32, text: &[u8]) -> Result<(Bytes, u32), LexFault>
     requires { start + length text.now < 2 ^ 31 }
     ensures value { Gives (λ read. read) result (blob_at start text.now) }
@@ -92,5 +92,5 @@ pub(crate) fn blob_at(alloc: Global, start: u32, text: &[u8]) -> Result<(Bytes, 
 {
     let front = front_of(alloc, text, room_for(text))?;
     let passed = 2 * front.len();
-    blob_on(front, start, start + 2 + passed as u32, &text[passed..])
+    blob_on(front, start, start + 2 + passed as u32, after(text, passed))
 }
