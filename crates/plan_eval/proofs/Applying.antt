@@ -8,13 +8,12 @@ use Rattle.plan_base.specs.declared.tree.Exn.{Exn}
 use Rattle.plan_meaning.specs.declared.stop.Stop.TheVariants.{Raised}
 use Rattle.plan_meaning.specs.State.{VisitState}
 use Rattle.plan_meaning.specs.Run.{Step, gave, stopped, quiet}
-use Rattle.plan_eval.specs.declared.stack_frame.StackFrame.{StackFrame}
-use Rattle.plan_eval.specs.declared.stack_frame.Activation.{Activation}
-use Rattle.plan_eval.specs.declared.stack_frame.Mode.TheVariants as mode
-use Rattle.plan_eval.specs.declared.next.Next.TheVariants as next
-use Rattle.plan_eval.specs.Stack.{Spot, deeper, resume, code_spot, start_of, spot_from, spot_in, ended_in, ended, all_ended, AreLinked, innermost_run, innermost, stands_for}
-use Rattle.plan_eval.specs.Nexts.{run_at, next_step}
-use Rattle.plan_eval.proofs.Stacks.{all_ended_push, ended_push, spot_in_push}
+use Rattle.eval_steps.specs.declared.stack_frame.StackFrame.{StackFrame}
+use Rattle.eval_steps.specs.declared.stack_frame.Activation.{Activation}
+use Rattle.eval_steps.specs.declared.stack_frame.Mode.TheVariants as mode
+use Rattle.eval_steps.specs.Stack.{Spot, code_spot, start_of, spot_from, spot_in, ended_in, ended, all_ended, AreLinked, innermost_run, innermost, stands_for}
+use Rattle.eval_steps.specs.Nexts.{run_at}
+use Rattle.eval_steps.proofs.Stacks.{all_ended_push}
 
 -- the innermost activation
 pub innermost_top : (codes : List Program) (outer : List Activation) (a : Activation) → innermost codes (outer ++ a ∷ []) ≡ innermost_run (slice_get codes a.code) a.fun (spot_in codes a)
@@ -25,19 +24,6 @@ innermost_top codes (b ∷ c ∷ outer) a = innermost_top codes (c ∷ outer) a
 pub runs_there : (code : Program) (seen : ℕ) (at : Option Spot) → innermost_run (Some code) seen at ≡ run_at code seen at
 runs_there code seen (Some at) = refl
 runs_there code seen None = refl
-
--- a part is opened
-pub opened_on : (codes : List Program) (outer : List Activation) (code : Program) (a : Activation) (at : Spot) (f : StackFrame) (s : VisitState) → slice_get codes a.code ≡ Some code → spot_in codes a ≡ Some at
-    → all_ended codes outer (ended codes a (next_step code a.fun at (next.Open f) s)) ≡ stands_for codes (outer ++ (record a { frames = a.frames ++ f ∷ [] }) ∷ []) mode.Run s
-unfolding stands_for
-opened_on codes outer code a at f s is there =
-    ap (all_ended codes outer)
-    (ap (λ r. ended codes a (resume code a.fun at f r)) (sym (inside ∙ ap (λ p. p s) (runs_there code a.fun (deeper at f))))
-    ∙ sym (ended_push codes code a at f (innermost codes (outer ++ (record a { frames = a.frames ++ f ∷ [] }) ∷ []) s) is there))
-    ∙ sym (all_ended_push codes outer (record a { frames = a.frames ++ f ∷ [] }) (innermost codes (outer ++ (record a { frames = a.frames ++ f ∷ [] }) ∷ []) s))
-  where
-    inside : innermost codes (outer ++ (record a { frames = a.frames ++ f ∷ [] }) ∷ []) s ≡ innermost_run (Some code) a.fun (deeper at f) s
-    inside = ap (λ p. p s) (innermost_top codes outer (record a { frames = a.frames ++ f ∷ [] })) ∙ rw (is, spot_in_push codes a at f there) refl
 
 -- a value, or an exception, is given to the activation
 pub given_to : (codes : List Program) (outer : List Activation) (a : Activation) (v : Value) (s : VisitState)

@@ -1,37 +1,36 @@
 -- What came back from the native stack, by what was evaluated there.
-use Rattle.std.proofs.Common.{◌≡◌, ◌≢◌, ℕ, ◌+◌, ◌*◌, ◌<◌, List, [], ◌∷◌, ◌++◌, reverse, length, length-append, arith, Some, None, IsSome, Result, Ok, Err, refl, sym, ◌∙◌, ap}
-use Rattle.std.proofs.lemmas.List.{reverse-append, length-reverse}
+use Rattle.std.proofs.Common.{◌≡◌, ◌≢◌, ℕ, ◌+◌, ◌*◌, ◌<◌, ◌≤◌, List, [], ◌∷◌, ◌++◌, reverse, length, length-append, arith, Some, None, IsSome, Result, Ok, Err, refl, sym, ◌∙◌, ap, append-nil}
+use Rattle.std.proofs.lemmas.List.{append_assoc, reverse-append, length-reverse}
 use Rattle.std.proofs.lemmas.List.Sums.{sum_by-append, sum_by-cons}
 use Rattle.plan_base.specs.declared.name.Name.{Name}
 use Rattle.plan_base.specs.declared.tree.Exn.{Exn}
-use Rattle.plan_base.specs.declared.tree.Expr.{Expr, Expr-F, out-Expr}
 use Rattle.plan_base.specs.declared.tree.Fun.{Fun}
 use Rattle.plan_base.specs.declared.tree.Program.{Program}
 use Rattle.plan_base.specs.declared.tree.Value.{Value}
 use Rattle.plan_meaning.specs.declared.stop.Stop.{Stop}
 use Rattle.plan_meaning.specs.declared.stop.Stop.TheVariants.{Raised, Wrong, WorkSpent, NoMemory}
 use Rattle.plan_meaning.specs.State.{VisitState}
-use Rattle.plan_meaning.specs.Run.{Step, gave, stopped, quiet, weighed}
-use Rattle.plan_meaning.specs.Meaning.{bound, value_of}
-use Rattle.plan_eval.specs.declared.stack_frame.StackFrame.{StackFrame}
-use Rattle.plan_eval.specs.declared.stack_frame.StackFrame.TheVariants as frame
-use Rattle.plan_eval.specs.declared.stack_frame.Activation.{Activation}
-use Rattle.plan_eval.specs.declared.stack_frame.Mode.TheVariants as mode
+use Rattle.plan_meaning.specs.Run.{Step, gave, stopped, quiet}
+use Rattle.plan_meaning.specs.Meaning.{Env, binds, bound, value_of}
+use Rattle.eval_steps.specs.declared.stack_frame.StackFrame.{StackFrame}
+use Rattle.eval_steps.specs.declared.stack_frame.StackFrame.TheVariants as frame
+use Rattle.eval_steps.specs.declared.stack_frame.Activation.{Activation}
+use Rattle.eval_steps.specs.declared.stack_frame.Mode.TheVariants as mode
 use Rattle.plan_eval.specs.declared.rest.Rest.{Rest}
 use Rattle.plan_eval.specs.declared.rest.Flow.{Flow}
 use Rattle.plan_eval.specs.declared.rest.Flow.TheVariants as flow
 use Rattle.plan_eval.specs.declared.turn.Turn.{Turn}
 use Rattle.plan_eval.specs.declared.turn.Turn.TheVariants as turn
-use Rattle.plan_eval.specs.Stack.{Spot, deeper, resume, value_from}
-use Rattle.plan_eval.specs.Nexts.{begins, fold_on}
-use Rattle.plan_eval.specs.Leads.{Leads}
+use Rattle.plan_eval.specs.declared.here.Binding.{Binding}
+use Rattle.eval_steps.specs.Stack.{Spot, deeper, resume, env_from, value_from}
+use Rattle.eval_steps.specs.Nexts.{fold_on}
+use Rattle.eval_steps.specs.Leads.{Leads}
 use Rattle.plan_eval.specs.Turns.{argument_of, frames_in, load}
-use Rattle.plan_eval.specs.Direct.{base_of, env_of, Above, Flows, Enters, Advances, Lasts, Spends, burden}
-use Rattle.plan_eval.proofs.Leading.{onward}
-use Rattle.plan_eval.proofs.Stacks.{resume_leads}
-use Rattle.plan_eval.proofs.Delivering.{item_given}
-use Rattle.plan_eval.proofs.Beginning.{gives_name, no_name}
-use Rattle.plan_eval.proofs.Naming.{name_at}
+use Rattle.plan_eval.specs.Direct.{base_of, bound_here, bound_value, env_of, Above, Flows, Enters, Advances, Lasts, Spends, burden}
+use Rattle.eval_steps.proofs.Leading.{onward}
+use Rattle.eval_steps.proofs.Stacks.{resume_leads}
+use Rattle.eval_steps.proofs.Delivering.{item_given}
+use Rattle.plan_eval.proofs.Naming.{name_at, value_snoc}
 use Rattle.plan_eval.proofs.Turning.{at_once, at_once_raised}
 use Rattle.plan_eval.proofs.Waiting.{some_base, waits_below}
 
@@ -79,19 +78,19 @@ module _ (code : Program) (seen : ℕ) (at : Spot) (c : Step Value) (s : VisitSt
 
 -- ---- names
 
-pub here_name : (x : Name) (f : Fun) (args : List Value) (frames : List StackFrame) → IsSome (bound f.params args)
-    → value_from x (argument_of x None f.params args) (Some f.body) frames ≡ value_of x (env_of f args frames)
+bound_same : (x : Name) (env : Env) (bs : List Binding) → bound_value x (value_of x env) bs ≡ value_of x (env ++ bound_here bs)
+bound_same x env [] = ap (value_of x) (sym (append-nil env))
+bound_same x env (b ∷ bs) =
+    ap (λ o. bound_value x o bs) (sym (value_snoc x env b.name.now b.value.now))
+    ∙ bound_same x (env ++ binds b.name.now b.value.now ∷ []) bs
+    ∙ ap (value_of x) (append_assoc env (binds b.name.now b.value.now ∷ []) (bound_here bs))
+
+pub here_name : (x : Name) (f : Fun) (args : List Value) (frames : List StackFrame) (bs : List Binding) → IsSome (bound f.params args)
+    → bound_value x (value_from x (argument_of x None f.params args) (Some f.body) frames) bs ≡ value_of x (env_of f args frames ++ bound_here bs)
 unfolding env_of
-here_name x f args frames h = name_at x f args frames (base_of (bound f.params args)) (some_base (bound f.params args) h)
-
-module _ (code : Program) (seen : ℕ) (s : VisitState) (e : Expr) (x : Name) (f : Fun) (args : List Value) (frames : List StackFrame) (form : out-Expr e ≡ Expr-F.Var x) (h : IsSome (bound f.params args)) where
-  pub gives_here : (v : Value) → value_from x (argument_of x None f.params args) (Some f.body) frames ≡ Some v
-      → Leads (begins code seen (record { expr = e; env = env_of f args frames }) s) (weighed v s)
-  gives_here v is = gives_name code seen (env_of f args frames) s e x v form (sym (here_name x f args frames h) ∙ is)
-
-  pub none_here : value_from x (argument_of x None f.params args) (Some f.body) frames ≡ None
-      → (begins code seen (record { expr = e; env = env_of f args frames }) s).after ≡ stopped Wrong s
-  none_here is = no_name code seen (env_of f args frames) s e x form (sym (here_name x f args frames h) ∙ is)
+here_name x f args frames bs h =
+    ap (λ o. bound_value x o bs) (name_at x f args frames (base_of (bound f.params args)) (some_base (bound f.params args) h))
+    ∙ bound_same x (env_from (Some f.body) (base_of (bound f.params args)) frames) bs
 
 -- ---- how much is left to do
 
@@ -127,6 +126,10 @@ module _ (outer : List Activation) (a : Activation) (r : Rest) where
   pub load_waits : (depth old new : ℕ) → 0 < depth → Spends depth old (Ok (flow.Wait r)) new
       → load mode.Run ((outer ++ whole ∷ []) ++ reverse r.activations) new < load mode.Run (outer ++ a ∷ []) old
   load_waits depth old new some h = let less : 5 * new + burden r < 5 * old = h.1 some in omega (arith, less, frames_of, length_of, frames_before, length-append outer (a ∷ []))
+
+  pub load_rests : (old new : ℕ) → Lasts 3 old (Ok (flow.Wait r)) new
+      → load mode.Run ((outer ++ whole ∷ []) ++ reverse r.activations) new ≤ load mode.Run (outer ++ a ∷ []) old + 3
+  load_rests old new h = omega (arith, h, frames_of, length_of, frames_before, length-append outer (a ∷ []))
 
 -- an expression that went on spent 1 before
 pub spends_one : (depth old mid new : ℕ) (r : Result Flow Stop) → mid + 1 ≡ old → Lasts 3 mid r new → Spends depth old r new

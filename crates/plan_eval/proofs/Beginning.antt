@@ -1,5 +1,5 @@
 -- An expression that begins: it spends 1, and a form without parts ends at once.
-use Rattle.std.proofs.Common.{◌≡◌, ℕ, List, [], ◌∷◌, ◌++◌, slice_get, Option, Some, None, IsSome, refl, sym, ◌∙◌, ap}
+use Rattle.std.proofs.Common.{◌≡◌, ℕ, List, [], ◌∷◌, ◌++◌, slice_get, Option, Some, None, refl, sym, ◌∙◌, ap}
 use Rattle.small_laws.proofs.Options.{none-some, some-same}
 use Rattle.plan_base.specs.declared.name.Name.{Name}
 use Rattle.plan_base.specs.declared.tree.Ty.{Ty}
@@ -13,18 +13,14 @@ use Rattle.plan_meaning.specs.declared.stop.Stop.TheVariants.{Raised, Wrong}
 use Rattle.plan_meaning.specs.State.{VisitState}
 use Rattle.plan_meaning.specs.Run.{Step, gave, stopped, pure, «next», spend, whole, weighed, ◌>>=◌}
 use Rattle.plan_meaning.specs.Meaning.{Env, meaning, node, opened, opened_at, value_of, tuple, call, packed, values, called, named}
-use Rattle.plan_eval.specs.declared.stack_frame.Activation.{Activation}
-use Rattle.plan_eval.specs.declared.stack_frame.Mode.TheVariants as mode
-use Rattle.plan_eval.specs.Stack.{Spot, spot_in, ended, all_ended, innermost, stands_for}
-use Rattle.plan_eval.specs.Forms.{literal}
-use Rattle.plan_eval.specs.Leads.{Leads}
-use Rattle.plan_eval.specs.Turns.{IsAt, spot_at}
-use Rattle.plan_meaning.specs.Safe.{IsSafe}
-use Rattle.plan_base.specs.declared.tree.Fun.{Fun}
-use Rattle.plan_eval.proofs.Naming.{stands_at}
-use Rattle.plan_eval.specs.Nexts.{begins, call_of}
-use Rattle.plan_eval.proofs.Leading.{onward, regrouped, gave_on, given_on, known_then}
-use Rattle.plan_eval.proofs.Stacks.{all_ended_push}
+use Rattle.eval_steps.specs.declared.stack_frame.Activation.{Activation}
+use Rattle.eval_steps.specs.declared.stack_frame.Mode.TheVariants as mode
+use Rattle.eval_steps.specs.Stack.{Spot, spot_in, ended, all_ended, innermost, stands_for}
+use Rattle.eval_steps.specs.Forms.{literal}
+use Rattle.eval_steps.specs.Leads.{Leads}
+use Rattle.eval_steps.specs.Nexts.{begins, call_of}
+use Rattle.eval_steps.proofs.Leading.{onward, regrouped, gave_on, given_on, known_then}
+use Rattle.eval_steps.proofs.Stacks.{all_ended_push}
 use Rattle.plan_eval.proofs.Applying.{innermost_top}
 use Rattle.meaning_laws.proofs.Within.{fixed}
 
@@ -99,13 +95,3 @@ module _ (code : Program) (seen : ℕ) (env : Env) (s : VisitState) where
 
   pub begins_call : (e : Expr) (f : Name) (p : Step Value) → out-Expr e ≡ Expr-F.Call f [] → Leads (call_of code seen f [] s) p → Leads (begins code seen (record { expr = e; env = env }) s) p
   begins_call e f p form h = onward _ _ _ (calls_bare e f form) h
-
--- the arguments of a call are good where its expression is safe
-pub safe_bare : (codes : List Program) (a : Activation) (code : Program) (g : Fun) (e : Expr) (s : VisitState)
-    → IsAt codes a code g e → IsSome (spot_in codes a)
-    → ((c : Program) (at : Spot) → slice_get codes a.code ≡ Some c → spot_in codes a ≡ Some at → IsSafe (begins c a.fun at s).asks)
-    → (f : Name) → out-Expr e ≡ Expr-F.Call f [] → IsSafe (call_of code a.fun f [] s).asks
-safe_bare codes a code g e s here linked safe f form =
-    let stands = stands_at codes a code g e here linked in
-    let at = spot_at g a.frames stands.0 e in
-    (calls_bare code a.fun at.env s e f form).safe (safe code at here.program stands.2)

@@ -9,31 +9,35 @@ use Rattle.plan_base.specs.declared.tree.Param.{Param}
 use Rattle.plan_base.specs.declared.tree.Program.{Program}
 use Rattle.plan_base.specs.declared.tree.Value.{Value}
 use Rattle.plan_meaning.specs.declared.stop.Stop.{Stop}
+use Rattle.plan_meaning.specs.declared.stop.Stop.TheVariants.{Raised}
+use Rattle.plan_base.specs.declared.tree.Exn.{Exn}
 use Rattle.plan_meaning.specs.State.{VisitState}
-use Rattle.plan_meaning.specs.Run.{Step}
+use Rattle.plan_meaning.specs.Run.{Step, gave, stopped, quiet}
 use Rattle.plan_meaning.specs.Safe.{IsSafe}
-use Rattle.plan_meaning.specs.Meaning.{meaning, bound, entered}
-use Rattle.plan_eval.specs.declared.stack_frame.StackFrame.{StackFrame}
-use Rattle.plan_eval.specs.declared.stack_frame.StackFrame.TheVariants as frame
-use Rattle.plan_eval.specs.declared.stack_frame.Activation.{Activation}
-use Rattle.plan_eval.specs.declared.stack_frame.Mode.{Mode}
-use Rattle.plan_eval.specs.declared.stack_frame.Mode.TheVariants as mode
+use Rattle.plan_meaning.specs.Meaning.{Env, meaning, bound, entered}
+use Rattle.eval_steps.specs.declared.stack_frame.StackFrame.{StackFrame}
+use Rattle.eval_steps.specs.declared.stack_frame.StackFrame.TheVariants as frame
+use Rattle.eval_steps.specs.declared.stack_frame.Activation.{Activation}
+use Rattle.eval_steps.specs.declared.stack_frame.Mode.{Mode}
+use Rattle.eval_steps.specs.declared.stack_frame.Mode.TheVariants as mode
 use Rattle.plan_eval.specs.declared.here.Here.{Here}
-use Rattle.plan_eval.specs.Turns.{IsAt, IsPlaced, Stands, Turned}
-use Rattle.plan_eval.specs.declared.next.Next.TheVariants as next
+use Rattle.plan_eval.specs.declared.here.Binding.{Binding}
+use Rattle.plan_eval.specs.Turns.{IsAt, IsPlaced, Stands, Turned, under}
+use Rattle.eval_steps.specs.declared.next.Next.TheVariants as next
 use Rattle.plan_eval.specs.declared.rest.Flow.{Flow}
 use Rattle.plan_eval.specs.declared.rest.Flow.TheVariants as flow
-use Rattle.plan_eval.specs.Stack.{Spot, spot_of, env_at, deeper, part_or_self, part_number, resume, spot_in, ended, all_ended, AreLinked, stands_for}
-use Rattle.plan_eval.specs.Nexts.{next_step}
-use Rattle.plan_eval.specs.Leads.{Leads}
-use Rattle.plan_eval.specs.Direct.{env_of, IsHere, is_let, Flows, Bodies, Grows}
-use Rattle.plan_eval.proofs.Leading.{itself}
+use Rattle.eval_steps.specs.Stack.{Spot, spot_of, env_at, deeper, part_or_self, part_number, resume, spot_in, ended, all_ended, AreLinked, stands_for}
+use Rattle.eval_steps.specs.Nexts.{next_step}
+use Rattle.eval_steps.specs.Leads.{Leads}
+use Rattle.plan_eval.specs.Direct.{bound_here, env_of, IsHere, is_let, Flows, Bodies, Grows}
+use Rattle.eval_steps.proofs.Leading.{itself}
 use Rattle.plan_eval.proofs.Applying.{grown, program_of, spot_in_grown, ended_grown, all_ended_grown}
 use Rattle.plan_eval.proofs.Beginning.{runs_on}
-use Rattle.plan_eval.proofs.Delivering.{entered_on}
+use Rattle.eval_steps.proofs.Delivering.{entered_on}
 use Rattle.plan_eval.proofs.Entering.{last_one, linked_outer, linked_top, linked_grown}
 use Rattle.plan_eval.proofs.Naming.{binds_all, stands_at}
-use Rattle.plan_eval.proofs.Taking.{resume_asks, spot_there}
+use Rattle.plan_eval.proofs.Ending.{given_frame, raised_frame}
+use Rattle.plan_eval.proofs.Taking.{resume_asks, spot_there, stands_below}
 use Rattle.plan_eval.proofs.Waiting.{bound_env, paused, waits_inside}
 use Rattle.plan_eval.proofs.Backs.{flows_from}
 
@@ -82,9 +86,13 @@ some_is o x is = rw is refl
 pub binds_some : (ps : List Param) (vs : List Value) → length ps ≡ length vs → IsSome (bound ps vs)
 binds_some ps vs h = let b = binds_all ps vs h in some_is (bound ps vs) b.0 b.1
 
-module _ (code : Program) (fun : ℕ) (f : Fun) (args vs : List Value) (fs : List StackFrame) (s : VisitState) (has : slice_get code.funs fun ≡ Some f) (many : length f.params ≡ length args) (same : vs ≡ args) (none : fs ≡ []) where
-  pub body_leads : Leads (entered meaning code fun args s) (meaning code fun (env_of f vs fs) f.body s)
-  body_leads = rw (same, none) (entered_on code fun args f (env_of f args []) s has (bound_env f args (binds_some f.params args many)))
+-- where no name is bound
+no_names : (env : Env) (bs : List Binding) → bs ≡ [] → env ++ bound_here bs ≡ env
+no_names env bs bare = rw bare (append-nil env)
+
+module _ (code : Program) (fun : ℕ) (f : Fun) (args vs : List Value) (fs : List StackFrame) (bs : List Binding) (s : VisitState) (has : slice_get code.funs fun ≡ Some f) (many : length f.params ≡ length args) (same : vs ≡ args) (none : fs ≡ []) (bare : bs ≡ []) where
+  pub body_leads : Leads (entered meaning code fun args s) (meaning code fun (env_of f vs fs ++ bound_here bs) f.body s)
+  body_leads = rw (no_names (env_of f vs fs) bs bare, same, none) (entered_on code fun args f (env_of f args []) s has (bound_env f args (binds_some f.params args many)))
 
   pub body_binds : IsSome (bound f.params vs)
   body_binds = rw same (binds_some f.params args many)
@@ -96,55 +104,85 @@ module _ (code : Program) (fun : ℕ) (f : Fun) (args vs : List Value) (fs : Lis
   bodies codes number want (Err e) t is h = h
 
   pub bodies_from : (codes : List Program) (number : ℕ) (r : Result Flow Stop) (t : VisitState) → slice_get codes number ≡ Some code
-      → Flows codes code fun (record { expr = f.body; env = env_of f vs fs }) (meaning code fun (env_of f vs fs) f.body s) r t → Bodies codes code number fun f args (entered meaning code fun args s) r t
+      → Flows codes code fun (record { expr = f.body; env = env_of f vs fs ++ bound_here bs }) (meaning code fun (env_of f vs fs ++ bound_here bs) f.body s) r t → Bodies codes code number fun f args (entered meaning code fun args s) r t
   bodies_from codes number r t is h =
-      bodies codes number _ r t is (rw (same, none) at (flows_from codes code fun (record { expr = f.body; env = env_of f vs fs }) _ _ r t body_leads h))
+      bodies codes number _ r t is (rw (no_names (env_of f vs fs) bs bare, same, none) at (flows_from codes code fun (record { expr = f.body; env = env_of f vs fs ++ bound_here bs }) _ _ r t body_leads h))
 
 -- ---- where an activation stands
 
 same_some : {A : Type 0} (o : Option A) (x y : A) → o ≡ Some x → o ≡ Some y → x ≡ y
 same_some o x y h k = some-same (sym h ∙ k)
 
-module _ (codes : List Program) (a : Activation) (code : Program) (f : Fun) (e : Expr) (h : IsAt codes a code f e) (linked : IsSome (spot_in codes a)) (vs : List Value) (fs : List StackFrame) (same : vs ≡ a.args) (those : fs ≡ a.frames) where
+module _ (codes : List Program) (a : Activation) (code : Program) (f : Fun) (e : Expr) (h : IsAt codes a code f e) (linked : IsSome (spot_in codes a)) (vs : List Value) (fs : List StackFrame) (bs : List Binding) (same : vs ≡ a.args) (those : fs ≡ a.frames) (bare : bs ≡ []) where
   pub here_binds : IsSome (bound f.params vs)
   here_binds = let stands = stands_at codes a code f e h linked in rw same (some_is (bound f.params a.args) stands.0 stands.1)
 
-  pub here_spot : spot_in codes a ≡ Some (record { expr = e; env = env_of f vs fs })
+  spot_bare : spot_in codes a ≡ Some (record { expr = e; env = env_of f vs fs })
   unfolding env_of
-  here_spot = let stands = stands_at codes a code f e h linked in rw (same, those, stands.1) stands.2
+  spot_bare = let stands = stands_at codes a code f e h linked in rw (same, those, stands.1) stands.2
 
-  pub here_only : (P : Program → Spot → Type 0) → P code (record { expr = e; env = env_of f vs fs })
+  pub here_spot : spot_in codes a ≡ Some (record { expr = e; env = env_of f vs fs ++ bound_here bs })
+  here_spot = rw (no_names (env_of f vs fs) bs bare) spot_bare
+
+  pub here_only : (P : Program → Spot → Type 0) → P code (record { expr = e; env = env_of f vs fs ++ bound_here bs })
       → (c : Program) (at : Spot) → slice_get codes a.code ≡ Some c → spot_in codes a ≡ Some at → P c at
   here_only P p c at is there =
       subst (λ (x : Program). P x at) (same_some (slice_get codes a.code) code c h.program is)
-      (subst (λ (y : Spot). P code y) (same_some (spot_in codes a) (record { expr = e; env = env_of f vs fs }) at here_spot there) p)
+      (subst (λ (y : Spot). P code y) (same_some (spot_in codes a) (record { expr = e; env = env_of f vs fs ++ bound_here bs }) at here_spot there) p)
 
 -- ---- the innermost expression of the machine's stack
 
-module _ (codes new : List Program) (outer : List Activation) (a : Activation) (s : VisitState) (linked : AreLinked codes (outer ++ a ∷ [])) (grows : Grows codes new) (r : Result Mode Stop) (outer' : List Activation) (t : VisitState) where
-  alike : (code : Program) (at : Spot) → slice_get codes a.code ≡ Some code → spot_in codes a ≡ Some at
-      → stands_for codes (outer ++ a ∷ []) mode.Run s ≡ all_ended (codes ++ grows.more) outer (ended (codes ++ grows.more) a (meaning code a.fun at.env at.expr s))
-  alike code at is there =
-      runs_on codes outer code a at s is there
-      ∙ sym (all_ended_grown codes grows.more outer _ (linked_outer codes outer a linked) ∙ ap (all_ended codes outer) (ended_grown codes grows.more a _ (linked_top codes outer a linked)))
+module _ (codes new : List Program) (outer : List Activation) (a : Activation) (grows : Grows codes new) (r : Result Mode Stop) (outer' : List Activation) (t : VisitState) where
+  -- what it goes on with comes onto the stack, wherever it stands
+  abbrev pub Lands : (Program → Spot → Step Value) → Type 0
+  Lands want = (code : Program) (at : Spot) → slice_get codes a.code ≡ Some code → spot_in codes a ≡ Some at → Stands new outer a code at
+      → Turned (all_ended new outer (ended new a (want code at))) r new outer' t
 
-  stands_grown : (code : Program) (at : Spot) → slice_get codes a.code ≡ Some code → spot_in codes a ≡ Some at → Stands (codes ++ grows.more) outer a code at
-  stands_grown code at is there = record {
-    program = grown codes grows.more a.code code is;
-    spot = spot_in_grown codes grows.more a (linked_top codes outer a linked) ∙ there;
-    linked = linked_grown codes grows.more outer (linked_outer codes outer a linked);
-  }
+  module _ (linked : AreLinked codes outer) (stands : IsSome (spot_in codes a)) (want : Program → Spot → Step Value) (whole : Step Value)
+      (same : (code : Program) (at : Spot) → slice_get codes a.code ≡ Some code → spot_in codes a ≡ Some at → whole ≡ all_ended codes outer (ended codes a (want code at))) where
+    alike : (code : Program) (at : Spot) → slice_get codes a.code ≡ Some code → spot_in codes a ≡ Some at
+        → whole ≡ all_ended (codes ++ grows.more) outer (ended (codes ++ grows.more) a (want code at))
+    alike code at is there =
+        same code at is there
+        ∙ sym (all_ended_grown codes grows.more outer _ linked ∙ ap (all_ended codes outer) (ended_grown codes grows.more a _ stands))
 
-  pub turn_dives : ((code : Program) (at : Spot) → slice_get codes a.code ≡ Some code → spot_in codes a ≡ Some at → Stands new outer a code at
-      → Turned (all_ended new outer (ended new a (meaning code a.fun at.env at.expr s))) r new outer' t)
+    stands_grown : (code : Program) (at : Spot) → slice_get codes a.code ≡ Some code → spot_in codes a ≡ Some at → Stands (codes ++ grows.more) outer a code at
+    stands_grown code at is there = record {
+      program = grown codes grows.more a.code code is;
+      spot = spot_in_grown codes grows.more a stands ∙ there;
+      linked = linked_grown codes grows.more outer linked;
+    }
+
+    lands_whole : Lands want → Turned whole r new outer' t
+    lands_whole lands =
+        let code = program_of codes a stands in
+        let at = spot_there (spot_in codes a) stands in
+        rw (alike code.0 at.0 code.1 at.1)
+        (subst (λ (x : List Program). Turned (all_ended x outer (ended x a (want code.0 at.0))) r new outer' t) grows.grown
+        (lands code.0 at.0 code.1 at.1 (subst (λ (x : List Program). Stands x outer a code.0 at.0) (sym grows.grown) (stands_grown code.0 at.0 code.1 at.1))))
+
+  pub turn_begins : (s : VisitState) → AreLinked codes (outer ++ a ∷ []) → Lands (λ code at. meaning code a.fun at.env at.expr s)
       → Turned (stands_for codes (outer ++ a ∷ []) mode.Run s) r new outer' t
-  turn_dives lands =
-      let stands = linked_top codes outer a linked in
-      let code = program_of codes a stands in
-      let at = spot_there (spot_in codes a) stands in
-      rw (alike code.0 at.0 code.1 at.1)
-      (subst (λ (x : List Program). Turned (all_ended x outer (ended x a (meaning code.0 a.fun at.0.env at.0.expr s))) r new outer' t) grows.grown
-      (lands code.0 at.0 code.1 at.1 (subst (λ (x : List Program). Stands x outer a code.0 at.0) (sym grows.grown) (stands_grown code.0 at.0 code.1 at.1))))
+  turn_begins s linked lands =
+      lands_whole (linked_outer codes outer a linked) (linked_top codes outer a linked) (λ code at. meaning code a.fun at.env at.expr s) _ (λ code at is there. runs_on codes outer code a at s is there) lands
+
+  module _ (top : Activation) (f : StackFrame) (s : VisitState) (is : top ≡ under a f) (linked : AreLinked codes (outer ++ top ∷ [])) where
+    outside : AreLinked codes outer
+    outside = linked_outer codes outer (under a f) (rw is at linked)
+
+    pub turn_given : (v : Value) → Lands (λ code at. resume code a.fun at f (quiet (gave v s))) → Turned (stands_for codes (outer ++ top ∷ []) (mode.Give v) s) r new outer' t
+    turn_given v lands =
+        lands_whole outside (stands_below codes outer top a f s is linked) (λ code at. resume code a.fun at f (quiet (gave v s))) _
+        (λ code at here there. ap (λ (x : Activation). stands_for codes (outer ++ x ∷ []) (mode.Give v) s) is ∙ given_frame codes outer code a at f v s here there)
+        lands
+
+    pub turn_raises : (x : Exn) → Lands (λ code at. resume code a.fun at f (quiet (stopped (Raised x) s))) → Turned (stands_for codes (outer ++ top ∷ []) (mode.Raise x) s) r new outer' t
+    turn_raises x lands =
+        lands_whole outside (stands_below codes outer top a f s is linked) (λ code at. resume code a.fun at f (quiet (stopped (Raised x) s))) _
+        (λ code at here there. ap (λ (y : Activation). stands_for codes (outer ++ y ∷ []) (mode.Raise x) s) is ∙ raised_frame codes outer code a at f x s here there)
+        lands
+
+-- ---- programs that come behind others
 
 pub grows_none : (old new : List Program) → new ≡ old → Grows old new
 grows_none old new is = record { more = []; grown = is ∙ sym (append-nil old) }

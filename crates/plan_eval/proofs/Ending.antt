@@ -11,13 +11,13 @@ use Rattle.plan_meaning.specs.declared.stop.Stop.TheVariants.{Raised, WorkSpent,
 use Rattle.plan_meaning.specs.State.{VisitState}
 use Rattle.plan_meaning.specs.Run.{Run, Step, gave, stopped, quiet, and_then, «next», rescued, otherwise, weighed}
 use Rattle.plan_meaning.specs.Meaning.{Env, meaning, handled}
-use Rattle.plan_eval.specs.declared.stack_frame.StackFrame.{StackFrame}
-use Rattle.plan_eval.specs.declared.stack_frame.StackFrame.TheVariants as frame
-use Rattle.plan_eval.specs.declared.stack_frame.Activation.{Activation}
-use Rattle.plan_eval.specs.declared.stack_frame.Mode.TheVariants as mode
-use Rattle.plan_eval.specs.Stack.{Spot, spot_of, deeper, part_or_self, part_number, expr_from, env_from, spot_from, resumed, resume, through, start_of, spot_in, ended_in, ended, all_ended, stands_for}
+use Rattle.eval_steps.specs.declared.stack_frame.StackFrame.{StackFrame}
+use Rattle.eval_steps.specs.declared.stack_frame.StackFrame.TheVariants as frame
+use Rattle.eval_steps.specs.declared.stack_frame.Activation.{Activation}
+use Rattle.eval_steps.specs.declared.stack_frame.Mode.TheVariants as mode
+use Rattle.eval_steps.specs.Stack.{Spot, spot_of, deeper, part_or_self, part_number, expr_from, env_from, spot_from, resumed, resume, through, start_of, spot_in, ended_in, ended, all_ended, stands_for}
 use Rattle.plan_eval.specs.Turns.{entry, under}
-use Rattle.plan_eval.proofs.Stacks.{ended_push}
+use Rattle.eval_steps.proofs.Stacks.{ended_push}
 use Rattle.plan_eval.proofs.Applying.{given_to, raised_in}
 use Rattle.plan_eval.proofs.Entering.{ended_entry}
 

@@ -1,10 +1,12 @@
 -- The forms that are evaluated by themselves on the native stack.
-use Rattle.std.proofs.Common.{◌≡◌, arith, ℕ, ◌+◌, ℤ, List, [], ◌∷◌, ◌++◌, length, length-append, drop, slice_get, zero, suc, true, false, Some, None, IsSome, Result, refl, sym, ◌∙◌, ap, subst}
+use Rattle.std.proofs.Common.{◌≡◌, arith, Bool, ℕ, ◌+◌, ℤ, List, [], ◌∷◌, ◌++◌, length, length-append, drop, slice_get, zero, suc, true, false, Some, None, refl, sym, ◌∙◌, ap, subst}
 use Rattle.small_laws.proofs.Options.{none-some}
 use Rattle.plan_base.specs.declared.name.Name.{Name}
 use Rattle.plan_base.specs.declared.tree.Op.{Op}
+use Rattle.plan_base.specs.declared.tree.Ty.{Ty}
+use Rattle.plan_eval.specs.declared.here.Binding.{Binding}
+use Rattle.std.proofs.lemmas.List.{append_assoc, map-append}
 use Rattle.plan_base.specs.declared.tree.Expr.{Expr, Expr-F, out-Expr}
-use Rattle.plan_base.specs.declared.tree.Fun.{Fun}
 use Rattle.plan_base.specs.declared.tree.Program.{Program}
 use Rattle.plan_base.specs.declared.tree.Value.{Value}
 use Rattle.plan_base.specs.declared.tree.Value as value
@@ -15,33 +17,29 @@ use Rattle.plan_base.specs.Trees.{ExprLayer, trees}
 use Rattle.plan_meaning.specs.declared.stop.Stop.{Stop}
 use Rattle.plan_meaning.specs.declared.stop.Stop.TheVariants.{Wrong, WorkSpent}
 use Rattle.plan_meaning.specs.State.{VisitState}
-use Rattle.plan_meaning.specs.Run.{Step, gave, stopped, pure, «next», spend, weighed, is_too_large}
+use Rattle.plan_meaning.specs.Run.{Step, ◌>>=◌, gave, stopped, pure, «next», spend, weighed, is_too_large}
 use Rattle.plan_meaning.specs.Safe.{IsSafe}
-use Rattle.plan_meaning.specs.Meaning.{Env, meaning, bound, as_bool, value_of}
-use Rattle.plan_eval.specs.declared.stack_frame.StackFrame.{StackFrame}
-use Rattle.plan_eval.specs.declared.stack_frame.StackFrame.TheVariants as frame
-use Rattle.plan_eval.specs.declared.next.Next.TheVariants as next
-use Rattle.plan_eval.specs.declared.rest.Flow.{Flow}
-use Rattle.plan_eval.specs.Forms.{HasParts}
-use Rattle.plan_eval.specs.Stack.{Spot, deeper, part_or_self, resumed, resume, value_from}
-use Rattle.plan_eval.specs.Nexts.{begins, next_step, part_gave, call_of}
-use Rattle.plan_eval.specs.Leads.{Leads}
-use Rattle.plan_eval.specs.Turns.{argument_of}
-use Rattle.plan_eval.specs.Direct.{env_of, Flows, IsNumber, pending}
-use Rattle.plan_eval.proofs.Leading.{onward}
-use Rattle.plan_eval.proofs.Beginning.{gives_literal, gives_name, calls_bare, begun_here, begun_spent}
-use Rattle.plan_eval.proofs.Delivering.{IsNoTry, part_given}
-use Rattle.plan_eval.proofs.Deciding.{opens_part, chosen_true, chosen_false, chosen_none, second, front_of, rest_of, next_of_call, last_of_call}
+use Rattle.plan_base.specs.declared.tree.Chunk.{Chunk}
+use Rattle.plan_meaning.specs.Meaning.{Env, binds, meaning, as_bool, as_chunk, value_of, called, tuple, call, packed, values, pay_eval}
+use Rattle.eval_steps.specs.declared.stack_frame.StackFrame.TheVariants as frame
+use Rattle.eval_steps.specs.declared.next.Next.TheVariants as next
+use Rattle.eval_steps.specs.Forms.{HasParts, IsRow}
+use Rattle.eval_steps.specs.Stack.{Spot, deeper, behind, parts_of, part_or_self, resumed, resume}
+use Rattle.eval_steps.specs.Nexts.{begins, next_step, part_gave, call_of}
+use Rattle.visit_state.specs.Meets.{Meets}
+use Rattle.eval_steps.specs.Leads.{Leads, Carries}
+use Rattle.plan_eval.specs.Direct.{bound_here, IsNumber, made_of, row_gave, pending}
+use Rattle.eval_steps.proofs.Leading.{itself, onward, known_then, given_on}
+use Rattle.eval_steps.proofs.Stacks.{resume_leads}
+use Rattle.eval_steps.proofs.Sending.{chunk_unpaid}
+use Rattle.plan_eval.proofs.Beginning.{gives_literal, gives_name, begun_here, begun_spent}
+use Rattle.eval_steps.proofs.Delivering.{IsNoTry, part_given}
+use Rattle.eval_steps.proofs.Deciding.{bound as named_next, opens_part, chosen_true, chosen_false, chosen_none, second, front_of, rest_of, next_of_tuple, next_of_call, next_of_chunk, chunk_paid}
 use Rattle.plan_eval.proofs.Taking.{resume_asks}
-use Rattle.plan_eval.proofs.Backs.{flows_from, gives_here, resume_gave}
+use Rattle.plan_eval.proofs.Backs.{resume_gave}
 
--- a name's value, once it is weighed
-pub variable_gives : (codes : List Program) (code : Program) (seen : ℕ) (e : Expr) (x : Name) (f : Fun) (args : List Value) (frames : List StackFrame) (v : Value) (r : Result Flow Stop) (s t : VisitState)
-    → out-Expr e ≡ Expr-F.Var x → IsSome (bound f.params args) → value_from x (argument_of x None f.params args) (Some f.body) frames ≡ Some v
-    → Flows codes code seen (record { expr = e; env = env_of f args frames }) (weighed v s) r t
-    → Flows codes code seen (record { expr = e; env = env_of f args frames }) (begins code seen (record { expr = e; env = env_of f args frames }) s) r t
-variable_gives codes code seen e x f args frames v r s t form h is flows =
-    flows_from codes code seen (record { expr = e; env = env_of f args frames }) _ _ r t (gives_here code seen s e x f args frames form h v is) flows
+nil-cons : {A : Type 0} {x : A} {xs : List A} → [] ≡ x ∷ xs → ⊥
+nil-cons h = cc
 
 pub if_form : (t a b : Expr) → out-Expr (expr.If t a b) ≡ Expr-F.If t a b
 if_form t a b = grind (arith, trees)
@@ -112,6 +110,41 @@ module _ (code : Program) (seen : ℕ) (e t a b : Expr) (env : Env) (form : out-
     pub if_wrong : as_bool v ≡ None → (begins code seen here s).after ≡ stopped Wrong s1
     if_wrong is = if_came.same ∙ chosen_none code seen e env s1 t a b 0 [] v form is
 
+-- ---- `let`
+
+pub let_form : (x : Name) (t : Ty) (a b : Expr) → out-Expr (expr.Let x t a b) ≡ Expr-F.Let x t a b
+let_form x t a b = grind (arith, trees)
+
+module _ (code : Program) (seen : ℕ) (e : Expr) (x : Name) (t : Ty) (a b : Expr) (env : Env) (form : out-Expr e ≡ Expr-F.Let x t a b) where
+  abbrev let_here : Spot
+  let_here = record { expr = e; env = env }
+
+  pub let_first : deeper let_here (frame.Part 0 []) ≡ Some (record { expr = a; env = env })
+  unfolding deeper
+  let_first = rw form refl
+
+  pub let_parts : HasParts (out-Expr e)
+  let_parts = rw form tt
+
+  pub let_no_try : IsNoTry (out-Expr e)
+  let_no_try = rw form tt
+
+  pub let_body : (v : Value) → deeper let_here (frame.Bound v) ≡ Some (record { expr = b; env = env ++ binds x v ∷ [] })
+  unfolding deeper
+  let_body v = rw form refl
+
+  pub let_leads : (s s1 : VisitState) (v : Value) → (meaning code seen env a s).after ≡ gave v s1
+      → Leads (begins code seen let_here s) (resume code seen let_here (frame.Bound v) (meaning code seen (env ++ binds x v ∷ []) b s1))
+  let_leads s s1 v came =
+      rw (let_body v) at
+      (onward _ _ _ (first_leads code seen let_here a s let_parts let_first)
+      (onward _ _ _ (part_came code seen let_here 0 [] (meaning code seen env a s) v s1 came)
+      (named_next code seen e env s1 x t a b 0 [] v form)))
+
+-- one more name
+pub one_name : (env : Env) (bs : List Binding) (b : Binding) (all : List Binding) → all ≡ bs ++ b ∷ [] → env ++ bound_here all ≡ (env ++ bound_here bs) ++ binds b.name.now b.value.now ∷ []
+one_name env bs b all is = rw is (ap (λ (x : Env). env ++ x) (map-append (λ (c : Binding). binds c.name.now c.value.now) bs (b ∷ [])) ∙ sym (append_assoc env (bound_here bs) (binds b.name.now b.value.now ∷ [])))
+
 -- ---- operators
 
 module _ (code : Program) (seen : ℕ) (o : Op) (e a b : Expr) (env : Env) (form : out-Expr e ≡ Expr-F.Binary o a b) where
@@ -139,7 +172,7 @@ module _ (code : Program) (seen : ℕ) (o : Op) (e a b : Expr) (env : Env) (form
       (onward _ _ _ (part_came code seen here2 0 [] (meaning code seen env a s) x s1 came)
       (second code seen e env s1 o a b 0 x form)))
 
--- ---- calls
+-- ---- parts in a row
 
 pub drop_front : {A : Type 0} (xs : List A) (n : ℕ) (x : A) → slice_get xs n ≡ Some x → drop n xs ≡ x ∷ drop (suc n) xs
 drop_front [] n x is = absurd (none-some is)
@@ -155,68 +188,175 @@ drop_end (y ∷ ys) (suc n) is = drop_end ys n is
 pub call_form : (f : Name) (es : List Expr) → out-Expr (expr.Call f es) ≡ Expr-F.Call f es
 call_form f es = grind (arith, trees)
 
-module _ (code : Program) (seen : ℕ) (e : Expr) (f : Name) (es : List Expr) (env : Env) (form : out-Expr e ≡ Expr-F.Call f es) where
-  abbrev here3 : Spot
-  here3 = record { expr = e; env = env }
+pub tuple_form : (es : List Expr) → out-Expr (expr.Tuple es) ≡ Expr-F.Tuple es
+tuple_form es = grind (arith, trees)
 
-  pub call_no_try : IsNoTry (out-Expr e)
-  call_no_try = rw form tt
+pub chunk_form : (f : Name) (es : List Expr) → out-Expr (expr.ChunkOf f es) ≡ Expr-F.ChunkOf f es
+chunk_form f es = grind (arith, trees)
 
-  pub argument_deep : (held : List Value) (x : Expr) (more : List Expr) → drop (length held) es ≡ x ∷ more → deeper here3 (frame.Part (length held) held) ≡ Some (record { expr = x; env = env })
+pub eval_form : (a : Expr) → out-Expr (expr.Eval a) ≡ Expr-F.Eval a
+eval_form a = grind (arith, trees)
+
+pub row_no_try : (l : ExprLayer) → IsRow l → IsNoTry l
+row_no_try (Expr-F.Tuple es) h = tt
+row_no_try (Expr-F.Call f es) h = tt
+row_no_try (Expr-F.ChunkOf f es) h = tt
+row_no_try _ h = absurd h
+
+row_has_parts : (l : ExprLayer) → IsRow l → (x : Expr) (more : List Expr) → parts_of l ≡ x ∷ more → HasParts l
+row_has_parts (Expr-F.Tuple (e ∷ es)) h x more is = tt
+row_has_parts (Expr-F.Call f (e ∷ es)) h x more is = tt
+row_has_parts (Expr-F.ChunkOf f (e ∷ es)) h x more is = tt
+row_has_parts (Expr-F.Tuple []) h x more is = absurd (nil-cons is)
+row_has_parts (Expr-F.Call f []) h x more is = absurd (nil-cons is)
+row_has_parts (Expr-F.ChunkOf f []) h x more is = absurd (nil-cons is)
+row_has_parts _ h x more is = absurd h
+
+module _ (code : Program) (seen : ℕ) (e : Expr) (env : Env) where
+  abbrev row_here : Spot
+  row_here = record { expr = e; env = env }
+
+  -- without parts
+  bare_row : (l : ExprLayer) → out-Expr e ≡ l → IsRow l → (s : VisitState) → parts_of l ≡ [] → Leads (begins code seen row_here s) ((made_of code seen l [] >>= weighed) s)
+  unfolding tuple call packed values
+  bare_row (Expr-F.Tuple []) form h s none = rw form (known_then [] s (λ vs. pure (value.Tuple vs)) weighed)
+  bare_row (Expr-F.Call f []) form h s none = rw form (known_then [] s (called meaning code seen f) weighed)
+  bare_row (Expr-F.ChunkOf f []) form h s none = rw form (known_then [] s (λ vs. pure (value.Chunk (record { code = code; entry = f; args = vs }))) weighed)
+  bare_row (Expr-F.Tuple (x ∷ es)) form h s none = absurd (nil-cons (sym none))
+  bare_row (Expr-F.Call f (x ∷ es)) form h s none = absurd (nil-cons (sym none))
+  bare_row (Expr-F.ChunkOf f (x ∷ es)) form h s none = absurd (nil-cons (sym none))
+  bare_row _ form h s none = absurd h
+
+  -- the last part gave its value
+  last_row : (l : ExprLayer) → out-Expr e ≡ l → IsRow l → (held : List Value) (v : Value) (n : ℕ) (s : VisitState) → drop (n + 1) (parts_of l) ≡ []
+      → Leads ((behind code seen l env n held v >>= weighed) s) ((made_of code seen l (held ++ v ∷ []) >>= weighed) s)
+  last_row (Expr-F.Tuple es) form h held v n s done = rw done (known_then (held ++ v ∷ []) s (λ vs. pure (value.Tuple vs)) weighed)
+  last_row (Expr-F.Call f es) form h held v n s done = rw done (known_then (held ++ v ∷ []) s (called meaning code seen f) weighed)
+  last_row (Expr-F.ChunkOf f es) form h held v n s done = rw done (known_then (held ++ v ∷ []) s (λ vs. pure (value.Chunk (record { code = code; entry = f; args = vs }))) weighed)
+  last_row _ form h held v n s done = absurd h
+
+  -- the next part
+  next_row : (l : ExprLayer) → out-Expr e ≡ l → IsRow l → (rest : List Expr) (y : Expr) (held : List Value) (v : Value) (n : ℕ) (s : VisitState) → drop (n + 1) (parts_of l) ≡ y ∷ rest
+      → Leads (part_gave code seen row_here n held v s) (next_step code seen row_here (next.Open (frame.Part (n + 1) (held ++ v ∷ []))) s)
+  next_row (Expr-F.Tuple es) form h rest y held v n s more = next_of_tuple code seen e env s es rest y n held v form more
+  next_row (Expr-F.Call f es) form h rest y held v n s more = next_of_call code seen e env s f es rest y n held v form more
+  next_row (Expr-F.ChunkOf f es) form h rest y held v n s more = next_of_chunk code seen e env s f es rest y n held v form more
+  next_row _ form h rest y held v n s more = absurd h
+
+  module _ (es : List Expr) (row : IsRow (out-Expr e)) (are : parts_of (out-Expr e) ≡ es) where
+    part_deep : (held : List Value) (x : Expr) (more : List Expr) → drop (length held) es ≡ x ∷ more → deeper row_here (frame.Part (length held) held) ≡ Some (record { expr = x; env = env })
+    unfolding deeper
+    part_deep held x more is = rw (are, front_of es more x (length held) is) refl
+
+    begins_at : (xs : List Expr) → es ≡ xs → (s : VisitState) → Leads (begins code seen row_here s) (pending code seen row_here [] xs s)
+    begins_at [] is s = bare_row (out-Expr e) refl row s (are ∙ is)
+    begins_at (x ∷ more) is s = first_leads code seen row_here x s (row_has_parts (out-Expr e) row x more (are ∙ is)) (part_deep [] x more is)
+
+    pub row_begins : (s : VisitState) → Leads (begins code seen row_here s) (pending code seen row_here [] es s)
+    row_begins s = begins_at es refl s
+
+    next_at : (n : ℕ) (held : List Value) (v : Value) (y : Expr) (s : VisitState) → length held + 1 ≡ n
+        → Leads (part_gave code seen row_here (length held) held v s) (next_step code seen row_here (next.Open (frame.Part (length held + 1) (held ++ v ∷ []))) s)
+        → deeper row_here (frame.Part n (held ++ v ∷ [])) ≡ Some (record { expr = y; env = env })
+        → Leads (part_gave code seen row_here (length held) held v s) (resume code seen row_here (frame.Part n (held ++ v ∷ [])) (meaning code seen env y s))
+    next_at n held v y s long h deep =
+        rw deep at (subst (λ (k : ℕ). Leads (part_gave code seen row_here (length held) held v s) (next_step code seen row_here (next.Open (frame.Part k (held ++ v ∷ []))) s)) long h)
+
+    goes_at : (held : List Value) (v : Value) (xs : List Expr) (s : VisitState) → drop (length held + 1) es ≡ xs
+        → Leads (part_gave code seen row_here (length held) held v s) (pending code seen row_here (held ++ v ∷ []) xs s)
+    goes_at held v [] s is = last_row (out-Expr e) refl row held v (length held) s (rw are is)
+    goes_at held v (y ∷ ys) s is =
+        let long : length held + 1 ≡ length (held ++ v ∷ []) = sym (length-append held (v ∷ [])) in
+        let there : drop (length (held ++ v ∷ [])) es ≡ y ∷ ys = subst (λ (n : ℕ). drop n es ≡ y ∷ ys) long is in
+        next_at (length (held ++ v ∷ [])) held v y s long (next_row (out-Expr e) refl row ys y held v (length held) s (rw are is)) (part_deep (held ++ v ∷ []) y ys there)
+
+    -- a part gave its value
+    row_goes : (held : List Value) (x : Expr) (more : List Expr) (v : Value) (s s1 : VisitState) → drop (length held) es ≡ x ∷ more → (meaning code seen env x s).after ≡ gave v s1
+        → Leads (pending code seen row_here held (x ∷ more) s) (pending code seen row_here (held ++ v ∷ []) more s1)
+    row_goes held x more v s s1 is came =
+        onward _ _ _ (part_came code seen row_here (length held) held (meaning code seen env x s) v s1 came) (goes_at held v more s1 (rest_of es more x (length held) is))
+
+    -- the parts from the next one on
+    pub row_next : (held : List Value) (x : Expr) (s0 s : VisitState) → slice_get es (length held) ≡ Some x → Leads (begins code seen row_here s0) (pending code seen row_here held (drop (length held) es) s)
+        → Leads (begins code seen row_here s0) (resume code seen row_here (frame.Part (length held) held) (meaning code seen env x s))
+    row_next held x s0 s is leads = rw (drop_front es (length held) x is) at leads
+
+    pub next_deep : (held : List Value) (x : Expr) → slice_get es (length held) ≡ Some x → deeper row_here (frame.Part (length held) held) ≡ Some (record { expr = x; env = env })
+    next_deep held x is = part_deep held x (drop (suc (length held)) es) (drop_front es (length held) x is)
+
+    pub next_safe : (held : List Value) (x : Expr) (s0 s : VisitState) → slice_get es (length held) ≡ Some x → Leads (begins code seen row_here s0) (pending code seen row_here held (drop (length held) es) s)
+        → IsSafe (begins code seen row_here s0).asks → IsSafe (meaning code seen env x s).asks
+    next_safe held x s0 s is leads safe = resume_asks code seen row_here (frame.Part (length held) held) _ ((row_next held x s0 s is leads).safe safe)
+
+    pub row_more : (held all : List Value) (x : Expr) (v : Value) (s0 s s1 : VisitState) → slice_get es (length held) ≡ Some x → Leads (begins code seen row_here s0) (pending code seen row_here held (drop (length held) es) s)
+        → (meaning code seen env x s).after ≡ gave v s1 → all ≡ held ++ v ∷ [] → Leads (begins code seen row_here s0) (pending code seen row_here all (drop (length all) es) s1)
+    row_more held all x v s0 s s1 is leads came whole =
+        let front = drop_front es (length held) x is in
+        let rest : drop (length (held ++ v ∷ [])) es ≡ drop (suc (length held)) es =
+        subst (λ (n : ℕ). drop n es ≡ drop (suc (length held)) es) (sym (length-append held (v ∷ []))) (rest_of es (drop (suc (length held)) es) x (length held) front) in
+        rw (whole, rest) (onward _ _ _ (rw front at leads) (row_goes held x (drop (suc (length held)) es) v s s1 front came))
+
+    pub row_done : (held : List Value) (s0 s : VisitState) → slice_get es (length held) ≡ None → Leads (begins code seen row_here s0) (pending code seen row_here held (drop (length held) es) s)
+        → Leads (begins code seen row_here s0) (row_gave code seen row_here held s)
+    row_done held s0 s is leads = rw (drop_end es (length held) is) at leads
+
+-- what each row gives
+module _ (code : Program) (seen : ℕ) (e : Expr) (env : Env) (vs : List Value) (s : VisitState) where
+  pub tuple_gave : (es : List Expr) → out-Expr e ≡ Expr-F.Tuple es → Leads (row_gave code seen (record { expr = e; env = env }) vs s) (weighed (value.Tuple vs) s)
+  tuple_gave es form = rw form (given_on _ s weighed)
+
+  pub chunk_gave : (f : Name) (es : List Expr) → out-Expr e ≡ Expr-F.ChunkOf f es
+      → Leads (row_gave code seen (record { expr = e; env = env }) vs s) (weighed (value.Chunk (record { code = code; entry = f; args = vs })) s)
+  chunk_gave f es form = rw form (given_on _ s weighed)
+
+  pub call_gave : (f : Name) (es : List Expr) → out-Expr e ≡ Expr-F.Call f es → Leads (row_gave code seen (record { expr = e; env = env }) vs s) (call_of code seen f vs s)
+  call_gave f es form = rw form (itself _)
+
+  pub row_is_call : (f : Name) (es : List Expr) → out-Expr e ≡ Expr-F.Call f es → IsRow (out-Expr e) × (parts_of (out-Expr e) ≡ es)
+  row_is_call f es form = rw form (tt, refl)
+
+-- ---- chunks that are not made
+
+is_chunk : (k : Chunk) → as_chunk (value.Chunk k) ≡ Some k
+unfolding as_chunk
+is_chunk k = grind (arith, trees)
+
+module _ (code : Program) (seen : ℕ) (e a : Expr) (env : Env) (form : out-Expr e ≡ Expr-F.Eval a) where
+  abbrev eval_here : Spot
+  eval_here = record { expr = e; env = env }
+
+  pub eval_part : deeper eval_here (frame.Part 0 []) ≡ Some (record { expr = a; env = env })
   unfolding deeper
-  argument_deep held x more is = rw (form, front_of es more x (length held) is) refl
+  eval_part = rw form refl
 
-  begins_at : (xs : List Expr) → es ≡ xs → (s : VisitState) → Leads (begins code seen here3 s) (pending code seen here3 f [] xs s)
-  begins_at [] is s = calls_bare code seen env s e f (form ∙ ap (Expr-F.Call f) is)
-  begins_at (x ∷ more) is s = first_leads code seen here3 x s (rw (form, is) tt) (argument_deep [] x more is)
+  pub eval_parts : HasParts (out-Expr e)
+  eval_parts = rw form tt
 
-  pub call_begins : (s : VisitState) → Leads (begins code seen here3 s) (pending code seen here3 f [] es s)
-  call_begins s = begins_at es refl s
+  pub eval_no_try : IsNoTry (out-Expr e)
+  eval_no_try = rw form tt
 
-  next_at : (n : ℕ) (held : List Value) (v : Value) (y : Expr) (s : VisitState) → length held + 1 ≡ n
-      → Leads (part_gave code seen here3 (length held) held v s) (next_step code seen here3 (next.Open (frame.Part (length held + 1) (held ++ v ∷ []))) s)
-      → deeper here3 (frame.Part n (held ++ v ∷ [])) ≡ Some (record { expr = y; env = env })
-      → Leads (part_gave code seen here3 (length held) held v s) (resume code seen here3 (frame.Part n (held ++ v ∷ [])) (meaning code seen env y s))
-  next_at n held v y s long h deep =
-      rw deep at (subst (λ (k : ℕ). Leads (part_gave code seen here3 (length held) held v s) (next_step code seen here3 (next.Open (frame.Part k (held ++ v ∷ []))) s)) long h)
+  module _ (k : Chunk) (s : VisitState) where
+    pub packed_unweighed : (x : Stop) (t : VisitState) → (weighed (value.Chunk k) s).after ≡ stopped x t → (resume code seen eval_here (frame.Part 0 []) (weighed (value.Chunk k) s)).after ≡ stopped x t
+    packed_unweighed x t h = part_stops_so code seen eval_here 0 [] (weighed (value.Chunk k) s) x t eval_no_try h
 
-  goes_at : (held : List Value) (v : Value) (xs : List Expr) (s : VisitState) → drop (length held + 1) es ≡ xs
-      → Leads (part_gave code seen here3 (length held) held v s) (pending code seen here3 f (held ++ v ∷ []) xs s)
-  goes_at held v [] s is = last_of_call code seen e env s f es (length held) held v form is
-  goes_at held v (y ∷ ys) s is =
-      let long : length held + 1 ≡ length (held ++ v ∷ []) = sym (length-append held (v ∷ [])) in
-      let there : drop (length (held ++ v ∷ [])) es ≡ y ∷ ys = subst (λ (n : ℕ). drop n es ≡ y ∷ ys) long is in
-      next_at (length (held ++ v ∷ [])) held v y s long (next_of_call code seen e env s f es ys y (length held) held v form is) (argument_deep (held ++ v ∷ []) y ys there)
+    module _ (s1 : VisitState) (weighs : (weighed (value.Chunk k) s).after ≡ gave (value.Chunk k) s1) where
+      packed_came : Leads (resume code seen eval_here (frame.Part 0 []) (weighed (value.Chunk k) s)) (part_gave code seen eval_here 0 [] (value.Chunk k) s1)
+      packed_came = part_came code seen eval_here 0 [] (weighed (value.Chunk k) s) (value.Chunk k) s1 weighs
 
-  -- an argument gave its value
-  pub call_goes : (held : List Value) (x : Expr) (more : List Expr) (v : Value) (s s1 : VisitState) → drop (length held) es ≡ x ∷ more → (meaning code seen env x s).after ≡ gave v s1
-      → Leads (pending code seen here3 f held (x ∷ more) s) (pending code seen here3 f (held ++ v ∷ []) more s1)
-  call_goes held x more v s s1 is came =
-      onward _ _ _ (part_came code seen here3 (length held) held (meaning code seen env x s) v s1 came) (goes_at held v more s1 (rest_of es more x (length held) is))
+      pub packed_paid : (t : VisitState) → (pay_eval s1).after ≡ gave tt t → Leads (resume code seen eval_here (frame.Part 0 []) (weighed (value.Chunk k) s)) (next_step code seen eval_here (next.Visit k) t)
+      packed_paid t paid = onward _ _ _ packed_came (chunk_paid code seen e env s1 a 0 [] (value.Chunk k) k t form (is_chunk k) paid)
 
-  -- the arguments from the next one on
-  pub call_next : (held : List Value) (x : Expr) (s0 s : VisitState) → slice_get es (length held) ≡ Some x → Leads (begins code seen here3 s0) (pending code seen here3 f held (drop (length held) es) s)
-      → Leads (begins code seen here3 s0) (resume code seen here3 (frame.Part (length held) held) (meaning code seen env x s))
-  call_next held x s0 s is leads = rw (drop_front es (length held) x is) at leads
+      pub packed_unpaid : (x : Stop) (t : VisitState) → (pay_eval s1).after ≡ stopped x t → (resume code seen eval_here (frame.Part 0 []) (weighed (value.Chunk k) s)).after ≡ stopped x t
+      packed_unpaid x t unpaid = packed_came.same ∙ chunk_unpaid code seen e env s1 a 0 [] (value.Chunk k) k x t form (is_chunk k) unpaid
 
-  pub next_deep : (held : List Value) (x : Expr) → slice_get es (length held) ≡ Some x → deeper here3 (frame.Part (length held) held) ≡ Some (record { expr = x; env = env })
-  next_deep held x is = argument_deep held x (drop (suc (length held)) es) (drop_front es (length held) x is)
+      pub packed_carries : (r : Result (Unit {0}) Stop) (t : VisitState) → Meets (pay_eval s1) r t
+          → Carries (resume code seen eval_here (frame.Part 0 []) (weighed (value.Chunk k) s)) (λ _. next_step code seen eval_here (next.Visit k) t) r t
+      packed_carries (Ok u) t h = packed_paid t h
+      packed_carries (Err x) t h = λ other. packed_unpaid x t (h other)
 
-  pub next_safe : (held : List Value) (x : Expr) (s0 s : VisitState) → slice_get es (length held) ≡ Some x → Leads (begins code seen here3 s0) (pending code seen here3 f held (drop (length held) es) s)
-      → IsSafe (begins code seen here3 s0).asks → IsSafe (meaning code seen env x s).asks
-  next_safe held x s0 s is leads safe = resume_asks code seen here3 (frame.Part (length held) held) _ ((call_next held x s0 s is leads).safe safe)
-
-  pub call_more : (held all : List Value) (x : Expr) (v : Value) (s0 s s1 : VisitState) → slice_get es (length held) ≡ Some x → Leads (begins code seen here3 s0) (pending code seen here3 f held (drop (length held) es) s)
-      → (meaning code seen env x s).after ≡ gave v s1 → all ≡ held ++ v ∷ [] → Leads (begins code seen here3 s0) (pending code seen here3 f all (drop (length all) es) s1)
-  call_more held all x v s0 s s1 is leads came whole =
-      let front = drop_front es (length held) x is in
-      let rest : drop (length (held ++ v ∷ [])) es ≡ drop (suc (length held)) es =
-      subst (λ (n : ℕ). drop n es ≡ drop (suc (length held)) es) (sym (length-append held (v ∷ []))) (rest_of es (drop (suc (length held)) es) x (length held) front) in
-      rw (whole, rest) (onward _ _ _ (rw front at leads) (call_goes held x (drop (suc (length held)) es) v s s1 front came))
-
-  pub call_done : (held : List Value) (s0 s : VisitState) → slice_get es (length held) ≡ None → Leads (begins code seen here3 s0) (pending code seen here3 f held (drop (length held) es) s)
-      → Leads (begins code seen here3 s0) (call_of code seen f held s)
-  call_done held s0 s is leads = rw (drop_end es (length held) is) at leads
+  -- what the parts of such a chunk lead to
+  pub packing_leads : (p : Step Value) (s : VisitState) → Leads (meaning code seen env a s) p → Leads (begins code seen eval_here s) (resume code seen eval_here (frame.Part 0 []) p)
+  packing_leads p s h = onward _ _ _ (first_leads code seen eval_here a s eval_parts eval_part) (resume_leads code seen eval_here (frame.Part 0 []) _ _ h)
 
 -- ---- numbers at hand
 
@@ -226,12 +366,27 @@ weight_int n = grind (arith, weight_out, trees)
 nesting_int : (n : ℤ) → nesting (value.Int n) ≡ 0
 nesting_int n = grind (arith, nesting_out, trees)
 
+weight_bool : (b : Bool) → weight (value.Bool b) ≡ 2
+weight_bool b = grind (arith, weight_out, trees)
+
+nesting_bool : (b : Bool) → nesting (value.Bool b) ≡ 0
+nesting_bool b = grind (arith, nesting_out, trees)
+
+module _ (b : Bool) (s s1 : VisitState) where
+  pub weighs_two : (spend 2 s).after ≡ gave tt s1 → (weighed (value.Bool b) s).after ≡ gave (value.Bool b) s1
+  unfolding weighed is_too_large
+  weighs_two h = rw (weight_bool b, nesting_bool b) (ap (λ r. («next» r (λ _. pure (value.Bool b))).after) h)
+
+  pub stops_two : (x : Stop) → (spend 2 s).after ≡ stopped x s1 → (weighed (value.Bool b) s).after ≡ stopped x s1
+  unfolding weighed is_too_large
+  stops_two x h = rw (weight_bool b, nesting_bool b) (ap (λ r. («next» r (λ _. pure (value.Bool b))).after) h)
+
 module _ (n : ℤ) (s s1 : VisitState) where
-  weighs_nine : (spend 9 s).after ≡ gave tt s1 → (weighed (value.Int n) s).after ≡ gave (value.Int n) s1
+  pub weighs_nine : (spend 9 s).after ≡ gave tt s1 → (weighed (value.Int n) s).after ≡ gave (value.Int n) s1
   unfolding weighed is_too_large
   weighs_nine h = rw (weight_int n, nesting_int n) (ap (λ r. («next» r (λ _. pure (value.Int n))).after) h)
 
-  stops_nine : (x : Stop) → (spend 9 s).after ≡ stopped x s1 → (weighed (value.Int n) s).after ≡ stopped x s1
+  pub stops_nine : (x : Stop) → (spend 9 s).after ≡ stopped x s1 → (weighed (value.Int n) s).after ≡ stopped x s1
   unfolding weighed is_too_large
   stops_nine x h = rw (weight_int n, nesting_int n) (ap (λ r. («next» r (λ _. pure (value.Int n))).after) h)
 

@@ -1,13 +1,12 @@
 -- How far each turn brings a visit to its end.
-use Rattle.std.proofs.Common.{◌≡◌, ℕ, ◌+◌, ◌<◌, ◌≤◌, List, [], ◌∷◌, ◌++◌, length, Result, Ok, Err, arith, length-append}
-use Rattle.std.specs.Prelude.{IfOk}
+use Rattle.std.proofs.Common.{◌≡◌, ℕ, ◌+◌, ◌<◌, List, [], ◌∷◌, ◌++◌, length, arith, length-append}
 use Rattle.std.proofs.lemmas.List.Sums.{sum_by_push}
 use Rattle.plan_base.specs.declared.tree.Exn.{Exn}
 use Rattle.plan_base.specs.declared.tree.Value.{Value}
-use Rattle.plan_eval.specs.declared.stack_frame.StackFrame.{StackFrame}
-use Rattle.plan_eval.specs.declared.stack_frame.Activation.{Activation}
-use Rattle.plan_eval.specs.declared.stack_frame.Mode.TheVariants as mode
-use Rattle.plan_eval.specs.Turns.{entry, under, frames_in, load}
+use Rattle.eval_steps.specs.declared.stack_frame.StackFrame.{StackFrame}
+use Rattle.eval_steps.specs.declared.stack_frame.Activation.{Activation}
+use Rattle.eval_steps.specs.declared.stack_frame.Mode.TheVariants as mode
+use Rattle.plan_eval.specs.Turns.{under, frames_in, load}
 
 one_more : (outer : List Activation) (a : Activation) → frames_in (outer ++ a ∷ []) ≡ frames_in outer + length a.frames
 one_more outer a = sum_by_push (λ (b : Activation). length b.frames) outer a
@@ -18,29 +17,7 @@ longer outer a = length-append outer (a ∷ [])
 deeper_by_one : (a : Activation) (f : StackFrame) → length (under a f).frames ≡ length a.frames + 1
 deeper_by_one a f = length-append a.frames (f ∷ [])
 
--- what holds of an answer holds weakened
-pub if_ok : {A E : Type 0} (r : Result A E) (P Q : A → Type 0) → ((x : A) → P x → Q x) → IfOk r P → IfOk r Q
-if_ok (Ok x) P Q f h = f x h
-if_ok (Err e) P Q f h = tt
-
 module _ (outer : List Activation) (a : Activation) (f : StackFrame) where
-  pub load_open : (work : ℕ) → load mode.Run (outer ++ under a f ∷ []) work ≤ load mode.Run (outer ++ a ∷ []) work + 3
-  load_open work = omega (arith, one_more outer a, one_more outer (under a f), longer outer a, longer outer (under a f), deeper_by_one a f)
-
-  pub load_enter : (code fun : ℕ) (args : List Value) (work : ℕ)
-      → load mode.Run ((outer ++ under a f ∷ []) ++ entry code fun args ∷ []) work ≤ load mode.Run (outer ++ a ∷ []) work + 3
-  load_enter code fun args work =
-      omega (
-        arith,
-        one_more outer a,
-        one_more outer (under a f),
-        one_more (outer ++ under a f ∷ []) (entry code fun args),
-        longer outer a,
-        longer outer (under a f),
-        longer (outer ++ under a f ∷ []) (entry code fun args),
-        deeper_by_one a f,
-      )
-
   -- a frame that was taken off makes room for what its expression does next
   pub load_given : (v : Value) (work : ℕ) → load mode.Run (outer ++ a ∷ []) work + 3 < load (mode.Give v) (outer ++ under a f ∷ []) work
   load_given v work = omega (arith, one_more outer a, one_more outer (under a f), longer outer a, longer outer (under a f), deeper_by_one a f)
@@ -49,18 +26,6 @@ module _ (outer : List Activation) (a : Activation) (f : StackFrame) where
   load_raised x work = omega (arith, one_more outer a, one_more outer (under a f), longer outer a, longer outer (under a f), deeper_by_one a f)
 
 module _ (outer : List Activation) (a : Activation) where
-  pub load_give : (v : Value) (work less : ℕ) → less ≤ work → load (mode.Give v) (outer ++ a ∷ []) less ≤ load mode.Run (outer ++ a ∷ []) work + 3
-  load_give v work less h = omega arith
-
-  pub load_raise : (x : Exn) (work less : ℕ) → less ≤ work → load (mode.Raise x) (outer ++ a ∷ []) less ≤ load mode.Run (outer ++ a ∷ []) work + 3
-  load_raise x work less h = omega arith
-
-  pub load_less : (n work less : ℕ) → less ≤ work → n ≤ load mode.Run (outer ++ a ∷ []) less + 3 → n ≤ load mode.Run (outer ++ a ∷ []) work + 3
-  load_less n work less h k = omega arith
-
-  pub load_run : (work less : ℕ) → less + 1 ≡ work → load mode.Run (outer ++ a ∷ []) less + 3 < load mode.Run (outer ++ a ∷ []) work
-  load_run work less h = omega arith
-
   -- an activation that has ended
   pub load_bare : (v : Value) (work : ℕ) → load (mode.Give v) outer work < load (mode.Give v) (outer ++ a ∷ []) work
   load_bare v work = omega (arith, one_more outer a, longer outer a)

@@ -1,5 +1,5 @@
 -- What names are bound to at an open expression.
-use Rattle.std.proofs.Common.{◌≡◌, ℕ, suc, Bool, true, false, if◌then◌else◌, List, [], ◌∷◌, ◌++◌, length, slice_get, Option, Some, None, IsSome, refl, sym, ◌∙◌, ap, subst}
+use Rattle.std.proofs.Common.{◌≡◌, ℕ, suc, Bool, true, false, if◌then◌else◌, List, [], ◌∷◌, ◌++◌, length, slice_get, Option, Some, None, IsSome, refl, sym, ◌∙◌, ap}
 use Rattle.std.specs.Option.{option_or}
 use Rattle.std.specs.Str.{bytes_eq}
 use Rattle.std.proofs.lemmas.Bool.{false≢true}
@@ -15,18 +15,18 @@ use Rattle.plan_meaning.specs.declared.stop.Stop.TheVariants.{Wrong}
 use Rattle.plan_meaning.specs.State.{VisitState}
 use Rattle.plan_meaning.specs.Run.{Step, stopped}
 use Rattle.plan_meaning.specs.Meaning.{meaning, entered, Env, binds, value_if, value_of, bound, bound_behind}
-use Rattle.plan_eval.specs.declared.stack_frame.StackFrame.{StackFrame}
-use Rattle.plan_eval.specs.declared.stack_frame.StackFrame.TheVariants as frame
-use Rattle.plan_eval.specs.declared.stack_frame.Activation.{Activation}
-use Rattle.plan_eval.specs.declared.next.Next.TheVariants as next
-use Rattle.plan_eval.specs.Leads.{Leads}
-use Rattle.plan_eval.specs.Nexts.{Enters, run_at, next_step}
+use Rattle.eval_steps.specs.declared.stack_frame.StackFrame.{StackFrame}
+use Rattle.eval_steps.specs.declared.stack_frame.StackFrame.TheVariants as frame
+use Rattle.eval_steps.specs.declared.stack_frame.Activation.{Activation}
+use Rattle.eval_steps.specs.declared.next.Next.TheVariants as next
+use Rattle.eval_steps.specs.Leads.{Leads}
+use Rattle.eval_steps.specs.Nexts.{Enters, run_at, next_step}
 use Rattle.plan_eval.proofs.Ending.{resume_final}
-use Rattle.plan_eval.specs.Stack.{Spot, spot_of, deeper, part_or_self, part_number, inside_let, env_at, expr_from, env_from, spot_from, inside_value, value_at, value_from, body_spot, start_of, spot_in}
+use Rattle.eval_steps.specs.Stack.{Spot, spot_of, deeper, part_or_self, part_number, inside_let, env_at, expr_from, env_from, spot_from, inside_value, value_at, value_from, body_spot, start_of, spot_in}
 use Rattle.plan_eval.specs.Turns.{IsAt, spot_at, argument_of}
 
 -- one more binding, which is innermost
-value_snoc : (x : Name) (env : Env) (y : Name) (v : Value) → value_of x (env ++ binds y v ∷ []) ≡ (if bytes_eq y x then Some v else value_of x env)
+pub value_snoc : (x : Name) (env : Env) (y : Name) (v : Value) → value_of x (env ++ binds y v ∷ []) ≡ (if bytes_eq y x then Some v else value_of x env)
 value_snoc x [] y v = go (bytes_eq y x)
   where
     go : (t : Bool) → option_or None (if t then Some v else None) ≡ (if t then Some v else None)
@@ -111,16 +111,6 @@ stands_at codes a code f e at h = rw (at.program, at.function) (some_env f (boun
 some-equal : {A : Type 0} (o : Option A) (x y : A) → o ≡ Some x → o ≡ Some y → x ≡ y
 some-equal o x y h k = some-same (sym h ∙ k)
 
--- what holds of the place where an activation stands holds wherever it stands
-pub at_place : (codes : List Program) (a : Activation) (code : Program) (f : Fun) (e : Expr) (P : Program → Spot → Type 0) → IsAt codes a code f e
-    → ((base : Env) → bound f.params a.args ≡ Some base → P code (spot_at f a.frames base e))
-    → (c : Program) (at : Spot) → slice_get codes a.code ≡ Some c → spot_in codes a ≡ Some at → P c at
-at_place codes a code f e P here h c at is there =
-    let stands = stands_at codes a code f e here (rw there refl) in
-    let same_code = some-equal (slice_get codes a.code) code c here.program is in
-    let same_spot = some-equal (spot_in codes a) (spot_at f a.frames stands.0 e) at stands.2 there in
-    subst (λ (x : Program). P x at) same_code (subst (λ (y : Spot). P code y) same_spot (h stands.0 stands.1))
-
 -- ---- where it stands nowhere
 
 no_env : (f : Fun) (o : Option Env) (fs : List StackFrame) → expr_from (Some f.body) fs ≡ None → spot_from (body_spot f o) fs ≡ None
@@ -158,16 +148,3 @@ module _ (code : Program) (seen : ℕ) (at : Spot) (want : Step Value) (s : Visi
   pub no_part : (f : StackFrame) → part_or_self at.expr (part_number f) ≡ None → Leads want (next_step code seen at (next.Open f) s) → want.after ≡ stopped Wrong s
   unfolding deeper
   no_part f none h = h.same ∙ resume_final code seen Wrong s tt at f _ (ap (λ o. (run_at code seen (spot_of o (env_at at.expr at.env f)) s).after) none)
-
-  pub no_call : (fun : ℕ) (args : List Value) → (entered meaning code fun args s).after ≡ stopped Wrong s → Leads want (next_step code seen at (next.Call fun args) s) → want.after ≡ stopped Wrong s
-  no_call fun args none h = h.same ∙ resume_final code seen Wrong s tt at frame.Body (entered meaning code fun args s) none
-
-  pub no_step : (fun : ℕ) (args left : List Value) → (entered meaning code fun args s).after ≡ stopped Wrong s → Leads want (next_step code seen at (next.Step fun args left) s) → want.after ≡ stopped Wrong s
-  no_step fun args left none h = h.same ∙ resume_final code seen Wrong s tt at (frame.Items left) (entered meaning code fun args s) none
-
-  some_deep : (o : Option Expr) (env : Env) (e : Expr) → o ≡ Some e → IsSome (spot_of o env)
-  some_deep o env e is = rw is refl
-
-  pub has_part : (f : StackFrame) (e : Expr) → part_or_self at.expr (part_number f) ≡ Some e → IsSome (deeper at f)
-  unfolding deeper
-  has_part f e is = some_deep (part_or_self at.expr (part_number f)) (env_at at.expr at.env f) e is

@@ -9,17 +9,17 @@ use Rattle.plan_meaning.specs.declared.stop.Stop.TheVariants.{Raised, Wrong}
 use Rattle.plan_meaning.specs.State.{VisitState}
 use Rattle.plan_meaning.specs.Run.{Step, gave, stopped}
 use Rattle.plan_meaning.specs.Meaning.{meaning, visited}
-use Rattle.plan_eval.specs.declared.stack_frame.Activation.{Activation}
-use Rattle.plan_eval.specs.declared.stack_frame.Mode.{Mode}
-use Rattle.plan_eval.specs.declared.stack_frame.Mode.TheVariants as mode
+use Rattle.eval_steps.specs.declared.stack_frame.Activation.{Activation}
+use Rattle.eval_steps.specs.declared.stack_frame.Mode.{Mode}
+use Rattle.eval_steps.specs.declared.stack_frame.Mode.TheVariants as mode
 use Rattle.visit_state.specs.Meets.{Meets}
 use Rattle.plan_meaning.specs.declared.stop.Stop.{Stop}
-use Rattle.plan_eval.specs.Leads.{Leads}
-use Rattle.plan_eval.specs.Nexts.{Enters}
-use Rattle.plan_eval.specs.Stack.{AreLinked, all_ended, mode_step, stands_for}
+use Rattle.eval_steps.specs.Leads.{Leads}
+use Rattle.eval_steps.specs.Nexts.{Enters}
+use Rattle.eval_steps.specs.Stack.{AreLinked, all_ended, mode_step, stands_for}
 use Rattle.plan_eval.specs.Turns.{entry}
-use Rattle.plan_eval.proofs.Leading.{onward}
-use Rattle.plan_eval.proofs.Delivering.{entered_on, visited_on}
+use Rattle.eval_steps.proofs.Leading.{onward}
+use Rattle.eval_steps.proofs.Delivering.{entered_on, visited_on}
 use Rattle.plan_eval.proofs.Entering.{spot_in_entry, ended_entry}
 use Rattle.plan_eval.proofs.Beginning.{runs_on}
 

@@ -10,18 +10,18 @@ use Rattle.plan_base.specs.declared.tree.Value.{Value}
 use Rattle.plan_meaning.specs.State.{VisitState}
 use Rattle.plan_meaning.specs.Run.{Step}
 use Rattle.plan_meaning.specs.Meaning.{Env, meaning, bound}
-use Rattle.plan_eval.specs.declared.stack_frame.StackFrame.{StackFrame}
-use Rattle.plan_eval.specs.declared.stack_frame.Activation.{Activation}
-use Rattle.plan_eval.specs.declared.stack_frame.Mode.TheVariants as mode
+use Rattle.eval_steps.specs.declared.stack_frame.StackFrame.{StackFrame}
+use Rattle.eval_steps.specs.declared.stack_frame.Activation.{Activation}
+use Rattle.eval_steps.specs.declared.stack_frame.Mode.TheVariants as mode
 use Rattle.plan_eval.specs.declared.rest.Rest.{Rest}
-use Rattle.plan_eval.specs.Stack.{Spot, spot_of, deeper, part_or_self, part_number, env_at, expr_from, env_from, spot_from, resume, through, spot_in, ended, all_ended, AreLinked, innermost, innermost_run, stands_for}
-use Rattle.plan_eval.specs.Nexts.{run_at}
-use Rattle.plan_eval.specs.Leads.{Leads}
+use Rattle.eval_steps.specs.Stack.{Spot, spot_of, deeper, part_or_self, part_number, env_at, expr_from, env_from, spot_from, resume, through, spot_in, ended, all_ended, AreLinked, innermost, innermost_run, stands_for}
+use Rattle.eval_steps.specs.Nexts.{run_at}
+use Rattle.eval_steps.specs.Leads.{Leads}
 use Rattle.plan_eval.specs.Turns.{Stands, entry, under}
 use Rattle.plan_eval.specs.Direct.{env_of, base_of, innermost_of, waits, Waits, Above, BodyWaits}
-use Rattle.plan_eval.proofs.Leading.{itself, onward}
-use Rattle.plan_eval.proofs.Walking.{nowhere}
-use Rattle.plan_eval.proofs.Stacks.{resume_leads, ended_leads, all_ended_leads, all_ended_push, ended_push, spot_in_push}
+use Rattle.eval_steps.proofs.Leading.{itself, onward}
+use Rattle.eval_steps.proofs.Walking.{nowhere}
+use Rattle.eval_steps.proofs.Stacks.{resume_leads, ended_leads, all_ended_leads, all_ended_push, ended_push, spot_in_push}
 use Rattle.plan_eval.proofs.Applying.{innermost_top, runs_there}
 use Rattle.plan_eval.proofs.Entering.{spot_in_entry, ended_entry}
 

@@ -1,7 +1,6 @@
 -- An evaluation on the native stack: how far it came, and what waits where it stopped.
-use Rattle.std.specs.Prelude.{◌≡◌, ◌≢◌, ◌+◌, ◌*◌, ◌≤◌, ◌<◌, length, reverse, ℕ, ℤ, Bool, true, false, List, [], ◌∷◌, ◌++◌, Option, Some, None, IsSome, Result, Ok, Err, slice_get}
-use Rattle.plan_base.specs.declared.name.Name.{Name}
-use Rattle.plan_base.specs.declared.tree.Expr.{Expr}
+use Rattle.std.specs.Prelude.{◌≡◌, ◌≢◌, ◌+◌, ◌*◌, ◌≤◌, ◌<◌, if◌then◌else◌, length, map, reverse, ℕ, ℤ, Bool, true, false, List, [], ◌∷◌, ◌++◌, Option, Some, None, IsSome, Result, Ok, Err, slice_get}
+use Rattle.plan_base.specs.declared.tree.Expr.{Expr, Expr-F, out-Expr}
 use Rattle.plan_base.specs.declared.tree.Fun.{Fun}
 use Rattle.plan_base.specs.declared.tree.Program.{Program}
 use Rattle.plan_base.specs.declared.tree.Value.{Value}
@@ -9,21 +8,29 @@ use Rattle.plan_base.specs.declared.tree.Value as value
 use Rattle.plan_meaning.specs.declared.stop.Stop.{Stop}
 use Rattle.plan_meaning.specs.declared.stop.Stop.TheVariants.{Raised, NoMemory}
 use Rattle.plan_meaning.specs.State.{VisitState}
-use Rattle.plan_meaning.specs.Run.{Run, Step, gave, stopped, weighed}
-use Rattle.plan_meaning.specs.Meaning.{Env, bound, meaning}
-use Rattle.plan_eval.specs.declared.stack_frame.StackFrame.{StackFrame}
-use Rattle.plan_eval.specs.declared.stack_frame.StackFrame.TheVariants as frame
-use Rattle.plan_eval.specs.declared.stack_frame.Activation.{Activation}
-use Rattle.plan_eval.specs.declared.stack_frame.Mode.TheVariants as mode
+use Rattle.plan_meaning.specs.Run.{Run, Step, ◌>>=◌, gave, stopped, quiet, pure, wrong, weighed}
+use Rattle.plan_meaning.specs.Meaning.{Env, binds, bound, called, meaning}
+use Rattle.eval_steps.specs.declared.stack_frame.StackFrame.{StackFrame}
+use Rattle.eval_steps.specs.declared.stack_frame.StackFrame.TheVariants as frame
+use Rattle.eval_steps.specs.declared.stack_frame.Activation.{Activation}
+use Rattle.eval_steps.specs.declared.stack_frame.Mode.TheVariants as mode
 use Rattle.plan_eval.specs.declared.here.Here.{Here}
+use Rattle.plan_eval.specs.declared.here.Binding.{Binding}
+use Rattle.plan_base.specs.declared.name.Name.{Name}
+use Rattle.std.specs.Str.{bytes_eq}
 use Rattle.plan_eval.specs.declared.rest.Rest.{Rest}
+use Rattle.plan_eval.specs.declared.row.Row.{Row}
+use Rattle.plan_eval.specs.declared.row.Row.TheVariants as row
 use Rattle.plan_eval.specs.declared.rest.Flow.{Flow}
 use Rattle.plan_eval.specs.declared.rest.Flow.TheVariants as flow
+use Rattle.plan_eval.specs.declared.task.Task.{Task}
+use Rattle.plan_eval.specs.declared.task.Task.TheVariants as task
 use Rattle.plan_eval.specs.declared.turn.Turn.{Turn}
 use Rattle.plan_eval.specs.declared.turn.Turn.TheVariants as turn
-use Rattle.plan_eval.specs.Stack.{Spot, env_from, spot_from, resume, through, AreLinked, stands_for}
-use Rattle.plan_eval.specs.Nexts.{run_at, begins, next_step, call_of}
-use Rattle.plan_eval.specs.Leads.{Leads}
+use Rattle.eval_steps.specs.Stack.{Spot, env_from, spot_from, resume, through, AreLinked, stands_for}
+use Rattle.plan_base.specs.Trees.{ExprLayer}
+use Rattle.eval_steps.specs.Nexts.{run_at, begins, next_step}
+use Rattle.eval_steps.specs.Leads.{Leads}
 use Rattle.plan_eval.specs.Turns.{frames_in}
 
 -- ---- where
@@ -36,8 +43,24 @@ base_of None = []
 unfoldable pub env_of : Fun → List Value → List StackFrame → Env
 env_of f args frames = env_from (Some f.body) (base_of (bound f.params args)) frames
 
+-- the names that are bound inside the frames
+abbrev pub bound_here : List Binding → Env
+bound_here = map (λ b. binds b.name.now b.value.now)
+
+abbrev pub env_at_here : Here → Env
+env_at_here here = env_of here.function.now here.args.now here.frames.now ++ bound_here here.bindings.now
+
 abbrev pub spot : Here → Expr → Spot
-spot here e = record { expr = e; env = env_of here.function.now here.args.now here.frames.now }
+spot here e = record { expr = e; env = env_at_here here }
+
+-- an expression that sees one more name
+abbrev pub named_spot : Here → Name → Value → Expr → Spot
+named_spot here x v e = record { expr = e; env = env_at_here here ++ binds x v ∷ [] }
+
+-- what a name is bound to there, where it was bound to `before` outside
+abbrev pub bound_value : Name → Option Value → List Binding → Option Value
+bound_value x before [] = before
+bound_value x before (b ∷ bs) = bound_value x (if bytes_eq b.name.now x then Some b.value.now else before) bs
 
 -- its program has its number, and the function takes so many arguments
 pub record IsHere (codes : List Program) (here : Here) : Type 0 where
@@ -120,12 +143,37 @@ pub record Grows (old new : List Program) : Type 0 where
 abbrev pub IsNumber : Program → ℕ → Spot → ℤ → Type 0
 IsNumber code seen at n = (s : VisitState) → Leads (begins code seen at s) (weighed (value.Int n) s)
 
--- ---- arguments
+-- ---- parts in a row
 
--- a call with these values so far, and these arguments to be evaluated
-abbrev pub pending : Program → ℕ → Spot → Name → List Value → List Expr → VisitState → Step Value
-pending code seen at f held [] s = call_of code seen f held s
-pending code seen at f held (x ∷ more) s = resume code seen at (frame.Part (length held) held) (meaning code seen at.env x s)
+-- what a tuple, a call or a chunk makes of the values of its parts
+abbrev pub made_of : Program → ℕ → ExprLayer → List Value → Run Value
+made_of code seen (Expr-F.Tuple es) vs = pure (value.Tuple vs)
+made_of code seen (Expr-F.Call f es) vs = called meaning code seen f vs
+made_of code seen (Expr-F.ChunkOf f es) vs = pure (value.Chunk (record { code = code; entry = f; args = vs }))
+made_of code seen _ vs = wrong
+
+-- the same, weighed
+abbrev pub row_gave : Program → ℕ → Spot → List Value → VisitState → Step Value
+row_gave code seen at vs s = (made_of code seen (out-Expr at.expr) vs >>= weighed) s
+
+-- with these values so far, and these parts to be evaluated
+abbrev pub pending : Program → ℕ → Spot → List Value → List Expr → VisitState → Step Value
+pending code seen at held [] s = row_gave code seen at held s
+pending code seen at held (x ∷ more) s = resume code seen at (frame.Part (length held) held) (meaning code seen at.env x s)
+
+-- how far the parts of an expression at a spot came
+abbrev pub Rows : List Program → Program → ℕ → Spot → Step Value → Result Row Stop → VisitState → Type 0
+Rows codes code seen at want (Ok (row.All vs)) s = Leads want (row_gave code seen at vs s)
+Rows codes code seen at want (Ok (row.Wait r)) s = Waits codes code seen at want r s
+Rows codes code seen at want (Err e) s = e ≢ NoMemory → want.after ≡ stopped e s
+
+-- ---- tasks
+
+-- what a task makes of the expression at a spot
+abbrev pub task_step : Program → ℕ → Spot → Task → VisitState → Step Value
+task_step code seen at task.Begin s = meaning code seen at.env at.expr s
+task_step code seen at (task.Give f v) s = resume code seen at f (quiet (gave v s))
+task_step code seen at (task.Raise f x) s = resume code seen at f (quiet (stopped (Raised x) s))
 
 -- ---- how much is left to do
 
@@ -155,3 +203,18 @@ abbrev pub Turns : ℕ → Result Turn Stop → ℕ → Type 0
 Turns old (Ok (turn.More n)) new = new < old
 Turns old (Ok (turn.End f)) new = Lasts 3 old (Ok f) new
 Turns old (Err e) new = new ≤ old
+
+-- how many levels of evaluation stand on the native stack at once
+abbrev pub native_depth : ℕ
+native_depth = 256
+
+-- the same of a task
+abbrev pub Performs : Task → ℕ → Result Flow Stop → ℕ → Type 0
+Performs task.Begin old r new = Spends native_depth old r new
+Performs _ old r new = Lasts 3 old r new
+
+-- the same of the parts of an expression
+abbrev pub RowLasts : ℕ → Result Row Stop → ℕ → Type 0
+RowLasts old (Ok (row.All vs)) new = new ≤ old
+RowLasts old (Ok (row.Wait r)) new = Lasts 3 old (Ok (flow.Wait r)) new
+RowLasts old (Err e) new = new ≤ old

@@ -1,5 +1,5 @@
 -- Where an activation stands, and what a turn of a visit does.
-use Rattle.std.specs.Prelude.{◌+◌, ◌*◌, length, sum_by, if◌then◌else◌, ◌≡◌, ◌≢◌, ℕ, List, [], ◌∷◌, ◌++◌, slice_get, Option, Some, IsSome, Result, Ok, Err}
+use Rattle.std.specs.Prelude.{◌+◌, ◌*◌, length, sum_by, if◌then◌else◌, ◌≡◌, ◌≢◌, ℕ, List, [], ◌∷◌, ◌++◌, slice_get, Option, Some, Result, Ok, Err}
 use Rattle.std.specs.Str.{bytes_eq}
 use Rattle.plan_base.specs.declared.name.Name.{Name}
 use Rattle.plan_base.specs.declared.tree.Expr.{Expr}
@@ -12,12 +12,12 @@ use Rattle.plan_meaning.specs.declared.stop.Stop.TheVariants.{NoMemory}
 use Rattle.plan_meaning.specs.State.{VisitState}
 use Rattle.plan_meaning.specs.Run.{Step, stopped}
 use Rattle.plan_meaning.specs.Meaning.{Env}
-use Rattle.plan_eval.specs.declared.stack_frame.StackFrame.{StackFrame}
-use Rattle.plan_eval.specs.declared.stack_frame.Activation.{Activation}
-use Rattle.plan_eval.specs.declared.stack_frame.Mode.{Mode}
-use Rattle.plan_eval.specs.declared.stack_frame.Mode.TheVariants as mode
-use Rattle.plan_eval.specs.Leads.{Leads}
-use Rattle.plan_eval.specs.Stack.{Spot, deeper, expr_from, env_from, spot_in, AreLinked, stands_for}
+use Rattle.eval_steps.specs.declared.stack_frame.StackFrame.{StackFrame}
+use Rattle.eval_steps.specs.declared.stack_frame.Activation.{Activation}
+use Rattle.eval_steps.specs.declared.stack_frame.Mode.{Mode}
+use Rattle.eval_steps.specs.declared.stack_frame.Mode.TheVariants as mode
+use Rattle.eval_steps.specs.Leads.{Leads}
+use Rattle.eval_steps.specs.Stack.{Spot, expr_from, env_from, spot_in, AreLinked, stands_for}
 
 -- the program, the function and the innermost open expression of an activation
 pub record IsAt (codes : List Program) (a : Activation) (code : Program) (f : Fun) (e : Expr) : Type 0 where
@@ -48,10 +48,6 @@ pub record IsPlaced (old : List Program) (code : Program) (at : ℕ) (new : List
   pub more : List Program
   pub grown : new ≡ old ++ more
   pub there : slice_get new at ≡ Some code
-
--- a frame that can be added at a spot
-abbrev pub WaitsFor : Spot → StackFrame → Type 0
-WaitsFor at f = IsSome (deeper at f)
 
 -- A turn leads from one stack to the next, or the visit ends so. Of running out of memory nothing is said.
 abbrev pub Turned : Step Value → Result Mode Stop → List Program → List Activation → VisitState → Type 0

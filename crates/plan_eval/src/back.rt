@@ -8,21 +8,17 @@ ghost use Rattle.plan_meaning.specs.State.{VisitState, joined};
 ghost use Rattle.plan_meaning.specs.Run.{Step, gave, stopped, quiet, weighed};
 ghost use Rattle.plan_meaning.specs.Meaning.{Env};
 ghost use Rattle.plan_meaning.specs.Safe.{IsSafe};
-ghost use Rattle.plan_eval.specs.Stack.{Spot, deeper, resume};
-ghost use Rattle.plan_eval.specs.declared.stack_frame.StackFrame.TheVariants as frame;
+ghost use Rattle.eval_steps.specs.Stack.{Spot, deeper, resume};
+ghost use Rattle.eval_steps.specs.declared.stack_frame.StackFrame.TheVariants as frame;
 ghost use Rattle.plan_meaning.specs.declared.stop.Stop.TheVariants.{Raised};
 ghost use Rattle.plan_meaning.specs.declared.stop.Stop.TheVariants as stops;
-ghost use Rattle.plan_eval.specs.Nexts.{fold_on};
+ghost use Rattle.eval_steps.specs.Nexts.{fold_on};
 ghost use Rattle.plan_eval.specs.Direct.{spot, Flows, Bodies, Enters, Advances, Goes, Lasts, Spends, Turns, is_let, IsMore};
 
-use crate::fold::item_gave;
-use crate::given::frame_given;
 use crate::here::Here;
-use crate::next::Next;
-use crate::raise::frame_raised;
 use crate::rest::{Flow, above, inside};
-use crate::stack_frame::StackFrame;
 use crate::turn::Turn;
+use eval_steps::{Next, StackFrame, frame_given, frame_raised, item_gave};
 use plan_base::{Exn, Expr, Value, Values};
 use plan_meaning::Stop;
 use service_api::Services;
@@ -83,6 +79,25 @@ pub fn last_back(
     }
 }
 
+/// What sees a value under a name came so far.
+pub fn bound_back(
+    alloc: Global,
+    v: Value,
+    flow: Result<Flow, Stop>,
+    state: &mut State,
+) -> Result<Flow, Stop>
+    ensures flows { (codes : List Code) (code : Code) (seen : ℕ) (at inner : Spot) (c : Step AValue) (m : ServiceState) → deeper at (frame.Bound v) ≡ Some inner
+        → Flows codes code seen inner c flow (joined state.old m)
+        → Flows codes code seen at (resume code seen at (frame.Bound v) c) result (joined state.new m) }
+    ensures lasts { (depth old : ℕ) → Spends depth old flow state.old.work → Lasts 3 old result state.new.work }
+{
+    match flow {
+        Ok(Flow::Done(value)) => ended(alloc, value, state),
+        Ok(Flow::Wait(rest)) => Ok(inside(alloc, rest, StackFrame::Bound(v))?),
+        Err(stop) => Err(stop),
+    }
+}
+
 /// A function that was called came so far.
 pub fn called_back(alloc: Global, flow: Result<Flow, Stop>) -> Result<Turn, Stop>
     ensures advances { (codes : List Code) (code : Code) (seen : ℕ) (at : Spot) (c : Step AValue) (s : VisitState) → Enters codes c flow s
@@ -105,6 +120,19 @@ pub fn body_back(alloc: Global, flow: Result<Flow, Stop>, state: &mut State) -> 
     match flow {
         Ok(Flow::Done(v)) => ended(alloc, v, state),
         Ok(Flow::Wait(rest)) => Ok(inside(alloc, rest, StackFrame::Body)?),
+        Err(stop) => Err(stop),
+    }
+}
+
+/// The chunk of an `eval` of this program came so far.
+pub fn chunk_back(alloc: Global, flow: Result<Flow, Stop>, state: &mut State) -> Result<Flow, Stop>
+    ensures flows { (codes : List Code) (code : Code) (seen : ℕ) (at : Spot) (c : Step AValue) (m : ServiceState) → Enters codes c flow (joined state.old m)
+        → Flows codes code seen at (resume code seen at frame.Chunk c) result (joined state.new m) }
+    ensures lasts { (old : ℕ) → Goes old flow state.old.work → Lasts 3 old result state.new.work }
+{
+    match flow {
+        Ok(Flow::Done(_)) => ended(alloc, Value::Unit, state),
+        Ok(Flow::Wait(rest)) => Ok(inside(alloc, rest, StackFrame::Chunk)?),
         Err(stop) => Err(stop),
     }
 }

@@ -6,19 +6,18 @@ ghost use Rattle.plan_meaning.specs.Meaning.{bound, value_of};
 ghost use Rattle.plan_meaning.specs.Safe.{IsSafe};
 ghost use Rattle.plan_base.specs.declared.tree.Program.{Program as AProgram};
 ghost use Rattle.service_api.specs.Services.{ServiceState};
-ghost use Rattle.plan_eval.specs.Direct.{spot, env_of, Flows, IsNumber, Lasts};
-ghost use Rattle.plan_eval.specs.Nexts.{Decides, Starts, begins};
+ghost use Rattle.plan_base.specs.declared.tree.Value as value;
+ghost use Rattle.plan_meaning.specs.Run.{weighed};
+ghost use Rattle.eval_steps.specs.Stack.{Spot};
+ghost use Rattle.plan_eval.specs.Direct.{spot, env_at_here, Flows, IsNumber, Lasts};
+ghost use Rattle.eval_steps.specs.Nexts.{Decides, Starts, begins};
 
 use crate::back::ended;
-use crate::call::called;
-use crate::here::Here;
-use crate::kind::{Kind, kind_of};
-use crate::next::Next;
+use crate::here::{Here, bound_value};
 use crate::place::argument_of;
 use crate::rest::Flow;
-use crate::stack_frame::StackFrame;
-use crate::walk::value_from;
-use plan_base::{Chunk, Exn, Expr, Name, Program, Value};
+use eval_steps::{Kind, Next, StackFrame, called, kind_of, value_from};
+use plan_base::{Chunk, Exn, Expr, Name, Program, Value, Values};
 use plan_copies::Copied;
 use plan_items::{Boxed, Items, Shared};
 use plan_meaning::Stop;
@@ -26,22 +25,32 @@ use service_api::Services;
 use std::alloc::Global;
 use visit_state::State;
 
+/// What a name stands for, lent.
+#[tactic(auto, using(crate::proofs::Backs::here_name))]
+fn named_value<'a>(here: &Here<'a>, name: &Name) -> Option<&'a Value>
+    requires binds { IsSome (bound here.now.function.now.params here.now.args.now) }
+    ensures { option_copied result ≡ value_of name.now (env_at_here here.now) }
+{
+    let outside = argument_of(name, here.function.params.as_slice(), here.args);
+    let open = value_from(name, outside, &here.function.body, here.frames);
+    bound_value(name, open, here.bindings)
+}
+
 /// What a name stands for where an activation stands.
-#[tactic(auto, using(crate::proofs::Backs::gives_here, crate::proofs::Backs::none_here))]
+#[tactic(auto, using(crate::proofs::Beginning::gives_name, crate::proofs::Beginning::no_name))]
 fn named(alloc: Global, here: &Here<'_>, e: &Expr, name: &Name) -> Result<Next, Stop>
     requires form { out-Expr e.now ≡ Expr-F.Var name.now }
     requires binds { IsSome (bound here.now.function.now.params here.now.args.now) }
     ensures { (s : VisitState) → Decides here.now.code.now here.now.fun (spot here.now e.now) (begins here.now.code.now here.now.fun (spot here.now e.now) s) result s }
 {
-    let outside = argument_of(name, here.function.params.as_slice(), here.args);
-    match value_from(name, outside, &here.function.body, here.frames) {
+    match named_value(here, name) {
         Some(value) => Ok(Next::Give(value.copy(alloc)?)),
         None => Err(Stop::Wrong),
     }
 }
 
 /// What a name stands for.
-#[tactic(auto, using(crate::proofs::Backs::gives_here, crate::proofs::Backs::none_here))]
+#[tactic(auto, using(crate::proofs::Beginning::gives_name, crate::proofs::Beginning::no_name))]
 pub fn variable(
     alloc: Global,
     here: &Here<'_>,
@@ -55,8 +64,7 @@ pub fn variable(
         (begins here.now.code.now here.now.fun (spot here.now e.now) (joined state.old n)) result (joined state.new n) }
     ensures lasts { Lasts 3 state.old.work result state.new.work }
 {
-    let outside = argument_of(name, here.function.params.as_slice(), here.args);
-    match value_from(name, outside, &here.function.body, here.frames) {
+    match named_value(here, name) {
         Some(value) => ended(alloc, value.copy(alloc)?, state),
         None => Err(Stop::Wrong),
     }
@@ -76,16 +84,6 @@ pub fn number(
     ensures lasts { Lasts 3 state.old.work result state.new.work }
 {
     ended(alloc, Value::Int(n), state)
-}
-
-/// What a name stands for, lent.
-#[tactic(auto, using(crate::proofs::Backs::here_name))]
-fn named_value<'a>(here: &Here<'a>, name: &Name) -> Option<&'a Value>
-    requires binds { IsSome (bound here.now.function.now.params here.now.args.now) }
-    ensures { option_copied result ≡ value_of name.now (env_of here.now.function.now here.now.args.now here.now.frames.now) }
-{
-    let outside = argument_of(name, here.function.params.as_slice(), here.args);
-    value_from(name, outside, &here.function.body, here.frames)
 }
 
 /// The number that a name stands for.
@@ -114,6 +112,26 @@ pub fn leaf_number(here: &Here<'_>, e: &Expr) -> Option<i64>
     }
 }
 
+/// A chunk of this program.
+pub fn packed(
+    alloc: Global,
+    code: &Shared<Program>,
+    entry: &Name,
+    args: Values,
+    state: &mut State,
+) -> Result<Flow, Stop>
+    ensures flows { (codes : List AProgram) (seen : ℕ) (at : Spot) (m : ServiceState)
+        → Flows codes code.now seen at (weighed (value.Chunk (record { code = code.now; entry = entry.now; args = args })) (joined state.old m)) result (joined state.new m) }
+    ensures lasts { Lasts 3 state.old.work result state.new.work }
+{
+    let chunk = Chunk {
+        code: code.share()?,
+        entry: entry.copy(alloc)?,
+        args,
+    };
+    ended(alloc, Value::Chunk(Boxed::new(alloc, chunk)?), state)
+}
+
 /// A chunk without arguments.
 #[tactic(auto, using(crate::proofs::Beginning::packs_bare))]
 fn bare_chunk(alloc: Global, code: &Shared<Program>, entry: &Name) -> Result<Next, Stop>
@@ -128,7 +146,7 @@ fn bare_chunk(alloc: Global, code: &Shared<Program>, entry: &Name) -> Result<Nex
 }
 
 /// How an expression begins, once it spent 1.
-#[tactic(auto, using(crate::proofs::Beginning::gives_literal, crate::proofs::Beginning::no_type, crate::proofs::Beginning::raises_named, crate::proofs::Beginning::begins_call, crate::proofs::Deciding::opens_part))]
+#[tactic(auto, using(crate::proofs::Beginning::gives_literal, crate::proofs::Beginning::no_type, crate::proofs::Beginning::raises_named, crate::proofs::Beginning::begins_call, eval_steps::proofs::Deciding::opens_part))]
 pub fn begin<S: Services>(
     alloc: Global,
     here: &Here<'_>,

@@ -1,30 +1,33 @@
 //! Evaluation by recursion on the native stack, down to a depth; what is left there waits.
-ghost use Rattle.std.specs.Prelude.{◌≡◌, length, option_copied, IfOk, IsSome, Some, slice_get};
-ghost use Rattle.plan_base.specs.declared.tree.Expr.{Expr-F, out-Expr};
-ghost use Rattle.plan_eval.specs.declared.stack_frame.StackFrame.TheVariants as frame;
-ghost use Rattle.plan_eval.specs.Stack.{part_or_self};
+ghost use Rattle.std.specs.Prelude.{◌≡◌, [], length, IsSome, Some, slice_get};
+ghost use Rattle.plan_base.specs.declared.tree.Expr.{Expr, Expr-F, out-Expr};
+ghost use Rattle.plan_base.specs.declared.tree.Ty.{Ty};
+ghost use Rattle.eval_steps.specs.declared.stack_frame.StackFrame.TheVariants as frame;
+ghost use Rattle.plan_base.specs.declared.tree.Value as value;
+ghost use Rattle.plan_meaning.specs.Run.{weighed};
+ghost use Rattle.eval_steps.specs.Forms.{IsRow};
+ghost use Rattle.eval_steps.specs.Stack.{part_or_self, parts_of, resume};
 ghost use Rattle.plan_meaning.specs.State.{joined};
 ghost use Rattle.plan_meaning.specs.Meaning.{entered, meaning, visited};
 ghost use Rattle.plan_meaning.specs.Safe.{IsSafe};
-ghost use Rattle.plan_eval.specs.declared.next.Next.TheVariants as next;
-ghost use Rattle.plan_eval.specs.Nexts.{begins, call_of, next_step};
-ghost use Rattle.plan_eval.specs.Turns.{IsPlaced};
-ghost use Rattle.plan_eval.specs.Direct.{spot, IsHere, Flows, Bodies, Enters, Advances, Grows, Goes, Lasts, Spends, Turns};
+ghost use Rattle.eval_steps.specs.declared.next.Next.TheVariants as next;
+ghost use Rattle.eval_steps.specs.Nexts.{begins, call_of, next_step};
+ghost use Rattle.plan_eval.specs.Direct.{spot, IsHere, Flows, Bodies, Enters, Advances, Grows, Goes, Lasts, RowLasts, Rows, Spends, Turns, named_spot, row_gave};
 
 use crate::back::{
-    args_back, body_back, called_back, ended, give, is_bound, last_back, part_back, stepped_back,
-    visited_back,
+    args_back, body_back, bound_back, called_back, chunk_back, ended, give, is_bound, last_back,
+    part_back, stepped_back, visited_back,
 };
-use crate::begin::{begin, leaf_number, number, variable};
-use crate::call::called;
-use crate::here::Here;
-use crate::next::Next;
-use crate::operand::{numbers, operands_back};
-use crate::rest::{Flow, inside, pause, pause_in};
-use crate::stack_frame::{Codes, StackFrame};
+use crate::begin::{begin, leaf_number, number, packed, variable};
+use crate::here::{Binding, Here};
+use crate::operators::{numbers, operands_back};
+use crate::packed::pay_packed;
+use crate::place::open_code;
+use crate::rest::{Flow, inside, pause, pause_in, stopped_in};
+use crate::row::Row;
 use crate::turn::Turn;
-use crate::walk::part_or_self;
-use plan_base::{Chunk, Expr, Fun, Name, NoMemory, Op, Program, Values};
+use eval_steps::{Codes, Next, StackFrame, called, part_at, part_or_self};
+use plan_base::{Chunk, Expr, Exprs, Fun, Name, NoMemory, Op, Program, Value, Values};
 use plan_items::{Items, Shared};
 use plan_meaning::Stop;
 use service_api::Services;
@@ -56,50 +59,32 @@ pub fn evaluate<S: Services>(
     ensures begun { (S.stands svc.new).begun ≡ (S.stands svc.old).begun }
 {
     if depth == 0 {
-        return Ok(pause(alloc)?);
+        return Ok(pause(alloc));
     }
     if !state.pays(1) {
         return Err(Stop::WorkSpent);
     }
+    let below = depth - 1;
     match e {
         Expr::Int(n) => number(alloc, here, e, *n, state),
         Expr::Var(x) => variable(alloc, here, e, x, state),
-        Expr::If(t, a, b) => choice(
-            alloc,
-            codes,
-            here,
-            e,
-            t.get(),
-            a.get(),
-            b.get(),
-            depth - 1,
-            state,
-            svc,
-        ),
-        Expr::Binary(op, a, b) => operation(
-            alloc,
-            codes,
-            here,
-            e,
-            *op,
-            a.get(),
-            b.get(),
-            depth - 1,
-            state,
-            svc,
-        ),
-        Expr::Call(f, es) => call(
-            alloc,
-            codes,
-            here,
-            e,
-            f,
-            es.as_slice(),
-            depth - 1,
-            state,
-            svc,
-        ),
-        _ => general(alloc, codes, here, e, depth - 1, state, svc),
+        Expr::If(t, a, b) => {
+            let (t, a, b) = (t.get(), a.get(), b.get());
+            choice(alloc, codes, here, e, t, a, b, below, state, svc)
+        }
+        Expr::Binary(op, a, b) => {
+            let (a, b) = (a.get(), b.get());
+            operation(alloc, codes, here, e, *op, a, b, below, state, svc)
+        }
+        Expr::Tuple(es) => row(alloc, codes, here, e, es, below, state, svc),
+        Expr::Call(_, es) => row(alloc, codes, here, e, es, below, state, svc),
+        Expr::ChunkOf(_, es) => row(alloc, codes, here, e, es, below, state, svc),
+        Expr::Let(x, _, a, b) => {
+            let (a, b) = (a.get(), b.get());
+            binding(alloc, codes, here, e, x, a, b, below, state, svc)
+        }
+        Expr::Eval(a) => eval(alloc, codes, here, e, a.get(), below, state, svc),
+        _ => general(alloc, codes, here, e, below, state, svc),
     }
 }
 
@@ -239,30 +224,61 @@ fn operation<S: Services>(
     }
 }
 
-/// The argument with that number, from 0.
-fn argument_at(es: &[Expr], n: usize) -> Option<&Expr>
-    ensures { option_copied result ≡ slice_get es.now n }
-{
-    match es.get(n) {
-        Some(e) => Some(e),
-        None => None,
-    }
-}
-
-/// Evaluates the arguments of a call, and calls.
+/// Evaluates the parts of a tuple, a call or a chunk in their order.
 #[cycle(evaluate)]
-fn call<S: Services>(
+#[inline]
+fn all_parts<S: Services>(
     alloc: Global,
     codes: &mut Codes,
     here: &Here<'_>,
     e: &Expr,
-    f: &Name,
     es: &[Expr],
     depth: u64,
     state: &mut State,
     svc: &mut S,
+) -> Result<Row, Stop>
+    requires form { IsRow (out-Expr e.now) }
+    requires parts { parts_of (out-Expr e.now) ≡ es.now }
+    requires open { IsSome (S.stands svc.old).begun }
+    requires here { IsHere codes.old here.now }
+    requires safe { IsSafe (begins here.now.code.now here.now.fun (spot here.now e.now) (joined state.old (S.stands svc.old))).asks }
+    ensures rows { Rows codes.new here.now.code.now here.now.fun (spot here.now e.now)
+        (begins here.now.code.now here.now.fun (spot here.now e.now) (joined state.old (S.stands svc.old)))
+        result (joined state.new (S.stands svc.new)) }
+    ensures lasts { RowLasts state.old.work result state.new.work }
+    ensures grown { Grows codes.old codes.new }
+    ensures offer { (S.stands svc.new).offer ≡ (S.stands svc.old).offer }
+    ensures begun { (S.stands svc.new).begun ≡ (S.stands svc.old).begun }
+{
+    let mut held = Items::new(alloc);
+    while let Some(x) = part_at(es, held.len()) {
+        match evaluate(alloc, codes, here, x, depth, state, svc) {
+            Ok(Flow::Done(v)) => held.add(v)?,
+            Ok(Flow::Wait(rest)) => return Ok(stopped_in(
+                alloc,
+                rest,
+                StackFrame::Part(held.len(), held),
+            )?),
+            Err(stop) => return Err(stop),
+        }
+    }
+    Ok(Row::All(held))
+}
+
+/// Evaluates a tuple, a call or a chunk.
+#[cycle(evaluate)]
+fn row<S: Services>(
+    alloc: Global,
+    codes: &mut Codes,
+    here: &Here<'_>,
+    e: &Expr,
+    es: &Exprs,
+    depth: u64,
+    state: &mut State,
+    svc: &mut S,
 ) -> Result<Flow, Stop>
-    requires form { out-Expr e.now ≡ Expr-F.Call f.now es.now }
+    requires form { IsRow (out-Expr e.now) }
+    requires parts { parts_of (out-Expr e.now) ≡ es.now }
     requires open { IsSome (S.stands svc.old).begun }
     requires here { IsHere codes.old here.now }
     requires safe { IsSafe (begins here.now.code.now here.now.fun (spot here.now e.now) (joined state.old (S.stands svc.old))).asks }
@@ -274,19 +290,43 @@ fn call<S: Services>(
     ensures offer { (S.stands svc.new).offer ≡ (S.stands svc.old).offer }
     ensures begun { (S.stands svc.new).begun ≡ (S.stands svc.old).begun }
 {
-    let mut args = Items::new(alloc);
-    while let Some(x) = argument_at(es, args.len()) {
-        match evaluate(alloc, codes, here, x, depth, state, svc) {
-            Ok(Flow::Done(v)) => args.add(v)?,
-            Ok(Flow::Wait(rest)) => return Ok(inside(
-                alloc,
-                rest,
-                StackFrame::Part(args.len(), args),
-            )?),
-            Err(stop) => return Err(stop),
-        }
+    match all_parts(alloc, codes, here, e, es.as_slice(), depth, state, svc) {
+        Ok(Row::All(values)) => made(alloc, codes, here, e, values, depth, state, svc),
+        Ok(Row::Wait(rest)) => Ok(Flow::Wait(rest)),
+        Err(stop) => Err(stop),
     }
-    invoke(alloc, codes, here, e, f, args, depth, state, svc)
+}
+
+/// What a tuple, a call or a chunk makes of the values of its parts.
+#[cycle(evaluate)]
+#[tactic(auto, using(plan_base::specs::Trees::trees))]
+fn made<S: Services>(
+    alloc: Global,
+    codes: &mut Codes,
+    here: &Here<'_>,
+    e: &Expr,
+    values: Values,
+    depth: u64,
+    state: &mut State,
+    svc: &mut S,
+) -> Result<Flow, Stop>
+    requires open { IsSome (S.stands svc.old).begun }
+    requires here { IsHere codes.old here.now }
+    requires safe { IsSafe (row_gave here.now.code.now here.now.fun (spot here.now e.now) values (joined state.old (S.stands svc.old))).asks }
+    ensures flows { Flows codes.new here.now.code.now here.now.fun (spot here.now e.now)
+        (row_gave here.now.code.now here.now.fun (spot here.now e.now) values (joined state.old (S.stands svc.old)))
+        result (joined state.new (S.stands svc.new)) }
+    ensures lasts { Lasts 3 state.old.work result state.new.work }
+    ensures grown { Grows codes.old codes.new }
+    ensures offer { (S.stands svc.new).offer ≡ (S.stands svc.old).offer }
+    ensures begun { (S.stands svc.new).begun ≡ (S.stands svc.old).begun }
+{
+    match e {
+        Expr::Call(f, _) => invoke(alloc, codes, here, e, f, values, depth, state, svc),
+        Expr::ChunkOf(f, _) => packed(alloc, here.code, f, values, state),
+        Expr::Tuple(_) => ended(alloc, Value::Tuple(values), state),
+        _ => Err(Stop::Wrong),
+    }
 }
 
 /// Calls a function, a service or a primitive.
@@ -313,20 +353,11 @@ fn invoke<S: Services>(
     ensures offer { (S.stands svc.new).offer ≡ (S.stands svc.old).offer }
     ensures begun { (S.stands svc.new).begun ≡ (S.stands svc.old).begun }
 {
-    match called(alloc, here.code, here.fun, f, args, state, svc) {
+    let (code, number) = (here.code, here.number);
+    match called(alloc, code, here.fun, f, args, state, svc) {
         Ok(Next::Give(v)) => ended(alloc, v, state),
         Ok(Next::Call(fun, passed)) => {
-            let flow = enter(
-                alloc,
-                codes,
-                here.code,
-                here.number,
-                fun,
-                passed,
-                depth,
-                state,
-                svc,
-            );
+            let flow = enter(alloc, codes, code, number, fun, passed, depth, state, svc);
             body_back(alloc, flow, state)
         }
         Ok(next) => proceed(alloc, codes, here, e, next, depth, state, svc),
@@ -334,10 +365,211 @@ fn invoke<S: Services>(
     }
 }
 
+/// Evaluates a chunk.
+#[cycle(evaluate)]
+fn eval<S: Services>(
+    alloc: Global,
+    codes: &mut Codes,
+    here: &Here<'_>,
+    e: &Expr,
+    a: &Expr,
+    depth: u64,
+    state: &mut State,
+    svc: &mut S,
+) -> Result<Flow, Stop>
+    requires form { out-Expr e.now ≡ Expr-F.Eval a.now }
+    requires open { IsSome (S.stands svc.old).begun }
+    requires here { IsHere codes.old here.now }
+    requires safe { IsSafe (begins here.now.code.now here.now.fun (spot here.now e.now) (joined state.old (S.stands svc.old))).asks }
+    ensures flows { Flows codes.new here.now.code.now here.now.fun (spot here.now e.now)
+        (begins here.now.code.now here.now.fun (spot here.now e.now) (joined state.old (S.stands svc.old)))
+        result (joined state.new (S.stands svc.new)) }
+    ensures lasts { Lasts 3 state.old.work result state.new.work }
+    ensures grown { Grows codes.old codes.new }
+    ensures offer { (S.stands svc.new).offer ≡ (S.stands svc.old).offer }
+    ensures begun { (S.stands svc.new).begun ≡ (S.stands svc.old).begun }
+{
+    match a {
+        Expr::ChunkOf(f, es) if depth > 0 => {
+            eval_packing(alloc, codes, here, e, a, f, es, depth - 1, state, svc)
+        }
+        _ => general(alloc, codes, here, e, depth, state, svc),
+    }
+}
+
+/// Evaluates a chunk of this program, which is not made: first its arguments.
+#[cycle(evaluate)]
+fn eval_packing<S: Services>(
+    alloc: Global,
+    codes: &mut Codes,
+    here: &Here<'_>,
+    e: &Expr,
+    a: &Expr,
+    f: &Name,
+    es: &Exprs,
+    depth: u64,
+    state: &mut State,
+    svc: &mut S,
+) -> Result<Flow, Stop>
+    requires form { out-Expr e.now ≡ Expr-F.Eval a.now }
+    requires packs { out-Expr a.now ≡ Expr-F.ChunkOf f.now es.now }
+    requires open { IsSome (S.stands svc.old).begun }
+    requires here { IsHere codes.old here.now }
+    requires safe { IsSafe (begins here.now.code.now here.now.fun (spot here.now e.now) (joined state.old (S.stands svc.old))).asks }
+    ensures flows { Flows codes.new here.now.code.now here.now.fun (spot here.now e.now)
+        (begins here.now.code.now here.now.fun (spot here.now e.now) (joined state.old (S.stands svc.old)))
+        result (joined state.new (S.stands svc.new)) }
+    ensures lasts { Lasts 3 state.old.work result state.new.work }
+    ensures grown { Grows codes.old codes.new }
+    ensures offer { (S.stands svc.new).offer ≡ (S.stands svc.old).offer }
+    ensures begun { (S.stands svc.new).begun ≡ (S.stands svc.old).begun }
+{
+    if !state.pays(1) {
+        return Err(Stop::WorkSpent);
+    }
+    match all_parts(alloc, codes, here, a, es.as_slice(), depth, state, svc) {
+        Ok(Row::All(args)) => eval_packed(alloc, codes, here, e, f, args, depth, state, svc),
+        Ok(Row::Wait(rest)) => Ok(inside(alloc, rest, StackFrame::Part(0, Items::new(alloc)))?),
+        Err(stop) => Err(stop),
+    }
+}
+
+/// Weighs it, pays and evaluates it.
+#[cycle(evaluate)]
+fn eval_packed<S: Services>(
+    alloc: Global,
+    codes: &mut Codes,
+    here: &Here<'_>,
+    e: &Expr,
+    f: &Name,
+    args: Values,
+    depth: u64,
+    state: &mut State,
+    svc: &mut S,
+) -> Result<Flow, Stop>
+    requires form { (a : Expr) × (out-Expr e.now ≡ Expr-F.Eval a) }
+    requires open { IsSome (S.stands svc.old).begun }
+    requires here { IsHere codes.old here.now }
+    requires safe { IsSafe (resume here.now.code.now here.now.fun (spot here.now e.now) (frame.Part 0 []) (weighed (value.Chunk (record { code = here.now.code.now; entry = f.now; args = args })) (joined state.old (S.stands svc.old)))).asks }
+    ensures flows { Flows codes.new here.now.code.now here.now.fun (spot here.now e.now)
+        (resume here.now.code.now here.now.fun (spot here.now e.now) (frame.Part 0 []) (weighed (value.Chunk (record { code = here.now.code.now; entry = f.now; args = args })) (joined state.old (S.stands svc.old))))
+        result (joined state.new (S.stands svc.new)) }
+    ensures lasts { Lasts 3 state.old.work result state.new.work }
+    ensures grown { Grows codes.old codes.new }
+    ensures offer { (S.stands svc.new).offer ≡ (S.stands svc.old).offer }
+    ensures begun { (S.stands svc.new).begun ≡ (S.stands svc.old).begun }
+{
+    match pay_packed(alloc, here.code, f, args.as_slice(), state) {
+        Ok(()) => visit_here(alloc, codes, here, e, f, args, depth, state, svc),
+        Err(stop) => Err(stop),
+    }
+}
+
+/// Enters a chunk of this program, which was paid.
+#[cycle(evaluate)]
+fn visit_here<S: Services>(
+    alloc: Global,
+    codes: &mut Codes,
+    here: &Here<'_>,
+    e: &Expr,
+    f: &Name,
+    args: Values,
+    depth: u64,
+    state: &mut State,
+    svc: &mut S,
+) -> Result<Flow, Stop>
+    requires open { IsSome (S.stands svc.old).begun }
+    requires here { IsHere codes.old here.now }
+    requires safe { IsSafe (next_step here.now.code.now here.now.fun (spot here.now e.now) (next.Visit (record { code = here.now.code.now; entry = f.now; args = args })) (joined state.old (S.stands svc.old))).asks }
+    ensures flows { Flows codes.new here.now.code.now here.now.fun (spot here.now e.now)
+        (next_step here.now.code.now here.now.fun (spot here.now e.now) (next.Visit (record { code = here.now.code.now; entry = f.now; args = args })) (joined state.old (S.stands svc.old)))
+        result (joined state.new (S.stands svc.new)) }
+    ensures lasts { Lasts 3 state.old.work result state.new.work }
+    ensures grown { Grows codes.old codes.new }
+    ensures offer { (S.stands svc.new).offer ≡ (S.stands svc.old).offer }
+    ensures begun { (S.stands svc.new).begun ≡ (S.stands svc.old).begun }
+{
+    let Some(fun) = place_of(f, here.code.get().funs.as_slice()) else {
+        return Err(Stop::Wrong);
+    };
+    let (code, number) = (here.code, here.number);
+    let flow = enter(alloc, codes, code, number, fun, args, depth, state, svc);
+    chunk_back(alloc, flow, state)
+}
+
+/// Evaluates a value, and what sees it under a name.
+#[cycle(evaluate)]
+fn binding<S: Services>(
+    alloc: Global,
+    codes: &mut Codes,
+    here: &Here<'_>,
+    e: &Expr,
+    x: &Name,
+    a: &Expr,
+    b: &Expr,
+    depth: u64,
+    state: &mut State,
+    svc: &mut S,
+) -> Result<Flow, Stop>
+    requires form { (t : Ty) × (out-Expr e.now ≡ Expr-F.Let x.now t a.now b.now) }
+    requires open { IsSome (S.stands svc.old).begun }
+    requires here { IsHere codes.old here.now }
+    requires safe { IsSafe (begins here.now.code.now here.now.fun (spot here.now e.now) (joined state.old (S.stands svc.old))).asks }
+    ensures flows { Flows codes.new here.now.code.now here.now.fun (spot here.now e.now)
+        (begins here.now.code.now here.now.fun (spot here.now e.now) (joined state.old (S.stands svc.old)))
+        result (joined state.new (S.stands svc.new)) }
+    ensures lasts { Lasts 3 state.old.work result state.new.work }
+    ensures grown { Grows codes.old codes.new }
+    ensures offer { (S.stands svc.new).offer ≡ (S.stands svc.old).offer }
+    ensures begun { (S.stands svc.new).begun ≡ (S.stands svc.old).begun }
+{
+    match evaluate(alloc, codes, here, a, depth, state, svc) {
+        Ok(Flow::Done(v)) => {
+            let flow = under_name(alloc, codes, here, x, &v, b, depth, state, svc);
+            bound_back(alloc, v, flow, state)
+        }
+        Ok(Flow::Wait(rest)) => Ok(inside(alloc, rest, StackFrame::Part(0, Items::new(alloc)))?),
+        Err(stop) => Err(stop),
+    }
+}
+
+/// Evaluates an expression that sees one more name.
+#[cycle(evaluate)]
+fn under_name<S: Services>(
+    alloc: Global,
+    codes: &mut Codes,
+    here: &Here<'_>,
+    x: &Name,
+    v: &Value,
+    b: &Expr,
+    depth: u64,
+    state: &mut State,
+    svc: &mut S,
+) -> Result<Flow, Stop>
+    requires open { IsSome (S.stands svc.old).begun }
+    requires here { IsHere codes.old here.now }
+    requires safe { IsSafe (meaning here.now.code.now here.now.fun (named_spot here.now x.now v.now b.now).env b.now (joined state.old (S.stands svc.old))).asks }
+    ensures flows { Flows codes.new here.now.code.now here.now.fun (named_spot here.now x.now v.now b.now)
+        (meaning here.now.code.now here.now.fun (named_spot here.now x.now v.now b.now).env b.now (joined state.old (S.stands svc.old)))
+        result (joined state.new (S.stands svc.new)) }
+    ensures spends { Spends depth state.old.work result state.new.work }
+    ensures grown { Grows codes.old codes.new }
+    ensures offer { (S.stands svc.new).offer ≡ (S.stands svc.old).offer }
+    ensures begun { (S.stands svc.new).begun ≡ (S.stands svc.old).begun }
+{
+    let mut bindings = Items::from_slice(alloc, here.bindings)?;
+    bindings.add(Binding { name: x, value: v })?;
+    let inner = Here {
+        bindings: bindings.as_slice(),
+        ..*here
+    };
+    evaluate(alloc, codes, &inner, b, depth, state, svc)
+}
+
 /// Goes on with an open expression.
 #[cycle(evaluate)]
 #[inline(never)]
-fn proceed<S: Services>(
+pub fn proceed<S: Services>(
     alloc: Global,
     codes: &mut Codes,
     here: &Here<'_>,
@@ -391,35 +623,16 @@ fn advance<S: Services>(
     ensures offer { (S.stands svc.new).offer ≡ (S.stands svc.old).offer }
     ensures begun { (S.stands svc.new).begun ≡ (S.stands svc.old).begun }
 {
+    let (code, number) = (here.code, here.number);
     match now {
         Next::Give(v) => give(alloc, v, state),
         Next::Open(frame) => opened(alloc, codes, here, e, frame, depth, state, svc),
         Next::Call(fun, args) => {
-            let flow = enter(
-                alloc,
-                codes,
-                here.code,
-                here.number,
-                fun,
-                args,
-                depth,
-                state,
-                svc,
-            );
+            let flow = enter(alloc, codes, code, number, fun, args, depth, state, svc);
             called_back(alloc, flow)
         }
         Next::Step(fun, args, left) => {
-            let flow = enter(
-                alloc,
-                codes,
-                here.code,
-                here.number,
-                fun,
-                args,
-                depth,
-                state,
-                svc,
-            );
+            let flow = enter(alloc, codes, code, number, fun, args, depth, state, svc);
             stepped_back(alloc, here, e, left, flow)
         }
         Next::Visit(chunk) => {
@@ -522,6 +735,7 @@ fn body_flow<S: Services>(
     ensures begun { (S.stands svc.new).begun ≡ (S.stands svc.old).begun }
 {
     let none = Items::new(alloc);
+    let bare = Items::new(alloc);
     let here = Here {
         code,
         number,
@@ -529,19 +743,9 @@ fn body_flow<S: Services>(
         function,
         args: args.as_slice(),
         frames: none.as_slice(),
+        bindings: bare.as_slice(),
     };
     evaluate(alloc, codes, &here, &function.body, depth, state, svc)
-}
-
-/// The number of a program that comes behind those that are open.
-#[tactic(auto, using(crate::proofs::Diving::placed_one, crate::proofs::Diving::grows_none, crate::proofs::Diving::grows_one))]
-fn open_code(codes: &mut Codes, code: &Shared<Program>) -> Result<usize, NoMemory>
-    ensures placed { IfOk result (λ n. IsPlaced codes.old code.now n codes.new) }
-    ensures grown { Grows codes.old codes.new }
-{
-    let number = codes.len();
-    codes.add(code.share()?)?;
-    Ok(number)
 }
 
 /// Evaluates a chunk.

@@ -1,7 +1,20 @@
 //! Where an expression is evaluated.
-use crate::stack_frame::StackFrame;
-use plan_base::{Fun, Program, Value};
+ghost use Rattle.std.specs.Prelude.{◌≡◌};
+ghost use Rattle.std.specs.Option.{option_copied};
+ghost use Rattle.plan_eval.specs.Direct.{bound_value};
+
+use eval_steps::{StackFrame, same_name};
+use plan_base::{Fun, Name, Program, Value};
 use plan_items::Shared;
+
+/// A name that a `let` binds.
+#[derive(Clone, Copy)]
+pub struct Binding<'a> {
+    /// The name.
+    pub name: &'a Name,
+    /// Its value.
+    pub value: &'a Value,
+}
 
 /// The body in which an expression is evaluated.
 #[derive(Clone, Copy)]
@@ -18,4 +31,25 @@ pub struct Here<'a> {
     pub args: &'a [Value],
     /// The open expressions of the body that stand outside, the innermost last.
     pub frames: &'a [StackFrame],
+    /// The names that are bound inside those, the innermost last.
+    pub bindings: &'a [Binding<'a>],
+}
+
+/// What a name stands for among those that are bound, where it stands for `before` outside.
+pub fn bound_value<'a>(
+    name: &Name,
+    before: Option<&'a Value>,
+    bindings: &[Binding<'a>],
+) -> Option<&'a Value>
+    ensures { option_copied result ≡ bound_value name.now (option_copied before.entry) bindings.now }
+{
+    let mut found = before;
+    let mut left = bindings;
+    while let [b, more @ ..] = left {
+        if same_name(b.name, name) {
+            found = Some(b.value);
+        }
+        left = more;
+    }
+    found
 }

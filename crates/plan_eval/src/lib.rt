@@ -1,28 +1,19 @@
-//! Visits: the evaluation of a packet's chunk on an explicit stack.
+//! Visits: the evaluation of a packet's chunk, by recursion to a depth and on a stack.
 #![tactic(auto)]
 
-mod apply;
 mod back;
 mod begin;
-mod call;
 mod direct;
-mod fold;
-mod gather;
-mod given;
 mod here;
-mod kind;
 mod machine;
-mod next;
-mod operand;
-mod parts;
+mod numbers;
+mod operators;
+mod packed;
 mod place;
-mod pure;
-mod raise;
 mod rest;
-mod send;
-mod stack_frame;
+mod row;
+mod task;
 mod turn;
 mod visiting;
-mod walk;
 
 pub use visiting::visit;

@@ -1,32 +1,123 @@
 //! The turns of a visit.
-ghost use Rattle.std.specs.Prelude.{◌≡◌, ◌<◌, ◌∷◌, ◌++◌, [], ℕ, List, IfOk, IsSome, Some, slice_get};
-ghost use Rattle.service_api.specs.Services.{ServiceState};
+ghost use Rattle.std.specs.Prelude.{◌≡◌, ◌+◌, ◌<◌, ◌≤◌, ◌∷◌, ◌++◌, [], ℕ, List, IfOk, IsSome, Some, slice_get};
 ghost use Rattle.plan_meaning.specs.State.{joined};
 ghost use Rattle.plan_meaning.specs.Safe.{IsSafe};
 ghost use Rattle.visit_state.specs.Meets.{Meets};
-ghost use Rattle.plan_eval.specs.declared.stack_frame.Mode.TheVariants as mode;
+ghost use Rattle.eval_steps.specs.declared.stack_frame.Mode.TheVariants as mode;
 ghost use Rattle.plan_base.specs.declared.tree.Program.{Program as Code};
 ghost use Rattle.plan_base.specs.declared.tree.Value.{Value as AValue};
 ghost use Rattle.plan_meaning.specs.State.{VisitState};
 ghost use Rattle.plan_meaning.specs.Run.{Step};
-ghost use Rattle.plan_meaning.specs.Meaning.{meaning};
-ghost use Rattle.plan_eval.specs.Direct.{Flows, Grows, Spends};
-ghost use Rattle.plan_eval.specs.Stack.{Spot, spot_in, ended, all_ended, AreLinked, stands_for};
+ghost use Rattle.plan_eval.specs.Direct.{Flows, Grows, Lasts, Performs, Spends, task_step};
+ghost use Rattle.eval_steps.specs.Stack.{Spot, spot_in, ended, all_ended, AreLinked, stands_for};
 ghost use Rattle.plan_eval.specs.Turns.{Stands, Turned, load};
 
-use crate::apply::apply;
-use crate::direct::evaluate;
-use crate::given::give_top;
 use crate::here::Here;
-use crate::raise::raise_top;
 use crate::rest::{Flow, stacked};
-use crate::stack_frame::{Activation, Activations, Codes, Mode};
-use crate::walk::expr_from;
+use crate::task::{Task, perform};
+use eval_steps::{Activation, Activations, Codes, Mode, expr_from};
 use plan_base::{Exn, Value};
+use plan_items::Items;
 use plan_meaning::Stop;
 use service_api::Services;
 use std::alloc::Global;
 use visit_state::State;
+
+/// What came of the innermost expression, on the stack.
+fn landed(outer: &mut Activations, top: Activation, flow: Result<Flow, Stop>) -> Result<Mode, Stop>
+    ensures turned { (codes : List Code) (code : Code) (at : Spot) (want : Step AValue) (s : VisitState) → Stands codes outer.old top code at
+        → Flows codes code top.fun at want flow s → Turned (all_ended codes outer.old (ended codes top want)) result codes outer.new s }
+    ensures shrinks { (depth old new : ℕ) → 0 < depth → Spends depth old flow new
+        → IfOk result (λ how. load how outer.new new < load mode.Run (outer.old ++ top ∷ []) old) }
+    ensures bounded { (old new : ℕ) → Lasts 3 old flow new
+        → IfOk result (λ how. load how outer.new new ≤ load mode.Run (outer.old ++ top ∷ []) old + 3) }
+{
+    match flow {
+        Ok(Flow::Done(v)) => {
+            if top.frames.is_empty() {
+                return Ok(Mode::Give(v));
+            }
+            outer.add(top)?;
+            Ok(Mode::Give(v))
+        }
+        Ok(Flow::Wait(rest)) => {
+            stacked(outer, top, rest)?;
+            Ok(Mode::Run)
+        }
+        Err(Stop::Raised(x)) => {
+            outer.add(top)?;
+            Ok(Mode::Raise(x))
+        }
+        Err(Stop::WorkSpent) => Err(Stop::WorkSpent),
+        Err(Stop::Wrong) => Err(Stop::Wrong),
+        Err(Stop::NoMemory) => Err(Stop::NoMemory),
+    }
+}
+
+/// How far the innermost expression of an activation comes with a task on the native stack.
+#[tactic(auto, using(crate::proofs::Naming::no_code, crate::proofs::Naming::no_function, crate::proofs::Naming::no_expression))]
+fn run_top<S: Services>(
+    alloc: Global,
+    codes: &mut Codes,
+    top: &Activation,
+    task: Task,
+    state: &mut State,
+    svc: &mut S,
+) -> Result<Flow, Stop>
+    requires open { IsSome (S.stands svc.old).begun }
+    requires linked { IsSome (spot_in codes.old top.now) }
+    requires safe { (code : Code) (at : Spot) → slice_get codes.old top.now.code ≡ Some code → spot_in codes.old top.now ≡ Some at
+        → IsSafe (task_step code top.now.fun at task (joined state.old (S.stands svc.old))).asks }
+    ensures flows { (code : Code) (at : Spot) → slice_get codes.old top.now.code ≡ Some code → spot_in codes.old top.now ≡ Some at
+        → Flows codes.new code top.now.fun at (task_step code top.now.fun at task (joined state.old (S.stands svc.old))) result (joined state.new (S.stands svc.new)) }
+    ensures performs { Performs task state.old.work result state.new.work }
+    ensures grown { Grows codes.old codes.new }
+    ensures offer { (S.stands svc.new).offer ≡ (S.stands svc.old).offer }
+    ensures begun { (S.stands svc.new).begun ≡ (S.stands svc.old).begun }
+{
+    let Some(shared) = codes.get(top.code) else {
+        return Err(Stop::Wrong);
+    };
+    let code = shared.share()?;
+    let Some(function) = code.get().funs.get(top.fun) else {
+        return Err(Stop::Wrong);
+    };
+    let Some(expr) = expr_from(&function.body, top.frames.as_slice()) else {
+        return Err(Stop::Wrong);
+    };
+    let none = Items::new(alloc);
+    let here = Here {
+        code: &code,
+        number: top.code,
+        fun: top.fun,
+        function,
+        args: top.args.as_slice(),
+        frames: top.frames.as_slice(),
+        bindings: none.as_slice(),
+    };
+    perform(alloc, codes, &here, expr, task, state, svc)
+}
+
+/// Evaluates the innermost expression of the innermost activation, which is off the stack.
+fn begin<S: Services>(
+    alloc: Global,
+    codes: &mut Codes,
+    outer: &mut Activations,
+    top: Activation,
+    state: &mut State,
+    svc: &mut S,
+) -> Result<Mode, Stop>
+    requires open { IsSome (S.stands svc.old).begun }
+    requires linked { AreLinked codes.old (outer.old ++ top ∷ []) }
+    requires safe { IsSafe (stands_for codes.old (outer.old ++ top ∷ []) mode.Run (joined state.old (S.stands svc.old))).asks }
+    ensures turned { Turned (stands_for codes.old (outer.old ++ top ∷ []) mode.Run (joined state.old (S.stands svc.old))) result codes.new outer.new (joined state.new (S.stands svc.new)) }
+    ensures shrinks { IfOk result (λ how. load how outer.new state.new.work < load mode.Run (outer.old ++ top ∷ []) state.old.work) }
+    ensures offer { (S.stands svc.new).offer ≡ (S.stands svc.old).offer }
+    ensures begun { (S.stands svc.new).begun ≡ (S.stands svc.old).begun }
+{
+    let flow = run_top(alloc, codes, &top, Task::Begin, state, svc);
+    landed(outer, top, flow)
+}
 
 /// Gives a value to the innermost activation, which is off the stack.
 fn give<S: Services>(
@@ -50,117 +141,34 @@ fn give<S: Services>(
     let Some(frame) = below.frames.pop() else {
         return Ok(Mode::Give(v));
     };
-    let decided = give_top(alloc, codes, &below, frame, v, state, svc);
-    apply(alloc, codes, outer, below, decided, state)
+    let flow = run_top(alloc, codes, &below, Task::Give(frame, v), state, svc);
+    landed(outer, below, flow)
 }
 
 /// Raises an exception in the innermost activation, which is off the stack.
-fn raise(
+fn raise<S: Services>(
     alloc: Global,
     codes: &mut Codes,
     outer: &mut Activations,
     top: Activation,
     x: Exn,
     state: &mut State,
+    svc: &mut S,
 ) -> Result<Mode, Stop>
+    requires open { IsSome (S.stands svc.old).begun }
     requires linked { AreLinked codes.old (outer.old ++ top ∷ []) }
-    ensures turned { (n : ServiceState) → Turned (stands_for codes.old (outer.old ++ top ∷ []) (mode.Raise x) (joined state.old n)) result codes.new outer.new (joined state.new n) }
+    requires safe { IsSafe (stands_for codes.old (outer.old ++ top ∷ []) (mode.Raise x) (joined state.old (S.stands svc.old))).asks }
+    ensures turned { Turned (stands_for codes.old (outer.old ++ top ∷ []) (mode.Raise x) (joined state.old (S.stands svc.old))) result codes.new outer.new (joined state.new (S.stands svc.new)) }
     ensures shrinks { IfOk result (λ how. load how outer.new state.new.work < load (mode.Raise x) (outer.old ++ top ∷ []) state.old.work) }
+    ensures offer { (S.stands svc.new).offer ≡ (S.stands svc.old).offer }
+    ensures begun { (S.stands svc.new).begun ≡ (S.stands svc.old).begun }
 {
     let mut below = top;
     let Some(frame) = below.frames.pop() else {
         return Ok(Mode::Raise(x));
     };
-    let decided = raise_top(codes, &below, &frame, x);
-    apply(alloc, codes, outer, below, decided, state)
-}
-
-/// What came of the innermost expression, on the stack.
-fn landed(outer: &mut Activations, top: Activation, flow: Result<Flow, Stop>) -> Result<Mode, Stop>
-    ensures turned { (codes : List Code) (code : Code) (at : Spot) (want : Step AValue) (s : VisitState) → Stands codes outer.old top code at
-        → Flows codes code top.fun at want flow s → Turned (all_ended codes outer.old (ended codes top want)) result codes outer.new s }
-    ensures shrinks { (depth old new : ℕ) → 0 < depth → Spends depth old flow new
-        → IfOk result (λ how. load how outer.new new < load mode.Run (outer.old ++ top ∷ []) old) }
-{
-    match flow {
-        Ok(Flow::Done(v)) => {
-            outer.add(top)?;
-            Ok(Mode::Give(v))
-        }
-        Ok(Flow::Wait(rest)) => {
-            stacked(outer, top, rest)?;
-            Ok(Mode::Run)
-        }
-        Err(Stop::Raised(x)) => {
-            outer.add(top)?;
-            Ok(Mode::Raise(x))
-        }
-        Err(Stop::WorkSpent) => Err(Stop::WorkSpent),
-        Err(Stop::Wrong) => Err(Stop::Wrong),
-        Err(Stop::NoMemory) => Err(Stop::NoMemory),
-    }
-}
-
-/// How far the innermost expression of an activation comes on the native stack.
-#[tactic(auto, using(crate::proofs::Naming::no_code, crate::proofs::Naming::no_function, crate::proofs::Naming::no_expression))]
-fn run_top<S: Services>(
-    alloc: Global,
-    codes: &mut Codes,
-    top: &Activation,
-    state: &mut State,
-    svc: &mut S,
-) -> Result<Flow, Stop>
-    requires open { IsSome (S.stands svc.old).begun }
-    requires linked { IsSome (spot_in codes.old top.now) }
-    requires safe { (code : Code) (at : Spot) → slice_get codes.old top.now.code ≡ Some code → spot_in codes.old top.now ≡ Some at
-        → IsSafe (meaning code top.now.fun at.env at.expr (joined state.old (S.stands svc.old))).asks }
-    ensures flows { (code : Code) (at : Spot) → slice_get codes.old top.now.code ≡ Some code → spot_in codes.old top.now ≡ Some at
-        → Flows codes.new code top.now.fun at (meaning code top.now.fun at.env at.expr (joined state.old (S.stands svc.old))) result (joined state.new (S.stands svc.new)) }
-    ensures spends { Spends 256 state.old.work result state.new.work }
-    ensures grown { Grows codes.old codes.new }
-    ensures offer { (S.stands svc.new).offer ≡ (S.stands svc.old).offer }
-    ensures begun { (S.stands svc.new).begun ≡ (S.stands svc.old).begun }
-{
-    let Some(shared) = codes.get(top.code) else {
-        return Err(Stop::Wrong);
-    };
-    let code = shared.share()?;
-    let Some(function) = code.get().funs.get(top.fun) else {
-        return Err(Stop::Wrong);
-    };
-    let Some(expr) = expr_from(&function.body, top.frames.as_slice()) else {
-        return Err(Stop::Wrong);
-    };
-    let here = Here {
-        code: &code,
-        number: top.code,
-        fun: top.fun,
-        function,
-        args: top.args.as_slice(),
-        frames: top.frames.as_slice(),
-    };
-    evaluate(alloc, codes, &here, expr, 256, state, svc)
-}
-
-/// Evaluates the innermost expression of the innermost activation, which is off the stack.
-fn begin<S: Services>(
-    alloc: Global,
-    codes: &mut Codes,
-    outer: &mut Activations,
-    top: Activation,
-    state: &mut State,
-    svc: &mut S,
-) -> Result<Mode, Stop>
-    requires open { IsSome (S.stands svc.old).begun }
-    requires linked { AreLinked codes.old (outer.old ++ top ∷ []) }
-    requires safe { IsSafe (stands_for codes.old (outer.old ++ top ∷ []) mode.Run (joined state.old (S.stands svc.old))).asks }
-    ensures turned { Turned (stands_for codes.old (outer.old ++ top ∷ []) mode.Run (joined state.old (S.stands svc.old))) result codes.new outer.new (joined state.new (S.stands svc.new)) }
-    ensures shrinks { IfOk result (λ how. load how outer.new state.new.work < load mode.Run (outer.old ++ top ∷ []) state.old.work) }
-    ensures offer { (S.stands svc.new).offer ≡ (S.stands svc.old).offer }
-    ensures begun { (S.stands svc.new).begun ≡ (S.stands svc.old).begun }
-{
-    let flow = run_top(alloc, codes, &top, state, svc);
-    landed(outer, top, flow)
+    let flow = run_top(alloc, codes, &below, Task::Raise(frame, x), state, svc);
+    landed(outer, below, flow)
 }
 
 /// One turn of a visit, with its innermost activation off the stack.
@@ -184,7 +192,7 @@ fn turn<S: Services>(
     match how {
         Mode::Run => begin(alloc, codes, outer, top, state, svc),
         Mode::Give(v) => give(alloc, codes, outer, top, v, state, svc),
-        Mode::Raise(x) => raise(alloc, codes, outer, top, x, state),
+        Mode::Raise(x) => raise(alloc, codes, outer, top, x, state, svc),
     }
 }
 

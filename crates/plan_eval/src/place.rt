@@ -1,48 +1,17 @@
-//! Where an activation stands.
-ghost use Rattle.std.specs.Prelude.{◌≡◌, ℕ, MatchOption, None, Some, IsTrue, IsFalse, option_copied};
-ghost use Rattle.plan_eval.specs.Stack.{spot_in};
-ghost use Rattle.plan_eval.specs.Turns.{IsAt, argument_of};
+//! Functions and their arguments.
+ghost use Rattle.std.specs.Prelude.{◌≡◌, None, IfOk, IsTrue, IsFalse, option_copied};
+ghost use Rattle.plan_eval.specs.Direct.{Grows};
+ghost use Rattle.plan_eval.specs.Turns.{IsPlaced};
+ghost use Rattle.plan_eval.specs.Turns.{argument_of};
 ghost use Rattle.plan_meaning.specs.declared.stop.Stop.TheVariants.{Wrong};
 ghost use Rattle.plan_meaning.specs.State.{VisitState};
-ghost use Rattle.plan_meaning.specs.Run.{Step, stopped};
-ghost use Rattle.plan_meaning.specs.Meaning.{Env, entered, meaning};
-ghost use Rattle.plan_eval.specs.Nexts.{Decides, Enters, IsDone};
+ghost use Rattle.plan_meaning.specs.Run.{stopped};
+ghost use Rattle.plan_meaning.specs.Meaning.{entered, meaning};
+ghost use Rattle.eval_steps.specs.Nexts.{Enters};
 
-use crate::next::Next;
-use crate::stack_frame::{Activation, Codes};
-use crate::walk::{expr_from, part_or_self, same_name};
-use plan_base::{Expr, Fun, Name, Param, Program, Value, Values};
+use eval_steps::{Codes, same_name};
+use plan_base::{Name, NoMemory, Param, Program, Value, Values};
 use plan_items::Shared;
-use plan_meaning::Stop;
-
-/// The innermost open expression of an activation, its function and its program.
-#[derive(Clone, Copy)]
-pub struct Place<'a> {
-    pub code: &'a Shared<Program>,
-    pub function: &'a Fun,
-    pub expr: &'a Expr,
-}
-
-/// Where an activation stands, or `None` where it stands nowhere.
-#[tactic(auto, unfolding(crate::specs::Stack::spot_in, crate::specs::Stack::start_of), using(crate::proofs::Naming::no_code, crate::proofs::Naming::no_function, crate::proofs::Naming::no_expression))]
-pub fn place_in<'a>(codes: &'a Codes, top: &Activation) -> Option<Place<'a>>
-    ensures { MatchOption result (spot_in codes.now top.now ≡ None) (λ p. IsAt codes.now top.now p.code.now p.function.now p.expr.now) }
-{
-    let Some(code) = codes.get(top.code) else {
-        return None;
-    };
-    let Some(function) = code.get().funs.get(top.fun) else {
-        return None;
-    };
-    let Some(expr) = expr_from(&function.body, top.frames.as_slice()) else {
-        return None;
-    };
-    Some(Place {
-        code,
-        function,
-        expr,
-    })
-}
 
 /// What a name is bound to among parameters with their arguments: the last of that name.
 #[tactic(auto, using(crate::proofs::Naming::no_arguments))]
@@ -77,35 +46,13 @@ pub fn enters(code: &Shared<Program>, fun: usize, args: &Values) -> bool
     }
 }
 
-/// What was decided, or `Wrong` where it can't be done: a part or a function is missing.
-#[tactic(auto, unfolding(crate::specs::Stack::deeper), using(crate::proofs::Naming::no_part, crate::proofs::Naming::no_call, crate::proofs::Naming::no_step, crate::proofs::Naming::has_part))]
-pub fn can_do(place: Place<'_>, decided: Result<Next, Stop>) -> Result<Next, Stop>
-    ensures { (seen : ℕ) (env : Env) (want : Step Value) (s : VisitState)
-        → Decides place.entry.code.now seen (record { expr = place.entry.expr.now; env = env }) want decided s
-        → Decides place.entry.code.now seen (record { expr = place.entry.expr.now; env = env }) want result s
-        × IsDone place.entry.code.now (record { expr = place.entry.expr.now; env = env }) result }
+/// The number of a program that comes behind those that are open.
+#[tactic(auto, using(crate::proofs::Diving::placed_one, crate::proofs::Diving::grows_none, crate::proofs::Diving::grows_one))]
+pub fn open_code(codes: &mut Codes, code: &Shared<Program>) -> Result<usize, NoMemory>
+    ensures placed { IfOk result (λ n. IsPlaced codes.old code.now n codes.new) }
+    ensures grown { Grows codes.old codes.new }
 {
-    match decided {
-        Ok(Next::Open(frame)) => {
-            if part_or_self(place.expr, &frame).is_none() {
-                return Err(Stop::Wrong);
-            }
-            Ok(Next::Open(frame))
-        }
-        Ok(Next::Call(fun, args)) => {
-            if !enters(place.code, fun, &args) {
-                return Err(Stop::Wrong);
-            }
-            Ok(Next::Call(fun, args))
-        }
-        Ok(Next::Step(fun, args, left)) => {
-            if !enters(place.code, fun, &args) {
-                return Err(Stop::Wrong);
-            }
-            Ok(Next::Step(fun, args, left))
-        }
-        Ok(Next::Give(value)) => Ok(Next::Give(value)),
-        Ok(Next::Visit(chunk)) => Ok(Next::Visit(chunk)),
-        Err(stop) => Err(stop),
-    }
+    let number = codes.len();
+    codes.add(code.share()?)?;
+    Ok(number)
 }

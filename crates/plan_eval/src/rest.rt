@@ -1,10 +1,12 @@
 //! What is left of an evaluation that stopped where the native stack ends.
 ghost use Rattle.std.specs.Prelude.{◌≡◌, ◌∷◌, ◌++◌, [], IfOk, reverse};
 ghost use Rattle.plan_eval.specs.declared.rest.Flow.TheVariants as flow;
+ghost use Rattle.plan_eval.specs.declared.row.Row.TheVariants as row;
 
-use crate::stack_frame::{Activation, Activations, StackFrame, StackFrames};
+use crate::row::Row;
+use eval_steps::{Activation, Activations, StackFrame, StackFrames};
 use plan_base::{NoMemory, Value, Values};
-use plan_items::{Boxed, Items};
+use plan_items::Items;
 use std::alloc::Global;
 
 /// What waits: the open expressions inside one that stopped, and the activations on top of it, each the innermost first.
@@ -22,20 +24,40 @@ pub enum Flow {
     /// It gave a value.
     Done(Value),
     /// It stopped, and this is left.
-    Wait(Boxed<Rest>),
+    Wait(Rest),
 }
 
 /// An expression that stops before it begins.
 #[cold]
 #[inline(never)]
-pub fn pause(alloc: Global) -> Result<Flow, NoMemory>
-    ensures { IfOk result (λ f. f ≡ flow.Wait (record { frames = []; activations = [] })) }
+pub fn pause(alloc: Global) -> Flow
+    ensures { result ≡ flow.Wait (record { frames = []; activations = [] }) }
 {
-    let rest = Rest {
+    Flow::Wait(Rest {
         frames: Items::new(alloc),
         activations: Items::new(alloc),
-    };
-    Ok(Flow::Wait(Boxed::new(alloc, rest)?))
+    })
+}
+
+/// A list of one frame, which takes no more than it: most bodies wait in one alone.
+fn alone(alloc: Global, frame: StackFrame) -> Result<StackFrames, NoMemory>
+    ensures { IfOk result (λ all. all ≡ frame ∷ []) }
+{
+    let mut all = Items::from_vec(Vec::with_capacity(alloc, 1)?);
+    all.add(frame)?;
+    Ok(all)
+}
+
+/// One more frame.
+fn framed(alloc: Global, frames: StackFrames, frame: StackFrame) -> Result<StackFrames, NoMemory>
+    ensures { IfOk result (λ all. all ≡ frames ++ frame ∷ []) }
+{
+    if frames.is_empty() {
+        return alone(alloc, frame);
+    }
+    let mut all = frames;
+    all.add(frame)?;
+    Ok(all)
 }
 
 /// An expression that stops before its one open part begins.
@@ -44,32 +66,42 @@ pub fn pause(alloc: Global) -> Result<Flow, NoMemory>
 pub fn pause_in(alloc: Global, frame: StackFrame) -> Result<Flow, NoMemory>
     ensures { IfOk result (λ f. f ≡ flow.Wait (record { frames = frame ∷ []; activations = [] })) }
 {
-    let mut frames = Items::new(alloc);
-    frames.add(frame)?;
-    let rest = Rest {
-        frames,
+    Ok(Flow::Wait(Rest {
+        frames: alone(alloc, frame)?,
         activations: Items::new(alloc),
-    };
-    Ok(Flow::Wait(Boxed::new(alloc, rest)?))
+    }))
 }
 
 /// The same inside one more open expression.
 #[cold]
 #[inline(never)]
-pub fn inside(alloc: Global, rest: Boxed<Rest>, frame: StackFrame) -> Result<Flow, NoMemory>
-    ensures { IfOk result (λ f. f ≡ flow.Wait (record { frames = rest.frames ++ frame ∷ []; activations = rest.activations })) }
+pub fn inside(alloc: Global, rest: Rest, frame: StackFrame) -> Result<Flow, NoMemory>
+    ensures { IfOk result (λ f. f ≡ flow.Wait (record rest { frames = rest.frames ++ frame ∷ [] })) }
 {
     let Rest {
         frames,
         activations,
-    } = rest.into_inner();
-    let mut all = frames;
-    all.add(frame)?;
-    let more = Rest {
-        frames: all,
+    } = rest;
+    Ok(Flow::Wait(Rest {
+        frames: framed(alloc, frames, frame)?,
         activations,
-    };
-    Ok(Flow::Wait(Boxed::new(alloc, more)?))
+    }))
+}
+
+/// The same of the parts of that expression.
+#[cold]
+#[inline(never)]
+pub fn stopped_in(alloc: Global, rest: Rest, frame: StackFrame) -> Result<Row, NoMemory>
+    ensures { IfOk result (λ r. r ≡ row.Wait (record rest { frames = rest.frames ++ frame ∷ [] })) }
+{
+    let Rest {
+        frames,
+        activations,
+    } = rest;
+    Ok(Row::Wait(Rest {
+        frames: framed(alloc, frames, frame)?,
+        activations,
+    }))
 }
 
 /// Frames from the last one.
@@ -95,7 +127,7 @@ fn outermost_first(activations: Activations) -> Activations
 #[inline(never)]
 pub fn above(
     alloc: Global,
-    rest: Boxed<Rest>,
+    rest: Rest,
     code: usize,
     fun: usize,
     args: Values,
@@ -104,32 +136,30 @@ pub fn above(
 {
     let Rest {
         frames,
-        activations,
-    } = rest.into_inner();
-    let mut all = activations;
-    all.add(Activation {
+        mut activations,
+    } = rest;
+    activations.add(Activation {
         code,
         fun,
         args,
         frames: last_first(frames),
     })?;
-    let more = Rest {
+    Ok(Flow::Wait(Rest {
         frames: Items::new(alloc),
-        activations: all,
-    };
-    Ok(Flow::Wait(Boxed::new(alloc, more)?))
+        activations,
+    }))
 }
 
 /// An activation with what is left inside it, on top of those outside it.
 #[cold]
 #[inline(never)]
-pub fn stacked(outer: &mut Activations, top: Activation, rest: Boxed<Rest>) -> Result<(), NoMemory>
+pub fn stacked(outer: &mut Activations, top: Activation, rest: Rest) -> Result<(), NoMemory>
     ensures { IfOk result (λ _. outer.new ≡ (outer.old ++ record top { frames = top.frames ++ reverse rest.frames } ∷ []) ++ reverse rest.activations) }
 {
     let Rest {
         frames,
         activations,
-    } = rest.into_inner();
+    } = rest;
     let mut whole = top;
     whole.frames.append(last_first(frames))?;
     outer.add(whole)?;

@@ -1,6 +1,6 @@
 //! How an open expression goes on.
-use crate::next::Next;
 use crate::rest::Flow;
+use eval_steps::Next;
 
 /// How an open expression went on.
 #[derive(Drop)]

@@ -14,8 +14,8 @@ ghost use Rattle.plan_eval.specs.Turns.{entry};
 
 use crate::machine::run;
 use crate::place::enters;
-use crate::stack_frame::{Activation, Activations, Codes};
 use chunk_types::CheckedPacket;
+use eval_steps::{Activation, Activations, Codes};
 use plan_base::{Chunk, Family, NoMemory, Value};
 use plan_copies::copy_values;
 use plan_items::Items;

@@ -1,9 +1,9 @@
 use Rattle.std.proofs.Common.{◌≡◌, Ok}
 use Rattle.plan_meaning.specs.State.{joined}
-use Rattle.plan_eval.specs.declared.stack_frame.StackFrame.TheVariants as frame
+use Rattle.eval_steps.specs.declared.stack_frame.StackFrame.TheVariants as frame
 use Rattle.plan_eval.specs.declared.rest.Flow.TheVariants as flow
-use Rattle.plan_eval.proofs.Leading.{itself, onward}
-use Rattle.plan_eval.proofs.Delivering.{last_given}
+use Rattle.eval_steps.proofs.Leading.{itself, onward}
+use Rattle.eval_steps.proofs.Delivering.{last_given}
 use Rattle.plan_eval.proofs.Waiting.{waits_inside}
 use Rattle.plan_eval.proofs.Backs.{resume_gave, flows_from}
 use Rattle.plan_eval.proofs.back.last_back.Goals as goal

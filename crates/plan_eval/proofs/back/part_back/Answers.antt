@@ -2,7 +2,7 @@ use Rattle.std.proofs.Common.{◌≡◌, Ok, Err}
 use Rattle.plan_meaning.specs.State.{joined}
 use Rattle.plan_eval.specs.declared.rest.Flow.TheVariants as flow
 use Rattle.plan_eval.specs.Direct.{spot}
-use Rattle.plan_eval.proofs.Leading.{itself}
+use Rattle.eval_steps.proofs.Leading.{itself}
 use Rattle.plan_eval.proofs.Waiting.{waits_inside}
 use Rattle.plan_eval.proofs.Backs.{resume_gave, advances_from}
 use Rattle.plan_eval.proofs.back.part_back.Goals as goal

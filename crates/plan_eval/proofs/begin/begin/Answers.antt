@@ -1,7 +1,7 @@
 use Rattle.plan_meaning.specs.State.{joined}
 use Rattle.plan_eval.specs.Direct.{spot}
 use Rattle.plan_eval.proofs.Beginning.{calls_bare}
-use Rattle.plan_eval.proofs.Gathering.{carries_from}
+use Rattle.eval_steps.proofs.Gathering.{carries_from}
 use Rattle.plan_eval.proofs.begin.begin.Goals as goal
 
 pub called-requires-clause-safe : goal.called-requires-clause-safe

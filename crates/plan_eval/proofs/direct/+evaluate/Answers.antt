@@ -1,25 +1,31 @@
-use Rattle.std.proofs.Common.{◌≡◌, rules, Ok, Err, true, false, ◌∷◌, [], length, slice_get, Some, None, IsSome, refl, sym, ◌∙◌, arith, ◌<◌}
+use Rattle.std.proofs.Common.{◌≡◌, ap, List, ◌++◌, rules, Ok, Err, true, false, ◌∷◌, [], length, slice_get, Some, None, IsSome, refl, sym, ◌∙◌, arith, ◌<◌}
 use Rattle.plan_base.specs.declared.tree.Expr.{Expr-F, out-Expr}
+use Rattle.plan_base.specs.declared.tree.Expr as expr
+use Rattle.plan_eval.specs.declared.row.Row.TheVariants as row
 use Rattle.typing_rules.specs.TypingNames.{place_of}
-use Rattle.plan_meaning.specs.declared.stop.Stop.TheVariants.{WorkSpent}
+use Rattle.plan_meaning.specs.declared.stop.Stop.TheVariants.{WorkSpent, Wrong}
 use Rattle.plan_meaning.specs.State.{joined}
 use Rattle.plan_meaning.specs.Run.{gave}
 use Rattle.plan_meaning.specs.Safe.{IsSafe}
-use Rattle.plan_meaning.specs.Meaning.{meaning, as_bool, bound, entered}
-use Rattle.plan_eval.specs.declared.stack_frame.StackFrame.TheVariants as frame
-use Rattle.plan_eval.specs.declared.next.Next.TheVariants as next
+use Rattle.plan_meaning.specs.Meaning.{meaning, as_bool, bound, entered, visited}
+use Rattle.eval_steps.specs.declared.stack_frame.StackFrame.TheVariants as frame
+use Rattle.eval_steps.specs.declared.next.Next.TheVariants as next
 use Rattle.plan_eval.specs.declared.rest.Flow.TheVariants as flow
 use Rattle.plan_eval.specs.declared.turn.Turn.TheVariants as turn
-use Rattle.plan_eval.specs.Stack.{part_or_self, part_number}
-use Rattle.plan_eval.specs.Nexts.{begins, next_step, call_of}
-use Rattle.plan_eval.specs.Direct.{env_of, spot}
-use Rattle.plan_eval.proofs.Leading.{itself, onward}
+use Rattle.eval_steps.specs.Forms.{IsRow}
+use Rattle.eval_steps.specs.Stack.{parts_of, part_or_self, part_number}
+use Rattle.eval_steps.specs.Nexts.{begins, next_step, call_of}
+use Rattle.eval_steps.specs.Leads.{Leads}
+use Rattle.plan_eval.specs.declared.here.Binding.{Binding}
+use Rattle.plan_eval.specs.Direct.{env_of, bound_here, named_spot, spot, row_gave, Waits}
+use Rattle.eval_steps.proofs.Leading.{itself, onward}
 use Rattle.plan_eval.proofs.Beginning.{begun_here, begun_spent}
 use Rattle.plan_eval.proofs.Naming.{no_part, enters_none, enters_other}
 use Rattle.plan_eval.proofs.Taking.{resume_asks}
-use Rattle.plan_eval.proofs.Hot.{call_form, call_begins, call_next, call_more, call_done, call_no_try, next_deep, next_safe, if_form, binary_form, part_stops_so, first_leads, first_safe, if_test, if_yes, if_no, if_parts, if_no_try, if_true, if_false, if_wrong, left_part, right_part, operator_parts, operator_no_try, right_leads}
+use Rattle.plan_eval.proofs.Hot.{let_form, let_first, let_parts, let_no_try, let_body, let_leads, one_name, call_form, eval_part, eval_parts, eval_no_try, packing_leads, tuple_form, chunk_form, eval_form, row_no_try, row_begins, row_next, next_deep, next_safe, row_more, row_done, tuple_gave, chunk_gave, call_gave, if_form, binary_form, part_stops_so, first_leads, first_safe, if_test, if_yes, if_no, if_parts, if_no_try, if_true, if_false, if_wrong, left_part, right_part, operator_parts, operator_no_try, right_leads}
 use Rattle.plan_eval.proofs.Turning.{visited_nowhere}
-use Rattle.plan_eval.proofs.Delivering.{visited_on}
+use Rattle.plan_eval.proofs.Ending.{resume_final}
+use Rattle.eval_steps.proofs.Delivering.{visited_on}
 use Rattle.plan_eval.proofs.Waiting.{paused, waits_inside}
 use Rattle.plan_eval.proofs.Backs.{flows_from, enters_from}
 use Rattle.plan_eval.proofs.Diving.{grown_get, here_grown, grows_on, grows_none, deeper_here, opened_paused, opened_safe, part_safe, body_leads, body_binds, bodies_from}
@@ -29,7 +35,7 @@ use Rattle.plan_eval.proofs.direct.+evaluate.Goals as goal
 
 pub evaluate-returns-then-depth-eq0-clause-flows : goal.evaluate-returns-then-depth-eq0-clause-flows
 evaluate-returns-then-depth-eq0-clause-flows g t c =
-    rw c.in_ok-pause.ensures (paused c.args.codes.now c.args.here.now.code.now c.args.here.now.fun (spot c.args.here.now c.args.e.now) (joined c.args.state.now (g.S.Services.stands c.args.svc.now)))
+    rw c.pause.ensures (paused c.args.codes.now c.args.here.now.code.now c.args.here.now.fun (spot c.args.here.now c.args.e.now) (joined c.args.state.now (g.S.Services.stands c.args.svc.now)))
 
 pub evaluate-returns-then-not-pays-clause-flows : goal.evaluate-returns-then-not-pays-clause-flows
 evaluate-returns-then-not-pays-clause-flows g t c = λ other.
@@ -273,15 +279,16 @@ pub body_flow-evaluate-requires : goal.body_flow-evaluate-requires
 body_flow-evaluate-requires g t c =
     let args : c.as_slice.result.now ≡ c.args.args.now = c.as_slice.ensures in
     let none = c.as_slice-2.ensures ∙ c.new-none.ensures in
+    let bare = c.as_slice-3.ensures ∙ c.new-bare.ensures in
     let binds : IsSome (bound c.args.function.now.params c.as_slice.result.now) =
-    body_binds c.args.code.now c.args.fun c.args.function.now c.args.args.now c.as_slice.result.now c.as_slice-2.result.now (joined c.args.state.now (g.S.Services.stands c.args.svc.now)) c.requires.function c.requires.many args none in
-    let safe : IsSafe (meaning c.args.code.now c.args.fun (env_of c.args.function.now c.as_slice.result.now c.as_slice-2.result.now) c.args.function.now.body (joined c.args.state.now (g.S.Services.stands c.args.svc.now))).asks =
-    (body_leads c.args.code.now c.args.fun c.args.function.now c.args.args.now c.as_slice.result.now c.as_slice-2.result.now (joined c.args.state.now (g.S.Services.stands c.args.svc.now)) c.requires.function c.requires.many args none).safe c.requires.safe in
+    body_binds c.args.code.now c.args.fun c.args.function.now c.args.args.now c.as_slice.result.now c.as_slice-2.result.now c.as_slice-3.result.now (joined c.args.state.now (g.S.Services.stands c.args.svc.now)) c.requires.function c.requires.many args none bare in
+    let safe : IsSafe (meaning c.args.code.now c.args.fun (env_of c.args.function.now c.as_slice.result.now c.as_slice-2.result.now ++ bound_here c.as_slice-3.result.now) c.args.function.now.body (joined c.args.state.now (g.S.Services.stands c.args.svc.now))).asks =
+    (body_leads c.args.code.now c.args.fun c.args.function.now c.args.args.now c.as_slice.result.now c.as_slice-2.result.now c.as_slice-3.result.now (joined c.args.state.now (g.S.Services.stands c.args.svc.now)) c.requires.function c.requires.many args none bare).safe c.requires.safe in
     search rules
 
 pub body_flow-returns-clause-flows : goal.body_flow-returns-clause-flows
 body_flow-returns-clause-flows g t c =
-    bodies_from c.args.code.now c.args.fun c.args.function.now c.args.args.now c.as_slice.result.now c.as_slice-2.result.now (joined c.args.state.now (g.S.Services.stands c.args.svc.now)) c.requires.function c.requires.many c.as_slice.ensures (c.as_slice-2.ensures ∙ c.new-none.ensures)
+    bodies_from c.args.code.now c.args.fun c.args.function.now c.args.args.now c.as_slice.result.now c.as_slice-2.result.now c.as_slice-3.result.now (joined c.args.state.now (g.S.Services.stands c.args.svc.now)) c.requires.function c.requires.many c.as_slice.ensures (c.as_slice-2.ensures ∙ c.new-none.ensures) (c.as_slice-3.ensures ∙ c.new-bare.ensures)
     c.evaluate.new.codes c.args.number c.evaluate.result _ (grown_get c.args.codes.now c.evaluate.new.codes c.args.number c.args.code.now c.evaluate.ensures.grown c.requires.program) c.evaluate.ensures.flows
 
 pub visit-returns-in_default-clause-enters : goal.visit-returns-in_default-clause-enters
@@ -305,83 +312,147 @@ visit-returns-clause-enters g t c =
 pub visit-returns-clause-grown : goal.visit-returns-clause-grown
 visit-returns-clause-grown g t c = grows_on _ _ _ c.open_code.ensures.grown c.enter.ensures.grown
 
-pub call-loop-x-init : goal.call-loop-x-init
-call-loop-x-init g t c = record {
+pub all_parts-loop-x-init : goal.all_parts-loop-x-init
+all_parts-loop-x-init g t c = record {
   here = c.requires.here;
-  leads = rw c.new-args.ensures (call_begins c.args.here.now.code.now c.args.here.now.fun c.args.e.now c.args.f.now c.args.es.now (spot c.args.here.now c.args.e.now).env c.requires.form (joined c.args.state.now (g.S.Services.stands c.args.svc.now)));
+  leads = rw c.new-held.ensures (row_begins c.args.here.now.code.now c.args.here.now.fun c.args.e.now (spot c.args.here.now c.args.e.now).env c.args.es.now c.requires.form c.requires.parts (joined c.args.state.now (g.S.Services.stands c.args.svc.now)));
   falls = omega arith;
   grown = grows_none _ _ refl;
   offer = refl;
   begun = refl;
 }
 
-pub call-evaluate-requires : goal.call-evaluate-requires
-call-evaluate-requires g t c =
+pub all_parts-evaluate-requires : goal.all_parts-evaluate-requires
+all_parts-evaluate-requires g t c =
     let found : Some c.in-Some.x.now ≡ slice_get c.args.es.now c.len.result = c.in-Some.ensures in
-    let is_x : slice_get c.args.es.now (length c.loop-x.args) ≡ Some c.in-Some.x.now = rw c.len.ensures at (sym found) in
+    let is_x : slice_get c.args.es.now (length c.loop-x.held) ≡ Some c.in-Some.x.now = rw c.len.ensures at (sym found) in
     let i = c.loop-x.invariant in
     let opened : IsSome (g.S.Services.stands c.loop-x.svc).begun = rw i.begun c.requires.open in
     let here = i.here in
-    let safe : IsSafe (meaning c.args.here.now.code.now c.args.here.now.fun (spot c.args.here.now c.args.e.now).env c.in-Some.x.now (joined c.loop-x.state (g.S.Services.stands c.loop-x.svc))).asks = next_safe c.args.here.now.code.now c.args.here.now.fun c.args.e.now c.args.f.now c.args.es.now (spot c.args.here.now c.args.e.now).env c.requires.form c.loop-x.args c.in-Some.x.now (joined c.args.state.now (g.S.Services.stands c.args.svc.now)) (joined c.loop-x.state (g.S.Services.stands c.loop-x.svc)) is_x i.leads c.requires.safe in
+    let safe : IsSafe (meaning c.args.here.now.code.now c.args.here.now.fun (spot c.args.here.now c.args.e.now).env c.in-Some.x.now (joined c.loop-x.state (g.S.Services.stands c.loop-x.svc))).asks = next_safe c.args.here.now.code.now c.args.here.now.fun c.args.e.now (spot c.args.here.now c.args.e.now).env c.args.es.now c.requires.form c.requires.parts c.loop-x.held c.in-Some.x.now (joined c.args.state.now (g.S.Services.stands c.args.svc.now)) (joined c.loop-x.state (g.S.Services.stands c.loop-x.svc)) is_x i.leads c.requires.safe in
     let falls = i.falls in
     search rules
 
-pub call-loop-x-preserved : goal.call-loop-x-preserved
-call-loop-x-preserved g t c =
+pub all_parts-loop-x-preserved : goal.all_parts-loop-x-preserved
+all_parts-loop-x-preserved g t c =
     let found : Some c.in-Some.x.now ≡ slice_get c.args.es.now c.len.result = c.in-Some.ensures in
-    let is_x : slice_get c.args.es.now (length c.loop-x.args) ≡ Some c.in-Some.x.now = rw c.len.ensures at (sym found) in
+    let is_x : slice_get c.args.es.now (length c.loop-x.held) ≡ Some c.in-Some.x.now = rw c.len.ensures at (sym found) in
     let i = c.loop-x.invariant in
     let is : c.evaluate.result ≡ Ok (flow.Done c.in-Ok-Done.v) = cc in
     let less : c.evaluate.new.state.work < c.loop-x.state.work = rw is at c.evaluate.ensures.spends in
     record {
       here = here_grown _ _ _ c.evaluate.ensures.grown i.here;
-      leads = call_more c.args.here.now.code.now c.args.here.now.fun c.args.e.now c.args.f.now c.args.es.now (spot c.args.here.now c.args.e.now).env c.requires.form c.loop-x.args c.add.new.self c.in-Some.x.now c.in-Ok-Done.v (joined c.args.state.now (g.S.Services.stands c.args.svc.now)) (joined c.loop-x.state (g.S.Services.stands c.loop-x.svc)) (joined c.evaluate.new.state (g.S.Services.stands c.evaluate.new.svc)) is_x i.leads (rw is at c.evaluate.ensures.flows) c.in_ok-add-in-Ok-Done.ensures.ok;
+      leads = row_more c.args.here.now.code.now c.args.here.now.fun c.args.e.now (spot c.args.here.now c.args.e.now).env c.args.es.now c.requires.form c.requires.parts c.loop-x.held c.add.new.self c.in-Some.x.now c.in-Ok-Done.v (joined c.args.state.now (g.S.Services.stands c.args.svc.now)) (joined c.loop-x.state (g.S.Services.stands c.loop-x.svc)) (joined c.evaluate.new.state (g.S.Services.stands c.evaluate.new.svc)) is_x i.leads (rw is at c.evaluate.ensures.flows) c.in_ok-add-in-Ok-Done.ensures.ok;
       falls = omega (arith, i.falls, less);
       grown = grows_on _ _ _ i.grown c.evaluate.ensures.grown;
       offer = c.evaluate.ensures.offer ∙ i.offer;
       begun = c.evaluate.ensures.begun ∙ i.begun;
     }
 
-pub call-returns-in-Ok-Wait-clause-flows : goal.call-returns-in-Ok-Wait-clause-flows
-call-returns-in-Ok-Wait-clause-flows g t c =
+pub all_parts-returns-in-Ok-Wait-clause-rows : goal.all_parts-returns-in-Ok-Wait-clause-rows
+all_parts-returns-in-Ok-Wait-clause-rows g t c =
     let found : Some c.in-Some.x.now ≡ slice_get c.args.es.now c.len.result = c.in-Some.ensures in
-    let is_x : slice_get c.args.es.now (length c.loop-x.args) ≡ Some c.in-Some.x.now = rw c.len.ensures at (sym found) in
+    let is_x : slice_get c.args.es.now (length c.loop-x.held) ≡ Some c.in-Some.x.now = rw c.len.ensures at (sym found) in
     let i = c.loop-x.invariant in
     let is : c.evaluate.result ≡ Ok (flow.Wait c.in-Ok-Wait.rest) = cc in
-    rw (c.in_ok-inside-in-Ok-Wait.ensures, c.len-in-Ok-Wait.ensures)
-    (waits_inside c.evaluate.new.codes c.args.here.now.code.now c.args.here.now.fun (spot c.args.here.now c.args.e.now) (frame.Part (length c.loop-x.args) c.loop-x.args) _ (next_deep c.args.here.now.code.now c.args.here.now.fun c.args.e.now c.args.f.now c.args.es.now (spot c.args.here.now c.args.e.now).env c.requires.form c.loop-x.args c.in-Some.x.now is_x) c.in-Ok-Wait.rest (joined c.evaluate.new.state (g.S.Services.stands c.evaluate.new.svc)) _ _
-    (call_next c.args.here.now.code.now c.args.here.now.fun c.args.e.now c.args.f.now c.args.es.now (spot c.args.here.now c.args.e.now).env c.requires.form c.loop-x.args c.in-Some.x.now (joined c.args.state.now (g.S.Services.stands c.args.svc.now)) (joined c.loop-x.state (g.S.Services.stands c.loop-x.svc)) is_x i.leads) (rw is at c.evaluate.ensures.flows))
+    rw (c.in_ok-stopped_in-in-Ok-Wait.ensures, c.len-in-Ok-Wait.ensures)
+    (waits_inside c.evaluate.new.codes c.args.here.now.code.now c.args.here.now.fun (spot c.args.here.now c.args.e.now) (frame.Part (length c.loop-x.held) c.loop-x.held) _ (next_deep c.args.here.now.code.now c.args.here.now.fun c.args.e.now (spot c.args.here.now c.args.e.now).env c.args.es.now c.requires.form c.requires.parts c.loop-x.held c.in-Some.x.now is_x) c.in-Ok-Wait.rest (joined c.evaluate.new.state (g.S.Services.stands c.evaluate.new.svc)) _ _
+    (row_next c.args.here.now.code.now c.args.here.now.fun c.args.e.now (spot c.args.here.now c.args.e.now).env c.args.es.now c.requires.form c.requires.parts c.loop-x.held c.in-Some.x.now (joined c.args.state.now (g.S.Services.stands c.args.svc.now)) (joined c.loop-x.state (g.S.Services.stands c.loop-x.svc)) is_x i.leads) (rw is at c.evaluate.ensures.flows))
 
-pub call-returns-in-Err-clause-flows : goal.call-returns-in-Err-clause-flows
-call-returns-in-Err-clause-flows g t c = λ other.
+pub all_parts-returns-in-Err-clause-rows : goal.all_parts-returns-in-Err-clause-rows
+all_parts-returns-in-Err-clause-rows g t c = λ other.
     let found : Some c.in-Some.x.now ≡ slice_get c.args.es.now c.len.result = c.in-Some.ensures in
-    let is_x : slice_get c.args.es.now (length c.loop-x.args) ≡ Some c.in-Some.x.now = rw c.len.ensures at (sym found) in
+    let is_x : slice_get c.args.es.now (length c.loop-x.held) ≡ Some c.in-Some.x.now = rw c.len.ensures at (sym found) in
     let i = c.loop-x.invariant in
     let is : c.evaluate.result ≡ Err c.in-Err.stop = cc in
     let ends = (rw is at c.evaluate.ensures.flows) other in
-    (call_next c.args.here.now.code.now c.args.here.now.fun c.args.e.now c.args.f.now c.args.es.now (spot c.args.here.now c.args.e.now).env c.requires.form c.loop-x.args c.in-Some.x.now (joined c.args.state.now (g.S.Services.stands c.args.svc.now)) (joined c.loop-x.state (g.S.Services.stands c.loop-x.svc)) is_x i.leads).same ∙ part_stops_so c.args.here.now.code.now c.args.here.now.fun (spot c.args.here.now c.args.e.now) (length c.loop-x.args) c.loop-x.args _ c.in-Err.stop _ (call_no_try c.args.here.now.code.now c.args.here.now.fun c.args.e.now c.args.f.now c.args.es.now (spot c.args.here.now c.args.e.now).env c.requires.form) ends
+    (row_next c.args.here.now.code.now c.args.here.now.fun c.args.e.now (spot c.args.here.now c.args.e.now).env c.args.es.now c.requires.form c.requires.parts c.loop-x.held c.in-Some.x.now (joined c.args.state.now (g.S.Services.stands c.args.svc.now)) (joined c.loop-x.state (g.S.Services.stands c.loop-x.svc)) is_x i.leads).same ∙ part_stops_so c.args.here.now.code.now c.args.here.now.fun (spot c.args.here.now c.args.e.now) (length c.loop-x.held) c.loop-x.held _ c.in-Err.stop _ (row_no_try (out-Expr c.args.e.now) c.requires.form) ends
 
-pub call-invoke-requires : goal.call-invoke-requires
-call-invoke-requires g t c =
+pub all_parts-returns-clause-rows : goal.all_parts-returns-clause-rows
+all_parts-returns-clause-rows g t c =
     let found : slice_get c.args.es.now c.len.result ≡ None = sym c.in_default.ensures in
-    let none : slice_get c.args.es.now (length c.loop-x.args) ≡ None = rw c.len.ensures at found in
-    let i = c.loop-x.invariant in
-    let opened : IsSome (g.S.Services.stands c.loop-x.svc).begun = rw i.begun c.requires.open in
-    let here = i.here in
-    let safe : IsSafe (call_of c.args.here.now.code.now c.args.here.now.fun c.args.f.now c.loop-x.args (joined c.loop-x.state (g.S.Services.stands c.loop-x.svc))).asks = (call_done c.args.here.now.code.now c.args.here.now.fun c.args.e.now c.args.f.now c.args.es.now (spot c.args.here.now c.args.e.now).env c.requires.form c.loop-x.args (joined c.args.state.now (g.S.Services.stands c.args.svc.now)) (joined c.loop-x.state (g.S.Services.stands c.loop-x.svc)) none i.leads).safe c.requires.safe in
-    let falls = i.falls in
+    let none : slice_get c.args.es.now (length c.loop-x.held) ≡ None = rw c.len.ensures at found in
+    row_done c.args.here.now.code.now c.args.here.now.fun c.args.e.now (spot c.args.here.now c.args.e.now).env c.args.es.now c.requires.form c.requires.parts c.loop-x.held (joined c.args.state.now (g.S.Services.stands c.args.svc.now)) (joined c.loop-x.state (g.S.Services.stands c.loop-x.svc)) none c.loop-x.invariant.leads
+
+pub evaluate-eval-requires : goal.evaluate-eval-requires
+evaluate-eval-requires g t c =
+    let form : out-Expr c.args.e.now ≡ Expr-F.Eval c.get-in-Eval.result.now = rw (c.in-Eval.is, c.get-in-Eval.ensures) (eval_form c.in-Eval.a) in
+    let leads = begun_here c.args.here.now.code.now c.args.here.now.fun (spot c.args.here.now c.args.e.now).env c.args.e.now (joined c.args.state.now (g.S.Services.stands c.args.svc.now)) (joined c.pays.new.self (g.S.Services.stands c.args.svc.now))
+    (c.if-not-pays.ensures.paid refl (g.S.Services.stands c.args.svc.now)) in
+    let safe : IsSafe (begins c.args.here.now.code.now c.args.here.now.fun (spot c.args.here.now c.args.e.now) (joined c.pays.new.self (g.S.Services.stands c.args.svc.now))).asks = leads.safe c.requires.safe in
     search rules
 
-pub call-returns-clause-flows : goal.call-returns-clause-flows
-call-returns-clause-flows g t c =
-    let found : slice_get c.args.es.now c.len.result ≡ None = sym c.in_default.ensures in
-    let none : slice_get c.args.es.now (length c.loop-x.args) ≡ None = rw c.len.ensures at found in
-    flows_from c.invoke.new.codes c.args.here.now.code.now c.args.here.now.fun (spot c.args.here.now c.args.e.now) _ _ c.invoke.result (joined c.invoke.new.state (g.S.Services.stands c.invoke.new.svc))
-    (call_done c.args.here.now.code.now c.args.here.now.fun c.args.e.now c.args.f.now c.args.es.now (spot c.args.here.now c.args.e.now).env c.requires.form c.loop-x.args (joined c.args.state.now (g.S.Services.stands c.args.svc.now)) (joined c.loop-x.state (g.S.Services.stands c.loop-x.svc)) none c.loop-x.invariant.leads) c.invoke.ensures.flows
+pub evaluate-returns-in-Eval-clause-flows : goal.evaluate-returns-in-Eval-clause-flows
+evaluate-returns-in-Eval-clause-flows g t c =
+    let leads = begun_here c.args.here.now.code.now c.args.here.now.fun (spot c.args.here.now c.args.e.now).env c.args.e.now (joined c.args.state.now (g.S.Services.stands c.args.svc.now)) (joined c.pays.new.self (g.S.Services.stands c.args.svc.now))
+    (c.if-not-pays.ensures.paid refl (g.S.Services.stands c.args.svc.now)) in
+    flows_from c.eval.new.codes c.args.here.now.code.now c.args.here.now.fun (spot c.args.here.now c.args.e.now) _ _ c.eval.result (joined c.eval.new.state (g.S.Services.stands c.eval.new.svc)) leads c.eval.ensures.flows
 
-pub evaluate-call-requires : goal.evaluate-call-requires
-evaluate-call-requires g t c =
-    let form : out-Expr c.args.e.now ≡ Expr-F.Call c.in-Call.f c.as_slice.result.now = rw (c.in-Call.is, c.as_slice.ensures) (call_form c.in-Call.f c.in-Call.es) in
+pub row-all_parts-requires : goal.row-all_parts-requires
+row-all_parts-requires g t c =
+    let parts : parts_of (out-Expr c.args.e.now) ≡ c.as_slice.result.now = rw c.as_slice.ensures c.requires.parts in
+    search rules
+
+pub row-made-requires : goal.row-made-requires
+row-made-requires g t c =
+    let is : c.all_parts.result ≡ Ok (row.All c.in-Ok-All.values) = cc in
+    let leads = rw is at c.all_parts.ensures.rows in
+    let here = here_grown _ _ _ c.all_parts.ensures.grown c.requires.here in
+    let safe : IsSafe (row_gave c.args.here.now.code.now c.args.here.now.fun (spot c.args.here.now c.args.e.now) c.in-Ok-All.values (joined c.all_parts.new.state (g.S.Services.stands c.all_parts.new.svc))).asks = leads.safe c.requires.safe in
+    search rules
+
+pub row-returns-in-Ok-All-clause-flows : goal.row-returns-in-Ok-All-clause-flows
+row-returns-in-Ok-All-clause-flows g t c =
+    let is : c.all_parts.result ≡ Ok (row.All c.in-Ok-All.values) = cc in
+    flows_from c.made.new.codes c.args.here.now.code.now c.args.here.now.fun (spot c.args.here.now c.args.e.now) _ _ c.made.result (joined c.made.new.state (g.S.Services.stands c.made.new.svc)) (rw is at c.all_parts.ensures.rows) c.made.ensures.flows
+
+pub made-invoke-requires : goal.made-invoke-requires
+made-invoke-requires g t c =
+    let form : out-Expr c.args.e.now ≡ Expr-F.Call c.in-Call.f c.in-Call.field-1 = rw c.in-Call.is (call_form c.in-Call.f c.in-Call.field-1) in
+    let safe : IsSafe (call_of c.args.here.now.code.now c.args.here.now.fun c.in-Call.f c.args.values (joined c.args.state.now (g.S.Services.stands c.args.svc.now))).asks = (call_gave c.args.here.now.code.now c.args.here.now.fun c.args.e.now (spot c.args.here.now c.args.e.now).env c.args.values (joined c.args.state.now (g.S.Services.stands c.args.svc.now)) c.in-Call.f c.in-Call.field-1 form).safe c.requires.safe in
+    search rules
+
+pub made-returns-in-Call-clause-flows : goal.made-returns-in-Call-clause-flows
+made-returns-in-Call-clause-flows g t c =
+    let form : out-Expr c.args.e.now ≡ Expr-F.Call c.in-Call.f c.in-Call.field-1 = rw c.in-Call.is (call_form c.in-Call.f c.in-Call.field-1) in
+    flows_from c.invoke.new.codes c.args.here.now.code.now c.args.here.now.fun (spot c.args.here.now c.args.e.now) _ _ c.invoke.result (joined c.invoke.new.state (g.S.Services.stands c.invoke.new.svc))
+    (call_gave c.args.here.now.code.now c.args.here.now.fun c.args.e.now (spot c.args.here.now c.args.e.now).env c.args.values (joined c.args.state.now (g.S.Services.stands c.args.svc.now)) c.in-Call.f c.in-Call.field-1 form) c.invoke.ensures.flows
+
+pub made-returns-in-ChunkOf-clause-flows : goal.made-returns-in-ChunkOf-clause-flows
+made-returns-in-ChunkOf-clause-flows g t c =
+    let form : out-Expr c.args.e.now ≡ Expr-F.ChunkOf c.in-ChunkOf.f c.in-ChunkOf.field-1 = rw c.in-ChunkOf.is (chunk_form c.in-ChunkOf.f c.in-ChunkOf.field-1) in
+    flows_from c.args.codes.now c.args.here.now.code.now c.args.here.now.fun (spot c.args.here.now c.args.e.now) _ _ c.packed.result (joined c.packed.new.state (g.S.Services.stands c.args.svc.now))
+    (chunk_gave c.args.here.now.code.now c.args.here.now.fun c.args.e.now (spot c.args.here.now c.args.e.now).env c.args.values (joined c.args.state.now (g.S.Services.stands c.args.svc.now)) c.in-ChunkOf.f c.in-ChunkOf.field-1 form)
+    (c.packed.ensures.flows c.args.codes.now c.args.here.now.fun (spot c.args.here.now c.args.e.now) (g.S.Services.stands c.args.svc.now))
+
+pub made-returns-in-Tuple-clause-flows : goal.made-returns-in-Tuple-clause-flows
+made-returns-in-Tuple-clause-flows g t c =
+    let form : out-Expr c.args.e.now ≡ Expr-F.Tuple c.in-Tuple.field-0 = rw c.in-Tuple.is (tuple_form c.in-Tuple.field-0) in
+    flows_from c.args.codes.now c.args.here.now.code.now c.args.here.now.fun (spot c.args.here.now c.args.e.now) _ _ c.ended.result (joined c.ended.new.state (g.S.Services.stands c.args.svc.now))
+    (tuple_gave c.args.here.now.code.now c.args.here.now.fun c.args.e.now (spot c.args.here.now c.args.e.now).env c.args.values (joined c.args.state.now (g.S.Services.stands c.args.svc.now)) c.in-Tuple.field-0 form)
+    (c.ended.ensures.flows c.args.codes.now c.args.here.now.code.now c.args.here.now.fun (spot c.args.here.now c.args.e.now) (g.S.Services.stands c.args.svc.now))
+
+pub evaluate-row-requires : goal.evaluate-row-requires
+evaluate-row-requires g t c =
+    let form : out-Expr c.args.e.now ≡ Expr-F.Tuple c.in-Tuple.es = rw c.in-Tuple.is (tuple_form c.in-Tuple.es) in
+    let is_row : IsRow (out-Expr c.args.e.now) = rw form tt in
+    let parts : parts_of (out-Expr c.args.e.now) ≡ c.in-Tuple.es = rw form refl in
+    let leads = begun_here c.args.here.now.code.now c.args.here.now.fun (spot c.args.here.now c.args.e.now).env c.args.e.now (joined c.args.state.now (g.S.Services.stands c.args.svc.now)) (joined c.pays.new.self (g.S.Services.stands c.args.svc.now))
+    (c.if-not-pays.ensures.paid refl (g.S.Services.stands c.args.svc.now)) in
+    let safe : IsSafe (begins c.args.here.now.code.now c.args.here.now.fun (spot c.args.here.now c.args.e.now) (joined c.pays.new.self (g.S.Services.stands c.args.svc.now))).asks = leads.safe c.requires.safe in
+    search rules
+
+pub evaluate-returns-in-Tuple-clause-flows : goal.evaluate-returns-in-Tuple-clause-flows
+evaluate-returns-in-Tuple-clause-flows g t c =
+    let leads = begun_here c.args.here.now.code.now c.args.here.now.fun (spot c.args.here.now c.args.e.now).env c.args.e.now (joined c.args.state.now (g.S.Services.stands c.args.svc.now)) (joined c.pays.new.self (g.S.Services.stands c.args.svc.now))
+    (c.if-not-pays.ensures.paid refl (g.S.Services.stands c.args.svc.now)) in
+    flows_from c.row.new.codes c.args.here.now.code.now c.args.here.now.fun (spot c.args.here.now c.args.e.now) _ _ c.row.result (joined c.row.new.state (g.S.Services.stands c.row.new.svc)) leads c.row.ensures.flows
+
+pub evaluate-row-requires-in-Call : goal.evaluate-row-requires-in-Call
+evaluate-row-requires-in-Call g t c =
+    let form : out-Expr c.args.e.now ≡ Expr-F.Call c.in-Call.field-0 c.in-Call.es = rw c.in-Call.is (call_form c.in-Call.field-0 c.in-Call.es) in
+    let is_row : IsRow (out-Expr c.args.e.now) = rw form tt in
+    let parts : parts_of (out-Expr c.args.e.now) ≡ c.in-Call.es = rw form refl in
     let leads = begun_here c.args.here.now.code.now c.args.here.now.fun (spot c.args.here.now c.args.e.now).env c.args.e.now (joined c.args.state.now (g.S.Services.stands c.args.svc.now)) (joined c.pays.new.self (g.S.Services.stands c.args.svc.now))
     (c.if-not-pays.ensures.paid refl (g.S.Services.stands c.args.svc.now)) in
     let safe : IsSafe (begins c.args.here.now.code.now c.args.here.now.fun (spot c.args.here.now c.args.e.now) (joined c.pays.new.self (g.S.Services.stands c.args.svc.now))).asks = leads.safe c.requires.safe in
@@ -391,7 +462,84 @@ pub evaluate-returns-in-Call-clause-flows : goal.evaluate-returns-in-Call-clause
 evaluate-returns-in-Call-clause-flows g t c =
     let leads = begun_here c.args.here.now.code.now c.args.here.now.fun (spot c.args.here.now c.args.e.now).env c.args.e.now (joined c.args.state.now (g.S.Services.stands c.args.svc.now)) (joined c.pays.new.self (g.S.Services.stands c.args.svc.now))
     (c.if-not-pays.ensures.paid refl (g.S.Services.stands c.args.svc.now)) in
-    flows_from c.call.new.codes c.args.here.now.code.now c.args.here.now.fun (spot c.args.here.now c.args.e.now) _ _ c.call.result (joined c.call.new.state (g.S.Services.stands c.call.new.svc)) leads c.call.ensures.flows
+    flows_from c.row-in-Call.new.codes c.args.here.now.code.now c.args.here.now.fun (spot c.args.here.now c.args.e.now) _ _ c.row-in-Call.result (joined c.row-in-Call.new.state (g.S.Services.stands c.row-in-Call.new.svc)) leads c.row-in-Call.ensures.flows
+
+pub evaluate-row-requires-in-ChunkOf : goal.evaluate-row-requires-in-ChunkOf
+evaluate-row-requires-in-ChunkOf g t c =
+    let form : out-Expr c.args.e.now ≡ Expr-F.ChunkOf c.in-ChunkOf.field-0 c.in-ChunkOf.es = rw c.in-ChunkOf.is (chunk_form c.in-ChunkOf.field-0 c.in-ChunkOf.es) in
+    let is_row : IsRow (out-Expr c.args.e.now) = rw form tt in
+    let parts : parts_of (out-Expr c.args.e.now) ≡ c.in-ChunkOf.es = rw form refl in
+    let leads = begun_here c.args.here.now.code.now c.args.here.now.fun (spot c.args.here.now c.args.e.now).env c.args.e.now (joined c.args.state.now (g.S.Services.stands c.args.svc.now)) (joined c.pays.new.self (g.S.Services.stands c.args.svc.now))
+    (c.if-not-pays.ensures.paid refl (g.S.Services.stands c.args.svc.now)) in
+    let safe : IsSafe (begins c.args.here.now.code.now c.args.here.now.fun (spot c.args.here.now c.args.e.now) (joined c.pays.new.self (g.S.Services.stands c.args.svc.now))).asks = leads.safe c.requires.safe in
+    search rules
+
+pub evaluate-returns-in-ChunkOf-clause-flows : goal.evaluate-returns-in-ChunkOf-clause-flows
+evaluate-returns-in-ChunkOf-clause-flows g t c =
+    let leads = begun_here c.args.here.now.code.now c.args.here.now.fun (spot c.args.here.now c.args.e.now).env c.args.e.now (joined c.args.state.now (g.S.Services.stands c.args.svc.now)) (joined c.pays.new.self (g.S.Services.stands c.args.svc.now))
+    (c.if-not-pays.ensures.paid refl (g.S.Services.stands c.args.svc.now)) in
+    flows_from c.row-in-ChunkOf.new.codes c.args.here.now.code.now c.args.here.now.fun (spot c.args.here.now c.args.e.now) _ _ c.row-in-ChunkOf.result (joined c.row-in-ChunkOf.new.state (g.S.Services.stands c.row-in-ChunkOf.new.svc)) leads c.row-in-ChunkOf.ensures.flows
+
+pub evaluate-binding-requires : goal.evaluate-binding-requires
+evaluate-binding-requires g t c =
+    let form : out-Expr c.args.e.now ≡ Expr-F.Let c.in-Let.x c.in-Let.field-1 c.get-in-Let.result.now c.get-in-Let-2.result.now =
+    rw (c.in-Let.is, c.get-in-Let.ensures, c.get-in-Let-2.ensures) (let_form c.in-Let.x c.in-Let.field-1 c.in-Let.a c.in-Let.b) in
+    let leads = begun_here c.args.here.now.code.now c.args.here.now.fun (spot c.args.here.now c.args.e.now).env c.args.e.now (joined c.args.state.now (g.S.Services.stands c.args.svc.now)) (joined c.pays.new.self (g.S.Services.stands c.args.svc.now))
+    (c.if-not-pays.ensures.paid refl (g.S.Services.stands c.args.svc.now)) in
+    let safe : IsSafe (begins c.args.here.now.code.now c.args.here.now.fun (spot c.args.here.now c.args.e.now) (joined c.pays.new.self (g.S.Services.stands c.args.svc.now))).asks = leads.safe c.requires.safe in
+    search rules
+
+pub evaluate-returns-in-Let-clause-flows : goal.evaluate-returns-in-Let-clause-flows
+evaluate-returns-in-Let-clause-flows g t c =
+    let leads = begun_here c.args.here.now.code.now c.args.here.now.fun (spot c.args.here.now c.args.e.now).env c.args.e.now (joined c.args.state.now (g.S.Services.stands c.args.svc.now)) (joined c.pays.new.self (g.S.Services.stands c.args.svc.now))
+    (c.if-not-pays.ensures.paid refl (g.S.Services.stands c.args.svc.now)) in
+    flows_from c.binding.new.codes c.args.here.now.code.now c.args.here.now.fun (spot c.args.here.now c.args.e.now) _ _ c.binding.result (joined c.binding.new.state (g.S.Services.stands c.binding.new.svc)) leads c.binding.ensures.flows
+
+-- ---- names
+
+pub binding-evaluate-requires : goal.binding-evaluate-requires
+binding-evaluate-requires g t c =
+    let safe : IsSafe (meaning c.args.here.now.code.now c.args.here.now.fun (spot c.args.here.now c.args.e.now).env c.args.a.now (joined c.args.state.now (g.S.Services.stands c.args.svc.now))).asks = first_safe c.args.here.now.code.now c.args.here.now.fun (spot c.args.here.now c.args.e.now) c.args.a.now (joined c.args.state.now (g.S.Services.stands c.args.svc.now)) (let_parts c.args.here.now.code.now c.args.here.now.fun c.args.e.now c.args.x.now c.requires.form.0 c.args.a.now c.args.b.now (spot c.args.here.now c.args.e.now).env c.requires.form.1) (let_first c.args.here.now.code.now c.args.here.now.fun c.args.e.now c.args.x.now c.requires.form.0 c.args.a.now c.args.b.now (spot c.args.here.now c.args.e.now).env c.requires.form.1) c.requires.safe in
+    search rules
+
+pub binding-under_name-flow-requires : goal.binding-under_name-flow-requires
+binding-under_name-flow-requires g t c =
+    let is : c.evaluate.result ≡ Ok (flow.Done c.in-Ok-Done.v) = cc in
+    let leads = let_leads c.args.here.now.code.now c.args.here.now.fun c.args.e.now c.args.x.now c.requires.form.0 c.args.a.now c.args.b.now (spot c.args.here.now c.args.e.now).env c.requires.form.1 (joined c.args.state.now (g.S.Services.stands c.args.svc.now)) (joined c.evaluate.new.state (g.S.Services.stands c.evaluate.new.svc)) c.in-Ok-Done.v (rw is at c.evaluate.ensures.flows) in
+    let here = here_grown _ _ _ c.evaluate.ensures.grown c.requires.here in
+    let safe : IsSafe (meaning c.args.here.now.code.now c.args.here.now.fun (named_spot c.args.here.now c.args.x.now c.in-Ok-Done.v c.args.b.now).env c.args.b.now (joined c.evaluate.new.state (g.S.Services.stands c.evaluate.new.svc))).asks = resume_asks c.args.here.now.code.now c.args.here.now.fun (spot c.args.here.now c.args.e.now) (frame.Bound c.in-Ok-Done.v) _ (leads.safe c.requires.safe) in
+    search rules
+
+pub binding-returns-in-Ok-Done-clause-flows : goal.binding-returns-in-Ok-Done-clause-flows
+binding-returns-in-Ok-Done-clause-flows g t c =
+    let is : c.evaluate.result ≡ Ok (flow.Done c.in-Ok-Done.v) = cc in
+    let leads = let_leads c.args.here.now.code.now c.args.here.now.fun c.args.e.now c.args.x.now c.requires.form.0 c.args.a.now c.args.b.now (spot c.args.here.now c.args.e.now).env c.requires.form.1 (joined c.args.state.now (g.S.Services.stands c.args.svc.now)) (joined c.evaluate.new.state (g.S.Services.stands c.evaluate.new.svc)) c.in-Ok-Done.v (rw is at c.evaluate.ensures.flows) in
+    flows_from c.under_name-flow.new.codes c.args.here.now.code.now c.args.here.now.fun (spot c.args.here.now c.args.e.now) _ _ c.bound_back.result (joined c.bound_back.new.state (g.S.Services.stands c.under_name-flow.new.svc)) leads
+    (c.bound_back.ensures.flows c.under_name-flow.new.codes c.args.here.now.code.now c.args.here.now.fun (spot c.args.here.now c.args.e.now) _ _ (g.S.Services.stands c.under_name-flow.new.svc) (let_body c.args.here.now.code.now c.args.here.now.fun c.args.e.now c.args.x.now c.requires.form.0 c.args.a.now c.args.b.now (spot c.args.here.now c.args.e.now).env c.requires.form.1 c.in-Ok-Done.v) c.under_name-flow.ensures.flows)
+
+pub binding-returns-in_ok-inside-in-Ok-Wait-clause-flows : goal.binding-returns-in_ok-inside-in-Ok-Wait-clause-flows
+binding-returns-in_ok-inside-in-Ok-Wait-clause-flows g t c =
+    let is : c.evaluate.result ≡ Ok (flow.Wait c.in-Ok-Wait.rest) = cc in
+    rw (c.in_ok-inside-in-Ok-Wait.ensures, c.new.ensures)
+    (waits_inside c.evaluate.new.codes c.args.here.now.code.now c.args.here.now.fun (spot c.args.here.now c.args.e.now) (frame.Part 0 []) _ (let_first c.args.here.now.code.now c.args.here.now.fun c.args.e.now c.args.x.now c.requires.form.0 c.args.a.now c.args.b.now (spot c.args.here.now c.args.e.now).env c.requires.form.1) c.in-Ok-Wait.rest (joined c.evaluate.new.state (g.S.Services.stands c.evaluate.new.svc)) _ _ (first_leads c.args.here.now.code.now c.args.here.now.fun (spot c.args.here.now c.args.e.now) c.args.a.now (joined c.args.state.now (g.S.Services.stands c.args.svc.now)) (let_parts c.args.here.now.code.now c.args.here.now.fun c.args.e.now c.args.x.now c.requires.form.0 c.args.a.now c.args.b.now (spot c.args.here.now c.args.e.now).env c.requires.form.1) (let_first c.args.here.now.code.now c.args.here.now.fun c.args.e.now c.args.x.now c.requires.form.0 c.args.a.now c.args.b.now (spot c.args.here.now c.args.e.now).env c.requires.form.1)) (rw is at c.evaluate.ensures.flows))
+
+pub binding-returns-in-Err-clause-flows : goal.binding-returns-in-Err-clause-flows
+binding-returns-in-Err-clause-flows g t c = λ other.
+    let is : c.evaluate.result ≡ Err c.in-Err.stop = cc in
+    let ends = (rw is at c.evaluate.ensures.flows) other in
+    (first_leads c.args.here.now.code.now c.args.here.now.fun (spot c.args.here.now c.args.e.now) c.args.a.now (joined c.args.state.now (g.S.Services.stands c.args.svc.now)) (let_parts c.args.here.now.code.now c.args.here.now.fun c.args.e.now c.args.x.now c.requires.form.0 c.args.a.now c.args.b.now (spot c.args.here.now c.args.e.now).env c.requires.form.1) (let_first c.args.here.now.code.now c.args.here.now.fun c.args.e.now c.args.x.now c.requires.form.0 c.args.a.now c.args.b.now (spot c.args.here.now c.args.e.now).env c.requires.form.1)).same ∙ part_stops_so c.args.here.now.code.now c.args.here.now.fun (spot c.args.here.now c.args.e.now) 0 [] _ c.in-Err.stop _ (let_no_try c.args.here.now.code.now c.args.here.now.fun c.args.e.now c.args.x.now c.requires.form.0 c.args.a.now c.args.b.now (spot c.args.here.now c.args.e.now).env c.requires.form.1) ends
+
+pub under_name-evaluate-requires : goal.under_name-evaluate-requires
+under_name-evaluate-requires g t c =
+    let is = one_name (env_of c.args.here.now.function.now c.args.here.now.args.now c.args.here.now.frames.now) c.args.here.now.bindings.now _ c.as_slice.result.now (c.as_slice.ensures ∙ c.in_ok-add.ensures.ok ∙ ap (λ (bs : List Binding). bs ++ _ ∷ []) c.in_ok-bindings.ensures) in
+    let here = c.requires.here in
+    let safe : IsSafe (meaning c.args.here.now.code.now c.args.here.now.fun (env_of c.args.here.now.function.now c.args.here.now.args.now c.args.here.now.frames.now ++ bound_here c.as_slice.result.now) c.args.b.now (joined c.args.state.now (g.S.Services.stands c.args.svc.now))).asks = rw is c.requires.safe in
+    search rules
+
+pub under_name-returns-clause-flows : goal.under_name-returns-clause-flows
+under_name-returns-clause-flows g t c =
+    let is = one_name (env_of c.args.here.now.function.now c.args.here.now.args.now c.args.here.now.frames.now) c.args.here.now.bindings.now _ c.as_slice.result.now (c.as_slice.ensures ∙ c.in_ok-add.ensures.ok ∙ ap (λ (bs : List Binding). bs ++ _ ∷ []) c.in_ok-bindings.ensures) in
+    rw is at c.evaluate.ensures.flows
 
 pub invoke-enter-flow-requires : goal.invoke-enter-flow-requires
 invoke-enter-flow-requires g t c =
@@ -418,3 +566,97 @@ pub invoke-returns-in-Err-clause-flows : goal.invoke-returns-in-Err-clause-flows
 invoke-returns-in-Err-clause-flows g t c = λ other.
     let is : c.called.result ≡ Err c.in-Err.stop = cc in
     (rw is at (c.called.ensures.decides (spot c.args.here.now c.args.e.now))) other
+
+-- ---- evals
+
+pub eval-eval_packing-requires : goal.eval-eval_packing-requires
+eval-eval_packing-requires g t c =
+    let is : c.args.a.now ≡ expr.ChunkOf c.in-ChunkOf.f c.in-ChunkOf.es = cc in
+    let packs : out-Expr c.args.a.now ≡ Expr-F.ChunkOf c.in-ChunkOf.f c.in-ChunkOf.es = rw is (chunk_form c.in-ChunkOf.f c.in-ChunkOf.es) in
+    search rules
+
+pub eval_packing-returns-then-not-pays-clause-flows : goal.eval_packing-returns-then-not-pays-clause-flows
+eval_packing-returns-then-not-pays-clause-flows g t c = λ other.
+    let ends = begun_spent c.args.here.now.code.now c.args.here.now.fun (spot c.args.here.now c.args.e.now).env c.args.a.now WorkSpent (joined c.args.state.now (g.S.Services.stands c.args.svc.now)) _ (c.if-not-pays.ensures.unpaid refl (g.S.Services.stands c.args.svc.now)) in
+    (first_leads c.args.here.now.code.now c.args.here.now.fun (spot c.args.here.now c.args.e.now) c.args.a.now (joined c.args.state.now (g.S.Services.stands c.args.svc.now)) (eval_parts c.args.here.now.code.now c.args.here.now.fun c.args.e.now c.args.a.now (spot c.args.here.now c.args.e.now).env c.requires.form) (eval_part c.args.here.now.code.now c.args.here.now.fun c.args.e.now c.args.a.now (spot c.args.here.now c.args.e.now).env c.requires.form)).same
+    ∙ part_stops_so c.args.here.now.code.now c.args.here.now.fun (spot c.args.here.now c.args.e.now) 0 [] _ WorkSpent _ (eval_no_try c.args.here.now.code.now c.args.here.now.fun c.args.e.now c.args.a.now (spot c.args.here.now c.args.e.now).env c.requires.form) ends
+
+pub eval_packing-all_parts-requires : goal.eval_packing-all_parts-requires
+eval_packing-all_parts-requires g t c =
+    let row : IsRow (out-Expr c.args.a.now) = rw c.requires.packs tt in
+    let parts : parts_of (out-Expr c.args.a.now) ≡ c.as_slice.result.now = rw (c.requires.packs, c.as_slice.ensures) refl in
+    let part_is_safe = first_safe c.args.here.now.code.now c.args.here.now.fun (spot c.args.here.now c.args.e.now) c.args.a.now (joined c.args.state.now (g.S.Services.stands c.args.svc.now)) (eval_parts c.args.here.now.code.now c.args.here.now.fun c.args.e.now c.args.a.now (spot c.args.here.now c.args.e.now).env c.requires.form) (eval_part c.args.here.now.code.now c.args.here.now.fun c.args.e.now c.args.a.now (spot c.args.here.now c.args.e.now).env c.requires.form) c.requires.safe in
+    let safe : IsSafe (begins c.args.here.now.code.now c.args.here.now.fun (spot c.args.here.now c.args.a.now) (joined c.pays.new.self (g.S.Services.stands c.args.svc.now))).asks = (begun_here c.args.here.now.code.now c.args.here.now.fun (spot c.args.here.now c.args.e.now).env c.args.a.now (joined c.args.state.now (g.S.Services.stands c.args.svc.now)) (joined c.pays.new.self (g.S.Services.stands c.args.svc.now)) (c.if-not-pays.ensures.paid refl (g.S.Services.stands c.args.svc.now))).safe part_is_safe in
+    search rules
+
+pub eval_packing-eval_packed-requires : goal.eval_packing-eval_packed-requires
+eval_packing-eval_packed-requires g t c =
+    let is : c.all_parts.result ≡ Ok (row.All c.in-Ok-All.args) = cc in
+    let rows : Leads (begins c.args.here.now.code.now c.args.here.now.fun (spot c.args.here.now c.args.a.now) (joined c.pays.new.self (g.S.Services.stands c.args.svc.now))) (row_gave c.args.here.now.code.now c.args.here.now.fun (spot c.args.here.now c.args.a.now) c.in-Ok-All.args (joined c.all_parts.new.state (g.S.Services.stands c.all_parts.new.svc))) = rw is at c.all_parts.ensures.rows in
+    let whole = packing_leads c.args.here.now.code.now c.args.here.now.fun c.args.e.now c.args.a.now (spot c.args.here.now c.args.e.now).env c.requires.form (weighed (value.Chunk (record { code = c.args.here.now.code.now; entry = c.args.f.now; args = c.in-Ok-All.args })) (joined c.all_parts.new.state (g.S.Services.stands c.all_parts.new.svc))) (joined c.args.state.now (g.S.Services.stands c.args.svc.now))
+    (onward _ _ _ (begun_here c.args.here.now.code.now c.args.here.now.fun (spot c.args.here.now c.args.e.now).env c.args.a.now (joined c.args.state.now (g.S.Services.stands c.args.svc.now)) (joined c.pays.new.self (g.S.Services.stands c.args.svc.now)) (c.if-not-pays.ensures.paid refl (g.S.Services.stands c.args.svc.now))) (onward _ _ _ rows (chunk_gave c.args.here.now.code.now c.args.here.now.fun c.args.a.now (spot c.args.here.now c.args.e.now).env c.in-Ok-All.args (joined c.all_parts.new.state (g.S.Services.stands c.all_parts.new.svc)) c.args.f.now c.args.es.now c.requires.packs))) in
+    let here = here_grown _ _ _ c.all_parts.ensures.grown c.requires.here in
+    let safe : IsSafe (resume c.args.here.now.code.now c.args.here.now.fun (spot c.args.here.now c.args.e.now) (frame.Part 0 []) (weighed (value.Chunk (record { code = c.args.here.now.code.now; entry = c.args.f.now; args = c.in-Ok-All.args })) (joined c.all_parts.new.state (g.S.Services.stands c.all_parts.new.svc)))).asks = whole.safe c.requires.safe in
+    search rules
+
+pub eval_packing-returns-in-Ok-All-clause-flows : goal.eval_packing-returns-in-Ok-All-clause-flows
+eval_packing-returns-in-Ok-All-clause-flows g t c =
+    let is : c.all_parts.result ≡ Ok (row.All c.in-Ok-All.args) = cc in
+    let rows : Leads (begins c.args.here.now.code.now c.args.here.now.fun (spot c.args.here.now c.args.a.now) (joined c.pays.new.self (g.S.Services.stands c.args.svc.now))) (row_gave c.args.here.now.code.now c.args.here.now.fun (spot c.args.here.now c.args.a.now) c.in-Ok-All.args (joined c.all_parts.new.state (g.S.Services.stands c.all_parts.new.svc))) = rw is at c.all_parts.ensures.rows in
+    let whole = packing_leads c.args.here.now.code.now c.args.here.now.fun c.args.e.now c.args.a.now (spot c.args.here.now c.args.e.now).env c.requires.form (weighed (value.Chunk (record { code = c.args.here.now.code.now; entry = c.args.f.now; args = c.in-Ok-All.args })) (joined c.all_parts.new.state (g.S.Services.stands c.all_parts.new.svc))) (joined c.args.state.now (g.S.Services.stands c.args.svc.now))
+    (onward _ _ _ (begun_here c.args.here.now.code.now c.args.here.now.fun (spot c.args.here.now c.args.e.now).env c.args.a.now (joined c.args.state.now (g.S.Services.stands c.args.svc.now)) (joined c.pays.new.self (g.S.Services.stands c.args.svc.now)) (c.if-not-pays.ensures.paid refl (g.S.Services.stands c.args.svc.now))) (onward _ _ _ rows (chunk_gave c.args.here.now.code.now c.args.here.now.fun c.args.a.now (spot c.args.here.now c.args.e.now).env c.in-Ok-All.args (joined c.all_parts.new.state (g.S.Services.stands c.all_parts.new.svc)) c.args.f.now c.args.es.now c.requires.packs))) in
+    flows_from c.eval_packed.new.codes c.args.here.now.code.now c.args.here.now.fun (spot c.args.here.now c.args.e.now) _ _ c.eval_packed.result (joined c.eval_packed.new.state (g.S.Services.stands c.eval_packed.new.svc)) whole c.eval_packed.ensures.flows
+
+pub eval_packing-returns-in_ok-inside-in-Ok-Wait-clause-flows : goal.eval_packing-returns-in_ok-inside-in-Ok-Wait-clause-flows
+eval_packing-returns-in_ok-inside-in-Ok-Wait-clause-flows g t c =
+    let is : c.all_parts.result ≡ Ok (row.Wait c.in-Ok-Wait.rest) = cc in
+    let rows : Waits c.all_parts.new.codes c.args.here.now.code.now c.args.here.now.fun (spot c.args.here.now c.args.a.now) (begins c.args.here.now.code.now c.args.here.now.fun (spot c.args.here.now c.args.a.now) (joined c.pays.new.self (g.S.Services.stands c.args.svc.now))) c.in-Ok-Wait.rest (joined c.all_parts.new.state (g.S.Services.stands c.all_parts.new.svc)) = rw is at c.all_parts.ensures.rows in
+    rw (c.in_ok-inside-in-Ok-Wait.ensures, c.new.ensures)
+    (waits_inside c.all_parts.new.codes c.args.here.now.code.now c.args.here.now.fun (spot c.args.here.now c.args.e.now) (frame.Part 0 []) _ (eval_part c.args.here.now.code.now c.args.here.now.fun c.args.e.now c.args.a.now (spot c.args.here.now c.args.e.now).env c.requires.form) c.in-Ok-Wait.rest (joined c.all_parts.new.state (g.S.Services.stands c.all_parts.new.svc)) _ _ (packing_leads c.args.here.now.code.now c.args.here.now.fun c.args.e.now c.args.a.now (spot c.args.here.now c.args.e.now).env c.requires.form _ (joined c.args.state.now (g.S.Services.stands c.args.svc.now)) (begun_here c.args.here.now.code.now c.args.here.now.fun (spot c.args.here.now c.args.e.now).env c.args.a.now (joined c.args.state.now (g.S.Services.stands c.args.svc.now)) (joined c.pays.new.self (g.S.Services.stands c.args.svc.now)) (c.if-not-pays.ensures.paid refl (g.S.Services.stands c.args.svc.now)))) rows)
+
+pub eval_packing-returns-in-Err-clause-flows : goal.eval_packing-returns-in-Err-clause-flows
+eval_packing-returns-in-Err-clause-flows g t c = λ other.
+    let is : c.all_parts.result ≡ Err c.in-Err.stop = cc in
+    let ends = (rw is at c.all_parts.ensures.rows) other in
+    (packing_leads c.args.here.now.code.now c.args.here.now.fun c.args.e.now c.args.a.now (spot c.args.here.now c.args.e.now).env c.requires.form _ (joined c.args.state.now (g.S.Services.stands c.args.svc.now)) (begun_here c.args.here.now.code.now c.args.here.now.fun (spot c.args.here.now c.args.e.now).env c.args.a.now (joined c.args.state.now (g.S.Services.stands c.args.svc.now)) (joined c.pays.new.self (g.S.Services.stands c.args.svc.now)) (c.if-not-pays.ensures.paid refl (g.S.Services.stands c.args.svc.now)))).same ∙ part_stops_so c.args.here.now.code.now c.args.here.now.fun (spot c.args.here.now c.args.e.now) 0 [] _ c.in-Err.stop _ (eval_no_try c.args.here.now.code.now c.args.here.now.fun c.args.e.now c.args.a.now (spot c.args.here.now c.args.e.now).env c.requires.form) ends
+
+pub eval_packed-visit_here-requires : goal.eval_packed-visit_here-requires
+eval_packed-visit_here-requires g t c =
+    let is : c.pay_packed.result ≡ Ok tt = cc in
+    let form = c.requires.form in
+    let leads = rw (is, c.as_slice.ensures) at (c.pay_packed.ensures.pays c.args.here.now.fun c.args.e.now form.0 (spot c.args.here.now c.args.e.now).env (g.S.Services.stands c.args.svc.now) form.1) in
+    let safe : IsSafe (next_step c.args.here.now.code.now c.args.here.now.fun (spot c.args.here.now c.args.e.now) (next.Visit (record { code = c.args.here.now.code.now; entry = c.args.f.now; args = c.args.args })) (joined c.pay_packed.new.state (g.S.Services.stands c.args.svc.now))).asks = leads.safe c.requires.safe in
+    let here = c.requires.here in
+    search rules
+
+pub eval_packed-returns-in-Ok-clause-flows : goal.eval_packed-returns-in-Ok-clause-flows
+eval_packed-returns-in-Ok-clause-flows g t c =
+    let is : c.pay_packed.result ≡ Ok tt = cc in
+    let form = c.requires.form in
+    let leads = rw (is, c.as_slice.ensures) at (c.pay_packed.ensures.pays c.args.here.now.fun c.args.e.now form.0 (spot c.args.here.now c.args.e.now).env (g.S.Services.stands c.args.svc.now) form.1) in
+    flows_from c.visit_here.new.codes c.args.here.now.code.now c.args.here.now.fun (spot c.args.here.now c.args.e.now) _ _ c.visit_here.result (joined c.visit_here.new.state (g.S.Services.stands c.visit_here.new.svc)) leads c.visit_here.ensures.flows
+
+pub eval_packed-returns-in-Err-clause-flows : goal.eval_packed-returns-in-Err-clause-flows
+eval_packed-returns-in-Err-clause-flows g t c = λ other.
+    let is : c.pay_packed.result ≡ Err c.in-Err.stop = cc in
+    let form = c.requires.form in
+    (rw (is, c.as_slice.ensures) at (c.pay_packed.ensures.pays c.args.here.now.fun c.args.e.now form.0 (spot c.args.here.now c.args.e.now).env (g.S.Services.stands c.args.svc.now) form.1)) other
+
+pub visit_here-returns-in_default-clause-flows : goal.visit_here-returns-in_default-clause-flows
+visit_here-returns-in_default-clause-flows g t c = λ other.
+    let none : place_of c.args.f.now c.args.here.now.code.now.funs ≡ None = cc in
+    resume_final c.args.here.now.code.now c.args.here.now.fun Wrong _ tt (spot c.args.here.now c.args.e.now) frame.Chunk (visited meaning (record { code = c.args.here.now.code.now; entry = c.args.f.now; args = c.args.args }) (joined c.args.state.now (g.S.Services.stands c.args.svc.now))) (visited_nowhere (record { code = c.args.here.now.code.now; entry = c.args.f.now; args = c.args.args }) (joined c.args.state.now (g.S.Services.stands c.args.svc.now)) none)
+
+pub visit_here-enter-flow-requires : goal.visit_here-enter-flow-requires
+visit_here-enter-flow-requires g t c =
+    let place : place_of c.args.f.now c.args.here.now.code.now.funs ≡ Some c.in-Some.fun = cc in
+    let inside = resume_asks c.args.here.now.code.now c.args.here.now.fun (spot c.args.here.now c.args.e.now) frame.Chunk _ c.requires.safe in
+    let safe : IsSafe (entered meaning c.args.here.now.code.now c.in-Some.fun c.args.args (joined c.args.state.now (g.S.Services.stands c.args.svc.now))).asks = (visited_on (record { code = c.args.here.now.code.now; entry = c.args.f.now; args = c.args.args }) c.in-Some.fun (joined c.args.state.now (g.S.Services.stands c.args.svc.now)) place).safe inside in
+    let program = c.requires.here.program in
+    search rules
+
+pub visit_here-returns-clause-flows : goal.visit_here-returns-clause-flows
+visit_here-returns-clause-flows g t c =
+    let place : place_of c.args.f.now c.args.here.now.code.now.funs ≡ Some c.in-Some.fun = cc in
+    c.chunk_back.ensures.flows c.enter-flow.new.codes c.args.here.now.code.now c.args.here.now.fun (spot c.args.here.now c.args.e.now) _ (g.S.Services.stands c.enter-flow.new.svc)
+    (enters_from c.enter-flow.new.codes _ _ c.enter-flow.result _ (visited_on (record { code = c.args.here.now.code.now; entry = c.args.f.now; args = c.args.args }) c.in-Some.fun (joined c.args.state.now (g.S.Services.stands c.args.svc.now)) place) c.enter-flow.ensures.enters)

@@ -1,7 +1,7 @@
 use Rattle.plan_meaning.specs.State.{joined}
 use Rattle.plan_eval.proofs.Entering.{linked_top}
 use Rattle.plan_eval.proofs.Taking.{safe_run}
-use Rattle.plan_eval.proofs.Diving.{turn_dives}
+use Rattle.plan_eval.proofs.Diving.{turn_begins}
 use Rattle.plan_eval.proofs.machine.begin.Goals as goal
 
 pub run_top-flow-requires-clause-linked : goal.run_top-flow-requires-clause-linked
@@ -13,6 +13,7 @@ run_top-flow-requires-clause-safe g c =
 
 pub returns-clause-turned : goal.returns-clause-turned
 returns-clause-turned g c =
-    turn_dives c.args.codes.now c.run_top-flow.new.codes c.args.outer.now c.args.top (joined c.args.state.now (g.S.Services.stands c.args.svc.now)) c.requires.linked c.run_top-flow.ensures.grown
+    turn_begins c.args.codes.now c.run_top-flow.new.codes c.args.outer.now c.args.top c.run_top-flow.ensures.grown
     c.landed.result c.landed.new.outer (joined c.run_top-flow.new.state (g.S.Services.stands c.run_top-flow.new.svc))
+    (joined c.args.state.now (g.S.Services.stands c.args.svc.now)) c.requires.linked
     (λ code at is there stands. c.landed.ensures.turned c.run_top-flow.new.codes code at _ _ stands (c.run_top-flow.ensures.flows code at is there))

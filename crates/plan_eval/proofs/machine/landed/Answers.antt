@@ -1,10 +1,15 @@
-use Rattle.std.proofs.Common.{◌≡◌, Ok, Err}
+use Rattle.std.proofs.Common.{◌≡◌, Ok, Err, refl}
 use Rattle.plan_meaning.specs.declared.stop.Stop.TheVariants.{Raised, WorkSpent, Wrong}
 use Rattle.plan_eval.specs.declared.rest.Flow.TheVariants as flow
-use Rattle.plan_eval.proofs.Turning.{gives_on, turn_raised, turn_stopped}
+use Rattle.plan_eval.proofs.Turning.{gives_on, turn_left, turn_raised, turn_stopped}
 use Rattle.plan_eval.proofs.Waiting.{turn_waits}
-use Rattle.plan_eval.proofs.Backs.{load_waits}
+use Rattle.plan_eval.proofs.Backs.{load_waits, load_rests}
 use Rattle.plan_eval.proofs.machine.landed.Goals as goal
+
+pub returns-in-Ok-Done-then-is_empty-clause-turned : goal.returns-in-Ok-Done-then-is_empty-clause-turned
+returns-in-Ok-Done-then-is_empty-clause-turned c codes code at want s here h =
+    let is : c.args.flow ≡ Ok (flow.Done c.in-Ok-Done.v) = cc in
+    turn_left codes c.args.outer.now code c.args.top at want here (c.if-is_empty.ensures.0 refl) c.in-Ok-Done.v s (rw is at h)
 
 pub returns-in_ok-add-in-Ok-Done-clause-turned : goal.returns-in_ok-add-in-Ok-Done-clause-turned
 returns-in_ok-add-in-Ok-Done-clause-turned c codes code at want s here h =
@@ -35,3 +40,8 @@ pub returns-in-Err-Wrong-clause-turned : goal.returns-in-Err-Wrong-clause-turned
 returns-in-Err-Wrong-clause-turned c codes code at want s here h =
     let is : c.args.flow ≡ Err Wrong = cc in
     turn_stopped codes c.args.outer.now code c.args.top at want here Wrong s tt (rw is at h)
+
+pub returns-in_ok-stacked-in-Ok-Wait-clause-bounded : goal.returns-in_ok-stacked-in-Ok-Wait-clause-bounded
+returns-in_ok-stacked-in-Ok-Wait-clause-bounded c old new h =
+    let is : c.args.flow ≡ Ok (flow.Wait c.in-Ok-Wait.rest) = cc in
+    rw c.in_ok-stacked-in-Ok-Wait.ensures (load_rests c.args.outer.now c.args.top c.in-Ok-Wait.rest old new (rw is at h))

@@ -1,5 +1,5 @@
 use Rattle.std.proofs.Common.{refl, ◌∙◌}
-use Rattle.plan_eval.proofs.Leading.{itself, onward}
+use Rattle.eval_steps.proofs.Leading.{itself, onward}
 use Rattle.plan_eval.proofs.Starting.{ended_give, ended_raise, ended_run}
 use Rattle.plan_eval.proofs.machine.run.Goals as goal
 

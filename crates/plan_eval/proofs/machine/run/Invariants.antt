@@ -1,8 +1,8 @@
 use Rattle.std.proofs.Common.{◌≡◌}
 use Rattle.plan_meaning.specs.State.{joined}
-use Rattle.plan_eval.specs.declared.stack_frame.Mode.TheVariants as mode
-use Rattle.plan_eval.specs.Leads.{Leads}
-use Rattle.plan_eval.specs.Stack.{AreLinked, stands_for}
+use Rattle.eval_steps.specs.declared.stack_frame.Mode.TheVariants as mode
+use Rattle.eval_steps.specs.Leads.{Leads}
+use Rattle.eval_steps.specs.Stack.{AreLinked, stands_for}
 use Rattle.plan_eval.specs.Turns.{load}
 use Rattle.plan_eval.proofs.machine.run.Given as goal
 

@@ -1,15 +1,14 @@
 use Rattle.std.proofs.Common.{◌≡◌, Some, slice_get, sym, ◌∙◌, ap}
 use Rattle.plan_base.specs.declared.tree.Program.{Program}
 use Rattle.plan_meaning.specs.State.{joined}
-use Rattle.plan_meaning.specs.Meaning.{meaning}
-use Rattle.plan_eval.specs.Stack.{Spot, expr_from}
-use Rattle.plan_eval.specs.Direct.{Flows}
+use Rattle.eval_steps.specs.Stack.{Spot, expr_from}
+use Rattle.plan_eval.specs.Direct.{Flows, task_step}
 use Rattle.plan_eval.specs.Turns.{IsAt}
 use Rattle.plan_eval.proofs.Diving.{here_binds, here_spot, here_only}
 use Rattle.plan_eval.proofs.machine.run_top.Goals as goal
 
-pub evaluate-requires-clause-here : goal.evaluate-requires-clause-here
-evaluate-requires-clause-here g c =
+pub perform-requires-clause-here : goal.perform-requires-clause-here
+perform-requires-clause-here g c =
     let found : Some c.in-Some.shared.now ≡ slice_get c.args.codes.now c.args.top.now.code = c.in-Some.ensures.value in
     let program : slice_get c.args.codes.now c.args.top.now.code ≡ Some c.in_ok-code.code = sym found ∙ ap (λ (x : Program). Some x) (sym c.in_ok-code.ensures) in
     let named : Some c.in-Some-get.function.now ≡ slice_get c.get-2.result.now.funs c.args.top.now.fun = c.in-Some-get.ensures.value in
@@ -17,10 +16,10 @@ evaluate-requires-clause-here g c =
     let reached : Some c.in-Some-expr_from.expr.now ≡ expr_from (Some c.in-Some-get.function.now.body) c.as_slice.result.now = c.in-Some-expr_from.ensures in
     let expression : expr_from (Some c.in-Some-get.function.now.body) c.args.top.now.frames ≡ Some c.in-Some-expr_from.expr.now = rw c.as_slice.ensures at (sym reached) in
     let here : IsAt c.args.codes.now c.args.top.now c.in_ok-code.code c.in-Some-get.function.now c.in-Some-expr_from.expr.now = record { program = program; function = function; expression = expression } in
-    record { program = program; function = function; binds = here_binds c.args.codes.now c.args.top.now c.in_ok-code.code c.in-Some-get.function.now c.in-Some-expr_from.expr.now here c.requires.linked c.as_slice-2.result.now c.as_slice-3.result.now c.as_slice-2.ensures c.as_slice-3.ensures }
+    record { program = program; function = function; binds = here_binds c.args.codes.now c.args.top.now c.in_ok-code.code c.in-Some-get.function.now c.in-Some-expr_from.expr.now here c.requires.linked c.as_slice-2.result.now c.as_slice-3.result.now c.as_slice-4.result.now c.as_slice-2.ensures c.as_slice-3.ensures (c.as_slice-4.ensures ∙ c.new-none.ensures) }
 
-pub evaluate-requires-clause-safe : goal.evaluate-requires-clause-safe
-evaluate-requires-clause-safe g c =
+pub perform-requires-clause-safe : goal.perform-requires-clause-safe
+perform-requires-clause-safe g c =
     let found : Some c.in-Some.shared.now ≡ slice_get c.args.codes.now c.args.top.now.code = c.in-Some.ensures.value in
     let program : slice_get c.args.codes.now c.args.top.now.code ≡ Some c.in_ok-code.code = sym found ∙ ap (λ (x : Program). Some x) (sym c.in_ok-code.ensures) in
     let named : Some c.in-Some-get.function.now ≡ slice_get c.get-2.result.now.funs c.args.top.now.fun = c.in-Some-get.ensures.value in
@@ -28,7 +27,7 @@ evaluate-requires-clause-safe g c =
     let reached : Some c.in-Some-expr_from.expr.now ≡ expr_from (Some c.in-Some-get.function.now.body) c.as_slice.result.now = c.in-Some-expr_from.ensures in
     let expression : expr_from (Some c.in-Some-get.function.now.body) c.args.top.now.frames ≡ Some c.in-Some-expr_from.expr.now = rw c.as_slice.ensures at (sym reached) in
     let here : IsAt c.args.codes.now c.args.top.now c.in_ok-code.code c.in-Some-get.function.now c.in-Some-expr_from.expr.now = record { program = program; function = function; expression = expression } in
-    c.requires.safe c.in_ok-code.code _ program (here_spot c.args.codes.now c.args.top.now c.in_ok-code.code c.in-Some-get.function.now c.in-Some-expr_from.expr.now here c.requires.linked c.as_slice-2.result.now c.as_slice-3.result.now c.as_slice-2.ensures c.as_slice-3.ensures)
+    c.requires.safe c.in_ok-code.code _ program (here_spot c.args.codes.now c.args.top.now c.in_ok-code.code c.in-Some-get.function.now c.in-Some-expr_from.expr.now here c.requires.linked c.as_slice-2.result.now c.as_slice-3.result.now c.as_slice-4.result.now c.as_slice-2.ensures c.as_slice-3.ensures (c.as_slice-4.ensures ∙ c.new-none.ensures))
 
 pub returns-clause-flows : goal.returns-clause-flows
 returns-clause-flows g c =
@@ -39,6 +38,6 @@ returns-clause-flows g c =
     let reached : Some c.in-Some-expr_from.expr.now ≡ expr_from (Some c.in-Some-get.function.now.body) c.as_slice.result.now = c.in-Some-expr_from.ensures in
     let expression : expr_from (Some c.in-Some-get.function.now.body) c.args.top.now.frames ≡ Some c.in-Some-expr_from.expr.now = rw c.as_slice.ensures at (sym reached) in
     let here : IsAt c.args.codes.now c.args.top.now c.in_ok-code.code c.in-Some-get.function.now c.in-Some-expr_from.expr.now = record { program = program; function = function; expression = expression } in
-    here_only c.args.codes.now c.args.top.now c.in_ok-code.code c.in-Some-get.function.now c.in-Some-expr_from.expr.now here c.requires.linked c.as_slice-2.result.now c.as_slice-3.result.now c.as_slice-2.ensures c.as_slice-3.ensures
-    (λ (x : Program) (y : Spot). Flows c.evaluate.new.codes x c.args.top.now.fun y (meaning x c.args.top.now.fun y.env y.expr (joined c.args.state.now (g.S.Services.stands c.args.svc.now))) c.evaluate.result (joined c.evaluate.new.state (g.S.Services.stands c.evaluate.new.svc)))
-    c.evaluate.ensures.flows
+    here_only c.args.codes.now c.args.top.now c.in_ok-code.code c.in-Some-get.function.now c.in-Some-expr_from.expr.now here c.requires.linked c.as_slice-2.result.now c.as_slice-3.result.now c.as_slice-4.result.now c.as_slice-2.ensures c.as_slice-3.ensures (c.as_slice-4.ensures ∙ c.new-none.ensures)
+    (λ (x : Program) (y : Spot). Flows c.perform.new.codes x c.args.top.now.fun y (task_step x c.args.top.now.fun y c.args.task (joined c.args.state.now (g.S.Services.stands c.args.svc.now))) c.perform.result (joined c.perform.new.state (g.S.Services.stands c.perform.new.svc)))
+    c.perform.ensures.flows

@@ -1,7 +1,7 @@
 use Rattle.std.proofs.Common.{◌≡◌, Some, None, refl, ◌∙◌}
 use Rattle.typing_rules.specs.TypingNames.{place_of}
 use Rattle.plan_meaning.specs.State.{joined}
-use Rattle.plan_eval.proofs.Delivering.{visited_on}
+use Rattle.eval_steps.proofs.Delivering.{visited_on}
 use Rattle.plan_eval.proofs.Turning.{visited_nowhere}
 use Rattle.plan_eval.proofs.Starting.{starts, starts_linked, meets_from}
 use Rattle.plan_eval.proofs.visiting.visited.Goals as goal

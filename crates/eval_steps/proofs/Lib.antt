@@ -1,0 +1,10 @@
+pub mod Leading
+pub mod Walking
+pub mod Deciding
+pub mod Stacks
+pub mod Delivering
+pub mod Calling
+pub mod Gathering
+pub mod Sending
+pub mod Giving
+pub mod Catching

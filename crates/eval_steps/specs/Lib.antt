@@ -1,0 +1,4 @@
+pub mod Stack
+pub mod Leads
+pub mod Nexts
+pub mod Forms

@@ -1,0 +1,223 @@
+//! Evals and sends.
+ghost use Rattle.std.specs.Prelude.{◌≡◌, ◌≤◌, ◌<◌, ◌∷◌, ◌++◌, [], ℕ, List, length, IfOk};
+ghost use Rattle.plan_base.specs.declared.tree.Expr.{Expr, Expr-F};
+ghost use Rattle.plan_base.specs.declared.tree.Program.{Program};
+ghost use Rattle.plan_base.specs.declared.tree.Value.{Value};
+ghost use Rattle.service_api.specs.Services.{ServiceState};
+ghost use Rattle.plan_meaning.specs.State.{joined};
+ghost use Rattle.plan_meaning.specs.Meaning as spec;
+ghost use Rattle.eval_steps.specs.declared.stack_frame.StackFrame.TheVariants as frame;
+ghost use Rattle.eval_steps.specs.Nexts.{Continues, RemoteIsSafe, NeighbourIsSafe};
+
+use crate::next::Next;
+use crate::operand::behind_one;
+use crate::stack_frame::StackFrame;
+use plan_base::{Chunk, Name, NoMemory, Value, Values};
+use plan_meaning::Stop;
+use std::alloc::Global;
+use visit_state::{State, as_chunk, as_dev, as_host, as_int};
+
+/// The chunk that a value is.
+#[tactic(auto, unfolding(plan_meaning::specs::Meaning::as_chunk), using(plan_base::specs::Trees::trees))]
+fn chunk_of(v: Value) -> Option<Chunk>
+    ensures { result ≡ spec.as_chunk v }
+{
+    match v {
+        Value::Chunk(chunk) => Some(chunk.into_inner()),
+        _ => None,
+    }
+}
+
+/// An eval, which is paid before its chunk runs.
+#[tactic(auto, using(crate::proofs::Deciding::chunk_paid, crate::proofs::Sending::chunk_unpaid, crate::proofs::Sending::no_chunk))]
+#[inline(never)]
+pub fn evaluated(alloc: Global, v: Value, state: &mut State) -> Result<Next, Stop>
+    ensures decides { (code : Program) (seen : ℕ) (a : Expr) (n : ℕ)
+        (held : List Value) (s : ServiceState)
+        → Continues code seen (Expr-F.Eval a) n held v
+        (joined state.old s) result (joined state.new s) }
+    ensures falls { state.new.work ≤ state.old.work }
+{
+    let Some(chunk) = chunk_of(v) else {
+        return Err(Stop::Wrong);
+    };
+    state.pay_eval(alloc)?;
+    Ok(Next::Visit(chunk))
+}
+
+/// Values with one more, as a frame for the next part.
+fn behind_more(n: usize, held: Values, v: Value) -> Result<StackFrame, NoMemory>
+    ensures { IfOk result (λ f. f ≡ frame.Part n (held ++ v ∷ [])) }
+{
+    let mut all = held;
+    all.add(v)?;
+    Ok(StackFrame::Part(n, all))
+}
+
+/// Takes the first of the values that wait. Condition: there is one.
+#[tactic(auto, using(crate::proofs::Sending::first_off))]
+fn take_first(held: &mut Values) -> Value
+    requires { 0 < length held.old }
+    ensures { held.old ≡ result ∷ held.new }
+{
+    held.remove(0)
+}
+
+/// A send by a routing name, once its parts are there.
+#[tactic(auto, using(crate::proofs::Deciding::sends_remote, crate::proofs::Sending::unsent_remote, crate::proofs::Sending::last_remote))]
+fn send_remote(
+    alloc: Global,
+    r: &Name,
+    c: Value,
+    w: &Value,
+    v: &Value,
+    state: &mut State,
+) -> Result<Next, Stop>
+    requires safe { RemoteIsSafe r.now c w.now v.now state.old }
+    ensures decides { (code : Program) (seen : ℕ) (a h b : Expr) (n : ℕ)
+        (held : List Value) (s : ServiceState)
+        → Continues code seen (Expr-F.OnRemote a h b r.now) n (c ∷ w.now ∷ held) v.now
+        (joined state.old s) result (joined state.new s) }
+    ensures falls { state.new.work ≤ state.old.work }
+{
+    let Some(chunk) = chunk_of(c) else {
+        return Err(Stop::Wrong);
+    };
+    let Some(host) = as_host(w) else {
+        return Err(Stop::Wrong);
+    };
+    let Some(bound) = as_int(v) else {
+        return Err(Stop::Wrong);
+    };
+    state.send_remote(alloc, chunk, host, bound, r)?;
+    Ok(Next::Give(Value::Unit))
+}
+
+/// The next part of a send by a routing name, or the send.
+#[tactic(auto, using(crate::proofs::Deciding::host_of_remote, crate::proofs::Deciding::bound_of_remote, crate::proofs::Sending::early_remote))]
+#[inline(never)]
+pub fn remote_part(
+    alloc: Global,
+    r: &Name,
+    held: Values,
+    v: Value,
+    state: &mut State,
+) -> Result<Next, Stop>
+    requires safe { (c w : Value) (more : List Value) → held ≡ c ∷ w ∷ more
+        → RemoteIsSafe r.now c w v state.old }
+    ensures decides { (code : Program) (seen : ℕ) (a h b : Expr) (n : ℕ) (s : ServiceState)
+        → Continues code seen (Expr-F.OnRemote a h b r.now) n held v
+        (joined state.old s) result (joined state.new s) }
+    ensures falls { state.new.work ≤ state.old.work }
+{
+    match held.as_slice() {
+        [] => {
+            if as_chunk(&v).is_none() {
+                return Err(Stop::Wrong);
+            }
+            Ok(Next::Open(behind_one(alloc, 1, v)?))
+        }
+        [c] => {
+            if as_chunk(c).is_none() {
+                return Err(Stop::Wrong);
+            }
+            if as_host(&v).is_none() {
+                return Err(Stop::Wrong);
+            }
+            Ok(Next::Open(behind_more(2, held, v)?))
+        }
+        [_, _, ..] => {
+            let mut waiting = held;
+            let c = take_first(&mut waiting);
+            let w = take_first(&mut waiting);
+            send_remote(alloc, r, c, &w, &v, state)
+        }
+    }
+}
+
+/// A send to a neighbour, once its parts are there.
+#[tactic(auto, using(crate::proofs::Deciding::sends_neighbour, crate::proofs::Sending::unsent_neighbour, crate::proofs::Sending::last_neighbour))]
+fn send_neighbour(
+    alloc: Global,
+    c: Value,
+    w: &Value,
+    u: &Value,
+    v: &Value,
+    state: &mut State,
+) -> Result<Next, Stop>
+    requires safe { NeighbourIsSafe c w.now u.now v.now state.old }
+    ensures decides { (code : Program) (seen : ℕ) (a h b d : Expr) (n : ℕ)
+        (held : List Value) (s : ServiceState)
+        → Continues code seen (Expr-F.OnNeighbor a h b d) n (c ∷ w.now ∷ u.now ∷ held) v.now
+        (joined state.old s) result (joined state.new s) }
+    ensures falls { state.new.work ≤ state.old.work }
+{
+    let Some(chunk) = chunk_of(c) else {
+        return Err(Stop::Wrong);
+    };
+    let Some(host) = as_host(w) else {
+        return Err(Stop::Wrong);
+    };
+    let Some(bound) = as_int(u) else {
+        return Err(Stop::Wrong);
+    };
+    let Some(dev) = as_dev(v) else {
+        return Err(Stop::Wrong);
+    };
+    state.send_neighbour(alloc, chunk, host, bound, dev)?;
+    Ok(Next::Give(Value::Unit))
+}
+
+/// The next part of a send to a neighbour, or the send.
+#[tactic(auto, using(crate::proofs::Deciding::host_of_neighbour, crate::proofs::Deciding::bound_of_neighbour, crate::proofs::Deciding::dev_of_neighbour, crate::proofs::Sending::early_neighbour, crate::proofs::Sending::third_neighbour))]
+#[inline(never)]
+pub fn neighbour_part(
+    alloc: Global,
+    held: Values,
+    v: Value,
+    state: &mut State,
+) -> Result<Next, Stop>
+    requires safe { (c w u : Value) (more : List Value) → held ≡ c ∷ w ∷ u ∷ more
+        → NeighbourIsSafe c w u v state.old }
+    ensures decides { (code : Program) (seen : ℕ) (a h b d : Expr) (n : ℕ) (s : ServiceState)
+        → Continues code seen (Expr-F.OnNeighbor a h b d) n held v
+        (joined state.old s) result (joined state.new s) }
+    ensures falls { state.new.work ≤ state.old.work }
+{
+    match held.as_slice() {
+        [] => {
+            if as_chunk(&v).is_none() {
+                return Err(Stop::Wrong);
+            }
+            Ok(Next::Open(behind_one(alloc, 1, v)?))
+        }
+        [c] => {
+            if as_chunk(c).is_none() {
+                return Err(Stop::Wrong);
+            }
+            if as_host(&v).is_none() {
+                return Err(Stop::Wrong);
+            }
+            Ok(Next::Open(behind_more(2, held, v)?))
+        }
+        [c, w] => {
+            if as_chunk(c).is_none() {
+                return Err(Stop::Wrong);
+            }
+            if as_host(w).is_none() {
+                return Err(Stop::Wrong);
+            }
+            if as_int(&v).is_none() {
+                return Err(Stop::Wrong);
+            }
+            Ok(Next::Open(behind_more(3, held, v)?))
+        }
+        [_, _, _, ..] => {
+            let mut waiting = held;
+            let c = take_first(&mut waiting);
+            let w = take_first(&mut waiting);
+            let u = take_first(&mut waiting);
+            send_neighbour(alloc, c, &w, &u, &v, state)
+        }
+    }
+}

@@ -1,0 +1,88 @@
+//! Chunks of the program that evaluates them, which are not made.
+ghost use Rattle.std.specs.Prelude.{◌≡◌, ◌≤◌, ℕ, [], min};
+ghost use Rattle.std.specs.List.{sum_by};
+ghost use Rattle.plan_base.specs.Sizes.{largest_by, weight, nesting};
+ghost use Rattle.plan_base.specs.declared.tree.Expr.{Expr, Expr-F, out-Expr};
+ghost use Rattle.plan_base.specs.declared.tree.Value as value;
+ghost use Rattle.service_api.specs.Services.{ServiceState};
+ghost use Rattle.plan_meaning.specs.State.{joined};
+ghost use Rattle.plan_meaning.specs.Run.{weighed};
+ghost use Rattle.plan_meaning.specs.Meaning.{Env};
+ghost use Rattle.eval_steps.specs.declared.stack_frame.StackFrame.TheVariants as frame;
+ghost use Rattle.eval_steps.specs.declared.next.Next.TheVariants as next;
+ghost use Rattle.eval_steps.specs.Stack.{resume};
+ghost use Rattle.eval_steps.specs.Nexts.{next_step};
+ghost use Rattle.eval_steps.specs.Leads.{Carries};
+
+use plan_base::{Name, Program, Value};
+use plan_items::Shared;
+use plan_meaning::Stop;
+use plan_sizes::{code_size, nesting, weight};
+use std::alloc::Global;
+use visit_state::{State, Weighing, too_large};
+
+/// What values weigh in sum.
+fn weights(values: &[Value]) -> u64
+    ensures { result ≡ min (sum_by weight values.now) 18446744073709551615 }
+{
+    let mut total = 0u64;
+    for v in values {
+        total = total.saturating_add(weight(v));
+    }
+    total
+}
+
+/// How many chunks stand inside each other in values.
+fn deepest(values: &[Value]) -> u32
+    ensures { result ≡ min (largest_by nesting values.now) 4294967295 }
+{
+    let mut most = 0u32;
+    for v in values {
+        most = most.max(nesting(v));
+    }
+    most
+}
+
+/// What a chunk weighs as a value.
+#[tactic(auto, using(plan_base::proofs::SizeLaws::weight_out, plan_base::proofs::SizeLaws::chunk_weight_is, plan_base::specs::Trees::trees))]
+fn packed_weight(code: &Program, entry: &Name, args: &[Value]) -> u64
+    ensures { result ≡ min (weight (value.Chunk (record { code = code.now; entry = entry.now; args = args.now }))) 18446744073709551615 }
+{
+    let name = entry.as_slice().len() as u64;
+    code_size(code)
+        .saturating_add(name)
+        .saturating_add(weights(args))
+        .saturating_add(3)
+}
+
+/// How many chunks stand inside each other in a chunk, itself counted.
+#[tactic(auto, using(plan_base::proofs::SizeLaws::nesting_out, plan_base::proofs::SizeLaws::chunk_nesting_is, plan_base::specs::Trees::trees))]
+fn packed_nesting(code: &Program, entry: &Name, args: &[Value]) -> u32
+    ensures { result ≡ min (nesting (value.Chunk (record { code = code.now; entry = entry.now; args = args.now }))) 4294967295 }
+{
+    deepest(args).saturating_add(1)
+}
+
+/// Weighs a chunk, and pays for its eval.
+pub fn pay_packed(
+    alloc: Global,
+    code: &Shared<Program>,
+    entry: &Name,
+    args: &[Value],
+    state: &mut State,
+) -> Result<(), Stop>
+    ensures pays { (seen : ℕ) (e a : Expr) (env : Env) (n : ServiceState) → out-Expr e ≡ Expr-F.Eval a
+        → Carries (resume code.now seen (record { expr = e; env = env }) (frame.Part 0 [])
+        (weighed (value.Chunk (record { code = code.now; entry = entry.now; args = args.now })) (joined state.old n)))
+        (λ _. next_step code.now seen (record { expr = e; env = env }) (next.Visit (record { code = code.now; entry = entry.now; args = args.now })) (joined state.new n))
+        result (joined state.new n) }
+    ensures falls { state.new.work ≤ state.old.work }
+{
+    let size = packed_weight(code.get(), entry, args);
+    let deep = packed_nesting(code.get(), entry, args);
+    match state.weighs_as(size, deep) {
+        Weighing::Paid => state.pay_eval(alloc),
+        Weighing::Spent => Err(Stop::WorkSpent),
+        Weighing::TooLarge => Err(too_large(alloc)),
+    }
+}
