@@ -44,23 +44,24 @@ parts_of (Expr-F.OnRemote a h n r) = a ∷ h ∷ n ∷ []
 parts_of (Expr-F.OnNeighbor a h n d) = a ∷ h ∷ n ∷ d ∷ []
 parts_of _ = []
 
--- the expression that a frame's evaluation is in: the part that it evaluates, or the expression itself where that is
--- the next activation
+-- the number of the part that a frame evaluates, where it evaluates one
 abbrev pub part_number : StackFrame → Option ℕ
 part_number (frame.Part n held) = Some n
 part_number (frame.Last n) = Some n
 part_number (frame.Bound v) = Some 1
 part_number _ = None
 
+-- the expression that a frame's evaluation is in: that part, or the expression itself where that is the next activation
 abbrev pub part_or_self : Expr → Option ℕ → Option Expr
 part_or_self e (Some n) = slice_get (parts_of (out-Expr e)) n
 part_or_self e None = Some e
 
--- the bindings that the part sees
+-- the bindings that the body of a `let` sees
 abbrev pub inside_let : ExprLayer → Env → Value → Env
 inside_let (Expr-F.Let x t a b) env v = env ++ binds x v ∷ []
 inside_let _ env v = env
 
+-- the bindings that what a frame evaluates sees
 abbrev pub env_at : Expr → Env → StackFrame → Env
 env_at e env (frame.Bound v) = inside_let (out-Expr e) env v
 env_at e env _ = env
@@ -70,6 +71,7 @@ pub record Spot : Type 0 where
   pub expr : Expr
   pub env : Env
 
+-- that expression with those bindings, where there is one
 abbrev pub spot_of : Option Expr → Env → Option Spot
 spot_of (Some e) env = Some (record { expr = e; env = env })
 spot_of None env = None
@@ -95,15 +97,17 @@ abbrev pub spot_from : Option Spot → List StackFrame → Option Spot
 spot_from (Some at) fs = spot_of (expr_from (Some at.expr) fs) (env_from (Some at.expr) at.env fs)
 spot_from None fs = None
 
--- what a name is bound to there, where it was bound to `before` outside
+-- what a name is bound to in the body of a `let`, where it was bound to `before` outside
 abbrev pub inside_value : Name → ExprLayer → Value → Option Value → Option Value
 inside_value y (Expr-F.Let x t a b) v before = if bytes_eq x y then Some v else before
 inside_value y _ v before = before
 
+-- the same in what a frame evaluates
 abbrev pub value_at : Name → Expr → StackFrame → Option Value → Option Value
 value_at y e (frame.Bound v) before = inside_value y (out-Expr e) v before
 value_at y e _ before = before
 
+-- the same where frames lead
 abbrev pub value_from : Name → Option Value → Option Expr → List StackFrame → Option Value
 value_from y before e [] = before
 value_from y before None (f ∷ fs) = before
@@ -180,14 +184,17 @@ module _ (code : Program) (seen : ℕ) where
 
 -- ---- activations
 
+-- the body of a function under its arguments' bindings
 abbrev pub body_spot : Fun → Option Env → Option Spot
 body_spot f (Some env) = Some (record { expr = f.body; env = env })
 body_spot f None = None
 
+-- the body of a function under its arguments
 abbrev pub fun_spot : Option Fun → List Value → Option Spot
 fun_spot (Some f) args = body_spot f (bound f.params args)
 fun_spot None args = None
 
+-- the body of the function at a place of a program
 abbrev pub code_spot : Option Program → ℕ → List Value → Option Spot
 code_spot (Some code) at args = fun_spot (slice_get code.funs at) args
 code_spot None at args = None
@@ -200,6 +207,7 @@ start_of codes a = code_spot (slice_get codes a.code) a.fun a.args
 unfoldable pub spot_in : List Program → Activation → Option Spot
 spot_in codes a = spot_from (start_of codes a) a.frames
 
+-- the open expressions of an activation go on from its start
 abbrev pub ended_in : Option Program → Option Spot → Activation → Step Value → Step Value
 ended_in (Some code) start a r = through code a.fun start a.frames r
 ended_in None start a r = r
@@ -220,6 +228,7 @@ AreLinked codes (a ∷ more) = IsSome (spot_in codes a) × AreLinked codes more
 
 -- ---- what a stack stands for
 
+-- the expression at a spot by itself, in its program
 abbrev pub innermost_run : Option Program → ℕ → Option Spot → Run Value
 innermost_run (Some code) seen (Some at) = meaning code seen at.env at.expr
 innermost_run _ seen at = wrong
@@ -230,6 +239,7 @@ innermost codes [] = wrong
 innermost codes (a ∷ []) = innermost_run (slice_get codes a.code) a.fun (spot_in codes a)
 innermost codes (a ∷ b ∷ more) = innermost codes (b ∷ more)
 
+-- what the visit does next, by itself
 abbrev pub mode_step : List Program → List Activation → Mode → VisitState → Step Value
 mode_step codes activations mode.Run s = innermost codes activations s
 mode_step codes activations (mode.Give v) s = quiet (gave v s)

@@ -26,8 +26,11 @@ pub fn called<S: Services>(
     svc: &mut S,
 ) -> Result<Next, Stop>
     requires open { IsSome (S.stands svc.old).begun }
-    requires safe { IsSafe (call_of code.now seen f.now args (joined state.old (S.stands svc.old))).asks }
-    ensures decides { (at : Spot) → Decides code.now seen at (call_of code.now seen f.now args (joined state.old (S.stands svc.old))) result (joined state.new (S.stands svc.new)) }
+    requires safe { IsSafe
+        (call_of code.now seen f.now args (joined state.old (S.stands svc.old))).asks }
+    ensures decides { (at : Spot) → Decides code.now seen at
+        (call_of code.now seen f.now args (joined state.old (S.stands svc.old)))
+        result (joined state.new (S.stands svc.new)) }
     ensures falls { state.new.work ≤ state.old.work }
     ensures offer { (S.stands svc.new).offer ≡ (S.stands svc.old).offer }
     ensures begun { (S.stands svc.new).begun ≡ (S.stands svc.old).begun }

@@ -44,7 +44,8 @@ fn left_step(
     acc: Value,
     left: Values,
 ) -> Result<Next, Stop>
-    ensures { (a l : Expr) (s : VisitState) → FoldsOn code.now seen (Expr-F.Foldl f.now a l) acc left s result s }
+    ensures { (a l : Expr) (s : VisitState)
+        → FoldsOn code.now seen (Expr-F.Foldl f.now a l) acc left s result s }
 {
     let mut rest = left;
     let Some(item) = rest.pop() else {
@@ -66,7 +67,8 @@ fn right_step(
     acc: Value,
     left: Values,
 ) -> Result<Next, Stop>
-    ensures { (a l : Expr) (s : VisitState) → FoldsOn code.now seen (Expr-F.Foldr f.now a l) acc left s result s }
+    ensures { (a l : Expr) (s : VisitState)
+        → FoldsOn code.now seen (Expr-F.Foldr f.now a l) acc left s result s }
 {
     let mut rest = left;
     let Some(item) = rest.pop() else {
@@ -100,7 +102,8 @@ pub fn left_part(
     held: Values,
     v: Value,
 ) -> Result<Next, Stop>
-    ensures { (a l : Expr) (n : ℕ) (s : VisitState) → Continues code.now seen (Expr-F.Foldl f.now a l) n held v s result s }
+    ensures { (a l : Expr) (n : ℕ) (s : VisitState)
+        → Continues code.now seen (Expr-F.Foldl f.now a l) n held v s result s }
 {
     let Some(acc) = first_of(held) else {
         return Ok(Next::Open(behind_one(alloc, 1, v)?));
@@ -122,7 +125,8 @@ pub fn right_part(
     held: Values,
     v: Value,
 ) -> Result<Next, Stop>
-    ensures { (a l : Expr) (n : ℕ) (s : VisitState) → Continues code.now seen (Expr-F.Foldr f.now a l) n held v s result s }
+    ensures { (a l : Expr) (n : ℕ) (s : VisitState)
+        → Continues code.now seen (Expr-F.Foldr f.now a l) n held v s result s }
 {
     let Some(acc) = first_of(held) else {
         return Ok(Next::Open(behind_one(alloc, 1, v)?));
@@ -144,7 +148,8 @@ pub fn item_gave(
     acc: Value,
     left: Values,
 ) -> Result<Next, Stop>
-    ensures { (env : Env) (s : VisitState) → Decides code.now seen (record { expr = e.now; env = env })
+    ensures { (env : Env) (s : VisitState)
+        → Decides code.now seen (record { expr = e.now; env = env })
         (fold_on code.now seen (record { expr = e.now; env = env }) acc left s) result s }
 {
     match e {

@@ -19,7 +19,8 @@ use visit_state::State;
 /// The number of the part behind that of number `n`, where there is one.
 #[tactic(auto, using(crate::proofs::Calling::drop_all, crate::proofs::Calling::drop_some))]
 fn part_behind(es: &[Expr], n: usize) -> Option<usize>
-    ensures { MatchOption result (drop (n + 1) es.now ≡ []) (λ m. (m ≡ n + 1) × (x : Expr) × (rest : List Expr) × (drop (n + 1) es.now ≡ x ∷ rest)) }
+    ensures { MatchOption result (drop (n + 1) es.now ≡ []) (λ m.
+        (m ≡ n + 1) × (x : Expr) × (rest : List Expr) × (drop (n + 1) es.now ≡ x ∷ rest)) }
 {
     if n < es.len() && n + 1 < es.len() {
         return Some(n + 1);
@@ -31,7 +32,8 @@ fn part_behind(es: &[Expr], n: usize) -> Option<usize>
 #[tactic(auto, using(crate::proofs::Deciding::next_of_tuple, crate::proofs::Deciding::last_of_tuple))]
 #[inline(never)]
 pub fn tuple_part(es: &Exprs, n: usize, held: Values, v: Value) -> Result<Next, Stop>
-    ensures { (code : Program) (seen : ℕ) (s : VisitState) → Continues code seen (Expr-F.Tuple es.now) n held v s result s }
+    ensures { (code : Program) (seen : ℕ) (s : VisitState)
+        → Continues code seen (Expr-F.Tuple es.now) n held v s result s }
 {
     let mut parts = held;
     parts.add(v)?;
@@ -53,7 +55,8 @@ pub fn chunk_part(
     held: Values,
     v: Value,
 ) -> Result<Next, Stop>
-    ensures { (seen : ℕ) (s : VisitState) → Continues code.now seen (Expr-F.ChunkOf f.now es.now) n held v s result s }
+    ensures { (seen : ℕ) (s : VisitState)
+        → Continues code.now seen (Expr-F.ChunkOf f.now es.now) n held v s result s }
 {
     let mut args = held;
     args.add(v)?;
@@ -84,8 +87,10 @@ pub fn call_part<S: Services>(
     svc: &mut S,
 ) -> Result<Next, Stop>
     requires open { IsSome (S.stands svc.old).begun }
-    requires safe { drop (n + 1) es.now ≡ [] → IsSafe (call_of code.now seen f.now (held ++ v ∷ []) (joined state.old (S.stands svc.old))).asks }
-    ensures decides { Continues code.now seen (Expr-F.Call f.now es.now) n held v (joined state.old (S.stands svc.old)) result (joined state.new (S.stands svc.new)) }
+    requires safe { drop (n + 1) es.now ≡ [] → IsSafe
+        (call_of code.now seen f.now (held ++ v ∷ []) (joined state.old (S.stands svc.old))).asks }
+    ensures decides { Continues code.now seen (Expr-F.Call f.now es.now) n held v
+        (joined state.old (S.stands svc.old)) result (joined state.new (S.stands svc.new)) }
     ensures falls { state.new.work ≤ state.old.work }
     ensures offer { (S.stands svc.new).offer ≡ (S.stands svc.old).offer }
     ensures begun { (S.stands svc.new).begun ≡ (S.stands svc.old).begun }

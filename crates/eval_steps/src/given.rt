@@ -35,9 +35,12 @@ fn after_part<S: Services>(
     svc: &mut S,
 ) -> Result<Next, Stop>
     requires open { IsSome (S.stands svc.old).begun }
-    requires safe { (env : Env) × IsSafe (part_gave code.now seen (record { expr = e.now; env = env }) n held v (joined state.old (S.stands svc.old))).asks }
+    requires safe { (env : Env) × IsSafe
+        (part_gave code.now seen (record { expr = e.now; env = env })
+        n held v (joined state.old (S.stands svc.old))).asks }
     ensures decides { (env : Env) → Decides code.now seen (record { expr = e.now; env = env })
-        (part_gave code.now seen (record { expr = e.now; env = env }) n held v (joined state.old (S.stands svc.old)))
+        (part_gave code.now seen (record { expr = e.now; env = env })
+        n held v (joined state.old (S.stands svc.old)))
         result (joined state.new (S.stands svc.new)) }
     ensures falls { state.new.work ≤ state.old.work }
     ensures offer { (S.stands svc.new).offer ≡ (S.stands svc.old).offer }
@@ -79,9 +82,12 @@ pub fn frame_given<S: Services>(
     svc: &mut S,
 ) -> Result<Next, Stop>
     requires open { IsSome (S.stands svc.old).begun }
-    requires safe { (env : Env) × IsSafe (resume code.now seen (record { expr = e.now; env = env }) frame (quiet (gave v (joined state.old (S.stands svc.old))))).asks }
+    requires safe { (env : Env) × IsSafe
+        (resume code.now seen (record { expr = e.now; env = env })
+        frame (quiet (gave v (joined state.old (S.stands svc.old))))).asks }
     ensures decides { (env : Env) → Decides code.now seen (record { expr = e.now; env = env })
-        (resume code.now seen (record { expr = e.now; env = env }) frame (quiet (gave v (joined state.old (S.stands svc.old)))))
+        (resume code.now seen (record { expr = e.now; env = env })
+        frame (quiet (gave v (joined state.old (S.stands svc.old)))))
         result (joined state.new (S.stands svc.new)) }
     ensures falls { state.new.work ≤ state.old.work }
     ensures offer { (S.stands svc.new).offer ≡ (S.stands svc.old).offer }

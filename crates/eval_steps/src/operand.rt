@@ -28,7 +28,8 @@ pub fn behind_one(alloc: Global, n: usize, v: Value) -> Result<StackFrame, NoMem
 /// A list with one more item before it.
 #[tactic(auto, using(crate::proofs::Gathering::list_gives, crate::proofs::Gathering::list_stops))]
 fn put_first(x: Value, v: Value) -> Result<Next, Stop>
-    ensures { (code : Program) (seen : ℕ) (a b : Expr) (n : ℕ) (held : List Value) (s : VisitState) → Continues code seen (Expr-F.Binary op.Cons a b) n (x ∷ held) v s result s }
+    ensures { (code : Program) (seen : ℕ) (a b : Expr) (n : ℕ) (held : List Value) (s : VisitState)
+        → Continues code seen (Expr-F.Binary op.Cons a b) n (x ∷ held) v s result s }
 {
     Ok(Next::Give(cons(x, v)?))
 }
@@ -36,7 +37,8 @@ fn put_first(x: Value, v: Value) -> Result<Next, Stop>
 /// What an operator gives of two values.
 #[tactic(auto, using(crate::proofs::Gathering::operator_gives, crate::proofs::Gathering::operator_stops))]
 fn operated(alloc: Global, op: Op, x: Value, v: Value) -> Result<Next, Stop>
-    ensures { (code : Program) (seen : ℕ) (a b : Expr) (n : ℕ) (held : List Value) (s : VisitState) → Continues code seen (Expr-F.Binary op a b) n (x ∷ held) v s result s }
+    ensures { (code : Program) (seen : ℕ) (a b : Expr) (n : ℕ) (held : List Value) (s : VisitState)
+        → Continues code seen (Expr-F.Binary op a b) n (x ∷ held) v s result s }
 {
     match op {
         Op::Cons => put_first(x, v),
@@ -48,7 +50,8 @@ fn operated(alloc: Global, op: Op, x: Value, v: Value) -> Result<Next, Stop>
 #[tactic(auto, using(crate::proofs::Deciding::second))]
 #[inline(never)]
 pub fn operand(alloc: Global, op: Op, held: Values, v: Value) -> Result<Next, Stop>
-    ensures { (code : Program) (seen : ℕ) (a b : Expr) (n : ℕ) (s : VisitState) → Continues code seen (Expr-F.Binary op a b) n held v s result s }
+    ensures { (code : Program) (seen : ℕ) (a b : Expr) (n : ℕ) (s : VisitState)
+        → Continues code seen (Expr-F.Binary op a b) n held v s result s }
 {
     match first_of(held) {
         Some(x) => operated(alloc, op, x, v),

@@ -15,7 +15,8 @@ use visit_state::as_bool;
 /// A branch of an `if` for the value of its test.
 #[tactic(auto, using(crate::proofs::Deciding::chosen_true, crate::proofs::Deciding::chosen_false, crate::proofs::Deciding::chosen_none))]
 pub fn choose(v: &Value) -> Result<Next, Stop>
-    ensures { (code : Program) (seen : ℕ) (t a b : Expr) (n : ℕ) (held : List Value) (s : VisitState)
+    ensures { (code : Program) (seen : ℕ) (t a b : Expr) (n : ℕ)
+        (held : List Value) (s : VisitState)
         → Continues code seen (Expr-F.If t a b) n held v.now s result s }
 {
     match as_bool(v) {

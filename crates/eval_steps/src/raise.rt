@@ -35,9 +35,12 @@ fn body_for(clauses: &[Clause], x: &Exn) -> Option<usize>
 
 /// The expression of a `try` raised an exception: a clause takes it, or it goes on.
 fn try_raised(clauses: &Clauses, x: Exn) -> Result<Next, Stop>
-    ensures { (code : Program) (seen : ℕ) (e a : Expr) (env : Env) (n : ℕ) (held : List Value) (s : VisitState) → out-Expr e ≡ Expr-F.Try a clauses.now
+    ensures { (code : Program) (seen : ℕ) (e a : Expr) (env : Env) (n : ℕ)
+        (held : List Value) (s : VisitState)
+        → out-Expr e ≡ Expr-F.Try a clauses.now
         → Decides code seen (record { expr = e; env = env })
-        (resume code seen (record { expr = e; env = env }) (frame.Part n held) (quiet (stopped (Raised x) s))) result s }
+        (resume code seen (record { expr = e; env = env }) (frame.Part n held)
+        (quiet (stopped (Raised x) s))) result s }
 {
     match body_for(clauses.as_slice(), &x) {
         Some(number) => Ok(Next::Open(StackFrame::Last(number))),
@@ -48,8 +51,10 @@ fn try_raised(clauses: &Clauses, x: Exn) -> Result<Next, Stop>
 /// A part raised an exception: the clauses of a `try` may take it, and every other form passes it on.
 #[tactic(auto, using(plan_base::specs::Trees::trees))]
 fn part_raised(e: &Expr, x: Exn) -> Result<Next, Stop>
-    ensures { (code : Program) (seen : ℕ) (env : Env) (n : ℕ) (held : List Value) (s : VisitState) → Decides code seen (record { expr = e.now; env = env })
-        (resume code seen (record { expr = e.now; env = env }) (frame.Part n held) (quiet (stopped (Raised x) s))) result s }
+    ensures { (code : Program) (seen : ℕ) (env : Env) (n : ℕ) (held : List Value) (s : VisitState)
+        → Decides code seen (record { expr = e.now; env = env })
+        (resume code seen (record { expr = e.now; env = env }) (frame.Part n held)
+        (quiet (stopped (Raised x) s))) result s }
 {
     match e {
         Expr::Try(_, clauses) => try_raised(clauses, x),
@@ -60,8 +65,10 @@ fn part_raised(e: &Expr, x: Exn) -> Result<Next, Stop>
 /// What an open expression does when what its frame waits for raised an exception.
 #[tactic(auto, using(crate::proofs::Catching::passes_frame))]
 pub fn frame_raised(e: &Expr, frame: &StackFrame, x: Exn) -> Result<Next, Stop>
-    ensures { (code : Program) (seen : ℕ) (env : Env) (s : VisitState) → Decides code seen (record { expr = e.now; env = env })
-        (resume code seen (record { expr = e.now; env = env }) frame.now (quiet (stopped (Raised x) s))) result s }
+    ensures { (code : Program) (seen : ℕ) (env : Env) (s : VisitState)
+        → Decides code seen (record { expr = e.now; env = env })
+        (resume code seen (record { expr = e.now; env = env }) frame.now
+        (quiet (stopped (Raised x) s))) result s }
 {
     match frame {
         StackFrame::Part(_, _) => part_raised(e, x),

@@ -32,8 +32,10 @@ fn chunk_of(v: Value) -> Option<Chunk>
 #[tactic(auto, using(crate::proofs::Deciding::chunk_paid, crate::proofs::Sending::chunk_unpaid, crate::proofs::Sending::no_chunk))]
 #[inline(never)]
 pub fn evaluated(alloc: Global, v: Value, state: &mut State) -> Result<Next, Stop>
-    ensures decides { (code : Program) (seen : ℕ) (a : Expr) (n : ℕ) (held : List Value) (s : ServiceState)
-        → Continues code seen (Expr-F.Eval a) n held v (joined state.old s) result (joined state.new s) }
+    ensures decides { (code : Program) (seen : ℕ) (a : Expr) (n : ℕ)
+        (held : List Value) (s : ServiceState)
+        → Continues code seen (Expr-F.Eval a) n held v
+        (joined state.old s) result (joined state.new s) }
     ensures falls { state.new.work ≤ state.old.work }
 {
     let Some(chunk) = chunk_of(v) else {
@@ -72,8 +74,10 @@ fn send_remote(
     state: &mut State,
 ) -> Result<Next, Stop>
     requires safe { RemoteIsSafe r.now c w.now v.now state.old }
-    ensures decides { (code : Program) (seen : ℕ) (a h b : Expr) (n : ℕ) (held : List Value) (s : ServiceState)
-        → Continues code seen (Expr-F.OnRemote a h b r.now) n (c ∷ w.now ∷ held) v.now (joined state.old s) result (joined state.new s) }
+    ensures decides { (code : Program) (seen : ℕ) (a h b : Expr) (n : ℕ)
+        (held : List Value) (s : ServiceState)
+        → Continues code seen (Expr-F.OnRemote a h b r.now) n (c ∷ w.now ∷ held) v.now
+        (joined state.old s) result (joined state.new s) }
     ensures falls { state.new.work ≤ state.old.work }
 {
     let Some(chunk) = chunk_of(c) else {
@@ -99,9 +103,11 @@ pub fn remote_part(
     v: Value,
     state: &mut State,
 ) -> Result<Next, Stop>
-    requires safe { (c w : Value) (more : List Value) → held ≡ c ∷ w ∷ more → RemoteIsSafe r.now c w v state.old }
+    requires safe { (c w : Value) (more : List Value) → held ≡ c ∷ w ∷ more
+        → RemoteIsSafe r.now c w v state.old }
     ensures decides { (code : Program) (seen : ℕ) (a h b : Expr) (n : ℕ) (s : ServiceState)
-        → Continues code seen (Expr-F.OnRemote a h b r.now) n held v (joined state.old s) result (joined state.new s) }
+        → Continues code seen (Expr-F.OnRemote a h b r.now) n held v
+        (joined state.old s) result (joined state.new s) }
     ensures falls { state.new.work ≤ state.old.work }
 {
     match held.as_slice() {
@@ -140,8 +146,10 @@ fn send_neighbour(
     state: &mut State,
 ) -> Result<Next, Stop>
     requires safe { NeighbourIsSafe c w.now u.now v.now state.old }
-    ensures decides { (code : Program) (seen : ℕ) (a h b d : Expr) (n : ℕ) (held : List Value) (s : ServiceState)
-        → Continues code seen (Expr-F.OnNeighbor a h b d) n (c ∷ w.now ∷ u.now ∷ held) v.now (joined state.old s) result (joined state.new s) }
+    ensures decides { (code : Program) (seen : ℕ) (a h b d : Expr) (n : ℕ)
+        (held : List Value) (s : ServiceState)
+        → Continues code seen (Expr-F.OnNeighbor a h b d) n (c ∷ w.now ∷ u.now ∷ held) v.now
+        (joined state.old s) result (joined state.new s) }
     ensures falls { state.new.work ≤ state.old.work }
 {
     let Some(chunk) = chunk_of(c) else {
@@ -169,9 +177,11 @@ pub fn neighbour_part(
     v: Value,
     state: &mut State,
 ) -> Result<Next, Stop>
-    requires safe { (c w u : Value) (more : List Value) → held ≡ c ∷ w ∷ u ∷ more → NeighbourIsSafe c w u v state.old }
+    requires safe { (c w u : Value) (more : List Value) → held ≡ c ∷ w ∷ u ∷ more
+        → NeighbourIsSafe c w u v state.old }
     ensures decides { (code : Program) (seen : ℕ) (a h b d : Expr) (n : ℕ) (s : ServiceState)
-        → Continues code seen (Expr-F.OnNeighbor a h b d) n held v (joined state.old s) result (joined state.new s) }
+        → Continues code seen (Expr-F.OnNeighbor a h b d) n held v
+        (joined state.old s) result (joined state.new s) }
     ensures falls { state.new.work ≤ state.old.work }
 {
     match held.as_slice() {

@@ -2,12 +2,11 @@
 ghost use Rattle.std.specs.Prelude.{◌≡◌, Option, Some, None};
 ghost use Rattle.std.specs.Option.{option_copied};
 ghost use Rattle.std.specs.Str.{bytes_eq};
-ghost use Rattle.plan_meaning.specs.Meaning.{bound};
 ghost use Rattle.eval_steps.specs.Stack.{part_number, part_or_self, expr_from, value_from, value_at};
 
 use crate::parts::part_of;
 use crate::stack_frame::StackFrame;
-use plan_base::{Expr, Name, Param, Value};
+use plan_base::{Expr, Name, Value};
 
 /// The part that a frame evaluates, or the expression itself where that is the next activation.
 pub fn part_or_self<'a>(e: &'a Expr, frame: &StackFrame) -> Option<&'a Expr>
@@ -52,7 +51,8 @@ fn value_at<'a>(
     frame: &'a StackFrame,
     before: Option<&'a Value>,
 ) -> Option<&'a Value>
-    ensures { option_copied result ≡ value_at name.now e.now frame.now (option_copied before.entry) }
+    ensures { option_copied result
+        ≡ value_at name.now e.now frame.now (option_copied before.entry) }
 {
     match (frame, e) {
         (StackFrame::Bound(value), Expr::Let(bound, _, _, _)) if same_name(bound, name) => Some(
@@ -70,7 +70,8 @@ pub fn value_from<'a>(
     start: &Expr,
     frames: &'a [StackFrame],
 ) -> Option<&'a Value>
-    ensures { option_copied result ≡ value_from name.now (option_copied before.entry) (Some start.now) frames.now }
+    ensures { option_copied result
+        ≡ value_from name.now (option_copied before.entry) (Some start.now) frames.now }
 {
     let mut found = before;
     let mut e = start;
