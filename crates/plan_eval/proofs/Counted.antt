@@ -1,5 +1,5 @@
 -- Operators of two values that are numbers.
-use Rattle.std.proofs.Common.{◌≡◌, ℤ, Bool, refl, arith}
+use Rattle.std.proofs.Common.{◌≡◌, ℤ, Bool, Option, Some, None, IfSome, refl, arith}
 use Rattle.std.specs.Prelude.{int_lt, not}
 use Rattle.plan_base.specs.declared.tree.Op.{Op}
 use Rattle.plan_base.specs.declared.tree.Op.TheVariants as op
@@ -23,8 +23,12 @@ by_numbers op.Div a b n h = rw (out_int a, out_int b) h
 by_numbers op.Mod a b n h = rw (out_int a, out_int b) h
 by_numbers _ a b n h = absurd (no_value h)
 
-pub number_is : (o : Op) (x y : Value) (a b n : ℤ) → x ≡ value.Int a → y ≡ value.Int b → computed o a b ≡ gives (value.Int n) → binary o x y ≡ gives (value.Int n)
+number_is : (o : Op) (x y : Value) (a b n : ℤ) → x ≡ value.Int a → y ≡ value.Int b → computed o a b ≡ gives (value.Int n) → binary o x y ≡ gives (value.Int n)
 number_is o x y a b n left right h = rw (left, right) (by_numbers o a b n h)
+
+pub number_all : (o : Op) (x y : Value) (a b : ℤ) (r : Option ℤ) → x ≡ value.Int a → y ≡ value.Int b → IfSome r (λ n. computed o a b ≡ gives (value.Int n)) → IfSome r (λ n. binary o x y ≡ gives (value.Int n))
+number_all o x y a b (Some n) left right h = number_is o x y a b n left right h
+number_all o x y a b None left right h = tt
 
 pub order_is : (o : Op) (x y : Value) (a b : ℤ) (t : Bool) → x ≡ value.Int a → y ≡ value.Int b → binary o (value.Int a) (value.Int b) ≡ gives (value.Bool t) → binary o x y ≡ gives (value.Bool t)
 order_is o x y a b t left right h = rw (left, right) h

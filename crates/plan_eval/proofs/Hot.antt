@@ -1,5 +1,5 @@
 -- The forms that are evaluated by themselves on the native stack.
-use Rattle.std.proofs.Common.{◌≡◌, arith, Bool, ℕ, ◌+◌, ℤ, List, [], ◌∷◌, ◌++◌, length, length-append, drop, slice_get, zero, suc, true, false, Some, None, refl, sym, ◌∙◌, ap, subst}
+use Rattle.std.proofs.Common.{◌≡◌, arith, Bool, ℕ, ◌+◌, ℤ, List, [], ◌∷◌, ◌++◌, length, length-append, drop, slice_get, zero, suc, true, false, Some, None, Result, Ok, Err, refl, sym, ◌∙◌, ap, subst}
 use Rattle.small_laws.proofs.Options.{none-some}
 use Rattle.plan_base.specs.declared.name.Name.{Name}
 use Rattle.plan_base.specs.declared.tree.Op.{Op}
@@ -142,8 +142,8 @@ module _ (code : Program) (seen : ℕ) (e : Expr) (x : Name) (t : Ty) (a b : Exp
       (named_next code seen e env s1 x t a b 0 [] v form)))
 
 -- one more name
-pub one_name : (env : Env) (bs : List Binding) (b : Binding) (all : List Binding) → all ≡ bs ++ b ∷ [] → env ++ bound_here all ≡ (env ++ bound_here bs) ++ binds b.name.now b.value.now ∷ []
-one_name env bs b all is = rw is (ap (λ (x : Env). env ++ x) (map-append (λ (c : Binding). binds c.name.now c.value.now) bs (b ∷ [])) ∙ sym (append_assoc env (bound_here bs) (binds b.name.now b.value.now ∷ [])))
+pub one_name : (env : Env) (bs old all : List Binding) (b : Binding) → all ≡ old ++ b ∷ [] → old ≡ bs → env ++ bound_here all ≡ (env ++ bound_here bs) ++ binds b.name.now b.value.now ∷ []
+one_name env bs old all b is same = rw (is, same) (ap (λ (x : Env). env ++ x) (map-append (λ (c : Binding). binds c.name.now c.value.now) bs (b ∷ [])) ∙ sym (append_assoc env (bound_here bs) (binds b.name.now b.value.now ∷ [])))
 
 -- ---- operators
 

@@ -131,7 +131,7 @@ pub fn chunk_back(alloc: Global, flow: Result<Flow, Stop>, state: &mut State) ->
     ensures lasts { (old : ℕ) → Goes old flow state.old.work → Lasts 3 old result state.new.work }
 {
     match flow {
-        Ok(Flow::Done(_)) => ended(alloc, Value::Unit, state),
+        Ok(Flow::Done(_given)) => ended(alloc, Value::Unit, state),
         Ok(Flow::Wait(rest)) => Ok(inside(alloc, rest, StackFrame::Chunk)?),
         Err(stop) => Err(stop),
     }

@@ -58,15 +58,12 @@ fn both_numbers(x: &Value, y: &Value) -> Option<(i64, i64)>
 }
 
 /// The number that an operator gives of two values, where both are numbers.
-#[tactic(auto, using(crate::proofs::Counted::number_is))]
+#[tactic(auto, using(crate::proofs::Counted::number_all))]
 pub fn number_given(op: Op, x: &Value, y: &Value) -> Option<i64>
     ensures { IfSome result (λ n. rules.binary op x.now y.now ≡ rules.gives (value.Int n)) }
 {
-    let Some((a, b)) = both_numbers(x, y) else {
-        return None;
-    };
-    match number_of(op, a, b) {
-        Some(n) => Some(n),
+    match both_numbers(x, y) {
+        Some((a, b)) => number_of(op, a, b),
         None => None,
     }
 }

@@ -1,11 +1,12 @@
-use Rattle.std.proofs.Common.{◌≡◌, ap, List, ◌++◌, rules, Ok, Err, true, false, ◌∷◌, [], length, slice_get, Some, None, IsSome, refl, sym, ◌∙◌, arith, ◌<◌}
+use Rattle.std.proofs.Common.{◌≡◌, ◌++◌, rules, Ok, Err, true, false, ◌∷◌, [], length, slice_get, Some, None, IsSome, refl, sym, ◌∙◌, arith, ◌<◌}
 use Rattle.plan_base.specs.declared.tree.Expr.{Expr-F, out-Expr}
 use Rattle.plan_base.specs.declared.tree.Expr as expr
+use Rattle.plan_base.specs.declared.tree.Value as value
 use Rattle.plan_eval.specs.declared.row.Row.TheVariants as row
 use Rattle.typing_rules.specs.TypingNames.{place_of}
 use Rattle.plan_meaning.specs.declared.stop.Stop.TheVariants.{WorkSpent, Wrong}
 use Rattle.plan_meaning.specs.State.{joined}
-use Rattle.plan_meaning.specs.Run.{gave}
+use Rattle.plan_meaning.specs.Run.{gave, weighed}
 use Rattle.plan_meaning.specs.Safe.{IsSafe}
 use Rattle.plan_meaning.specs.Meaning.{meaning, as_bool, bound, entered, visited}
 use Rattle.eval_steps.specs.declared.stack_frame.StackFrame.TheVariants as frame
@@ -13,10 +14,9 @@ use Rattle.eval_steps.specs.declared.next.Next.TheVariants as next
 use Rattle.plan_eval.specs.declared.rest.Flow.TheVariants as flow
 use Rattle.plan_eval.specs.declared.turn.Turn.TheVariants as turn
 use Rattle.eval_steps.specs.Forms.{IsRow}
-use Rattle.eval_steps.specs.Stack.{parts_of, part_or_self, part_number}
+use Rattle.eval_steps.specs.Stack.{parts_of, part_or_self, part_number, resume}
 use Rattle.eval_steps.specs.Nexts.{begins, next_step, call_of}
 use Rattle.eval_steps.specs.Leads.{Leads}
-use Rattle.plan_eval.specs.declared.here.Binding.{Binding}
 use Rattle.plan_eval.specs.Direct.{env_of, bound_here, named_spot, spot, row_gave, Waits}
 use Rattle.eval_steps.proofs.Leading.{itself, onward}
 use Rattle.plan_eval.proofs.Beginning.{begun_here, begun_spent}
@@ -56,8 +56,8 @@ evaluate-returns-in-Var-clause-flows g t c =
 
 pub evaluate-choice-requires : goal.evaluate-choice-requires
 evaluate-choice-requires g t c =
-    let form : out-Expr c.args.e.now ≡ Expr-F.If c.get.result.now c.get-in-If.result.now c.get-in-If-2.result.now =
-    rw (c.in-If.is, c.get.ensures, c.get-in-If.ensures, c.get-in-If-2.ensures) (if_form c.in-If.t c.in-If.a c.in-If.b) in
+    let form : out-Expr c.args.e.now ≡ Expr-F.If c.get-t.result.now c.get-a.result.now c.get-b.result.now =
+    rw (c.in-If.is, c.get-t.ensures, c.get-a.ensures, c.get-b.ensures) (if_form c.in-If.t c.in-If.a c.in-If.b) in
     let leads = begun_here c.args.here.now.code.now c.args.here.now.fun (spot c.args.here.now c.args.e.now).env c.args.e.now (joined c.args.state.now (g.S.Services.stands c.args.svc.now)) (joined c.pays.new.self (g.S.Services.stands c.args.svc.now))
     (c.if-not-pays.ensures.paid refl (g.S.Services.stands c.args.svc.now)) in
     let safe : IsSafe (begins c.args.here.now.code.now c.args.here.now.fun (spot c.args.here.now c.args.e.now) (joined c.pays.new.self (g.S.Services.stands c.args.svc.now))).asks = leads.safe c.requires.safe in
@@ -71,8 +71,8 @@ evaluate-returns-in-If-clause-flows g t c =
 
 pub evaluate-operation-requires : goal.evaluate-operation-requires
 evaluate-operation-requires g t c =
-    let form : out-Expr c.args.e.now ≡ Expr-F.Binary c.in-Binary.op c.get-in-Binary.result.now c.get-in-Binary-2.result.now =
-    rw (c.in-Binary.is, c.get-in-Binary.ensures, c.get-in-Binary-2.ensures) (binary_form c.in-Binary.op c.in-Binary.a c.in-Binary.b) in
+    let form : out-Expr c.args.e.now ≡ Expr-F.Binary c.in-Binary.op c.get-a-in-Binary.result.now c.get-b-in-Binary.result.now =
+    rw (c.in-Binary.is, c.get-a-in-Binary.ensures, c.get-b-in-Binary.ensures) (binary_form c.in-Binary.op c.in-Binary.a c.in-Binary.b) in
     let leads = begun_here c.args.here.now.code.now c.args.here.now.fun (spot c.args.here.now c.args.e.now).env c.args.e.now (joined c.args.state.now (g.S.Services.stands c.args.svc.now)) (joined c.pays.new.self (g.S.Services.stands c.args.svc.now))
     (c.if-not-pays.ensures.paid refl (g.S.Services.stands c.args.svc.now)) in
     let safe : IsSafe (begins c.args.here.now.code.now c.args.here.now.fun (spot c.args.here.now c.args.e.now) (joined c.pays.new.self (g.S.Services.stands c.args.svc.now))).asks = leads.safe c.requires.safe in
@@ -376,7 +376,7 @@ all_parts-returns-clause-rows g t c =
 
 pub evaluate-eval-requires : goal.evaluate-eval-requires
 evaluate-eval-requires g t c =
-    let form : out-Expr c.args.e.now ≡ Expr-F.Eval c.get-in-Eval.result.now = rw (c.in-Eval.is, c.get-in-Eval.ensures) (eval_form c.in-Eval.a) in
+    let form : out-Expr c.args.e.now ≡ Expr-F.Eval c.get.result.now = rw (c.in-Eval.is, c.get.ensures) (eval_form c.in-Eval.a) in
     let leads = begun_here c.args.here.now.code.now c.args.here.now.fun (spot c.args.here.now c.args.e.now).env c.args.e.now (joined c.args.state.now (g.S.Services.stands c.args.svc.now)) (joined c.pays.new.self (g.S.Services.stands c.args.svc.now))
     (c.if-not-pays.ensures.paid refl (g.S.Services.stands c.args.svc.now)) in
     let safe : IsSafe (begins c.args.here.now.code.now c.args.here.now.fun (spot c.args.here.now c.args.e.now) (joined c.pays.new.self (g.S.Services.stands c.args.svc.now))).asks = leads.safe c.requires.safe in
@@ -482,8 +482,8 @@ evaluate-returns-in-ChunkOf-clause-flows g t c =
 
 pub evaluate-binding-requires : goal.evaluate-binding-requires
 evaluate-binding-requires g t c =
-    let form : out-Expr c.args.e.now ≡ Expr-F.Let c.in-Let.x c.in-Let.field-1 c.get-in-Let.result.now c.get-in-Let-2.result.now =
-    rw (c.in-Let.is, c.get-in-Let.ensures, c.get-in-Let-2.ensures) (let_form c.in-Let.x c.in-Let.field-1 c.in-Let.a c.in-Let.b) in
+    let form : out-Expr c.args.e.now ≡ Expr-F.Let c.in-Let.x c.in-Let.field-1 c.get-a-in-Let.result.now c.get-b-in-Let.result.now =
+    rw (c.in-Let.is, c.get-a-in-Let.ensures, c.get-b-in-Let.ensures) (let_form c.in-Let.x c.in-Let.field-1 c.in-Let.a c.in-Let.b) in
     let leads = begun_here c.args.here.now.code.now c.args.here.now.fun (spot c.args.here.now c.args.e.now).env c.args.e.now (joined c.args.state.now (g.S.Services.stands c.args.svc.now)) (joined c.pays.new.self (g.S.Services.stands c.args.svc.now))
     (c.if-not-pays.ensures.paid refl (g.S.Services.stands c.args.svc.now)) in
     let safe : IsSafe (begins c.args.here.now.code.now c.args.here.now.fun (spot c.args.here.now c.args.e.now) (joined c.pays.new.self (g.S.Services.stands c.args.svc.now))).asks = leads.safe c.requires.safe in
@@ -531,14 +531,16 @@ binding-returns-in-Err-clause-flows g t c = λ other.
 
 pub under_name-evaluate-requires : goal.under_name-evaluate-requires
 under_name-evaluate-requires g t c =
-    let is = one_name (env_of c.args.here.now.function.now c.args.here.now.args.now c.args.here.now.frames.now) c.args.here.now.bindings.now _ c.as_slice.result.now (c.as_slice.ensures ∙ c.in_ok-add.ensures.ok ∙ ap (λ (bs : List Binding). bs ++ _ ∷ []) c.in_ok-bindings.ensures) in
+    let is : env_of c.args.here.now.function.now c.args.here.now.args.now c.args.here.now.frames.now ++ bound_here c.as_slice.result.now ≡ (named_spot c.args.here.now c.args.x.now c.args.v.now c.args.b.now).env =
+    one_name (env_of c.args.here.now.function.now c.args.here.now.args.now c.args.here.now.frames.now) c.args.here.now.bindings.now _ c.as_slice.result.now _ (c.as_slice.ensures ∙ c.in_ok-add.ensures.ok) c.in_ok-bindings.ensures in
     let here = c.requires.here in
     let safe : IsSafe (meaning c.args.here.now.code.now c.args.here.now.fun (env_of c.args.here.now.function.now c.args.here.now.args.now c.args.here.now.frames.now ++ bound_here c.as_slice.result.now) c.args.b.now (joined c.args.state.now (g.S.Services.stands c.args.svc.now))).asks = rw is c.requires.safe in
     search rules
 
 pub under_name-returns-clause-flows : goal.under_name-returns-clause-flows
 under_name-returns-clause-flows g t c =
-    let is = one_name (env_of c.args.here.now.function.now c.args.here.now.args.now c.args.here.now.frames.now) c.args.here.now.bindings.now _ c.as_slice.result.now (c.as_slice.ensures ∙ c.in_ok-add.ensures.ok ∙ ap (λ (bs : List Binding). bs ++ _ ∷ []) c.in_ok-bindings.ensures) in
+    let is : env_of c.args.here.now.function.now c.args.here.now.args.now c.args.here.now.frames.now ++ bound_here c.as_slice.result.now ≡ (named_spot c.args.here.now c.args.x.now c.args.v.now c.args.b.now).env =
+    one_name (env_of c.args.here.now.function.now c.args.here.now.args.now c.args.here.now.frames.now) c.args.here.now.bindings.now _ c.as_slice.result.now _ (c.as_slice.ensures ∙ c.in_ok-add.ensures.ok) c.in_ok-bindings.ensures in
     rw is at c.evaluate.ensures.flows
 
 pub invoke-enter-flow-requires : goal.invoke-enter-flow-requires
@@ -622,18 +624,16 @@ eval_packing-returns-in-Err-clause-flows g t c = λ other.
 
 pub eval_packed-visit_here-requires : goal.eval_packed-visit_here-requires
 eval_packed-visit_here-requires g t c =
-    let is : c.pay_packed.result ≡ Ok tt = cc in
     let form = c.requires.form in
-    let leads = rw (is, c.as_slice.ensures) at (c.pay_packed.ensures.pays c.args.here.now.fun c.args.e.now form.0 (spot c.args.here.now c.args.e.now).env (g.S.Services.stands c.args.svc.now) form.1) in
+    let leads = rw c.as_slice.ensures at (c.in-Ok.ensures.pays c.args.here.now.fun c.args.e.now form.0 (spot c.args.here.now c.args.e.now).env (g.S.Services.stands c.args.svc.now) form.1) in
     let safe : IsSafe (next_step c.args.here.now.code.now c.args.here.now.fun (spot c.args.here.now c.args.e.now) (next.Visit (record { code = c.args.here.now.code.now; entry = c.args.f.now; args = c.args.args })) (joined c.pay_packed.new.state (g.S.Services.stands c.args.svc.now))).asks = leads.safe c.requires.safe in
     let here = c.requires.here in
     search rules
 
 pub eval_packed-returns-in-Ok-clause-flows : goal.eval_packed-returns-in-Ok-clause-flows
 eval_packed-returns-in-Ok-clause-flows g t c =
-    let is : c.pay_packed.result ≡ Ok tt = cc in
     let form = c.requires.form in
-    let leads = rw (is, c.as_slice.ensures) at (c.pay_packed.ensures.pays c.args.here.now.fun c.args.e.now form.0 (spot c.args.here.now c.args.e.now).env (g.S.Services.stands c.args.svc.now) form.1) in
+    let leads = rw c.as_slice.ensures at (c.in-Ok.ensures.pays c.args.here.now.fun c.args.e.now form.0 (spot c.args.here.now c.args.e.now).env (g.S.Services.stands c.args.svc.now) form.1) in
     flows_from c.visit_here.new.codes c.args.here.now.code.now c.args.here.now.fun (spot c.args.here.now c.args.e.now) _ _ c.visit_here.result (joined c.visit_here.new.state (g.S.Services.stands c.visit_here.new.svc)) leads c.visit_here.ensures.flows
 
 pub eval_packed-returns-in-Err-clause-flows : goal.eval_packed-returns-in-Err-clause-flows
