@@ -6,8 +6,8 @@ use Rattle.plan_eval.proofs.Waiting.{turn_waits}
 use Rattle.plan_eval.proofs.Backs.{load_waits, load_rests}
 use Rattle.plan_eval.proofs.machine.landed.Goals as goal
 
-pub returns-in-Ok-Done-then-is_empty-clause-turned : goal.returns-in-Ok-Done-then-is_empty-clause-turned
-returns-in-Ok-Done-then-is_empty-clause-turned c codes code at want s here h =
+pub returns-then-is_empty-clause-turned : goal.returns-then-is_empty-clause-turned
+returns-then-is_empty-clause-turned c codes code at want s here h =
     let is : c.args.flow ≡ Ok (flow.Done c.in-Ok-Done.v) = cc in
     turn_left codes c.args.outer.now code c.args.top at want here (c.if-is_empty.ensures.0 refl) c.in-Ok-Done.v s (rw is at h)
 
