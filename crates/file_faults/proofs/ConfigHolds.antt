@@ -110,7 +110,7 @@ inject_line_holds ws s =
     then_holds (behind_word (codes "inject") turn.1) _ (behind_word_holds (codes "inject") turn.1) (λ more.
     then_holds (injection_at s.version program more) _ (injection_at_holds s.version program more) (λ i.
     then_holds (weighed s.weight i.0) _ (weighed_holds s.weight i.0) (λ total.
-    done_holds (record s { at = s.at ++ (turn.0, i.1, i.0, i.2) ∷ []; weight = total }))))))
+    done_holds (record s { at = s.at ++ record { turn = turn.0; bound = i.1; chunk = i.0; handler = i.2 } ∷ []; weight = total }))))))
 
 tail_rest_holds : (x0 : TailWord) (number : ℕ) (ws : List (List ℕ)) (s : ConfigReading) → Holds (tail_rest x0 number ws s)
 unfolding tail_rest
