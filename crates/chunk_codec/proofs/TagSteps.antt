@@ -24,8 +24,8 @@ nodes_kept s t b h = whole_nodes (number_at w8 s.front) s t b h
 allowed_not : {A : Type 0} (b : Bool) (e : SpellFault) (x : A × Scan) → b ≡ false → allowed b e x ≡ Err e
 allowed_not b e x h = ap (λ c. allowed c e x) h
 
-module _ (room : ℕ) (s t : Scan) (b : ℕ) (tag : ExprTag) (read : number_field w8 s ≡ Ok (b, t)) (known : tag_of 32 EXPR_TAGS b ≡ Some tag) where
-  table_is : table_field 32 EXPR_TAGS s ≡ Ok (tag, t)
+module _ (room : ℕ) (s t : Scan) (b : ℕ) (tag : ExprTag) (read : number_field w8 s ≡ Ok (b, t)) (known : tag_of 0x20 EXPR_TAGS b ≡ Some tag) where
+  table_is : table_field 0x20 EXPR_TAGS s ≡ Ok (tag, t)
   unfolding table_field
   table_is = bind_is _ read (known_is _ _ t tag known)
 

@@ -119,7 +119,7 @@ impl<'a> Source<'a> {
     {
         let at = self.place();
         let byte = self.byte()?;
-        match item_of(0, &TYPE_TAGS, byte) {
+        match item_of(0x00, &TYPE_TAGS, byte) {
             None => Err(SpellFault::BadTag(at)),
             Some(_) if room == 0 => Err(SpellFault::OverLimit(Limit::OfType, at)),
             Some(tag) => Ok(tag),
@@ -220,7 +220,7 @@ impl<'a> Source<'a> {
     {
         let at = self.place();
         let byte = self.byte()?;
-        match item_of(32, &EXPR_TAGS, byte) {
+        match item_of(0x20, &EXPR_TAGS, byte) {
             None => Err(SpellFault::BadTag(at)),
             Some(_) if self.nodes >= 4096 => Err(SpellFault::OverLimit(Limit::Nodes, at)),
             Some(_) if room == 0 => Err(SpellFault::OverLimit(Limit::Depth, at)),
@@ -258,7 +258,7 @@ impl<'a> Source<'a> {
     {
         let at = self.place();
         let byte = self.byte()?;
-        match item_of(16, &VALUE_TAGS, byte) {
+        match item_of(0x10, &VALUE_TAGS, byte) {
             None => Err(SpellFault::BadTag(at)),
             Some(tag) => {
                 if can_stand(nest, room, tag) {

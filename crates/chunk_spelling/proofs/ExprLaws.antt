@@ -53,36 +53,36 @@ expr_bytes_out e =
 -- ---- tags
 
 abbrev expr_byte : ExprTag → ℕ
-expr_byte ExprTag.Unit = 32
-expr_byte ExprTag.Bool = 33
-expr_byte ExprTag.Int = 34
-expr_byte ExprTag.Char = 35
-expr_byte ExprTag.Str = 36
-expr_byte ExprTag.Blob = 37
-expr_byte ExprTag.Host = 38
-expr_byte ExprTag.Dev = 39
-expr_byte ExprTag.Nil = 40
-expr_byte ExprTag.Var = 41
-expr_byte ExprTag.Tuple = 42
-expr_byte ExprTag.Call = 43
-expr_byte ExprTag.If = 44
-expr_byte ExprTag.Let = 45
-expr_byte ExprTag.Then = 46
-expr_byte ExprTag.And = 47
-expr_byte ExprTag.Or = 48
-expr_byte ExprTag.Not = 49
-expr_byte ExprTag.Binary = 50
-expr_byte ExprTag.Part = 51
-expr_byte ExprTag.Raise = 52
-expr_byte ExprTag.Try = 53
-expr_byte ExprTag.Foldl = 54
-expr_byte ExprTag.Foldr = 55
-expr_byte ExprTag.ChunkOf = 56
-expr_byte ExprTag.Eval = 57
-expr_byte ExprTag.OnRemote = 58
-expr_byte ExprTag.OnNeighbor = 59
+expr_byte ExprTag.Unit = 0x20
+expr_byte ExprTag.Bool = 0x21
+expr_byte ExprTag.Int = 0x22
+expr_byte ExprTag.Char = 0x23
+expr_byte ExprTag.Str = 0x24
+expr_byte ExprTag.Blob = 0x25
+expr_byte ExprTag.Host = 0x26
+expr_byte ExprTag.Dev = 0x27
+expr_byte ExprTag.Nil = 0x28
+expr_byte ExprTag.Var = 0x29
+expr_byte ExprTag.Tuple = 0x2a
+expr_byte ExprTag.Call = 0x2b
+expr_byte ExprTag.If = 0x2c
+expr_byte ExprTag.Let = 0x2d
+expr_byte ExprTag.Then = 0x2e
+expr_byte ExprTag.And = 0x2f
+expr_byte ExprTag.Or = 0x30
+expr_byte ExprTag.Not = 0x31
+expr_byte ExprTag.Binary = 0x32
+expr_byte ExprTag.Part = 0x33
+expr_byte ExprTag.Raise = 0x34
+expr_byte ExprTag.Try = 0x35
+expr_byte ExprTag.Foldl = 0x36
+expr_byte ExprTag.Foldr = 0x37
+expr_byte ExprTag.ChunkOf = 0x38
+expr_byte ExprTag.Eval = 0x39
+expr_byte ExprTag.OnRemote = 0x3a
+expr_byte ExprTag.OnNeighbor = 0x3b
 
-expr_table_all : (t : ExprTag) → tag_of 32 EXPR_TAGS (expr_byte t) ≡ Some t
+expr_table_all : (t : ExprTag) → tag_of 0x20 EXPR_TAGS (expr_byte t) ≡ Some t
 expr_table_all ExprTag.Unit = refl
 expr_table_all ExprTag.Bool = refl
 expr_table_all ExprTag.Int = refl
@@ -112,26 +112,26 @@ expr_table_all ExprTag.Eval = refl
 expr_table_all ExprTag.OnRemote = refl
 expr_table_all ExprTag.OnNeighbor = refl
 
-expr_table : Table 32 EXPR_TAGS expr_byte
+expr_table : Table 0x20 EXPR_TAGS expr_byte
 expr_table = record { numbered = (refl, (refl, (refl, (refl, (refl, (refl, (refl, (refl, (refl, (refl, (refl, (refl, (refl, (refl, (refl, (refl, (refl, (refl, (refl, (refl, (refl, (refl, (refl, (refl, (refl, (refl, (refl, (refl, tt)))))))))))))))))))))))))))); all = expr_table_all }
 
 expr_tag : (room : ℕ) → Tag (expr_tag_at room) (λ _. 0 < room) expr_byte 1
 unfolding expr_tag_at
 expr_tag room = record {
   may = λ f g t e.
-      let b = bind_ok (table_field 32 EXPR_TAGS f) _ _ e in
+      let b = bind_ok (table_field 0x20 EXPR_TAGS f) _ _ e in
       let c = bind_ok (allowed (nat_lt f.nodes 4096) (OverLimit Limit.Nodes f.front.at) b.first) _ _ b.then_read in
       let d = bind_ok (allowed (nat_lt 0 room) (OverLimit Limit.Depth f.front.at) c.first) _ _ c.then_read in
       ltb-true 0 room (allowed_ok _ _ c.first d.first d.read).0;
   takes = λ f g t h k e.
-      let b = bind_ok (table_field 32 EXPR_TAGS f) _ _ e in
+      let b = bind_ok (table_field 0x20 EXPR_TAGS f) _ _ e in
       let c = bind_ok (allowed (nat_lt f.nodes 4096) (OverLimit Limit.Nodes f.front.at) b.first) _ _ b.then_read in
       let d = bind_ok (allowed (nat_lt 0 room) (OverLimit Limit.Depth f.front.at) c.first) _ _ c.then_read in
       let few = allowed_ok _ _ b.first c.first c.read in
       let there = allowed_ok _ _ c.first d.first d.read in
       let small = ltb-true f.nodes 4096 few.0 in
       let P : ExprTag × Scan → Type 0 = λ q. Took f (expr_byte q.0 ∷ []) 0 q.1 in
-      let took : P d.first = subst P (few.1 ∙ there.1) (table_takes 32 EXPR_TAGS expr_byte expr_table f b.first.1 b.first.0 h b.read) in
+      let took : P d.first = subst P (few.1 ∙ there.1) (table_takes 0x20 EXPR_TAGS expr_byte expr_table f b.first.1 b.first.0 h b.read) in
       let more : Took f (expr_byte d.first.0 ∷ []) 1 (one_more d.first).1 = record { parts = took.parts; place = took.place; count = omega (arith, took.count) } in
       let Q : ExprTag × Scan → Type 0 = λ q. Took f (expr_byte q.0 ∷ []) 1 q.1 in
       let all : Q (t, g) = subst Q (ok_inj d.then_read) more in
@@ -141,7 +141,7 @@ expr_tag room = record {
       let first : Took f (expr_byte t ∷ []) 0 m = record { parts = took.parts; place = took.place; count = omega arith } in
       let small : f.nodes < 4096 = omega (arith, took.count) in
       let count : f.nodes + 1 ≡ g.nodes = omega (arith, took.count) in
-      bind_is _ (table_again 32 EXPR_TAGS expr_byte expr_table f m t first)
+      bind_is _ (table_again 0x20 EXPR_TAGS expr_byte expr_table f m t first)
       (bind_is _ (allowed_is _ _ (t, m) (lt-ltb f.nodes 4096 small))
       (bind_is _ (allowed_is _ _ (t, m) (lt-ltb 0 room a)) (λ i. Ok (t, record g { nodes = count i }))));
 }

@@ -40,19 +40,19 @@ type_bytes_out t = fold_out-Ty (List ℕ) (type_bytes_level (λ bytes. bytes)) t
 
 -- the tag of each form
 abbrev type_byte : TypeTag → ℕ
-type_byte TypeTag.Unit = 0
-type_byte TypeTag.Bool = 1
-type_byte TypeTag.Int = 2
-type_byte TypeTag.Char = 3
-type_byte TypeTag.Str = 4
-type_byte TypeTag.Blob = 5
-type_byte TypeTag.Host = 6
-type_byte TypeTag.Dev = 7
-type_byte TypeTag.Chunk = 8
-type_byte TypeTag.List = 9
-type_byte TypeTag.Tuple = 10
+type_byte TypeTag.Unit = 0x00
+type_byte TypeTag.Bool = 0x01
+type_byte TypeTag.Int = 0x02
+type_byte TypeTag.Char = 0x03
+type_byte TypeTag.Str = 0x04
+type_byte TypeTag.Blob = 0x05
+type_byte TypeTag.Host = 0x06
+type_byte TypeTag.Dev = 0x07
+type_byte TypeTag.Chunk = 0x08
+type_byte TypeTag.List = 0x09
+type_byte TypeTag.Tuple = 0x0a
 
-type_table_all : (t : TypeTag) → tag_of 0 TYPE_TAGS (type_byte t) ≡ Some t
+type_table_all : (t : TypeTag) → tag_of 0x00 TYPE_TAGS (type_byte t) ≡ Some t
 type_table_all TypeTag.Unit = refl
 type_table_all TypeTag.Bool = refl
 type_table_all TypeTag.Int = refl
@@ -65,23 +65,23 @@ type_table_all TypeTag.Chunk = refl
 type_table_all TypeTag.List = refl
 type_table_all TypeTag.Tuple = refl
 
-type_table : Table 0 TYPE_TAGS type_byte
+type_table : Table 0x00 TYPE_TAGS type_byte
 type_table = record { numbered = (refl, (refl, (refl, (refl, (refl, (refl, (refl, (refl, (refl, (refl, (refl, tt))))))))))); all = type_table_all }
 
 type_tag : (room : ℕ) → Tag (type_tag_at room) (λ _. 0 < room) type_byte 0
 unfolding type_tag_at
 type_tag room = record {
   may = λ f g t e.
-      let b = bind_ok (table_field 0 TYPE_TAGS f) _ _ e in
+      let b = bind_ok (table_field 0x00 TYPE_TAGS f) _ _ e in
       let a = allowed_ok _ _ b.first (t, g) b.then_read in
       ltb-true 0 room a.0;
   takes = λ f g t h k e.
-      let b = bind_ok (table_field 0 TYPE_TAGS f) _ _ e in
+      let b = bind_ok (table_field 0x00 TYPE_TAGS f) _ _ e in
       let a = allowed_ok _ _ b.first (t, g) b.then_read in
       let P : TypeTag × Scan → Type 0 = λ q. Took f (type_byte q.0 ∷ []) 0 q.1 in
-      let took : Took f (type_byte t ∷ []) 0 g = subst P a.1 (table_takes 0 TYPE_TAGS type_byte type_table f b.first.1 b.first.0 h b.read) in
+      let took : Took f (type_byte t ∷ []) 0 g = subst P a.1 (table_takes 0x00 TYPE_TAGS type_byte type_table f b.first.1 b.first.0 h b.read) in
       (took, omega (arith, took.count));
-  again = λ f g t a took k. bind_is _ (table_again 0 TYPE_TAGS type_byte type_table f g t took) (allowed_is _ _ (t, g) (lt-ltb 0 room a));
+  again = λ f g t a took k. bind_is _ (table_again 0x00 TYPE_TAGS type_byte type_table f g t took) (allowed_is _ _ (t, g) (lt-ltb 0 room a));
 }
 
 pub no_sum : {X : Type 0} (f : X → ℕ) → ((x : X) → f x ≡ 0) → (xs : List X) → sum_by f xs ≡ 0

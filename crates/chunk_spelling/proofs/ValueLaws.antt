@@ -57,19 +57,19 @@ value_bytes_out v =
 -- ---- tags
 
 abbrev value_byte : ValueTag → ℕ
-value_byte ValueTag.Unit = 16
-value_byte ValueTag.Bool = 17
-value_byte ValueTag.Int = 18
-value_byte ValueTag.Char = 19
-value_byte ValueTag.Str = 20
-value_byte ValueTag.Blob = 21
-value_byte ValueTag.Host = 22
-value_byte ValueTag.Dev = 23
-value_byte ValueTag.Chunk = 24
-value_byte ValueTag.List = 25
-value_byte ValueTag.Tuple = 26
+value_byte ValueTag.Unit = 0x10
+value_byte ValueTag.Bool = 0x11
+value_byte ValueTag.Int = 0x12
+value_byte ValueTag.Char = 0x13
+value_byte ValueTag.Str = 0x14
+value_byte ValueTag.Blob = 0x15
+value_byte ValueTag.Host = 0x16
+value_byte ValueTag.Dev = 0x17
+value_byte ValueTag.Chunk = 0x18
+value_byte ValueTag.List = 0x19
+value_byte ValueTag.Tuple = 0x1a
 
-value_table_all : (t : ValueTag) → tag_of 16 VALUE_TAGS (value_byte t) ≡ Some t
+value_table_all : (t : ValueTag) → tag_of 0x10 VALUE_TAGS (value_byte t) ≡ Some t
 value_table_all ValueTag.Unit = refl
 value_table_all ValueTag.Bool = refl
 value_table_all ValueTag.Int = refl
@@ -82,24 +82,24 @@ value_table_all ValueTag.Chunk = refl
 value_table_all ValueTag.List = refl
 value_table_all ValueTag.Tuple = refl
 
-value_table : Table 16 VALUE_TAGS value_byte
+value_table : Table 0x10 VALUE_TAGS value_byte
 value_table = record { numbered = (refl, (refl, (refl, (refl, (refl, (refl, (refl, (refl, (refl, (refl, (refl, tt))))))))))); all = value_table_all }
 
 value_tag : (nest room : ℕ) → Tag (value_tag_at nest room) (λ tag. IsTrue (may_open nest room tag)) value_byte 0
 unfolding value_tag_at
 value_tag nest room = record {
   may = λ f g t e.
-      let b = bind_ok (table_field 16 VALUE_TAGS f) _ _ e in
+      let b = bind_ok (table_field 0x10 VALUE_TAGS f) _ _ e in
       let a = allowed_ok _ _ b.first (t, g) b.then_read in
       let P : ValueTag × Scan → Type 0 = λ q. IsTrue (may_open nest room q.0) in
       subst P a.1 a.0;
   takes = λ f g t h k e.
-      let b = bind_ok (table_field 16 VALUE_TAGS f) _ _ e in
+      let b = bind_ok (table_field 0x10 VALUE_TAGS f) _ _ e in
       let a = allowed_ok _ _ b.first (t, g) b.then_read in
       let P : ValueTag × Scan → Type 0 = λ q. Took f (value_byte q.0 ∷ []) 0 q.1 in
-      let took : P (t, g) = subst P a.1 (table_takes 16 VALUE_TAGS value_byte value_table f b.first.1 b.first.0 h b.read) in
+      let took : P (t, g) = subst P a.1 (table_takes 0x10 VALUE_TAGS value_byte value_table f b.first.1 b.first.0 h b.read) in
       (took, omega (arith, took.count));
-  again = λ f g t a took k. bind_is _ (table_again 16 VALUE_TAGS value_byte value_table f g t took) (allowed_is _ _ (t, g) a);
+  again = λ f g t a took k. bind_is _ (table_again 0x10 VALUE_TAGS value_byte value_table f g t took) (allowed_is _ _ (t, g) a);
 }
 
 -- ---- values, by the chunks that may stand in them

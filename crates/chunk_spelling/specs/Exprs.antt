@@ -20,41 +20,41 @@ use Rattle.chunk_spelling.specs.Types.{type_bytes, type_part}
 
 -- an expression's bytes, by those of its parts and clauses; one whose type is missing has none behind its tag for it
 abbrev pub expr_bytes_level : {X Y : Type 0} → (X → List ℕ) → (Y → List ℕ) → Expr-F X Y → List ℕ
-expr_bytes_level bytes clause Expr-F.Unit = 32 ∷ []
-expr_bytes_level bytes clause (Expr-F.Bool b) = 33 ∷ flag_byte b ∷ []
-expr_bytes_level bytes clause (Expr-F.Int z) = 34 ∷ to_be_bytes w64 (cast_unsigned w64 z)
-expr_bytes_level bytes clause (Expr-F.Char c) = 35 ∷ to_be_bytes w32 c
-expr_bytes_level bytes clause (Expr-F.Str s) = 36 ∷ sized s
-expr_bytes_level bytes clause (Expr-F.Blob s) = 37 ∷ sized s
-expr_bytes_level bytes clause (Expr-F.Host h) = 38 ∷ to_be_bytes w32 h.0
-expr_bytes_level bytes clause (Expr-F.Dev d) = 39 ∷ to_be_bytes w32 d.0
-expr_bytes_level bytes clause (Expr-F.Nil (Some t)) = 40 ∷ type_bytes t
-expr_bytes_level bytes clause (Expr-F.Nil None) = 40 ∷ []
-expr_bytes_level bytes clause (Expr-F.Var x) = 41 ∷ name_bytes x
-expr_bytes_level bytes clause (Expr-F.Tuple es) = 42 ∷ length es ∷ flat_map bytes es
-expr_bytes_level bytes clause (Expr-F.Call x es) = 43 ∷ (name_bytes x ++ (length es ∷ flat_map bytes es))
-expr_bytes_level bytes clause (Expr-F.If a b c) = 44 ∷ (bytes a ++ (bytes b ++ bytes c))
-expr_bytes_level bytes clause (Expr-F.Let x t a b) = 45 ∷ (name_bytes x ++ (type_bytes t ++ (bytes a ++ bytes b)))
-expr_bytes_level bytes clause (Expr-F.Then a b) = 46 ∷ (bytes a ++ bytes b)
-expr_bytes_level bytes clause (Expr-F.And a b) = 47 ∷ (bytes a ++ bytes b)
-expr_bytes_level bytes clause (Expr-F.Or a b) = 48 ∷ (bytes a ++ bytes b)
-expr_bytes_level bytes clause (Expr-F.Not a) = 49 ∷ bytes a
-expr_bytes_level bytes clause (Expr-F.Binary o a b) = 50 ∷ ((op_byte o ∷ []) ++ (bytes a ++ bytes b))
-expr_bytes_level bytes clause (Expr-F.Part i a) = 51 ∷ ((i ∷ []) ++ bytes a)
-expr_bytes_level bytes clause (Expr-F.Raise x (Some t)) = 52 ∷ (name_bytes x ++ type_bytes t)
-expr_bytes_level bytes clause (Expr-F.Raise x None) = 52 ∷ name_bytes x
-expr_bytes_level bytes clause (Expr-F.Try a cs) = 53 ∷ (bytes a ++ (length cs ∷ flat_map clause cs))
-expr_bytes_level bytes clause (Expr-F.Foldl x a b) = 54 ∷ (name_bytes x ++ (bytes a ++ bytes b))
-expr_bytes_level bytes clause (Expr-F.Foldr x a b) = 55 ∷ (name_bytes x ++ (bytes a ++ bytes b))
-expr_bytes_level bytes clause (Expr-F.ChunkOf x es) = 56 ∷ (name_bytes x ++ (length es ∷ flat_map bytes es))
-expr_bytes_level bytes clause (Expr-F.Eval a) = 57 ∷ bytes a
-expr_bytes_level bytes clause (Expr-F.OnRemote a b c x) = 58 ∷ (bytes a ++ (bytes b ++ (bytes c ++ name_bytes x)))
-expr_bytes_level bytes clause (Expr-F.OnNeighbor a b c d) = 59 ∷ (bytes a ++ (bytes b ++ (bytes c ++ bytes d)))
+expr_bytes_level bytes clause Expr-F.Unit = 0x20 ∷ []
+expr_bytes_level bytes clause (Expr-F.Bool b) = 0x21 ∷ flag_byte b ∷ []
+expr_bytes_level bytes clause (Expr-F.Int z) = 0x22 ∷ to_be_bytes w64 (cast_unsigned w64 z)
+expr_bytes_level bytes clause (Expr-F.Char c) = 0x23 ∷ to_be_bytes w32 c
+expr_bytes_level bytes clause (Expr-F.Str s) = 0x24 ∷ sized s
+expr_bytes_level bytes clause (Expr-F.Blob s) = 0x25 ∷ sized s
+expr_bytes_level bytes clause (Expr-F.Host h) = 0x26 ∷ to_be_bytes w32 h.0
+expr_bytes_level bytes clause (Expr-F.Dev d) = 0x27 ∷ to_be_bytes w32 d.0
+expr_bytes_level bytes clause (Expr-F.Nil (Some t)) = 0x28 ∷ type_bytes t
+expr_bytes_level bytes clause (Expr-F.Nil None) = 0x28 ∷ []
+expr_bytes_level bytes clause (Expr-F.Var x) = 0x29 ∷ name_bytes x
+expr_bytes_level bytes clause (Expr-F.Tuple es) = 0x2a ∷ length es ∷ flat_map bytes es
+expr_bytes_level bytes clause (Expr-F.Call x es) = 0x2b ∷ (name_bytes x ++ (length es ∷ flat_map bytes es))
+expr_bytes_level bytes clause (Expr-F.If a b c) = 0x2c ∷ (bytes a ++ (bytes b ++ bytes c))
+expr_bytes_level bytes clause (Expr-F.Let x t a b) = 0x2d ∷ (name_bytes x ++ (type_bytes t ++ (bytes a ++ bytes b)))
+expr_bytes_level bytes clause (Expr-F.Then a b) = 0x2e ∷ (bytes a ++ bytes b)
+expr_bytes_level bytes clause (Expr-F.And a b) = 0x2f ∷ (bytes a ++ bytes b)
+expr_bytes_level bytes clause (Expr-F.Or a b) = 0x30 ∷ (bytes a ++ bytes b)
+expr_bytes_level bytes clause (Expr-F.Not a) = 0x31 ∷ bytes a
+expr_bytes_level bytes clause (Expr-F.Binary o a b) = 0x32 ∷ ((op_byte o ∷ []) ++ (bytes a ++ bytes b))
+expr_bytes_level bytes clause (Expr-F.Part i a) = 0x33 ∷ ((i ∷ []) ++ bytes a)
+expr_bytes_level bytes clause (Expr-F.Raise x (Some t)) = 0x34 ∷ (name_bytes x ++ type_bytes t)
+expr_bytes_level bytes clause (Expr-F.Raise x None) = 0x34 ∷ name_bytes x
+expr_bytes_level bytes clause (Expr-F.Try a cs) = 0x35 ∷ (bytes a ++ (length cs ∷ flat_map clause cs))
+expr_bytes_level bytes clause (Expr-F.Foldl x a b) = 0x36 ∷ (name_bytes x ++ (bytes a ++ bytes b))
+expr_bytes_level bytes clause (Expr-F.Foldr x a b) = 0x37 ∷ (name_bytes x ++ (bytes a ++ bytes b))
+expr_bytes_level bytes clause (Expr-F.ChunkOf x es) = 0x38 ∷ (name_bytes x ++ (length es ∷ flat_map bytes es))
+expr_bytes_level bytes clause (Expr-F.Eval a) = 0x39 ∷ bytes a
+expr_bytes_level bytes clause (Expr-F.OnRemote a b c x) = 0x3a ∷ (bytes a ++ (bytes b ++ (bytes c ++ name_bytes x)))
+expr_bytes_level bytes clause (Expr-F.OnNeighbor a b c d) = 0x3b ∷ (bytes a ++ (bytes b ++ (bytes c ++ bytes d)))
 
 -- what a clause catches: anything, or a name
 abbrev pub catch_bytes : Option (List ℕ) → List ℕ
-catch_bytes None = 0 ∷ []
-catch_bytes (Some n) = 1 ∷ name_bytes n
+catch_bytes None = 0x00 ∷ []
+catch_bytes (Some n) = 0x01 ∷ name_bytes n
 
 abbrev pub clause_bytes_level : {X Y : Type 0} → (X → List ℕ) → Clause-F X Y → List ℕ
 clause_bytes_level bytes c = catch_bytes c.name ++ bytes c.body
@@ -74,7 +74,7 @@ one_more x = (x.0, record x.1 { nodes = x.1.nodes + 1 })
 -- an expression's tag, where so many levels may still be opened: at most 4,096 of a program
 unfoldable pub expr_tag_at : ℕ → Reader ExprTag
 expr_tag_at room s = do
-  tag ← table_field 32 EXPR_TAGS s
+  tag ← table_field 0x20 EXPR_TAGS s
   few ← allowed (nat_lt s.nodes 4096) (OverLimit Limit.Nodes s.front.at) tag
   open_there ← allowed (nat_lt 0 room) (OverLimit Limit.Depth s.front.at) few
   Ok (one_more open_there)

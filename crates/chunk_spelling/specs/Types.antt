@@ -15,17 +15,17 @@ use Rattle.chunk_spelling.specs.Parts.{Part, Core, Parts, done, ◌&◌, PartVal
 
 -- a type's bytes, by those of its parts
 abbrev pub type_bytes_level : {X : Type 0} → (X → List ℕ) → Ty-F X → List ℕ
-type_bytes_level bytes Ty-F.Unit = 0 ∷ []
-type_bytes_level bytes Ty-F.Bool = 1 ∷ []
-type_bytes_level bytes Ty-F.Int = 2 ∷ []
-type_bytes_level bytes Ty-F.Char = 3 ∷ []
-type_bytes_level bytes Ty-F.Str = 4 ∷ []
-type_bytes_level bytes Ty-F.Blob = 5 ∷ []
-type_bytes_level bytes Ty-F.Host = 6 ∷ []
-type_bytes_level bytes Ty-F.Dev = 7 ∷ []
-type_bytes_level bytes Ty-F.Chunk = 8 ∷ []
-type_bytes_level bytes (Ty-F.List t) = 9 ∷ bytes t
-type_bytes_level bytes (Ty-F.Tuple ts) = 10 ∷ length ts ∷ flat_map bytes ts
+type_bytes_level bytes Ty-F.Unit = 0x00 ∷ []
+type_bytes_level bytes Ty-F.Bool = 0x01 ∷ []
+type_bytes_level bytes Ty-F.Int = 0x02 ∷ []
+type_bytes_level bytes Ty-F.Char = 0x03 ∷ []
+type_bytes_level bytes Ty-F.Str = 0x04 ∷ []
+type_bytes_level bytes Ty-F.Blob = 0x05 ∷ []
+type_bytes_level bytes Ty-F.Host = 0x06 ∷ []
+type_bytes_level bytes Ty-F.Dev = 0x07 ∷ []
+type_bytes_level bytes Ty-F.Chunk = 0x08 ∷ []
+type_bytes_level bytes (Ty-F.List t) = 0x09 ∷ bytes t
+type_bytes_level bytes (Ty-F.Tuple ts) = 0x0a ∷ length ts ∷ flat_map bytes ts
 
 -- the spelling of a type
 unfoldable pub type_bytes : Ty → List ℕ
@@ -34,7 +34,7 @@ type_bytes = fold-Ty (List ℕ) (type_bytes_level (λ bytes. bytes))
 -- a type's tag, where so many levels may still be opened
 unfoldable pub type_tag_at : ℕ → Reader TypeTag
 type_tag_at room s = do
-  tag ← table_field 0 TYPE_TAGS s
+  tag ← table_field 0x00 TYPE_TAGS s
   allowed (nat_lt 0 room) (OverLimit Limit.OfType s.front.at) tag
 
 -- what stands behind each tag

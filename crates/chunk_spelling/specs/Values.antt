@@ -20,17 +20,17 @@ use Rattle.chunk_spelling.specs.Programs.{program_bytes, program_part}
 
 -- a value's bytes, by those of its parts and of its chunk
 abbrev pub value_bytes_level : {X Y : Type 0} → (X → List ℕ) → (Y → List ℕ) → Value-F X Y → List ℕ
-value_bytes_level bytes chunk Value-F.Unit = 16 ∷ []
-value_bytes_level bytes chunk (Value-F.Bool b) = 17 ∷ flag_byte b ∷ []
-value_bytes_level bytes chunk (Value-F.Int z) = 18 ∷ to_be_bytes w64 (cast_unsigned w64 z)
-value_bytes_level bytes chunk (Value-F.Char c) = 19 ∷ to_be_bytes w32 c
-value_bytes_level bytes chunk (Value-F.Str s) = 20 ∷ sized s
-value_bytes_level bytes chunk (Value-F.Blob s) = 21 ∷ sized s
-value_bytes_level bytes chunk (Value-F.Host h) = 22 ∷ to_be_bytes w32 h.0
-value_bytes_level bytes chunk (Value-F.Dev d) = 23 ∷ to_be_bytes w32 d.0
-value_bytes_level bytes chunk (Value-F.Chunk c) = 24 ∷ chunk c
-value_bytes_level bytes chunk (Value-F.List t vs) = 25 ∷ (type_bytes t ++ ((to_be_bytes w16 (length vs) ++ flat_map bytes vs)))
-value_bytes_level bytes chunk (Value-F.Tuple es) = 26 ∷ length es ∷ flat_map bytes es
+value_bytes_level bytes chunk Value-F.Unit = 0x10 ∷ []
+value_bytes_level bytes chunk (Value-F.Bool b) = 0x11 ∷ flag_byte b ∷ []
+value_bytes_level bytes chunk (Value-F.Int z) = 0x12 ∷ to_be_bytes w64 (cast_unsigned w64 z)
+value_bytes_level bytes chunk (Value-F.Char c) = 0x13 ∷ to_be_bytes w32 c
+value_bytes_level bytes chunk (Value-F.Str s) = 0x14 ∷ sized s
+value_bytes_level bytes chunk (Value-F.Blob s) = 0x15 ∷ sized s
+value_bytes_level bytes chunk (Value-F.Host h) = 0x16 ∷ to_be_bytes w32 h.0
+value_bytes_level bytes chunk (Value-F.Dev d) = 0x17 ∷ to_be_bytes w32 d.0
+value_bytes_level bytes chunk (Value-F.Chunk c) = 0x18 ∷ chunk c
+value_bytes_level bytes chunk (Value-F.List t vs) = 0x19 ∷ (type_bytes t ++ ((to_be_bytes w16 (length vs) ++ flat_map bytes vs)))
+value_bytes_level bytes chunk (Value-F.Tuple es) = 0x1a ∷ length es ∷ flat_map bytes es
 
 -- a chunk's bytes: its program, its entry, a count and its arguments
 abbrev pub chunk_bytes_level : {X Y : Type 0} → (X → List ℕ) → Chunk-F X Y → List ℕ
@@ -58,7 +58,7 @@ opening_limit _ = Limit.Depth
 -- a value's tag
 unfoldable pub value_tag_at : ℕ → ℕ → Reader ValueTag
 value_tag_at nest room s = do
-  tag ← table_field 16 VALUE_TAGS s
+  tag ← table_field 0x10 VALUE_TAGS s
   allowed (may_open nest room tag.0) (OverLimit (opening_limit tag.0) s.front.at) tag
 
 -- what stands behind each tag

@@ -27,7 +27,7 @@ pub enum TypeTag {
     Tuple,
 }
 
-/// The forms of a type by their tags, from 0.
+/// The forms of a type by their tags, from 0x00.
 pub const TYPE_TAGS: [TypeTag; 11] = [
     TypeTag::Unit,
     TypeTag::Bool,
@@ -69,7 +69,7 @@ pub enum ValueTag {
     Tuple,
 }
 
-/// The forms of a value by their tags, from 16.
+/// The forms of a value by their tags, from 0x10.
 pub const VALUE_TAGS: [ValueTag; 11] = [
     ValueTag::Unit,
     ValueTag::Bool,
@@ -145,7 +145,7 @@ pub enum ExprTag {
     OnNeighbor,
 }
 
-/// The forms of an expression by their tags, from 32.
+/// The forms of an expression by their tags, from 0x20.
 pub const EXPR_TAGS: [ExprTag; 28] = [
     ExprTag::Unit,
     ExprTag::Bool,

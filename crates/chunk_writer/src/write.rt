@@ -129,47 +129,47 @@ pub fn put_value(v: &Value, out: &mut Out)
     ensures room { out.new.room + length (value_bytes v.now) ≡ out.old.room }
 {
     match v {
-        Value::Unit => out.put_u8(16),
+        Value::Unit => out.put_u8(0x10),
         Value::Bool(flag) => {
-            out.put_u8(17);
+            out.put_u8(0x11);
             put_flag(*flag, out);
         }
         Value::Int(int) => {
-            out.put_u8(18);
+            out.put_u8(0x12);
             out.put_i64(*int);
         }
         Value::Char(code) => {
-            out.put_u8(19);
+            out.put_u8(0x13);
             out.put_u32(*code);
         }
         Value::Str(text) => {
-            out.put_u8(20);
+            out.put_u8(0x14);
             put_sized(text.as_slice(), out);
         }
         Value::Blob(blob) => {
-            out.put_u8(21);
+            out.put_u8(0x15);
             put_sized(blob.as_slice(), out);
         }
         Value::Host(host) => {
-            out.put_u8(22);
+            out.put_u8(0x16);
             out.put_u32(host.0);
         }
         Value::Dev(dev) => {
-            out.put_u8(23);
+            out.put_u8(0x17);
             out.put_u32(dev.0);
         }
         Value::Chunk(chunk) => {
-            out.put_u8(24);
+            out.put_u8(0x18);
             put_chunk(chunk.get(), out);
         }
         Value::List(ty, items) => {
-            out.put_u8(25);
+            out.put_u8(0x19);
             put_ty(ty.get(), out);
             out.put_u16(items.len() as u16);
             put_values(items.as_slice(), out);
         }
         Value::Tuple(parts) => {
-            out.put_u8(26);
+            out.put_u8(0x1a);
             out.put_u8(parts.len() as u8);
             put_values(parts.as_slice(), out);
         }
