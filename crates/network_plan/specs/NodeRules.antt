@@ -1,13 +1,12 @@
 -- What plans of nodes keep.
-use Rattle.std.specs.Prelude.{◌≡◌, ◌≢◌, ℕ, ◌+◌, ◌≤◌, ◌<◌, ◌^◌, true, List, [], ◌∷◌, Option, length, map}
+use Rattle.std.specs.Prelude.{◌≡◌, ◌≢◌, ℕ, ◌+◌, ◌≤◌, ◌<◌, ◌^◌, true, List, [], ◌∷◌, length, map}
 use Rattle.std.specs.List.{All}
 use Rattle.plan_base.specs.declared.ids.Host.{Host}
 use Rattle.plan_base.specs.declared.ids.Dev.{Dev}
-use Rattle.plan_base.specs.declared.name.Name.{Name}
-use Rattle.plan_base.specs.declared.tree.Chunk.{Chunk}
 use Rattle.plan_base.specs.Sizes.{chunk_weight}
 use Rattle.link_window.specs.declared.window.Version.{Version}
 use Rattle.link_window.specs.declared.window.Version.TheVariants.{One, Two}
+use Rattle.network_plan.specs.declared.serve.Inject.{Inject as Injection}
 use Rattle.network_plan.specs.declared.event.Event.{Event}
 use Rattle.network_plan.specs.declared.event.Event.TheVariants as events
 use Rattle.network_plan.specs.declared.event.LogEvent.{LogEvent}
@@ -93,13 +92,13 @@ PortsDiffer [] = Unit {0}
 PortsDiffer (p ∷ ps) = All (λ q. q ≢ p) ps × PortsDiffer ps
 
 -- an injection at a turn keeps the limits
-abbrev pub KeepsInject : Version → ℕ × ℕ × Chunk × Option Name → Type 0
-KeepsInject version i = (1 ≤ i.0) × (i.0 ≤ 1000000) × KeepsInjection version i.2 i.1 i.3
+abbrev pub KeepsInject : Version → Injection → Type 0
+KeepsInject version i = (1 ≤ i.turn) × (i.turn ≤ 1000000) × KeepsInjection version i.chunk i.bound i.handler
 
 -- the weights of what is injected in sum, each chunk as a value, its tag counted
-abbrev pub weights : List (ℕ × ℕ × Chunk × Option Name) → ℕ
+abbrev pub weights : List Injection → ℕ
 weights [] = 0
-weights (i ∷ is) = 1 + chunk_weight i.2 + weights is
+weights (i ∷ is) = 1 + chunk_weight i.chunk + weights is
 
 -- the configuration of a serving node within its limits
 pub record KeepsServe (c : ServeConfig) : Type 0 where

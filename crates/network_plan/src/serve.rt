@@ -7,9 +7,18 @@ use service_api::Packages;
 /// The ports at which the neighbours listen, each with its device, by device.
 pub type DevPorts = Items<(Dev, u16)>;
 
-/// An injection of a serving node: the turn, from 1 to 1,000,000, the bound, at most 65,535, what is injected, and its
-/// handler, under version 2 alone.
-pub type Inject = (u32, u32, CheckedChunk, Option<Name>);
+/// An injection of a serving node.
+#[derive(Drop)]
+pub struct Inject {
+    /// The turn, from 1 to 1,000,000.
+    pub turn: u32,
+    /// The bound, at most 65,535.
+    pub bound: u32,
+    /// What is injected.
+    pub chunk: CheckedChunk,
+    /// Its handler, under version 2 alone.
+    pub handler: Option<Name>,
+}
 
 /// A list of injections of a serving node.
 pub type Injects = Items<Inject>;

@@ -7,12 +7,11 @@ use Rattle.std.proofs.lemmas.Bool.{ne_eqb}
 use Rattle.std.proofs.lemmas.List.Elements.{All-nil, All-cons, All-head, All-tail}
 use Rattle.plan_base.specs.declared.ids.Host.{Host}
 use Rattle.plan_base.specs.declared.ids.Dev.{Dev}
-use Rattle.plan_base.specs.declared.name.Name.{Name}
-use Rattle.plan_base.specs.declared.tree.Chunk.{Chunk}
 use Rattle.plan_base.specs.declared.tree.Program.{Program}
 use Rattle.service_api.specs.declared.package.PackageName.{PackageName}
 use Rattle.link_window.specs.declared.window.Version.{Version}
 use Rattle.link_window.specs.declared.window.Version.TheVariants.{One, Two}
+use Rattle.network_plan.specs.declared.serve.Inject.{Inject as Injection}
 use Rattle.network_plan.specs.declared.serve.ServeConfig.{ServeConfig}
 use Rattle.network_plan.specs.Hosts.{host_of}
 use Rattle.network_plan.specs.NodeRules.{DevicesAscend, IsNeighbour, IsPort, PortsDiffer, KeepsServe}
@@ -176,7 +175,7 @@ module _ (c : ServeConfig) (rules : KeepsServe c) (named : IsOneWord c.log) wher
       (then_ok _ (c.log, []) _ _ (file_ok c.log [] rules.log) refl)
 
   -- a state behind them
-  abbrev pub state : ConfigStage → List (Host × Dev) → List (Dev × ℕ) → List PackageName → OpenProgram → Option Program → List (ℕ × ℕ × Chunk × Option Name) → ℕ → ConfigReading
+  abbrev pub state : ConfigStage → List (Host × Dev) → List (Dev × ℕ) → List PackageName → OpenProgram → Option Program → List Injection → ℕ → ConfigReading
   state stage ns ds missing program checked at weight = record { stage = stage; version = c.node.version; here = here; hosts = hosts; port = c.port; control = c.control; period = c.period; log = c.log; neighbours = ns; devs = ds; missing = missing; program = program; checked = checked; at = at; weight = weight }
 
   pub head_leads : Leads config_format (head_lines c) nothing_read (state (stages.Tail parts.Devices) [] [] [] (opened 1) None [] 0)

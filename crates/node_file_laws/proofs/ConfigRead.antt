@@ -5,11 +5,11 @@ use Rattle.std.specs.Str.{bytes_eq}
 use Rattle.std.specs.Fmt.{decimal}
 use lib.Chars.{codes}
 use Rattle.std.proofs.lemmas.List.Elements.{All-head, All-tail}
-use Rattle.plan_base.specs.declared.name.Name.{Name}
 use Rattle.plan_base.specs.declared.tree.Chunk.{Chunk}
 use Rattle.plan_base.specs.declared.tree.Program.{Program}
 use Rattle.plan_base.specs.Sizes.{chunk_weight}
 use Rattle.service_api.specs.declared.package.PackageName.{PackageName}
+use Rattle.network_plan.specs.declared.serve.Inject.{Inject as Injection}
 use Rattle.network_plan.specs.declared.serve.ServeConfig.{ServeConfig}
 use Rattle.network_plan.specs.Rules.{PackagesDiffer}
 use Rattle.network_plan.specs.NodeRules.{first_link, KeepsInject, weights}
@@ -42,9 +42,6 @@ use Rattle.node_file_laws.specs.Configs.{ProgramText, device_lines, given_lines,
 use Rattle.node_file_laws.proofs.Leading.{Leads, leads-nil, leads-cons, behind_lines, said_by, all_free, text_free, with_text, text_leads}
 use Rattle.node_file_laws.proofs.ConfigHead as top
 
-abbrev Injection : Type 0
-Injection = ℕ × ℕ × Chunk × Option Name
-
 -- ---- missing packages
 
 -- where lines are behind missing packages
@@ -68,11 +65,11 @@ missing_free (p ∷ ps) = (line_is (missing_words p) (missing_clean p).1, missin
 
 -- the words of an injection in front of its arguments
 abbrev prefix_words : Injection → List (List ℕ)
-prefix_words i = decimal i.0 ∷ codes "inject" ∷ i.2.entry ∷ decimal i.1 ∷ handler_words i.3
+prefix_words i = decimal i.turn ∷ codes "inject" ∷ i.chunk.entry ∷ decimal i.bound ∷ handler_words i.handler
 
 -- the words of its line behind the first, as they are read
 abbrev read_words : (Chunk → List ℕ) → Injection → List (List ℕ)
-read_words by i = decimal i.0 ∷ codes "inject" ∷ i.2.entry ∷ decimal i.1 ∷ (handler_words i.3 ++ words (by i.2))
+read_words by i = decimal i.turn ∷ codes "inject" ∷ i.chunk.entry ∷ decimal i.bound ∷ (handler_words i.handler ++ words (by i.chunk))
 
 abbrev Injected : ProgramText → (Chunk → List ℕ) → Injection → Type 0
 Injected p by i = IsInjected (Some p) by i
@@ -89,17 +86,17 @@ bound_small n few = omega (arith, few)
 
 inject_words_are : (p : ProgramText) (by : Chunk → List ℕ) (c : ServeConfig) (i : Injection) → KeepsInject c.node.version i → Injected p by i → words (spaced (inject_words by i)) ≡ codes "at" ∷ read_words by i
 inject_words_are p by c i k w =
-    words_rest (codes "at") (prefix_words i) (by i.2) (
+    words_rest (codes "at") (prefix_words i) (by i.chunk) (
       refl,
       (
-        (number_free i.0 (turn_small i.0 k.1)).0,
+        (number_free i.turn (turn_small i.turn k.1)).0,
         (
           refl,
           (
-            (name_free i.2.entry w.1.entry).0,
+            (name_free i.chunk.entry w.1.entry).0,
             (
-              (number_free i.1 (bound_small i.1 k.2.0.0)).0,
-              subst (λ ws. Free 32 ws) (append-nil (handler_words i.3)) (handler_free 32 i.3 w.2 (λ v n. (name_free v n).0) refl [] tt),
+              (number_free i.bound (bound_small i.bound k.2.0.0)).0,
+              subst (λ ws. Free 32 ws) (append-nil (handler_words i.handler)) (handler_free 32 i.handler w.2 (λ v n. (name_free v n).0) refl [] tt),
             ),
           ),
         ),
@@ -110,12 +107,12 @@ inject_free : (p : ProgramText) (by : Chunk → List ℕ) (c : ServeConfig) (i :
 inject_free p by c i k w = (
   refl,
   (
-    (number_free i.0 (turn_small i.0 k.1)).1,
+    (number_free i.turn (turn_small i.turn k.1)).1,
     (
       refl,
       (
-        (name_free i.2.entry w.1.entry).1,
-        ((number_free i.1 (bound_small i.1 k.2.0.0)).1, handler_free 10 i.3 w.2 (λ v n. (name_free v n).1) refl (by i.2 ∷ []) (w.1.line, tt)),
+        (name_free i.chunk.entry w.1.entry).1,
+        ((number_free i.bound (bound_small i.bound k.2.0.0)).1, handler_free 10 i.handler w.2 (λ v n. (name_free v n).1) refl (by i.chunk ∷ []) (w.1.line, tt)),
       ),
     ),
   ),
@@ -193,23 +190,23 @@ module _ (given : Option ProgramText) (by : Chunk → List ℕ) (c : ServeConfig
 
   -- ---- what is injected
 
-  inject_reads : (p : ProgramText) (begun : OpenProgram) (seen : List Injection) (weight : ℕ) (i : Injection) → KeepsInject c.node.version i → Injected p by i → weight + (1 + chunk_weight i.2) ≤ 16777216
-      → inject_line (read_words by i) (behind p begun seen weight) ≡ Ok (behind p begun (seen ++ i ∷ []) (weight + (1 + chunk_weight i.2)))
+  inject_reads : (p : ProgramText) (begun : OpenProgram) (seen : List Injection) (weight : ℕ) (i : Injection) → KeepsInject c.node.version i → Injected p by i → weight + (1 + chunk_weight i.chunk) ≤ 16777216
+      → inject_line (read_words by i) (behind p begun seen weight) ≡ Ok (behind p begun (seen ++ i ∷ []) (weight + (1 + chunk_weight i.chunk)))
   unfolding inject_line behind_word
   inject_reads p begun seen weight i k w few =
-      let args = i.2.entry ∷ decimal i.1 ∷ (handler_words i.3 ++ words (by i.2)) in
-      then_ok _ (i.0, codes "inject" ∷ args) _ _ (number_ok 1 1000000 i.0 (codes "inject" ∷ args) (turn_small i.0 k.1) k.0 k.1)
-      (then_ok _ (i.2, i.1, i.3) _ _ (ap (λ (q : Program). injection_at c.node.version q args) (sym w.0) ∙ injection_ok c.node.version (by i.2) i.2 i.1 i.3 w.1 w.2 k.2)
-      (then_ok _ (weight + (1 + chunk_weight i.2)) _ _ (weighed_ok weight i.2 few) refl))
+      let args = i.chunk.entry ∷ decimal i.bound ∷ (handler_words i.handler ++ words (by i.chunk)) in
+      then_ok _ (i.turn, codes "inject" ∷ args) _ _ (number_ok 1 1000000 i.turn (codes "inject" ∷ args) (turn_small i.turn k.1) k.0 k.1)
+      (then_ok _ (i.chunk, i.bound, i.handler) _ _ (ap (λ (q : Program). injection_at c.node.version q args) (sym w.0) ∙ injection_ok c.node.version (by i.chunk) i.chunk i.bound i.handler w.1 w.2 k.2)
+      (then_ok _ (weight + (1 + chunk_weight i.chunk)) _ _ (weighed_ok weight i.chunk few) refl))
 
   says_something : (i : Injection) → is_skipped (spaced (inject_words by i)) ≡ false
   says_something i = refl
 
-  inject_step : (p : ProgramText) (begun : OpenProgram) (seen : List Injection) (weight : ℕ) (i : Injection) → KeepsInject c.node.version i → Injected p by i → weight + (1 + chunk_weight i.2) ≤ 16777216 → (number : ℕ)
-      → config_format.step number (spaced (inject_words by i)) (behind p begun seen weight) ≡ Ok (behind p begun (seen ++ i ∷ []) (weight + (1 + chunk_weight i.2)))
+  inject_step : (p : ProgramText) (begun : OpenProgram) (seen : List Injection) (weight : ℕ) (i : Injection) → KeepsInject c.node.version i → Injected p by i → weight + (1 + chunk_weight i.chunk) ≤ 16777216 → (number : ℕ)
+      → config_format.step number (spaced (inject_words by i)) (behind p begun seen weight) ≡ Ok (behind p begun (seen ++ i ∷ []) (weight + (1 + chunk_weight i.chunk)))
   unfolding config_step_at tail_line tail_rest
   inject_step p begun seen weight i k w few number =
-      usual_by number (spaced (inject_words by i)) (codes "at" ∷ read_words by i) (behind p begun seen weight) (behind p begun (seen ++ i ∷ []) (weight + (1 + chunk_weight i.2))) (λ ws. tail_line parts.Behind number ws (behind p begun seen weight)) (says_something i) (inject_words_are p by c i k w)
+      usual_by number (spaced (inject_words by i)) (codes "at" ∷ read_words by i) (behind p begun seen weight) (behind p begun (seen ++ i ∷ []) (weight + (1 + chunk_weight i.chunk))) (λ ws. tail_line parts.Behind number ws (behind p begun seen weight)) (says_something i) (inject_words_are p by c i k w)
       (inject_reads p begun seen weight i k w few)
 
   -- injections are read behind others
@@ -220,10 +217,10 @@ module _ (given : Option ProgramText) (by : Chunk → List ℕ) (c : ServeConfig
       subst (λ (n : ℕ). Leads config_format [] (behind p begun seen weight) (behind p begun c.at n)) same
       (subst (λ (l : List Injection). Leads config_format [] (behind p begun seen weight) (behind p begun l weight)) (sym (append-nil seen) ∙ e) (leads-nil config_format (behind p begun seen weight)))
   injects_lead p begun (i ∷ rest) seen weight total e sum few k w =
-      let next : weight + (1 + chunk_weight i.2) + weights rest ≡ total = omega (arith, sum) in
-      leads-cons config_format (spaced (inject_words by i)) (map (λ x. spaced (inject_words by x)) rest) (behind p begun seen weight) (behind p begun (seen ++ i ∷ []) (weight + (1 + chunk_weight i.2))) (behind p begun c.at total)
+      let next : weight + (1 + chunk_weight i.chunk) + weights rest ≡ total = omega (arith, sum) in
+      leads-cons config_format (spaced (inject_words by i)) (map (λ x. spaced (inject_words by x)) rest) (behind p begun seen weight) (behind p begun (seen ++ i ∷ []) (weight + (1 + chunk_weight i.chunk))) (behind p begun c.at total)
       (inject_step p begun seen weight i (All-head (KeepsInject c.node.version) i rest k) (All-head (Injected p by) i rest w) (omega (arith, next, few)))
-      (injects_lead p begun rest (seen ++ i ∷ []) (weight + (1 + chunk_weight i.2)) total (more_to c.at seen i rest e) next few (All-tail (KeepsInject c.node.version) i rest k) (All-tail (Injected p by) i rest w))
+      (injects_lead p begun rest (seen ++ i ∷ []) (weight + (1 + chunk_weight i.chunk)) total (more_to c.at seen i rest e) next few (All-tail (KeepsInject c.node.version) i rest k) (All-tail (Injected p by) i rest w))
 
   -- ---- the whole
 

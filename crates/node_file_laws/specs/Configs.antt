@@ -5,11 +5,11 @@ use Rattle.std.specs.Fmt.{decimal}
 use lib.Chars.{codes}
 use Rattle.plan_base.specs.declared.ids.Host.{Host}
 use Rattle.plan_base.specs.declared.ids.Dev.{Dev}
-use Rattle.plan_base.specs.declared.name.Name.{Name}
 use Rattle.plan_base.specs.declared.tree.Chunk.{Chunk}
 use Rattle.plan_base.specs.declared.tree.Program.{Program}
 use Rattle.link_window.specs.declared.window.Version.{Version}
 use Rattle.link_window.specs.declared.window.Version.TheVariants.{One, Two}
+use Rattle.network_plan.specs.declared.serve.Inject.{Inject as Injection}
 use Rattle.network_plan.specs.declared.serve.ServeConfig.{ServeConfig}
 use Rattle.network_plan.specs.NodeRules.{KeepsServe}
 use Rattle.line_files.specs.Lines.{spaced}
@@ -53,8 +53,8 @@ given_lines None = []
 given_lines (Some p) = program_lines p.text
 
 -- an injection at a turn; the arguments are the rest of the line
-abbrev pub inject_words : (Chunk → List ℕ) → ℕ × ℕ × Chunk × Option Name → List (List ℕ)
-inject_words by i = codes "at" ∷ decimal i.0 ∷ codes "inject" ∷ i.2.entry ∷ decimal i.1 ∷ (handler_words i.3 ++ by i.2 ∷ [])
+abbrev pub inject_words : (Chunk → List ℕ) → Injection → List (List ℕ)
+inject_words by i = codes "at" ∷ decimal i.turn ∷ codes "inject" ∷ i.chunk.entry ∷ decimal i.bound ∷ (handler_words i.handler ++ by i.chunk ∷ [])
 
 -- the lines in front of the neighbours
 abbrev pub head_lines : ServeConfig → List (List ℕ)
@@ -78,9 +78,9 @@ IsGiven None = Unit {0}
 IsGiven (Some p) = IsTextOf p.program p.text
 
 -- what is injected is a call of the program, written by a text of its arguments and by a name of its handler
-abbrev pub IsInjected : Option ProgramText → (Chunk → List ℕ) → ℕ × ℕ × Chunk × Option Name → Type 0
+abbrev pub IsInjected : Option ProgramText → (Chunk → List ℕ) → Injection → Type 0
 IsInjected None by i = ⊥
-IsInjected (Some p) by i = (i.2.code ≡ p.program) × IsCall (by i.2) i.2 × IsNamed i.3
+IsInjected (Some p) by i = (i.chunk.code ≡ p.program) × IsCall (by i.chunk) i.chunk × IsNamed i.handler
 
 -- a configuration within its limits of a node that has not begun, whose log, program and arguments are written
 pub record IsConfig (given : Option ProgramText) (by : Chunk → List ℕ) (c : ServeConfig) : Type 0 where

@@ -9,14 +9,13 @@ use Rattle.std.proofs.lemmas.Bool.{eqb-false}
 use Rattle.std.proofs.lemmas.List.Elements.{All-nil, All-cons, All-head, All-tail, All-push}
 use Rattle.plan_base.specs.declared.ids.Host.{Host}
 use Rattle.plan_base.specs.declared.ids.Dev.{Dev}
-use Rattle.plan_base.specs.declared.name.Name.{Name}
-use Rattle.plan_base.specs.declared.tree.Chunk.{Chunk}
 use Rattle.plan_base.specs.declared.tree.Program.{Program}
 use Rattle.plan_base.specs.Sizes.{chunk_weight}
 use Rattle.plan_types.specs.Kept.{IsChecked}
 use Rattle.service_api.specs.declared.package.PackageName.{PackageName}
 use Rattle.link_window.specs.declared.window.Version.{Version}
 use Rattle.link_window.specs.declared.window.Version.TheVariants.{One, Two}
+use Rattle.network_plan.specs.declared.serve.Inject.{Inject as Injection}
 use Rattle.network_plan.specs.declared.serve.ServeConfig.{ServeConfig}
 use Rattle.network_plan.specs.FileNames.{is_file_name}
 use Rattle.network_plan.specs.Rules.{PackagesDiffer}
@@ -57,7 +56,7 @@ use Rattle.node_files.proofs.NodeLaws.{hosts_line_is, neighbour_is, IsNew}
 -- ---- what the lines so far keep
 
 -- packages, the program and what is injected
-record KeepsTail (version : Version) (lacks : List PackageName) (program : Option Program) (at : List (ℕ × ℕ × Chunk × Option Name)) (weight : ℕ) : Type 0 where
+record KeepsTail (version : Version) (lacks : List PackageName) (program : Option Program) (at : List Injection) (weight : ℕ) : Type 0 where
   missing : PackagesDiffer lacks
   checked : HasChecked program
   injects : All (KeepsInject version) at
@@ -251,7 +250,7 @@ program_keeps number ws s k =
     then_keeps Kept (end_at ws) _ (λ u hu.
     done_keeps Kept (record s { stage = stages.Inside; program = opened number }) k)
 
-weights_push : (is : List (ℕ × ℕ × Chunk × Option Name)) (i : ℕ × ℕ × Chunk × Option Name) → weights (is ++ i ∷ []) ≡ weights is + (1 + chunk_weight i.2)
+weights_push : (is : List Injection) (i : Injection) → weights (is ++ i ∷ []) ≡ weights is + (1 + chunk_weight i.chunk)
 weights_push [] i = omega arith
 weights_push (j ∷ js) i = omega (arith, weights_push js i)
 
@@ -270,15 +269,15 @@ inject_keeps ws s l k =
     let turns = number_is 1 1000000 ws turn ht in
     let in_all = weighed_is s.weight i.0 total hw in
     let program_is_checked = checked_is s.checked program t.checked (ok_or_is s.checked UnknownProgram program hp) in
-    let next : ConfigReading = record s { at = s.at ++ (turn.0, i.1, i.0, i.2) ∷ []; weight = total } in
+    let next : ConfigReading = record s { at = s.at ++ (record { turn = turn.0; bound = i.1; chunk = i.0; handler = i.2 }) ∷ []; weight = total } in
     done_keeps Kept next (late_is s.stage next l (
       k.0,
       k.1,
       record {
         missing = t.missing;
         checked = t.checked;
-        injects = All-push (KeepsInject s.version) s.at (turn.0, i.1, i.0, i.2) t.injects (turns.0, turns.1, injection_is s.version program more program_is_checked i hi);
-        sum = omega (arith, in_all.0, t.sum, weights_push s.at (turn.0, i.1, i.0, i.2));
+        injects = All-push (KeepsInject s.version) s.at (record { turn = turn.0; bound = i.1; chunk = i.0; handler = i.2 }) t.injects (turns.0, turns.1, injection_is s.version program more program_is_checked i hi);
+        sum = omega (arith, in_all.0, t.sum, weights_push s.at (record { turn = turn.0; bound = i.1; chunk = i.0; handler = i.2 }));
         few = in_all.1;
       },
       k.3,
@@ -429,7 +428,7 @@ rest_begun number ws s low b tail.At =
     then_keeps (Begun number) (behind_word (codes "inject") turn.1) _ (λ more hm.
     then_keeps (Begun number) (injection_at s.version program more) _ (λ i hi.
     then_keeps (Begun number) (weighed s.weight i.0) _ (λ total hw.
-    done_keeps (Begun number) (record s { at = s.at ++ (turn.0, i.1, i.0, i.2) ∷ []; weight = total }) b)))))
+    done_keeps (Begun number) (record s { at = s.at ++ (record { turn = turn.0; bound = i.1; chunk = i.0; handler = i.2 }) ∷ []; weight = total }) b)))))
 
 tail_begun : (part : TailPart) (number : ℕ) (ws : List (List ℕ)) (s : ConfigReading) → 1 ≤ number → Begun number s → IfRead (Begun number) (tail_line part number ws s)
 unfolding tail_line

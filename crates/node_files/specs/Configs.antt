@@ -146,7 +146,7 @@ inject_line ws s = do
   more ← behind_word (codes "inject") turn.1
   i ← injection_at s.version program more
   total ← weighed s.weight i.0
-  Ok (record s { at = s.at ++ (turn.0, i.1, i.0, i.2) ∷ []; weight = total })
+  Ok (record s { at = s.at ++ (record { turn = turn.0; bound = i.1; chunk = i.0; handler = i.2 }) ∷ []; weight = total })
 
 -- a line behind its first word
 unfoldable pub tail_rest : TailWord → ℕ → List (List ℕ) → ConfigReading → Result ConfigReading LineReason

@@ -12,7 +12,7 @@ use line_files::{
     number, package, program, read_file, says_nothing, stopped_at, version_of, weighed,
 };
 use link_window::Version;
-use network_plan::{DevPorts, Hosts, Injects, NodeConfig, ServeConfig, first_link};
+use network_plan::{DevPorts, Hosts, Inject, Injects, NodeConfig, ServeConfig, first_link};
 use plan_base::{Dev, Host, NoMemory, Text};
 use plan_items::Items;
 use plan_types::Checked;
@@ -334,7 +334,12 @@ impl ConfigReading {
         expect(words, b"inject")?;
         let (chunk, bound, handler) = injection(alloc, self.version, program, words)?;
         let weight = weighed(self.weight, chunk.chunk())?;
-        self.at.add((turn, bound, chunk, handler))?;
+        self.at.add(Inject {
+            turn,
+            bound,
+            chunk,
+            handler,
+        })?;
         self.weight = weight;
         Ok(())
     }

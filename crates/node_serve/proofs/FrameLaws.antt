@@ -1,11 +1,10 @@
 -- The frames of a run are those that the entries of its log send.
 use Rattle.std.proofs.Common.{◌≡◌, ℕ, zero, suc, ◌+◌, ◌<◌, ◌==◌, Bool, true, false, if◌then◌else◌, List, [], ◌∷◌, ◌++◌, length, slice_get, nat_le, drop, Option, Some, None, refl, sym, ◌∙◌, ap, arith, append_assoc, append-nil}
 use Rattle.std.proofs.lemmas.Bool.Decides.{nat_tests}
-use Rattle.plan_base.specs.declared.name.Name.{Name}
 use Rattle.plan_base.specs.declared.ids.Dev.{Dev}
-use Rattle.plan_base.specs.declared.tree.Chunk.{Chunk}
 use Rattle.packet_frame.specs.declared.frame.PlainStamped.{PlainStamped}
 use Rattle.packet_frame.specs.Stamped.{stamped_bytes}
+use Rattle.network_plan.specs.declared.serve.Inject.{Inject as Injection}
 use Rattle.network_plan.specs.Hosts.{dev_of}
 use Rattle.network_plan.specs.declared.event.Event.{Event}
 use Rattle.network_plan.specs.declared.event.Event.TheVariants.{Inject, Frame, Control, Tick, Take}
@@ -103,11 +102,11 @@ unfolding tick
 tick_sends period t refused r = either (nat_le (r.last + period) t) r (marked t (make Tick refused r)) r
     (both_sends r (make Tick refused r) (marked t (make Tick refused r)) (make_sends Tick (λ node. refl) refused r) (same_sends (make Tick refused r) (marked t (make Tick refused r)) refl refl refl)) (stay_sends r)
 
-inject_one_sends : (turn : ℕ) (x : Option (ℕ × ℕ × Chunk × Option Name)) → AllSends (inject_one turn x)
+inject_one_sends : (turn : ℕ) (x : Option Injection) → AllSends (inject_one turn x)
 inject_one_sends turn None refused r = stay_sends r
-inject_one_sends turn (Some x) refused r = either (x.0 == turn) r (make (Inject x.2 x.1 x.3) refused r) r (make_sends (Inject x.2 x.1 x.3) (λ node. refl) refused r) (stay_sends r)
+inject_one_sends turn (Some x) refused r = either (x.turn == turn) r (make (Inject x.chunk x.bound x.handler) refused r) r (make_sends (Inject x.chunk x.bound x.handler) (λ node. refl) refused r) (stay_sends r)
 
-inject_to_sends : (turn : ℕ) (at : List (ℕ × ℕ × Chunk × Option Name)) (n : ℕ) → AllSends (inject_to turn at n)
+inject_to_sends : (turn : ℕ) (at : List Injection) (n : ℕ) → AllSends (inject_to turn at n)
 unfolding inject_to
 inject_to_sends turn at zero refused r = stay_sends r
 inject_to_sends turn at (suc n) refused r = both (inject_to turn at n) (inject_one turn (slice_get at n)) (inject_to_sends turn at n) (inject_one_sends turn (slice_get at n)) refused r

@@ -1,10 +1,11 @@
 -- What is injected may come to a node of another version where that takes its handler.
-use Rattle.std.proofs.Common.{◌≡◌, ℕ, true, Option, Some, None, refl, sym, subst}
+use Rattle.std.proofs.Common.{◌≡◌, true, Option, Some, None, refl, sym, subst}
 use Rattle.plan_base.specs.declared.name.Name.{Name}
 use Rattle.plan_base.specs.declared.tree.Chunk.{Chunk}
 use Rattle.typing_rules.specs.Handlers.{MayHandle}
 use Rattle.link_window.specs.declared.window.Version.{Version}
 use Rattle.link_window.specs.declared.window.Version.TheVariants.{One, Two}
+use Rattle.network_plan.specs.declared.serve.Inject.{Inject as Injection}
 use Rattle.network_plan.specs.declared.event.Event.TheVariants.{Inject}
 use Rattle.network_plan.specs.Rules.{MayName}
 use Rattle.network_plan.specs.NodeRules.{KeepsInject}
@@ -20,5 +21,5 @@ may_name One v c None t m = refl
 may_name One v c (Some n) t m = absurd cc
 may_name Two v c o t m = may_handle v c o m
 
-pub may_come : (w v : Version) (x : ℕ × ℕ × Chunk × Option Name) → takes_handler w x.3 ≡ true → KeepsInject v x → comes_within w (Inject x.2 x.1 x.3)
-may_come w v x t k = (k.2.0.0, may_name w v x.2 x.3 t k.2.1)
+pub may_come : (w v : Version) (x : Injection) → takes_handler w x.handler ≡ true → KeepsInject v x → comes_within w (Inject x.chunk x.bound x.handler)
+may_come w v x t k = (k.2.0.0, may_name w v x.chunk x.handler t k.2.1)

@@ -1,9 +1,8 @@
 -- Actions that go on step by step, as a loop follows them.
-use Rattle.std.proofs.Common.{◌≡◌, ℕ, zero, suc, ◌+◌, ◌-◌, ◌<◌, ◌≤◌, List, Option, drop, length, slice_get, ◌∙◌, ap, subst, arith}
+use Rattle.std.proofs.Common.{◌≡◌, ℕ, zero, suc, ◌+◌, ◌-◌, ◌<◌, ◌≤◌, List, drop, length, slice_get, ◌∙◌, ap, subst, arith}
 use Rattle.std.proofs.lemmas.Option.{slice_get_past}
-use Rattle.plan_base.specs.declared.name.Name.{Name}
 use Rattle.plan_base.specs.declared.ids.Dev.{Dev}
-use Rattle.plan_base.specs.declared.tree.Chunk.{Chunk}
+use Rattle.network_plan.specs.declared.serve.Inject.{Inject as Injection}
 use Rattle.network_plan.specs.Hosts.{dev_of}
 use Rattle.network_plan.specs.declared.serve.ServeConfig.{ServeConfig}
 use Rattle.node_io.specs.declared.link.Peer.{Peer}
@@ -54,22 +53,22 @@ loop_ends {r = r} A i m h k a = let same : i ≡ m = omega (arith, h, k) in reac
 
 -- ---- injections
 
-pub inject_up : (turn : ℕ) (at : List (ℕ × ℕ × Chunk × Option Name)) → GoesUp (inject_to turn at)
+pub inject_up : (turn : ℕ) (at : List Injection) → GoesUp (inject_to turn at)
 unfolding inject_to
 inject_up turn at n refused r = inject_one_grows turn (slice_get at n) refused (inject_to turn at n refused r)
 
 -- past the last injection nothing is done
-one_past : (turn : ℕ) (at : List (ℕ × ℕ × Chunk × Option Name)) (n : ℕ) (refused : List ℕ) (r : Running) → length at ≤ n → inject_to turn at (suc n) refused r ≡ inject_to turn at n refused r
+one_past : (turn : ℕ) (at : List Injection) (n : ℕ) (refused : List ℕ) (r : Running) → length at ≤ n → inject_to turn at (suc n) refused r ≡ inject_to turn at n refused r
 unfolding inject_to
 one_past turn at n refused r h = ap (λ o. inject_one turn o refused (inject_to turn at n refused r)) (slice_get_past at n h)
 
-past : (turn : ℕ) (at : List (ℕ × ℕ × Chunk × Option Name)) (n : ℕ) (refused : List ℕ) (r : Running) → inject_to turn at (length at + n) refused r ≡ inject_to turn at (length at) refused r
+past : (turn : ℕ) (at : List Injection) (n : ℕ) (refused : List ℕ) (r : Running) → inject_to turn at (length at + n) refused r ≡ inject_to turn at (length at) refused r
 past turn at zero refused r = let same : length at + 0 ≡ length at = omega arith in ap (λ k. inject_to turn at k refused r) same
 past turn at (suc n) refused r =
     let same : length at + suc n ≡ suc (length at + n) = omega arith in
     ap (λ k. inject_to turn at k refused r) same ∙ one_past turn at (length at + n) refused r (omega arith) ∙ past turn at n refused r
 
-pub inject_past : (turn : ℕ) (at : List (ℕ × ℕ × Chunk × Option Name)) (i : ℕ) (r : Running) → length at ≤ i → (refused : List ℕ) → inject_to turn at i refused r ≡ inject_to turn at (length at) refused r
+pub inject_past : (turn : ℕ) (at : List Injection) (i : ℕ) (r : Running) → length at ≤ i → (refused : List ℕ) → inject_to turn at i refused r ≡ inject_to turn at (length at) refused r
 inject_past turn at i r h refused = let same : i ≡ length at + (i - length at) = omega (arith, h) in ap (λ k. inject_to turn at k refused r) same ∙ past turn at (i - length at) refused r
 
 -- ---- frames that are sent

@@ -1,12 +1,11 @@
 -- A step that was made and written, or not.
 use Rattle.std.proofs.Common.{◌≡◌, ◌≢◌, ℕ, suc, ◌+◌, ◌<◌, ◌==◌, ◌⊎◌, inl, inr, get_or, Bool, true, false, if◌then◌else◌, nat_le, List, [], ◌∷◌, ◌++◌, length, drop, slice_get, Option, Some, None, Result, Ok, Err, MatchResult, refl, sym, ◌∙◌, ap, subst, arith, length-append, append-nil}
 use Rattle.std.proofs.lemmas.Bool.Decides.{nat_tests}
-use Rattle.plan_base.specs.declared.name.Name.{Name}
 use Rattle.plan_base.specs.declared.ids.Dev.{Dev}
 use Rattle.plan_base.specs.declared.ids.Host.{Host}
-use Rattle.plan_base.specs.declared.tree.Chunk.{Chunk}
 use Rattle.packet_frame.specs.declared.frame.PlainStamped.{PlainStamped}
 use Rattle.packet_frame.specs.Stamped.{stamped_bytes}
+use Rattle.network_plan.specs.declared.serve.Inject.{Inject as Injection}
 use Rattle.network_plan.specs.Hosts.{dev_of}
 use Rattle.network_plan.specs.declared.event.Event.{Event}
 use Rattle.network_plan.specs.declared.event.Event.TheVariants.{Inject, Frame, Take}
@@ -158,18 +157,18 @@ if_is b c x y h = ap (λ d. if d then x else y) h
 pub over_is : {S : Type 0} (stands : S → ServiceState) (server : Server S) (r : Running) (period now : ℕ) (b : Bool) → StandsFor stands server r → b ≡ nat_le (server.last + period) now → nat_le (r.last + period) now ≡ b
 over_is stands server r period now b st e = ap (λ k. nat_le (k + period) now) (sym st.last) ∙ sym e
 
-pub inject_stay : (turn : ℕ) (x : ℕ × ℕ × Chunk × Option Name) (r : Running) → (x.0 == turn) ≡ false → (refused : List ℕ) → inject_one turn (Some x) refused r ≡ r
-inject_stay turn x r h refused = if_is (x.0 == turn) false (make (Inject x.2 x.1 x.3) refused r) r h
+pub inject_stay : (turn : ℕ) (x : Injection) (r : Running) → (x.turn == turn) ≡ false → (refused : List ℕ) → inject_one turn (Some x) refused r ≡ r
+inject_stay turn x r h refused = if_is (x.turn == turn) false (make (Inject x.chunk x.bound x.handler) refused r) r h
 
-pub inject_makes : (turn : ℕ) (x : ℕ × ℕ × Chunk × Option Name) (r : Running) → (x.0 == turn) ≡ true → (refused : List ℕ) → make (Inject x.2 x.1 x.3) refused r ≡ inject_one turn (Some x) refused r
-inject_makes turn x r h refused = sym (if_is (x.0 == turn) true (make (Inject x.2 x.1 x.3) refused r) r h)
+pub inject_makes : (turn : ℕ) (x : Injection) (r : Running) → (x.turn == turn) ≡ true → (refused : List ℕ) → make (Inject x.chunk x.bound x.handler) refused r ≡ inject_one turn (Some x) refused r
+inject_makes turn x r h refused = sym (if_is (x.turn == turn) true (make (Inject x.chunk x.bound x.handler) refused r) r h)
 
 -- one more injection
-pub inject_next : (turn : ℕ) (at : List (ℕ × ℕ × Chunk × Option Name)) (i : ℕ) (x : ℕ × ℕ × Chunk × Option Name) (r : Running) → slice_get at i ≡ Some x → (refused : List ℕ) → then_do (inject_to turn at i) (inject_one turn (Some x)) refused r ≡ inject_to turn at (i + 1) refused r
+pub inject_next : (turn : ℕ) (at : List Injection) (i : ℕ) (x : Injection) (r : Running) → slice_get at i ≡ Some x → (refused : List ℕ) → then_do (inject_to turn at i) (inject_one turn (Some x)) refused r ≡ inject_to turn at (i + 1) refused r
 unfolding inject_to
 inject_next turn at i x r h refused = ap (λ o. inject_one turn o refused (inject_to turn at i refused r)) (sym h) ∙ ap (λ n. inject_to turn at n refused r) (add_one i)
 
-pub inject_none : (turn : ℕ) (at : List (ℕ × ℕ × Chunk × Option Name)) (r : Running) (refused : List ℕ) → inject_to turn at 0 refused r ≡ r
+pub inject_none : (turn : ℕ) (at : List Injection) (r : Running) (refused : List ℕ) → inject_to turn at 0 refused r ≡ r
 unfolding inject_to
 inject_none turn at r refused = refl
 

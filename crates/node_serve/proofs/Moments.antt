@@ -1,9 +1,8 @@
 -- A node of version 2 begins at the clock's next answer, one of version 1 at none.
-use Rattle.std.proofs.Common.{◌≡◌, ℕ, ◌<◌, ◌^◌, List, Option, Result, refl, sym, subst}
-use Rattle.plan_base.specs.declared.name.Name.{Name}
+use Rattle.std.proofs.Common.{◌≡◌, ℕ, ◌<◌, ◌^◌, List, Result, refl, sym, subst}
 use Rattle.plan_base.specs.declared.ids.Dev.{Dev}
-use Rattle.plan_base.specs.declared.tree.Chunk.{Chunk}
 use Rattle.service_api.specs.declared.package.PackageName.{PackageName}
+use Rattle.network_plan.specs.declared.serve.Inject.{Inject as Injection}
 use Rattle.network_plan.specs.declared.node.NodeConfig.{NodeConfig}
 use Rattle.link_window.specs.declared.window.Version.TheVariants.{One, Two}
 use Rattle.network_plan.specs.NodeRules.{KeepsBoot, KeepsServe}
@@ -42,7 +41,7 @@ booted_keeps cfg boot two small k = record {
 }
 
 -- the same of one whose parts are equal
-pub booted_so : (cfg : ServeConfig) (boot : ℕ) (node : NodeConfig) (missing : List PackageName) (log : List ℕ) (devs : List (Dev × ℕ)) (at : List (ℕ × ℕ × Chunk × Option Name))
+pub booted_so : (cfg : ServeConfig) (boot : ℕ) (node : NodeConfig) (missing : List PackageName) (log : List ℕ) (devs : List (Dev × ℕ)) (at : List Injection)
     → node ≡ cfg.node → missing ≡ cfg.missing → log ≡ cfg.log → devs ≡ cfg.devs → at ≡ cfg.at → cfg.node.version ≡ Two → boot < 2 ^ 64 → KeepsServe cfg
     → KeepsServe (record { node = record node { boot = boot }; missing = missing; port = cfg.port; control = cfg.control; period = cfg.period; log = log; devs = devs; at = at })
 booted_so cfg boot node missing log devs at n m l d a two small k =

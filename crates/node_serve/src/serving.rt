@@ -111,9 +111,14 @@ fn injects_again(alloc: Global, at: &[Inject]) -> Result<Injects, NoMemory>
 {
     let mut copy = Items::new(alloc);
     for inject in at {
-        let chunk = inject.2.copy(alloc)?;
-        let handler = copy_handler(alloc, &inject.3)?;
-        copy.add((inject.0, inject.1, chunk, handler))?;
+        let chunk = inject.chunk.copy(alloc)?;
+        let handler = copy_handler(alloc, &inject.handler)?;
+        copy.add(Inject {
+            turn: inject.turn,
+            bound: inject.bound,
+            chunk,
+            handler,
+        })?;
     }
     Ok(copy)
 }

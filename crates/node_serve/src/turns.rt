@@ -39,17 +39,18 @@ fn may_take(version: Version, handler: &Option<Name>) -> bool
 /// The event of an injection, where its chunk finds memory, and a node of this version may take it.
 #[tactic(auto, using(crate::proofs::Injecting::may_come))]
 fn injection(alloc: Global, version: Version, inject: &Inject) -> Option<Event>
-    ensures event { IfSome result (λ e. e ≡ event.Inject inject.now.2 inject.now.1 inject.now.3) }
+    ensures event { IfSome result (λ e.
+        e ≡ event.Inject inject.now.chunk inject.now.bound inject.now.handler) }
     ensures keeps { (v : VersionOf) → KeepsInject v inject.now → IfSome result (KeepsNodeEvent v) }
     ensures within { (v : VersionOf) → KeepsInject v inject.now
         → IfSome result (comes_within version) }
 {
-    if !may_take(version, &inject.3) {
+    if !may_take(version, &inject.handler) {
         return None;
     }
-    let chunk = inject.2.copy(alloc).ok()?;
-    let handler = copy_handler(alloc, &inject.3).ok()?;
-    Some(Event::Inject(chunk, inject.1, handler))
+    let chunk = inject.chunk.copy(alloc).ok()?;
+    let handler = copy_handler(alloc, &inject.handler).ok()?;
+    Some(Event::Inject(chunk, inject.bound, handler))
 }
 
 impl<S: Services> Server<S> {
@@ -95,7 +96,7 @@ impl<S: Services> Server<S> {
             (desk (F.state files.old) (K.state out.old) l)
             (desk (F.state files.new) (K.state out.new) l) result }
     {
-        if inject.0 != turn {
+        if inject.turn != turn {
             return Ok(());
         }
         let event = injection(alloc, self.node.version(), inject);

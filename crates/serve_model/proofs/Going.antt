@@ -1,10 +1,9 @@
 -- That a run only goes on.
 use Rattle.std.proofs.Common.{◌≡◌, ℕ, zero, suc, ◌+◌, Bool, true, false, if◌then◌else◌, List, [], ◌∷◌, ◌++◌, length, map, slice_get, nat_le, ◌==◌, drop, Option, Some, None, refl, sym, ◌∙◌, ap, subst, arith, append_assoc, append-nil, length-append}
-use Rattle.plan_base.specs.declared.name.Name.{Name}
 use Rattle.plan_base.specs.declared.ids.Dev.{Dev}
-use Rattle.plan_base.specs.declared.tree.Chunk.{Chunk}
 use Rattle.packet_frame.specs.declared.frame.PlainStamped.{PlainStamped}
 use Rattle.packet_frame.specs.Stamped.{stamped_bytes}
+use Rattle.network_plan.specs.declared.serve.Inject.{Inject as Injection}
 use Rattle.network_plan.specs.Hosts.{dev_of}
 use Rattle.network_plan.specs.declared.event.Event.{Event}
 use Rattle.network_plan.specs.declared.event.Event.TheVariants.{Inject, Frame, Tick, Take}
@@ -108,11 +107,11 @@ unfolding tick
 tick_grows period t refused r = either (nat_le (r.last + period) t) r (marked t (make Tick refused r)) r
     (ext_trans r (make Tick refused r) (marked t (make Tick refused r)) (make_grows Tick refused r) (ext_marked t (make Tick refused r))) (ext_refl r)
 
-pub inject_one_grows : (turn : ℕ) (x : Option (ℕ × ℕ × Chunk × Option Name)) → Grows (inject_one turn x)
+pub inject_one_grows : (turn : ℕ) (x : Option Injection) → Grows (inject_one turn x)
 inject_one_grows turn None refused r = ext_refl r
-inject_one_grows turn (Some x) refused r = either (x.0 == turn) r (make (Inject x.2 x.1 x.3) refused r) r (make_grows (Inject x.2 x.1 x.3) refused r) (ext_refl r)
+inject_one_grows turn (Some x) refused r = either (x.turn == turn) r (make (Inject x.chunk x.bound x.handler) refused r) r (make_grows (Inject x.chunk x.bound x.handler) refused r) (ext_refl r)
 
-pub inject_to_grows : (turn : ℕ) (at : List (ℕ × ℕ × Chunk × Option Name)) (n : ℕ) → Grows (inject_to turn at n)
+pub inject_to_grows : (turn : ℕ) (at : List Injection) (n : ℕ) → Grows (inject_to turn at n)
 unfolding inject_to
 inject_to_grows turn at zero refused r = ext_refl r
 inject_to_grows turn at (suc n) refused r = grows_then (inject_to turn at n) (inject_one turn (slice_get at n)) (inject_to_grows turn at n) (inject_one_grows turn (slice_get at n)) refused r

@@ -1,11 +1,10 @@
 -- The run of a serving node: its turns, by what its link hears, what its clock answers, and which steps were refused.
 use Rattle.std.specs.Prelude.{◌≡◌, ℕ, zero, suc, ◌+◌, Bool, true, false, ◌==◌, nat_le, if◌then◌else◌, List, [], ◌∷◌, ◌++◌, length, map, drop, get_or, slice_get, Option, Some, None}
 use Rattle.std.specs.List.{list_any}
-use Rattle.plan_base.specs.declared.name.Name.{Name}
 use Rattle.plan_base.specs.declared.ids.Dev.{Dev}
-use Rattle.plan_base.specs.declared.tree.Chunk.{Chunk}
 use Rattle.packet_frame.specs.declared.frame.PlainStamped.{PlainStamped}
 use Rattle.packet_frame.specs.Stamped.{stamped_bytes}
+use Rattle.network_plan.specs.declared.serve.Inject.{Inject as Injection}
 use Rattle.network_plan.specs.Hosts.{dev_of}
 use Rattle.network_plan.specs.declared.event.Event.{Event}
 use Rattle.network_plan.specs.declared.event.Event.TheVariants.{Inject, Frame, Control, Tick, Take}
@@ -114,12 +113,12 @@ unfoldable pub tick : ℕ → ℕ → Action
 tick period t refused r = if nat_le (r.last + period) t then marked t (make Tick refused r) else r
 
 -- an injection of this turn
-abbrev pub inject_one : ℕ → Option (ℕ × ℕ × Chunk × Option Name) → Action
+abbrev pub inject_one : ℕ → Option Injection → Action
 inject_one turn None refused r = r
-inject_one turn (Some x) refused r = if x.0 == turn then make (Inject x.2 x.1 x.3) refused r else r
+inject_one turn (Some x) refused r = if x.turn == turn then make (Inject x.chunk x.bound x.handler) refused r else r
 
 -- the injections of this turn among the first so many
-unfoldable pub inject_to : ℕ → List (ℕ × ℕ × Chunk × Option Name) → ℕ → Action
+unfoldable pub inject_to : ℕ → List Injection → ℕ → Action
 inject_to turn at zero refused r = r
 inject_to turn at (suc n) refused r = inject_one turn (slice_get at n) refused (inject_to turn at n refused r)
 

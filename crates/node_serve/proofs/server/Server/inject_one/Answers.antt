@@ -12,6 +12,6 @@ returns-then-inject-turn g c = λ l. goes_same g.S.Services.stands c.args.cfg.no
 
 pub returns : goal.returns
 returns g c = λ l.
-    let e = Inject c.args.inject.now.2 c.args.inject.now.1 c.args.inject.now.3 in
+    let e = Inject c.args.inject.now.chunk c.args.inject.now.bound c.args.inject.now.handler in
     goes_as g.S.Services.stands c.args.cfg.now (make e) (inject_one c.args.turn (Some c.args.inject.now)) c.args.self.now c.step.new.self _ _ c.step.result
     (λ seen r st. inject_makes c.args.turn c.args.inject.now r (is_same _ _ c.if-inject-turn.false)) (c.step.ensures l e c.injection-event.ensures.event (λ node. refl))
