@@ -13,7 +13,7 @@ use call_causes::{Cause, Refusal};
 use file_commands::value_of;
 use fleet_audit::{Reckoning, nothing_reckoned, reckon_log};
 use line_files::LineReason;
-use network_plan::{Link, Log};
+use network_plan::{Cable, Log};
 use node_io::Files;
 use plan_base::{Host, Text};
 use std::alloc::Global;
@@ -95,7 +95,7 @@ fn take_log<F: Files>(
 pub fn reckon_logs<F: Files>(
     alloc: Global,
     files: &mut F,
-    links: &[Link],
+    links: &[Cable],
     names: &[Text],
 ) -> Result<Reckoning, Cause>
     requires few { length names.now ≤ 16 }

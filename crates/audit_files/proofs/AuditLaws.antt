@@ -11,7 +11,8 @@ use Rattle.std.proofs.lemmas.List.Folds.{list_any-append}
 use lib.Chars.{codes}
 use Rattle.plan_base.specs.declared.ids.Host.{Host}
 use Rattle.plan_base.specs.declared.ids.Dev.{Dev}
-use Rattle.network_plan.specs.Hosts.{Cable, host_of, dev_of, has_link}
+use Rattle.network_plan.specs.declared.schedule.Cable.{Cable}
+use Rattle.network_plan.specs.Hosts.{host_of, dev_of, has_link}
 use Rattle.network_plan.specs.FileNames.{is_file_name}
 use Rattle.network_plan.specs.Rules.{IsLinkDevice, LinksApart}
 use Rattle.line_files.specs.declared.fault.LineReason.TheVariants.{BadHeader, BadWord, BadArgument, TwiceNamed, TooMany}
@@ -104,18 +105,18 @@ link_keeps ws s k =
     then_keeps Keeps (allowed (not (eqb m.0.0 n.0.0)) BadArgument) _ (λ u apart.
     then_keeps Keeps (device_end s.links m.0 m.1) _ (λ e he.
     then_keeps Keeps (end_at e.1) _ (λ v hv.
-    done_keeps Keeps (record s { links = s.links ++ (n.0, d.0, m.0, e.0) ∷ [] }) (record {
+    done_keeps Keeps (record s { links = s.links ++ (record { from = n.0; from_dev = d.0; to = m.0; to_dev = e.0 }) ∷ [] }) (record {
       few = k.few;
       names = k.names;
       differ = k.differ;
-      links = All-push JoinsHosts s.links (n.0, d.0, m.0, e.0) k.links (record {
+      links = All-push JoinsHosts s.links (record { from = n.0; from_dev = d.0; to = m.0; to_dev = e.0 }) k.links (record {
         from = host_is ws n hn;
         to = host_is d.1 m hm;
         apart = eqb-false m.0.0 n.0.0 (allowed_not (eqb m.0.0 n.0.0) BadArgument u apart);
         from_device = (device_is s.links n.0 n.1 d hd).0;
         to_device = (device_is s.links m.0 m.1 e he).0;
       });
-      apart = apart_push s.links (n.0, d.0, m.0, e.0) k.apart (device_is s.links n.0 n.1 d hd).1 (device_is s.links m.0 m.1 e he).1;
+      apart = apart_push s.links (record { from = n.0; from_dev = d.0; to = m.0; to_dev = e.0 }) k.apart (device_is s.links n.0 n.1 d hd).1 (device_is s.links m.0 m.1 e he).1;
     })))))))
 
 rest_keeps : (w : AuditWord) (ws : List (List ℕ)) (s : AuditReading) → Keeps s → IfRead Keeps (audit_rest w ws s)

@@ -5,7 +5,8 @@ use Rattle.std.specs.Str.{bytes_eq}
 use lib.Chars.{codes}
 use Rattle.plan_base.specs.declared.ids.Host.{Host}
 use Rattle.plan_base.specs.declared.ids.Dev.{Dev}
-use Rattle.network_plan.specs.Hosts.{Cable, host_of, dev_of, has_link}
+use Rattle.network_plan.specs.declared.schedule.Cable.{Cable}
+use Rattle.network_plan.specs.Hosts.{host_of, dev_of, has_link}
 use Rattle.line_files.specs.declared.fault.LineReason.{LineReason}
 use Rattle.line_files.specs.declared.fault.LineReason.TheVariants.{BadHeader, BadWord, BadArgument, TwiceNamed, TooMany}
 use Rattle.line_files.specs.declared.fault.LineFault.{LineFault}
@@ -56,7 +57,7 @@ link_line ws s = do
   _ ← allowed (not (m.0.0 == n.0.0)) BadArgument
   e ← device_end s.links m.0 m.1
   _ ← end_at e.1
-  Ok (record s { links = s.links ++ (n.0, d.0, m.0, e.0) ∷ [] })
+  Ok (record s { links = s.links ++ (record { from = n.0; from_dev = d.0; to = m.0; to_dev = e.0 }) ∷ [] })
 
 -- a line behind its first word
 unfoldable pub audit_rest : AuditWord → List (List ℕ) → AuditReading → Result AuditReading LineReason

@@ -2,7 +2,7 @@
 use Rattle.std.specs.Prelude.{◌≡◌, ◌≢◌, ℕ, Bool, ◌≤◌, ◌<◌, ◌^◌, true, false, List, [], ◌∷◌, length}
 use Rattle.std.specs.List.{All, list_any}
 use Rattle.std.specs.Str.{bytes_eq}
-use Rattle.network_plan.specs.Hosts.{Cable}
+use Rattle.network_plan.specs.declared.schedule.Cable.{Cable}
 use Rattle.network_plan.specs.Rules.{IsLinkDevice, LinksApart}
 use Rattle.network_plan.specs.FileNames.{is_file_name}
 use Rattle.audit_files.specs.declared.audit.AuditFile.{AuditFile}
@@ -18,11 +18,11 @@ NamesDiffer (n ∷ ns) = (is_named n ns ≡ false) × NamesDiffer ns
 
 -- a link goes from a device of one host to a device of another, whether their logs are there or not
 pub record JoinsHosts (l : Cable) : Type 0 where
-  pub from : l.0.0 < 2 ^ 32
-  pub to : l.2.0 < 2 ^ 32
-  pub apart : l.2.0 ≢ l.0.0
-  pub from_device : IsLinkDevice l.1
-  pub to_device : IsLinkDevice l.3
+  pub from : l.from.0 < 2 ^ 32
+  pub to : l.to.0 < 2 ^ 32
+  pub apart : l.to.0 ≢ l.from.0
+  pub from_device : IsLinkDevice l.from_dev
+  pub to_device : IsLinkDevice l.to_dev
 
 -- a file of an audit within its limits
 pub record KeepsAudit (a : AuditFile) : Type 0 where

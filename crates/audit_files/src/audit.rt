@@ -10,7 +10,7 @@ use line_files::{
     LineFault, LineFile, LineReason, LineStop, Words, allow, file_name, is, number, read_file,
     says_nothing, stopped_at,
 };
-use network_plan::{Link, Links, has_link};
+use network_plan::{Cable, Links, has_link};
 use plan_base::{Dev, Host, Text};
 use plan_items::Items;
 use std::alloc::Global;
@@ -69,7 +69,7 @@ fn host_end(words: &mut Words<'_>) -> Result<Host, LineReason>
 
 /// The next word as a device, from 1 to 8, of a host that has no link yet. Reasons: `BadWord`, `BadNumber`, `TwiceNamed`.
 #[tactic(auto, unfolding(crate::specs::AuditFiles::device_end))]
-fn device_end(links: &[Link], host: Host, words: &mut Words<'_>) -> Result<Dev, LineReason>
+fn device_end(links: &[Cable], host: Host, words: &mut Words<'_>) -> Result<Dev, LineReason>
     ensures { Reads (λ d. d) result words.new (spec.device_end links.now host words.old) }
 {
     let d = number(words, 1, 8)?;
@@ -125,7 +125,12 @@ impl AuditReading {
         allow(m.0 != n.0, LineReason::BadArgument)?;
         let e = device_end(self.links.as_slice(), m, words)?;
         words.end()?;
-        self.links.add((n, d, m, e))?;
+        self.links.add(Cable {
+            from: n,
+            from_dev: d,
+            to: m,
+            to_dev: e,
+        })?;
         Ok(())
     }
 

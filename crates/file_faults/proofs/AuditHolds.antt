@@ -12,7 +12,8 @@ use Rattle.line_files.specs.Reads.{word_at, end_at, allowed}
 use Rattle.line_files.specs.declared.fault.LineFault.{LineFault}
 use Rattle.line_files.specs.declared.fault.LineFault.TheVariants as faults
 use Rattle.line_files.specs.declared.fault.LineReason.TheVariants.{BadHeader, BadWord, BadArgument, TwiceNamed, TooMany}
-use Rattle.network_plan.specs.Hosts.{Cable, host_of, dev_of, has_link}
+use Rattle.network_plan.specs.declared.schedule.Cable.{Cable}
+use Rattle.network_plan.specs.Hosts.{host_of, dev_of, has_link}
 use Rattle.plan_base.specs.declared.ids.Host.{Host}
 use Rattle.audit_files.specs.AuditFiles.{audit_word, log_line, host_end, device_end, link_line, audit_rest, audit_line, audit_step_at, audit_end, audit_format, nothing_read, audit_of}
 use Rattle.audit_files.specs.AuditRules.{is_named}
@@ -52,7 +53,7 @@ link_line_holds ws s =
     then_holds (allowed (not (m.0.0 == n.0.0)) BadArgument) _ (allowed_holds (not (m.0.0 == n.0.0)) BadArgument tt) (λ u3.
     then_holds (device_end s.links m.0 m.1) _ (device_end_holds s.links m.0 m.1) (λ e.
     then_holds (end_at e.1) _ (end_at_holds e.1) (λ u5.
-    done_holds (record s { links = s.links ++ (n.0, d.0, m.0, e.0) ∷ [] })))))))
+    done_holds (record s { links = s.links ++ (record { from = n.0; from_dev = d.0; to = m.0; to_dev = e.0 }) ∷ [] })))))))
 
 audit_rest_holds : (w : AuditWord) (ws : List (List ℕ)) (s : AuditReading) → Holds (audit_rest w ws s)
 unfolding audit_rest

@@ -16,7 +16,8 @@ use Rattle.line_files.specs.Reads.{word_at, allowed, end_at}
 use Rattle.line_files.specs.declared.fault.LineFault.{LineFault}
 use Rattle.line_files.specs.declared.fault.LineReason.{LineReason}
 use Rattle.line_files.specs.declared.fault.LineReason.TheVariants.{UnknownHost, UnknownProgram, TwiceNamed, BadHeader, BadWord, TooMany, BadArgument}
-use Rattle.network_plan.specs.Hosts.{Cable, host_of, dev_of, has_host, has_link}
+use Rattle.network_plan.specs.declared.schedule.Cable.{Cable}
+use Rattle.network_plan.specs.Hosts.{host_of, dev_of, has_host, has_link}
 use Rattle.network_plan.specs.declared.schedule.HostSpec.{HostSpec}
 use Rattle.plan_base.specs.declared.ids.Host.{Host}
 use Rattle.schedule_text.specs.Parts.{host_at, device_at, free_device_at, is_called, program_at}
@@ -89,7 +90,7 @@ link_line_holds ws s =
     then_holds (allowed (not (m.0.0 == n.0.0)) BadArgument) _ (allowed_holds (not (m.0.0 == n.0.0)) BadArgument tt) (λ u3.
     then_holds (free_device_at s.links m.0 m.1) _ (free_device_at_holds s.links m.0 m.1) (λ e.
     then_holds (end_at e.1) _ (end_at_holds e.1) (λ u5.
-    done_holds (record s { links = s.links ++ (n.0, d.0, m.0, e.0) ∷ [] })))))))
+    done_holds (record s { links = s.links ++ (record { from = n.0; from_dev = d.0; to = m.0; to_dev = e.0 }) ∷ [] })))))))
 
 program_line_holds : (number : ℕ) (ws : List (List ℕ)) (s : Reading) → Holds (program_line number ws s)
 unfolding program_line

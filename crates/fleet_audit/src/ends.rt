@@ -1,7 +1,7 @@
 ghost use Rattle.std.specs.Prelude.{◌≡◌, position};
 ghost use Rattle.world_model.specs.World as spec;
 
-use network_plan::Link;
+use network_plan::Cable;
 use plan_base::{Dev, Host};
 use world_model::LinkEnd;
 
@@ -13,36 +13,36 @@ fn has_end(host: Host, dev: Dev, end: Host, at: Dev) -> bool
 }
 
 /// The place of the first link that is on a device of a host.
-fn link_place(links: &[Link], host: Host, dev: Dev) -> Option<usize>
+fn link_place(links: &[Cable], host: Host, dev: Dev) -> Option<usize>
     ensures { result ≡ position (spec.is_on host dev) links.now }
 {
-    links.iter().position(|l| (l.0.0 == host.0 && l.1.0 == dev.0)
-        || (l.2.0 == host.0 && l.3.0 == dev.0))
+    links.iter().position(|l| (l.from.0 == host.0 && l.from_dev.0 == dev.0)
+        || (l.to.0 == host.0 && l.to_dev.0 == dev.0))
 }
 
 /// The end to which a link leads from a device of a host.
 #[tactic(auto, unfolding(world_model::specs::World::peer_of))]
-fn peer_of(links: &[Link], host: Host, dev: Dev) -> Option<LinkEnd>
+fn peer_of(links: &[Cable], host: Host, dev: Dev) -> Option<LinkEnd>
     ensures { result ≡ spec.peer_of links.now host dev }
 {
     let at = link_place(links, host, dev)?;
     let link = links.get(at)?;
-    if has_end(host, dev, link.0, link.1) {
+    if has_end(host, dev, link.from, link.from_dev) {
         Some(LinkEnd {
-            host: link.2,
-            dev: link.3,
+            host: link.to,
+            dev: link.to_dev,
         })
     } else {
         Some(LinkEnd {
-            host: link.0,
-            dev: link.1,
+            host: link.from,
+            dev: link.from_dev,
         })
     }
 }
 
 /// The other end of a device of a host, by the links; device 0 leads to the node itself. Takes no memory.
 #[tactic(auto, unfolding(world_model::specs::World::far_end))]
-pub fn far_end(links: &[Link], host: Host, dev: Dev) -> Option<LinkEnd>
+pub fn far_end(links: &[Cable], host: Host, dev: Dev) -> Option<LinkEnd>
     ensures { result ≡ spec.far_end links.now host dev }
 {
     if dev.0 == 0 {

@@ -18,7 +18,7 @@ use crate::ends::far_end;
 use crate::keys::CrossingKey;
 use crate::tally::Tallies;
 use log_replay::begin_node;
-use network_plan::{Event, Link, Log, LogEvent};
+use network_plan::{Cable, Event, Log, LogEvent};
 use node_core::Node;
 use node_model::{Act, Acts};
 use plan_base::{Dev, Family, Host, NoMemory};
@@ -194,7 +194,7 @@ fn reckon_taken(
 #[tactic(auto, using(crate::proofs::PastLaws::only_accepted, crate::proofs::PastLaws::only_sent, crate::proofs::PastLaws::neither))]
 fn reckon_frames(
     alloc: Global,
-    links: &[Link],
+    links: &[Cable],
     mark: Mark,
     here: Host,
     event: &Event,
@@ -232,7 +232,7 @@ fn reckon_frames(
 #[tactic(auto, using(log_replay::proofs::Within::comes_as))]
 fn reckon_event<S: Services>(
     alloc: Global,
-    links: &[Link],
+    links: &[Cable],
     mark: Mark,
     node: &mut Node<S>,
     event: &Event,
@@ -260,7 +260,7 @@ fn reckon_event<S: Services>(
 #[tactic(auto, using(crate::proofs::PastLaws::lost_held))]
 fn reckon_entry<S: Services>(
     alloc: Global,
-    links: &[Link],
+    links: &[Cable],
     mark: Mark,
     node: &mut Node<S>,
     entry: &LogEvent,
@@ -289,7 +289,7 @@ fn reckon_entry<S: Services>(
 /// Makes the entries of a log again, and adds what they sent, accepted and did.
 fn reckon_entries<S: Services>(
     alloc: Global,
-    links: &[Link],
+    links: &[Cable],
     log: u32,
     node: &mut Node<S>,
     entries: &[LogEvent],
@@ -329,7 +329,7 @@ pub fn nothing_reckoned(alloc: Global) -> Reckoning
 #[tactic(auto, using(crate::proofs::PastLaws::new_rests))]
 pub fn reckon_log(
     alloc: Global,
-    links: &[Link],
+    links: &[Cable],
     number: u32,
     log: &Log,
     reckoning: &mut Reckoning,

@@ -19,7 +19,7 @@ use crate::tally::Tallies;
 use audit_files::AuditFile;
 use bound_ledger::Row;
 use dv_routing::sorted_hosts;
-use network_plan::{Link, Log};
+use network_plan::{Cable, Log};
 use plan_base::{Family, Host, NoMemory};
 use plan_items::Items;
 use std::alloc::Global;
@@ -164,7 +164,7 @@ pub fn judge(alloc: Global, reckoning: Reckoning) -> Result<Verdict, NoMemory>
 }
 
 /// Adds logs, in order.
-fn reckon_logs(alloc: Global, links: &[Link], logs: &[Log]) -> Result<Reckoning, NoMemory>
+fn reckon_logs(alloc: Global, links: &[Cable], logs: &[Log]) -> Result<Reckoning, NoMemory>
     requires few { length logs.now ≤ 16 }
     requires rules { All KeepsLog logs.now }
     ensures { IfOk result (IsReckoned links.now (map logged_of logs.now)) }

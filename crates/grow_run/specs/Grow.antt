@@ -4,7 +4,8 @@ use Rattle.link_window.specs.declared.window.Version.TheVariants.{One}
 use Rattle.rand_pcg.specs.Lcg.{Lcg}
 use Rattle.plan_base.specs.declared.ids.Host.{Host}
 use Rattle.plan_base.specs.declared.tree.Chunk.{Chunk}
-use Rattle.network_plan.specs.Hosts.{Cable, host_of, dev_of}
+use Rattle.network_plan.specs.declared.schedule.Cable.{Cable}
+use Rattle.network_plan.specs.Hosts.{host_of, dev_of}
 use Rattle.network_plan.specs.declared.schedule.HostSpec.{HostSpec}
 use Rattle.network_plan.specs.declared.schedule.Topology.{Topology}
 use Rattle.network_plan.specs.declared.event.WorldEvent.{WorldEvent}
@@ -21,7 +22,7 @@ whole_host n = record { host = host_of n; missing = [] }
 
 -- device 1 of a host leads to device 2 of the next
 abbrev pub ring_link : ℕ → ℕ → Cable
-ring_link n m = (host_of n, dev_of 1, host_of m, dev_of 2)
+ring_link n m = record { from = host_of n; from_dev = dev_of 1; to = host_of m; to_dev = dev_of 2 }
 
 -- eight hosts in a ring, of version 1
 abbrev pub ring : Topology

@@ -2,7 +2,7 @@ ghost use Rattle.std.specs.Prelude.{◌≡◌, ◌++◌, ◌∷◌, [], IfOk, On
 ghost use Rattle.grow_run.specs.Grow as spec;
 
 use link_window::Version;
-use network_plan::{HostSpec, HostSpecs, Link, Links, Topology};
+use network_plan::{Cable, HostSpec, HostSpecs, Links, Topology};
 use plan_base::{Dev, Host, NoMemory};
 use plan_items::Items;
 use std::alloc::Global;
@@ -20,7 +20,12 @@ fn add_host(alloc: Global, hosts: &mut HostSpecs, n: u32) -> Result<(), NoMemory
 fn add_link(links: &mut Links, n: u32, m: u32) -> Result<(), NoMemory>
     ensures { OnOk result (links.new ≡ links.old ++ spec.ring_link n m ∷ []) }
 {
-    let link: Link = (Host(n), Dev(1), Host(m), Dev(2));
+    let link = Cable {
+        from: Host(n),
+        from_dev: Dev(1),
+        to: Host(m),
+        to_dev: Dev(2),
+    };
     links.add(link)?;
     Ok(())
 }

@@ -2,7 +2,7 @@
 use Rattle.std.proofs.Common.{◌≡◌, ℕ, zero, suc, ◌+◌, ◌<◌, ◌≤◌, Bool, true, false, cond, List, [], ◌∷◌, ◌++◌, refl, sym, ap, ◌∙◌, subst, arith, length, take, drop}
 use Rattle.std.specs.Prelude.{slice_get, slice_set, remove, nat_lt, ◌==◌, if◌then◌else◌, position, Option, Some, None, All}
 use Rattle.read_laws.proofs.Binds.{some_inj}
-use Rattle.network_plan.specs.Hosts.{Cable}
+use Rattle.network_plan.specs.declared.schedule.Cable.{Cable}
 use Rattle.std.proofs.lemmas.List.Elements.{All-nil, All-head, All-tail, All-push, All-set, All-append, All-take, All-drop, All-weaker, All-get_or}
 use Rattle.std.proofs.lemmas.List.Edits.{length-remove}
 use Rattle.std.proofs.lemmas.List.{length-append, length-set}
@@ -207,13 +207,13 @@ far_within : (links : Cables) (h : Host) (d : Dev) (to : LinkEnd) → All LinkFi
 unfolding far_end peer_of
 far_within links h d to all e = by (d.0 == 0) refl e
   where
-    end_within : (c : Cable) → LinkFits c → (t : Bool) → (if t then Some (record { host = c.2; dev = c.3 }) else Some (record { host = c.0; dev = c.1 })) ≡ Some to → to.dev.0 ≤ 8
-    end_within c f true q = let is : ◌≡◌ {A = LinkEnd} (record { host = c.2; dev = c.3 }) to = some_inj q in let n = ap (λ x. x.dev.0) is in omega (arith, n, f.1.1)
-    end_within c f false q = let is : ◌≡◌ {A = LinkEnd} (record { host = c.0; dev = c.1 }) to = some_inj q in let n = ap (λ x. x.dev.0) is in omega (arith, n, f.0.1)
+    end_within : (c : Cable) → LinkFits c → (t : Bool) → (if t then Some (record { host = c.to; dev = c.to_dev }) else Some (record { host = c.from; dev = c.from_dev })) ≡ Some to → to.dev.0 ≤ 8
+    end_within c f true q = let is : ◌≡◌ {A = LinkEnd} (record { host = c.to; dev = c.to_dev }) to = some_inj q in let n = ap (λ x. x.dev.0) is in omega (arith, n, f.1.1)
+    end_within c f false q = let is : ◌≡◌ {A = LinkEnd} (record { host = c.from; dev = c.from_dev }) to = some_inj q in let n = ap (λ x. x.dev.0) is in omega (arith, n, f.0.1)
 
     other_within : (at : ℕ) (o : Option Cable) → slice_get links at ≡ o → other_end h d o ≡ Some to → to.dev.0 ≤ 8
     other_within at None g q = cc
-    other_within at (Some c) g q = end_within c (at_place LinkFits links at c g all) (has_end h d c.0 c.1) q
+    other_within at (Some c) g q = end_within c (at_place LinkFits links at c g all) (has_end h d c.from c.from_dev) q
 
     peer_within : (o : Option ℕ) → peer_at links h d o ≡ Some to → to.dev.0 ≤ 8
     peer_within None q = cc

@@ -4,6 +4,7 @@ use Rattle.std.specs.List.{list_any}
 use Rattle.plan_base.specs.declared.ids.Host.{Host}
 use Rattle.plan_base.specs.declared.ids.Dev.{Dev}
 use Rattle.network_plan.specs.declared.schedule.HostSpec.{HostSpec}
+use Rattle.network_plan.specs.declared.schedule.Cable.{Cable}
 
 -- a host by its number
 abbrev pub host_of : ℕ → Host
@@ -12,10 +13,6 @@ host_of n = record { 0 = n }
 -- a device by its number
 abbrev pub dev_of : ℕ → Dev
 dev_of n = record { 0 = n }
-
--- a link: a device of one host and a device of another
-abbrev pub Cable : Type 0
-Cable = Host × Dev × Host × Dev
 
 -- whether a network has a host
 abbrev pub has_host : Host → List HostSpec → Bool
@@ -27,7 +24,7 @@ is_listed h hosts = list_any (λ g. g.0 == h.0) hosts
 
 -- whether a link ends at a device of a host
 abbrev pub ends_at : Host → Dev → Cable → Bool
-ends_at h d l = (l.0.0 == h.0 && l.1.0 == d.0) || (l.2.0 == h.0 && l.3.0 == d.0)
+ends_at h d l = (l.from.0 == h.0 && l.from_dev.0 == d.0) || (l.to.0 == h.0 && l.to_dev.0 == d.0)
 
 -- whether a device of a host has a link
 abbrev pub has_link : Host → Dev → List Cable → Bool

@@ -15,7 +15,8 @@ use Rattle.network_plan.specs.declared.schedule.Topology.{Topology}
 use Rattle.network_plan.specs.declared.schedule.Schedule.{Schedule}
 use Rattle.network_plan.specs.declared.event.WorldEvent.{WorldEvent}
 use Rattle.network_plan.specs.declared.event.WorldEvent.TheVariants as happens
-use Rattle.network_plan.specs.Hosts.{Cable, has_host, has_link}
+use Rattle.network_plan.specs.declared.schedule.Cable.{Cable}
+use Rattle.network_plan.specs.Hosts.{has_host, has_link}
 
 -- no host is named twice
 abbrev pub HostsDiffer : List HostSpec → Type 0
@@ -30,7 +31,7 @@ PackagesDiffer (p ∷ ps) = All (λ q. q ≢ p) ps × PackagesDiffer ps
 -- no device of a host has two links
 abbrev pub LinksApart : List Cable → Type 0
 LinksApart [] = Unit {0}
-LinksApart (l ∷ ls) = (has_link l.0 l.1 ls ≡ false) × (has_link l.2 l.3 ls ≡ false) × LinksApart ls
+LinksApart (l ∷ ls) = (has_link l.from l.from_dev ls ≡ false) × (has_link l.to l.to_dev ls ≡ false) × LinksApart ls
 
 -- a device that leads to another node
 abbrev pub IsLinkDevice : Dev → Type 0
@@ -38,11 +39,11 @@ IsLinkDevice d = (1 ≤ d.0) × (d.0 ≤ 8)
 
 -- a link goes from a device of one host to a device of another
 pub record KeepsLink (hosts : List HostSpec) (l : Cable) : Type 0 where
-  pub from : has_host l.0 hosts ≡ true
-  pub to : has_host l.2 hosts ≡ true
-  pub apart : l.2.0 ≢ l.0.0
-  pub from_device : IsLinkDevice l.1
-  pub to_device : IsLinkDevice l.3
+  pub from : has_host l.from hosts ≡ true
+  pub to : has_host l.to hosts ≡ true
+  pub apart : l.to.0 ≢ l.from.0
+  pub from_device : IsLinkDevice l.from_dev
+  pub to_device : IsLinkDevice l.to_dev
 
 -- a network within its limits
 pub record KeepsNetwork (t : Topology) : Type 0 where

@@ -1,7 +1,7 @@
 ghost use Rattle.std.specs.Prelude.{◌≡◌};
 ghost use Rattle.network_plan.specs.Hosts as spec;
 
-use crate::schedule::{HostSpec, Link};
+use crate::schedule::{Cable, HostSpec};
 use plan_base::{Dev, Host};
 
 /// Whether a network has a host.
@@ -19,8 +19,9 @@ pub fn is_listed(hosts: &[Host], host: Host) -> bool
 }
 
 /// Whether a device of a host is an end of one of these links.
-pub fn has_link(links: &[Link], host: Host, dev: Dev) -> bool
+pub fn has_link(links: &[Cable], host: Host, dev: Dev) -> bool
     ensures { result ≡ spec.has_link host dev links.now }
 {
-    links.iter().any(|l| (l.0.0 == host.0 && l.1.0 == dev.0) || (l.2.0 == host.0 && l.3.0 == dev.0))
+    links.iter().any(|l| (l.from.0 == host.0 && l.from_dev.0 == dev.0)
+        || (l.to.0 == host.0 && l.to_dev.0 == dev.0))
 }

@@ -14,5 +14,5 @@ pub use event::{Event, LogEvent, LogEvents, WorldEvent, WorldEvents};
 pub use fleet::{AskFile, Fleet, Kid, Kids};
 pub use hosts::{has_host, has_link, is_listed};
 pub use node::{Hosts, Log, NodeConfig, first_link};
-pub use schedule::{HostSpec, HostSpecs, Link, Links, Schedule, Topology};
+pub use schedule::{Cable, HostSpec, HostSpecs, Links, Schedule, Topology};
 pub use serve::{DevPorts, Inject, Injects, ServeConfig};

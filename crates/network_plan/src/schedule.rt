@@ -39,7 +39,17 @@ pub struct HostSpec {
 }
 
 /// A link from a device of one host to a device of another.
-pub type Link = (Host, Dev, Host, Dev);
+#[derive(Clone, Copy)]
+pub struct Cable {
+    /// The one host.
+    pub from: Host,
+    /// Its device.
+    pub from_dev: Dev,
+    /// The other host.
+    pub to: Host,
+    /// Its device.
+    pub to_dev: Dev,
+}
 
 /// A list of links.
-pub type Links = Items<Link>;
+pub type Links = Items<Cable>;

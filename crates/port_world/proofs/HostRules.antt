@@ -1,7 +1,8 @@
 -- The network of two ends keeps the rules of a network.
 use Rattle.std.proofs.Common.{◌<◌, [], ◌∷◌, refl, arith}
 use Rattle.std.proofs.lemmas.List.Elements.{All-nil, All-cons}
-use Rattle.network_plan.specs.Hosts.{Cable, host_of, dev_of}
+use Rattle.network_plan.specs.declared.schedule.Cable.{Cable}
+use Rattle.network_plan.specs.Hosts.{host_of, dev_of}
 use Rattle.network_plan.specs.declared.schedule.HostSpec.{HostSpec}
 use Rattle.network_plan.specs.Rules.{PackagesDiffer, KeepsLink, KeepsNetwork}
 use Rattle.port_world.specs.Networks.{whole_host, two_hosts}
@@ -16,7 +17,7 @@ abbrev Keeps : Cable → Type 0
 Keeps l = KeepsLink two_hosts.hosts l
 
 abbrev the_link : Cable
-the_link = (host_of 1, dev_of 1, host_of 2, dev_of 1)
+the_link = record { from = host_of 1; from_dev = dev_of 1; to = host_of 2; to_dev = dev_of 1 }
 
 link_keeps : Keeps the_link
 link_keeps = record { from = refl; to = refl; apart = λ e. omega (arith, e); from_device = (omega arith, omega arith); to_device = (omega arith, omega arith) }

@@ -13,6 +13,6 @@ whole_host n = record { host = host_of n; missing = [] }
 abbrev pub two_hosts : Topology
 two_hosts = record {
   hosts = whole_host 1 ∷ whole_host 2 ∷ [];
-  links = (host_of 1, dev_of 1, host_of 2, dev_of 1) ∷ [];
+  links = record { from = host_of 1; from_dev = dev_of 1; to = host_of 2; to_dev = dev_of 1 } ∷ [];
   version = Two;
 }

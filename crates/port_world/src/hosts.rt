@@ -2,7 +2,7 @@ ghost use Rattle.std.specs.Prelude.{◌≡◌, ◌++◌, ◌∷◌, [], IfOk, On
 ghost use Rattle.port_world.specs.Networks as spec;
 
 use link_window::Version;
-use network_plan::{HostSpec, HostSpecs, Link, Links, Topology};
+use network_plan::{Cable, HostSpec, HostSpecs, Links, Topology};
 use plan_base::{Dev, Host, NoMemory};
 use plan_items::Items;
 use std::alloc::Global;
@@ -33,7 +33,12 @@ fn the_link(alloc: Global) -> Result<Links, NoMemory>
     ensures { IfOk result (λ links. links ≡ spec.two_hosts.links) }
 {
     let mut links = Items::new(alloc);
-    let link: Link = (Host(1), Dev(1), Host(2), Dev(1));
+    let link = Cable {
+        from: Host(1),
+        from_dev: Dev(1),
+        to: Host(2),
+        to_dev: Dev(1),
+    };
     links.add(link)?;
     Ok(links)
 }

@@ -11,7 +11,8 @@ use Rattle.plan_base.specs.declared.ids.Dev.{Dev}
 use Rattle.service_api.specs.declared.package.PackageName.{PackageName}
 use Rattle.service_api.specs.declared.package.PackageName.TheVariants as packages
 use Rattle.network_plan.specs.declared.schedule.HostSpec.{HostSpec}
-use Rattle.network_plan.specs.Hosts.{Cable, has_host, ends_at, has_link}
+use Rattle.network_plan.specs.declared.schedule.Cable.{Cable}
+use Rattle.network_plan.specs.Hosts.{has_host, ends_at, has_link}
 use Rattle.network_plan.specs.Rules.{HostsDiffer, PackagesDiffer, LinksApart, KeepsLink}
 use Rattle.line_files.specs.declared.fault.LineReason.TheVariants.{TwiceNamed, TooMany, BadArgument}
 use Rattle.line_files.specs.Lines.{words, spaced}
@@ -139,39 +140,39 @@ hosts_read (h ∷ rest) seen s few differ small lacks =
 -- ---- links
 
 abbrev IsSmallLink : Cable → Type 0
-IsSmallLink l = (l.0.0 < 2 ^ 32) × (l.2.0 < 2 ^ 32)
+IsSmallLink l = (l.from.0 < 2 ^ 32) × (l.to.0 < 2 ^ 32)
 
 pub link_words_free : (hosts : List HostSpec) (l : Cable) → KeepsLink hosts l → IsSmallLink l → Free 32 (link_words l) × Free 10 (link_words l)
 link_words_free hosts l k small =
-    let n = number_free l.0.0 (omega (arith, small.0)) in
-    let d = number_free l.1.0 (omega (arith, k.from_device.1)) in
-    let m = number_free l.2.0 (omega (arith, small.1)) in
-    let e = number_free l.3.0 (omega (arith, k.to_device.1)) in
+    let n = number_free l.from.0 (omega (arith, small.0)) in
+    let d = number_free l.from_dev.0 (omega (arith, k.from_device.1)) in
+    let m = number_free l.to.0 (omega (arith, small.1)) in
+    let e = number_free l.to_dev.0 (omega (arith, k.to_device.1)) in
     ((refl, (n.0, (d.0, (m.0, (e.0, tt))))), (refl, (n.1, (d.1, (m.1, (e.1, tt))))))
 
-link_line_ok : (l : Cable) (s : Reading) → KeepsLink s.hosts l → IsSmallLink l → has_link l.0 l.1 s.links ≡ false → has_link l.2 l.3 s.links ≡ false
-    → link_line (decimal l.0.0 ∷ decimal l.1.0 ∷ decimal l.2.0 ∷ decimal l.3.0 ∷ []) s ≡ Ok (record s { links = s.links ++ l ∷ [] })
+link_line_ok : (l : Cable) (s : Reading) → KeepsLink s.hosts l → IsSmallLink l → has_link l.from l.from_dev s.links ≡ false → has_link l.to l.to_dev s.links ≡ false
+    → link_line (decimal l.from.0 ∷ decimal l.from_dev.0 ∷ decimal l.to.0 ∷ decimal l.to_dev.0 ∷ []) s ≡ Ok (record s { links = s.links ++ l ∷ [] })
 unfolding link_line
 link_line_ok l s k small from to =
-    then_ok _ (l.0, decimal l.1.0 ∷ decimal l.2.0 ∷ decimal l.3.0 ∷ []) _ _ (host_ok s.hosts l.0 _ small.0 k.from)
-    (then_ok _ (l.1, decimal l.2.0 ∷ decimal l.3.0 ∷ []) _ _ (free_device_ok s.links l.0 l.1 _ k.from_device.0 k.from_device.1 from)
-    (then_ok _ (l.2, decimal l.3.0 ∷ []) _ _ (host_ok s.hosts l.2 _ small.1 k.to)
-    (then_ok _ tt _ _ (not_ok (eqb l.2.0 l.0.0) BadArgument (ne_eqb l.2.0 l.0.0 k.apart))
-    (then_ok _ (l.3, []) _ _ (free_device_ok s.links l.2 l.3 _ k.to_device.0 k.to_device.1 to) refl))))
+    then_ok _ (l.from, decimal l.from_dev.0 ∷ decimal l.to.0 ∷ decimal l.to_dev.0 ∷ []) _ _ (host_ok s.hosts l.from _ small.0 k.from)
+    (then_ok _ (l.from_dev, decimal l.to.0 ∷ decimal l.to_dev.0 ∷ []) _ _ (free_device_ok s.links l.from l.from_dev _ k.from_device.0 k.from_device.1 from)
+    (then_ok _ (l.to, decimal l.to_dev.0 ∷ []) _ _ (host_ok s.hosts l.to _ small.1 k.to)
+    (then_ok _ tt _ _ (not_ok (eqb l.to.0 l.from.0) BadArgument (ne_eqb l.to.0 l.from.0 k.apart))
+    (then_ok _ (l.to_dev, []) _ _ (free_device_ok s.links l.to l.to_dev _ k.to_device.0 k.to_device.1 to) refl))))
 
-link_said : (l : Cable) (s t : Reading) (number : ℕ) → link_line (decimal l.0.0 ∷ decimal l.1.0 ∷ decimal l.2.0 ∷ decimal l.3.0 ∷ []) s ≡ Ok t → network_line number (link_words l) s ≡ Ok (stages.Network, t)
+link_said : (l : Cable) (s t : Reading) (number : ℕ) → link_line (decimal l.from.0 ∷ decimal l.from_dev.0 ∷ decimal l.to.0 ∷ decimal l.to_dev.0 ∷ []) s ≡ Ok t → network_line number (link_words l) s ≡ Ok (stages.Network, t)
 unfolding network_line network_rest
-link_said l s t number e = then_ok (link_line (decimal l.0.0 ∷ decimal l.1.0 ∷ decimal l.2.0 ∷ decimal l.3.0 ∷ []) s) t _ _ e refl
+link_said l s t number e = then_ok (link_line (decimal l.from.0 ∷ decimal l.from_dev.0 ∷ decimal l.to.0 ∷ decimal l.to_dev.0 ∷ []) s) t _ _ e refl
 
 end_of : (h : Host) (d : Dev) (ms : List Cable) (l : Cable) (rest : List Cable) → has_link h d (ms ++ l ∷ rest) ≡ false → ends_at h d l ≡ false
 end_of h d ms l rest e =
     let k : (has_link h d ms || has_link h d (l ∷ rest)) ≡ false = sym (list_any-append (ends_at h d) ms (l ∷ rest)) ∙ e in
     (either_false (ends_at h d l) (has_link h d rest) (either_false (has_link h d ms) (has_link h d (l ∷ rest)) k).1).0
 
-fresh_link : (seen : List Cable) (l : Cable) (rest : List Cable) → LinksApart (seen ++ l ∷ rest) → (has_link l.0 l.1 seen ≡ false) × (has_link l.2 l.3 seen ≡ false)
+fresh_link : (seen : List Cable) (l : Cable) (rest : List Cable) → LinksApart (seen ++ l ∷ rest) → (has_link l.from l.from_dev seen ≡ false) × (has_link l.to l.to_dev seen ≡ false)
 fresh_link [] l rest a = (refl, refl)
 fresh_link (m ∷ ms) l rest a =
-    let ends = ends_apart l m (end_of m.0 m.1 ms l rest a.0) (end_of m.2 m.3 ms l rest a.1) in
+    let ends = ends_apart l m (end_of m.from m.from_dev ms l rest a.0) (end_of m.to m.to_dev ms l rest a.1) in
     let more = fresh_link ms l rest a.2 in
     (rw (ends.0, more.0) refl, rw (ends.1, more.1) refl)
 

@@ -11,7 +11,8 @@ use Rattle.link_window.specs.declared.window.Version.TheVariants.{One, Two}
 use Rattle.network_plan.specs.declared.schedule.HostSpec.{HostSpec}
 use Rattle.network_plan.specs.declared.schedule.Schedule.{Schedule}
 use Rattle.network_plan.specs.declared.event.WorldEvent.{WorldEvent}
-use Rattle.network_plan.specs.Hosts.{Cable, has_host}
+use Rattle.network_plan.specs.declared.schedule.Cable.{Cable}
+use Rattle.network_plan.specs.Hosts.{has_host}
 use Rattle.network_plan.specs.Rules.{KeepsLink, KeepsEvent, weights}
 use Rattle.line_files.specs.Lines.{spaced}
 use Rattle.line_files.specs.Files.{read_on}
@@ -44,7 +45,7 @@ small_hosts (g ∷ gs) k h e =
     (λ t. small_by h g.host t (All-head (λ s. s.host.0 < 2 ^ 32) g gs k))
     (λ t. small_hosts gs (All-tail (λ s. s.host.0 < 2 ^ 32) g gs k) h t) e
 
-small_links : (hosts : List HostSpec) (links : List Cable) → SmallHosts hosts → All (KeepsLink hosts) links → All (λ l. (l.0.0 < 2 ^ 32) × (l.2.0 < 2 ^ 32)) links
+small_links : (hosts : List HostSpec) (links : List Cable) → SmallHosts hosts → All (KeepsLink hosts) links → All (λ l. (l.from.0 < 2 ^ 32) × (l.to.0 < 2 ^ 32)) links
 small_links hosts links small keeps k d h = (small _ (keeps k d h).from, small _ (keeps k d h).to)
 
 -- ---- the lines of a schedule
@@ -77,7 +78,7 @@ abbrev Both : List NamedText → (Chunk → Written) → Version → List HostSp
 Both ps by version hosts e = KeepsEvent version hosts e × EventIsWritten ps by e
 
 abbrev BothLink : List HostSpec → Cable → Type 0
-BothLink hosts l = KeepsLink hosts l × ((l.0.0 < 2 ^ 32) × (l.2.0 < 2 ^ 32))
+BothLink hosts l = KeepsLink hosts l × ((l.from.0 < 2 ^ 32) × (l.to.0 < 2 ^ 32))
 
 module _ (ps : List NamedText) (by : Chunk → Written) (s : Schedule) (is : IsSchedule ps by s) where
   small : SmallHosts s.topology.hosts
@@ -86,7 +87,7 @@ module _ (ps : List NamedText) (by : Chunk → Written) (s : Schedule) (is : IsS
   hosts_free : Free 10 (map (λ h. spaced (host_words h)) s.topology.hosts)
   hosts_free = all_free (λ h. spaced (host_words h)) (λ h. h.host.0 < 2 ^ 32) (λ h k. line_is (host_words h) (host_words_free h k).1) s.topology.hosts is.rules.network.numbers
 
-  links_small : All (λ l. (l.0.0 < 2 ^ 32) × (l.2.0 < 2 ^ 32)) s.topology.links
+  links_small : All (λ l. (l.from.0 < 2 ^ 32) × (l.to.0 < 2 ^ 32)) s.topology.links
   links_small = small_links s.topology.hosts s.topology.links small is.rules.network.links
 
   links_free : Free 10 (map (λ l. spaced (link_words l)) s.topology.links)

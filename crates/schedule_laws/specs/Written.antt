@@ -19,7 +19,7 @@ use Rattle.network_plan.specs.declared.schedule.HostSpec.{HostSpec}
 use Rattle.network_plan.specs.declared.schedule.Schedule.{Schedule}
 use Rattle.network_plan.specs.declared.event.WorldEvent.{WorldEvent}
 use Rattle.network_plan.specs.declared.event.WorldEvent.TheVariants as happens
-use Rattle.network_plan.specs.Hosts.{Cable}
+use Rattle.network_plan.specs.declared.schedule.Cable.{Cable}
 use Rattle.network_plan.specs.Rules.{KeepsRules}
 use Rattle.line_files.specs.Lines.{spaced}
 use Rattle.line_files.specs.Programs.{program_in, has_name}
@@ -56,7 +56,7 @@ abbrev pub host_words : HostSpec → List (List ℕ)
 host_words h = codes "host" ∷ decimal h.host.0 ∷ lacking_words h.missing
 
 abbrev pub link_words : Cable → List (List ℕ)
-link_words l = codes "link" ∷ decimal l.0.0 ∷ decimal l.1.0 ∷ decimal l.2.0 ∷ decimal l.3.0 ∷ []
+link_words l = codes "link" ∷ decimal l.from.0 ∷ decimal l.from_dev.0 ∷ decimal l.to.0 ∷ decimal l.to_dev.0 ∷ []
 
 -- the handler of what is injected, if it has one
 abbrev pub handler_words : Option Name → List (List ℕ)

@@ -8,7 +8,8 @@ use Rattle.link_window.specs.declared.window.Version.{Version}
 use Rattle.network_plan.specs.declared.schedule.HostSpec.{HostSpec}
 use Rattle.network_plan.specs.declared.event.WorldEvent.{WorldEvent}
 use Rattle.network_plan.specs.declared.event.WorldEvent.TheVariants as happens
-use Rattle.network_plan.specs.Hosts.{Cable, has_host, ends_at, has_link}
+use Rattle.network_plan.specs.declared.schedule.Cable.{Cable}
+use Rattle.network_plan.specs.Hosts.{has_host, ends_at, has_link}
 use Rattle.line_files.proofs.Keeping.{either_false}
 use Rattle.network_plan.specs.Rules.{HostsDiffer, LinksApart, KeepsLink, KeepsEvent}
 
@@ -35,8 +36,8 @@ differ_push (h ∷ hosts) x d e =
 -- what keeps the rules keeps them where there is one host more
 pub link_stays : (hosts : List HostSpec) (h : HostSpec) (l : Cable) → KeepsLink hosts l → KeepsLink (hosts ++ h ∷ []) l
 link_stays hosts h l k = record {
-  from = host_stays hosts h l.0 k.from;
-  to = host_stays hosts h l.2 k.to;
+  from = host_stays hosts h l.from k.from;
+  to = host_stays hosts h l.to k.to;
   apart = k.apart;
   from_device = k.from_device;
   to_device = k.to_device;
@@ -56,22 +57,22 @@ event_stays version hosts h (happens.Raw at d bytes) k = (host_stays hosts h at 
 pair_swap : (a b c d : ℕ) → (eqb a c && eqb b d) ≡ false → (eqb c a && eqb d b) ≡ false
 pair_swap a b c d e = rw (swap_is a c, swap_is b d) e
 
-pub ends_apart : (l x : Cable) → ends_at x.0 x.1 l ≡ false → ends_at x.2 x.3 l ≡ false → (ends_at l.0 l.1 x ≡ false) × (ends_at l.2 l.3 x ≡ false)
+pub ends_apart : (l x : Cable) → ends_at x.from x.from_dev l ≡ false → ends_at x.to x.to_dev l ≡ false → (ends_at l.from l.from_dev x ≡ false) × (ends_at l.to l.to_dev x ≡ false)
 ends_apart l x e f =
-    let e0 = either_false (eqb l.0.0 x.0.0 && eqb l.1.0 x.1.0) (eqb l.2.0 x.0.0 && eqb l.3.0 x.1.0) e in
-    let f0 = either_false (eqb l.0.0 x.2.0 && eqb l.1.0 x.3.0) (eqb l.2.0 x.2.0 && eqb l.3.0 x.3.0) f in (
-      rw (pair_swap l.0.0 l.1.0 x.0.0 x.1.0 e0.0, pair_swap l.0.0 l.1.0 x.2.0 x.3.0 f0.0) refl,
-      rw (pair_swap l.2.0 l.3.0 x.0.0 x.1.0 e0.1, pair_swap l.2.0 l.3.0 x.2.0 x.3.0 f0.1) refl,
+    let e0 = either_false (eqb l.from.0 x.from.0 && eqb l.from_dev.0 x.from_dev.0) (eqb l.to.0 x.from.0 && eqb l.to_dev.0 x.from_dev.0) e in
+    let f0 = either_false (eqb l.from.0 x.to.0 && eqb l.from_dev.0 x.to_dev.0) (eqb l.to.0 x.to.0 && eqb l.to_dev.0 x.to_dev.0) f in (
+      rw (pair_swap l.from.0 l.from_dev.0 x.from.0 x.from_dev.0 e0.0, pair_swap l.from.0 l.from_dev.0 x.to.0 x.to_dev.0 f0.0) refl,
+      rw (pair_swap l.to.0 l.to_dev.0 x.from.0 x.from_dev.0 e0.1, pair_swap l.to.0 l.to_dev.0 x.to.0 x.to_dev.0 f0.1) refl,
     )
 
 used_push : (links : List Cable) (x : Cable) (h : Host) (d : Dev) → has_link h d links ≡ false → ends_at h d x ≡ false → has_link h d (links ++ x ∷ []) ≡ false
 used_push links x h d e f = rw (list_any-append (ends_at h d) links (x ∷ []), e, f) refl
 
 -- a new link between free devices ends apart from those before it
-pub apart_push : (links : List Cable) (x : Cable) → LinksApart links → has_link x.0 x.1 links ≡ false → has_link x.2 x.3 links ≡ false → LinksApart (links ++ x ∷ [])
+pub apart_push : (links : List Cable) (x : Cable) → LinksApart links → has_link x.from x.from_dev links ≡ false → has_link x.to x.to_dev links ≡ false → LinksApart (links ++ x ∷ [])
 apart_push [] x a e f = (refl, refl, tt)
 apart_push (l ∷ links) x a e f =
-    let e0 = either_false (ends_at x.0 x.1 l) (has_link x.0 x.1 links) e in
-    let f0 = either_false (ends_at x.2 x.3 l) (has_link x.2 x.3 links) f in
+    let e0 = either_false (ends_at x.from x.from_dev l) (has_link x.from x.from_dev links) e in
+    let f0 = either_false (ends_at x.to x.to_dev l) (has_link x.to x.to_dev links) f in
     let ends = ends_apart l x e0.0 f0.0 in
-    (used_push links x l.0 l.1 a.0 ends.0, used_push links x l.2 l.3 a.1 ends.1, apart_push links x a.2 e0.1 f0.1)
+    (used_push links x l.from l.from_dev a.0 ends.0, used_push links x l.to l.to_dev a.1 ends.1, apart_push links x a.2 e0.1 f0.1)

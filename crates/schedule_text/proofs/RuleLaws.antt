@@ -21,7 +21,8 @@ use Rattle.network_plan.specs.declared.schedule.Schedule.{Schedule}
 use Rattle.network_plan.specs.declared.schedule.Topology.{Topology}
 use Rattle.network_plan.specs.declared.event.WorldEvent.{WorldEvent}
 use Rattle.network_plan.specs.declared.event.WorldEvent.TheVariants as happens
-use Rattle.network_plan.specs.Hosts.{Cable, host_of, dev_of, has_host, has_link}
+use Rattle.network_plan.specs.declared.schedule.Cable.{Cable}
+use Rattle.network_plan.specs.Hosts.{host_of, dev_of, has_host, has_link}
 use Rattle.network_plan.specs.Rules.{IsLinkDevice, PackagesDiffer, KeepsLink, KeepsNetwork, KeepsInjection, MayArrive, KeepsEvent, weights, KeepsRules}
 use Rattle.line_files.specs.declared.fault.LineReason.{LineReason}
 use Rattle.line_files.specs.declared.fault.LineReason.TheVariants.{BadHeader, BadWord, UnknownHost, UnknownProgram, TwiceNamed, TooMany, BadArgument}
@@ -153,7 +154,7 @@ host_line_keeps ws s k =
     done_keeps Keeps (record s { hosts = s.hosts ++ host_spec n.0 missing ∷ [] })
     (add_host s n.0 missing k (allowed_below (length s.hosts) 32 TooMany u room) (omega (arith, (number_is 0 4294967295 ws n hn).1)) (allowed_not (has_host (host_of n.0) s.hosts) TwiceNamed v new) (packages_are [] n.1 tt missing hm))))))
 
-add_link : (s : Reading) (l : Cable) → Keeps s → KeepsLink s.hosts l → has_link l.0 l.1 s.links ≡ false → has_link l.2 l.3 s.links ≡ false → Keeps (record s { links = s.links ++ l ∷ [] })
+add_link : (s : Reading) (l : Cable) → Keeps s → KeepsLink s.hosts l → has_link l.from l.from_dev s.links ≡ false → has_link l.to l.to_dev s.links ≡ false → Keeps (record s { links = s.links ++ l ∷ [] })
 add_link s l k h from to = record {
   network = record {
     few = k.network.few;
@@ -178,8 +179,8 @@ link_line_keeps ws s k =
     then_keeps Keeps (allowed (not (eqb m.0.0 n.0.0)) BadArgument) _ (λ u apart.
     then_keeps Keeps (free_device_at s.links m.0 m.1) _ (λ e he.
     then_keeps Keeps (end_at e.1) _ (λ v hv.
-    done_keeps Keeps (record s { links = s.links ++ (n.0, d.0, m.0, e.0) ∷ [] })
-    (add_link s (n.0, d.0, m.0, e.0) k (record {
+    done_keeps Keeps (record s { links = s.links ++ (record { from = n.0; from_dev = d.0; to = m.0; to_dev = e.0 }) ∷ [] })
+    (add_link s (record { from = n.0; from_dev = d.0; to = m.0; to_dev = e.0 }) k (record {
       from = host_is s.hosts ws n hn;
       to = host_is s.hosts d.1 m hm;
       apart = eqb-false m.0.0 n.0.0 (allowed_not (eqb m.0.0 n.0.0) BadArgument u apart);

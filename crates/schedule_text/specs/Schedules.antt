@@ -87,7 +87,7 @@ link_line ws s = do
   _ ← allowed (not (m.0.0 == n.0.0)) BadArgument
   e ← free_device_at s.links m.0 m.1
   _ ← end_at e.1
-  Ok (record s { links = s.links ++ (n.0, d.0, m.0, e.0) ∷ [] })
+  Ok (record s { links = s.links ++ (record { from = n.0; from_dev = d.0; to = m.0; to_dev = e.0 }) ∷ [] })
 
 -- a program without text, begun at a line
 abbrev pub begun_at : ℕ → Name → BegunProgram

@@ -9,7 +9,7 @@ use crate::reading::{BegunProgram, NamedProgram, Reading, Stage};
 use line_files::{
     LineReason, LineStop, OpenProgram, Words, allow, name_of, number, packages, program,
 };
-use network_plan::{HostSpec, has_host};
+use network_plan::{Cable, HostSpec, has_host};
 use plan_base::Host;
 use std::alloc::Global;
 
@@ -61,7 +61,12 @@ fn read_link(reading: &mut Reading, words: &mut Words<'_>) -> Result<(), LineSto
     allow(m.0 != n.0, LineReason::BadArgument)?;
     let e = free_device(reading.links.as_slice(), m, words)?;
     words.end()?;
-    reading.links.add((n, d, m, e))?;
+    reading.links.add(Cable {
+        from: n,
+        from_dev: d,
+        to: m,
+        to_dev: e,
+    })?;
     Ok(())
 }
 

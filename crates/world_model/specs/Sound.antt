@@ -13,7 +13,7 @@ use Rattle.link_window.specs.declared.window.Took.TheVariants.{TooOld}
 use Rattle.link_window.specs.Seen.{is_fresh}
 use Rattle.network_plan.specs.declared.event.WorldEvent.{WorldEvent}
 use Rattle.network_plan.specs.declared.event.WorldEvent.TheVariants.{Inject, Send, Deliver, Repeat, Lose, Tick, Raw}
-use Rattle.network_plan.specs.Hosts.{Cable}
+use Rattle.network_plan.specs.declared.schedule.Cable.{Cable}
 use Rattle.chunk_types.specs.Chunks.{IsCheckedChunk}
 use Rattle.network_plan.specs.Rules.{IsLinkDevice, MayName, KeepsInjection}
 use Rattle.node_model.specs.State.{Links, NodeState, is_host}
@@ -78,7 +78,7 @@ NumbersDiffer nodes wire = (h : Host) (node : NodeState) → node_of nodes h ≡
 
 -- both ends of a link are devices from 1 to 8
 abbrev pub LinkFits : Cable → Type 0
-LinkFits l = IsLinkDevice l.1 × IsLinkDevice l.3
+LinkFits l = IsLinkDevice l.from_dev × IsLinkDevice l.to_dev
 
 -- what every network keeps
 pub record IsSound (w : WorldState) : Type 0 where

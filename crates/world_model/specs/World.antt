@@ -13,7 +13,7 @@ use Rattle.link_window.specs.declared.window.Version.TheVariants.{One, Two}
 use Rattle.packet_frame.specs.Decoding.{read_by}
 use Rattle.service_api.specs.Services.{ServiceState}
 use Rattle.service_meaning.specs.Beginning.{opening_standing, present_without}
-use Rattle.network_plan.specs.Hosts.{Cable}
+use Rattle.network_plan.specs.declared.schedule.Cable.{Cable}
 use Rattle.network_plan.specs.declared.node.NodeConfig.{NodeConfig}
 use Rattle.network_plan.specs.declared.schedule.HostSpec.{HostSpec}
 use Rattle.network_plan.specs.declared.schedule.Topology.{Topology}
@@ -67,12 +67,12 @@ has_end h d g e = (g.0 == h.0) && (e.0 == d.0)
 
 -- whether a device of a host is one of a link's ends
 abbrev pub is_on : Host → Dev → Cable → Bool
-is_on h d c = has_end h d c.0 c.1 || has_end h d c.2 c.3
+is_on h d c = has_end h d c.from c.from_dev || has_end h d c.to c.to_dev
 
 -- the other end of a link
 abbrev pub other_end : Host → Dev → Option Cable → Option LinkEnd
 other_end h d None = None
-other_end h d (Some c) = if has_end h d c.0 c.1 then Some (record { host = c.2; dev = c.3 }) else Some (record { host = c.0; dev = c.1 })
+other_end h d (Some c) = if has_end h d c.from c.from_dev then Some (record { host = c.to; dev = c.to_dev }) else Some (record { host = c.from; dev = c.from_dev })
 
 abbrev pub peer_at : Cables → Host → Dev → Option ℕ → Option LinkEnd
 peer_at links h d None = None

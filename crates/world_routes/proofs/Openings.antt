@@ -5,7 +5,8 @@ use Rattle.std.proofs.lemmas.Bool.Decides.{Decides-eqb}
 use Rattle.std.proofs.lemmas.List.Elements.{All-nil, All-cons, All-append, All-map, All-weaker, All-contains, All-replicate, All-contains_itself}
 use Rattle.plan_base.specs.declared.ids.Host.{Host}
 use Rattle.plan_base.specs.declared.ids.Dev.{Dev}
-use Rattle.network_plan.specs.Hosts.{Cable, has_host}
+use Rattle.network_plan.specs.declared.schedule.Cable.{Cable}
+use Rattle.network_plan.specs.Hosts.{has_host}
 use Rattle.network_plan.specs.Rules.{KeepsLink, KeepsNetwork}
 use Rattle.network_plan.specs.declared.schedule.HostSpec.{HostSpec}
 use Rattle.network_plan.specs.declared.schedule.Topology.{Topology}
@@ -72,19 +73,19 @@ peer_there hosts links h d far keeps e = place (position (is_on h d) links) e
     none : ◌≡◌ {A = Option LinkEnd} None (Some far) → ⊥
     none k = cc
 
-    ends : (b : Bool) (c : Cable) → KeepsLink hosts c → cond b (Some (record { host = c.2; dev = c.3 })) (Some (record { host = c.0; dev = c.1 })) ≡ Some far → has_host far.host hosts ≡ true
-    ends true c k same = let is : c.2 ≡ far.host = end_is same in ap (λ m. has_host m hosts) (sym is) ∙ k.to
+    ends : (b : Bool) (c : Cable) → KeepsLink hosts c → cond b (Some (record { host = c.to; dev = c.to_dev })) (Some (record { host = c.from; dev = c.from_dev })) ≡ Some far → has_host far.host hosts ≡ true
+    ends true c k same = let is : c.to ≡ far.host = end_is same in ap (λ m. has_host m hosts) (sym is) ∙ k.to
       where
-        end_is : ◌≡◌ {A = Option LinkEnd} (Some (record { host = c.2; dev = c.3 })) (Some far) → c.2 ≡ far.host
+        end_is : ◌≡◌ {A = Option LinkEnd} (Some (record { host = c.to; dev = c.to_dev })) (Some far) → c.to ≡ far.host
         end_is z = cc
-    ends false c k same = let is : c.0 ≡ far.host = end_is same in ap (λ m. has_host m hosts) (sym is) ∙ k.from
+    ends false c k same = let is : c.from ≡ far.host = end_is same in ap (λ m. has_host m hosts) (sym is) ∙ k.from
       where
-        end_is : ◌≡◌ {A = Option LinkEnd} (Some (record { host = c.0; dev = c.1 })) (Some far) → c.0 ≡ far.host
+        end_is : ◌≡◌ {A = Option LinkEnd} (Some (record { host = c.from; dev = c.from_dev })) (Some far) → c.from ≡ far.host
         end_is z = cc
 
     cable : (at : ℕ) (o : Option Cable) → slice_get links at ≡ o → other_end h d o ≡ Some far → has_host far.host hosts ≡ true
     cable at None get same = absurd (none same)
-    cable at (Some c) get same = ends (has_end h d c.0 c.1) c (all_get (KeepsLink hosts) links at c keeps get) same
+    cable at (Some c) get same = ends (has_end h d c.from c.from_dev) c (all_get (KeepsLink hosts) links at c keeps get) same
 
     place : (o : Option ℕ) → peer_at links h d o ≡ Some far → has_host far.host hosts ≡ true
     place None same = absurd (none same)
