@@ -27,7 +27,7 @@ use Rattle.line_files.proofs.Placing.{fault_done, fault_here, Places, refuses_re
 use Rattle.line_files.specs.Inside.{OnFault, RefusesRead}
 use Rattle.schedule_text.proofs.NetworkRules.{apart_push}
 use Rattle.node_files.specs.Answers.{Accepted, Refused}
-use Rattle.node_files.proofs.PartLaws.{header_keeps, usual_keeps, header_placed, usual_placed, answered}
+use Rattle.node_files.proofs.PartLaws.{header_keeps, usual_keeps, header_placed, usual_placed, value_or_refusal}
 use Rattle.audit_files.specs.declared.audit.AuditFile.{AuditFile}
 use Rattle.audit_files.specs.declared.audit.AuditWord.{AuditWord}
 use Rattle.audit_files.specs.declared.audit.AuditWord.TheVariants as word
@@ -185,4 +185,4 @@ audit_refuses : RefusesRead audit_format nothing_read
 audit_refuses = refuses_read audit_format nothing_read Anywhere audit_places tt
 
 pub audit_answered : (bytes : List ℕ) → Accepted audit_of bytes ⊎ Refused audit_of bytes
-audit_answered bytes = answered audit_format nothing_read audit_refuses bytes
+audit_answered bytes = value_or_refusal audit_format nothing_read audit_refuses bytes

@@ -12,7 +12,7 @@ use Rattle.plan_base.specs.declared.ids.Family.{Family}
 use Rattle.bound_ledger.specs.declared.key.FamilyKey.{FamilyKey}
 use Rattle.bound_ledger.specs.declared.row.Row.{Row}
 use Rattle.bound_ledger.specs.Counts.{InBalance}
-use Rattle.bound_ledger.specs.Rows.{same_family, families_in, OneEach, row_of, change, changed}
+use Rattle.bound_ledger.specs.Rows.{same_family, families_in, OneEach, row_of, change, changed_rows}
 use Rattle.bound_ledger.specs.Keys.{key_of, family_of, row_at, rows_at, AreKept}
 use Rattle.bound_ledger.specs.contracts.key.FamilyKeyPartialEq.TheImpl as key_eq
 use Rattle.bound_ledger.specs.contracts.key.FamilyKeyEq.TheImpl.Laws.{laws-law}
@@ -59,13 +59,13 @@ change_other : (w : Row) (f : Family) (e : FamilyKey × Row) → same_key (key_o
 unfolding same_family
 change_other w f e t = ap (λ b. cond b (family_of e.0, w) (row_at e)) t
 
-apart : (w : Row) (f : Family) (es : Entries) → NonePasses (same_key (key_of f)) es → rows_at es ≡ changed (λ _. w) f (rows_at es)
-unfolding rows_at changed
+apart : (w : Row) (f : Family) (es : Entries) → NonePasses (same_key (key_of f)) es → rows_at es ≡ changed_rows (λ _. w) f (rows_at es)
+unfolding rows_at changed_rows
 apart w f [] h = refl
 apart w f (e ∷ es) h = λ i. sym (change_other w f e h.0) i ∷ apart w f es h.1 i
 
-put : (f : Family) (w : Row) (es : Entries) → IsDistinct same_key (keys_of es) → rows_at (set_value (same_key (key_of f)) es w) ≡ changed (λ _. w) f (rows_at es)
-unfolding rows_at changed IsDistinct
+put : (f : Family) (w : Row) (es : Entries) → IsDistinct same_key (keys_of es) → rows_at (set_value (same_key (key_of f)) es w) ≡ changed_rows (λ _. w) f (rows_at es)
+unfolding rows_at changed_rows IsDistinct
 put f w [] d = refl
 put f w (e ∷ es) d = by (same_key (key_of f) e.0) refl (λ t. put f w es d.1)
   where
@@ -77,10 +77,10 @@ put f w (e ∷ es) d = by (same_key (key_of f) e.0) refl (λ t. put f w es d.1)
         ∙ (λ i. sym (change_other w f e t) i ∷ rest t i)
 
 -- the same as `set` needs it
-pub row_set : (f : Family) (key : FamilyKey) (w : Row) (old new : Entries) → key ≡ key_of f → IsDistinct same_key (keys_of old) → new ≡ set_value (same_key key) old w → rows_at new ≡ changed (λ _. w) f (rows_at old)
+pub row_set : (f : Family) (key : FamilyKey) (w : Row) (old new : Entries) → key ≡ key_of f → IsDistinct same_key (keys_of old) → new ≡ set_value (same_key key) old w → rows_at new ≡ changed_rows (λ _. w) f (rows_at old)
 row_set f key w old new k d h = ap rows_at (h ∙ ap (λ x. set_value (same_key x) old w) k) ∙ put f w old d
 
-pub row_absent : (f : Family) (key : FamilyKey) (w : Row) (old new : Entries) → key ≡ key_of f → None ≡ lookup (same_key key) old → new ≡ old → rows_at new ≡ changed (λ _. w) f (rows_at old)
+pub row_absent : (f : Family) (key : FamilyKey) (w : Row) (old new : Entries) → key ≡ key_of f → None ≡ lookup (same_key key) old → new ≡ old → rows_at new ≡ changed_rows (λ _. w) f (rows_at old)
 row_absent f key w old new k h e = ap rows_at e ∙ apart w f old (none_passes_from_lookup (same_key (key_of f)) old (sym (h ∙ ap (λ x. lookup (same_key x) old) k)))
 
 -- ---- a row more

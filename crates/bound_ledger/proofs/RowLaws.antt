@@ -12,7 +12,7 @@ use Rattle.std.proofs.lemmas.Map.Entries.{none_past_head}
 use Rattle.plan_base.specs.declared.ids.Family.{Family}
 use Rattle.bound_ledger.specs.declared.row.Row.{Row}
 use Rattle.bound_ledger.specs.Counts.{nothing, more}
-use Rattle.bound_ledger.specs.Rows.{FamilyRow, same_family, families_in, OneEach, row_of, counts_of, change, changed, with_grant}
+use Rattle.bound_ledger.specs.Rows.{FamilyRow, same_family, families_in, OneEach, row_of, counts_of, change, changed_rows, with_grant}
 
 -- ---- families
 
@@ -50,19 +50,19 @@ change_own move f e h = ap (λ b. if b then (e.0, move e.1) else e) h
 change_other : (move : Row → Row) (f : Family) (e : FamilyRow) → same_family f e.0 ≡ false → change move f e ≡ e
 change_other move f e h = ap (λ b. if b then (e.0, move e.1) else e) h
 
-apart : (move : Row → Row) (f : Family) (rows : List FamilyRow) → NonePasses (same_family f) rows → changed move f rows ≡ rows
-unfolding changed
+apart : (move : Row → Row) (f : Family) (rows : List FamilyRow) → NonePasses (same_family f) rows → changed_rows move f rows ≡ rows
+unfolding changed_rows
 apart move f [] h = refl
 apart move f (e ∷ es) h = λ i. change_other move f e h.0 i ∷ apart move f es h.1 i
 
 -- a family without a row: nothing changes
-pub changed_none : (move : Row → Row) (f : Family) (rows : List FamilyRow) → row_of f rows ≡ None → changed move f rows ≡ rows
+pub changed_none : (move : Row → Row) (f : Family) (rows : List FamilyRow) → row_of f rows ≡ None → changed_rows move f rows ≡ rows
 unfolding row_of
 changed_none move f rows h = apart move f rows (none_passes_from_lookup (same_family f) rows h)
 
 -- a change is the new row in the place of the old one
-pub changed_to : (move : Row → Row) (f : Family) (v w : Row) (rows : List FamilyRow) → OneEach rows → row_of f rows ≡ Some v → w ≡ move v → changed (λ _. w) f rows ≡ changed move f rows
-unfolding changed row_of IsDistinct
+pub changed_to : (move : Row → Row) (f : Family) (v w : Row) (rows : List FamilyRow) → OneEach rows → row_of f rows ≡ Some v → w ≡ move v → changed_rows (λ _. w) f rows ≡ changed_rows move f rows
+unfolding changed_rows row_of IsDistinct
 changed_to move f v w [] d h m = refl
 changed_to move f v w (e ∷ es) d h m = by (same_family f e.0) refl (λ t. changed_to move f v w es d.1 (sym (ap (λ b. cond b (Some e.1) (lookup (same_family f) es)) t) ∙ h) m)
   where
@@ -77,8 +77,8 @@ changed_to move f v w (e ∷ es) d h m = by (same_family f e.0) refl (λ t. chan
 
 -- ---- look-ups
 
-own_row : (move : Row → Row) (f : Family) (rows : List FamilyRow) → row_of f (changed move f rows) ≡ option_map move (row_of f rows)
-unfolding changed row_of
+own_row : (move : Row → Row) (f : Family) (rows : List FamilyRow) → row_of f (changed_rows move f rows) ≡ option_map move (row_of f rows)
+unfolding changed_rows row_of
 own_row move f [] = refl
 own_row move f (e ∷ es) = by (same_family f e.0) refl (own_row move f es)
   where
@@ -92,8 +92,8 @@ own_row move f (e ∷ es) = by (same_family f e.0) refl (own_row move f es)
         ∙ rest
         ∙ sym (ap (λ b. option_map move (cond b (Some e.1) (lookup (same_family f) es))) t)
 
-other_row : (move : Row → Row) (f g : Family) (rows : List FamilyRow) → same_family f g ≡ false → row_of f (changed move g rows) ≡ row_of f rows
-unfolding changed row_of
+other_row : (move : Row → Row) (f g : Family) (rows : List FamilyRow) → same_family f g ≡ false → row_of f (changed_rows move g rows) ≡ row_of f rows
+unfolding changed_rows row_of
 other_row move f g [] h = refl
 other_row move f g (e ∷ es) h = by (same_family g e.0) refl (other_row move f g es h)
   where
@@ -117,15 +117,15 @@ unfolding counts_of
 counts_none f rows h = ap (λ o. unwrap_or o nothing) h
 
 -- the counts of the family that is changed: where it has no row, a change must leave no counts
-pub counts_own : (move : Row → Row) (f : Family) (rows : List FamilyRow) → (row_of f rows ≡ None → move nothing ≡ nothing) → counts_of f (changed move f rows) ≡ move (counts_of f rows)
+pub counts_own : (move : Row → Row) (f : Family) (rows : List FamilyRow) → (row_of f rows ≡ None → move nothing ≡ nothing) → counts_of f (changed_rows move f rows) ≡ move (counts_of f rows)
 counts_own move f rows none = by (row_of f rows) refl
   where
-    by : (o : Option Row) → row_of f rows ≡ o → counts_of f (changed move f rows) ≡ move (counts_of f rows)
-    by None e = counts_none f (changed move f rows) (own_row move f rows ∙ ap (option_map move) e) ∙ sym (none e) ∙ ap move (sym (counts_none f rows e))
-    by (Some v) e = counts_some f (changed move f rows) (move v) (own_row move f rows ∙ ap (option_map move) e) ∙ ap move (sym (counts_some f rows v e))
+    by : (o : Option Row) → row_of f rows ≡ o → counts_of f (changed_rows move f rows) ≡ move (counts_of f rows)
+    by None e = counts_none f (changed_rows move f rows) (own_row move f rows ∙ ap (option_map move) e) ∙ sym (none e) ∙ ap move (sym (counts_none f rows e))
+    by (Some v) e = counts_some f (changed_rows move f rows) (move v) (own_row move f rows ∙ ap (option_map move) e) ∙ ap move (sym (counts_some f rows v e))
 
 -- the counts of any other
-pub counts_other : (move : Row → Row) (f g : Family) (rows : List FamilyRow) → same_family f g ≡ false → counts_of f (changed move g rows) ≡ counts_of f rows
+pub counts_other : (move : Row → Row) (f g : Family) (rows : List FamilyRow) → same_family f g ≡ false → counts_of f (changed_rows move g rows) ≡ counts_of f rows
 unfolding counts_of
 counts_other move f g rows h = ap (λ o. unwrap_or o nothing) (other_row move f g rows h)
 
@@ -146,13 +146,13 @@ pushed_own f r (e ∷ es) h =
 
 -- ---- grants
 
-pub grant_some : (f : Family) (n : ℕ) (rows : List FamilyRow) (v : Row) → row_of f rows ≡ Some v → with_grant f n rows ≡ changed (more n) f rows
+pub grant_some : (f : Family) (n : ℕ) (rows : List FamilyRow) (v : Row) → row_of f rows ≡ Some v → with_grant f n rows ≡ changed_rows (more n) f rows
 unfolding with_grant
-grant_some f n rows v h = ap (λ o. if is_some o then changed (more n) f rows else rows ++ (f, more n nothing) ∷ []) h
+grant_some f n rows v h = ap (λ o. if is_some o then changed_rows (more n) f rows else rows ++ (f, more n nothing) ∷ []) h
 
 pub grant_none : (f : Family) (n : ℕ) (rows : List FamilyRow) → row_of f rows ≡ None → with_grant f n rows ≡ rows ++ (f, more n nothing) ∷ []
 unfolding with_grant
-grant_none f n rows h = ap (λ o. if is_some o then changed (more n) f rows else rows ++ (f, more n nothing) ∷ []) h
+grant_none f n rows h = ap (λ o. if is_some o then changed_rows (more n) f rows else rows ++ (f, more n nothing) ∷ []) h
 
 pub grant_own : (f : Family) (n : ℕ) (rows : List FamilyRow) → counts_of f (with_grant f n rows) ≡ more n (counts_of f rows)
 grant_own f n rows = by (row_of f rows) refl
@@ -171,8 +171,8 @@ grant_other f g n rows h = by (row_of g rows) refl
 
 -- ---- the families, and how many rows there are
 
-pub families_changed : (move : Row → Row) (f : Family) (rows : List FamilyRow) → families_in (changed move f rows) ≡ families_in rows
-unfolding changed
+pub families_changed : (move : Row → Row) (f : Family) (rows : List FamilyRow) → families_in (changed_rows move f rows) ≡ families_in rows
+unfolding changed_rows
 families_changed move f [] = refl
 families_changed move f (e ∷ es) = λ i. kept (same_family f e.0) refl i ∷ families_changed move f es i
   where
@@ -180,8 +180,8 @@ families_changed move f (e ∷ es) = λ i. kept (same_family f e.0) refl i ∷ f
     kept true t = ap (λ x. x.0) (change_own move f e t)
     kept false t = ap (λ x. x.0) (change_other move f e t)
 
-pub length_changed : (move : Row → Row) (f : Family) (rows : List FamilyRow) → length (changed move f rows) ≡ length rows
-unfolding changed
+pub length_changed : (move : Row → Row) (f : Family) (rows : List FamilyRow) → length (changed_rows move f rows) ≡ length rows
+unfolding changed_rows
 length_changed move f [] = refl
 length_changed move f (e ∷ es) = ap suc (length_changed move f es)
 

@@ -35,9 +35,9 @@ abbrev pub change : (Row → Row) → Family → FamilyRow → FamilyRow
 change move f e = if same_family f e.0 then (e.0, move e.1) else e
 
 -- the rows with that of a family changed, and no other
-unfoldable pub changed : (Row → Row) → Family → List FamilyRow → List FamilyRow
-changed move f rows = map (change move f) rows
+unfoldable pub changed_rows : (Row → Row) → Family → List FamilyRow → List FamilyRow
+changed_rows move f rows = map (change move f) rows
 
 -- the rows with n more granted to a family, in a new last row where it has none
 unfoldable pub with_grant : Family → ℕ → List FamilyRow → List FamilyRow
-with_grant f n rows = if is_some (row_of f rows) then changed (more n) f rows else rows ++ (f, more n nothing) ∷ []
+with_grant f n rows = if is_some (row_of f rows) then changed_rows (more n) f rows else rows ++ (f, more n nothing) ∷ []

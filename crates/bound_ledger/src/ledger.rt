@@ -1,6 +1,6 @@
 ghost use Rattle.std.specs.Prelude.{◌≡◌, ◌+◌, ◌-◌, ◌≤◌, ◌<◌, ◌^◌, [], ◌∷◌, ◌++◌, length, slice_get, Some, None, IfOk, IfSome, OnOk, OnErr};
 ghost use Rattle.bound_ledger.specs.Counts.{InBalance, hopped, paid, quit};
-ghost use Rattle.bound_ledger.specs.Rows.{OneEach, row_of, counts_of, changed, with_grant};
+ghost use Rattle.bound_ledger.specs.Rows.{OneEach, row_of, counts_of, changed_rows, with_grant};
 
 use crate::key::FamilyKey;
 use crate::row::Row;
@@ -69,7 +69,7 @@ impl Ledger {
     /// Puts a row in the place of a family's, where it has one.
     fn set(&mut self, f: Family, row: Row)
         requires balanced { InBalance row }
-        ensures row { self.new ≡ changed (λ _. row) f self.old }
+        ensures row { self.new ≡ changed_rows (λ _. row) f self.old }
         ensures once { OneEach self.old }
     {
         let Some(place) = self.rows.get_mut(&FamilyKey::of(f)) else {
@@ -113,7 +113,7 @@ impl Ledger {
     /// Moves 1 of what a family still has to its hops. Takes no memory. Condition: it still has 1.
     pub fn hop(&mut self, f: Family)
         requires live { 1 ≤ (counts_of f self.old).live }
-        ensures { self.new ≡ changed hopped f self.old }
+        ensures { self.new ≡ changed_rows hopped f self.old }
     {
         if let Some(row) = self.row(f) {
             self.set(f, row.with_hop());
@@ -124,7 +124,7 @@ impl Ledger {
     /// a family without a row has 0.
     pub fn eval(&mut self, f: Family, n: u32)
         requires live { n ≤ (counts_of f self.old).live }
-        ensures { self.new ≡ changed (paid n) f self.old }
+        ensures { self.new ≡ changed_rows (paid n) f self.old }
     {
         if let Some(row) = self.row(f) {
             self.set(f, row.with_evals(n));
@@ -135,7 +135,7 @@ impl Ledger {
     /// where a family without a row has 0.
     pub fn leave(&mut self, f: Family, n: u32)
         requires live { n ≤ (counts_of f self.old).live }
-        ensures { self.new ≡ changed (quit n) f self.old }
+        ensures { self.new ≡ changed_rows (quit n) f self.old }
     {
         if let Some(row) = self.row(f) {
             self.set(f, row.with_left(n));

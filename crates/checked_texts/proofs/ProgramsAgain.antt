@@ -134,9 +134,9 @@ called g es e o f r k =
     let l = level_of e (Expr-F.Call g es) o f r in
     p.call g es o (left _ _ l.exact) (leb-true (length es) 8 (left _ _ l.formed)) (k (right (nat_le (length es) 8) _ l.formed) (right (is_name g) _ l.exact))
 
-joined : (op : Op) (a b e : Expr) → out-Expr e ≡ Expr-F.Binary op a b → formed_expr e ≡ true → exact e ≡ true
+binary_is_exact : (op : Op) (a b e : Expr) → out-Expr e ≡ Expr-F.Binary op a b → formed_expr e ≡ true → exact e ≡ true
     → (formed_expr a ≡ true → exact a ≡ true → IsProper a) → (formed_expr b ≡ true → exact b ≡ true → IsProper b) → IsProper e
-joined op a b e o f r h k =
+binary_is_exact op a b e o f r h k =
     let l = level_of e (Expr-F.Binary op a b) o f r in
     p.binary op a b o (h (left _ _ l.formed) (left _ _ l.exact)) (k (right _ _ l.formed) (right _ _ l.exact))
 
@@ -168,11 +168,11 @@ module _ (code : Program) where
     proper {e = e} (y.both a b o i j q) f r = let l = level_of e (Expr-F.And a b) o f r in p.both a b o (proper i (left _ _ l.formed) (left _ _ l.exact)) (proper j (right _ _ l.formed) (right _ _ l.exact))
     proper {e = e} (y.either a b o i j q) f r = let l = level_of e (Expr-F.Or a b) o f r in p.either a b o (proper i (left _ _ l.formed) (left _ _ l.exact)) (proper j (right _ _ l.formed) (right _ _ l.exact))
     proper {e = e} (y.negation a o i q) f r = let l = level_of e (Expr-F.Not a) o f r in p.negation a o (proper i l.formed l.exact)
-    proper {e = e} (y.calculation op a b o k i j q) f r = joined op a b e o f r (λ u v. proper i u v) (λ u v. proper j u v)
-    proper {e = e} (y.join op a b o k i n j) f r = joined op a b e o f r (λ u v. proper i u v) (λ u v. proper j u v)
-    proper {e = e} (y.comparison op a b u o k i j q) f r = joined op a b e o f r (λ u v. proper i u v) (λ u v. proper j u v)
-    proper {e = e} (y.order op a b u o k i n j q) f r = joined op a b e o f r (λ u v. proper i u v) (λ u v. proper j u v)
-    proper {e = e} (y.prefix op a b u o k i j q s) f r = joined op a b e o f r (λ u v. proper i u v) (λ u v. proper j u v)
+    proper {e = e} (y.calculation op a b o k i j q) f r = binary_is_exact op a b e o f r (λ u v. proper i u v) (λ u v. proper j u v)
+    proper {e = e} (y.join op a b o k i n j) f r = binary_is_exact op a b e o f r (λ u v. proper i u v) (λ u v. proper j u v)
+    proper {e = e} (y.comparison op a b u o k i j q) f r = binary_is_exact op a b e o f r (λ u v. proper i u v) (λ u v. proper j u v)
+    proper {e = e} (y.order op a b u o k i n j q) f r = binary_is_exact op a b e o f r (λ u v. proper i u v) (λ u v. proper j u v)
+    proper {e = e} (y.prefix op a b u o k i j q s) f r = binary_is_exact op a b e o f r (λ u v. proper i u v) (λ u v. proper j u v)
     proper {e = e} (y.handling a ks o i j) f r =
         let l = level_of e (Expr-F.Try a ks) o f r in
         let n = between 1 8 (length ks) (left _ _ (left _ _ (right (formed_expr a) _ l.formed))) in

@@ -29,7 +29,7 @@ use Rattle.chunk_spelling.specs.declared.tags.TheConstants.{EXPR_TAGS}
 use Rattle.chunk_spelling.specs.Items.{ChunkItem, an_expr, a_clause, several_clauses}
 use Rattle.chunk_spelling.specs.Scan.{Scan, Reader, flags, table_field, count_field, tag_of, allowed}
 use Rattle.chunk_spelling.specs.Parts.{Part, Core, Parts, PartValues, items_of_parts, bytes_of_parts, nodes_of_parts, FormFits, several, formed, tagged_at}
-use Rattle.chunk_spelling.specs.Fields.{flag_byte, sized, name_bytes, op_byte}
+use Rattle.chunk_spelling.specs.Fields.{flag_byte, sized_bytes, name_bytes, op_byte}
 use Rattle.chunk_spelling.specs.Types.{type_bytes, type_part}
 use Rattle.chunk_spelling.specs.Exprs.{expr_bytes, expr_bytes_level, clause_bytes, clause_bytes_level, catch_bytes, one_more, expr_tag_at, clause_tag_at, clause_forms, clause_of_parts, clause_parts_by, clause_part, is_none_left, clauses_from, clauses_at, ClausesFit, clauses_part, expr_forms, expr_of_parts, expr_parts, expr_from, expr_within, no_expr, expr_core, expr_part, expr_inner, one_below}
 
@@ -270,8 +270,8 @@ module _ (room below : ℕ) (core : Core Expr) where
   level_is (Expr-F.Bool b) = (sym (expr.rolls-Bool b), (λ j. 33 ∷ (sym (append-nil (flag_byte b ∷ [])) j)), omega arith)
   level_is (Expr-F.Int z) = (sym (expr.rolls-Int z), (λ j. 34 ∷ (sym (append-nil (to_be_bytes w64 (cast_unsigned w64 z))) j)), omega arith)
   level_is (Expr-F.Char c) = (sym (expr.rolls-Char c), (λ j. 35 ∷ (sym (append-nil (to_be_bytes w32 c)) j)), omega arith)
-  level_is (Expr-F.Str s) = (sym (expr.rolls-Str s), (λ j. 36 ∷ (sym (append-nil (sized s)) j)), omega arith)
-  level_is (Expr-F.Blob s) = (sym (expr.rolls-Blob s), (λ j. 37 ∷ (sym (append-nil (sized s)) j)), omega arith)
+  level_is (Expr-F.Str s) = (sym (expr.rolls-Str s), (λ j. 36 ∷ (sym (append-nil (sized_bytes s)) j)), omega arith)
+  level_is (Expr-F.Blob s) = (sym (expr.rolls-Blob s), (λ j. 37 ∷ (sym (append-nil (sized_bytes s)) j)), omega arith)
   level_is (Expr-F.Host h) = (sym (expr.rolls-Host h), (λ j. 38 ∷ (sym (append-nil (to_be_bytes w32 h.0)) j)), omega arith)
   level_is (Expr-F.Dev d) = (sym (expr.rolls-Dev d), (λ j. 39 ∷ (sym (append-nil (to_be_bytes w32 d.0)) j)), omega arith)
   level_is (Expr-F.Nil (Some t)) = (sym (expr.rolls-Nil (Some t)), (λ j. 40 ∷ (sym (append-nil (type_bytes t)) j)), omega arith)

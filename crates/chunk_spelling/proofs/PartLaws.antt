@@ -14,7 +14,7 @@ use Rattle.chunk_spelling.specs.declared.fault.SpellFault.{SpellFault}
 use Rattle.chunk_spelling.specs.declared.fault.SpellFault.TheVariants.{BadTag, OverLimit}
 use Rattle.chunk_spelling.specs.Items.{ChunkItem, counted, listed}
 use Rattle.chunk_spelling.specs.Scan.{Scan, Reader, number_field, count_field, allowed}
-use Rattle.chunk_spelling.specs.Parts.{Part, Parts, done, ◌&◌, PartValues, reads, bytes_of_parts, AllFit, nodes_of_parts, items_of_parts, EachFits, counted_at, several, listed_at, list_of, FormFits, tagged_at, formed, joined}
+use Rattle.chunk_spelling.specs.Parts.{Part, Parts, done, ◌&◌, PartValues, reads, bytes_of_parts, AllFit, nodes_of_parts, items_of_parts, EachFits, counted_at, several, listed_at, list_of, FormFits, tagged_at, formed, untagged_part}
 use Rattle.chunk_spelling.specs.Steps.{step}
 use Rattle.chunk_spelling.proofs.Took.{Took, Took-bytes, Took-none, Took-then, Took-first, Took-second, Took-as, between, scan_is}
 use Rattle.chunk_spelling.proofs.FieldLaws.{byte_takes, byte_again, number_takes, number_again, wide16, allowed_ok, allowed_is}
@@ -281,7 +281,7 @@ module _ {A : Type 0} (i : ChunkItem) (forms : Parts) (build : PartValues forms 
     (lawful : AllLawful forms) (back : (xs : PartValues forms) → parts (build xs) ≡ xs) (same : (x : A) → build (parts x) ≡ x)
     (bytes_is : (x : A) → bytes x ≡ bytes_of_parts forms (parts x)) (nodes_is : (x : A) → nodes x ≡ nodes_of_parts forms (parts x))
     (steps : (more : List ChunkItem) (f : Scan) → step i more f ≡ Ok (items_of_parts forms more, f)) where
-  pub joined_lawful : Lawful (joined i forms build parts bytes nodes)
+  pub joined_lawful : Lawful (untagged_part i forms build parts bytes nodes)
   joined_lawful = record {
     takes = λ f g x h k e.
         let r = reads_takes forms lawful build f g x h k e in

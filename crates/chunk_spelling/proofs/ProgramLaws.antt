@@ -26,7 +26,7 @@ use Rattle.plan_base.specs.declared.tree.Fun.{Fun}
 use Rattle.plan_base.specs.declared.tree.Program.{Program}
 use Rattle.chunk_spelling.specs.Items.{ChunkItem, a_parameter, a_service, a_function, a_program, code_end}
 use Rattle.chunk_spelling.specs.Scan.{Scan, Reader, allowed}
-use Rattle.chunk_spelling.specs.Parts.{Part, Parts, PartValues, AllFit, reads, items_of_parts, bytes_of_parts, nodes_of_parts, several, joined}
+use Rattle.chunk_spelling.specs.Parts.{Part, Parts, PartValues, AllFit, reads, items_of_parts, bytes_of_parts, nodes_of_parts, several, untagged_part}
 use Rattle.chunk_spelling.specs.Fields.{name_bytes, name_part}
 use Rattle.chunk_spelling.specs.Types.{type_bytes, type_part}
 use Rattle.chunk_spelling.specs.Exprs.{expr_bytes, expr_part}

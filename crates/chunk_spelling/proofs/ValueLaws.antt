@@ -27,7 +27,7 @@ use Rattle.chunk_spelling.specs.declared.tags.TheConstants.{VALUE_TAGS}
 use Rattle.chunk_spelling.specs.Items.{ChunkItem, a_value, a_chunk, weight_end}
 use Rattle.chunk_spelling.specs.Scan.{Scan, Reader, table_field, tag_of, allowed}
 use Rattle.chunk_spelling.specs.Parts.{Part, Core, Parts, PartValues, AllFit, reads, items_of_parts, bytes_of_parts, nodes_of_parts, FormFits, several, list_of, tagged_at}
-use Rattle.chunk_spelling.specs.Fields.{flag_byte, sized, name_bytes, name_part}
+use Rattle.chunk_spelling.specs.Fields.{flag_byte, sized_bytes, name_bytes, name_part}
 use Rattle.chunk_spelling.specs.Types.{type_bytes, type_part}
 use Rattle.chunk_spelling.specs.Programs.{program_bytes, program_part}
 use Rattle.chunk_spelling.specs.Values.{value_bytes, value_bytes_level, chunk_bytes, chunk_bytes_level, may_open, opening_limit, value_tag_at, value_forms, value_of_parts, value_parts, value_from, chunk_from, value_within, no_value, no_chunk, values_within, chunk_forms, chunk_of_parts, chunk_parts, light, judged_weight, chunk_at, ChunkFits, chunk_with, value_core, value_part, chunk_part, chunk_inner, value_inner}
@@ -116,8 +116,8 @@ module _ (nest room cnest : ℕ) (core : Core Value) (chunks : Core Chunk) (iroo
   level_is (Value-F.Bool b) = (sym (value.rolls-Bool b), (λ j. 17 ∷ (sym (append-nil (flag_byte b ∷ [])) j)), omega arith)
   level_is (Value-F.Int z) = (sym (value.rolls-Int z), (λ j. 18 ∷ (sym (append-nil (to_be_bytes w64 (cast_unsigned w64 z))) j)), omega arith)
   level_is (Value-F.Char c) = (sym (value.rolls-Char c), (λ j. 19 ∷ (sym (append-nil (to_be_bytes w32 c)) j)), omega arith)
-  level_is (Value-F.Str s) = (sym (value.rolls-Str s), (λ j. 20 ∷ (sym (append-nil (sized s)) j)), omega arith)
-  level_is (Value-F.Blob s) = (sym (value.rolls-Blob s), (λ j. 21 ∷ (sym (append-nil (sized s)) j)), omega arith)
+  level_is (Value-F.Str s) = (sym (value.rolls-Str s), (λ j. 20 ∷ (sym (append-nil (sized_bytes s)) j)), omega arith)
+  level_is (Value-F.Blob s) = (sym (value.rolls-Blob s), (λ j. 21 ∷ (sym (append-nil (sized_bytes s)) j)), omega arith)
   level_is (Value-F.Host h) = (sym (value.rolls-Host h), (λ j. 22 ∷ (sym (append-nil (to_be_bytes w32 h.0)) j)), omega arith)
   level_is (Value-F.Dev d) = (sym (value.rolls-Dev d), (λ j. 23 ∷ (sym (append-nil (to_be_bytes w32 d.0)) j)), omega arith)
   level_is (Value-F.Chunk c) = (sym (value.rolls-Chunk c), (λ j. 24 ∷ (sym (append-nil (chunk_bytes c)) j)), omega arith)

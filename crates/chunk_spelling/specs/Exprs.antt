@@ -15,7 +15,7 @@ use Rattle.chunk_spelling.specs.declared.tags.TheConstants.{EXPR_TAGS}
 use Rattle.chunk_spelling.specs.Items.{an_expr, a_clause, several_clauses}
 use Rattle.chunk_spelling.specs.Scan.{Scan, Reader, flags, table_field, count_field, allowed}
 use Rattle.chunk_spelling.specs.Parts.{Part, Core, Parts, done, ◌&◌, PartValues, FormFits, several, tagged_at, formed}
-use Rattle.chunk_spelling.specs.Fields.{flag_byte, flag_part, int_part, word_part, char_part, text_part, blob_part, sized, name_bytes, name_part, op_byte, op_part, part_number_part}
+use Rattle.chunk_spelling.specs.Fields.{flag_byte, flag_part, int_part, word_part, char_part, text_part, blob_part, sized_bytes, name_bytes, name_part, op_byte, op_part, part_number_part}
 use Rattle.chunk_spelling.specs.Types.{type_bytes, type_part}
 
 -- an expression's bytes, by those of its parts and clauses; one whose type is missing has none behind its tag for it
@@ -24,8 +24,8 @@ expr_bytes_level bytes clause Expr-F.Unit = 0x20 ∷ []
 expr_bytes_level bytes clause (Expr-F.Bool b) = 0x21 ∷ flag_byte b ∷ []
 expr_bytes_level bytes clause (Expr-F.Int z) = 0x22 ∷ to_be_bytes w64 (cast_unsigned w64 z)
 expr_bytes_level bytes clause (Expr-F.Char c) = 0x23 ∷ to_be_bytes w32 c
-expr_bytes_level bytes clause (Expr-F.Str s) = 0x24 ∷ sized s
-expr_bytes_level bytes clause (Expr-F.Blob s) = 0x25 ∷ sized s
+expr_bytes_level bytes clause (Expr-F.Str s) = 0x24 ∷ sized_bytes s
+expr_bytes_level bytes clause (Expr-F.Blob s) = 0x25 ∷ sized_bytes s
 expr_bytes_level bytes clause (Expr-F.Host h) = 0x26 ∷ to_be_bytes w32 h.0
 expr_bytes_level bytes clause (Expr-F.Dev d) = 0x27 ∷ to_be_bytes w32 d.0
 expr_bytes_level bytes clause (Expr-F.Nil (Some t)) = 0x28 ∷ type_bytes t

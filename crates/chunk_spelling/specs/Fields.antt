@@ -28,14 +28,14 @@ abbrev pub char_part : Part ℕ
 char_part = record { item = a_char; read = char_field; bytes = to_be_bytes w32; Fits = λ c. IsScalar c × (c < 2 ^ 32); nodes = λ _. 0 }
 
 -- a length in two bytes, and the bytes
-abbrev pub sized : List ℕ → List ℕ
-sized bs = to_be_bytes w16 (length bs) ++ bs
+abbrev pub sized_bytes : List ℕ → List ℕ
+sized_bytes bs = to_be_bytes w16 (length bs) ++ bs
 
 abbrev pub text_part : Part (List ℕ)
-text_part = record { item = a_text; read = text_field; bytes = sized; Fits = λ bs. IsUtf8 bs × (length bs < 2 ^ 16); nodes = λ _. 0 }
+text_part = record { item = a_text; read = text_field; bytes = sized_bytes; Fits = λ bs. IsUtf8 bs × (length bs < 2 ^ 16); nodes = λ _. 0 }
 
 abbrev pub blob_part : Part (List ℕ)
-blob_part = record { item = a_blob; read = blob_field; bytes = sized; Fits = λ bs. length bs < 2 ^ 16; nodes = λ _. 0 }
+blob_part = record { item = a_blob; read = blob_field; bytes = sized_bytes; Fits = λ bs. length bs < 2 ^ 16; nodes = λ _. 0 }
 
 -- a length in one byte, and the bytes
 abbrev pub name_bytes : List ℕ → List ℕ

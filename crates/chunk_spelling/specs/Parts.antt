@@ -110,8 +110,8 @@ formed i tag Allowed forms build parts bytes nodes = record {
 }
 
 -- a construct without a tag
-abbrev pub joined : {A : Type 0} → ChunkItem → (forms : Parts) → (PartValues forms → A) → (A → PartValues forms) → (A → List ℕ) → (A → ℕ) → Part A
-joined i forms build parts bytes nodes = record {
+abbrev pub untagged_part : {A : Type 0} → ChunkItem → (forms : Parts) → (PartValues forms → A) → (A → PartValues forms) → (A → List ℕ) → (A → ℕ) → Part A
+untagged_part i forms build parts bytes nodes = record {
   item = i;
   read = reads forms build;
   bytes = bytes;

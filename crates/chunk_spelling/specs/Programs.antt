@@ -12,7 +12,7 @@ use Rattle.chunk_spelling.specs.declared.fault.SpellFault.{SpellFault}
 use Rattle.chunk_spelling.specs.declared.fault.SpellFault.TheVariants.{OverLimit}
 use Rattle.chunk_spelling.specs.Items.{a_parameter, a_service, a_function, a_program}
 use Rattle.chunk_spelling.specs.Scan.{Scan, Reader, allowed}
-use Rattle.chunk_spelling.specs.Parts.{Part, Parts, done, ◌&◌, PartValues, AllFit, reads, several, joined}
+use Rattle.chunk_spelling.specs.Parts.{Part, Parts, done, ◌&◌, PartValues, AllFit, reads, several, untagged_part}
 use Rattle.chunk_spelling.specs.Fields.{name_bytes, name_part}
 use Rattle.chunk_spelling.specs.Types.{type_bytes, type_part}
 use Rattle.chunk_spelling.specs.Exprs.{expr_bytes, expr_part}
@@ -25,7 +25,7 @@ param_bytes p = name_bytes p.name ++ type_bytes p.ty
 
 -- a parameter: its name and its type
 abbrev pub param_part : Part Param
-param_part = joined a_parameter param_forms (λ xs. record { name = xs.0; ty = xs.1.0 }) (λ p. (p.name, (p.ty, tt))) param_bytes (λ _. 0)
+param_part = untagged_part a_parameter param_forms (λ xs. record { name = xs.0; ty = xs.1.0 }) (λ p. (p.name, (p.ty, tt))) param_bytes (λ _. 0)
 
 abbrev pub service_forms : Parts
 service_forms = name_part & several Limit.Parameters 0 8 (type_part 8) & type_part 8 & done
@@ -35,7 +35,7 @@ service_bytes s = name_bytes s.name ++ ((length s.params ∷ flat_map type_bytes
 
 -- a service: its name, the types of its arguments and of its answer
 abbrev pub service_part : Part Svc
-service_part = joined a_service service_forms (λ xs. record { name = xs.0; params = xs.1.0; result = xs.1.1.0 }) (λ s. (s.name, (s.params, (s.result, tt)))) service_bytes (λ _. 0)
+service_part = untagged_part a_service service_forms (λ xs. record { name = xs.0; params = xs.1.0; result = xs.1.1.0 }) (λ s. (s.name, (s.params, (s.result, tt)))) service_bytes (λ _. 0)
 
 abbrev pub function_forms : Parts
 function_forms = name_part & several Limit.Parameters 0 8 param_part & type_part 8 & expr_part 64 & done
@@ -45,7 +45,7 @@ function_bytes f = name_bytes f.name ++ ((length f.params ∷ flat_map param_byt
 
 -- a function: its name, its parameters, the type of its body, and the body
 abbrev pub function_part : Part Fun
-function_part = joined a_function function_forms (λ xs. record { name = xs.0; params = xs.1.0; result = xs.1.1.0; body = xs.1.1.1.0 })
+function_part = untagged_part a_function function_forms (λ xs. record { name = xs.0; params = xs.1.0; result = xs.1.1.0; body = xs.1.1.1.0 })
     (λ f. (f.name, (f.params, (f.result, (f.body, tt))))) function_bytes (λ f. expr_nodes f.body)
 
 abbrev pub program_forms : Parts

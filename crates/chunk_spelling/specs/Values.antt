@@ -14,7 +14,7 @@ use Rattle.chunk_spelling.specs.declared.tags.TheConstants.{VALUE_TAGS}
 use Rattle.chunk_spelling.specs.Items.{a_value, a_chunk}
 use Rattle.chunk_spelling.specs.Scan.{Scan, Reader, table_field, allowed}
 use Rattle.chunk_spelling.specs.Parts.{Part, Core, Parts, done, ◌&◌, PartValues, AllFit, FormFits, reads, several, list_of, tagged_at}
-use Rattle.chunk_spelling.specs.Fields.{flag_byte, flag_part, int_part, word_part, char_part, text_part, blob_part, sized, name_bytes, name_part}
+use Rattle.chunk_spelling.specs.Fields.{flag_byte, flag_part, int_part, word_part, char_part, text_part, blob_part, sized_bytes, name_bytes, name_part}
 use Rattle.chunk_spelling.specs.Types.{type_bytes, type_part}
 use Rattle.chunk_spelling.specs.Programs.{program_bytes, program_part}
 
@@ -24,8 +24,8 @@ value_bytes_level bytes chunk Value-F.Unit = 0x10 ∷ []
 value_bytes_level bytes chunk (Value-F.Bool b) = 0x11 ∷ flag_byte b ∷ []
 value_bytes_level bytes chunk (Value-F.Int z) = 0x12 ∷ to_be_bytes w64 (cast_unsigned w64 z)
 value_bytes_level bytes chunk (Value-F.Char c) = 0x13 ∷ to_be_bytes w32 c
-value_bytes_level bytes chunk (Value-F.Str s) = 0x14 ∷ sized s
-value_bytes_level bytes chunk (Value-F.Blob s) = 0x15 ∷ sized s
+value_bytes_level bytes chunk (Value-F.Str s) = 0x14 ∷ sized_bytes s
+value_bytes_level bytes chunk (Value-F.Blob s) = 0x15 ∷ sized_bytes s
 value_bytes_level bytes chunk (Value-F.Host h) = 0x16 ∷ to_be_bytes w32 h.0
 value_bytes_level bytes chunk (Value-F.Dev d) = 0x17 ∷ to_be_bytes w32 d.0
 value_bytes_level bytes chunk (Value-F.Chunk c) = 0x18 ∷ chunk c

@@ -1,5 +1,5 @@
 ghost use Rattle.std.specs.Prelude.{◌≡◌, ◌++◌, ◌+◌, ◌≤◌, ◌<◌, ◌^◌, [], ◌∷◌, length};
-ghost use Rattle.chunk_spelling.specs.Fields.{flag_byte, op_byte, name_bytes, sized};
+ghost use Rattle.chunk_spelling.specs.Fields.{flag_byte, op_byte, name_bytes, sized_bytes};
 
 use plan_base::{Name, Op};
 use wire_bytes::Out;
@@ -37,9 +37,9 @@ pub fn put_flag(flag: bool, out: &mut Out)
 /// Puts bytes behind their length in two bytes.
 pub fn put_sized(bytes: &[u8], out: &mut Out)
     requires short { length bytes.now < 65536 }
-    requires room { length (sized bytes.now) ≤ out.old.room }
-    ensures bytes { out.new.bytes ≡ out.old.bytes ++ sized bytes.now }
-    ensures room { out.new.room + length (sized bytes.now) ≡ out.old.room }
+    requires room { length (sized_bytes bytes.now) ≤ out.old.room }
+    ensures bytes { out.new.bytes ≡ out.old.bytes ++ sized_bytes bytes.now }
+    ensures room { out.new.room + length (sized_bytes bytes.now) ≡ out.old.room }
 {
     out.put_u16(bytes.len() as u16);
     out.put_bytes(bytes);

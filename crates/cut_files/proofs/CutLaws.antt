@@ -15,7 +15,7 @@ use Rattle.line_files.specs.Inside.{OnFault}
 use Rattle.line_files.proofs.Placing.{fault_done, fault_here, Places, refuses_read}
 use Rattle.node_files.specs.Parts.{behind_word}
 use Rattle.node_files.specs.Answers.{Accepted, Refused}
-use Rattle.node_files.proofs.PartLaws.{header_keeps, usual_keeps, header_placed, usual_placed, answered}
+use Rattle.node_files.proofs.PartLaws.{header_keeps, usual_keeps, header_placed, usual_placed, value_or_refusal}
 use Rattle.cut_files.specs.declared.cut.CutFile.{CutFile}
 use Rattle.cut_files.specs.declared.cut.CutWord.{CutWord}
 use Rattle.cut_files.specs.declared.cut.CutWord.TheVariants as word
@@ -137,4 +137,4 @@ cut_places = record {
 }
 
 pub cut_answered : (bytes : List ℕ) → Accepted cut_of bytes ⊎ Refused cut_of bytes
-cut_answered bytes = answered cut_format nothing_read (refuses_read cut_format nothing_read Anywhere cut_places tt) bytes
+cut_answered bytes = value_or_refusal cut_format nothing_read (refuses_read cut_format nothing_read Anywhere cut_places tt) bytes

@@ -10,7 +10,7 @@ use Rattle.service_api.specs.declared.advert.Advert.{Advert}
 use Rattle.dv_routing.specs.declared.table.Known.{Known}
 use Rattle.dv_routing.specs.declared.table.Lane.{Lane}
 use Rattle.dv_routing.specs.declared.table.Table.{Table}
-use Rattle.dv_routing.specs.Routing.{Routing, opened, hears, is_among, least, rows_cost, told_on, heard_cost, near_cost, over_link, better, best_from, own_route, route}
+use Rattle.dv_routing.specs.Routing.{Routing, opening_routing, hears, is_among, least, rows_cost, told_on, heard_cost, near_cost, over_link, better, best_from, own_route, route}
 use Rattle.dv_routing.specs.Lanes.{taken_cost, known_after, lane_after, unknown, fresh_lane, known_cost, lane_cost, best_lane}
 use Rattle.dv_routing.specs.Stands.{known_of, lane_of, Stands}
 use Rattle.dv_routing.proofs.Costs.{least-none, least-zero, rows_inside, heard_outside, heard_more, same_host, eqb_self}
@@ -35,10 +35,10 @@ known_opens r d (h ∷ hs) e =
     cc
 
 pub lanes_open : (here : Host) (hosts : List Host) (neighbours links : List (Host × Dev))
-    → map (fresh_lane hosts) links ≡ map (lane_of (opened here hosts neighbours)) links
+    → map (fresh_lane hosts) links ≡ map (lane_of (opening_routing here hosts neighbours)) links
 lanes_open here hosts neighbours [] = refl
 lanes_open here hosts neighbours (link ∷ links) =
-    let a = ap (λ ks. let l : Lane = record { host = link.0; dev = link.1; known = ks } in l) (known_opens (opened here hosts neighbours) link.1 hosts refl) in
+    let a = ap (λ ks. let l : Lane = record { host = link.0; dev = link.1; known = ks } in l) (known_opens (opening_routing here hosts neighbours) link.1 hosts refl) in
     let b = lanes_open here hosts neighbours links in
     cc
 

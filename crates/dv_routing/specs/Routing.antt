@@ -16,8 +16,8 @@ pub record Routing : Type 0 where
   pub heard : List (Dev × Advert)
 
 -- a node that has heard nothing
-abbrev pub opened : Host → List Host → List (Host × Dev) → Routing
-opened here hosts neighbours = record { here = here; hosts = hosts; neighbours = neighbours; heard = [] }
+abbrev pub opening_routing : Host → List Host → List (Host × Dev) → Routing
+opening_routing here hosts neighbours = record { here = here; hosts = hosts; neighbours = neighbours; heard = [] }
 
 -- after one more advert
 abbrev pub hears : Routing → Dev → Advert → Routing

@@ -1,6 +1,6 @@
 ghost use Rattle.std.specs.Prelude.{◌≡◌, [], map, ◌++◌, IfOk, OnOk};
 ghost use Rattle.std.specs.Option.{option_to_list};
-ghost use Rattle.dv_routing.specs.Routing.{Routing, opened, hears, route as the_route, all_routes, own_advert, own_route, is_better, better as the_better, least as the_least, advert_row};
+ghost use Rattle.dv_routing.specs.Routing.{Routing, opening_routing, hears, route as the_route, all_routes, own_advert, own_route, is_better, better as the_better, least as the_least, advert_row};
 ghost use Rattle.dv_routing.specs.Stands.{Stands};
 ghost use Rattle.dv_routing.specs.Lanes.{told_cost, taken_cost, known_after, lane_after, unknown, fresh_lane, known_cost, lane_cost, lane_route, best_lane};
 
@@ -226,7 +226,7 @@ impl Table {
         hosts: &Items<Host>,
         neighbours: &Neighbours,
     ) -> Result<Table, NoMemory>
-        ensures { IfOk result (λ t. Stands (opened here hosts.now neighbours.now) t) }
+        ensures { IfOk result (λ t. Stands (opening_routing here hosts.now neighbours.now) t) }
     {
         let lanes = fresh_lanes(alloc, hosts.as_slice(), neighbours.as_slice())?;
         Ok(Table {

@@ -8,7 +8,7 @@ use Rattle.line_files.specs.declared.fault.LineReason.{LineReason}
 use Rattle.line_files.specs.declared.fault.LineReason.TheVariants.{BadWord}
 use Rattle.line_files.specs.Counting.{moved, moved_by, CountsOnly}
 use Rattle.line_files.specs.Files.{is_skipped}
-use Rattle.line_files.specs.Programs.{program_in, opened, with_line}
+use Rattle.line_files.specs.Programs.{program_in, opened_program, with_line}
 use Rattle.line_files.specs.Reads.{word_at, end_at, rest_at}
 use Rattle.node_files.specs.declared.ask.AskReading.{AskReading}
 use Rattle.node_files.specs.declared.ask.AskStage.{AskStage}
@@ -21,27 +21,27 @@ use Rattle.file_counts.specs.Outside.{IsAskOutside, AskOutside}
 use Rattle.file_counts.specs.Later.{later_program, later_ask}
 use Rattle.file_counts.specs.Skipping.{SkipsLines}
 use Rattle.file_counts.proofs.Counts.{Moves, Skips, moved_not, moves_count, skips_lines}
-use Rattle.file_counts.proofs.Lines.{changed, then_changed, unchanged, at_moved, either_moved, header_moved, usual_moved, usual_skips}
+use Rattle.file_counts.proofs.Lines.{changed_read, then_changed, unchanged, at_moved, either_moved, header_moved, usual_moved, usual_skips}
 
-to_moved : (first : ℕ) (ws : List (List ℕ)) (s : AskReading) → to_line ws (later_ask first s) ≡ changed (later_ask first) (to_line ws s)
+to_moved : (first : ℕ) (ws : List (List ℕ)) (s : AskReading) → to_line ws (later_ask first s) ≡ changed_read (later_ask first) (to_line ws s)
 unfolding to_line
 to_moved first ws s =
     then_changed (later_ask first) (behind_word (codes "to") ws) _ _ (λ more.
     then_changed (later_ask first) (last_number 1 65535 more) _ _ (λ p. refl))
 
-from_moved : (first : ℕ) (ws : List (List ℕ)) (s : AskReading) → from_line ws (later_ask first s) ≡ changed (later_ask first) (from_line ws s)
+from_moved : (first : ℕ) (ws : List (List ℕ)) (s : AskReading) → from_line ws (later_ask first s) ≡ changed_read (later_ask first) (from_line ws s)
 unfolding from_line
 from_moved first ws s =
     then_changed (later_ask first) (behind_word (codes "from") ws) _ _ (λ more.
     then_changed (later_ask first) (last_number 1 65535 more) _ _ (λ p. refl))
 
-bound_moved : (first : ℕ) (ws : List (List ℕ)) (s : AskReading) → bound_line ws (later_ask first s) ≡ changed (later_ask first) (bound_line ws s)
+bound_moved : (first : ℕ) (ws : List (List ℕ)) (s : AskReading) → bound_line ws (later_ask first s) ≡ changed_read (later_ask first) (bound_line ws s)
 unfolding bound_line
 bound_moved first ws s =
     then_changed (later_ask first) (behind_word (codes "bound") ws) _ _ (λ more.
     then_changed (later_ask first) (last_number 0 65535 more) _ _ (λ n. refl))
 
-entry_moved : (first number : ℕ) (ws : List (List ℕ)) (s : AskReading) → entry_line (moved first number) ws (later_ask first s) ≡ changed (later_ask first) (entry_line number ws s)
+entry_moved : (first number : ℕ) (ws : List (List ℕ)) (s : AskReading) → entry_line (moved first number) ws (later_ask first s) ≡ changed_read (later_ask first) (entry_line number ws s)
 unfolding entry_line
 entry_moved first number ws s =
     then_changed (later_ask first) (behind_word (codes "entry") ws) _ _ (λ more.
@@ -49,13 +49,13 @@ entry_moved first number ws s =
     then_changed (later_ask first) (word_at more) _ _ (λ w.
     then_changed (later_ask first) (rest_at w.1) _ _ (λ r. refl))))
 
-program_moved : (first number : ℕ) (ws : List (List ℕ)) (s : AskReading) → program_line (moved first number) ws (later_ask first s) ≡ changed (later_ask first) (program_line number ws s)
+program_moved : (first number : ℕ) (ws : List (List ℕ)) (s : AskReading) → program_line (moved first number) ws (later_ask first s) ≡ changed_read (later_ask first) (program_line number ws s)
 unfolding program_line
 program_moved first number ws s =
     then_changed (later_ask first) (behind_word (codes "program") ws) _ _ (λ more.
     then_changed (later_ask first) (end_at more) _ _ (λ u. refl))
 
-wanted_moved : (first number : ℕ) (w : AskWord) (ws : List (List ℕ)) (s : AskReading) → wanted_line w (moved first number) ws (later_ask first s) ≡ changed (later_ask first) (wanted_line w number ws s)
+wanted_moved : (first number : ℕ) (w : AskWord) (ws : List (List ℕ)) (s : AskReading) → wanted_line w (moved first number) ws (later_ask first s) ≡ changed_read (later_ask first) (wanted_line w number ws s)
 unfolding wanted_line
 wanted_moved first number word.To ws s = to_moved first ws s
 wanted_moved first number word.From ws s = from_moved first ws s
@@ -63,7 +63,7 @@ wanted_moved first number word.Bound ws s = bound_moved first ws s
 wanted_moved first number word.Entry ws s = entry_moved first number ws s
 wanted_moved first number word.Program ws s = program_moved first number ws s
 
-close_moved : (first : ℕ) (s : AskReading) → close_program (later_ask first s) ≡ changed (later_ask first) (close_program s)
+close_moved : (first : ℕ) (s : AskReading) → close_program (later_ask first s) ≡ changed_read (later_ask first) (close_program s)
 unfolding close_program
 close_moved first s = then_changed (later_ask first) (program_in s.program.text) _ _ (λ p. refl)
 
@@ -107,7 +107,7 @@ skipped number line stages.Behind s e o = usual_skips number line s (λ ws. Err 
 
 -- the first line's number moves behind no line
 fixed : (first : ℕ) → 1 ≤ first → later_ask first nothing_asked ≡ nothing_asked
-fixed first low = ap (λ n. let s : AskReading = record nothing_asked { entry_line = n; program = opened n } in s) (moved_not first 1 low)
+fixed first low = ap (λ n. let s : AskReading = record nothing_asked { entry_line = n; program = opened_program n } in s) (moved_not first 1 low)
 
 pub skips : SkipsLines ask_format nothing_asked AskOutside
 skips = skips_lines ask_format nothing_asked later_ask AskOutside moves (record {

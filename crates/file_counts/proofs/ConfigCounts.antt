@@ -11,7 +11,7 @@ use Rattle.line_files.specs.Files.{is_skipped}
 use Rattle.line_files.specs.Injections.{injection_at}
 use Rattle.line_files.specs.Numbers.{number_at}
 use Rattle.line_files.specs.Packages.{package_at}
-use Rattle.line_files.specs.Programs.{program_in, opened, weighed}
+use Rattle.line_files.specs.Programs.{program_in, opened_program, weighed}
 use Rattle.line_files.specs.Reads.{word_at, end_at, allowed}
 use Rattle.node_files.specs.declared.config.ConfigReading.{ConfigReading}
 use Rattle.node_files.specs.declared.config.ConfigStage.{ConfigStage}
@@ -28,11 +28,11 @@ use Rattle.file_counts.specs.Outside.{IsConfigOutside, ConfigOutside}
 use Rattle.file_counts.specs.Later.{later_config}
 use Rattle.file_counts.specs.Skipping.{SkipsLines}
 use Rattle.file_counts.proofs.Counts.{Moves, Skips, moved_not, moves_count, skips_lines}
-use Rattle.file_counts.proofs.Lines.{changed, then_changed, at_moved, either_moved, version_moved, usual_moved, usual_skips}
+use Rattle.file_counts.proofs.Lines.{changed_read, then_changed, at_moved, either_moved, version_moved, usual_moved, usual_skips}
 
 -- ---- the lines in front of the devices
 
-port_moved : (first : ℕ) (ws : List (List ℕ)) (s : ConfigReading) → port_line ws (later_config first s) ≡ changed (later_config first) (port_line ws s)
+port_moved : (first : ℕ) (ws : List (List ℕ)) (s : ConfigReading) → port_line ws (later_config first s) ≡ changed_read (later_config first) (port_line ws s)
 unfolding port_line
 port_moved first ws s =
     then_changed (later_config first) (behind_word (codes "port") ws) _ _ (λ more.
@@ -42,7 +42,7 @@ free_same : (first : ℕ) (ws : List (List ℕ)) (s : ConfigReading) → free_po
 unfolding free_port
 free_same first ws s = refl
 
-control_moved : (first : ℕ) (ws : List (List ℕ)) (s : ConfigReading) → control_line ws (later_config first s) ≡ changed (later_config first) (control_line ws s)
+control_moved : (first : ℕ) (ws : List (List ℕ)) (s : ConfigReading) → control_line ws (later_config first s) ≡ changed_read (later_config first) (control_line ws s)
 unfolding control_line
 control_moved first ws s =
     then_changed (later_config first) (behind_word (codes "control") ws) _ _ (λ more.
@@ -50,20 +50,20 @@ control_moved first ws s =
     (then_changed (later_config first) (free_port s more) _ _ (λ p.
     then_changed (later_config first) (end_at p.1) _ _ (λ u. refl))))
 
-period_moved : (first : ℕ) (ws : List (List ℕ)) (s : ConfigReading) → period_line ws (later_config first s) ≡ changed (later_config first) (period_line ws s)
+period_moved : (first : ℕ) (ws : List (List ℕ)) (s : ConfigReading) → period_line ws (later_config first s) ≡ changed_read (later_config first) (period_line ws s)
 unfolding period_line
 period_moved first ws s =
     then_changed (later_config first) (behind_word (codes "period") ws) _ _ (λ more.
     then_changed (later_config first) (last_number 1 60000 more) _ _ (λ n. refl))
 
-log_moved : (first : ℕ) (ws : List (List ℕ)) (s : ConfigReading) → log_line ws (later_config first s) ≡ changed (later_config first) (log_line ws s)
+log_moved : (first : ℕ) (ws : List (List ℕ)) (s : ConfigReading) → log_line ws (later_config first s) ≡ changed_read (later_config first) (log_line ws s)
 unfolding log_line
 log_moved first ws s =
     then_changed (later_config first) (behind_word (codes "log") ws) _ _ (λ more.
     then_changed (later_config first) (file_name_at more) _ _ (λ file.
     then_changed (later_config first) (end_at file.1) _ _ (λ u. refl)))
 
-wanted_moved : (first : ℕ) (w : HeadWord) (ws : List (List ℕ)) (s : ConfigReading) → wanted_line w ws (later_config first s) ≡ changed (later_config first) (wanted_line w ws s)
+wanted_moved : (first : ℕ) (w : HeadWord) (ws : List (List ℕ)) (s : ConfigReading) → wanted_line w ws (later_config first s) ≡ changed_read (later_config first) (wanted_line w ws s)
 unfolding wanted_line
 wanted_moved first head.Host ws s = then_changed (later_config first) (host_line ws) _ _ (λ here. refl)
 wanted_moved first head.Hosts ws s = then_changed (later_config first) (hosts_line s.here ws) _ _ (λ hosts. refl)
@@ -74,7 +74,7 @@ wanted_moved first head.Log ws s = log_moved first ws s
 
 -- ---- devices, missing packages, the program and what is injected
 
-device_moved : (first : ℕ) (ws : List (List ℕ)) (s : ConfigReading) → device_line ws (later_config first s) ≡ changed (later_config first) (device_line ws s)
+device_moved : (first : ℕ) (ws : List (List ℕ)) (s : ConfigReading) → device_line ws (later_config first s) ≡ changed_read (later_config first) (device_line ws s)
 unfolding device_line
 device_moved first ws s =
     then_changed (later_config first) (neighbour_at s.here s.hosts s.neighbours ws) _ _ (λ n.
@@ -82,17 +82,17 @@ device_moved first ws s =
     (then_changed (later_config first) (free_port s n.1) _ _ (λ p.
     then_changed (later_config first) (end_at p.1) _ _ (λ u. refl))))
 
-missing_moved : (first : ℕ) (ws : List (List ℕ)) (s : ConfigReading) → missing_line ws (later_config first s) ≡ changed (later_config first) (missing_line ws s)
+missing_moved : (first : ℕ) (ws : List (List ℕ)) (s : ConfigReading) → missing_line ws (later_config first s) ≡ changed_read (later_config first) (missing_line ws s)
 unfolding missing_line
 missing_moved first ws s =
     then_changed (later_config first) (package_at s.missing ws) _ _ (λ missing.
     then_changed (later_config first) (end_at missing.1) _ _ (λ u. refl))
 
-program_moved : (first number : ℕ) (ws : List (List ℕ)) (s : ConfigReading) → program_line (moved first number) ws (later_config first s) ≡ changed (later_config first) (program_line number ws s)
+program_moved : (first number : ℕ) (ws : List (List ℕ)) (s : ConfigReading) → program_line (moved first number) ws (later_config first s) ≡ changed_read (later_config first) (program_line number ws s)
 unfolding program_line
 program_moved first number ws s = then_changed (later_config first) (end_at ws) _ _ (λ u. refl)
 
-inject_moved : (first : ℕ) (ws : List (List ℕ)) (s : ConfigReading) → inject_line ws (later_config first s) ≡ changed (later_config first) (inject_line ws s)
+inject_moved : (first : ℕ) (ws : List (List ℕ)) (s : ConfigReading) → inject_line ws (later_config first s) ≡ changed_read (later_config first) (inject_line ws s)
 unfolding inject_line
 inject_moved first ws s =
     then_changed (later_config first) (ok_or s.checked UnknownProgram) _ _ (λ program.
@@ -101,21 +101,21 @@ inject_moved first ws s =
     then_changed (later_config first) (injection_at s.version program more) _ _ (λ i.
     then_changed (later_config first) (weighed s.weight i.0) _ _ (λ total. refl)))))
 
-rest_moved : (first number : ℕ) (k : TailWord) (ws : List (List ℕ)) (s : ConfigReading) → tail_rest k (moved first number) ws (later_config first s) ≡ changed (later_config first) (tail_rest k number ws s)
+rest_moved : (first number : ℕ) (k : TailWord) (ws : List (List ℕ)) (s : ConfigReading) → tail_rest k (moved first number) ws (later_config first s) ≡ changed_read (later_config first) (tail_rest k number ws s)
 unfolding tail_rest
 rest_moved first number tail.Dev ws s = device_moved first ws s
 rest_moved first number tail.Without ws s = missing_moved first ws s
 rest_moved first number tail.Program ws s = program_moved first number ws s
 rest_moved first number tail.At ws s = inject_moved first ws s
 
-tail_moved : (first number : ℕ) (part : TailPart) (ws : List (List ℕ)) (s : ConfigReading) → tail_line part (moved first number) ws (later_config first s) ≡ changed (later_config first) (tail_line part number ws s)
+tail_moved : (first number : ℕ) (part : TailPart) (ws : List (List ℕ)) (s : ConfigReading) → tail_line part (moved first number) ws (later_config first s) ≡ changed_read (later_config first) (tail_line part number ws s)
 unfolding tail_line
 tail_moved first number part ws s =
     then_changed (later_config first) (word_at ws) _ _ (λ w.
     then_changed (later_config first) (ok_or (tail_word w.0) BadWord) _ _ (λ k.
     then_changed (later_config first) (allowed (may_come part k) BadWord) _ _ (λ u. rest_moved first number k w.1 s)))
 
-close_moved : (first : ℕ) (s : ConfigReading) → close_program (later_config first s) ≡ changed (later_config first) (close_program s)
+close_moved : (first : ℕ) (s : ConfigReading) → close_program (later_config first s) ≡ changed_read (later_config first) (close_program s)
 unfolding close_program
 close_moved first s = then_changed (later_config first) (program_in s.program.text) _ _ (λ p. refl)
 
@@ -157,7 +157,7 @@ skipped number line stages.Inside s e o = absurd o
 
 -- the first line's number moves behind no line
 fixed : (first : ℕ) → 1 ≤ first → later_config first nothing_read ≡ nothing_read
-fixed first low = ap (λ n. let s : ConfigReading = record nothing_read { program = opened n } in s) (moved_not first 1 low)
+fixed first low = ap (λ n. let s : ConfigReading = record nothing_read { program = opened_program n } in s) (moved_not first 1 low)
 
 pub skips : SkipsLines config_format nothing_read ConfigOutside
 skips = skips_lines config_format nothing_read later_config ConfigOutside moves (record {

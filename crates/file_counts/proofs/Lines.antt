@@ -12,20 +12,20 @@ use Rattle.line_files.specs.Reads.{◌>>=◌}
 use Rattle.node_files.specs.Parts.{header_line, usual_line}
 
 -- what is read, changed by a function
-abbrev pub changed : {A : Type 0} → (A → A) → Result A LineReason → Result A LineReason
-changed f (Ok x) = Ok (f x)
-changed f (Err e) = Err e
+abbrev pub changed_read : {A : Type 0} → (A → A) → Result A LineReason → Result A LineReason
+changed_read f (Ok x) = Ok (f x)
+changed_read f (Err e) = Err e
 
-pub then_changed : {A B : Type 0} (f : B → B) (r : Result A LineReason) (g h : A → Result B LineReason) → ((x : A) → g x ≡ changed f (h x)) → (r >>= g) ≡ changed f (r >>= h)
+pub then_changed : {A B : Type 0} (f : B → B) (r : Result A LineReason) (g h : A → Result B LineReason) → ((x : A) → g x ≡ changed_read f (h x)) → (r >>= g) ≡ changed_read f (r >>= h)
 then_changed f (Ok x) g h k = k x
 then_changed f (Err e) g h k = refl
 
 -- what nothing changes
-pub unchanged : {A : Type 0} (r : Result A LineReason) → r ≡ changed (λ x. x) r
+pub unchanged : {A : Type 0} (r : Result A LineReason) → r ≡ changed_read (λ x. x) r
 unchanged (Ok x) = refl
 unchanged (Err e) = refl
 
-pub at_moved : {A : Type 0} (first n : ℕ) (change : A → A) (r q : Result A LineReason) → q ≡ changed change r → at_line (moved first n) q ≡ moved_by first change (at_line n r)
+pub at_moved : {A : Type 0} (first n : ℕ) (change : A → A) (r q : Result A LineReason) → q ≡ changed_read change r → at_line (moved first n) q ≡ moved_by first change (at_line n r)
 at_moved first n change (Ok x) q e = ap (λ z. at_line (moved first n) z) e
 at_moved first n change (Err d) q e = ap (λ z. at_line (moved first n) z) e
 
@@ -46,7 +46,7 @@ pub version_moved : {A : Type 0} (front : List ℕ) (first number : ℕ) (line :
 version_moved front first number line change next other e = versioned_moved first number change (version_in front line) next other e
 
 -- a line that is read by its words
-pub usual_moved : {A : Type 0} (first number : ℕ) (line : List ℕ) (change : A → A) (s t : A) (read other : List (List ℕ) → Result A LineReason) → t ≡ change s → ((ws : List (List ℕ)) → other ws ≡ changed change (read ws))
+pub usual_moved : {A : Type 0} (first number : ℕ) (line : List ℕ) (change : A → A) (s t : A) (read other : List (List ℕ) → Result A LineReason) → t ≡ change s → ((ws : List (List ℕ)) → other ws ≡ changed_read change (read ws))
     → usual_line (moved first number) line t other ≡ moved_by first change (usual_line number line s read)
 usual_moved first number line change s t read other e k =
     either_moved first change (is_skipped line) (Ok s) _ (Ok t) _ (ap (λ x. Ok x) e) (at_moved first number change (read (words line)) (other (words line)) (k (words line)))

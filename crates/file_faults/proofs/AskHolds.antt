@@ -6,7 +6,7 @@ use Rattle.file_faults.proofs.LineHolds.{Holds, then_holds, done_holds, none_hol
 use Rattle.file_faults.proofs.NodeHolds.{behind_word_holds, last_number_holds, header_holds, usual_holds}
 use Rattle.file_faults.specs.Refusals.{FaultHolds, ReasonHolds}
 use Rattle.line_files.specs.Lines.{words}
-use Rattle.line_files.specs.Programs.{opened, program_in, call_at}
+use Rattle.line_files.specs.Programs.{opened_program, program_in, call_at}
 use Rattle.line_files.specs.Reads.{word_at, end_at, rest_at}
 use Rattle.line_files.specs.declared.fault.LineFault.{LineFault}
 use Rattle.line_files.specs.declared.fault.LineReason.TheVariants.{BadWord}
@@ -57,7 +57,7 @@ unfolding program_line
 program_line_holds number ws s =
     then_holds (behind_word (codes "program") ws) _ (behind_word_holds (codes "program") ws) (λ more.
     then_holds (end_at more) _ (end_at_holds more) (λ u1.
-    done_holds (record s { stage = stages.Inside; program = opened number })))
+    done_holds (record s { stage = stages.Inside; program = opened_program number })))
 
 wanted_line_holds : (x0 : AskWord) (number : ℕ) (ws : List (List ℕ)) (s : AskReading) → Holds (wanted_line x0 number ws s)
 unfolding wanted_line

@@ -10,7 +10,7 @@ use Rattle.line_files.specs.Headers.{version_in}
 use Rattle.line_files.specs.Injections.{injection_at}
 use Rattle.line_files.specs.Numbers.{number_at}
 use Rattle.line_files.specs.Packages.{package_at}
-use Rattle.line_files.specs.Programs.{opened, program_in, weighed}
+use Rattle.line_files.specs.Programs.{opened_program, program_in, weighed}
 use Rattle.line_files.specs.Reads.{word_at, end_at, allowed}
 use Rattle.line_files.specs.declared.fault.LineFault.{LineFault}
 use Rattle.line_files.specs.declared.fault.LineReason.TheVariants.{BadHeader, BadWord, UnknownProgram, TwiceNamed}
@@ -100,7 +100,7 @@ program_line_holds : (number : ℕ) (ws : List (List ℕ)) (s : ConfigReading) �
 unfolding program_line
 program_line_holds number ws s =
     then_holds (end_at ws) _ (end_at_holds ws) (λ u0.
-    done_holds (record s { stage = stages.Inside; program = opened number }))
+    done_holds (record s { stage = stages.Inside; program = opened_program number }))
 
 inject_line_holds : (ws : List (List ℕ)) (s : ConfigReading) → Holds (inject_line ws s)
 unfolding inject_line

@@ -6,7 +6,7 @@ use Rattle.file_faults.specs.Refusals.{ReasonHolds}
 use Rattle.hex.specs.Hex.{decode_of}
 use Rattle.line_files.specs.FileNames.{file_name_at}
 use Rattle.line_files.specs.Handlers.{has_handler, named_handler, handler_at}
-use Rattle.line_files.specs.HexWords.{hex_of, sized, hex_at}
+use Rattle.line_files.specs.HexWords.{hex_of, within_size, hex_at}
 use Rattle.line_files.specs.HostLists.{is_above, host_more, hosts_from, hosts_with}
 use Rattle.line_files.specs.Injections.{injection_at}
 use Rattle.line_files.specs.Lines.{spaced}
@@ -40,15 +40,15 @@ use lib.Chars.{codes}
 abbrev pub Holds : {A : Type 0} → Result A LineReason → Type 0
 Holds r = (e : LineReason) → r ≡ Err e → ReasonHolds e
 
-abbrev refused : {A : Type 0} → LineReason → Result A LineReason
-refused e = Err e
+abbrev line_refusal : {A : Type 0} → LineReason → Result A LineReason
+line_refusal e = Err e
 
-reason_is : {A : Type 0} (d e : LineReason) → refused {A = A} d ≡ refused e → d ≡ e
+reason_is : {A : Type 0} (d e : LineReason) → line_refusal {A = A} d ≡ line_refusal e → d ≡ e
 reason_is d e h = cc
 
 pub then_holds : {A B : Type 0} (r : Result A LineReason) (f : A → Result B LineReason) → Holds r → ((x : A) → Holds (f x)) → Holds (r >>= f)
 then_holds (Ok x) f h k e q = k x e q
-then_holds {A} {B} (Err d) f h k e q = h e (ap refused (reason_is {A = B} d e q))
+then_holds {A} {B} (Err d) f h k e q = h e (ap line_refusal (reason_is {A = B} d e q))
 
 pub done_holds : {A : Type 0} (x : A) → Holds (Ok x)
 done_holds x e q = absurd cc
@@ -101,7 +101,7 @@ pub hex_at_holds : (low : ℕ) (high : ℕ) (ws : List (List ℕ)) → Holds (he
 unfolding hex_at
 hex_at_holds low high ws =
     then_holds (word_at ws) _ (word_at_holds ws) (λ w.
-    then_holds (ok_or (sized low high (hex_of (decode_of w.0))) BadArgument) _ (ok_or_holds (sized low high (hex_of (decode_of w.0))) BadArgument tt) (λ bytes.
+    then_holds (ok_or (within_size low high (hex_of (decode_of w.0))) BadArgument) _ (ok_or_holds (within_size low high (hex_of (decode_of w.0))) BadArgument tt) (λ bytes.
     done_holds (bytes, w.1)))
 
 pub package_at_holds : (seen : List PackageName) (ws : List (List ℕ)) → Holds (package_at seen ws)

@@ -21,7 +21,7 @@ use Rattle.network_plan.specs.Hosts.{host_of, dev_of, has_host, has_link}
 use Rattle.network_plan.specs.declared.schedule.HostSpec.{HostSpec}
 use Rattle.plan_base.specs.declared.ids.Host.{Host}
 use Rattle.schedule_text.specs.Parts.{host_at, device_at, free_device_at, is_called, program_at}
-use Rattle.schedule_text.specs.Schedules.{network_word, event_word, is_first, frames_line, host_spec, host_line, link_line, begun_at, program_line, named, close_program, network_rest, network_line, with_event, injected_at, inject_line, send_line, frame_at, deliver_line, repeat_line, lose_line, tick_line, raw_line, event_rest, event_line, staying, begun_by, step, schedule_of_reading, finish, file_after, schedule_format, nothing_read, schedule_of}
+use Rattle.schedule_text.specs.Schedules.{network_word, event_word, is_first, frames_line, host_spec, host_line, link_line, begun_at, program_line, named_program, close_program, network_rest, network_line, with_event, injected_at, inject_line, send_line, frame_at, deliver_line, repeat_line, lose_line, tick_line, raw_line, event_rest, event_line, staying, begun_by, step, schedule_of_reading, finish, file_after, schedule_format, nothing_read, schedule_of}
 use Rattle.schedule_text.specs.declared.keyword.EventWord.{EventWord}
 use Rattle.schedule_text.specs.declared.keyword.NetworkWord.{NetworkWord}
 use Rattle.schedule_text.specs.declared.reading.BegunProgram.{BegunProgram}
@@ -106,7 +106,7 @@ close_program_holds : (begun : BegunProgram) (s : Reading) → Holds (close_prog
 unfolding close_program
 close_program_holds begun s =
     then_holds (program_in begun.source.text) _ (program_in_holds begun.source.text) (λ program.
-    done_holds (record s { programs = s.programs ++ named begun.name program ∷ [] }))
+    done_holds (record s { programs = s.programs ++ named_program begun.name program ∷ [] }))
 
 network_rest_holds : (x0 : NetworkWord) (number : ℕ) (ws : List (List ℕ)) (s : Reading) → Holds (network_rest x0 number ws s)
 unfolding network_rest

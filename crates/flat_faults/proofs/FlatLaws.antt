@@ -24,7 +24,7 @@ use Rattle.packet_frame.specs.declared.fault.FrameFault.{FrameFault}
 use Rattle.packet_frame.specs.declared.kind.Kind.{Kind}
 use Rattle.packet_frame.specs.declared.kind.Form.{Form}
 use Rattle.packet_frame.specs.Faults.{of_spelling, of_number}
-use Rattle.packet_frame.specs.Fields.{told, number, magic_at, version_at, known_kind, kind_of, kind_at, judged, bound_at, route_at, count_at, row_host_at, cost_at}
+use Rattle.packet_frame.specs.Fields.{told_fault, number, magic_at, version_at, known_kind, kind_of, kind_at, judged_field, bound_at, route_at, count_at, row_host_at, cost_at}
 use Rattle.packet_frame.specs.Forms.{FrameItem, the_magic, the_version, the_kind, a_host, a_serial, a_bound, a_route, a_carried_chunk, some_rows, rows_behind, a_cost, the_end, either_version, the_form}
 use Rattle.packet_frame.specs.Versions.{either_version_at, form_of, known_form, form_at}
 use Rattle.packet_frame.specs.Frames.{past, nothing_left, frame_step, a_frame, begins, SpellingFault}
@@ -98,7 +98,7 @@ own_keeps : (w : Width) (f : Scan) (x : ℕ × Scan) → number w f ≡ Ok x →
 own_keeps w f x h = number_keeps w f x (told_ok of_number (number_field w f) x h)
 
 -- a number that is judged
-judged_keeps : (w : Width) (f : Scan) (x : ℕ × Scan) (test : ℕ → Bool) (e : FrameFault) → (number w f >>= λ n. judged (test n.0) e n) ≡ Ok x → Keeps f x.1
+judged_keeps : (w : Width) (f : Scan) (x : ℕ × Scan) (test : ℕ → Bool) (e : FrameFault) → (number w f >>= λ n. judged_field (test n.0) e n) ≡ Ok x → Keeps f x.1
 judged_keeps w f x test e h =
     let a = bind_ok (number w f) _ _ h in
     subst (Keeps f) (ap (λ z. z.1) (judged_ok _ e a.first x a.then_read).1) (own_keeps w f a.first a.read)
@@ -166,16 +166,16 @@ which (the_form v) = inl refl
 abbrev chunk_read : Front → Result (Chunk × Scan) SpellFault
 chunk_read f = a_whole_chunk.read (from_front f)
 
-chunk_refused : (more : List FrameItem) (f : Front) (e : FrameFault) → (r : Result (Chunk × Scan) SpellFault) → chunk_read f ≡ r → past more (told of_spelling r) ≡ Err e → FlatFault e (a_carried_chunk ∷ more) f
+chunk_refused : (more : List FrameItem) (f : Front) (e : FrameFault) → (r : Result (Chunk × Scan) SpellFault) → chunk_read f ≡ r → past more (told_fault of_spelling r) ≡ Err e → FlatFault e (a_carried_chunk ∷ more) f
 chunk_refused more f e (Ok x) q h = cc
 chunk_refused more f e (Err d) q h = in_chunk d (fault_by a_whole_chunk (chunk_part_lawful 3) (λ _. refl) f d q) (err_inj h)
   where
     err_inj : ◌≡◌ {A = Result (List FrameItem × Scan) FrameFault} (Err (of_spelling d)) (Err e) → e ≡ of_spelling d
     err_inj k = cc
 
-chunk_passed : (more next : List FrameItem) (f : Front) (s : Scan) → past more (told of_spelling (chunk_read f)) ≡ Ok (next, s) → (c : Chunk) × (chunk_read f ≡ Ok (c, s)) × (more ≡ next)
+chunk_passed : (more next : List FrameItem) (f : Front) (s : Scan) → past more (told_fault of_spelling (chunk_read f)) ≡ Ok (next, s) → (c : Chunk) × (chunk_read f ≡ Ok (c, s)) × (more ≡ next)
 chunk_passed more next f s h =
-    let a = bind_ok (told of_spelling (chunk_read f)) _ _ h in
+    let a = bind_ok (told_fault of_spelling (chunk_read f)) _ _ h in
     let r = told_ok of_spelling (chunk_read f) a.first a.read in
     let same = ok_inj a.then_read in
     (a.first.0, r ∙ ap (λ z. Ok (a.first.0, z)) (ap (λ z. z.1) same), ap (λ z. z.0) same)
@@ -216,9 +216,9 @@ from_flat : {e : FrameFault} {now : List FrameItem} {f : Front} → FlatFault e 
 from_flat (at_field {i} {more} {f} n h) = here i more (from_front f) h
 from_flat (behind_field {i} {more} {next} {f} {g} n h k) = later i more (from_front f) next (from_front g) h (from_flat k)
 from_flat {e} (in_chunk {more} {f} d h q) =
-    here a_carried_chunk more (from_front f) (ap (λ r. past more (told of_spelling r)) (refused_by a_whole_chunk (chunk_part_lawful 3) (λ _. refl) f d h) ∙ ap Err (sym q))
+    here a_carried_chunk more (from_front f) (ap (λ r. past more (told_fault of_spelling r)) (refused_by a_whole_chunk (chunk_part_lawful 3) (λ _. refl) f d h) ∙ ap Err (sym q))
 from_flat (behind_chunk {more} {f} {g} c h k) =
-    later a_carried_chunk more (from_front f) more (from_front g) (ap (λ r. past more (told of_spelling r)) (only_by a_whole_chunk (chunk_part_lawful 3) (λ _. refl) f g c h)) (from_flat k)
+    later a_carried_chunk more (from_front f) more (from_front g) (ap (λ r. past more (told_fault of_spelling r)) (only_by a_whole_chunk (chunk_part_lawful 3) (λ _. refl) f g c h)) (from_flat k)
 
 module _ (bytes : List ℕ) (e : FrameFault) (are : IsBytes bytes) where
   -- the fields of a whole frame, whatever they are

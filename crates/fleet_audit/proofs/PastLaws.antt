@@ -33,7 +33,7 @@ use Rattle.serve_model.specs.Runs.{acts_of, node_by, node_after}
 use Rattle.world_model.specs.declared.lines.LinkEnd.{LinkEnd}
 use Rattle.world_model.specs.World.{Cables}
 use Rattle.ledger_audit.specs.Crossings.{Crossing, Arrival}
-use Rattle.ledger_audit.specs.Runs.{is_accepted, accepts, sends, numbered}
+use Rattle.ledger_audit.specs.Runs.{is_accepted, accepts, sends, numbered_arrivals}
 use Rattle.ledger_audit.specs.Audits.{Logged, version_in}
 use Rattle.ledger_audit.specs.Spelling.{Begins, FrameReads, EntryReads, EntriesRead, ReadsAgain}
 use Rattle.ledger_audit.proofs.Versions.{version_told, told_plain}
@@ -128,15 +128,15 @@ arrival_held p old new a c h is hosts tallies book injects more = record {
 
 -- bytes that the acts refuse are no frame more
 pub arrived_not : (r : Reckoning) (p : Past) (log n : ℕ) (from : Option LinkEnd) (bytes : List ℕ) (acts : List Act) → is_accepted acts ≡ false
-    → Holds r p → Holds r (with_accepted (numbered log n (arrived_from from bytes acts)) p)
-arrived_not r p log n from bytes acts e h = subst (λ b. Holds r (with_accepted (numbered log n (if b then record { from = from; bytes = bytes } ∷ [] else [])) p)) (sym e) (no_arrival r p h)
+    → Holds r p → Holds r (with_accepted (numbered_arrivals log n (arrived_from from bytes acts)) p)
+arrived_not r p log n from bytes acts e h = subst (λ b. Holds r (with_accepted (numbered_arrivals log n (if b then record { from = from; bytes = bytes } ∷ [] else [])) p)) (sym e) (no_arrival r p h)
 
 -- others are one
 pub arrived_so : (p : Past) (old new : Reckoning) (log n : ℕ) (from : Option LinkEnd) (bytes : List ℕ) (acts : List Act) (key : CrossingKey) → is_accepted acts ≡ true → crossing_of key ≡ record { from = from; bytes = bytes }
     → new.hosts ≡ old.hosts → new.tallies ≡ old.tallies → new.book ≡ old.book → new.injected ≡ old.injected → new.arrived ≡ old.arrived ++ record { log = log; event = n; key = key } ∷ []
-    → Holds old p → Holds new (with_accepted (numbered log n (arrived_from from bytes acts)) p)
+    → Holds old p → Holds new (with_accepted (numbered_arrivals log n (arrived_from from bytes acts)) p)
 arrived_so p old new log n from bytes acts key e is hosts tallies book injects more h =
-    subst (λ b. Holds new (with_accepted (numbered log n (if b then record { from = from; bytes = bytes } ∷ [] else [])) p)) (sym e)
+    subst (λ b. Holds new (with_accepted (numbered_arrivals log n (if b then record { from = from; bytes = bytes } ∷ [] else [])) p)) (sym e)
     (arrival_held p old new (record { log = log; event = n; key = key }) (record { from = from; bytes = bytes }) h is hosts tallies book injects more)
 
 -- a frame more that was sent
@@ -189,7 +189,7 @@ pub event_held : (r : Reckoning) (p : Past) (links : Cables) (log n : ℕ) (node
     → h ≡ node.here → acts ≡ (node_step node e).acts → frame ≡ (node_step node e).frame → Holds r (with_frames links log n h e acts frame (with_acts acts p)) → Holds r (with_entry links log n node (Step e) p)
 unfolding with_entry
 event_held r p links log n node e h acts frame here made taken held =
-    subst (λ q. Holds r q) (λ i. with_accepted (numbered log n (accepts_are links node e i)) (with_sent (sends_are node e i) (with_acts (node_step node e).acts p)))
+    subst (λ q. Holds r q) (λ i. with_accepted (numbered_arrivals log n (accepts_are links node e i)) (with_sent (sends_are node e i) (with_acts (node_step node e).acts p)))
     (subst (λ q. Holds r q) (λ i. with_frames links log n (here i) e (made i) (taken i) (with_acts (made i) p)) held)
 
 reads_none : (node : NodeState) (e : Event) → ((d : Dev) → e ≡ event.Take d → ⊥) → FrameReads (node_step node e).frame

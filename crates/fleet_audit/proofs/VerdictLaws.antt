@@ -20,7 +20,7 @@ use Rattle.serve_model.specs.Runs.{acts_of, node_by}
 use Rattle.world_model.specs.World.{Cables}
 use Rattle.bound_ledger.specs.declared.row.Row.{Row}
 use Rattle.ledger_audit.specs.Crossings.{Crossing, Arrival, Over, first_over, crossings, AtMost}
-use Rattle.ledger_audit.specs.Runs.{accepts, sends, numbered, accepted_in, sent_in, acts_in}
+use Rattle.ledger_audit.specs.Runs.{accepts, sends, numbered_arrivals, accepted_in, sent_in, acts_in}
 use Rattle.ledger_audit.specs.Audits.{Logged, all_accepted, all_sent, misfit, granted, hops, evals, left, queued, on_the_way, row_of, AddsUp}
 use Rattle.ledger_audit.specs.Spelling.{Begins, ReadsAgain}
 use Rattle.ledger_audit.proofs.Multisets.{verdict_only, verdict_always}
@@ -48,7 +48,7 @@ entries_are links log n s (e ∷ es) p =
     entries_are links log (n + 1) (node_by s e) es (with_entry links log (n + 1) s e p)
     ∙ (λ i. past p.hosts
     (append_assoc p.sent (sends s e) (sent_in (node_by s e) es) i)
-    (append_assoc p.accepted (numbered log (n + 1) (accepts links s e)) (accepted_in links log (n + 1) (node_by s e) es) i)
+    (append_assoc p.accepted (numbered_arrivals log (n + 1) (accepts links s e)) (accepted_in links log (n + 1) (node_by s e) es) i)
     (append_assoc p.acts (acts_of s e) (acts_in (node_by s e) es) i))
 
 logs_are : (links : Cables) (k : ℕ) (ls : List Logged) (p : Past)
@@ -212,8 +212,8 @@ next_log links logs i l r less is k = subst (λ ls. IsReckoned links ls r) (logg
 pub all_logs : (links : Cables) (logs : List Log) (i : ℕ) (r : Reckoning) → length logs ≤ i → IsReckoned links (map logged_of (take i logs)) r → IsReckoned links (map logged_of logs) r
 all_logs links logs i r l k = subst (λ ls. IsReckoned links (map logged_of ls) r) (take_all i logs l) k
 
-counted : (logs : List Log) (i : ℕ) → i < length logs → length (map logged_of (take i logs)) + 1 ≡ i + 1
-counted logs i l = omega (arith, length-map (take i logs) logged_of, length-take-le i logs (omega (arith, l)))
+logs_counted : (logs : List Log) (i : ℕ) → i < length logs → length (map logged_of (take i logs)) + 1 ≡ i + 1
+logs_counted logs i l = omega (arith, length-map (take i logs) logged_of, length-take-le i logs (omega (arith, l)))
 
 pub log_number : (logs : List Log) (i n : ℕ) → i < length logs → n ≡ i + 1 → length (map logged_of (take i logs)) + 1 ≡ n
-log_number logs i n l e = counted logs i l ∙ sym e
+log_number logs i n l e = logs_counted logs i l ∙ sym e

@@ -17,7 +17,7 @@ use Rattle.serve_model.specs.Runs.{acts_of, node_by}
 use Rattle.world_model.specs.declared.lines.LinkEnd.{LinkEnd}
 use Rattle.world_model.specs.World.{Cables, far_end}
 use Rattle.ledger_audit.specs.Crossings.{Crossing, Arrival}
-use Rattle.ledger_audit.specs.Runs.{is_accepted, accepts, sends_frame, sends, numbered}
+use Rattle.ledger_audit.specs.Runs.{is_accepted, accepts, sends_frame, sends, numbered_arrivals}
 use Rattle.ledger_audit.specs.Audits.{Logged}
 use Rattle.ledger_audit.specs.Spelling.{FrameReads, Begins, ReadsAgain}
 use Rattle.fleet_audit.specs.declared.reckoning.Arrived.{Arrived}
@@ -69,12 +69,12 @@ taken_by h _ frame = []
 
 -- what an event accepts and sends, by its acts and the frame that it takes
 abbrev pub with_frames : Cables → ℕ → ℕ → Host → Event → List Act → Option PlainStamped → Past → Past
-with_frames links log n h e acts frame p = with_accepted (numbered log n (accepted_by links h e acts)) (with_sent (taken_by h e frame) p)
+with_frames links log n h e acts frame p = with_accepted (numbered_arrivals log n (accepted_by links h e acts)) (with_sent (taken_by h e frame) p)
 
 -- one entry more, with its numbers
 unfoldable pub with_entry : Cables → ℕ → ℕ → NodeState → LogEvent → Past → Past
 with_entry links log n node e p =
-    with_accepted (numbered log n (accepts links node e)) (with_sent (sends node e) (with_acts (acts_of node e) p))
+    with_accepted (numbered_arrivals log n (accepts links node e)) (with_sent (sends node e) (with_acts (acts_of node e) p))
 
 -- the entries of a log behind so many
 abbrev pub with_entries : Cables → ℕ → ℕ → NodeState → List LogEvent → Past → Past

@@ -10,7 +10,7 @@ use Rattle.frag_chunks.specs.declared.holding.Holding.{Holding}
 use Rattle.frag_chunks.specs.declared.holding.Holding.TheVariants as holding
 use Rattle.frag_chunks.specs.declared.holding.Entry.{Entry}
 use Rattle.frag_chunks.specs.Places.{position}
-use Rattle.frag_chunks.specs.Gathers.{Said, is_part, judged, judged_among, judged_all, with_part, holding_after, holding_of, with_holding, after}
+use Rattle.frag_chunks.specs.Gathers.{Said, is_part, judged_part, judged_among, judged_all, with_part, holding_after, holding_of, with_holding, after}
 use Rattle.frag_chunks.proofs.Keys.{key_is}
 
 none_placed : (o : Option ℕ) (i : ℕ) → option_map (λ j. suc j) o ≡ Some i → (j : ℕ) × (o ≡ Some j) × (i ≡ suc j)
@@ -61,7 +61,7 @@ unwritten k h (x ∷ es) e = by (int_eq x.key k) refl (unwritten k h es) e
 
 -- ---- a key that is kept
 
-pub placed_judged : (g : Said) (es : List Entry) (i : ℕ) (e : Entry) → position g.key es ≡ Some i → e ≡ get_or es i e → judged (Some e.holding) g ≡ judged_all g es
+pub placed_judged : (g : Said) (es : List Entry) (i : ℕ) (e : Entry) → position g.key es ≡ Some i → e ≡ get_or es i e → judged_part (Some e.holding) g ≡ judged_all g es
 placed_judged g es i e p s = sym (ap (λ o. judged_among o g es) (placed g.key es i e p ∙ ap (λ x. Some x.holding) (sym s)))
 
 same_place : (es : List Entry) (i : ℕ) (e : Entry) → e ≡ get_or es i e → slice_set es i e ≡ es
@@ -86,28 +86,28 @@ placed_after added.Full g es i e p s = same_place es i e s
 -- ---- a new key
 
 pub full_new : (g : Said) (es : List Entry) → holding_of g.key es ≡ None → 64 ≤ length es → added.Full ≡ judged_all g es
-full_new g es e l = let t : nat_le 64 (length es) ≡ true = grind (arith, nat_tests) in sym (ap (λ o. judged_among o g es) e ∙ ap (λ c. if c then added.Full else judged None g) t)
+full_new g es e l = let t : nat_le 64 (length es) ≡ true = grind (arith, nat_tests) in sym (ap (λ o. judged_among o g es) e ∙ ap (λ c. if c then added.Full else judged_part None g) t)
 
-pub room_new : (g : Said) (es : List Entry) → holding_of g.key es ≡ None → length es < 64 → judged None g ≡ judged_all g es
-room_new g es e l = let t : nat_le 64 (length es) ≡ false = grind (arith, nat_tests) in sym (ap (λ o. judged_among o g es) e ∙ ap (λ c. if c then added.Full else judged None g) t)
+pub room_new : (g : Said) (es : List Entry) → holding_of g.key es ≡ None → length es < 64 → judged_part None g ≡ judged_all g es
+room_new g es e l = let t : nat_le 64 (length es) ≡ false = grind (arith, nat_tests) in sym (ap (λ o. judged_among o g es) e ∙ ap (λ c. if c then added.Full else judged_part None g) t)
 
 pub after_full : (g : Said) (es : List Entry) → es ≡ after added.Full g es
 after_full g es = refl
 
-new_answer : (g : Said) → (judged None g ≡ added.Kept) ⊎ (judged None g ≡ added.Spoiled)
-unfolding judged
+new_answer : (g : Said) → (judged_part None g ≡ added.Kept) ⊎ (judged_part None g ≡ added.Spoiled)
+unfolding judged_part
 new_answer g = by (is_part g.index g.count (length g.piece))
   where
     by : (t : Bool) → ((if t then added.Kept else added.Spoiled) ≡ added.Kept) ⊎ ((if t then added.Kept else added.Spoiled) ≡ added.Spoiled)
     by true = inl refl
     by false = inr refl
 
-pub after_new : (a : Added) (h : Holding) (g : Said) (es : List Entry) → holding_of g.key es ≡ None → a ≡ judged None g → h ≡ holding_after a None g holding.Spoiled
+pub after_new : (a : Added) (h : Holding) (g : Said) (es : List Entry) → holding_of g.key es ≡ None → a ≡ judged_part None g → h ≡ holding_after a None g holding.Spoiled
     → es ++ record { key = g.key; holding = h } ∷ [] ≡ after a g es
 unfolding holding_after
 after_new a h g es e s t = by (new_answer g) s t
   where
-    by : (judged None g ≡ added.Kept) ⊎ (judged None g ≡ added.Spoiled) → a ≡ judged None g → h ≡ holding_after a None g holding.Spoiled → es ++ record { key = g.key; holding = h } ∷ [] ≡ after a g es
+    by : (judged_part None g ≡ added.Kept) ⊎ (judged_part None g ≡ added.Spoiled) → a ≡ judged_part None g → h ≡ holding_after a None g holding.Spoiled → es ++ record { key = g.key; holding = h } ∷ [] ≡ after a g es
     by (inl k) s t =
         let q : a ≡ added.Kept = s ∙ k in
         let p : h ≡ with_part (holding_of g.key es) g = t ∙ ap (λ x. holding_after x None g holding.Spoiled) q ∙ ap (λ o. with_part o g) (sym e) in

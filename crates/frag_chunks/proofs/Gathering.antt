@@ -12,7 +12,7 @@ use Rattle.frag_chunks.specs.declared.holding.Holding.{Holding}
 use Rattle.frag_chunks.specs.declared.holding.Holding.TheVariants as holding
 use Rattle.frag_chunks.specs.declared.holding.Entry.{Entry}
 use Rattle.frag_chunks.specs.Parts.{IsMessage, parts_in, piece_of}
-use Rattle.frag_chunks.specs.Gathers.{Said, said_in, is_part, place_of, judged_piece, judged_in, judged, at_place, with_part, holding_of, with_holding, judged_among, judged_all, after, added_or, added_note, gathered}
+use Rattle.frag_chunks.specs.Gathers.{Said, said_in, is_part, place_of, judged_piece, judged_in, judged_part, at_place, with_part, holding_of, with_holding, judged_among, judged_all, after, added_or, added_note, gathered}
 use Rattle.frag_chunks.specs.Messages.{said_of, IsPartOf, OnlyParts, gives, was_given}
 use Rattle.frag_chunks.proofs.Pieces.{slots_from, slots_length, slots_same, slots_get, slots_set, slots_none, is_right}
 use Rattle.frag_chunks.proofs.Keys.{key_self, key_is, key_not, own_holding, other_holding, no_fewer}
@@ -71,9 +71,9 @@ also_again k b i f t x = by (nat_eq x i) refl
 -- the first note of the key that finds room
 pub first_part : (k : ℤ) (b : List ℕ) (i : ℕ) (es : List Entry) → IsMessage b → i < parts_in (length b) → holding_of k es ≡ None → nat_le 64 (length es) ≡ false
     → holding_of k (after (judged_all (said_of k b i) es) (said_of k b i) es) ≡ Came (also k (said_of k b i) (λ x. false)) b
-unfolding judged with_part
+unfolding judged_part with_part
 first_part k b i es m h e r =
-    let a : judged_all (said_of k b i) es ≡ added.Kept = ap (λ o. judged_among o (said_of k b i) es) e ∙ ap (λ t. if t then added.Full else judged None (said_of k b i)) r ∙ ap (λ t. if t then added.Kept else added.Spoiled) (is_right b i m h) in
+    let a : judged_all (said_of k b i) es ≡ added.Kept = ap (λ o. judged_among o (said_of k b i) es) e ∙ ap (λ t. if t then added.Full else judged_part None (said_of k b i)) r ∙ ap (λ t. if t then added.Kept else added.Spoiled) (is_right b i m h) in
     ap (λ x. holding_of k (after x (said_of k b i) es)) a
     ∙ own_holding k (with_part (holding_of k es) (said_of k b i)) es
     ∙ ap (λ o. Some (with_part o (said_of k b i))) e
@@ -83,7 +83,7 @@ first_part k b i es m h e r =
 -- a note of a key that is kept
 pub next_part : (k : ℤ) (b : List ℕ) (i : ℕ) (f : ℕ → Bool) (es : List Entry) → IsMessage b → i < parts_in (length b) → holding_of k es ≡ Came f b
     → holding_of k (after (judged_all (said_of k b i) es) (said_of k b i) es) ≡ Came (also k (said_of k b i) f) b
-unfolding judged with_part
+unfolding judged_part with_part
 next_part k b i f es m h e = by (f i) refl
   where
     n : ℕ
@@ -159,7 +159,7 @@ all_full port k b (n ∷ ns) es p e l = let s = next (said_in port n) in all_ful
     at g true q =
         let none : holding_of g.key es ≡ None = ap (λ x. holding_of x es) (key_is g.key k q) ∙ e in
         let r : nat_le 64 (length es) ≡ true = grind (arith, nat_tests) in
-        let a : judged_all g es ≡ added.Full = ap (λ o. judged_among o g es) none ∙ ap (λ t. if t then added.Full else judged None g) r in
+        let a : judged_all g es ≡ added.Full = ap (λ o. judged_among o g es) none ∙ ap (λ t. if t then added.Full else judged_part None g) r in
         (ap (λ x. holding_of k (after x g es)) a ∙ e, omega (arith, l, after_no_fewer g es (judged_all g es)))
     at g false q = (other_part k g es (judged_all g es) q ∙ e, omega (arith, l, after_no_fewer g es (judged_all g es)))
 
@@ -190,7 +190,7 @@ notes_end port k b (n ∷ ns) es m p e = next (said_in port n) refl (λ f. notes
     room : (g : Said) → said_in port n ≡ Some g → IsPartOf k b g → int_eq g.key k ≡ true → (t : Bool) → nat_le 64 (length es) ≡ t → Ends port k b (n ∷ ns) (gathered port ns (after (judged_all g es) g es))
     room g o i q true r =
         let none : holding_of g.key es ≡ None = ap (λ x. holding_of x es) (key_is g.key k q) ∙ e in
-        let a : judged_all g es ≡ added.Full = ap (λ o. judged_among o g es) none ∙ ap (λ t. if t then added.Full else judged None g) r in
+        let a : judged_all g es ≡ added.Full = ap (λ o. judged_among o g es) none ∙ ap (λ t. if t then added.Full else judged_part None g) r in
         let l : 64 ≤ length es = grind (arith, nat_tests) in
         let f = all_full port k b ns es p.1 e l in
         subst (λ (x : Added). Ends port k b (n ∷ ns) (gathered port ns (after x g es))) (sym a) (Full f.0 f.1)

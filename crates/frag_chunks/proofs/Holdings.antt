@@ -4,7 +4,7 @@ use Rattle.std.specs.Prelude.{ℤ}
 use Rattle.std.specs.List.{list_all}
 use Rattle.frag_chunks.specs.declared.gather.Held.TheVariants as held
 use Rattle.frag_chunks.specs.declared.holding.Holding.TheVariants as holding
-use Rattle.frag_chunks.specs.Gathers.{filled, joined, held_of}
+use Rattle.frag_chunks.specs.Gathers.{filled, joined_pieces, held_of}
 
 pub filled_few : (xs : List (Option (List ℕ))) → filled xs ≤ length xs
 filled_few [] = omega arith
@@ -21,11 +21,11 @@ is_open [] e = absurd (e refl)
 is_open (None ∷ xs) e = refl
 is_open (Some d ∷ xs) e = is_open xs (λ s. e (ap suc s))
 
-pub all_there : (k : ℤ) (xs : List (Option (List ℕ))) (d : List ℕ) → filled xs ≡ length xs → d ≡ joined xs → held.Whole k d ≡ held_of k (holding.Open xs)
-all_there k xs d e s = ap (held.Whole k) s ∙ sym (ap (λ t. if t then held.Whole k (joined xs) else held.Missing k (filled xs) (length xs)) (is_whole xs e))
+pub all_there : (k : ℤ) (xs : List (Option (List ℕ))) (d : List ℕ) → filled xs ≡ length xs → d ≡ joined_pieces xs → held.Whole k d ≡ held_of k (holding.Open xs)
+all_there k xs d e s = ap (held.Whole k) s ∙ sym (ap (λ t. if t then held.Whole k (joined_pieces xs) else held.Missing k (filled xs) (length xs)) (is_whole xs e))
 
 pub not_all : (k : ℤ) (xs : List (Option (List ℕ))) (n : ℕ) → filled xs ≢ length xs → n ≡ filled xs → held.Missing k n (length xs) ≡ held_of k (holding.Open xs)
-not_all k xs n e s = ap (λ i. held.Missing k i (length xs)) s ∙ sym (ap (λ t. if t then held.Whole k (joined xs) else held.Missing k (filled xs) (length xs)) (is_open xs e))
+not_all k xs n e s = ap (λ i. held.Missing k i (length xs)) s ∙ sym (ap (λ t. if t then held.Whole k (joined_pieces xs) else held.Missing k (filled xs) (length xs)) (is_open xs e))
 
 pub filled_more : (xs : List (Option (List ℕ))) (s : Option (List ℕ)) → filled (xs ++ s ∷ []) ≡ filled xs + (if is_some s then 1 else 0)
 filled_more [] None = refl

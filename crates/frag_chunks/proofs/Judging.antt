@@ -8,7 +8,7 @@ use Rattle.frag_chunks.specs.declared.gather.Added.{Added}
 use Rattle.frag_chunks.specs.declared.gather.Added.TheVariants as added
 use Rattle.frag_chunks.specs.declared.holding.Holding.{Holding}
 use Rattle.frag_chunks.specs.declared.holding.Holding.TheVariants as holding
-use Rattle.frag_chunks.specs.Gathers.{Said, is_part, is_sized, place_of, at_place, judged_piece, judged_in, judged, places, with_part, holding_after}
+use Rattle.frag_chunks.specs.Gathers.{Said, is_part, is_sized, place_of, at_place, judged_piece, judged_in, judged_part, places, with_part, holding_after}
 
 pub piece_new : (slots : List (Option (List ℕ))) (i : ℕ) (d : List ℕ) → slice_get slots i ≡ Some None → added.Kept ≡ judged_piece (at_place (slice_get slots i)) d
 piece_new slots i d e = ap (λ o. judged_piece (at_place o) d) (sym e)
@@ -29,24 +29,24 @@ open_same slots i m d e = let t : nat_eq (length slots) m ≡ true = grind (arit
 pub open_other : (slots : List (Option (List ℕ))) (i m : ℕ) (d : List ℕ) → length slots ≢ m → judged_in (Some (holding.Open slots)) i m d ≡ added.Spoiled
 open_other slots i m d e = let t : nat_eq (length slots) m ≡ false = grind (arith, nat_tests) in ap (λ c. if c then judged_piece (at_place (slice_get slots i)) d else added.Spoiled) t
 
-pub new_part : (g : Said) → is_part g.index g.count (length g.piece) ≡ true → judged None g ≡ added.Kept
-unfolding judged
+pub new_part : (g : Said) → is_part g.index g.count (length g.piece) ≡ true → judged_part None g ≡ added.Kept
+unfolding judged_part
 new_part g e = ap (λ c. if c then added.Kept else added.Spoiled) e
 
-pub no_part : (h : Option Holding) (g : Said) → is_part g.index g.count (length g.piece) ≡ false → judged h g ≡ added.Spoiled
-unfolding judged
+pub no_part : (h : Option Holding) (g : Said) → is_part g.index g.count (length g.piece) ≡ false → judged_part h g ≡ added.Spoiled
+unfolding judged_part
 no_part h g e = ap (λ c. if c then judged_in h (place_of g.index) (place_of g.count) g.piece else added.Spoiled) e
 
-pub spoiled_part : (g : Said) → judged (Some holding.Spoiled) g ≡ added.Spoiled
-unfolding judged
+pub spoiled_part : (g : Said) → judged_part (Some holding.Spoiled) g ≡ added.Spoiled
+unfolding judged_part
 spoiled_part g = by (is_part g.index g.count (length g.piece))
   where
     by : (c : Bool) → (if c then added.Spoiled else added.Spoiled) ≡ added.Spoiled
     by true = refl
     by false = refl
 
-pub open_part : (slots : List (Option (List ℕ))) (g : Said) → is_part g.index g.count (length g.piece) ≡ true → judged (Some (holding.Open slots)) g ≡ judged_in (Some (holding.Open slots)) (place_of g.index) (place_of g.count) g.piece
-unfolding judged
+pub open_part : (slots : List (Option (List ℕ))) (g : Said) → is_part g.index g.count (length g.piece) ≡ true → judged_part (Some (holding.Open slots)) g ≡ judged_in (Some (holding.Open slots)) (place_of g.index) (place_of g.count) g.piece
+unfolding judged_part
 open_part slots g e = ap (λ c. if c then judged_in (Some (holding.Open slots)) (place_of g.index) (place_of g.count) g.piece else added.Spoiled) e
 
 -- ---- a part that is kept
@@ -66,15 +66,15 @@ part_within (pos i) (pos m) n e = by (nat_lt i m) refl (all (nat_le 1 m) (nat_le
 part_within (pos i) (negsuc m) n e = absurd cc
 part_within (negsuc i) m n e = absurd cc
 
-kept_part : (h : Option Holding) (g : Said) → judged h g ≡ added.Kept → (is_part g.index g.count (length g.piece) ≡ true) × (judged_in h (place_of g.index) (place_of g.count) g.piece ≡ added.Kept)
-unfolding judged
+kept_part : (h : Option Holding) (g : Said) → judged_part h g ≡ added.Kept → (is_part g.index g.count (length g.piece) ≡ true) × (judged_in h (place_of g.index) (place_of g.count) g.piece ≡ added.Kept)
+unfolding judged_part
 kept_part h g e = by (is_part g.index g.count (length g.piece)) e
   where
     by : (c : Bool) → (if c then judged_in h (place_of g.index) (place_of g.count) g.piece else added.Spoiled) ≡ added.Kept → (c ≡ true) × (judged_in h (place_of g.index) (place_of g.count) g.piece ≡ added.Kept)
     by true q = (refl, q)
     by false q = absurd cc
 
-pub kept_within : (slots : List (Option (List ℕ))) (g : Said) (i : ℕ) → judged (Some (holding.Open slots)) g ≡ added.Kept → i ≡ place_of g.index → i < length slots
+pub kept_within : (slots : List (Option (List ℕ))) (g : Said) (i : ℕ) → judged_part (Some (holding.Open slots)) g ≡ added.Kept → i ≡ place_of g.index → i < length slots
 kept_within slots g i e s =
     let k = kept_part (Some (holding.Open slots)) g e in
     let w = part_within g.index g.count (length g.piece) k.0 in
@@ -88,10 +88,10 @@ pub kept_put : (slots : List (Option (List ℕ))) (g : Said) (i : ℕ) → i ≡
 unfolding with_part
 kept_put slots g i s = ap (λ j. holding.Open (slice_set slots j (Some g.piece))) s
 
-pub kept_not_spoiled : (h : Holding) (g : Said) → h ≡ holding.Spoiled → judged (Some h) g ≡ added.Kept → h ≡ with_part (Some h) g
-kept_not_spoiled h g s e = let k = sym (ap (λ x. judged (Some x) g) s) ∙ e in let q = spoiled_part g in absurd cc
+pub kept_not_spoiled : (h : Holding) (g : Said) → h ≡ holding.Spoiled → judged_part (Some h) g ≡ added.Kept → h ≡ with_part (Some h) g
+kept_not_spoiled h g s e = let k = sym (ap (λ x. judged_part (Some x) g) s) ∙ e in let q = spoiled_part g in absurd cc
 
-pub new_within : (g : Said) (i m : ℕ) → judged None g ≡ added.Kept → i ≡ place_of g.index → m ≡ place_of g.count → i < m
+pub new_within : (g : Said) (i m : ℕ) → judged_part None g ≡ added.Kept → i ≡ place_of g.index → m ≡ place_of g.count → i < m
 new_within g i m e s t = omega (arith, s, t, part_within g.index g.count (length g.piece) (kept_part None g e).0)
 
 pub new_put : (g : Said) (i m : ℕ) → i ≡ place_of g.index → m ≡ place_of g.count → holding.Open (slice_set (replicate m None) i (Some g.piece)) ≡ with_part None g
@@ -123,5 +123,5 @@ part_few (pos i) (pos m) n e = by (nat_le m 32) refl (all (nat_le 1 m) (nat_le m
 part_few (pos i) (negsuc m) n e = absurd cc
 part_few (negsuc i) m n e = absurd cc
 
-pub few_places : (g : Said) → judged None g ≡ added.Kept → place_of g.count ≤ 32
+pub few_places : (g : Said) → judged_part None g ≡ added.Kept → place_of g.count ≤ 32
 few_places g e = part_few g.index g.count (length g.piece) (kept_part None g e).0

@@ -5,7 +5,7 @@ use Rattle.std.specs.List.{list_all}
 use Rattle.std.proofs.lemmas.List.{length-take, take-append-drop, drop-drop}
 use Rattle.std.proofs.lemmas.Bool.Decides.{nat_tests}
 use Rattle.frag_chunks.specs.Parts.{IsMessage, parts_in, piece_of}
-use Rattle.frag_chunks.specs.Gathers.{is_part, joined, filled}
+use Rattle.frag_chunks.specs.Gathers.{is_part, joined_pieces, filled}
 use Rattle.frag_chunks.specs.Messages.{given_from}
 
 -- n places from index i on, filled where f says so
@@ -65,14 +65,14 @@ slots_open f b i (suc n) x l m e = by (nat_eq x i) refl (λ d. slots_open f b (i
     by false q r = let d : x ≢ i = grind (arith, nat_tests) in and_false (is_some (if f i then Some (piece_of b i) else None)) _ (r d)
 
 -- all data from index i on, where n parts reach the end
-pub slots_joined : (f : ℕ → Bool) (b : List ℕ) (i n : ℕ) → ((x : ℕ) → i ≤ x → x < i + n → f x ≡ true) → length b ≤ 8192 * (i + n) → joined (slots_from f b i n) ≡ drop (8192 * i) b
+pub slots_joined : (f : ℕ → Bool) (b : List ℕ) (i n : ℕ) → ((x : ℕ) → i ≤ x → x < i + n → f x ≡ true) → length b ≤ 8192 * (i + n) → joined_pieces (slots_from f b i n) ≡ drop (8192 * i) b
 slots_joined f b i zero h l = sym (empty (drop (8192 * i) b) (omega (arith, length-drop (8192 * i) b)))
   where
     empty : (xs : List ℕ) → length xs ≡ 0 → xs ≡ []
     empty [] e = refl
     empty (x ∷ xs) e = absurd (omega arith)
 slots_joined f b i (suc n) h l =
-    ap (λ c. joined ((if c then Some (piece_of b i) else None) ∷ slots_from f b (i + 1) n)) (h i (omega arith) (omega arith))
+    ap (λ c. joined_pieces ((if c then Some (piece_of b i) else None) ∷ slots_from f b (i + 1) n)) (h i (omega arith) (omega arith))
     ∙ ap (λ xs. piece_of b i ++ xs) (slots_joined f b (i + 1) n (λ x g m. h x (omega arith) (omega arith)) (omega arith) ∙ next)
     ∙ take-append-drop 8192 (drop (8192 * i) b)
   where

@@ -82,8 +82,8 @@ judged_in (Some holding.Spoiled) i m d = added.Spoiled
 judged_in (Some (holding.Open slots)) i m d = if nat_eq (length slots) m then judged_piece (at_place (slice_get slots i)) d else added.Spoiled
 
 -- any part beside what is kept of its key
-unfoldable pub judged : Option Holding → Said → Added
-judged h g = if is_part g.index g.count (length g.piece) then judged_in h (place_of g.index) (place_of g.count) g.piece else added.Spoiled
+unfoldable pub judged_part : Option Holding → Said → Added
+judged_part h g = if is_part g.index g.count (length g.piece) then judged_in h (place_of g.index) (place_of g.count) g.piece else added.Spoiled
 
 -- the places of a key's parts: for a new key as many as its first note says
 abbrev pub places : Option Holding → ℕ → List (Option (List ℕ))
@@ -118,8 +118,8 @@ pub record Gathering : Type 0 where
 
 -- a part beside all keys: a new one isn't taken where 64 are kept
 abbrev pub judged_among : Option Holding → Said → List Entry → Added
-judged_among None g es = if nat_le 64 (length es) then added.Full else judged None g
-judged_among (Some h) g es = judged (Some h) g
+judged_among None g es = if nat_le 64 (length es) then added.Full else judged_part None g
+judged_among (Some h) g es = judged_part (Some h) g
 
 abbrev pub judged_all : Said → List Entry → Added
 judged_all g es = judged_among (holding_of g.key es) g es
@@ -154,10 +154,10 @@ gathered port (note ∷ notes) es = gathered port notes (added_note port note es
 -- ---- what is held of a key
 
 -- the piece that is there, in order
-abbrev pub joined : List (Option (List ℕ)) → List ℕ
-joined [] = []
-joined (None ∷ xs) = joined xs
-joined (Some d ∷ xs) = d ++ joined xs
+abbrev pub joined_pieces : List (Option (List ℕ)) → List ℕ
+joined_pieces [] = []
+joined_pieces (None ∷ xs) = joined_pieces xs
+joined_pieces (Some d ∷ xs) = d ++ joined_pieces xs
 
 -- how many parts are there
 abbrev pub filled : List (Option (List ℕ)) → ℕ
@@ -167,4 +167,4 @@ filled (Some d ∷ xs) = suc (filled xs)
 
 abbrev pub held_of : ℤ → Holding → Held
 held_of k holding.Spoiled = held.Spoiled k
-held_of k (holding.Open slots) = if list_all is_some slots then held.Whole k (joined slots) else held.Missing k (filled slots) (length slots)
+held_of k (holding.Open slots) = if list_all is_some slots then held.Whole k (joined_pieces slots) else held.Missing k (filled slots) (length slots)

@@ -102,7 +102,7 @@ fn judged_open(slots: &Slots, place: usize, count: usize, piece: &Bytes) -> Adde
 /// A part of a new key.
 #[tactic(auto, using(crate::proofs::Judging::new_part, crate::proofs::Judging::no_part))]
 fn judged_new(given: Given<'_>) -> Added
-    ensures { result ≡ spec.judged None (as_said given.entry) }
+    ensures { result ≡ spec.judged_part None (as_said given.entry) }
 {
     if is_part(given) {
         Added::Kept
@@ -114,7 +114,7 @@ fn judged_new(given: Given<'_>) -> Added
 /// A part beside what is kept of its key.
 #[tactic(auto, using(crate::proofs::Judging::spoiled_part, crate::proofs::Judging::open_part, crate::proofs::Judging::no_part))]
 fn judged(holding: &Holding, given: Given<'_>) -> Added
-    ensures { result ≡ spec.judged (Some holding.now) (as_said given.entry) }
+    ensures { result ≡ spec.judged_part (Some holding.now) (as_said given.entry) }
 {
     if !is_part(given) {
         return Added::Spoiled;
@@ -128,7 +128,7 @@ fn judged(holding: &Holding, given: Given<'_>) -> Added
 /// Puts a part that was judged new into its place.
 #[tactic(auto, using(crate::proofs::Judging::kept_within, crate::proofs::Judging::kept_put, crate::proofs::Judging::kept_not_spoiled, std::proofs::lemmas::List::places))]
 fn put_part(alloc: Global, holding: &mut Holding, given: Given<'_>) -> Result<(), NoMemory>
-    requires { spec.judged (Some holding.old) (as_said given) ≡ Verdict.Kept }
+    requires { spec.judged_part (Some holding.old) (as_said given) ≡ Verdict.Kept }
     ensures ok { OnOk result
         (holding.new ≡ spec.with_part (Some holding.old) (as_said given.entry)) }
     ensures few { FewIn holding.old → FewIn holding.new }
@@ -147,7 +147,8 @@ fn put_part(alloc: Global, holding: &mut Holding, given: Given<'_>) -> Result<()
 /// Adds a part to what is kept of its key.
 #[tactic(auto, unfolding(crate::specs::Gathers::holding_after))]
 pub fn add_to(alloc: Global, holding: &mut Holding, given: Given<'_>) -> Result<Added, NoMemory>
-    ensures answer { IfOk result (λ a. a ≡ spec.judged (Some holding.old) (as_said given.entry)) }
+    ensures answer { IfOk result (λ a.
+        a ≡ spec.judged_part (Some holding.old) (as_said given.entry)) }
     ensures holding { IfOk result
         (λ a. holding.new ≡ spec.holding_after a (Some holding.old) (as_said given.entry) holding.old) }
     ensures few { FewIn holding.old → FewIn holding.new }
@@ -165,7 +166,7 @@ pub fn add_to(alloc: Global, holding: &mut Holding, given: Given<'_>) -> Result<
 /// What is kept of a new key after its first part, which was judged new.
 #[tactic(auto, using(crate::proofs::Judging::new_within, crate::proofs::Judging::new_put))]
 fn first_part(alloc: Global, given: Given<'_>) -> Result<Holding, NoMemory>
-    requires { spec.judged None (as_said given) ≡ Verdict.Kept }
+    requires { spec.judged_part None (as_said given) ≡ Verdict.Kept }
     ensures part { IfOk result (λ h. h ≡ spec.with_part None (as_said given.entry)) }
     ensures few { IfOk result FewIn }
 {
@@ -178,7 +179,7 @@ fn first_part(alloc: Global, given: Given<'_>) -> Result<Holding, NoMemory>
 /// A new key after its first note.
 #[tactic(auto, using(crate::proofs::Judging::after_kept, crate::proofs::Judging::after_other))]
 pub fn begin(alloc: Global, given: Given<'_>) -> Result<(Added, Holding), NoMemory>
-    ensures answer { IfOk result (λ r. r.0 ≡ spec.judged None (as_said given.entry)) }
+    ensures answer { IfOk result (λ r. r.0 ≡ spec.judged_part None (as_said given.entry)) }
     ensures holding { IfOk result
         (λ r. r.1 ≡ spec.holding_after r.0 None (as_said given.entry) Shape.Spoiled) }
     ensures few { IfOk result (λ r. FewIn r.1) }
@@ -205,7 +206,7 @@ fn count_there(slots: &[Option<Bytes>]) -> usize
 
 /// The pieces that are there, in order.
 fn joined(alloc: Global, slots: &[Option<Bytes>]) -> Result<Bytes, NoMemory>
-    ensures { IfOk result (λ bytes. bytes ≡ spec.joined slots.now) }
+    ensures { IfOk result (λ bytes. bytes ≡ spec.joined_pieces slots.now) }
 {
     let mut all = Bytes::new(alloc);
     for slot in slots {

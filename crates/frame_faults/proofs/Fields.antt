@@ -16,7 +16,7 @@ use Rattle.packet_frame.specs.declared.kind.Kind.{Kind}
 use Rattle.packet_frame.specs.declared.kind.Form.{Form}
 use Rattle.packet_frame.specs.Bytes.{letters}
 use Rattle.packet_frame.specs.Faults.{of_spelling, of_number}
-use Rattle.packet_frame.specs.Fields.{told, judged, number, magic_at, version_at, kind_of, known_kind, kind_at, bound_at, route_at, count_at, row_host_at, cost_at}
+use Rattle.packet_frame.specs.Fields.{told_fault, judged_field, number, magic_at, version_at, kind_of, known_kind, kind_at, bound_at, route_at, count_at, row_host_at, cost_at}
 use Rattle.packet_frame.specs.Forms.{FrameItem, the_magic, the_version, the_kind, a_host, a_serial, a_bound, a_route, a_carried_chunk, some_rows, rows_behind, a_cost, the_end, either_version, the_form}
 use Rattle.packet_frame.specs.Versions.{either_version_at, form_of, known_form, form_at}
 use Rattle.packet_frame.specs.Frames.{past, nothing_left, frame_step}
@@ -58,12 +58,12 @@ cut_own (BadName at) h = h
 cut_own (BadUtf8 at) h = h
 cut_own (OverLimit l at) h = h
 
-told_own : {A : Type 0} (how : SpellFault → FrameFault) → ((e : SpellFault) → e ≢ NoMemory → HoldsNoMemory (how e)) → (r : Result A SpellFault) → Own r → OwnFrame (told how r)
+told_own : {A : Type 0} (how : SpellFault → FrameFault) → ((e : SpellFault) → e ≢ NoMemory → HoldsNoMemory (how e)) → (r : Result A SpellFault) → Own r → OwnFrame (told_fault how r)
 unfolding Own OwnFrame
 told_own how h (Ok x) o = tt
 told_own how h (Err e) o = h e o
 
-judged_own : {A : Type 0} (b : Bool) (e : FrameFault) (x : A × Scan) → HoldsNoMemory e → OwnFrame (judged b e x)
+judged_own : {A : Type 0} (b : Bool) (e : FrameFault) (x : A × Scan) → HoldsNoMemory e → OwnFrame (judged_field b e x)
 unfolding OwnFrame
 judged_own true e x h = tt
 judged_own false e x h = h

@@ -24,7 +24,7 @@ use Rattle.plan_grammar.specs.Ahead.{Front, Reader, place, behind, next_kind, na
 use Rattle.plan_grammar.specs.Begins.{begins_operand, begins_expr}
 use Rattle.plan_grammar.specs.Types.{past, more, type_to}
 use Rattle.plan_grammar.specs.Joints.{joint_of}
-use Rattle.plan_grammar.specs.Nodes.{joined}
+use Rattle.plan_grammar.specs.Nodes.{joined_nodes}
 use Rattle.plan_grammar.specs.Exprs.{begins_clause, literal_key, literal, literal_from, catch_at, clause_follows, chain_step, chain_from, items_from, arguments_behind, arguments, call, named, chunk, tuple, single, grouped, parens_behind, parens, typed_nil, listing, brackets_behind, brackets, binding, bindings_from, let_form, clause, clauses_from, try_form, raise_typed, raise_plain, raise_form, before_comma, before_close, fold_parts, foldl_form, foldr_form, eval_form, send_parts, remote_form, neighbor_form, key_form, symbol_form, picked, operand_kind, operand, chained, product, addition, before_list, compared, comparison, negation, conjunction, disjunction, condition, before_next, at_level, expr_to}
 use Rattle.plan_grammar.specs.Exprs as read
 use Rattle.grammar_laws.specs.Grammar.{ValAt, NotAt, AndAt, MulAt, PartAt}
@@ -430,7 +430,7 @@ module _ (room : ℕ) (inner : Level → Reader Node)
         go on (Some j) e =
             goes_on (after_read (One (behind f)) (side c room ∷ item.more_of c room ∷ rest) (behind f) (λ _. item.more_of c room ∷ rest) (λ _. rest) (one (behind f)) _
             (works (item.more_of c room ∷ rest) (behind f)) (reads (behind f))
-            (λ b g d. on (joined j left b) g (let l = (joint_stands c f j e).less in let k = (shorter (behind f) g b d).less in omega (arith, l, k, enough))))
+            (λ b g d. on (joined_nodes j left b) g (let l = (joint_stands c f j e).less in let k = (shorter (behind f) g b d).less in omega (arith, l, k, enough))))
         go on None e = goes_on (given (λ _. rest) left f)
 
     chained_works : (rest : List GrammarItem) (f : Front) → Works (item.chain c room ∷ rest) f (λ _. rest) (chained inner room one c f)

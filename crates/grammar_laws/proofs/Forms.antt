@@ -23,7 +23,7 @@ use Rattle.plan_grammar.specs.Ahead.{Front, Reader, place, behind, next_kind, is
 use Rattle.plan_grammar.specs.Begins.{begins_operand, begins_expr}
 use Rattle.plan_grammar.specs.Types.{opens, more, type_to}
 use Rattle.plan_grammar.specs.Joints.{joint_of}
-use Rattle.plan_grammar.specs.Nodes.{trees, leaf, over_one, over_two, over_three, over_four, over_list, joined, consed, bracketed, let_of, try_of}
+use Rattle.plan_grammar.specs.Nodes.{trees, leaf, over_one, over_two, over_three, over_four, over_list, joined_nodes, consed, bracketed, let_of, try_of}
 use Rattle.plan_grammar.specs.Exprs.{literal, literal_from, opens_at, need_open, catch_at, items_from, arguments_behind, arguments, call, named, chunk, tuple, single, grouped, parens_behind, parens, typed_nil, listing, brackets_behind, brackets, binding, bindings_from, let_form, clause, clauses_from, try_form, raise_typed, raise_plain, raise_form, before_comma, before_close, fold_parts, foldl_form, foldr_form, eval_form, send_parts, remote_form, neighbor_form, key_form, symbol_form, picked, operand_kind, operand, before_list, listed, addition, comparison, negation, negated, disjunction, condition, low, before_next, whole}
 use Rattle.grammar_laws.specs.Grammar.{Sym, Word, Called, behind2, behind3}
 use Rattle.grammar_laws.proofs.TokenFacts.{room_open}
@@ -103,7 +103,7 @@ module _ (inner : Level → Reader Node) (room : ℕ) where
   one_side_is f g n a b = rw (a, b) refl
 
   pub two_sides_are : (f g h : Front) (a b : Node) (j : Joint) → listed inner room f ≡ Ok (a, g) → joint_of chains.Comparison (next_kind g) ≡ Some j → listed inner room (behind g) ≡ Ok (b, h)
-      → comparison inner room f ≡ Ok (joined j a b, h)
+      → comparison inner room f ≡ Ok (joined_nodes j a b, h)
   unfolding comparison
   two_sides_are f g h a b j c d e = rw (c, d, e) refl
 

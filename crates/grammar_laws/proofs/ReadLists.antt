@@ -10,10 +10,10 @@ use Rattle.plan_grammar.specs.declared.node.Node.{Node}
 use Rattle.plan_grammar.specs.Ahead.{Front, Reader, behind, next_kind}
 use Rattle.plan_grammar.specs.Types.{more}
 use Rattle.plan_grammar.specs.Joints.{joint_of}
-use Rattle.plan_grammar.specs.Nodes.{joined}
+use Rattle.plan_grammar.specs.Nodes.{joined_nodes}
 use Rattle.plan_grammar.specs.Exprs.{chain_step, chain_from, chained}
 use Rattle.grammar_laws.specs.Grammar.{Sym, Joins}
-use Rattle.grammar_laws.proofs.ReadSteps.{Reads, found, refused, after, weaker, if_symbol}
+use Rattle.grammar_laws.proofs.ReadSteps.{Reads, found_reads, refusal_reads, after, weaker, if_symbol}
 
 -- what stands behind some items that were read
 pub record Added {A : Type 0} (Many : Front → List A → Front → Type 0) (most : ℕ) (done : List A) (f : Front) (all : List A) (g : Front) : Type 0 where
@@ -32,7 +32,7 @@ module _ {A : Type 0} (one : Reader A) (begins : Front → Bool) (sep : Symbol) 
 
   pub more_reads : (most : ℕ) (done : List A) (f : Front) → Reads (Added Many most done f) (more one begins sep limit what most done f)
   unfolding more
-  more_reads zero done f = if_symbol (Added Many 0 done f) sep f _ _ (λ _. refused (Added Many 0 done f) _) (found (Added Many 0 done f) done f (nothing 0 done f))
+  more_reads zero done f = if_symbol (Added Many 0 done f) sep f _ _ (λ _. refusal_reads (Added Many 0 done f) _) (found_reads (Added Many 0 done f) done f (nothing 0 done f))
   more_reads (suc left) done f =
       if_symbol (Added Many (suc left) done f) sep f _ _
       (λ here. after (One (behind f)) (Added Many (suc left) done f) (one (behind f)) _ (reads (behind f))
@@ -43,21 +43,21 @@ module _ {A : Type 0} (one : Reader A) (begins : Front → Bool) (sep : Symbol) 
         many = next f g h x a.rest here first a.many;
         few = (let k = a.few in omega (arith, k));
       })))
-      (found (Added Many (suc left) done f) done f (nothing (suc left) done f))
+      (found_reads (Added Many (suc left) done f) done f (nothing (suc left) done f))
 
 module _ (inner : Level → Reader Node) (room : ℕ) (one : Reader Node) (chain : Chain) (One Many : Front → Node → Front → Type 0)
-    (next : (f g h : Front) (a b : Node) (j : Joint) → Many f a g → Joins chain j g → One (behind g) b h → Many f (joined j a b) h)
+    (next : (f g h : Front) (a b : Node) (j : Joint) → Many f a g → Joins chain j g → One (behind g) b h → Many f (joined_nodes j a b) h)
     (first : (f g : Front) (n : Node) → One f n g → Many f n g)
     (reads : (f : Front) → Reads (One f) (one f)) where
   pub chain_reads : (fuel : ℕ) (f : Front) (left : Node) (g : Front) → Many f left g → Reads (Many f) (chain_from one chain fuel left g)
   unfolding chain_from
-  chain_reads zero f left g m = found (Many f) left g m
+  chain_reads zero f left g m = found_reads (Many f) left g m
   chain_reads (suc fuel) f left g m = go (λ k h p. chain_reads fuel f k h p) (joint_of chain (next_kind g)) refl
     where
       go : ((k : Node) (h : Front) → Many f k h → Reads (Many f) (chain_from one chain fuel k h)) → (o : Option Joint) → joint_of chain (next_kind g) ≡ o
           → Reads (Many f) (chain_step one (chain_from one chain fuel) left g o)
-      go on (Some j) e = after (One (behind g)) (Many f) (one (behind g)) _ (reads (behind g)) (λ b h p. on (joined j left b) h (next f g h left b j m e p))
-      go on None e = found (Many f) left g m
+      go on (Some j) e = after (One (behind g)) (Many f) (one (behind g)) _ (reads (behind g)) (λ b h p. on (joined_nodes j left b) h (next f g h left b j m e p))
+      go on None e = found_reads (Many f) left g m
 
   pub chained_reads : (f : Front) → Reads (Many f) (chained inner room one chain f)
   unfolding chained

@@ -19,13 +19,13 @@ unfoldable pub Reads : {A : Type 0} → (A → Front → Type 0) → Result (A �
 Reads P (Ok x) = P x.0 x.1
 Reads P (Err e) = Unit {0}
 
-pub found : {A : Type 0} (P : A → Front → Type 0) (x : A) (g : Front) → P x g → Reads P (Ok (x, g))
+pub found_reads : {A : Type 0} (P : A → Front → Type 0) (x : A) (g : Front) → P x g → Reads P (Ok (x, g))
 unfolding Reads
-found P x g p = p
+found_reads P x g p = p
 
-pub refused : {A : Type 0} (P : A → Front → Type 0) (e : ParseFault) → Reads P (Err e)
+pub refusal_reads : {A : Type 0} (P : A → Front → Type 0) (e : ParseFault) → Reads P (Err e)
 unfolding Reads
-refused P e = tt
+refusal_reads P e = tt
 
 -- one reading after another
 pub after : {A B : Type 0} (P : A → Front → Type 0) (Q : B → Front → Type 0) (r : Result (A × Front) ParseFault) (h : A × Front → Result (B × Front) ParseFault)
@@ -86,11 +86,11 @@ name_then Q f h k = go (next_kind f) refl
     go _ e = tt
 
 -- a construct that opens takes one of the room
-pub opened : {B : Type 0} (Q : ℕ → B → Front → Type 0) (room : ℕ) (f : Front) (h : Unit {0} × Front → Result (B × Front) ParseFault)
+pub opening_reads : {B : Type 0} (Q : ℕ → B → Front → Type 0) (room : ℕ) (f : Front) (h : Unit {0} × Front → Result (B × Front) ParseFault)
     → ((r : ℕ) → room ≡ suc r → Reads (Q (suc r)) (h (tt, f))) → Reads (Q room) (opens room f >>= h)
 unfolding opens Reads
-opened Q zero f h k = tt
-opened Q (suc r) f h k = rw (room_open r) (k r refl)
+opening_reads Q zero f h k = tt
+opening_reads Q (suc r) f h k = rw (room_open r) (k r refl)
 
 -- a construct that opens at the first token of what follows
 pub opened_at : {B : Type 0} (Q : ℕ → B → Front → Type 0) (begins : Front → Bool) (room : ℕ) (f : Front) (h : Unit {0} × Front → Result (B × Front) ParseFault)
@@ -99,7 +99,7 @@ unfolding opens_at Reads
 opened_at Q begins room f h k = go (Expected wanted.AnExpr (place f)) (begins f)
   where
     go : (d : ParseFault) (b : Bool) → Reads (Q room) ((if b then opens room f else Err d) >>= h)
-    go d true = opened Q room f h k
+    go d true = opening_reads Q room f h k
     go d false = tt
 
 -- a bracket that must open

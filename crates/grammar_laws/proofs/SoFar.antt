@@ -6,7 +6,7 @@ use Rattle.plan_grammar.specs.declared.level.Level.{Level}
 use Rattle.plan_grammar.specs.declared.node.Node.{Node}
 use Rattle.plan_grammar.specs.Ahead.{Front, Reader, behind, next_kind}
 use Rattle.plan_grammar.specs.Joints.{joint_of}
-use Rattle.plan_grammar.specs.Nodes.{joined}
+use Rattle.plan_grammar.specs.Nodes.{joined_nodes}
 use Rattle.plan_grammar.specs.Exprs.{chain_from, chained}
 use Rattle.grammar_laws.proofs.Follows.{Shorter, joint_stands}
 
@@ -22,18 +22,18 @@ module _ (inner : Level → Reader Node) (room : ℕ) (one : Reader Node) (chain
   so_far_first f g n e = record { fuel = length g.tokens; enough = omega arith; goes = rw e refl }
 
   one_step : (fuel : ℕ) (a b : Node) (g h : Front) (j : Joint) → joint_of chain (next_kind g) ≡ Some j → one (behind g) ≡ Ok (b, h)
-      → chain_from one chain (suc fuel) a g ≡ chain_from one chain fuel (joined j a b) h
+      → chain_from one chain (suc fuel) a g ≡ chain_from one chain fuel (joined_nodes j a b) h
   unfolding chain_from
   one_step fuel a b g h j here right = rw (here, right) refl
 
   pub so_far_more : (f g h : Front) (a b : Node) (j : Joint) → SoFar inner room one chain f a g → joint_of chain (next_kind g) ≡ Some j → one (behind g) ≡ Ok (b, h) → Shorter (behind g) h
-      → SoFar inner room one chain f (joined j a b) h
+      → SoFar inner room one chain f (joined_nodes j a b) h
   so_far_more f g h a b j s here right fewer = go s.fuel refl
     where
       stands : Shorter g (behind g)
       stands = joint_stands chain g j here
 
-      go : (k : ℕ) → s.fuel ≡ k → SoFar inner room one chain f (joined j a b) h
+      go : (k : ℕ) → s.fuel ≡ k → SoFar inner room one chain f (joined_nodes j a b) h
       go zero e = let enough = s.enough in let stood = stands.less in absurd (omega (arith, e, enough, stood))
       go (suc k) e =
           let enough = s.enough in let stood = stands.less in let less = fewer.less in

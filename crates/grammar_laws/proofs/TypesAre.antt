@@ -17,7 +17,7 @@ use Rattle.plan_grammar.specs.declared.fault.Wanted.{Wanted}
 use Rattle.plan_grammar.specs.declared.fault.Wanted.TheVariants as wanted
 use Rattle.plan_grammar.specs.Ahead.{Front, Reader, ◌>>=◌, place, behind, kind_in, next_kind, is_symbol_kind, is_symbol, is_key_kind, is_key, need_symbol}
 use Rattle.plan_grammar.specs.Begins.{kind_type, begins_type}
-use Rattle.plan_grammar.specs.Types.{opens, more, is_list_word, after_lists, list_words, behind_lists, lists_of, judged, tuple_type, single_type, group_type, base_type, whole_type, type_to}
+use Rattle.plan_grammar.specs.Types.{opens, more, is_list_word, after_lists, list_words, behind_lists, lists_of, judged_type, tuple_type, single_type, group_type, base_type, whole_type, type_to}
 use Rattle.grammar_laws.specs.Grammar as gram
 use Rattle.grammar_laws.specs.Grammar.{Sym, Word, TypeAt, ListsAt, BaseAt, PartsAt}
 use Rattle.grammar_laws.specs.Follow.{EndsType}
@@ -79,12 +79,12 @@ abbrev pub left_behind : Front → Ty → Result (Ty × Front) ParseFault
 left_behind g t = Ok (t, g)
 
 by_base : (inner : Reader Ty) (room : ℕ) (f first : Front) (base : Ty) → base_type inner room f ≡ Ok (base, first)
-    → whole_type inner room f ≡ (judged (place f) (list_words first) base >>= left_behind (behind_lists first))
+    → whole_type inner room f ≡ (judged_type (place f) (list_words first) base >>= left_behind (behind_lists first))
 unfolding whole_type
 by_base inner room f first base read = rw read refl
 
-judged_is : (at words : ℕ) (base : Ty) → nat_lt 8 (type_depth base + words) ≡ false → judged at words base ≡ Ok (lists_of words base)
-unfolding judged
+judged_is : (at words : ℕ) (base : Ty) → nat_lt 8 (type_depth base + words) ≡ false → judged_type at words base ≡ Ok (lists_of words base)
+unfolding judged_type
 judged_is at words base within = go (nat_lt 8 (type_depth base + words)) within
   where
     go : (b : Bool) → b ≡ false → (if b then Err (TooDeep at) else Ok (lists_of words base)) ≡ Ok (lists_of words base)
@@ -92,10 +92,10 @@ judged_is at words base within = go (nat_lt 8 (type_depth base + words)) within
     go false e = refl
 
 by_words : (at words : ℕ) (base : Ty) (first : Front) (ts : List Token) → after_lists 0 first.tokens ≡ (words, ts) → nat_lt 8 (type_depth base + words) ≡ false
-    → (judged at (list_words first) base >>= left_behind (behind_lists first)) ≡ Ok (lists_of words base, record { tokens = ts; end = first.end })
+    → (judged_type at (list_words first) base >>= left_behind (behind_lists first)) ≡ Ok (lists_of words base, record { tokens = ts; end = first.end })
 unfolding list_words behind_lists
 by_words at words base first ts counted within =
-    let F : ℕ × List Token → Result (Ty × Front) ParseFault = λ p. judged at p.0 base >>= left_behind (record { tokens = p.1; end = first.end }) in
+    let F : ℕ × List Token → Result (Ty × Front) ParseFault = λ p. judged_type at p.0 base >>= left_behind (record { tokens = p.1; end = first.end }) in
     let G : Result Ty ParseFault → Result (Ty × Front) ParseFault = λ r. r >>= left_behind (record { tokens = ts; end = first.end }) in
     ap F counted ∙ ap G (judged_is at words base within)
 

@@ -12,11 +12,11 @@ use Rattle.plan_grammar.specs.declared.fault.ParseFault.TheVariants.{TooDeep}
 use Rattle.plan_grammar.specs.declared.fault.Wanted.TheVariants as wanted
 use Rattle.plan_grammar.specs.Ahead.{Front, Reader, ◌>>=◌, place, behind, next_kind}
 use Rattle.plan_grammar.specs.Begins.{kind_type, begins_type}
-use Rattle.plan_grammar.specs.Types.{more, named, is_list_word, after_lists, list_words, behind_lists, lists_of, judged, tuple_type, single_type, group_type, base_type, whole_type, type_to}
+use Rattle.plan_grammar.specs.Types.{more, named, is_list_word, after_lists, list_words, behind_lists, lists_of, judged_type, tuple_type, single_type, group_type, base_type, whole_type, type_to}
 use Rattle.grammar_laws.specs.Grammar as gram
 use Rattle.grammar_laws.specs.Grammar.{Sym, Word, TypeAt, ListsAt, BaseAt, PartsAt}
 use Rattle.grammar_laws.proofs.TokenFacts.{key_stands, star_is_no_bracket}
-use Rattle.grammar_laws.proofs.ReadSteps.{Reads, found, refused, after, if_symbol, symbol_then, opened}
+use Rattle.grammar_laws.proofs.ReadSteps.{Reads, found_reads, refusal_reads, after, if_symbol, symbol_then, opening_reads}
 use Rattle.grammar_laws.proofs.ReadLists.{Added, more_reads}
 
 -- the depth of lists of lists
@@ -67,7 +67,7 @@ module _ (room : ℕ) (inner : Reader Ty) (inside : (r : ℕ) → room ≡ suc r
   tuple_reads r e f g first here one star =
       after (Added (PartsAt r) 7 (first ∷ []) g) (BaseAt (suc r) f) (more inner begins_type symbols.Star limits.Parts wanted.AType 7 (first ∷ []) g) _ (parts_reads r e first g)
       (λ all h a. symbol_then (BaseAt (suc r) f) symbols.ParenClose h _
-      (λ shut. found (BaseAt (suc r) f) (ty.Tuple all) (behind h) (closed a.rest all h a.is a.many a.few shut)))
+      (λ shut. found_reads (BaseAt (suc r) f) (ty.Tuple all) (behind h) (closed a.rest all h a.is a.many a.few shut)))
     where
       closed : (rest all : List Ty) (h : Front) → all ≡ first ∷ rest → PartsAt r g rest h → length rest ≤ 7 → Sym symbols.ParenClose h → BaseAt (suc r) f (ty.Tuple all) (behind h)
       closed [] all h is many few shut = absurd (star_is_no_bracket star (subst (λ k. Sym symbols.ParenClose k) (no_parts many) shut))
@@ -77,25 +77,25 @@ module _ (room : ℕ) (inner : Reader Ty) (inside : (r : ℕ) → room ≡ suc r
       → Reads (BaseAt (suc r) f) (single_type inner room first g)
   unfolding single_type
   single_reads r f g first here one =
-      symbol_then (BaseAt (suc r) f) symbols.ParenClose g _ (λ shut. found (BaseAt (suc r) f) first (behind g) (gram.type_in_brackets here one shut))
+      symbol_then (BaseAt (suc r) f) symbols.ParenClose g _ (λ shut. found_reads (BaseAt (suc r) f) first (behind g) (gram.type_in_brackets here one shut))
 
   group_reads : (f : Front) → Sym symbols.ParenOpen f → Reads (BaseAt room f) (group_type inner room f)
   unfolding group_type
-  group_reads f here = opened (λ s. BaseAt s f) room f _
+  group_reads f here = opening_reads (λ s. BaseAt s f) room f _
       (λ r e. after (TypeAt r (behind f)) (BaseAt (suc r) f) (inner (behind f)) _ (inside r e (behind f))
       (λ first g one. if_symbol (BaseAt (suc r) f) symbols.Star g _ _ (tuple_reads r e f g first here one) (single_reads r f g first here one)))
 
   named_reads : (f : Front) (o : Option Ty) → kind_type (next_kind f) ≡ o → Reads (BaseAt room f) (named f o)
-  named_reads f (Some t) e = found (BaseAt room f) t (behind f) (gram.named_type e)
-  named_reads f None e = refused (BaseAt room f) _
+  named_reads f (Some t) e = found_reads (BaseAt room f) t (behind f) (gram.named_type e)
+  named_reads f None e = refusal_reads (BaseAt room f) _
 
   base_reads : (f : Front) → Reads (BaseAt room f) (base_type inner room f)
   unfolding base_type
   base_reads f = if_symbol (BaseAt room f) symbols.ParenOpen f _ _ (group_reads f) (named_reads f (kind_type (next_kind f)) refl)
 
   judged_reads : (f g : Front) (base : Ty) → BaseAt room f base g
-      → Reads (TypeAt room f) (judged (place f) (list_words g) base >>= λ t. Ok (t, behind_lists g))
-  unfolding judged list_words behind_lists Reads
+      → Reads (TypeAt room f) (judged_type (place f) (list_words g) base >>= λ t. Ok (t, behind_lists g))
+  unfolding judged_type list_words behind_lists Reads
   judged_reads f g base d = go (nat_lt 8 (type_depth base + (after_lists 0 g.tokens).0)) refl
     where
       go : (b : Bool) → nat_lt 8 (type_depth base + (after_lists 0 g.tokens).0) ≡ b

@@ -13,7 +13,7 @@ use Rattle.plan_grammar.specs.declared.fault.ParseFault.TheVariants.{TooDeep}
 use Rattle.plan_grammar.specs.declared.fault.Wanted.TheVariants as wanted
 use Rattle.plan_grammar.specs.Ahead.{Front, Reader, ◌>>=◌, place, behind, next_kind, is_key, is_symbol}
 use Rattle.plan_grammar.specs.Begins.{kind_type, begins_type}
-use Rattle.plan_grammar.specs.Types.{more, named, is_list_word, after_lists, list_words, behind_lists, lists_of, judged, tuple_type, single_type, group_type, base_type, whole_type, type_to}
+use Rattle.plan_grammar.specs.Types.{more, named, is_list_word, after_lists, list_words, behind_lists, lists_of, judged_type, tuple_type, single_type, group_type, base_type, whole_type, type_to}
 use Rattle.grammar_laws.specs.Agenda.{GrammarItem, a_type, lists, first_type, behind_first, next_type, behind_next, sym, GrammarStep, enter, hand, type_step, step}
 use Rattle.grammar_laws.proofs.TypesRead.{depth_of_lists}
 use Rattle.grammar_laws.proofs.TypesAre.{left_behind}
@@ -31,13 +31,13 @@ module _ (start end : ℕ) (base : Ty) (more : List GrammarItem) where
   Handed t = hand (type_depth t) more
 
   abbrev Ends : ℕ × List Token → Result (Ty × Front) ParseFault
-  Ends p = judged start p.0 base >>= left_behind (record { tokens = p.1; end = end })
+  Ends p = judged_type start p.0 base >>= left_behind (record { tokens = p.1; end = end })
 
   abbrev Judge : ℕ → List Token → GrammarStep
   Judge n ts = if nat_lt 8 (type_depth base + n) then Err (TooDeep start) else Ok (hand (type_depth base + n) more, record { tokens = ts; end = end })
 
   ended : (n : ℕ) (ts : List Token) → Follows (Judge n ts) Handed (Ends (n, ts))
-  unfolding judged
+  unfolding judged_type
   ended n ts = go (nat_lt 8 (type_depth base + n))
     where
       handed : Works (hand (type_depth base + n) more) (record { tokens = ts; end = end }) Handed (Ok (lists_of n base, record { tokens = ts; end = end }))
@@ -131,7 +131,7 @@ module _ (room : ℕ) (inner : Reader Ty)
       (both (is_symbol symbols.ParenOpen f) _ _ (Based (place f) rest) _ _ (group_works rest f) (named_works rest f (kind_type (next_kind f))))
 
   tail_works : (rest : List GrammarItem) (start : ℕ) (base : Ty) (g : Front)
-      → Works (lists start (type_depth base) ∷ rest) g (λ t. hand (type_depth t) rest) (judged start (list_words g) base >>= left_behind (behind_lists g))
+      → Works (lists start (type_depth base) ∷ rest) g (λ t. hand (type_depth t) rest) (judged_type start (list_words g) base >>= left_behind (behind_lists g))
   unfolding list_words behind_lists
   tail_works rest start base g =
       subst (λ d. Works (lists start d ∷ rest) g (λ t. hand (type_depth t) rest) (Ends start g.end base rest (after_lists 0 g.tokens)))

@@ -22,7 +22,7 @@ use Rattle.plan_grammar.specs.declared.node.Caught.{Caught}
 use Rattle.plan_grammar.specs.Ahead.{Front, place, behind, next_kind}
 use Rattle.plan_grammar.specs.Begins.{kind_type}
 use Rattle.plan_grammar.specs.Joints.{joint_of}
-use Rattle.plan_grammar.specs.Nodes.{trees, leaf, over_one, over_two, over_three, over_four, over_list, joined, consed, bracketed, let_of, try_of}
+use Rattle.plan_grammar.specs.Nodes.{trees, leaf, over_one, over_two, over_three, over_four, over_list, joined_nodes, consed, bracketed, let_of, try_of}
 use Rattle.plan_grammar.specs.Exprs.{literal}
 
 -- a symbol, a reserved word, a name or a joint stands next
@@ -87,13 +87,13 @@ mutual
   pub data OrAt : ℕ → Front → Node → Front → Type 0 where
     one_and : {r : ℕ} {f g : Front} {n : Node} → AndAt r f n g → OrAt r f n g
     more_or : {r : ℕ} {f g h : Front} {a b : Node} {j : Joint}
-        → OrAt r f a g → Joins chains.Or j g → AndAt r (behind g) b h → OrAt r f (joined j a b) h
+        → OrAt r f a g → Joins chains.Or j g → AndAt r (behind g) b h → OrAt r f (joined_nodes j a b) h
 
   -- and := not { and not }
   pub data AndAt : ℕ → Front → Node → Front → Type 0 where
     one_not : {r : ℕ} {f g : Front} {n : Node} → NotAt r f n g → AndAt r f n g
     more_and : {r : ℕ} {f g h : Front} {a b : Node} {j : Joint}
-        → AndAt r f a g → Joins chains.And j g → NotAt r (behind g) b h → AndAt r f (joined j a b) h
+        → AndAt r f a g → Joins chains.And j g → NotAt r (behind g) b h → AndAt r f (joined_nodes j a b) h
 
   -- not := not not | cmp
   pub data NotAt : ℕ → Front → Node → Front → Type 0 where
@@ -105,7 +105,7 @@ mutual
   pub data CmpAt : ℕ → Front → Node → Front → Type 0 where
     one_side : {r : ℕ} {f g : Front} {n : Node} → ConsAt r f n g → CmpAt r f n g
     two_sides : {r : ℕ} {f g h : Front} {a b : Node} {j : Joint}
-        → ConsAt r f a g → Joins chains.Comparison j g → ConsAt r (behind g) b h → CmpAt r f (joined j a b) h
+        → ConsAt r f a g → Joins chains.Comparison j g → ConsAt r (behind g) b h → CmpAt r f (joined_nodes j a b) h
 
   -- cons := add [ :: cons ]
   pub data ConsAt : ℕ → Front → Node → Front → Type 0 where
@@ -117,13 +117,13 @@ mutual
   pub data AddAt : ℕ → Front → Node → Front → Type 0 where
     one_term : {r : ℕ} {f g : Front} {n : Node} → MulAt r f n g → AddAt r f n g
     more_terms : {r : ℕ} {f g h : Front} {a b : Node} {j : Joint}
-        → AddAt r f a g → Joins chains.Sum j g → MulAt r (behind g) b h → AddAt r f (joined j a b) h
+        → AddAt r f a g → Joins chains.Sum j g → MulAt r (behind g) b h → AddAt r f (joined_nodes j a b) h
 
   -- mul := part { (* / mod) part }
   pub data MulAt : ℕ → Front → Node → Front → Type 0 where
     one_factor : {r : ℕ} {f g : Front} {n : Node} → PartAt r f n g → MulAt r f n g
     more_factors : {r : ℕ} {f g h : Front} {a b : Node} {j : Joint}
-        → MulAt r f a g → Joins chains.Product j g → PartAt r (behind g) b h → MulAt r f (joined j a b) h
+        → MulAt r f a g → Joins chains.Product j g → PartAt r (behind g) b h → MulAt r f (joined_nodes j a b) h
 
   -- part := #N part | atom
   pub data PartAt : ℕ → Front → Node → Front → Type 0 where

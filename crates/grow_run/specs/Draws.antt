@@ -8,8 +8,8 @@ use Rattle.grow_run.specs.declared.choice.Choice.{Choice}
 use Rattle.grow_run.specs.declared.choice.Choice.TheVariants.{Inject, Send, Deliver, Lose, Tick}
 
 -- the generator of a seed
-abbrev pub begun : ℕ → Lcg
-begun seed = started 64 multiplier_64 seed (increment_of 64 1)
+abbrev pub seeded_generator : ℕ → Lcg
+seeded_generator seed = started 64 multiplier_64 seed (increment_of 64 1)
 
 -- the next word modulo k, and the generator after it
 abbrev pub draw : ℕ → Lcg → ℕ × Lcg

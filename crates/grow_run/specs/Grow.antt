@@ -12,7 +12,7 @@ use Rattle.network_plan.specs.declared.event.WorldEvent.{WorldEvent}
 use Rattle.network_plan.specs.declared.event.WorldEvent.TheVariants as event
 use Rattle.grow_run.specs.declared.choice.Choice.{Choice}
 use Rattle.grow_run.specs.declared.choice.Choice.TheVariants as choice
-use Rattle.grow_run.specs.Draws.{begun, choose}
+use Rattle.grow_run.specs.Draws.{seeded_generator, choose}
 use Rattle.wire_numbers.specs.Numbers.{lowest, highest}
 use Rattle.world_model.specs.World.{WorldState, happens, opening}
 
@@ -55,4 +55,4 @@ grown ping (suc n) g w = (next_event ping g w).0 ∷ grown ping n (next_event pi
 
 -- the n events that a seed gives
 abbrev pub Grow : (Host → Host → Chunk) → ℕ → ℕ → List WorldEvent
-Grow ping seed n = grown ping n (begun seed) (opening ring)
+Grow ping seed n = grown ping n (seeded_generator seed) (opening ring)

@@ -8,7 +8,7 @@ use rand_pcg::Lcg64Xsh32;
 
 /// The generator of a seed, on stream 1.
 pub fn begin(seed: u64) -> Lcg64Xsh32
-    ensures { result ≡ spec.begun seed }
+    ensures { result ≡ spec.seeded_generator seed }
 {
     Lcg64Xsh32::new(seed, 1)
 }

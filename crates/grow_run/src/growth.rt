@@ -1,6 +1,6 @@
 ghost use Rattle.std.specs.Prelude.{◌≡◌, ◌≤◌, ◌<◌, ◌+◌, ◌-◌, ◌^◌, ◌++◌, [], ℕ, List, map, IfOk, OnOk};
 ghost use Rattle.plan_base.specs.declared.ids.Family.{Family};
-ghost use Rattle.grow_run.specs.Draws.{begun};
+ghost use Rattle.grow_run.specs.Draws.{seeded_generator};
 ghost use Rattle.world_model.specs.declared.lines.Entry.{Entry};
 ghost use Rattle.world_model.specs.World.{WorldState, happens, entries, opening, opening_services};
 ghost use Rattle.world_model.specs.Counts.{Balanced};
@@ -41,7 +41,8 @@ impl<S: Services + Drop> Growth<S> {
     pub fn begin(alloc: Global, seed: u64, services: Items<S>) -> Result<Growth<S>, NoMemory>
         requires services { map S.stands services ≡ map opening_services grow.ring.hosts }
         ensures world { IfOk result (λ g. WorldStands S.stands g.world (opening grow.ring)) }
-        ensures fresh { IfOk result (λ g. (g.words ≡ begun seed) × (g.summary ≡ summary_of [])) }
+        ensures fresh { IfOk result (λ g.
+            (g.words ≡ seeded_generator seed) × (g.summary ≡ summary_of [])) }
         ensures ledger { IfOk result (λ g. Stands [] g.ledger) }
     {
         let topology = ring(alloc)?;

@@ -23,7 +23,7 @@ use Rattle.node_laws.proofs.CountLaws.{act_sum-append}
 use Rattle.serve_model.specs.Runs.{acts_of, node_by, node_after}
 use Rattle.world_model.specs.World.{Cables}
 use Rattle.ledger_audit.specs.Crossings.{Crossing, Arrival, crossings, AtMost}
-use Rattle.ledger_audit.specs.Runs.{is_accepted, accepts, sends_frame, sends, numbered, accepted_in, sent_in, acts_in, crossing_to, crossing_from}
+use Rattle.ledger_audit.specs.Runs.{is_accepted, accepts, sends_frame, sends, numbered_arrivals, accepted_in, sent_in, acts_in, crossing_to, crossing_from}
 use Rattle.ledger_audit.specs.Audits.{Logged, all_accepted, all_sent, read_live, crossing_live, granted, hops, evals, left, queued, AddsUp}
 use Rattle.ledger_audit.specs.Spelling.{Begins, FrameReads, BytesCome, EntryReads, EntriesRead, ReadsAgain}
 use Rattle.ledger_audit.proofs.Multisets.{parted_sum}
@@ -77,9 +77,9 @@ entry_balances f links node Lost r = record { law = omega arith }
 entry_balances f links node (Step e) r =
     record { law = omega (arith, (step_balances f node e).law, accepts_came f links node e r.0, sends_taken f node e r.1) }
 
-numbered_live : (f : Family) (k n : ℕ) (cs : List Crossing) → Live f (crossings (numbered k n cs)) ≡ Live f cs
+numbered_live : (f : Family) (k n : ℕ) (cs : List Crossing) → Live f (crossings (numbered_arrivals k n cs)) ≡ Live f cs
 numbered_live f k n [] = refl
-numbered_live f k n (c ∷ cs) = omega (arith, sum_by-cons (crossing_live f) c (crossings (numbered k n cs)), sum_by-cons (crossing_live f) c cs, numbered_live f k n cs)
+numbered_live f k n (c ∷ cs) = omega (arith, sum_by-cons (crossing_live f) c (crossings (numbered_arrivals k n cs)), sum_by-cons (crossing_live f) c cs, numbered_live f k n cs)
 
 crossings-append : (xs ys : List Arrival) → crossings (xs ++ ys) ≡ crossings xs ++ crossings ys
 crossings-append [] ys = refl
@@ -114,8 +114,8 @@ log_balances f links k n node (e ∷ es) r =
         let h = act_sum-append (act_hops f) (acts_of node e) (acts_in (node_by node e) es) in
         let v = act_sum-append (act_evals f) (acts_of node e) (acts_in (node_by node e) es) in
         let l = act_sum-append (act_left f) (acts_of node e) (acts_in (node_by node e) es) in
-        let c = ap (Live f) (crossings-append (numbered k (n + 1) (accepts links node e)) (accepted_in links k (n + 1) (node_by node e) es)) in
-        let d = live-append f (crossings (numbered k (n + 1) (accepts links node e))) (crossings (accepted_in links k (n + 1) (node_by node e) es)) in
+        let c = ap (Live f) (crossings-append (numbered_arrivals k (n + 1) (accepts links node e)) (accepted_in links k (n + 1) (node_by node e) es)) in
+        let d = live-append f (crossings (numbered_arrivals k (n + 1) (accepts links node e))) (crossings (accepted_in links k (n + 1) (node_by node e) es)) in
         let m = numbered_live f k (n + 1) (accepts links node e) in
         let s = live-append f (sends node e) (sent_in (node_by node e) es) in
         omega (arith, one, rest, g, h, v, l, c, d, m, s)

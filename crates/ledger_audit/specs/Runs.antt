@@ -52,14 +52,14 @@ sends node (Step (event.Take d)) = sends_frame node.here d (node_step node (even
 sends node _ = []
 
 -- the arrivals of one entry, with its numbers
-abbrev pub numbered : ℕ → ℕ → List Crossing → List Arrival
-numbered log n [] = []
-numbered log n (c ∷ cs) = record { log = log; event = n; crossing = c } ∷ numbered log n cs
+abbrev pub numbered_arrivals : ℕ → ℕ → List Crossing → List Arrival
+numbered_arrivals log n [] = []
+numbered_arrivals log n (c ∷ cs) = record { log = log; event = n; crossing = c } ∷ numbered_arrivals log n cs
 
 -- all that the entries of a log accept, after so many
 abbrev pub accepted_in : Cables → ℕ → ℕ → NodeState → List LogEvent → List Arrival
 accepted_in links log n node [] = []
-accepted_in links log n node (e ∷ es) = numbered log (n + 1) (accepts links node e) ++ accepted_in links log (n + 1) (node_by node e) es
+accepted_in links log n node (e ∷ es) = numbered_arrivals log (n + 1) (accepts links node e) ++ accepted_in links log (n + 1) (node_by node e) es
 
 -- all that they send
 abbrev pub sent_in : NodeState → List LogEvent → List Crossing

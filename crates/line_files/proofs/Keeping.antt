@@ -25,7 +25,7 @@ use Rattle.line_files.specs.Headers.{versioned}
 use Rattle.line_files.specs.Reads.{◌>>=◌, and_then, word_at, allowed}
 use Rattle.line_files.specs.Files.{Format, at_line, read_on}
 use Rattle.line_files.specs.Numbers.{spelled, within, number_in, number_at}
-use Rattle.line_files.specs.HexWords.{hex_of, sized, hex_at}
+use Rattle.line_files.specs.HexWords.{hex_of, within_size, hex_at}
 use Rattle.line_files.specs.FileNames.{file_name_at}
 use Rattle.line_files.specs.Packages.{package_of, same_package, package_at, one_package, packages_at}
 use Rattle.line_files.specs.HostLists.{is_above, host_more, hosts_from, hosts_with}
@@ -101,7 +101,7 @@ some_bytes : (t : Bool) (xs ys : List ℕ) → cond t (Some xs) None ≡ Some ys
 some_bytes true xs ys e = (refl, same_Some xs ys e)
 some_bytes false xs ys e = absurd cc
 
-sized_is : (low high : ℕ) (word : List ℕ) (r : Result (List ℕ) FromHexError) (bytes : List ℕ) → decode_of word ≡ r → sized low high (hex_of r) ≡ Some bytes → AreSized low high bytes
+sized_is : (low high : ℕ) (word : List ℕ) (r : Result (List ℕ) FromHexError) (bytes : List ℕ) → decode_of word ≡ r → within_size low high (hex_of r) ≡ Some bytes → AreSized low high bytes
 sized_is low high word (Err e) bytes d h = absurd cc
 sized_is low high word (Ok xs) bytes d h =
     let g = some_bytes (leb low (length xs) && leb (length xs) high) xs bytes h in
@@ -112,8 +112,8 @@ pub hex_is : (low high : ℕ) (ws : List (List ℕ)) → IfRead (λ x. AreSized 
 unfolding hex_at
 hex_is low high ws =
     then_keeps (λ x. AreSized low high x.0) (word_at ws) _ (λ w hw.
-    then_keeps (λ x. AreSized low high x.0) (ok_or (sized low high (hex_of (decode_of w.0))) BadArgument) _ (λ bytes hb.
-    done_keeps (λ x. AreSized low high x.0) (bytes, w.1) (sized_is low high w.0 (decode_of w.0) bytes refl (ok_or_is (sized low high (hex_of (decode_of w.0))) BadArgument bytes hb))))
+    then_keeps (λ x. AreSized low high x.0) (ok_or (within_size low high (hex_of (decode_of w.0))) BadArgument) _ (λ bytes hb.
+    done_keeps (λ x. AreSized low high x.0) (bytes, w.1) (sized_is low high w.0 (decode_of w.0) bytes refl (ok_or_is (within_size low high (hex_of (decode_of w.0))) BadArgument bytes hb))))
 
 -- ---- file names
 

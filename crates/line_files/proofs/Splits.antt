@@ -5,7 +5,7 @@ use Rattle.std.proofs.lemmas.Bool.{eqb-true, ltb-false}
 use Rattle.std.proofs.lemmas.List.Sums.{prefix_len-le-length}
 use Rattle.std.proofs.lemmas.List.{take_all, drop_all}
 use Rattle.line_files.specs.declared.fault.LineReason.TheVariants.{BadWord}
-use Rattle.line_files.specs.Lines.{begin_with, lines, words, left, behind}
+use Rattle.line_files.specs.Lines.{begin_with, lines, words, words_left, behind}
 use Rattle.line_files.specs.Reads.{word_at, rest_at, end_at, has_word, allowed}
 
 abbrev is_byte : ℕ → ℕ → Bool
@@ -116,11 +116,11 @@ rest_all xs = let w = a_word xs in rw (w.is) (ap (λ (x : List ℕ). Ok x) w.joi
 pub not_ended : (xs : List ℕ) → end_at (words xs) ≡ Err BadWord
 not_ended xs = let w = a_word xs in rw (w.is) refl
 
-pub goes_on_is : (more : Bool) (xs : List ℕ) → more ≡ has_word (left more xs)
+pub goes_on_is : (more : Bool) (xs : List ℕ) → more ≡ has_word (words_left more xs)
 goes_on_is true xs = let w = a_word xs in rw (w.is) refl
 goes_on_is false xs = refl
 
-pub ended_is : (more : Bool) (xs : List ℕ) → allowed (not more) BadWord ≡ end_at (left more xs)
+pub ended_is : (more : Bool) (xs : List ℕ) → allowed (not more) BadWord ≡ end_at (words_left more xs)
 ended_is true xs = sym (not_ended xs)
 ended_is false xs = refl
 

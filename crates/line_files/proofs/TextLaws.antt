@@ -13,7 +13,7 @@ use Rattle.plan_lexer.specs.declared.fault.LexFault.{LexFault}
 use Rattle.plan_lexer.specs.declared.token.Token.{Token}
 use Rattle.plan_lexer.specs.Scanning.{IsAnswered}
 use Rattle.plan_lexer.specs.TokenRules.{AreTokens}
-use Rattle.plan_lexer.proofs.LawLemmas.{answered}
+use Rattle.plan_lexer.proofs.LawLemmas.{tokens_or_refusal}
 use Rattle.plan_lexer.proofs.RuleLemmas.{tokens_rules}
 use Rattle.plan_grammar.specs.declared.fault.ParseFault.{ParseFault}
 use Rattle.plan_parser.specs.Programs as parsed
@@ -36,7 +36,7 @@ tokens_are : (ts us : List Token) → scanned ts ≡ scanned us → ts ≡ us
 tokens_are ts us e = cc
 
 tokens_kept : (text : List ℕ) (ts : List Token) → length text ≤ 65536 → tokens_of text ≡ Ok ts → AreTokens 0 (length text) ts
-tokens_kept text ts small e = by (answered 0 text)
+tokens_kept text ts small e = by (tokens_or_refusal 0 text)
   where
     by : IsAnswered 0 text → AreTokens 0 (length text) ts
     by (inl (us, h)) = subst (λ z. AreTokens 0 (length text) z) (tokens_are us ts (sym (has_tokens text us h) ∙ e)) (tokens_rules text us small h)

@@ -12,13 +12,13 @@ hex_of (Ok bytes) = Some bytes
 hex_of (Err e) = None
 
 -- bytes of which there are from one number to another
-abbrev pub sized : ℕ → ℕ → Option (List ℕ) → Option (List ℕ)
-sized low high None = None
-sized low high (Some bytes) = if nat_le low (length bytes) && nat_le (length bytes) high then Some bytes else None
+abbrev pub within_size : ℕ → ℕ → Option (List ℕ) → Option (List ℕ)
+within_size low high None = None
+within_size low high (Some bytes) = if nat_le low (length bytes) && nat_le (length bytes) high then Some bytes else None
 
 -- the next word as so many bytes in hex digits of either case
 unfoldable pub hex_at : ℕ → ℕ → List (List ℕ) → Part (List ℕ)
 hex_at low high ws = do
   w ← word_at ws
-  bytes ← ok_or (sized low high (hex_of (decode_of w.0))) BadArgument
+  bytes ← ok_or (within_size low high (hex_of (decode_of w.0))) BadArgument
   Ok (bytes, w.1)

@@ -27,6 +27,6 @@ spaced [] = []
 spaced (w ∷ ws) = w ++ behind ws
 
 -- the words that are left where the line goes on with bytes, none where it has ended
-abbrev pub left : Bool → List ℕ → List (List ℕ)
-left true bytes = words bytes
-left false bytes = []
+abbrev pub words_left : Bool → List ℕ → List (List ℕ)
+words_left true bytes = words bytes
+words_left false bytes = []

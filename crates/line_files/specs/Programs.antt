@@ -19,8 +19,8 @@ use Rattle.line_files.specs.declared.programs.OpenProgram.{OpenProgram}
 use Rattle.line_files.specs.Reads.{◌>>=◌, Part, word_at, allowed, rest_at}
 
 -- a program without text, begun at a line
-abbrev pub opened : ℕ → OpenProgram
-opened number = record { line = number; text = [] }
+abbrev pub opened_program : ℕ → OpenProgram
+opened_program number = record { line = number; text = [] }
 
 -- a line more of a program
 abbrev pub with_line : OpenProgram → List ℕ → OpenProgram

@@ -1,7 +1,7 @@
 ghost use Rattle.std.specs.Prelude.{◌≡◌, ◌≤◌, length, IfSome, IfOk};
 ghost use Rattle.hex.specs.Hex.{decode_of};
 ghost use Rattle.line_files.specs.HexWords as spec;
-ghost use Rattle.line_files.specs.HexWords.{hex_of, sized, hex_at};
+ghost use Rattle.line_files.specs.HexWords.{hex_of, within_size, hex_at};
 ghost use Rattle.line_files.specs.Reads.{Finds, GivesWith};
 
 use crate::fault::{LineReason, LineStop};
@@ -23,7 +23,7 @@ pub fn decoded(alloc: Global, word: &[u8]) -> Result<Option<Bytes>, NoMemory>
 
 /// Bytes of which there are from `low` to `high`.
 fn in_size(bytes: Option<Bytes>, low: usize, high: usize) -> Option<Bytes>
-    ensures value { result ≡ sized low high bytes }
+    ensures value { result ≡ within_size low high bytes }
     ensures within { IfSome result (λ b. length b ≤ high) }
 {
     match bytes {

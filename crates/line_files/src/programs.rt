@@ -6,7 +6,7 @@ ghost use Rattle.std.specs.Option.{option_copied};
 ghost use Rattle.plan_base.specs.WellFormed.{well_formed_value, value_has_types};
 ghost use Rattle.program_text.specs.Texts.{program_of};
 ghost use Rattle.line_files.specs.Programs as spec;
-ghost use Rattle.line_files.specs.Programs.{opened, with_line, accepted, program_in, named_word, has_name, entry_at, args_at, chunk_with, call_at, weighed};
+ghost use Rattle.line_files.specs.Programs.{opened_program, with_line, accepted, program_in, named_word, has_name, entry_at, args_at, chunk_with, call_at, weighed};
 ghost use Rattle.line_files.specs.Injections.{injection_at};
 ghost use Rattle.line_files.specs.Reads.{Reads, Gives, Tells};
 
@@ -34,7 +34,7 @@ pub struct OpenProgram {
 impl OpenProgram {
     /// A program without text, begun at a line. Takes no memory.
     pub fn begun(alloc: Global, line: u32) -> OpenProgram
-        ensures { result ≡ opened line }
+        ensures { result ≡ opened_program line }
     {
         OpenProgram {
             line,

@@ -1,7 +1,7 @@
 ghost use Rattle.std.specs.Prelude.{◌≡◌, true, ◌==◌, ◌<◌, ◌≤◌, ◌∷◌, [], length, MatchOption, MatchResult, IfSome};
 ghost use Rattle.std.specs.List.{position, position_or_len};
 ghost use Rattle.std.specs.Str.{bytes_eq};
-ghost use Rattle.line_files.specs.Lines.{lines, left};
+ghost use Rattle.line_files.specs.Lines.{lines, words_left};
 ghost use Rattle.line_files.specs.Files.{is_skipped};
 ghost use Rattle.line_files.specs.Handlers.{comes};
 ghost use Rattle.line_files.specs.Reads.{Reads, word_at, rest_at, end_at, has_word, allowed, fault_at};
@@ -66,17 +66,17 @@ pub struct Words<'a> {
 
 impl<'a> Model for Words<'a> {
     ghost use Rattle.std.specs.Prelude.{List, ℕ};
-    ghost use Rattle.line_files.specs.Lines.{left};
+    ghost use Rattle.line_files.specs.Lines.{words_left};
 
     ghost Value = { List (List ℕ) };
 
-    ghost view = { λ w. left w.more w.rest.now };
+    ghost view = { λ w. words_left w.more w.rest.now };
 }
 
 impl<'a> Words<'a> {
     /// All words of a line.
     pub fn of(line: &'a [u8]) -> Words<'a>
-        ensures { result ≡ left true line.now }
+        ensures { result ≡ words_left true line.now }
     {
         Words {
             rest: line,

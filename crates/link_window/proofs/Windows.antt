@@ -29,9 +29,9 @@ number_judged seen w n s =
       by_cases false e = ap (λ (b : Bool). if b then Repeated else Fresh)
           (ap (λ k. k == turn_of n) (s.turns (n % 1024) (omega arith)) ∙ sym (taken_by_turn n seen.numbers (not_old n _ e)))
 
-pub judged : (seen : Seen) (w : Window) (s : Stamp) → WindowStands seen w → window_took w s ≡ took seen s
+pub window_judges : (seen : Seen) (w : Window) (s : Stamp) → WindowStands seen w → window_took w s ≡ took seen s
 unfolding window_took took
-judged seen w s h =
+window_judges seen w s h =
     ap (λ b. if nat_lt s.boot b then TooOld else if s.boot == b then number_took w s.link else Fresh) h.boot
     ∙ ap (λ t. if nat_lt s.boot seen.boot then TooOld else if s.boot == seen.boot then t else Fresh) (number_judged seen w s.link h)
 

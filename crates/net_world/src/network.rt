@@ -226,7 +226,7 @@ impl<S: Services> Network<S> {
         ensures made { self.new.made ≡ self.old.made + 1 }
         ensures next { self.new.next ≡ self.old.next }
         ensures stands { (w : WorldState) → NetworkStands S.stands self.old w
-            → NetworkStands S.stands self.new (spec.counted w) }
+            → NetworkStands S.stands self.new (spec.counted_event w) }
     {
         self.made += 1;
     }

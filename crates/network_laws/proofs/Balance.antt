@@ -43,8 +43,8 @@ use Rattle.std.specs.Prelude.{All, if◌then◌else◌}
 use Rattle.std.proofs.Common.{sym, subst}
 
 -- what is counted of what is stale
-abbrev pub counted : Bool → ℕ → ℕ
-counted late n = if late then 0 else n
+abbrev pub stale_count : Bool → ℕ → ℕ
+stale_count late n = if late then 0 else n
 
 module _ (f : Family) (late : Bool) where
   -- lines that grant this and count nothing else
@@ -72,16 +72,16 @@ module _ (f : Family) (late : Bool) where
   nothing_balances w = let b = one_line Nothing 0 refl refl refl refl in record { law = omega (arith, b.granted, b.hops, b.evals, b.left) }
 
   -- what acts leave, with what is stale where it counts
-  pub acts_left : (acts : List Act) → act_sum (λ a. act_left f a + counted late (act_stale f a)) acts ≡ act_sum (act_left f) acts + counted late (act_sum (act_stale f) acts)
+  pub acts_left : (acts : List Act) → act_sum (λ a. act_left f a + stale_count late (act_stale f a)) acts ≡ act_sum (act_left f) acts + stale_count late (act_sum (act_stale f) acts)
   acts_left [] = by late
     where
-      by : (b : Bool) → act_sum (λ a. act_left f a + counted b (act_stale f a)) [] ≡ act_sum (act_left f) [] + counted b (act_sum (act_stale f) [])
+      by : (b : Bool) → act_sum (λ a. act_left f a + stale_count b (act_stale f a)) [] ≡ act_sum (act_left f) [] + stale_count b (act_sum (act_stale f) [])
       by true = omega (arith, act_sum-nil (λ a. act_left f a + 0), act_sum-nil (act_left f))
       by false = omega (arith, act_sum-nil (λ a. act_left f a + act_stale f a), act_sum-nil (act_left f), act_sum-nil (act_stale f))
   acts_left (x ∷ xs) = by late (acts_left xs)
     where
-      by : (b : Bool) → act_sum (λ a. act_left f a + counted b (act_stale f a)) xs ≡ act_sum (act_left f) xs + counted b (act_sum (act_stale f) xs)
-          → act_sum (λ a. act_left f a + counted b (act_stale f a)) (x ∷ xs) ≡ act_sum (act_left f) (x ∷ xs) + counted b (act_sum (act_stale f) (x ∷ xs))
+      by : (b : Bool) → act_sum (λ a. act_left f a + stale_count b (act_stale f a)) xs ≡ act_sum (act_left f) xs + stale_count b (act_sum (act_stale f) xs)
+          → act_sum (λ a. act_left f a + stale_count b (act_stale f a)) (x ∷ xs) ≡ act_sum (act_left f) (x ∷ xs) + stale_count b (act_sum (act_stale f) (x ∷ xs))
       by true h = omega (arith, h, act_sum-cons (λ a. act_left f a + 0) x xs, act_sum-cons (act_left f) x xs)
       by false h = omega (arith, h, act_sum-cons (λ a. act_left f a + act_stale f a) x xs, act_sum-cons (act_left f) x xs, act_sum-cons (act_stale f) x xs)
 
@@ -91,7 +91,7 @@ module _ (f : Family) (late : Bool) where
         ≡ given + line_sum (line_hops f) lines + line_sum (line_evals f) lines + line_sum (line_left f late) lines + node_live f new + taken
 
   step_lines : (h : Host) (before : List Line) (given arrived stale taken : ℕ) (node : NodeState) (step : NodeStep) → Begins before given → StepBalances f arrived stale node step → taken_sum (frame_live f) step.frame ≡ taken
-      → LinesBalance (before ++ lines_at h step.acts) given arrived (counted late stale) taken node step.node
+      → LinesBalance (before ++ lines_at h step.acts) given arrived (stale_count late stale) taken node step.node
   step_lines h before given arrived stale taken node step p b e = record {
     law = omega (
       arith,
@@ -100,7 +100,7 @@ module _ (f : Family) (late : Bool) where
       p.evals,
       p.left,
       b.law,
-      ap (counted late) b.stale,
+      ap (stale_count late) b.stale,
       e,
       acts_left step.acts,
       line_sum-append (line_granted f) before (lines_at h step.acts),
@@ -123,7 +123,7 @@ module _ (f : Family) (late : Bool) where
     arrived : NodeState → ℕ
     stale : NodeState → ℕ
     begins : (node : NodeState) → Begins (before node) (given node)
-    is : (node : NodeState) → given node ≡ arrived node + counted late (stale node)
+    is : (node : NodeState) → given node ≡ arrived node + stale_count late (stale node)
     balances : (node : NodeState) → StepBalances f (arrived node) (stale node) node (step node)
     frame : (node : NodeState) → (step node).frame ≡ None
 
@@ -144,10 +144,10 @@ module _ (f : Family) (late : Bool) where
   unfolding steps
   steps_balance w h before step s = step_place_balances w h before step (place_of w.nodes h) s
 
-  none_counted : 0 ≡ 0 + counted late 0
+  none_counted : 0 ≡ 0 + stale_count late 0
   none_counted = by late
     where
-      by : (b : Bool) → 0 ≡ 0 + counted b 0
+      by : (b : Bool) → 0 ≡ 0 + stale_count b 0
       by true = refl
       by false = refl
 
@@ -263,7 +263,7 @@ module _ (f : Family) where
   -- ---- handings: a frame that was handed before is stale, and counts nothing
 
   -- what a frame is live with on the wire is what comes in and what is stale of it
-  live_is : (late : Bool) (t : Took) (n : ℕ) → (late ≡ true → is_fresh t ≡ false) → (if late then 0 else n) ≡ if_fresh t n + counted late (if_stale t n)
+  live_is : (late : Bool) (t : Took) (n : ℕ) → (late ≡ true → is_fresh t ≡ false) → (if late then 0 else n) ≡ if_fresh t n + stale_count late (if_stale t n)
   live_is true Fresh n h = absurd (fresh_is (h refl))
     where
       fresh_is : is_fresh Fresh ≡ false → ⊥
@@ -343,7 +343,7 @@ module _ (f : Family) where
       record {
         law = omega (
           arith,
-          ap (counted x.handed) (lost_left x.frame.frame),
+          ap (stale_count x.handed) (lost_left x.frame.frame),
           unhanded_sum-remove (frame_live f) w.wire place x q,
           line_sum-cons (line_granted f) off (lost ∷ []),
           line_sum-one (line_granted f) lost,

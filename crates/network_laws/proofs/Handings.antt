@@ -36,7 +36,7 @@ use Rattle.world_model.specs.World.{WorldState, EventResult, nothing, lines_at, 
 use Rattle.world_model.specs.Counts.{line_granted, line_hops, line_evals, line_left, line_sum, tally, granted, hops, evals, left, Past, no_past, was_handed, past_with, past_after, left_from, live, late_frame, late_at, is_late, EventInBalance, LeavesByWire, PastAgrees, Balanced}
 use Rattle.world_model.specs.Sound.{Rise, number_of, IsSound, event_fits, EventsFit}
 use Rattle.network_laws.proofs.CountLaws.{line_sum-nil, line_sum-cons, line_sum-append, line_sum-at, tally-nil, tally-append, tally-entries}
-use Rattle.network_laws.proofs.Balance.{counted, acts_left, event_balances, opening_live}
+use Rattle.network_laws.proofs.Balance.{stale_count, acts_left, event_balances, opening_live}
 use Rattle.network_laws.proofs.Fitting.{All-remove, wired_of, event_sound, event_version, rest_fits, run_sound}
 use Rattle.network_laws.proofs.Opening.{opening_version, opening_sound}
 
@@ -85,7 +85,7 @@ record Tells (f : Family) (p : Past) (late : Bool) (h : EventResult) : Type 0 wh
 same_left : (f : Family) (h : Host) (acts : List Act) (a b : Bool) → act_sum (act_stale f) acts ≡ 0 → line_sum (line_left f a) (lines_at h acts) ≡ line_sum (line_left f b) (lines_at h acts)
 same_left f h acts a b z = counted_as a ∙ sym (counted_as b)
   where
-    zero_counted : (c : Bool) → counted c 0 ≡ 0
+    zero_counted : (c : Bool) → stale_count c 0 ≡ 0
     zero_counted true = refl
     zero_counted false = refl
 
@@ -93,7 +93,7 @@ same_left f h acts a b z = counted_as a ∙ sym (counted_as b)
     counted_as c =
         let one = line_sum-at (line_left f c) h acts ∙ acts_left f c acts in
         let all = line_sum-at (line_left f true) h acts ∙ acts_left f true acts in
-        omega (arith, one, all, ap (counted c) z, zero_counted c)
+        omega (arith, one, all, ap (stale_count c) z, zero_counted c)
 
 nothing_tells : (f : Family) (p : Past) (late : Bool) (w : WorldState) → PastAgrees p w → Tells f p late (nothing w)
 unfolding left_from past_after

@@ -168,8 +168,8 @@ not_counted h d wire x lane e f =
     subst (λ l. NumbersFit l lane) (sym p) f
 
 -- and from itself
-counted : (h : Host) (d : ℕ) (wire : List Wired) (x : Wired) (lane : Lane) → is_from h d x ≡ true → NumbersFit (sent_numbers h d wire ++ link_in x.frame.stamp) lane → NumbersFit (sent_numbers h d (wire ++ x ∷ [])) lane
-counted h d wire x lane e f =
+number_counted : (h : Host) (d : ℕ) (wire : List Wired) (x : Wired) (lane : Lane) → is_from h d x ≡ true → NumbersFit (sent_numbers h d wire ++ link_in x.frame.stamp) lane → NumbersFit (sent_numbers h d (wire ++ x ∷ [])) lane
+number_counted h d wire x lane e f =
     let p : sent_numbers h d (wire ++ x ∷ []) ≡ sent_numbers h d wire ++ link_in x.frame.stamp = sent-push h d wire x ∙ ap (λ t. sent_numbers h d wire ++ cond t (link_in x.frame.stamp) []) e in
     subst (λ l. NumbersFit l lane) (sym p) f
 
@@ -188,7 +188,7 @@ module _ (nodes : List NodeState) (wire : List Wired) (at : ℕ) (old new : Node
           let from : is_from h d x ≡ true = ap (λ b. b && x.from.dev.0 == d) own ∙ t in
           let g : slice_get (slice_set old.queues x.from.dev.0 (record { frames = queue; number = n })) x.from.dev.0 ≡ Some lane = ap (λ qs. slice_get qs x.from.dev.0) (sym moved) ∙ (ap (slice_get new.queues) p ∙ e) in
           let f0 : FitsAt (sent_numbers h d wire) x.from.dev.0 old.queues = subst (λ k. FitsAt (sent_numbers h d wire) k old.queues) (sym p) f in
-          counted h d wire x lane from (sent_at (sent_numbers h d wire) old.queues x.from.dev.0 n x.frame queue head f0 lane g)
+          number_counted h d wire x lane from (sent_at (sent_numbers h d wire) old.queues x.from.dev.0 n x.frame queue head f0 lane g)
       by false t lane e =
           let from : is_from h d x ≡ false = ap (λ b. b && x.from.dev.0 == d) own ∙ t in
           not_counted h d wire x lane from (other_at (sent_numbers h d wire) old.queues x.from.dev.0 n x.frame queue head d (λ p. differs x.from.dev.0 d t (sym p)) f lane (ap (λ qs. slice_get qs d) (sym moved) ∙ e))

@@ -50,17 +50,17 @@ beyond : (i n : ℕ) → false ≡ nat_lt i n → n ≤ i
 beyond i n e = grind (arith, nat_tests)
 
 -- what a window that is there answers
-pub judged : (ts : List Seen) (ws : List Window) (i : ℕ) (d : Window) (s : Stamp) (r : Took) → AllSeen ts ws → true ≡ nat_lt i (length ws)
+pub windows_judge : (ts : List Seen) (ws : List Window) (i : ℕ) (d : Window) (s : Stamp) (r : Took) → AllSeen ts ws → true ≡ nat_lt i (length ws)
     → ((t : Seen) → WindowStands t (slice_index_or ws i d) → r ≡ took t s) → r ≡ took_by (slice_get ts i) s
-judged ts ws i d s r a e k = let h = seen_index ts ws i d a (within i (length ws) e) in k h.t h.stands ∙ sym (ap (λ o. took_by o s) h.is)
+windows_judge ts ws i d s r a e k = let h = seen_index ts ws i d a (within i (length ws) e) in k h.t h.stands ∙ sym (ap (λ o. took_by o s) h.is)
 
 pub not_judged : (ts : List Seen) (ws : List Window) (i : ℕ) (s : Stamp) → AllSeen ts ws → false ≡ nat_lt i (length ws) → Fresh ≡ took_by (slice_get ts i) s
 not_judged ts ws i s a e = sym (ap (λ o. took_by o s) (none_index ts ws i a (beyond i (length ws) e)))
 
 -- what stands where a window that is there takes a fresh stamp
-pub noted : (ts : List Seen) (ws : List Window) (at : Dev) (d new : Window) (s : Stamp) → AllSeen ts ws → at.0 < length ws → took_by (slice_get ts at.0) s ≡ Fresh
+pub windows_note : (ts : List Seen) (ws : List Window) (at : Dev) (d new : Window) (s : Stamp) → AllSeen ts ws → at.0 < length ws → took_by (slice_get ts at.0) s ≡ Fresh
     → ((t : Seen) → WindowStands t (slice_index_or ws at.0 d) → took t s ≡ Fresh → WindowStands (seen_with t s) new) → AllSeen (seen_at ts at s (slice_get ts at.0)) (slice_set ws at.0 new)
-noted ts ws at d new s a e f k =
+windows_note ts ws at d new s a e f k =
     let h = seen_index ts ws at.0 d a e in
     subst (λ o. AllSeen (seen_at ts at s o) (slice_set ws at.0 new)) (sym h.is)
     (set_stands ts ws at.0 (seen_with h.t s) new a (k h.t h.stands (sym (ap (λ o. took_by o s) h.is) ∙ f)))
@@ -75,5 +75,5 @@ opened_more [] w a h = (h, tt)
 opened_more (v ∷ ws) w a h = (a.0, opened_more ws w a.1 h)
 
 -- nine windows that have taken nothing
-pub opened : (ws : List Window) → length ws ≤ 9 → 9 ≤ length ws → AllSeen (replicate (length ws) nothing_seen) ws → AllSeen none_seen ws
-opened ws short long a = let e : length ws ≡ 9 = omega (arith, short, long) in subst (λ n. AllSeen (replicate n nothing_seen) ws) e a
+pub opened_windows : (ws : List Window) → length ws ≤ 9 → 9 ≤ length ws → AllSeen (replicate (length ws) nothing_seen) ws → AllSeen none_seen ws
+opened_windows ws short long a = let e : length ws ≡ 9 = omega (arith, short, long) in subst (λ n. AllSeen (replicate n nothing_seen) ws) e a

@@ -1,6 +1,6 @@
 ghost use Rattle.std.specs.Prelude.{◌≡◌, ◌<◌, ◌^◌, [], IfOk};
 ghost use Rattle.service_api.specs.Adverts.{AdvertFits};
-ghost use Rattle.dv_routing.specs.Routing.{Routing, opened, hears, all_routes, own_advert};
+ghost use Rattle.dv_routing.specs.Routing.{Routing, opening_routing, hears, all_routes, own_advert};
 ghost use Rattle.dv_routing.specs.Sorted.{sorted_into};
 ghost use Rattle.dv_routing.specs.Stands.{Stands};
 ghost use Rattle.node_model.specs.Fits.{NetworkFits};
@@ -48,7 +48,7 @@ impl Routes {
         neighbours: &Neighbours,
     ) -> Result<Routes, NoMemory>
         requires { NetworkFits hosts.now }
-        ensures { IfOk result (λ t. Stands (opened here (sorted_into [] hosts.now) neighbours.now) t) }
+        ensures { IfOk result (λ t. Stands (opening_routing here (sorted_into [] hosts.now) neighbours.now) t) }
     {
         let _number = number_of(here);
         let sorted = sorted_hosts(alloc, hosts)?;

@@ -13,7 +13,7 @@ use Rattle.line_files.specs.Lines.{words, spaced}
 use Rattle.line_files.specs.Files.{at_line}
 use Rattle.line_files.specs.Inside.{after_lines}
 use Rattle.line_files.specs.Reads.{◌>>=◌, rest_at}
-use Rattle.line_files.specs.Programs.{opened, with_line, call_at}
+use Rattle.line_files.specs.Programs.{opened_program, with_line, call_at}
 use Rattle.line_files.proofs.Again.{without, word_first}
 use Rattle.line_files.proofs.LineLaws.{no_lines, then_lines}
 use Rattle.line_files.proofs.Splits.{rest_all}
@@ -58,7 +58,7 @@ module _ (text : List (List ℕ)) (args : List ℕ) (a : AskFile) (is : IsAsk te
   -- ---- what the lines leave
 
   abbrev state : AskStage → ℕ → ℕ → ℕ → AskReading
-  state stage to from bound = record { stage = stage; to = to; from = from; bound = bound; entry = []; entry_line = 1; program = opened 1; checked = None }
+  state stage to from bound = record { stage = stage; to = to; from = from; bound = bound; entry = []; entry_line = 1; program = opened_program 1; checked = None }
 
   -- behind the line of the entry, the fifth
   abbrev called : AskStage → OpenProgram → Option Program → AskReading
@@ -66,7 +66,7 @@ module _ (text : List (List ℕ)) (args : List ℕ) (a : AskFile) (is : IsAsk te
 
   -- with any words of an entry
   abbrev with_entry : List ℕ → AskReading
-  with_entry entry = record { stage = stages.Wants word.Program; to = a.to; from = a.from; bound = a.bound; entry = entry; entry_line = 5; program = opened 1; checked = None }
+  with_entry entry = record { stage = stages.Wants word.Program; to = a.to; from = a.from; bound = a.bound; entry = entry; entry_line = 5; program = opened_program 1; checked = None }
 
   -- ---- numbers
 
@@ -94,13 +94,13 @@ module _ (text : List (List ℕ)) (args : List ℕ) (a : AskFile) (is : IsAsk te
   unfolding bound_line behind_word
   bound_reads = then_ok _ a.bound _ _ (last_reads 0 65535 a.bound (port_small a.bound is.rules.injection.0) (omega arith) is.rules.injection.0) refl
 
-  entry_reads : entry_line 5 (codes "entry" ∷ a.chunk.entry ∷ words args) (state (stages.Wants word.Entry) a.to a.from a.bound) ≡ Ok (called (stages.Wants word.Program) (opened 1) None)
+  entry_reads : entry_line 5 (codes "entry" ∷ a.chunk.entry ∷ words args) (state (stages.Wants word.Entry) a.to a.from a.bound) ≡ Ok (called (stages.Wants word.Program) (opened_program 1) None)
   unfolding entry_line behind_word
   entry_reads =
-      then_ok (rest_at (words args)) args (λ _. Ok (with_entry (spaced (a.chunk.entry ∷ words args)))) (Ok (called (stages.Wants word.Program) (opened 1) None)) (rest_all args)
+      then_ok (rest_at (words args)) args (λ _. Ok (with_entry (spaced (a.chunk.entry ∷ words args)))) (Ok (called (stages.Wants word.Program) (opened_program 1) None)) (rest_all args)
       (ap (λ (t : List ℕ). Ok (with_entry t)) (rest_is a.chunk.entry args (name_free a.chunk.entry is.call.entry).0))
 
-  program_reads : program_line 6 (codes "program" ∷ []) (called (stages.Wants word.Program) (opened 1) None) ≡ Ok (called stages.Inside (opened 6) None)
+  program_reads : program_line 6 (codes "program" ∷ []) (called (stages.Wants word.Program) (opened_program 1) None) ≡ Ok (called stages.Inside (opened_program 6) None)
   unfolding program_line behind_word
   program_reads = refl
 
@@ -122,15 +122,15 @@ module _ (text : List (List ℕ)) (args : List ℕ) (a : AskFile) (is : IsAsk te
   unfolding ask_step_at wanted_line
   bound_step = usual_again 4 (codes "bound") (decimal a.bound ∷ []) (state (stages.Wants word.Bound) a.to a.from 0) (state (stages.Wants word.Entry) a.to a.from a.bound) (λ ws. bound_line ws (state (stages.Wants word.Bound) a.to a.from 0)) refl bound_clean bound_reads
 
-  entry_step : ask_format.step 5 (spaced (entry_words args a)) (state (stages.Wants word.Entry) a.to a.from a.bound) ≡ Ok (called (stages.Wants word.Program) (opened 1) None)
+  entry_step : ask_format.step 5 (spaced (entry_words args a)) (state (stages.Wants word.Entry) a.to a.from a.bound) ≡ Ok (called (stages.Wants word.Program) (opened_program 1) None)
   unfolding ask_step_at wanted_line
   entry_step =
-      usual_by 5 (spaced (entry_words args a)) (codes "entry" ∷ a.chunk.entry ∷ words args) (state (stages.Wants word.Entry) a.to a.from a.bound) (called (stages.Wants word.Program) (opened 1) None) (λ ws. entry_line 5 ws (state (stages.Wants word.Entry) a.to a.from a.bound)) refl
+      usual_by 5 (spaced (entry_words args a)) (codes "entry" ∷ a.chunk.entry ∷ words args) (state (stages.Wants word.Entry) a.to a.from a.bound) (called (stages.Wants word.Program) (opened_program 1) None) (λ ws. entry_line 5 ws (state (stages.Wants word.Entry) a.to a.from a.bound)) refl
       (words_rest (codes "entry") (a.chunk.entry ∷ []) args (refl, ((name_free a.chunk.entry is.call.entry).0, tt))) entry_reads
 
-  program_step : ask_format.step 6 (codes "program") (called (stages.Wants word.Program) (opened 1) None) ≡ Ok (called stages.Inside (opened 6) None)
+  program_step : ask_format.step 6 (codes "program") (called (stages.Wants word.Program) (opened_program 1) None) ≡ Ok (called stages.Inside (opened_program 6) None)
   unfolding ask_step_at wanted_line
-  program_step = usual_again 6 (codes "program") [] (called (stages.Wants word.Program) (opened 1) None) (called stages.Inside (opened 6) None) (λ ws. program_line 6 ws (called (stages.Wants word.Program) (opened 1) None)) refl ((refl, tt), (refl, tt)) program_reads
+  program_step = usual_again 6 (codes "program") [] (called (stages.Wants word.Program) (opened_program 1) None) (called stages.Inside (opened_program 6) None) (λ ws. program_line 6 ws (called (stages.Wants word.Program) (opened_program 1) None)) refl ((refl, tt), (refl, tt)) program_reads
 
   -- ---- the program
 
@@ -142,18 +142,18 @@ module _ (text : List (List ℕ)) (args : List ℕ) (a : AskFile) (is : IsAsk te
   text_step number line begun e = ap (λ b. cond b (at_line begun.line (close_program (inside begun))) (Ok (inside (with_line begun line)))) e
 
   abbrev whole : AskReading
-  whole = called stages.Behind (with_text (opened 6) text) (Some a.chunk.code)
+  whole = called stages.Behind (with_text (opened_program 6) text) (Some a.chunk.code)
 
-  end_step : (number : ℕ) → ask_format.step number (codes "end program") (inside (with_text (opened 6) text)) ≡ Ok whole
+  end_step : (number : ℕ) → ask_format.step number (codes "end program") (inside (with_text (opened_program 6) text)) ≡ Ok whole
   unfolding ask_step_at close_program
-  end_step number = ap (λ r. at_line 6 (r >>= λ p. Ok (called stages.Behind (with_text (opened 6) text) (Some p)))) is.program.says
+  end_step number = ap (λ r. at_line 6 (r >>= λ p. Ok (called stages.Behind (with_text (opened_program 6) text) (Some p)))) is.program.says
 
   -- ---- the whole
 
-  text_lead : after_lines ask_format 7 (text ++ codes "end program" ∷ []) (inside (opened 6)) ≡ Ok whole
+  text_lead : after_lines ask_format 7 (text ++ codes "end program" ∷ []) (inside (opened_program 6)) ≡ Ok whole
   text_lead =
-      behind_lines ask_format text (codes "end program" ∷ []) 7 (inside (opened 6)) (inside (with_text (opened 6) text)) whole (text_leads ask_format inside text_step text (opened 6) is.program.lines 7)
-      (then_lines ask_format (7 + length text) (codes "end program") [] (inside (with_text (opened 6) text)) whole whole (end_step (7 + length text)) (no_lines ask_format (7 + length text + 1) whole))
+      behind_lines ask_format text (codes "end program" ∷ []) 7 (inside (opened_program 6)) (inside (with_text (opened_program 6) text)) whole (text_leads ask_format inside text_step text (opened_program 6) is.program.lines 7)
+      (then_lines ask_format (7 + length text) (codes "end program") [] (inside (with_text (opened_program 6) text)) whole whole (end_step (7 + length text)) (no_lines ask_format (7 + length text + 1) whole))
 
   all_lead : after_lines ask_format 1 (ask_lines text args a) nothing_asked ≡ Ok whole
   all_lead =
@@ -161,8 +161,8 @@ module _ (text : List (List ℕ)) (args : List ℕ) (a : AskFile) (is : IsAsk te
       (then_lines ask_format 2 (spaced (to_words a)) _ _ (state (stages.Wants word.From) a.to 1 0) whole to_step
       (then_lines ask_format 3 (spaced (from_words a)) _ _ (state (stages.Wants word.Bound) a.to a.from 0) whole from_step
       (then_lines ask_format 4 (spaced (bound_words a)) _ _ (state (stages.Wants word.Entry) a.to a.from a.bound) whole bound_step
-      (then_lines ask_format 5 (spaced (entry_words args a)) _ _ (called (stages.Wants word.Program) (opened 1) None) whole entry_step
-      (then_lines ask_format 6 (codes "program") _ _ (inside (opened 6)) whole program_step text_lead)))))
+      (then_lines ask_format 5 (spaced (entry_words args a)) _ _ (called (stages.Wants word.Program) (opened_program 1) None) whole entry_step
+      (then_lines ask_format 6 (codes "program") _ _ (inside (opened_program 6)) whole program_step text_lead)))))
 
   lines_free : Free 10 (ask_lines text args a)
   lines_free = (

@@ -19,7 +19,7 @@ use Rattle.line_files.specs.declared.fault.LineReason.TheVariants.{TwiceNamed}
 use Rattle.line_files.specs.declared.programs.OpenProgram.{OpenProgram}
 use Rattle.line_files.specs.Lines.{spaced}
 use Rattle.line_files.specs.Files.{is_skipped}
-use Rattle.line_files.specs.Programs.{opened}
+use Rattle.line_files.specs.Programs.{opened_program}
 use Rattle.schedule_laws.proofs.WordLaws.{Free, line_is}
 use Rattle.schedule_laws.proofs.ReadSteps.{then_ok, not_ok, number_ok}
 use Rattle.schedule_laws.proofs.NetworkRead.{all_middle}
@@ -107,7 +107,7 @@ module _ (c : ServeConfig) (rules : KeepsServe c) (named : IsOneWord c.log) wher
 
   -- a state in front of them
   abbrev early : ConfigStage → Host → List Host → ℕ → ℕ → ℕ → List ℕ → ConfigReading
-  early stage h hs port control period log = record { stage = stage; version = c.node.version; here = h; hosts = hs; port = port; control = control; period = period; log = log; neighbours = []; devs = []; missing = []; program = opened 1; checked = None; at = []; weight = 0 }
+  early stage h hs port control period log = record { stage = stage; version = c.node.version; here = h; hosts = hs; port = port; control = control; period = period; log = log; neighbours = []; devs = []; missing = []; program = opened_program 1; checked = None; at = []; weight = 0 }
 
   hosts_are_clean : Clean (hosts_words hosts)
   hosts_are_clean = clean_more (codes "hosts") (map (λ h. decimal h.0) hosts) (refl, refl) (hosts_clean hosts rules.node.numbers)
@@ -178,9 +178,9 @@ module _ (c : ServeConfig) (rules : KeepsServe c) (named : IsOneWord c.log) wher
   abbrev pub state : ConfigStage → List (Host × Dev) → List (Dev × ℕ) → List PackageName → OpenProgram → Option Program → List Injection → ℕ → ConfigReading
   state stage ns ds missing program checked at weight = record { stage = stage; version = c.node.version; here = here; hosts = hosts; port = c.port; control = c.control; period = c.period; log = c.log; neighbours = ns; devs = ds; missing = missing; program = program; checked = checked; at = at; weight = weight }
 
-  pub head_leads : Leads config_format (head_lines c) nothing_read (state (stages.Tail parts.Devices) [] [] [] (opened 1) None [] 0)
+  pub head_leads : Leads config_format (head_lines c) nothing_read (state (stages.Tail parts.Devices) [] [] [] (opened_program 1) None [] 0)
   head_leads =
-      let last = state (stages.Tail parts.Devices) [] [] [] (opened 1) None [] 0 in
+      let last = state (stages.Tail parts.Devices) [] [] [] (opened_program 1) None [] 0 in
       leads-cons config_format (header_line c.node.version) _ nothing_read (early (stages.Wants head.Host) (host_of 0) [] 0 0 0 []) last (header_step c.node.version)
       (leads-cons config_format (spaced (host_words here)) _ (early (stages.Wants head.Host) (host_of 0) [] 0 0 0 []) (early (stages.Wants head.Hosts) here [] 0 0 0 []) last host_step
       (leads-cons config_format (spaced (hosts_words hosts)) _ (early (stages.Wants head.Hosts) here [] 0 0 0 []) (early (stages.Wants head.Port) here hosts 0 0 0 []) last hosts_step
@@ -208,7 +208,7 @@ module _ (c : ServeConfig) (rules : KeepsServe c) (named : IsOneWord c.log) wher
 
   -- at the neighbours
   abbrev at_devices : List (Host × Dev) → List (Dev × ℕ) → ConfigReading
-  at_devices seen ports = state (stages.Tail parts.Devices) seen ports [] (opened 1) None [] 0
+  at_devices seen ports = state (stages.Tail parts.Devices) seen ports [] (opened_program 1) None [] 0
 
   device_clean : (n : Host × Dev) (p : ℕ) → n.0.0 < 2 ^ 32 → n.1.0 ≤ 8 → p ≤ 65535 → Clean (device_words n p)
   device_clean n p small few low =

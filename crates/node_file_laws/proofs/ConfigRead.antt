@@ -21,7 +21,7 @@ use Rattle.line_files.specs.Inside.{after_lines}
 use Rattle.line_files.specs.Packages.{same_package}
 use Rattle.line_files.specs.Reads.{◌>>=◌}
 use Rattle.line_files.specs.Injections.{injection_at}
-use Rattle.line_files.specs.Programs.{opened, with_line}
+use Rattle.line_files.specs.Programs.{opened_program, with_line}
 use Rattle.line_files.proofs.LineLaws.{no_lines, then_lines}
 use Rattle.schedule_laws.specs.Written.{package_word, handler_words}
 use Rattle.schedule_laws.proofs.WordLaws.{Free, free-append, line_is, words_rest, name_free, number_free}
@@ -133,7 +133,7 @@ module _ (given : Option ProgramText) (by : Chunk → List ℕ) (c : ServeConfig
 
   -- a state at missing packages
   abbrev lacks : TailPart → List PackageName → ConfigReading
-  lacks part missing = state part missing (opened 1) None [] 0
+  lacks part missing = state part missing (opened_program 1) None [] 0
 
   missing_step : (part : TailPart) (seen : List PackageName) (p : PackageName) → may_come part tail.Without ≡ true → list_any (same_package p) seen ≡ false → (number : ℕ)
       → config_format.step number (spaced (missing_words p)) (lacks part seen) ≡ Ok (lacks parts.Missing (seen ++ p ∷ []))
@@ -163,10 +163,10 @@ module _ (given : Option ProgramText) (by : Chunk → List ℕ) (c : ServeConfig
   abbrev inside : OpenProgram → ConfigReading
   inside begun = top.state c is.rules is.log stages.Inside c.node.neighbours c.devs c.missing begun None [] 0
 
-  program_step : (number : ℕ) → config_format.step number (codes "program") plain ≡ Ok (inside (opened number))
+  program_step : (number : ℕ) → config_format.step number (codes "program") plain ≡ Ok (inside (opened_program number))
   unfolding config_step_at tail_line tail_rest program_line
   program_step number =
-      usual_again number (codes "program") [] plain (inside (opened number)) (λ ws. tail_line last_part number ws plain) refl ((refl, tt), (refl, tt))
+      usual_again number (codes "program") [] plain (inside (opened_program number)) (λ ws. tail_line last_part number ws plain) refl ((refl, tt), (refl, tt))
       (then_ok _ tt _ _ (allowed_ok (may_come last_part tail.Program) BadWord (may_follow parts.Devices c.missing refl)) refl)
 
   text_step : (number : ℕ) (line : List ℕ) (begun : OpenProgram) → bytes_eq line (codes "end program") ≡ false → config_format.step number line (inside begun) ≡ Ok (inside (with_line begun line))
@@ -177,16 +177,16 @@ module _ (given : Option ProgramText) (by : Chunk → List ℕ) (c : ServeConfig
   abbrev behind : ProgramText → OpenProgram → List Injection → ℕ → ConfigReading
   behind p begun at weight = state parts.Behind c.missing begun (Some p.program) at weight
 
-  end_step : (p : ProgramText) (first number : ℕ) → IsTextOf p.program p.text → config_format.step number (codes "end program") (inside (with_text (opened first) p.text)) ≡ Ok (behind p (with_text (opened first) p.text) [] 0)
+  end_step : (p : ProgramText) (first number : ℕ) → IsTextOf p.program p.text → config_format.step number (codes "end program") (inside (with_text (opened_program first) p.text)) ≡ Ok (behind p (with_text (opened_program first) p.text) [] 0)
   unfolding config_step_at close_program
-  end_step p first number k = ap (λ r. at_line first (r >>= λ q. Ok (state parts.Behind c.missing (with_text (opened first) p.text) (Some q) [] 0))) k.says
+  end_step p first number k = ap (λ r. at_line first (r >>= λ q. Ok (state parts.Behind c.missing (with_text (opened_program first) p.text) (Some q) [] 0))) k.says
 
-  program_leads : (p : ProgramText) → IsTextOf p.program p.text → (number : ℕ) → after_lines config_format number (program_lines p.text) plain ≡ Ok (behind p (with_text (opened number) p.text) [] 0)
+  program_leads : (p : ProgramText) → IsTextOf p.program p.text → (number : ℕ) → after_lines config_format number (program_lines p.text) plain ≡ Ok (behind p (with_text (opened_program number) p.text) [] 0)
   program_leads p k number =
-      let last = behind p (with_text (opened number) p.text) [] 0 in
-      then_lines config_format number (codes "program") _ plain (inside (opened number)) last (program_step number)
-      (behind_lines config_format p.text (codes "end program" ∷ []) (number + 1) (inside (opened number)) (inside (with_text (opened number) p.text)) last (text_leads config_format inside text_step p.text (opened number) k.lines (number + 1))
-      (then_lines config_format (number + 1 + length p.text) (codes "end program") [] (inside (with_text (opened number) p.text)) last last (end_step p number (number + 1 + length p.text) k) (no_lines config_format (number + 1 + length p.text + 1) last)))
+      let last = behind p (with_text (opened_program number) p.text) [] 0 in
+      then_lines config_format number (codes "program") _ plain (inside (opened_program number)) last (program_step number)
+      (behind_lines config_format p.text (codes "end program" ∷ []) (number + 1) (inside (opened_program number)) (inside (with_text (opened_program number) p.text)) last (text_leads config_format inside text_step p.text (opened_program number) k.lines (number + 1))
+      (then_lines config_format (number + 1 + length p.text) (codes "end program") [] (inside (with_text (opened_program number) p.text)) last last (end_step p number (number + 1 + length p.text) k) (no_lines config_format (number + 1 + length p.text + 1) last)))
 
   -- ---- what is injected
 
@@ -237,7 +237,7 @@ module _ (given : Option ProgramText) (by : Chunk → List ℕ) (c : ServeConfig
 
   with_program : (p : ProgramText) → IsTextOf p.program p.text → All (Injected p by) c.at → (number : ℕ) → Says number (program_lines p.text ++ injected_lines c.at) plain
   with_program p k w number =
-      let begun = with_text (opened number) p.text in
+      let begun = with_text (opened_program number) p.text in
       record {
         part = parts.Behind;
         begun = begun;
@@ -253,10 +253,10 @@ module _ (given : Option ProgramText) (by : Chunk → List ℕ) (c : ServeConfig
       let nothing : [] ≡ c.at = none_injected c.at w in
       record {
         part = last_part;
-        begun = opened 1;
+        begun = opened_program 1;
         checked = None;
         weight = 0;
-        leads = subst (λ (l : List Injection). after_lines config_format number (injected_lines l) plain ≡ Ok (state last_part c.missing (opened 1) None l 0)) nothing (no_lines config_format number plain);
+        leads = subst (λ (l : List Injection). after_lines config_format number (injected_lines l) plain ≡ Ok (state last_part c.missing (opened_program 1) None l 0)) nothing (no_lines config_format number plain);
       }
   rest_says (Some p) g w number = with_program p g w number
 
@@ -281,7 +281,7 @@ module _ (given : Option ProgramText) (by : Chunk → List ℕ) (c : ServeConfig
 
   all_lead : after_lines config_format 1 (config_lines given by c) nothing_read ≡ Ok whole
   all_lead =
-      let first = top.state c is.rules is.log (stages.Tail parts.Devices) [] [] [] (opened 1) None [] 0 in
+      let first = top.state c is.rules is.log (stages.Tail parts.Devices) [] [] [] (opened_program 1) None [] 0 in
       behind_lines config_format (head_lines c) _ 1 nothing_read first whole (top.head_leads c is.rules is.log 1)
       (behind_lines config_format neighbour_lines _ (1 + length (head_lines c)) first (lacks parts.Devices []) whole (top.neighbours_lead c is.rules is.log (1 + length (head_lines c)))
       (behind_lines config_format missing_lines rest_lines (1 + length (head_lines c) + length neighbour_lines) (lacks parts.Devices []) plain whole (missing_lead c.missing [] parts.Devices refl refl (1 + length (head_lines c) + length neighbour_lines)) says.leads))

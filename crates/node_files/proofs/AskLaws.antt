@@ -25,7 +25,7 @@ use Rattle.node_files.specs.declared.ask.AskReading.{AskReading}
 use Rattle.node_files.specs.Parts.{behind_word, last_number}
 use Rattle.node_files.specs.Asks.{to_line, from_line, bound_line, entry_line, program_line, wanted_line, close_program, ask_step_at, early, request_of, ask_end, ask_format, nothing_asked, ask_of}
 use Rattle.node_files.specs.Answers.{Accepted, Refused}
-use Rattle.node_files.proofs.PartLaws.{HasChecked, last_number_is, header_keeps, usual_keeps, header_placed, usual_placed, answered}
+use Rattle.node_files.proofs.PartLaws.{HasChecked, last_number_is, header_keeps, usual_keeps, header_placed, usual_placed, value_or_refusal}
 
 -- ---- the rules
 
@@ -231,4 +231,4 @@ pub ask_refuses : RefusesRead ask_format nothing_asked
 ask_refuses = refuses_read ask_format nothing_asked Begun ask_places (record { entry = (omega arith, omega arith); program = (omega arith, omega arith) })
 
 pub ask_answered : (bytes : List ℕ) → Accepted ask_of bytes ⊎ Refused ask_of bytes
-ask_answered bytes = answered ask_format nothing_asked ask_refuses bytes
+ask_answered bytes = value_or_refusal ask_format nothing_asked ask_refuses bytes

@@ -32,9 +32,9 @@ no_nodes x = refl
 
 -- ---- what the reading of a chunk gives
 
-taken : (t : Bool) (c : Chunk) → t ≡ true → cond t (Some c) None ≡ Some c
-taken true c e = refl
-taken false c e = absurd cc
+taken_where_true : (t : Bool) (c : Chunk) → t ≡ true → cond t (Some c) None ≡ Some c
+taken_where_true true c e = refl
+taken_where_true false c e = absurd cc
 
 not_taken : (t : Bool) (c : Chunk) → t ≡ false → cond t (Some c) None ≡ None
 not_taken true c e = absurd cc
@@ -44,7 +44,7 @@ all_read : (bytes : List ℕ) (c : Chunk) (g : Front) → SpelledAt a_whole_chun
 unfolding spelled_chunk
 all_read bytes c g h le =
     let r = only_by a_whole_chunk (chunk_part_lawful 3) no_nodes (start bytes) g c h in
-    sym (ap (taking_all bytes) r ∙ taken (leb (length bytes) g.at) c (le-leb (length bytes) g.at le))
+    sym (ap (taking_all bytes) r ∙ taken_where_true (leb (length bytes) g.at) c (le-leb (length bytes) g.at le))
 
 left_over : (bytes : List ℕ) (c : Chunk) (g : Front) → SpelledAt a_whole_chunk (start bytes) c g → g.at < length bytes → None ≡ spelled_chunk bytes
 unfolding spelled_chunk

@@ -28,7 +28,7 @@ use Rattle.line_files.specs.Numbers.{number_at}
 use Rattle.line_files.specs.Packages.{package_at}
 use Rattle.line_files.specs.FileNames.{file_name_at}
 use Rattle.line_files.specs.Headers.{version_in}
-use Rattle.line_files.specs.Programs.{opened, with_line, program_in, weighed}
+use Rattle.line_files.specs.Programs.{opened_program, with_line, program_in, weighed}
 use Rattle.line_files.specs.Injections.{injection_at}
 use Rattle.line_files.specs.Inside.{OnFault, RefusesRead}
 use Rattle.line_files.proofs.FileLaws.{is_keeping}
@@ -49,7 +49,7 @@ use Rattle.node_files.specs.Parts.{behind_word, last_number}
 use Rattle.node_files.specs.Nodes.{host_line, hosts_line, neighbour_at, placed, device_of, port_device}
 use Rattle.node_files.specs.Configs.{port_line, is_used, free_port, control_line, period_line, log_line, wanted_line, tail_word, may_come, with_device, device_line, missing_line, program_line, inject_line, tail_rest, tail_line, close_program, begun_by, config_step_at, config_said, config_end, config_format, nothing_read, config_of}
 use Rattle.node_files.specs.Answers.{Accepted, Refused}
-use Rattle.node_files.proofs.PartLaws.{HasChecked, last_number_is, link_small, usual_keeps, usual_placed, answered}
+use Rattle.node_files.proofs.PartLaws.{HasChecked, last_number_is, link_small, usual_keeps, usual_placed, value_or_refusal}
 use Rattle.node_files.proofs.Placed.{all_placed, same_devices, ascend_placed, all_ports, ports_differ}
 use Rattle.node_files.proofs.NodeLaws.{hosts_line_is, neighbour_is, IsNew}
 
@@ -248,7 +248,7 @@ program_keeps : (number : ℕ) (ws : List (List ℕ)) (s : ConfigReading) → Wh
 unfolding program_line
 program_keeps number ws s k =
     then_keeps Kept (end_at ws) _ (λ u hu.
-    done_keeps Kept (record s { stage = stages.Inside; program = opened number }) k)
+    done_keeps Kept (record s { stage = stages.Inside; program = opened_program number }) k)
 
 weights_push : (is : List Injection) (i : Injection) → weights (is ++ i ∷ []) ≡ weights is + (1 + chunk_weight i.chunk)
 weights_push [] i = omega arith
@@ -421,7 +421,7 @@ rest_begun number ws s low b tail.Without =
     done_keeps (Begun number) (record s { stage = stages.Tail parts.Missing; missing = missing.0 }) b))
 rest_begun number ws s low b tail.Program =
     then_keeps (Begun number) (end_at ws) _ (λ u hu.
-    done_keeps (Begun number) (record s { stage = stages.Inside; program = opened number }) (low, omega arith))
+    done_keeps (Begun number) (record s { stage = stages.Inside; program = opened_program number }) (low, omega arith))
 rest_begun number ws s low b tail.At =
     then_keeps (Begun number) (ok_or s.checked UnknownProgram) _ (λ program hp.
     then_keeps (Begun number) (number_at 1 1000000 ws) _ (λ turn ht.
@@ -483,4 +483,4 @@ pub config_refuses : RefusesRead config_format nothing_read
 config_refuses = refuses_read config_format nothing_read Begun config_places (omega arith, omega arith)
 
 pub config_answered : (bytes : List ℕ) → Accepted config_of bytes ⊎ Refused config_of bytes
-config_answered bytes = answered config_format nothing_read config_refuses bytes
+config_answered bytes = value_or_refusal config_format nothing_read config_refuses bytes

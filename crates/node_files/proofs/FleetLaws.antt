@@ -26,7 +26,7 @@ use Rattle.node_files.specs.declared.fleet.FleetReading.{FleetReading}
 use Rattle.node_files.specs.Parts.{last_number}
 use Rattle.node_files.specs.Fleets.{kid_word, node_kid, ask_kid, kid_rest, kid_line, fleet_step_at, fleet_end, fleet_format, no_children, fleet_of}
 use Rattle.node_files.specs.Answers.{Accepted, Refused}
-use Rattle.node_files.proofs.PartLaws.{last_number_is, header_keeps, usual_keeps, header_placed, usual_placed, answered}
+use Rattle.node_files.proofs.PartLaws.{last_number_is, header_keeps, usual_keeps, header_placed, usual_placed, value_or_refusal}
 
 -- ---- the rules
 
@@ -119,4 +119,4 @@ pub fleet_refuses : RefusesRead fleet_format no_children
 fleet_refuses = refuses_read fleet_format no_children Anywhere fleet_places tt
 
 pub fleet_answered : (bytes : List ℕ) → Accepted fleet_of bytes ⊎ Refused fleet_of bytes
-fleet_answered bytes = answered fleet_format no_children fleet_refuses bytes
+fleet_answered bytes = value_or_refusal fleet_format no_children fleet_refuses bytes

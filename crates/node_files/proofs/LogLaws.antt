@@ -45,7 +45,7 @@ use Rattle.node_files.specs.Nodes.{host_line, hosts_line, neighbour_at, placed, 
 use Rattle.node_files.specs.ChunkWords.{typed_chunk, chunk_at}
 use Rattle.node_files.specs.Logs.{behind_host, own_line, boot_line, network_line, node_word, may_come, device_line, missing_line, events_line, node_rest, node_line, entry_word, inject_entry, frame_entry, control_entry, take_entry, entry_rest, entry_line, begun_by, log_step_at, log_said, log_end, log_format, nothing_logged, log_of}
 use Rattle.node_files.specs.Answers.{Accepted, Refused}
-use Rattle.node_files.proofs.PartLaws.{last_number_is, link_small, usual_keeps, usual_placed, answered}
+use Rattle.node_files.proofs.PartLaws.{last_number_is, link_small, usual_keeps, usual_placed, value_or_refusal}
 use Rattle.node_files.proofs.Placed.{all_placed, ascend_placed}
 use Rattle.node_files.proofs.NodeLaws.{hosts_line_is, neighbour_is}
 use Rattle.node_files.proofs.ChunkLaws.{typed_read}
@@ -346,4 +346,4 @@ pub log_refuses : RefusesRead log_format nothing_logged
 log_refuses = refuses_read log_format nothing_logged Anywhere log_places tt
 
 pub log_answered : (bytes : List ℕ) → Accepted log_of bytes ⊎ Refused log_of bytes
-log_answered bytes = answered log_format nothing_logged log_refuses bytes
+log_answered bytes = value_or_refusal log_format nothing_logged log_refuses bytes

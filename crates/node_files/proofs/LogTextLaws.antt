@@ -32,7 +32,7 @@ use Rattle.network_plan.specs.NodeRules.{Ascend, DevicesAscend, IsNeighbour, fir
 use Rattle.line_files.specs.Lines.{lines, words, spaced, behind}
 use Rattle.line_files.specs.Files.{is_skipped, read_on}
 use Rattle.line_files.specs.Packages.{same_package}
-use Rattle.line_files.specs.HexWords.{sized, hex_at}
+use Rattle.line_files.specs.HexWords.{within_size, hex_at}
 use Rattle.line_files.specs.Handlers.{named_handler, handler_at}
 use Rattle.line_files.proofs.Again.{line_first}
 use Rattle.schedule_laws.specs.Written.{package_word, handler_words, IsNamed}
@@ -251,7 +251,7 @@ module _ (v : Version) (b : ℕ) where
   hex_clean : (bytes : List ℕ) (ws : List (List ℕ)) → IsBytes bytes → Clean ws → Clean (encode_lower bytes ∷ ws)
   hex_clean bytes ws h c = clean_more (encode_lower bytes) ws (hex_free bytes h) c
 
-  sized_again : (low high : ℕ) (bytes : List ℕ) → low ≤ length bytes → length bytes ≤ high → sized low high (Some bytes) ≡ Some bytes
+  sized_again : (low high : ℕ) (bytes : List ℕ) → low ≤ length bytes → length bytes ≤ high → within_size low high (Some bytes) ≡ Some bytes
   sized_again low high bytes a b = rw (le-leb low (length bytes) a, le-leb (length bytes) high b) refl
 
   hex_reads : (low high : ℕ) (bytes : List ℕ) (ws : List (List ℕ)) → IsBytes bytes → low ≤ length bytes → length bytes ≤ high → hex_at low high (encode_lower bytes ∷ ws) ≡ Ok (bytes, ws)

@@ -58,5 +58,5 @@ answered_by answer bytes (Err (faults.Line n r)) e h =
 answered_by answer bytes (Err faults.NoMemory) e h = absurd (h faults.NoMemory refl)
 
 -- a file has a value or a first refusal
-pub answered : {S T : Type 0} (f : Format S T) (begin : S) → RefusesRead f begin → (bytes : List ℕ) → Accepted (file_of f begin) bytes ⊎ Refused (file_of f begin) bytes
-answered f begin places bytes = answered_by (file_of f begin) bytes (file_of f begin bytes) refl (λ e h. refused_placed f begin bytes e places h)
+pub value_or_refusal : {S T : Type 0} (f : Format S T) (begin : S) → RefusesRead f begin → (bytes : List ℕ) → Accepted (file_of f begin) bytes ⊎ Refused (file_of f begin) bytes
+value_or_refusal f begin places bytes = answered_by (file_of f begin) bytes (file_of f begin bytes) refl (λ e h. refused_placed f begin bytes e places h)

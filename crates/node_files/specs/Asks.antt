@@ -11,7 +11,7 @@ use Rattle.line_files.specs.declared.fault.LineFault.TheVariants as faults
 use Rattle.line_files.specs.Lines.{words}
 use Rattle.line_files.specs.Files.{Format, at_line, file_of}
 use Rattle.line_files.specs.Reads.{◌>>=◌, word_at, end_at, rest_at}
-use Rattle.line_files.specs.Programs.{opened, with_line, program_in, call_at}
+use Rattle.line_files.specs.Programs.{opened_program, with_line, program_in, call_at}
 use Rattle.node_files.specs.declared.ask.AskWord.{AskWord}
 use Rattle.node_files.specs.declared.ask.AskWord.TheVariants as word
 use Rattle.node_files.specs.declared.ask.AskStage.{AskStage}
@@ -54,7 +54,7 @@ unfoldable pub program_line : ℕ → List (List ℕ) → AskReading → Result 
 program_line number ws s = do
   more ← behind_word (codes "program") ws
   _ ← end_at more
-  Ok (record s { stage = stages.Inside; program = opened number })
+  Ok (record s { stage = stages.Inside; program = opened_program number })
 
 -- the line that must come next
 unfoldable pub wanted_line : AskWord → ℕ → List (List ℕ) → AskReading → Result AskReading LineReason
@@ -102,7 +102,7 @@ ask_format = record { step = λ number line s. ask_step_at s.stage number line s
 
 -- nothing read yet; a port is 1 until its line is read
 abbrev pub nothing_asked : AskReading
-nothing_asked = record { stage = stages.Header; to = 1; from = 1; bound = 0; entry = []; entry_line = 1; program = opened 1; checked = None }
+nothing_asked = record { stage = stages.Header; to = 1; from = 1; bound = 0; entry = []; entry_line = 1; program = opened_program 1; checked = None }
 
 -- what the bytes of a file say: a request, or the first line outside the format with the reason
 abbrev pub ask_of : List ℕ → Result AskFile LineFault

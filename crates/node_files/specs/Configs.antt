@@ -21,7 +21,7 @@ use Rattle.line_files.specs.Numbers.{number_at}
 use Rattle.line_files.specs.Packages.{package_at}
 use Rattle.line_files.specs.FileNames.{file_name_at}
 use Rattle.line_files.specs.Headers.{version_line}
-use Rattle.line_files.specs.Programs.{opened, with_line, program_in, weighed}
+use Rattle.line_files.specs.Programs.{opened_program, with_line, program_in, weighed}
 use Rattle.line_files.specs.Injections.{injection_at}
 use Rattle.node_files.specs.declared.config.HeadWord.{HeadWord}
 use Rattle.node_files.specs.declared.config.HeadWord.TheVariants as head
@@ -136,7 +136,7 @@ missing_line ws s = do
 unfoldable pub program_line : ℕ → List (List ℕ) → ConfigReading → Result ConfigReading LineReason
 program_line number ws s = do
   _ ← end_at ws
-  Ok (record s { stage = stages.Inside; program = opened number })
+  Ok (record s { stage = stages.Inside; program = opened_program number })
 
 -- `at TURN inject ENTRY BOUND ARGS` behind its first word, under version 2 with a handler or without
 unfoldable pub inject_line : List (List ℕ) → ConfigReading → Result ConfigReading LineReason
@@ -202,7 +202,7 @@ config_format = record { step = λ number line s. config_step_at s.stage number 
 
 -- nothing read yet; a port is 0 until its line is read
 abbrev pub nothing_read : ConfigReading
-nothing_read = record { stage = stages.Header; version = One; here = host_of 0; hosts = []; port = 0; control = 0; period = 0; log = []; neighbours = []; devs = []; missing = []; program = opened 1; checked = None; at = []; weight = 0 }
+nothing_read = record { stage = stages.Header; version = One; here = host_of 0; hosts = []; port = 0; control = 0; period = 0; log = []; neighbours = []; devs = []; missing = []; program = opened_program 1; checked = None; at = []; weight = 0 }
 
 -- what the bytes of a file say: how a node serves, or the first line outside the format with the reason
 abbrev pub config_of : List ℕ → Result ServeConfig LineFault

@@ -44,32 +44,32 @@ file_at-no_place name [] h = refl
 file_at-no_place name (f ∷ fs) h = missing_step (is_named name f) f.1 (place name fs) (length fs) (file_at fs name) (file_at-no_place name fs) h
 
 -- the entry at place i with other bytes
-abbrev changed : FileMap → ℕ → Entry → List ℕ → FileMap
-changed fs i d bytes = set fs i ((get_or fs i d).0, bytes)
+abbrev changed_map : FileMap → ℕ → Entry → List ℕ → FileMap
+changed_map fs i d bytes = set fs i ((get_or fs i d).0, bytes)
 
 here_step : (b : Bool) (name : List ℕ) (f : Entry) (fs : FileMap) (d : Entry) (bytes : List ℕ) (m : ℕ) → is_named name f ≡ b
-    → (m < length fs → file_at (changed fs m d bytes) name ≡ Some bytes)
-    → cond (not b) (1 + m) 0 < suc (length fs) → file_at (changed (f ∷ fs) (cond (not b) (1 + m) 0) d bytes) name ≡ Some bytes
+    → (m < length fs → file_at (changed_map fs m d bytes) name ≡ Some bytes)
+    → cond (not b) (1 + m) 0 < suc (length fs) → file_at (changed_map (f ∷ fs) (cond (not b) (1 + m) 0) d bytes) name ≡ Some bytes
 here_step true name f fs d bytes m e ih h = rw e refl
 here_step false name f fs d bytes m e ih h = rw (one_plus m) (rw e (ih (omega arith)))
 
-changed-here : (name : List ℕ) (fs : FileMap) (d : Entry) (bytes : List ℕ) → place name fs < length fs → file_at (changed fs (place name fs) d bytes) name ≡ Some bytes
+changed-here : (name : List ℕ) (fs : FileMap) (d : Entry) (bytes : List ℕ) → place name fs < length fs → file_at (changed_map fs (place name fs) d bytes) name ≡ Some bytes
 changed-here name [] d bytes h = absurd (omega arith)
 changed-here name (f ∷ fs) d bytes h = here_step (is_named name f) name f fs d bytes (place name fs) refl (changed-here name fs d bytes) h
 
 others_step : (b : Bool) (name other : List ℕ) (f : Entry) (fs : FileMap) (d : Entry) (bytes : List ℕ) (m : ℕ) → other ≢ name → is_named name f ≡ b
-    → file_at (changed fs m d bytes) other ≡ file_at fs other
-    → file_at (changed (f ∷ fs) (cond (not b) (1 + m) 0) d bytes) other ≡ file_at (f ∷ fs) other
+    → file_at (changed_map fs m d bytes) other ≡ file_at fs other
+    → file_at (changed_map (f ∷ fs) (cond (not b) (1 + m) 0) d bytes) other ≡ file_at (f ∷ fs) other
 others_step true name other f fs d bytes m differs e ih = rw (other_name f.0 name other e differs) refl
 others_step false name other f fs d bytes m differs e ih = rw (one_plus m) (ap (λ r. cond (is_named other f) (Some f.1) r) ih)
 
-changed-others : (name other : List ℕ) (fs : FileMap) (d : Entry) (bytes : List ℕ) → other ≢ name → file_at (changed fs (place name fs) d bytes) other ≡ file_at fs other
+changed-others : (name other : List ℕ) (fs : FileMap) (d : Entry) (bytes : List ℕ) → other ≢ name → file_at (changed_map fs (place name fs) d bytes) other ≡ file_at fs other
 changed-others name other [] d bytes differs = refl
 changed-others name other (f ∷ fs) d bytes differs =
     others_step (is_named name f) name other f fs d bytes (place name fs) differs refl (changed-others name other fs d bytes differs)
 
 -- writing the bytes at the place of the name changes that file only
-pub ChangesOnly-changed : (name : List ℕ) (fs : FileMap) (d : Entry) (bytes : List ℕ) → place name fs < length fs → ChangesOnly fs (changed fs (place name fs) d bytes) name bytes
+pub ChangesOnly-changed : (name : List ℕ) (fs : FileMap) (d : Entry) (bytes : List ℕ) → place name fs < length fs → ChangesOnly fs (changed_map fs (place name fs) d bytes) name bytes
 ChangesOnly-changed name fs d bytes h = record {
   here = changed-here name fs d bytes h;
   others = λ other differs. changed-others name other fs d bytes differs;
@@ -132,7 +132,7 @@ ChangesOnly-written fs items name i e bytes wanted same found is right =
     let P : FileMap → Type 0 = λ new. ChangesOnly fs new name wanted in
     let whole = ChangesOnly-changed name fs e wanted t.0 in
     let at : get_or fs (place name fs) e ≡ e = cc in
-    let new : changed fs (place name fs) e wanted ≡ set items i (e.0, bytes) = cc in
+    let new : changed_map fs (place name fs) e wanted ≡ set items i (e.0, bytes) = cc in
     subst P new whole
 
 -- bytes added to those of the entry that was found

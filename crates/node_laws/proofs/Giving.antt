@@ -33,7 +33,7 @@ use Rattle.spelled_frame.specs.Spelled.{what_of}
 use Rattle.node_model.specs.State.{Links, Queues, NodeState, routing_of, is_host, leads_to}
 use Rattle.settled_visit.specs.declared.settling.Settled.{Settled}
 use Rattle.node_model.specs.Visits.{visit_at, settled_at}
-use Rattle.spelled_frame.specs.Spelled.{numbered}
+use Rattle.spelled_frame.specs.Spelled.{numbered_frame}
 use Rattle.node_model.specs.Node.{NodeStep, stepped, queue_room, has_room, lane_room, lane_with, queue_push, drop_act, mark, takes_as, stamped_as, stamped_step, take_first, hop_packet, packet_sending, advert_sending, visit_sends, tick_sends, send_act, send_queues, sends_acts, sends_queues, handled_acts, visit_acts, visited, next_serial, injected_packet, inject_step, only_acts, onward, forward_by, forward_step, packet_step, hearing, advert_step, frame_step, arrived, arrive_step, next_tick, tick_step, take_from, take_step}
 use Rattle.node_model.specs.Counts.{only, is_family, act_sum, act_granted, act_injections, queues_sum, frame_one, packet_one, taken_sum}
 use Rattle.node_laws.proofs.CountLaws.{act_sum-nil, act_sum-cons, act_sum-append, queue_sum-push, queue_sum-cons, queues_sum-set, only-zero}
@@ -304,7 +304,7 @@ module _ (f : Family) where
 
   room_stays : (t : Bool) (queues : Queues) (s : Sending) (lane : Lane) → slice_get queues s.dev.0 ≡ Some lane → frame_one f s.frame.frame ≡ 0 → count_in queues ≡ 0
       → count_in (cond t (queue_push queues s.dev s.frame (Some lane)) queues) ≡ 0
-  room_stays true queues s lane e h q = omega (arith, queues_sum-set (frame_one f) queues s.dev.0 lane (lane_with lane s.frame) e, queue_sum-push (frame_one f) lane.frames (numbered lane.number s.frame))
+  room_stays true queues s lane e h q = omega (arith, queues_sum-set (frame_one f) queues s.dev.0 lane (lane_with lane s.frame) e, queue_sum-push (frame_one f) lane.frames (numbered_frame lane.number s.frame))
   room_stays false queues s lane e h q = q
 
   place_stays : (o : Option Lane) (queues : Queues) (s : Sending) → slice_get queues s.dev.0 ≡ o → frame_one f s.frame.frame ≡ 0 → count_in queues ≡ 0

@@ -12,7 +12,7 @@ use Rattle.node_model.specs.declared.acts.Lane.{Lane}
 use Rattle.node_model.specs.declared.acts.Sending.{Sending}
 use Rattle.small_laws.proofs.Bools.{both_true}
 use Rattle.node_model.specs.State.{Queues, no_lane, no_queues}
-use Rattle.spelled_frame.specs.Spelled.{numbered}
+use Rattle.spelled_frame.specs.Spelled.{numbered_frame}
 use Rattle.node_model.specs.Node.{is_spent, lane_room, queue_room, has_room, lane_with, queue_push, send_queues, sends_queues}
 use Rattle.node_model.specs.Fits.{QueuesKeep}
 
@@ -31,7 +31,7 @@ module _ (P : PlainStamped → Type 0) where
 
   -- it holds of a frame whatever its number
   abbrev pub Whatever : Type 0
-  Whatever = (n : ℕ) (x : PlainStamped) → P x → P (numbered n x)
+  Whatever = (n : ℕ) (x : PlainStamped) → P x → P (numbered_frame n x)
 
   lane_of : (queues : Queues) (d : ℕ) (lane : Lane) → slice_get queues d ≡ Some lane → All Each queues → Each lane
   lane_of queues d lane e all = let h = All-get_or Each queues d lane (slice_get_within queues d lane e) all in rw (get_or_from_slice_get queues d lane lane e) at h
@@ -43,8 +43,8 @@ module _ (P : PlainStamped → Type 0) where
   push_cases : Whatever → (t : Bool) (queues : Queues) (d : Dev) (x : PlainStamped) (lane : Lane) → queue_room (Some lane) x ≡ t → slice_get queues d.0 ≡ Some lane → P x → QueuesKeep P queues
       → QueuesKeep P (cond t (queue_push queues d x (Some lane)) queues)
   push_cases a true queues d x lane n e h q = set_keeps queues d.0 (lane_with lane x)
-      (omega (arith, one_more_fits lane x n, length-append lane.frames (numbered lane.number x ∷ [])))
-      (All-push P lane.frames (numbered lane.number x) (lane_of queues d.0 lane e q.frames) (a lane.number x h)) q
+      (omega (arith, one_more_fits lane x n, length-append lane.frames (numbered_frame lane.number x ∷ [])))
+      (All-push P lane.frames (numbered_frame lane.number x) (lane_of queues d.0 lane e q.frames) (a lane.number x h)) q
   push_cases a false queues d x lane n e h q = q
 
   place_cases : Whatever → (o : Option Lane) (queues : Queues) (d : Dev) (x : PlainStamped) → slice_get queues d.0 ≡ o → P x → QueuesKeep P queues

@@ -35,7 +35,7 @@ use Rattle.spelled_frame.specs.Spelled.{what_of}
 use Rattle.node_model.specs.State.{Links, Queues, NodeState, routing_of, is_host, leads_to}
 use Rattle.settled_visit.specs.declared.settling.Settled.{Settled}
 use Rattle.node_model.specs.Visits.{visit_at, settled_at, VisitKeeps}
-use Rattle.spelled_frame.specs.Spelled.{numbered}
+use Rattle.spelled_frame.specs.Spelled.{numbered_frame}
 use Rattle.node_model.specs.Node.{NodeStep, stepped, queue_room, has_room, lane_room, lane_with, queue_push, drop_act, mark, takes_as, noting, stamped_as, stamped_step, asked_plain, take_first, packet_sending, advert_sending, visit_sends, tick_sends, send_act, send_queues, sends_acts, sends_queues, with_queues, handled_acts, visit_acts, visited, injected_packet, next_serial, inject_step, only_acts, forward_by, forward_step, packet_step, hearing, advert_step, frame_step, arrived, arrive_step, asked, control_step, next_tick, tick_step, take_from, take_step, node_step}
 use Rattle.node_model.specs.Counts.{only, act_sum, act_granted, act_hops, act_evals, act_left, act_stale, what_left, packet_live, frame_live, queues_sum, node_live, if_fresh, if_stale, stamped_came, stamped_stale, bytes_came, bytes_stale, came, stale, StepBalances}
 use Rattle.node_laws.proofs.CountLaws.{only-plus, only_hop, act_sum-nil, act_sum-cons, act_sum-append, queue_sum-push, queue_sum-cons, queues_sum-set, dropped_left, sent_live}
@@ -115,7 +115,7 @@ module _ (f : Family) where
     granted = h.queued_granted;
     evals = h.queued_evals;
     stale = h.queued_stale;
-    moved = omega (arith, queues_sum-set (frame_live f) queues s.dev.0 lane (lane_with lane s.frame) e, queue_sum-push (frame_live f) lane.frames (numbered lane.number s.frame), h.moved);
+    moved = omega (arith, queues_sum-set (frame_live f) queues s.dev.0 lane (lane_with lane s.frame) e, queue_sum-push (frame_live f) lane.frames (numbered_frame lane.number s.frame), h.moved);
   }
   room_balance false queues s lane e h = drop_balances (lane_room lane) queues s h
 

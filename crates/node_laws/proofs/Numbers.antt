@@ -28,7 +28,7 @@ use Rattle.node_model.specs.declared.acts.Act.TheVariants.{Injected, Asked, Seri
 use Rattle.node_model.specs.declared.acts.Sending.{Sending}
 use Rattle.node_model.specs.State.{Queues, NodeState, routing_of, is_host, leads_to}
 use Rattle.node_model.specs.Visits.{settled_at}
-use Rattle.spelled_frame.specs.Spelled.{stamp_with, numbered}
+use Rattle.spelled_frame.specs.Spelled.{stamp_with, numbered_frame}
 use Rattle.node_model.specs.Node.{NodeStep, stepped, queue_room, has_room, number_after, lane_with, queue_push, mark, takes_as, stamped_as, stamped_step, asked_plain, take_first, packet_sending, visit_sends, tick_sends, send_queues, sends_queues, visited, next_serial, injected_packet, inject_step, forward_by, forward_step, packet_step, advert_step, frame_step, arrived, arrive_step, asked, control_step, tick_step, take_from, take_step, node_step}
 use Rattle.node_model.specs.Orders.{frames_of, queue_at, MovesInOrder, joined, taken}
 use Rattle.node_model.specs.Numbers.{link_in, numbers_in, Ascend, NumbersFit, FitsAt}

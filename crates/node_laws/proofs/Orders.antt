@@ -25,7 +25,7 @@ use Rattle.node_model.specs.declared.acts.Act.TheVariants.{Injected, Asked, Seri
 use Rattle.node_model.specs.declared.acts.Sending.{Sending}
 use Rattle.node_model.specs.State.{Queues, NodeState, routing_of, is_host, leads_to}
 use Rattle.node_model.specs.Visits.{settled_at}
-use Rattle.spelled_frame.specs.Spelled.{numbered}
+use Rattle.spelled_frame.specs.Spelled.{numbered_frame}
 use Rattle.node_model.specs.Node.{NodeStep, stepped, queue_room, has_room, number_after, lane_with, queue_push, mark, takes_as, stamped_as, stamped_step, asked_plain, take_first, packet_sending, visit_sends, tick_sends, send_queues, sends_queues, visited, next_serial, injected_packet, inject_step, forward_by, forward_step, packet_step, advert_step, frame_step, arrived, arrive_step, asked, control_step, tick_step, take_from, take_step, node_step}
 use Rattle.node_model.specs.Orders.{frames_of, queue_at, MovesInOrder, joined, taken}
 
@@ -66,7 +66,7 @@ module _ (d : ℕ) where
   set_joins queues at x lane n e (elsewhere h) = record { more = []; is = h ∙ sym (append-nil (queue_at queues d)) }
 
   room_joins : (t : Bool) (queues : Queues) (s : Sending) (lane : Lane) → slice_get queues s.dev.0 ≡ Some lane → JoinsAt queues (cond t (queue_push queues s.dev s.frame (Some lane)) queues)
-  room_joins true queues s lane e = set_joins queues s.dev.0 (numbered lane.number s.frame) lane (number_after lane.number s.frame.stamp) e (set_at queues s.dev.0 (lane_with lane s.frame) d)
+  room_joins true queues s lane e = set_joins queues s.dev.0 (numbered_frame lane.number s.frame) lane (number_after lane.number s.frame.stamp) e (set_at queues s.dev.0 (lane_with lane s.frame) d)
   room_joins false queues s lane e = none_join (queue_at queues d)
 
   place_joins : (o : Option Lane) (queues : Queues) (s : Sending) → slice_get queues s.dev.0 ≡ o → JoinsAt queues (cond (queue_room o s.frame) (queue_push queues s.dev s.frame o) queues)

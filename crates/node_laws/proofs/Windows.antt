@@ -54,10 +54,10 @@ there_now [] at old new e = absurd (none e)
 there_now (x ∷ seen) zero old new e = refl
 there_now (x ∷ seen) (suc at) old new e = there_now seen at old new e
 
-found : (seen : List Seen) (at : ℕ) → at < length seen → (s : Seen) × (slice_get seen at ≡ Some s)
-found [] at h = absurd (omega arith)
-found (x ∷ seen) zero h = (x, refl)
-found (x ∷ seen) (suc at) h = found seen at (omega arith)
+window_found : (seen : List Seen) (at : ℕ) → at < length seen → (s : Seen) × (slice_get seen at ≡ Some s)
+window_found [] at h = absurd (omega arith)
+window_found (x ∷ seen) zero h = (x, refl)
+window_found (x ∷ seen) (suc at) h = window_found seen at (omega arith)
 
 -- ---- a fresh stamp is taken
 
@@ -124,7 +124,7 @@ then_taken : (seen : List Seen) (d : Dev) (stamp : Option Stamp) → IsMarked Tw
 unfolding takes_as seen_then
 then_taken seen d None m h f = absurd m
 then_taken seen d (Some s) m h f =
-    let p = found seen d.0 h in
+    let p = window_found seen d.0 h in
     let fresh : took p.0 s ≡ Fresh = sym (ap (λ o. took_by o s) p.1) ∙ f in
     ap (λ o. is_fresh (took_by (slice_get (seen_at seen d s o) d.0) s)) p.1 ∙ taken_there seen d s p.0 p.1 fresh
 

@@ -32,7 +32,7 @@ use Rattle.node_model.specs.declared.acts.Act.TheVariants.{Injected, Arrived, As
 use Rattle.node_model.specs.declared.acts.Reason.TheVariants as reason
 use Rattle.node_model.specs.declared.acts.Sending.{Sending}
 use Rattle.node_model.specs.declared.acts.Lane.{Lane}
-use Rattle.spelled_frame.specs.Spelled.{what_of, numbered}
+use Rattle.spelled_frame.specs.Spelled.{what_of, numbered_frame}
 use Rattle.node_model.specs.State.{Links, Queues, NodeState, routing_of, is_host, leads_to}
 use Rattle.node_model.specs.Visits.{around, visit_at, settled_at, services_after}
 
@@ -69,7 +69,7 @@ number_after n (Some s) = n + 1
 
 -- a frame more on a device: it gets the next number
 abbrev pub lane_with : Lane → PlainStamped → Lane
-lane_with lane x = record { frames = lane.frames ++ numbered lane.number x ∷ []; number = number_after lane.number x.stamp }
+lane_with lane x = record { frames = lane.frames ++ numbered_frame lane.number x ∷ []; number = number_after lane.number x.stamp }
 
 abbrev pub queue_push : Queues → Dev → PlainStamped → Option Lane → Queues
 queue_push queues d x None = queues

@@ -6,7 +6,7 @@ use Rattle.network_plan.specs.declared.serve.ServeConfig.{ServeConfig}
 use Rattle.node_files.specs.LogTexts.{entry_text}
 use Rattle.node_io.specs.FileMaps.{file_at, ChangesOnly, WritesMore}
 use Rattle.node_model.specs.State.{NodeState}
-use Rattle.serve_model.specs.Runs.{Running, opened, node_by, node_after, played, with_entry}
+use Rattle.serve_model.specs.Runs.{Running, opened_run, node_by, node_after, played, with_entry}
 use Rattle.serve_model.specs.Texts.{begun_trace, whole_trace}
 use Rattle.serve_model.specs.Follow.{Ext}
 use Rattle.serve_model.proofs.Going.{ext_trans, ext_entry}
@@ -29,10 +29,10 @@ take_short (suc n) (x ∷ xs) ys h = ap (λ l. x ∷ l) (take_short n xs ys (ome
 
 -- ---- the frames of a run
 
-run_lines : (node : NodeState) (r : Running) → Ext (opened node) r → r.entries ≡ played 0 node r.events
+run_lines : (node : NodeState) (r : Running) → Ext (opened_run node) r → r.entries ≡ played 0 node r.events
 run_lines node r x = x.lines ∙ ap (played 0 node) (sym x.log)
 
-run_node : (node : NodeState) (r : Running) → Ext (opened node) r → node_after node r.events ≡ r.node
+run_node : (node : NodeState) (r : Running) → Ext (opened_run node) r → node_after node r.events ≡ r.node
 run_node node r x = ap (node_after node) x.log ∙ sym x.node
 
 frames_more : (node : NodeState) (es : List LogEvent) (e : LogEvent) → frames_of node (es ++ e ∷ []) ≡ frames_of node es ++ sent_at (node_after node es) e
@@ -43,7 +43,7 @@ frames_more node (f ∷ es) e =
     ap (λ l. sent_at node f ++ l) (frames_more (node_by node f) es e) ∙ sym (append_assoc (sent_at node f) rest (sent_at (node_after (node_by node f) es) e))
 
 -- one entry more sends what it sends
-pub frames_next : (node : NodeState) (e : LogEvent) (r : Running) → Ext (opened node) r → frames_of node (r.events ++ e ∷ []) ≡ frames_of node r.events ++ sent_at r.node e
+pub frames_next : (node : NodeState) (e : LogEvent) (r : Running) → Ext (opened_run node) r → frames_of node (r.events ++ e ∷ []) ≡ frames_of node r.events ++ sent_at r.node e
 frames_next node e r x = frames_more node r.events e ∙ ap (λ n. frames_of node r.events ++ sent_at n e) (run_node node r x)
 
 -- a step that sends nothing
@@ -79,7 +79,7 @@ module _ (cfg : ServeConfig) (base : Start) (seen : Seen) where
       }
 
   -- all that a run made so far, with more behind its log and a prefix of the end behind its lines
-  pub agrees_all : (r : Running) (more : List ℕ) (count : ℕ) → Ext (opened base.node) r → r.sent ≡ frames_of base.node r.events
+  pub agrees_all : (r : Running) (more : List ℕ) (count : ℕ) → Ext (opened_run base.node) r → r.sent ≡ frames_of base.node r.events
       → file_at seen.files cfg.log ≡ Some (run_log cfg r ++ more) → seen.taken ≡ base.taken ++ (run_trace cfg r ++ take count (codes "end\n")) → seen.sent ≡ base.sent ++ r.sent
       → Agrees cfg base seen r.events
   unfolding whole_trace
@@ -104,7 +104,7 @@ module _ (cfg : ServeConfig) (base : Start) (seen : Seen) where
       }
 
   -- and one step more, with a prefix of its lines, and its frame not sent
-  pub agrees_next : (e : LogEvent) (r : Running) (count : ℕ) → Ext (opened base.node) r → r.sent ≡ frames_of base.node r.events
+  pub agrees_next : (e : LogEvent) (r : Running) (count : ℕ) → Ext (opened_run base.node) r → r.sent ≡ frames_of base.node r.events
       → file_at seen.files cfg.log ≡ Some (run_log cfg (with_entry e r)) → seen.taken ≡ base.taken ++ (run_trace cfg r ++ take count (next_lines cfg e r)) → seen.sent ≡ base.sent ++ r.sent
       → Agrees cfg base seen (with_entry e r).events
   unfolding with_entry whole_trace
@@ -117,7 +117,7 @@ module _ (cfg : ServeConfig) (base : Start) (seen : Seen) where
       let before = run_trace cfg r in
       let next = next_lines cfg e r in
       let done = take count next in
-      let lines : (with_entry e r).entries ≡ played 0 base.node (take (n + 1) es) = run_lines base.node (with_entry e r) (ext_trans (opened base.node) r (with_entry e r) x (ext_entry e r)) ∙ ap (played 0 base.node) (sym all) in
+      let lines : (with_entry e r).entries ≡ played 0 base.node (take (n + 1) es) = run_lines base.node (with_entry e r) (ext_trans (opened_run base.node) r (with_entry e r) x (ext_entry e r)) ∙ ap (played 0 base.node) (sym all) in
       let front : before ++ done ≡ take (length before + length done) (before ++ (next ++ codes "end\n")) = ap (λ l. before ++ l) (front_exact count next (codes "end\n")) ∙ sym (take-append-add before (next ++ codes "end\n") (length done)) in
       let whole : before ++ (next ++ codes "end\n") ≡ whole_trace cfg.node.here (played 0 base.node (take (n + 1) es)) =
       sym (append_assoc before next (codes "end\n")) ∙ ap (λ l. l ++ codes "end\n") (sym (trace_more cfg e r)) ∙ ap (whole_trace cfg.node.here) lines in

@@ -10,7 +10,7 @@ use Rattle.node_io.specs.FileMaps.{ChangesOnly, SavesFront, untouched, begun}
 use Rattle.node_io.specs.Sinks.{SinkState}
 use Rattle.node_io.proofs.SinkLaws.{front_longer}
 use Rattle.node_model.specs.State.{NodeState}
-use Rattle.serve_model.specs.Runs.{Running, opened, played, turns, node_run}
+use Rattle.serve_model.specs.Runs.{Running, opened_run, played, turns, node_run}
 use Rattle.serve_model.specs.Texts.{trace_line, lines_text, begun_trace, whole_trace}
 use Rattle.serve_model.specs.Follow.{Ext, lost_after, lost_places}
 use Rattle.serve_model.proofs.Places.{own_places}
@@ -42,10 +42,10 @@ used same u = record { count = u.count; few = u.few; is = u.is ∙ ap (drop u.co
 -- ---- the beginning
 
 module _ (cfg : ServeConfig) (old new : Desk) where
-  head_is : (node : NodeState) → run_log cfg (opened node) ≡ head_text cfg.node cfg.missing
+  head_is : (node : NodeState) → run_log cfg (opened_run node) ≡ head_text cfg.node cfg.missing
   head_is node = append-nil (head_text cfg.node cfg.missing)
 
-  first_is : (node : NodeState) → run_trace cfg (opened node) ≡ codes "planet trace 1\n"
+  first_is : (node : NodeState) → run_trace cfg (opened_run node) ≡ codes "planet trace 1\n"
   unfolding begun_trace lines_text
   first_is node = append-nil (codes "planet trace 1\n")
 
@@ -56,7 +56,7 @@ module _ (cfg : ServeConfig) (old new : Desk) where
   begins log is_log out sent binds script = record {
     shows = λ node. record {
       sees = record {
-        grows = ext_refl (opened node);
+        grows = ext_refl (opened_run node);
         log = subst (ChangesOnly old.files.held new.files.held cfg.log) (sym (head_is node)) log;
         target = is_log;
         out = out ∙ ap (λ l. old.out.taken ++ l) (sym (first_is node));
@@ -130,12 +130,12 @@ ended_before cfg old node n = ended_early cfg (desk_of old) (desk_of old) old.cl
 -- ---- the run
 
 module _ (cfg : ServeConfig) (node : NodeState) (n : ℕ) (first : Desk) (mid last : Serving) (b : Begins cfg first (desk_of mid)) where
-  same_run : (refused : List ℕ) → turns cfg mid.link.script mid.clock.last mid.clock.answers n refused (opened node) ≡ run_in cfg node n (with_clock first mid.clock) refused
+  same_run : (refused : List ℕ) → turns cfg mid.link.script mid.clock.last mid.clock.answers n refused (opened_run node) ≡ run_in cfg node n (with_clock first mid.clock) refused
   unfolding node_run
-  same_run refused = ap (λ x. turns cfg x mid.clock.last mid.clock.answers n refused (opened node)) b.script
+  same_run refused = ap (λ x. turns cfg x mid.clock.last mid.clock.answers n refused (opened_run node)) b.script
 
   -- the whole run
-  pub served : {stands : Running → Type 0} (out : SinkState) → Reached stands cfg (start_at first node) (seen_at (desk_of last)) (opened node) (turns cfg mid.link.script mid.clock.last mid.clock.answers n)
+  pub served : {stands : Running → Type 0} (out : SinkState) → Reached stands cfg (start_at first node) (seen_at (desk_of last)) (opened_run node) (turns cfg mid.link.script mid.clock.last mid.clock.answers n)
       → out.taken ≡ last.out.taken ++ codes "end\n" → last.link.binds ≡ mid.link.binds → last.link.script ≡ drop n mid.link.script → last.clock.answers ≡ drop n mid.clock.answers
       → Served cfg node n (with_clock first mid.clock) (record last { out = out })
   unfolding whole_trace
@@ -155,7 +155,7 @@ module _ (cfg : ServeConfig) (node : NodeState) (n : ℕ) (first : Desk) (mid la
       }
 
   -- a prefix of it
-  pub stopped : Stopped cfg (start_at first node) (seen_at (desk_of last)) (opened node) (turns cfg mid.link.script mid.clock.last mid.clock.answers n)
+  pub stopped : Stopped cfg (start_at first node) (seen_at (desk_of last)) (opened_run node) (turns cfg mid.link.script mid.clock.last mid.clock.answers n)
       → last.link.binds ≡ mid.link.binds → UsedUpTo n mid.link.script last.link.script → UsedUpTo n mid.clock.answers last.clock.answers
       → Begun cfg node n (with_clock first mid.clock) last
   unfolding whole_trace
@@ -187,7 +187,7 @@ module _ (cfg : ServeConfig) (node : NodeState) (n : ℕ) (first : Desk) (mid la
       }
 
   -- all of it but the end of the trace
-  pub cut : {stands : Running → Type 0} (out : SinkState) → Reached stands cfg (start_at first node) (seen_at (desk_of last)) (opened node) (turns cfg mid.link.script mid.clock.last mid.clock.answers n)
+  pub cut : {stands : Running → Type 0} (out : SinkState) → Reached stands cfg (start_at first node) (seen_at (desk_of last)) (opened_run node) (turns cfg mid.link.script mid.clock.last mid.clock.answers n)
       → AppendsFront last.out.taken out.taken (codes "end\n") → last.link.binds ≡ mid.link.binds → last.link.script ≡ drop n mid.link.script → last.clock.answers ≡ drop n mid.clock.answers
       → Begun cfg node n (with_clock first mid.clock) (record last { out = out })
   unfolding whole_trace
@@ -227,5 +227,5 @@ unfolding node_run whole_trace
 whole_agrees cfg node n old new s =
     let run = run_in cfg node n old s.refused in
     let last = codes "end\n" in
-    agrees_all cfg (start_at (desk_of old) node) (seen_at (desk_of new)) run [] (length last) (turns_grows cfg old.link.script old.clock.last old.clock.answers n s.refused (opened node)) (frames_of_run cfg node old.link.script old.clock.last old.clock.answers n s.refused)
+    agrees_all cfg (start_at (desk_of old) node) (seen_at (desk_of new)) run [] (length last) (turns_grows cfg old.link.script old.clock.last old.clock.answers n s.refused (opened_run node)) (frames_of_run cfg node old.link.script old.clock.last old.clock.answers n s.refused)
     (s.log.here ∙ ap Some (sym (append-nil (run_log cfg run)))) (s.out ∙ ap (λ l. old.out.taken ++ (run_trace cfg run ++ l)) (sym (take-length last))) s.sent

@@ -15,7 +15,7 @@ use Rattle.node_io.specs.declared.link.Peer.{Peer}
 use Rattle.node_io.specs.declared.link.Arrival.{Arrival}
 use Rattle.node_io.specs.Links.{Heard, has_peer, next_heard}
 use Rattle.node_model.specs.State.{NodeState}
-use Rattle.serve_model.specs.Runs.{node_by, node_after, Running, opened, with_entry, marked, holding, with_sent, Action, then_do, is_refused, make, tick, inject_one, inject_to, arrival, hear, first_on, queued_on, come_back, take_back, loop_back, send_taken, take_send, repeat_send, flush_device, flush_to, release, flush, begin_turn, end_turn, turn, turns, node_run, peers_of, time_at}
+use Rattle.serve_model.specs.Runs.{node_by, node_after, Running, opened_run, with_entry, marked, holding, with_sent, Action, then_do, is_refused, make, tick, inject_one, inject_to, arrival, hear, first_on, queued_on, come_back, take_back, loop_back, send_taken, take_send, repeat_send, flush_device, flush_to, release, flush, begin_turn, end_turn, turn, turns, node_run, peers_of, time_at}
 use Rattle.node_serve.specs.Sendings.{sending, sent_at, frames_of, SendsNone}
 
 -- what arrives sends nothing
@@ -180,5 +180,5 @@ pub frames_of_run : (cfg : ServeConfig) (node : NodeState) (script : List Arriva
     → (node_run cfg node script last answers n refused).sent ≡ frames_of node (node_run cfg node script last answers n refused).events
 unfolding node_run
 frames_of_run cfg node script last answers n refused =
-    let x = turns_send cfg script last answers n refused (opened node) in
+    let x = turns_send cfg script last answers n refused (opened_run node) in
     x.frames ∙ ap (frames_of node) (sym x.log)

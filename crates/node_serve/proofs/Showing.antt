@@ -12,7 +12,7 @@ use Rattle.packet_frame.specs.declared.frame.PlainStamped.{PlainStamped}
 use Rattle.packet_frame.specs.Stamped.{stamped_bytes}
 use Rattle.node_files.specs.LogTexts.{head_text, entry_text}
 use Rattle.node_io.specs.FileMaps.{FileMap, file_at, contents, ChangesOnly, WritesMore}
-use Rattle.serve_model.specs.Runs.{Running, opened, acts_of, entries_at, with_entry, marked, holding, with_sent}
+use Rattle.serve_model.specs.Runs.{Running, opened_run, acts_of, entries_at, with_entry, marked, holding, with_sent}
 use Rattle.serve_model.specs.Texts.{trace_line, lines_text, begun_trace}
 use Rattle.serve_model.proofs.Going.{ext_trans, ext_entry, ext_marked, ext_holding, ext_sent}
 use Rattle.node_serve.specs.Shown.{Seen, Start, run_log, run_trace, IsReadable, Sees, Shows}
@@ -65,7 +65,7 @@ pub sees_entry : (cfg : ServeConfig) (base : Start) (old new : Seen) (e : LogEve
     → WritesMore old.files new.files old.target (entry_text e) → new.target ≡ old.target → new.taken ≡ old.taken ++ next_lines cfg e r → new.sent ≡ old.sent
     → Sees cfg base new (with_entry e r)
 sees_entry cfg base old new e r h k log target out sent = record {
-  grows = ext_trans (opened base.node) r (with_entry e r) h.grows (ext_entry e r);
+  grows = ext_trans (opened_run base.node) r (with_entry e r) h.grows (ext_entry e r);
   log = subst (ChangesOnly base.files new.files cfg.log) (sym (log_more cfg e r)) (changes_more base.files old.files new.files cfg.log old.target (run_log cfg r) (entry_text e) h.log h.target log);
   target = target ∙ h.target;
   out = out ∙ ap (λ l. l ++ next_lines cfg e r) h.out ∙ append_assoc base.taken (run_trace cfg r) (next_lines cfg e r) ∙ ap (λ l. base.taken ++ l) (sym (trace_more cfg e r));
@@ -78,7 +78,7 @@ pub sees_sent : (cfg : ServeConfig) (base : Start) (old new : Seen) (d : Dev) (x
     → bytes ≡ stamped_bytes x → new.files ≡ old.files → new.target ≡ old.target → new.taken ≡ old.taken → new.sent ≡ old.sent ++ (d, bytes) ∷ []
     → Sees cfg base new (with_sent d x r)
 sees_sent cfg base old new d x bytes r h spelled files target out sent = record {
-  grows = ext_trans (opened base.node) r (with_sent d x r) h.grows (ext_sent d x r);
+  grows = ext_trans (opened_run base.node) r (with_sent d x r) h.grows (ext_sent d x r);
   log = subst (λ f. ChangesOnly base.files f cfg.log (run_log cfg r)) (sym files) h.log;
   target = target ∙ h.target;
   out = out ∙ h.out;
@@ -91,7 +91,7 @@ sees_sent cfg base old new d x bytes r h spelled files target out sent = record 
 pub shows_marked : (cfg : ServeConfig) (base : Start) (seen : Seen) (t : ℕ) (r : Running) → Shows cfg base seen r → Shows cfg base seen (marked t r)
 shows_marked cfg base seen t r h = record {
   sees = record {
-    grows = ext_trans (opened base.node) r (marked t r) h.sees.grows (ext_marked t r);
+    grows = ext_trans (opened_run base.node) r (marked t r) h.sees.grows (ext_marked t r);
     log = h.sees.log;
     target = h.sees.target;
     out = h.sees.out;
@@ -104,7 +104,7 @@ shows_marked cfg base seen t r h = record {
 pub shows_holding : (cfg : ServeConfig) (base : Start) (seen : Seen) (b : Bool) (r : Running) → Shows cfg base seen r → Shows cfg base seen (holding b r)
 shows_holding cfg base seen b r h = record {
   sees = record {
-    grows = ext_trans (opened base.node) r (holding b r) h.sees.grows (ext_holding b r);
+    grows = ext_trans (opened_run base.node) r (holding b r) h.sees.grows (ext_holding b r);
     log = h.sees.log;
     target = h.sees.target;
     out = h.sees.out;

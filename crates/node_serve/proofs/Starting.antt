@@ -11,7 +11,7 @@ use Rattle.node_io.specs.Sinks.{SinkState, Writes, FailsIn}
 use Rattle.node_io.proofs.FileWrites.{only_same, only_both}
 use Rattle.node_model.specs.State.{NodeState}
 use Rattle.service_api.specs.Services.{ServiceState}
-use Rattle.serve_model.specs.Runs.{opened}
+use Rattle.serve_model.specs.Runs.{opened_run}
 use Rattle.node_serve.specs.Stays.{StandsFor}
 use Rattle.node_serve.specs.Desks.{Desk, desk, Serving, desk_of, with_clock, start_at, OthersStay, OnlyServes, KeepsDesk, Faults}
 use Rattle.node_serve.specs.Served.{IsBound}
@@ -167,7 +167,7 @@ module _ {S : Type 0} (stands : S → ServiceState) (cfg : ServeConfig) (n : ℕ
     keeps = g.keeps;
     faults = g.faults;
     ends = λ seen clock node first st begins.
-        stopped cfg node n first a b begins ((g.goes clock).run seen (start_at first node) (opened node) st (begins.shows node)) g.keeps.binds (g.script seen.2) (g.answers clock);
+        stopped cfg node n first a b begins ((g.goes clock).run seen (start_at first node) (opened_run node) st (begins.shows node)) g.keeps.binds (g.script seen.2) (g.answers clock);
   }
 
   keeps_out : (o : SinkState) → o.observable ≡ b.out.observable → b.out.faults ≤ o.faults → KeepsDesk (desk_of b) (desk b.files o b.link)
@@ -188,7 +188,7 @@ module _ {S : Type 0} (stands : S → ServiceState) (cfg : ServeConfig) (n : ℕ
       keeps = keeps_both (desk_of a) (desk_of b) (desk b.files o b.link) g.keeps (keeps_out o f.is.same f.is.later);
       faults = inr (omega (arith, g.keeps.only.out_later, f.rose));
       ends = λ seen clock node first st begins.
-          cut cfg node n first a b begins o ((g.goes clock).run seen (start_at first node) (opened node) st (begins.shows node))
+          cut cfg node n first a b begins o ((g.goes clock).run seen (start_at first node) (opened_run node) st (begins.shows node))
           (record { count = f.count; is = f.is.taken (subst IsTrue (sym g.keeps.only.out) seen.1) }) g.keeps.binds (g.script seen.2) (g.answers clock);
     }
 
@@ -197,7 +197,7 @@ module _ {S : Type 0} (stands : S → ServiceState) (cfg : ServeConfig) (n : ℕ
       keeps = keeps_both (desk_of a) (desk_of b) (desk b.files o b.link) g.keeps (keeps_out o w.same w.later);
       faults = tt;
       ends = λ seen clock node first st begins.
-          served cfg node n first a b begins o ((g.goes clock).run seen (start_at first node) (opened node) st (begins.shows node))
+          served cfg node n first a b begins o ((g.goes clock).run seen (start_at first node) (opened_run node) st (begins.shows node))
           (w.taken (subst IsTrue (sym g.keeps.only.out) seen.1)) g.keeps.binds (g.script seen.2) (g.answers clock);
     }
 
@@ -240,7 +240,7 @@ bound_then cfg a b c (Ok y) h same = λ seen. same ∙ h seen
 bound_then cfg a b c (Err e) h same = λ seen. inr (same ∙ h seen)
 
 -- the node was opened, and served
-pub serves_opened : {S : Type 0} (stands : S → ServiceState) (cfg : ServeConfig) (node : NodeState) (n : ℕ) (server : Server S) (a b : Desk) (clock : ClockState) (c : Serving) (result : Result (Unit {0}) ServeFault) → StandsFor stands server (opened node)
+pub serves_opened : {S : Type 0} (stands : S → ServiceState) (cfg : ServeConfig) (node : NodeState) (n : ℕ) (server : Server S) (a b : Desk) (clock : ClockState) (c : Serving) (result : Result (Unit {0}) ServeFault) → StandsFor stands server (opened_run node)
     → Opens {T = Unit {0}} cfg a b (Ok tt) → Finishes stands cfg n server (with_clock b clock) c result → Serves cfg node n (with_clock a clock) c result
 serves_opened stands cfg node n server a b clock c result st u f = record {
   only = only_both a.files b.files c.files u.only.files f.keeps.only.files;

@@ -6,7 +6,7 @@ use Rattle.node_files.specs.LogTexts.{head_text}
 use Rattle.node_io.specs.Links.{Heard, Bind, LinkState}
 use Rattle.node_io.specs.FileMaps.{ChangesOnly, SavesFront}
 use Rattle.node_model.specs.State.{NodeState}
-use Rattle.serve_model.specs.Runs.{Running, opened, peers_of, node_run}
+use Rattle.serve_model.specs.Runs.{Running, opened_run, peers_of, node_run}
 use Rattle.serve_model.specs.Texts.{whole_trace}
 use Rattle.serve_model.specs.Follow.{lost_places}
 use Rattle.node_serve.specs.Fronts.{AppendsFront}
@@ -31,7 +31,7 @@ MayBind cfg old new = (new.binds ≡ old.binds) ⊎ IsBound cfg old new
 
 -- the link was bound, and the log and the trace were begun
 pub record Begins (cfg : ServeConfig) (old new : Desk) : Type 0 where
-  pub shows : (node : NodeState) → Shows cfg (start_at old node) (seen_at new) (opened node)
+  pub shows : (node : NodeState) → Shows cfg (start_at old node) (seen_at new) (opened_run node)
   pub binds : IsBound cfg old.link new.link
   pub script : new.link.script ≡ old.link.script
 

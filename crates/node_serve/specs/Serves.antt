@@ -4,7 +4,7 @@ use Rattle.network_plan.specs.declared.serve.ServeConfig.{ServeConfig}
 use Rattle.node_model.specs.State.{NodeState}
 use Rattle.node_io.specs.FileStates.{OnlyWrites}
 use Rattle.service_api.specs.Services.{ServiceState}
-use Rattle.serve_model.specs.Runs.{opened}
+use Rattle.serve_model.specs.Runs.{opened_run}
 use Rattle.node_serve.specs.Stays.{StandsFor}
 use Rattle.node_serve.specs.Desks.{Desk, Serving, desk_of, with_clock, IsSeen, OthersStay, KeepsDesk, Faults}
 use Rattle.node_serve.specs.Served.{Begins, Ends}
@@ -17,7 +17,7 @@ pub record Finishes {S T : Type 0} (stands : S → ServiceState) (cfg : ServeCon
     (old new : Serving) (result : Result T ServeFault) : Type 0 where
   pub keeps : KeepsDesk (desk_of old) (desk_of new)
   pub faults : Faults (desk_of old) (desk_of new) result
-  pub ends : IsSeen (desk_of old) → IsTrue old.clock.observable → (node : NodeState) (first : Desk) → StandsFor stands server (opened node)
+  pub ends : IsSeen (desk_of old) → IsTrue old.clock.observable → (node : NodeState) (first : Desk) → StandsFor stands server (opened_run node)
       → Begins cfg first (desk_of old) → Ends cfg node turns (with_clock first old.clock) new result
 
 -- a node served so many turns, or a prefix of them where it failed: only the log was made and written, the link was bound only

@@ -10,7 +10,7 @@ use Rattle.node_io.specs.FileMaps.{FileMap, file_at, ChangesOnly}
 use Rattle.node_serve.specs.Fronts.{AppendsFront}
 use Rattle.node_io.specs.Links.{Heard}
 use Rattle.node_model.specs.State.{NodeState}
-use Rattle.serve_model.specs.Runs.{Running, Action, opened, played}
+use Rattle.serve_model.specs.Runs.{Running, Action, opened_run, played}
 use Rattle.serve_model.specs.Texts.{begun_trace, whole_trace}
 use Rattle.serve_model.specs.Follow.{Ext, Fits}
 use Rattle.node_serve.specs.Sendings.{frames_of}
@@ -47,7 +47,7 @@ pub record IsReadable (v : Version) (e : LogEvent) : Type 0 where
 
 -- since the beginning, the log is that of the run so far, and the trace was written; a frame that was taken may be left to send
 pub record Sees (cfg : ServeConfig) (base : Start) (seen : Seen) (r : Running) : Type 0 where
-  pub grows : Ext (opened base.node) r
+  pub grows : Ext (opened_run base.node) r
   pub log : ChangesOnly base.files seen.files cfg.log (run_log cfg r)
   pub target : seen.target ≡ cfg.log
   pub out : seen.taken ≡ base.taken ++ run_trace cfg r

@@ -3,7 +3,7 @@ ghost use Rattle.link_window.specs.declared.window.Version.TheVariants as versio
 ghost use Rattle.network_plan.specs.NodeRules.{KeepsServe};
 ghost use Rattle.node_core.specs.Turns.{IsResting};
 ghost use Rattle.node_model.specs.State.{new_node};
-ghost use Rattle.serve_model.specs.Runs.{opened, peers_of};
+ghost use Rattle.serve_model.specs.Runs.{opened_run, peers_of};
 ghost use Rattle.node_serve.specs.Desks.{serving};
 ghost use Rattle.node_serve.specs.Moments as moments;
 ghost use Rattle.node_serve.specs.Moments.{ServesFrom};
@@ -64,7 +64,8 @@ fn open<S: Services + Drop>(
     requires keeps { KeepsServe cfg.now }
     requires services { IsResting (S.stands services) }
     ensures { IfOk result
-        (λ server. StandsFor S.stands server (opened (new_node cfg.now.node (S.stands services)))) }
+        (λ server. StandsFor S.stands server
+        (opened_run (new_node cfg.now.node (S.stands services)))) }
 {
     Ok(Server {
         node: begin_node(alloc, &cfg.node, services)?,

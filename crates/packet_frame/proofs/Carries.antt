@@ -15,7 +15,7 @@ use Rattle.chunk_spelling.proofs.ValueLaws.{chunk_part_lawful}
 use Rattle.chunk_spelling.proofs.WholeLaws.{only_by, fault_by, at_most_one}
 use Rattle.packet_frame.specs.declared.fault.FrameFault.{FrameFault}
 use Rattle.packet_frame.specs.Faults.{of_spelling}
-use Rattle.packet_frame.specs.Fields.{told, route_at, carried_at}
+use Rattle.packet_frame.specs.Fields.{told_fault, route_at, carried_at}
 use Rattle.packet_frame.specs.Reading.{Fails}
 
 -- a fault that the reading has is one that the call may answer
@@ -34,8 +34,8 @@ fails_with FrameFault.IllHandler r h = h
 fails_with FrameFault.NoMemory r h = tt
 
 module _ {A : Type 0} (p : Part A) (l : Lawful p) (none : (x : A) → p.nodes x ≡ 0) where
-  read_by : (f g : Front) (x : A) → SpelledAt p f x g → told of_spelling (p.read (from_front f)) ≡ Ok (x, from_front g)
-  read_by f g x h = ap (told of_spelling) (only_by p l none f g x h)
+  read_by : (f g : Front) (x : A) → SpelledAt p f x g → told_fault of_spelling (p.read (from_front f)) ≡ Ok (x, from_front g)
+  read_by f g x h = ap (told_fault of_spelling) (only_by p l none f g x h)
 
   refuses : (f : Front) (e : SpellFault) → FirstFaultAt e p.item f → p.read (from_front f) ≡ Err e
   refuses f e h = by_answer (p.read (from_front f)) refl
@@ -44,9 +44,9 @@ module _ {A : Type 0} (p : Part A) (l : Lawful p) (none : (x : A) → p.nodes x 
       by_answer (Ok q) k = absurd (no_fault step (goes_ok step (p.item ∷ []) (from_front f) (λ _. []) (p.read (from_front f)) q k (l.goes [] (from_front f)) e h))
       by_answer (Err d) k = k ∙ ap Err (at_most_one p l none f d e (fault_by p l none f d k) h)
 
-  refused_by : (f : Front) (e : SpellFault) → (e ≡ SpellFault.NoMemory) ⊎ FirstFaultAt e p.item f → Fails (of_spelling e) (told of_spelling (p.read (from_front f)))
-  refused_by f e (inl h) = let P : SpellFault → Type 0 = λ d. Fails (of_spelling d) (told of_spelling (p.read (from_front f))) in subst P (sym h) tt
-  refused_by f e (inr h) = fails_with (of_spelling e) _ (ap (told of_spelling) (refuses f e h))
+  refused_by : (f : Front) (e : SpellFault) → (e ≡ SpellFault.NoMemory) ⊎ FirstFaultAt e p.item f → Fails (of_spelling e) (told_fault of_spelling (p.read (from_front f)))
+  refused_by f e (inl h) = let P : SpellFault → Type 0 = λ d. Fails (of_spelling d) (told_fault of_spelling (p.read (from_front f))) in subst P (sym h) tt
+  refused_by f e (inr h) = fails_with (of_spelling e) _ (ap (told_fault of_spelling) (refuses f e h))
 
 pub chunk_read : (f g : Front) (x : Chunk) → SpelledAt a_whole_chunk f x g → carried_at (from_front f) ≡ Ok (x, from_front g)
 chunk_read = read_by a_whole_chunk (chunk_part_lawful 3) (λ _. refl)

@@ -23,7 +23,7 @@ use Rattle.packet_frame.specs.declared.fault.FrameFault.{FrameFault}
 use Rattle.service_api.specs.declared.advert.AdvertRow.{AdvertRow}
 use Rattle.packet_frame.specs.Bytes.{row_bytes}
 use Rattle.packet_frame.specs.Faults.{of_spelling, of_number}
-use Rattle.packet_frame.specs.Fields.{told, judged, number, bound_at, route_at, carried_at, count_at, row_host_at, cost_at, rows_from, rows_at}
+use Rattle.packet_frame.specs.Fields.{told_fault, judged_field, number, bound_at, route_at, carried_at, count_at, row_host_at, cost_at, rows_from, rows_at}
 use Rattle.packet_frame.specs.Forms.{FrameItem, a_host, a_serial, a_bound, a_route, a_carried_chunk, some_rows, rows_behind, a_cost, Field, Fields, done, ◌&◌, FieldValues, reads, bytes_of_fields, AllFit, items_of_fields, host_field, serial_field, bound_field, route_field, chunk_field, rows_field}
 use Rattle.service_api.specs.Adverts.{is_above, RowsFit}
 use Rattle.packet_frame.specs.Frames.{frame_step}
@@ -40,19 +40,19 @@ AllKept (p & ps) = Kept p × AllKept ps
 
 -- ---- one reading
 
-pub told_ok : {A : Type 0} (how : SpellFault → FrameFault) (r : Result A SpellFault) (x : A) → told how r ≡ Ok x → r ≡ Ok x
+pub told_ok : {A : Type 0} (how : SpellFault → FrameFault) (r : Result A SpellFault) (x : A) → told_fault how r ≡ Ok x → r ≡ Ok x
 told_ok how (Ok y) x h = ap Ok (ok_inj h)
 told_ok how (Err e) x h = cc
 
-pub told_is : {A : Type 0} (how : SpellFault → FrameFault) (r : Result A SpellFault) (x : A) → r ≡ Ok x → told how r ≡ Ok x
-told_is how r x h = ap (told how) h
+pub told_is : {A : Type 0} (how : SpellFault → FrameFault) (r : Result A SpellFault) (x : A) → r ≡ Ok x → told_fault how r ≡ Ok x
+told_is how r x h = ap (told_fault how) h
 
-pub judged_ok : {A : Type 0} (b : Bool) (e : FrameFault) (x y : A × Scan) → judged b e x ≡ Ok y → (b ≡ true) × (x ≡ y)
+pub judged_ok : {A : Type 0} (b : Bool) (e : FrameFault) (x y : A × Scan) → judged_field b e x ≡ Ok y → (b ≡ true) × (x ≡ y)
 judged_ok true e x y h = (refl, ok_inj h)
 judged_ok false e x y h = cc
 
-pub judged_is : {A : Type 0} (b : Bool) (e : FrameFault) (x : A × Scan) → b ≡ true → judged b e x ≡ Ok x
-judged_is b e x h = ap (λ c. judged c e x) h
+pub judged_is : {A : Type 0} (b : Bool) (e : FrameFault) (x : A × Scan) → b ≡ true → judged_field b e x ≡ Ok x
+judged_is b e x h = ap (λ c. judged_field c e x) h
 
 number_kept : (w : Width) (law : Wide w) (f g : Scan) (n : ℕ) → IsBytes f.front.rest → number w f ≡ Ok (n, g) → Took f (to_be_bytes w n) 0 g × (n < 2 ^ bits w)
 number_kept w law f g n h e = number_takes w law f g n h (told_ok of_number (number_field w f) (n, g) e)
@@ -77,7 +77,7 @@ serial_kept = record {
 }
 
 -- a number of four bytes that is judged
-judged_takes : (ok : ℕ → Bool) (bad : FrameFault) (f g : Scan) (n : ℕ) → IsBytes f.front.rest → (number w32 f >>= λ q. judged (ok q.0) bad q) ≡ Ok (n, g)
+judged_takes : (ok : ℕ → Bool) (bad : FrameFault) (f g : Scan) (n : ℕ) → IsBytes f.front.rest → (number w32 f >>= λ q. judged_field (ok q.0) bad q) ≡ Ok (n, g)
     → Took f (to_be_bytes w32 n) 0 g × (n < 2 ^ 32) × (ok n ≡ true)
 judged_takes ok bad f g n h e =
     let b = bind_ok (number w32 f) _ _ e in
@@ -86,7 +86,7 @@ judged_takes ok bad f g n h e =
     let P : ℕ × Scan → Type 0 = λ q. Took f (to_be_bytes w32 q.0) 0 q.1 × (q.0 < 2 ^ 32) × (ok q.0 ≡ true) in
     subst P j.1 (t.0, t.1, j.0)
 
-judged_again : (ok : ℕ → Bool) (bad : FrameFault) (f g : Scan) (n : ℕ) → n < 2 ^ 32 → ok n ≡ true → Took f (to_be_bytes w32 n) 0 g → (number w32 f >>= λ q. judged (ok q.0) bad q) ≡ Ok (n, g)
+judged_again : (ok : ℕ → Bool) (bad : FrameFault) (f g : Scan) (n : ℕ) → n < 2 ^ 32 → ok n ≡ true → Took f (to_be_bytes w32 n) 0 g → (number w32 f >>= λ q. judged_field (ok q.0) bad q) ≡ Ok (n, g)
 judged_again ok bad f g n h k t = bind_is _ (number_back w32 wide32 f g n h t) (judged_is _ bad (n, g) k)
 
 pub bound_kept : Kept bound_field
@@ -98,14 +98,14 @@ bound_kept = record {
 }
 
 -- a part of a spelling, with its faults told as those of the frame
-part_takes : {A : Type 0} (p : Part A) → Lawful p → ((x : A) → p.nodes x ≡ 0) → (f g : Scan) (x : A) → IsBytes f.front.rest → f.nodes ≤ 4096 → told of_spelling (p.read f) ≡ Ok (x, g)
+part_takes : {A : Type 0} (p : Part A) → Lawful p → ((x : A) → p.nodes x ≡ 0) → (f g : Scan) (x : A) → IsBytes f.front.rest → f.nodes ≤ 4096 → told_fault of_spelling (p.read f) ≡ Ok (x, g)
     → Took f (p.bytes x) 0 g × p.Fits x
 part_takes p l none f g x h k e =
     let t = l.takes f g x h k (told_ok of_spelling (p.read f) (x, g) e) in
     (Took-as refl (none x) t.took, t.fits)
 
 part_again : {A : Type 0} (p : Part A) → Lawful p → ((x : A) → p.nodes x ≡ 0) → (f g : Scan) (x : A) → p.Fits x → Took f (p.bytes x) 0 g → g.nodes ≤ 4096
-    → told of_spelling (p.read f) ≡ Ok (x, g)
+    → told_fault of_spelling (p.read f) ≡ Ok (x, g)
 part_again p l none f g x h t k = told_is of_spelling (p.read f) (x, g) (l.again f g x h (Took-as refl (sym (none x)) t) k)
 
 pub route_kept : Kept route_field

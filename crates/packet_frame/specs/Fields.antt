@@ -19,29 +19,29 @@ abbrev pub Reader : Type 0 → Type 0
 Reader A = Scan → Result (A × Scan) FrameFault
 
 -- the same reading, with its fault told otherwise
-abbrev pub told : {A : Type 0} → (SpellFault → FrameFault) → Result A SpellFault → Result A FrameFault
-told how (Ok x) = Ok x
-told how (Err e) = Err (how e)
+abbrev pub told_fault : {A : Type 0} → (SpellFault → FrameFault) → Result A SpellFault → Result A FrameFault
+told_fault how (Ok x) = Ok x
+told_fault how (Err e) = Err (how e)
 
 -- what was read may stand there, or else is the fault
-abbrev pub judged : {A : Type 0} → Bool → FrameFault → A × Scan → Result (A × Scan) FrameFault
-judged true e x = Ok x
-judged false e x = Err e
+abbrev pub judged_field : {A : Type 0} → Bool → FrameFault → A × Scan → Result (A × Scan) FrameFault
+judged_field true e x = Ok x
+judged_field false e x = Err e
 
 -- the next number
 abbrev pub number : Width → Reader ℕ
-number w s = told of_number (number_field w s)
+number w s = told_fault of_number (number_field w s)
 
 -- the letters PLAN
 unfoldable pub magic_at : Reader ℕ
 magic_at s = do
   n ← number w32 s
-  judged (n.0 == letters) FrameFault.BadMagic n
+  judged_field (n.0 == letters) FrameFault.BadMagic n
 
 unfoldable pub version_at : Reader ℕ
 version_at s = do
   n ← number w8 s
-  judged (n.0 == 1) FrameFault.BadVersion n
+  judged_field (n.0 == 1) FrameFault.BadVersion n
 
 -- the kind with that number
 abbrev pub kind_of : ℕ → Option Kind
@@ -60,32 +60,32 @@ kind_at s = do
 unfoldable pub bound_at : Reader ℕ
 bound_at s = do
   n ← number w32 s
-  judged (nat_le n.0 65535) FrameFault.BoundTooLarge n
+  judged_field (nat_le n.0 65535) FrameFault.BoundTooLarge n
 
 -- a name, and a chunk
 abbrev pub route_at : Reader (List ℕ)
-route_at s = told of_spelling (name_field s)
+route_at s = told_fault of_spelling (name_field s)
 
 abbrev pub carried_at : Reader Chunk
-carried_at s = told of_spelling (a_whole_chunk.read s)
+carried_at s = told_fault of_spelling (a_whole_chunk.read s)
 
 -- how many rows an advert has, at most 32
 unfoldable pub count_at : Reader ℕ
 count_at s = do
   n ← number w16 s
-  judged (nat_le n.0 32) (FrameFault.Spell (SpellFault.OverLimit Limit.Hosts s.front.at)) n
+  judged_field (nat_le n.0 32) (FrameFault.Spell (SpellFault.OverLimit Limit.Hosts s.front.at)) n
 
 -- a host is above the one before
 unfoldable pub row_host_at : Option ℕ → Reader ℕ
 row_host_at before s = do
   n ← number w32 s
-  judged (is_above before n.0) (FrameFault.BadOrder s.front.at) n
+  judged_field (is_above before n.0) (FrameFault.BadOrder s.front.at) n
 
 -- a cost of at most 65,535
 unfoldable pub cost_at : Reader ℕ
 cost_at s = do
   n ← number w32 s
-  judged (nat_le n.0 65535) (FrameFault.Spell (SpellFault.OverLimit Limit.Cost s.front.at)) n
+  judged_field (nat_le n.0 65535) (FrameFault.Spell (SpellFault.OverLimit Limit.Cost s.front.at)) n
 
 -- so many rows, whose hosts ascend
 unfoldable pub rows_from : Option ℕ → ℕ → Reader (List AdvertRow)

@@ -17,7 +17,7 @@ use Rattle.packet_frame.specs.declared.frame.PlainStamped.{PlainStamped}
 use Rattle.packet_frame.specs.declared.kind.Kind.{Kind}
 use Rattle.packet_frame.specs.declared.kind.Form.{Form}
 use Rattle.packet_frame.specs.Bytes.{letters, packet_bytes, rows_bytes, frame_bytes}
-use Rattle.packet_frame.specs.Fields.{Reader, number, judged, magic_at}
+use Rattle.packet_frame.specs.Fields.{Reader, number, judged_field, magic_at}
 use Rattle.packet_frame.specs.Forms.{Fields, ◌&◌, FieldValues, reads, serial_field, forms, frame_of_fields, FrameFits, IsPlain}
 use Rattle.read_laws.specs.Agenda.{FirstFault}
 use Rattle.packet_frame.specs.Forms.{FrameItem, the_magic, the_end, either_version}

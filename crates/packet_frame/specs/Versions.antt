@@ -12,7 +12,7 @@ use Rattle.packet_frame.specs.declared.frame.PlainStamped.{PlainStamped}
 use Rattle.packet_frame.specs.declared.kind.Kind.{Kind}
 use Rattle.packet_frame.specs.declared.kind.Form.{Form}
 use Rattle.packet_frame.specs.Bytes.{letters, packet_bytes, rows_bytes, frame_bytes}
-use Rattle.packet_frame.specs.Fields.{Reader, number, judged, magic_at}
+use Rattle.packet_frame.specs.Fields.{Reader, number, judged_field, magic_at}
 use Rattle.packet_frame.specs.Forms.{Fields, done, ◌&◌, host_field, bound_field, route_field, chunk_field, Fields, ◌&◌, FieldValues, reads, serial_field, forms, frame_of_fields, FrameFits}
 
 -- ---- what a node of version 2 reads
@@ -21,7 +21,7 @@ use Rattle.packet_frame.specs.Forms.{Fields, done, ◌&◌, host_field, bound_fi
 unfoldable pub either_version_at : Reader ℕ
 either_version_at s = do
   n ← number w8 s
-  judged (n.0 == 1 || n.0 == 2) FrameFault.BadVersion n
+  judged_field (n.0 == 1 || n.0 == 2) FrameFault.BadVersion n
 
 -- the form of a version and a kind
 abbrev pub form_of : ℕ → ℕ → Option Form

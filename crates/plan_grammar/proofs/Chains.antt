@@ -13,7 +13,7 @@ use Rattle.plan_grammar.specs.declared.node.Caught.{Caught}
 use Rattle.plan_grammar.specs.Ahead.{Front, Reader, ◌>>=◌, place, behind, next_kind, is_key}
 use Rattle.plan_grammar.specs.Types.{past}
 use Rattle.plan_grammar.specs.Joints.{joint_of}
-use Rattle.plan_grammar.specs.Nodes.{joined}
+use Rattle.plan_grammar.specs.Nodes.{joined_nodes}
 use Rattle.plan_grammar.specs.Exprs.{chain_from, binding, bindings_from, clause, clauses_from, clause_follows, begins_clause}
 
 module _ (one : Reader Node) (chain : Chain) where
@@ -27,7 +27,7 @@ module _ (one : Reader Node) (chain : Chain) where
   chain_zero fuel left f n = rw n refl
 
   chain_goes : (fuel rest : ℕ) (left : Node) (f : Front) (joint : Joint) → fuel ≡ suc rest → joint_of chain (next_kind f) ≡ Some joint
-      → chain_from one chain fuel left f ≡ (one (behind f) >>= λ right. chain_from one chain rest (joined joint left right.0) right.1)
+      → chain_from one chain fuel left f ≡ (one (behind f) >>= λ right. chain_from one chain rest (joined_nodes joint left right.0) right.1)
   unfolding chain_from
   chain_goes fuel rest left f joint n e = rw (n, e) refl
 
@@ -46,7 +46,7 @@ module _ (one : Reader Node) (chain : Chain) where
 
   -- an operand that is read is joined
   pub chain_step : (n k : ℕ) (left right : Node) (f g : Front) (joint : Joint) → k < n → joint_of chain (next_kind f) ≡ Some joint → one (behind f) ≡ Ok (right, g)
-      → chain_from one chain (n - k) left f ≡ chain_from one chain (n - (k + 1)) (joined joint left right) g
+      → chain_from one chain (n - k) left f ≡ chain_from one chain (n - (k + 1)) (joined_nodes joint left right) g
   chain_step n k left right f g joint h here step = chain_goes (n - k) (n - (k + 1)) left f joint (omega (arith, h)) here ∙ rw step refl
 
 module _ (inner : Level → Reader Node) (room : ℕ) where

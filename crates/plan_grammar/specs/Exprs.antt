@@ -30,7 +30,7 @@ use Rattle.plan_grammar.specs.Ahead.{Front, Reader, ◌>>=◌, place, behind, ne
 use Rattle.plan_grammar.specs.Begins.{begins_operand, begins_expr}
 use Rattle.plan_grammar.specs.Types.{opens, past, more, type_to}
 use Rattle.plan_grammar.specs.Joints.{joint_of}
-use Rattle.plan_grammar.specs.Nodes.{trees, leaf, over_one, over_two, over_three, over_four, over_list, joined, consed, bracketed, let_of, try_of}
+use Rattle.plan_grammar.specs.Nodes.{trees, leaf, over_one, over_two, over_three, over_four, over_list, joined_nodes, consed, bracketed, let_of, try_of}
 
 -- the expression that one token is
 abbrev pub literal_key : Key → Option Expr
@@ -62,7 +62,7 @@ need_open room f = if is_symbol symbols.ParenOpen f then (opens room f >>= λ o.
 
 -- one more operand where a joint stands
 abbrev pub chain_step : Reader Node → (Node → Reader Node) → Node → Front → Option Joint → Result (Node × Front) ParseFault
-chain_step one next left f (Some joint) = one (behind f) >>= λ right. next (joined joint left right.0) right.1
+chain_step one next left f (Some joint) = one (behind f) >>= λ right. next (joined_nodes joint left right.0) right.1
 chain_step one next left f None = Ok (left, f)
 
 -- further operands at one level, from left to right
@@ -377,7 +377,7 @@ module _ (inner : Level → Reader Node) (room : ℕ) where
 
   -- at most one comparison
   abbrev pub compared : Node → Front → Option Joint → Result (Node × Front) ParseFault
-  compared left f (Some joint) = listed (behind f) >>= λ right. Ok (joined joint left right.0, right.1)
+  compared left f (Some joint) = listed (behind f) >>= λ right. Ok (joined_nodes joint left right.0, right.1)
   compared left f None = Ok (left, f)
 
   unfoldable pub comparison : Reader Node

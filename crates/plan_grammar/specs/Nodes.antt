@@ -60,12 +60,12 @@ abbrev pub over_list : Expr → ℕ → List Node → Node
 over_list tree at ns = over tree at (below_all ns)
 
 -- two operands with what joins them, at the place of the left one
-abbrev pub joined : Joint → Node → Node → Node
-joined joint a b = over_two (joined_tree joint a.tree b.tree) a.at a b
+abbrev pub joined_nodes : Joint → Node → Node → Node
+joined_nodes joint a b = over_two (joined_tree joint a.tree b.tree) a.at a b
 
 -- an item before a list
 abbrev pub consed : Node → Node → Node
-consed a b = joined (joints.Operator ops.Cons) a b
+consed a b = joined_nodes (joints.Operator ops.Cons) a b
 
 -- items in brackets, before the empty list that the closing bracket stands for
 abbrev pub bracketed : List Node → Node → Node

@@ -56,8 +56,8 @@ lists_of zero t = t
 lists_of (suc n) t = lists_of n (ty.List t)
 
 -- a type that ends here and began there, judged by its depth, at most 8
-unfoldable pub judged : ℕ → ℕ → Ty → Result Ty ParseFault
-judged start n t = if nat_lt 8 (type_depth t + n) then Err (TooDeep start) else Ok (lists_of n t)
+unfoldable pub judged_type : ℕ → ℕ → Ty → Result Ty ParseFault
+judged_type start n t = if nat_lt 8 (type_depth t + n) then Err (TooDeep start) else Ok (lists_of n t)
 
 module _ (inner : Reader Ty) (room : ℕ) where
   -- the parts of a tuple type behind the first, up to the bracket
@@ -88,7 +88,7 @@ module _ (inner : Reader Ty) (room : ℕ) where
   unfoldable pub whole_type : Reader Ty
   whole_type f = do
     base ← base_type f
-    t ← judged (place f) (list_words base.1) base.0
+    t ← judged_type (place f) (list_words base.1) base.0
     Ok (t, behind_lists base.1)
 
 -- a type, with room for so many open constructs less one

@@ -13,7 +13,7 @@ use std::alloc::Global;
 
 /// Two operands with what joins them.
 pub fn joined(alloc: Global, joint: Joint, a: Node, b: Node) -> Result<Node, ParseFault>
-    ensures { Answers (Ok (spec.joined joint a b)) result }
+    ensures { Answers (Ok (spec.joined_nodes joint a b)) result }
 {
     let at = a.at;
     let (a, b, below) = boxed_two(alloc, a, b)?;
@@ -27,7 +27,7 @@ pub fn joined_kept(
     a: Boxed<Node>,
     b: Node,
 ) -> Result<Boxed<Node>, ParseFault>
-    ensures { Answers (Ok (spec.joined joint a b)) result }
+    ensures { Answers (Ok (spec.joined_nodes joint a b)) result }
 {
     let node = joined(alloc, joint, a.into_inner(), b)?;
     kept(alloc, node)

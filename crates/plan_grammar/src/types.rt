@@ -3,7 +3,7 @@ ghost use Rattle.std.specs.Prelude.{ℕ, List, ◌≡◌, ◌+◌, ◌≤◌, []
 ghost use Rattle.plan_grammar.specs.Ahead.{Gives, Answers, next_kind};
 ghost use Rattle.plan_grammar.specs.Begins as begins;
 ghost use Rattle.plan_grammar.specs.Begins.{begins_type};
-ghost use Rattle.plan_grammar.specs.Types.{opens, past, more, named, list_words, behind_lists, lists_of, judged, type_to};
+ghost use Rattle.plan_grammar.specs.Types.{opens, past, more, named, list_words, behind_lists, lists_of, judged_type, type_to};
 ghost use Rattle.plan_grammar.specs.Types as spec;
 ghost use Rattle.plan_grammar.specs.Inside.{ReadsTypes};
 ghost use Rattle.plan_grammar.specs.declared.fault.ParseFault.TheVariants.{TooDeep, NoMemory};
@@ -127,9 +127,9 @@ fn lists_of(alloc: Global, count: u32, t: Ty) -> Result<Ty, ParseFault>
 }
 
 /// A list of lists of `base`, with `words` levels, which began at `start` and must not be too deep.
-#[tactic(auto, unfolding(crate::specs::Types::judged))]
+#[tactic(auto, unfolding(crate::specs::Types::judged_type))]
 fn judged(alloc: Global, start: u32, words: usize, base: Ty) -> Result<Ty, ParseFault>
-    ensures { Answers (judged start words base) result }
+    ensures { Answers (judged_type start words base) result }
 {
     let depth = base.depth() as usize;
     if words > MOST_TYPE_DEPTH || depth + words > MOST_TYPE_DEPTH {

@@ -99,8 +99,8 @@ answered_in zero at (b ∷ more) small = absurd (omega arith)
 answered_in (suc fuel) at (b ∷ more) small = answer_step fuel (answered_in fuel) at (b ∷ more) (omega arith) (omega arith) (move_at at (b ∷ more)) refl
 
 -- each text has its tokens or a refusal
-pub answered : (at : ℕ) (text : List ℕ) → IsAnswered at text
-answered at text = answered_in (length text) at text (omega arith)
+pub tokens_or_refusal : (at : ℕ) (text : List ℕ) → IsAnswered at text
+tokens_or_refusal at text = answered_in (length text) at text (omega arith)
 
 -- a token that was read
 abbrev read_as : TokenKind → ℕ → Result (TokenKind × ℕ) LexFault

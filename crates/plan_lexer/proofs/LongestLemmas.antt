@@ -39,14 +39,14 @@ word_least at n text h = by_test (nat_lt 32 (word_len text))
     by_test false = omega arith
 
 -- a number that is judged by its size
-abbrev judged : ℕ → Bool → ℕ → ℕ → Result (ℕ × ℕ) LexFault
-judged at large value len = cond large (Err (NumberTooLarge at)) (Ok (value, len))
+abbrev judged_number : ℕ → Bool → ℕ → ℕ → Result (ℕ × ℕ) LexFault
+judged_number at large value len = cond large (Err (NumberTooLarge at)) (Ok (value, len))
 
 number_least : (at most n base : ℕ) (text : List ℕ) (make : ℕ → TokenKind) → at + n ≤ base + digits_len text → TakesAtLeast at n (number_at at most text >>= λ v. Ok (make v.0, base + v.1))
 unfolding number_at
 number_least at most n base text make h = by_test (nat_lt most (number_of (take (digits_len text) text)))
   where
-    by_test : (t : Bool) → TakesAtLeast at n (judged at t (number_of (take (digits_len text) text)) (digits_len text) >>= λ v. Ok (make v.0, base + v.1))
+    by_test : (t : Bool) → TakesAtLeast at n (judged_number at t (number_of (take (digits_len text) text)) (digits_len text) >>= λ v. Ok (make v.0, base + v.1))
     by_test true = inr refl
     by_test false = h
 
@@ -58,7 +58,7 @@ part_by_zero : (at n value len : ℕ) → at + n ≤ at + 1 + len → (z : Bool)
 part_by_zero at n value len h true = inr refl
 part_by_zero at n value len h false = h
 
-part_by_size : (at n value len : ℕ) → at + n ≤ at + 1 + len → (t : Bool) → TakesAtLeast at n (judged at t value len >>= λ v. cond (v.0 == 0) (Err (NumberTooLarge at)) (Ok (kind.Part v.0, at + 1 + v.1)))
+part_by_size : (at n value len : ℕ) → at + n ≤ at + 1 + len → (t : Bool) → TakesAtLeast at n (judged_number at t value len >>= λ v. cond (v.0 == 0) (Err (NumberTooLarge at)) (Ok (kind.Part v.0, at + 1 + v.1)))
 part_by_size at n value len h true = inr refl
 part_by_size at n value len h false = part_by_zero at n value len h (value == 0)
 

@@ -26,19 +26,19 @@ by_move text found at rest (Some k) next sofar some is = record {
   err = λ e h. sofar.err e (past at rest (Some k) next some is h);
 }
 
-pub moved : (text : List ℕ) (found : List Token) (at : ℕ) (rest : List ℕ) (move : Option TokenKind) (next : ℕ) (more : List Token) (left : List ℕ)
+pub move_scans : (text : List ℕ) (found : List Token) (at : ℕ) (rest : List ℕ) (move : Option TokenKind) (next : ℕ) (more : List Token) (left : List ℕ)
     → SoFar text found at rest → 0 < length rest → move_at at rest ≡ Ok (move, next) → more ≡ with_move found at move next → left ≡ rest_at at rest next → SoFar text more next left
-moved text found at rest move next more left sofar some is more_is left_is =
+move_scans text found at rest move next more left sofar some is more_is left_is =
     subst (λ ts. SoFar text ts next left) (sym more_is) (subst (λ bs. SoFar text (with_move found at move next) next bs) (sym left_is) (by_move text found at rest move next sofar some is))
 
-pub refused : (text : List ℕ) (found : List Token) (at : ℕ) (rest : List ℕ) (e : LexFault) → SoFar text found at rest → 0 < length rest
+pub refusal_stops : (text : List ℕ) (found : List Token) (at : ℕ) (rest : List ℕ) (e : LexFault) → SoFar text found at rest → 0 < length rest
     → Fails e (move_at at rest) → (e ≡ NoMemory) ⊎ Refuses e 0 text
-refused text found at rest NoMemory sofar some is = inl refl
-refused text found at rest (BadChar n) sofar some is = inr (sofar.err (BadChar n) (here at rest some is))
-refused text found at rest (OpenString n) sofar some is = inr (sofar.err (OpenString n) (here at rest some is))
-refused text found at rest (OpenComment n) sofar some is = inr (sofar.err (OpenComment n) (here at rest some is))
-refused text found at rest (NumberTooLarge n) sofar some is = inr (sofar.err (NumberTooLarge n) (here at rest some is))
-refused text found at rest (LongName n) sofar some is = inr (sofar.err (LongName n) (here at rest some is))
+refusal_stops text found at rest NoMemory sofar some is = inl refl
+refusal_stops text found at rest (BadChar n) sofar some is = inr (sofar.err (BadChar n) (here at rest some is))
+refusal_stops text found at rest (OpenString n) sofar some is = inr (sofar.err (OpenString n) (here at rest some is))
+refusal_stops text found at rest (OpenComment n) sofar some is = inr (sofar.err (OpenComment n) (here at rest some is))
+refusal_stops text found at rest (NumberTooLarge n) sofar some is = inr (sofar.err (NumberTooLarge n) (here at rest some is))
+refusal_stops text found at rest (LongName n) sofar some is = inr (sofar.err (LongName n) (here at rest some is))
 
 ends_at : (at : ℕ) (rest : List ℕ) → length rest ≡ 0 → Toks at rest []
 ends_at at [] is = ends at

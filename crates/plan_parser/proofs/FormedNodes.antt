@@ -23,7 +23,7 @@ use Rattle.plan_grammar.specs.declared.node.Below.{Below}
 use Rattle.plan_grammar.specs.declared.node.Node.{Node}
 use Rattle.plan_grammar.specs.declared.node.Bound.{Bound}
 use Rattle.plan_grammar.specs.declared.node.Caught.{Caught}
-use Rattle.plan_grammar.specs.Nodes.{all_at, trees, leaf, over, over_one, over_two, over_three, over_four, over_list, joined, bracketed, bound, let_of, clauses_of, bodies, try_of}
+use Rattle.plan_grammar.specs.Nodes.{all_at, trees, leaf, over, over_one, over_two, over_three, over_four, over_list, joined_nodes, bracketed, bound, let_of, clauses_of, bodies, try_of}
 use Rattle.plan_parser.proofs.FormedTypes.{Each, Good}
 
 pub record Sound (n : Node) : Type 0 where
@@ -70,7 +70,7 @@ two_deep a b p q h = let d = p.deep (omega (arith, h)) in let e = q.deep (omega 
 two_nodes : (a b : Node) → Sound a → Sound b → 1 + expr_nodes a.tree + expr_nodes b.tree ≡ suc (length (all_at a ++ all_at b))
 two_nodes a b p q = let e = length-append (all_at a) (all_at b) in let m = p.nodes in let n = q.nodes in omega (arith, m, n, e)
 
-pub joined_sound : (joint : Joint) (a b : Node) → Sound a → Sound b → Sound (joined joint a b)
+pub joined_sound : (joint : Joint) (a b : Node) → Sound a → Sound b → Sound (joined_nodes joint a b)
 joined_sound (joints.Operator op) a b p q = over_sound (Expr-F.Binary op a.tree b.tree) (x.rolls-Binary op a.tree b.tree) a.at _ (both p.formed q.formed) (two_deep a b p q) (two_nodes a b p q)
 joined_sound joints.And a b p q = over_sound (Expr-F.And a.tree b.tree) (x.rolls-And a.tree b.tree) a.at _ (both p.formed q.formed) (two_deep a b p q) (two_nodes a b p q)
 joined_sound joints.Or a b p q = over_sound (Expr-F.Or a.tree b.tree) (x.rolls-Or a.tree b.tree) a.at _ (both p.formed q.formed) (two_deep a b p q) (two_nodes a b p q)

@@ -32,7 +32,7 @@ use Rattle.plan_parser.proofs.FormedReads.{name_holds, expr_holds}
 use Rattle.plan_parser.specs.declared.signature.Head.{Head}
 use Rattle.plan_parser.specs.declared.program.Gathered.{Gathered}
 use Rattle.plan_parser.specs.Signatures.{outer_type, inner_type, arguments_from, arguments_behind, service_at, param_at, params_from, params_behind, head_at}
-use Rattle.plan_parser.specs.Programs.{nothing, one_more, with_service, with_exception, judged, function_of, with_body, with_function, with_declaration, declarations, draft_of, finished, program_of, Placed}
+use Rattle.plan_parser.specs.Programs.{nothing, one_more, with_service, with_exception, judged_function, function_of, with_body, with_function, with_declaration, declarations, draft_of, finished, program_of, Placed}
 
 -- tokens behind a place keep the limits of their kinds
 pub kinds_of : (from len : ℕ) (ts : List Token) → AreTokens from len ts → Kinds ts
@@ -203,8 +203,8 @@ exception_good g f h k =
 abbrev Fits : ℕ → ℕ → Unit {0} → Type 0
 Fits depth nodes _ = (depth ≤ 64) × (nodes ≤ 4096)
 
-judged_holds : (at depth nodes : ℕ) (f : Front) → Kinds f.tokens → Holds (Fits depth nodes) (judged at depth nodes f)
-unfolding judged
+judged_holds : (at depth nodes : ℕ) (f : Front) → Kinds f.tokens → Holds (Fits depth nodes) (judged_function at depth nodes f)
+unfolding judged_function
 judged_holds at depth nodes f k =
     choose (Fits depth nodes) (nat_lt 64 depth) _ _ (λ _. tt) (λ d. choose (Fits depth nodes) (nat_lt 4096 nodes) _ _ (λ _. tt)
     (λ e. ((grind (arith, nat_tests, d), grind (arith, nat_tests, e)), k)))

@@ -37,7 +37,7 @@ use Rattle.plan_grammar.specs.declared.node.SendParts.{SendParts}
 use Rattle.plan_grammar.specs.Ahead.{Front, Reader, place, behind, kind_in, next_kind, is_symbol, is_key, need_key, name_kind, name_at}
 use Rattle.plan_grammar.specs.Begins.{begins_operand, begins_expr}
 use Rattle.plan_grammar.specs.Joints.{joint_of}
-use Rattle.plan_grammar.specs.Nodes.{leaf, joined, clauses_of}
+use Rattle.plan_grammar.specs.Nodes.{leaf, joined_nodes, clauses_of}
 use Rattle.plan_grammar.specs.Exprs.{literal_key, literal, literal_from, opens_at, need_open, chain_step, chain_from, catch_at, clause_follows, items_from, arguments_behind, arguments, call, named, chunk, tuple, single, grouped, parens_behind, parens, typed_nil, listing, brackets_behind, brackets, binding, bindings_from, let_form, clause, clauses_from, try_form, raise_typed, raise_plain, raise_form, before_comma, before_close, fold_parts, foldl_form, foldr_form, eval_form, send_parts, remote_form, neighbor_form, key_form, symbol_form, picked, operand_kind, operand, chained, product, addition, before_list, listed, compared, comparison, negation, negated, conjunction, disjunction, condition, low, before_next, whole, at_level, expr_to}
 use Rattle.plan_grammar.proofs.Builds.{clauses_last}
 use Rattle.plan_parser.proofs.FormedTypes.{Kinds, Holds, Any, step, choose, weaken, behind_kinds, symbol_holds, opens_holds, Each, each_last, Between, more_holds, more_some, Good, type_holds}
@@ -111,7 +111,7 @@ module _ (one : Reader Node) (reads : (f : Front) → Kinds f.tokens → Holds S
   step_holds : (next : Node → Reader Node) → ((l : Node) (f : Front) → Sound l → Kinds f.tokens → Holds Sound (next l f))
       → (left : Node) (f : Front) (joint : Option Joint) → Sound left → Kinds f.tokens → Holds Sound (chain_step one next left f joint)
   step_holds next h left f (Some joint) p k =
-      step Sound Sound (one (behind f)) _ (reads (behind f) (behind_kinds f k)) (λ right g q r. h (joined joint left right) g (joined_sound joint left right p q) r)
+      step Sound Sound (one (behind f)) _ (reads (behind f) (behind_kinds f k)) (λ right g q r. h (joined_nodes joint left right) g (joined_sound joint left right p q) r)
   step_holds next h left f None p k = (p, k)
 
   chain_holds : (fuel : ℕ) (left : Node) (f : Front) → Sound left → Kinds f.tokens → Holds Sound (chain_from one chain fuel left f)

@@ -27,11 +27,11 @@ use Rattle.plan_grammar.specs.declared.fault.Wanted.{Wanted}
 use Rattle.plan_grammar.specs.declared.fault.Wanted.TheVariants as wanted
 use Rattle.plan_grammar.specs.Ahead.{Front, Reader, ◌>>=◌, place, behind, next_kind, is_symbol, need_symbol}
 use Rattle.plan_grammar.specs.Begins.{simple_type, kind_type, begins_type}
-use Rattle.plan_grammar.specs.Types.{opens, more, named, after_lists, list_words, behind_lists, is_list_word, lists_of, judged, tuple_type, single_type, group_type, base_type, whole_type, type_to}
+use Rattle.plan_grammar.specs.Types.{opens, more, named, after_lists, list_words, behind_lists, is_list_word, lists_of, judged_type, tuple_type, single_type, group_type, base_type, whole_type, type_to}
 
-pub left : (b c : Bool) → (b && c) ≡ true → b ≡ true
-left true c h = refl
-left false c h = h
+pub left_of_both : (b c : Bool) → (b && c) ≡ true → b ≡ true
+left_of_both true c h = refl
+left_of_both false c h = h
 
 -- each token keeps the limits of its kind
 abbrev pub Kinds : List Token → Type 0
@@ -139,7 +139,7 @@ good t f d = both f (le-leb (type_depth t) 8 d)
 
 pub formed_of : (t : Ty) → Good t → Formed t
 unfolding well_formed_type
-formed_of t g = left (formed_type t) (nat_le (type_depth t) 8) g
+formed_of t g = left_of_both (formed_type t) (nat_le (type_depth t) 8) g
 
 pub formed_roll : (x : Ty-F Ty) {t : Ty} → roll-Ty x ≡ t → formed_type_level formed_type x ≡ true → Formed t
 formed_roll x r h = subst Formed r (formed_type_out (roll-Ty x) ∙ (ap (formed_type_level formed_type) (out-roll-Ty x) ∙ h))
@@ -196,8 +196,8 @@ abbrev GoodOr : Result Ty ParseFault → Type 0
 GoodOr (Ok t) = Good t
 GoodOr (Err e) = Unit {0}
 
-judged_good : (start n : ℕ) (t : Ty) → Formed t → GoodOr (judged start n t)
-unfolding judged
+judged_good : (start n : ℕ) (t : Ty) → Formed t → GoodOr (judged_type start n t)
+unfolding judged_type
 judged_good start n t h = by_depth (nat_lt 8 (type_depth t + n)) refl
   where
     by_depth : (b : Bool) → nat_lt 8 (type_depth t + n) ≡ b → GoodOr (if b then Err (TooDeep start) else Ok (lists_of n t))
@@ -233,7 +233,7 @@ module _ (inner : Reader Ty) (room : ℕ) (reads : (f : Front) → Kinds f.token
 
   whole_holds : (f : Front) → Kinds f.tokens → Holds Good (whole_type inner room f)
   unfolding whole_type
-  whole_holds f k = step Formed Good _ _ (base_holds f k) (λ base g p r. by_judged (judged (place f) (list_words g) base) (judged_good (place f) (list_words g) base p) g r)
+  whole_holds f k = step Formed Good _ _ (base_holds f k) (λ base g p r. by_judged (judged_type (place f) (list_words g) base) (judged_good (place f) (list_words g) base p) g r)
     where
       by_judged : (j : Result Ty ParseFault) → GoodOr j → (g : Front) → Kinds g.tokens → Holds Good (j >>= λ t. Ok (t, behind_lists g))
       by_judged (Ok t) h g r = (h, behind_lists_kinds g r)

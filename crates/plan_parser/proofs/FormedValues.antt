@@ -30,7 +30,7 @@ use Rattle.plan_grammar.specs.declared.fault.Wanted.TheVariants as wanted
 use Rattle.plan_grammar.specs.Ahead.{Front, Reader, ◌>>=◌, place, behind, next_kind, is_symbol, need_symbol}
 use Rattle.plan_grammar.specs.Types.{opens}
 use Rattle.plan_parser.specs.declared.item.TypedValue.{TypedValue}
-use Rattle.plan_parser.specs.Values.{typed, literal_key, literal, literal_from, begins_value, tuple_of, list_of, judged, fits, tuple_from, tuple, grouped, parens, like, listing, typed_nil, brackets, value_at, value_to, ended, argument_at, arguments_from, arguments_behind, value_of, args_of}
+use Rattle.plan_parser.specs.Values.{typed, literal_key, literal, literal_from, begins_value, tuple_of, list_of, judged_item, fits, tuple_from, tuple, grouped, parens, like, listing, typed_nil, brackets, value_at, value_to, ended, argument_at, arguments_from, arguments_behind, value_of, args_of}
 use Rattle.plan_parser.proofs.FormedTypes.{Kinds, Holds, Any, step, choose, behind_kinds, symbol_holds, Each, each_test, Between, more_holds, more_some, Good, formed_of, formed_roll, depth_roll, type_holds}
 use Rattle.plan_parser.proofs.FormedReads.{KindOf, kind_of_next, text_well}
 use Rattle.plan_parser.proofs.FormedPrograms.{kinds_of}
@@ -169,8 +169,8 @@ tuple_good n is some q =
           let d = largest_within type_depth n ts 0 (omega arith) (each_map (GoodItem n) (λ t. type_depth t ≤ n) (λ i. i.ty) (λ i h. h.shallow) is q.all) in omega (arith, e, d));
     }
 
-judged_holds : (n at : ℕ) (t : Ty) (i : TypedValue) (f : Front) → GoodItem n i → Kinds f.tokens → Holds (GoodValue n) (judged t at i f)
-unfolding judged
+judged_holds : (n at : ℕ) (t : Ty) (i : TypedValue) (f : Front) → GoodItem n i → Kinds f.tokens → Holds (GoodValue n) (judged_item t at i f)
+unfolding judged_item
 judged_holds n at t i f q k = choose (GoodValue n) (same_type i.ty t) _ _ (λ _. (q.value, k)) (λ _. tt)
 
 -- a judgement without tokens, and then a reading

@@ -40,8 +40,8 @@ with_exception g f = do
   Ok (record g { exns = g.exns ++ name.0 ∷ []; exn_at = g.exn_at ++ place f ∷ [] }, name.1)
 
 -- a function that was read: its depth is judged, and then the number of all expressions
-unfoldable pub judged : ℕ → ℕ → ℕ → Reader (Unit {0})
-judged at depth nodes f =
+unfoldable pub judged_function : ℕ → ℕ → ℕ → Reader (Unit {0})
+judged_function at depth nodes f =
     if nat_lt 64 depth then Err (TooDeep at) else if nat_lt 4096 nodes then Err (TooMany limits.Nodes at) else Ok (tt, f)
 
 -- a head with its body
@@ -51,7 +51,7 @@ function_of h body = record { name = h.name; params = h.params; result = h.resul
 -- a function that was read, with the place of its word
 unfoldable pub with_body : ℕ → Gathered → Head → Node → Reader Gathered
 with_body at g head body f = do
-  fits ← judged at body.depth (length (g.node_at ++ all_at body)) f
+  fits ← judged_function at body.depth (length (g.node_at ++ all_at body)) f
   Ok (record g { funs = g.funs ++ function_of head body ∷ []; fun_at = g.fun_at ++ at ∷ []; node_at = g.node_at ++ all_at body }, fits.1)
 
 unfoldable pub with_function : Gathered → Reader Gathered

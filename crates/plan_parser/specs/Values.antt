@@ -57,8 +57,8 @@ abbrev pub list_of : Ty → List Value → TypedValue
 list_of t vs = typed (v.List t vs) (ty.List t)
 
 -- an item of a list must have the type of the first
-unfoldable pub judged : Ty → ℕ → TypedValue → Front → Result (Value × Front) ParseFault
-judged t at i f = if same_type i.ty t then Ok (i.value, f) else Err (Expected wanted.AValue at)
+unfoldable pub judged_item : Ty → ℕ → TypedValue → Front → Result (Value × Front) ParseFault
+judged_item t at i f = if same_type i.ty t then Ok (i.value, f) else Err (Expected wanted.AValue at)
 
 -- an empty list counts as deep as its element type
 unfoldable pub fits : ℕ → ℕ → Ty → Result (Unit {0}) ParseFault
@@ -92,7 +92,7 @@ module _ (inner : Reader TypedValue) (outside room : ℕ) where
   unfoldable pub like : Ty → Reader Value
   like t f = do
     i ← inner f
-    judged t (place f) i.0 i.1
+    judged_item t (place f) i.0 i.1
 
   -- items in brackets
   unfoldable pub listing : Reader TypedValue

@@ -63,9 +63,9 @@ fn with_exception(
 }
 
 /// Judges a function that was read: its depth, and then the number of all expressions.
-#[tactic(auto, unfolding(crate::specs::Programs::judged))]
+#[tactic(auto, unfolding(crate::specs::Programs::judged_function))]
 fn judged(at: u32, depth: u32, nodes: usize, ahead: &Ahead<'_>) -> Result<(), ParseFault>
-    ensures { Gives (spec.judged at depth nodes ahead.now) result ahead.now }
+    ensures { Gives (spec.judged_function at depth nodes ahead.now) result ahead.now }
 {
     if depth > MOST_DEPTH {
         return Err(ParseFault::TooDeep(at));

@@ -42,9 +42,9 @@ pub fn past_value(ahead: &Ahead<'_>, limit: Limit) -> ParseFault
 }
 
 /// Refuses an item of a list that hasn't the type of the first.
-#[tactic(auto, unfolding(crate::specs::Values::judged))]
+#[tactic(auto, unfolding(crate::specs::Values::judged_item))]
 fn judged(t: &Ty, at: u32, item: TypedValue, ahead: &Ahead<'_>) -> Result<Value, ParseFault>
-    ensures { Gives (spec.judged t.now at item ahead.now) result ahead.now }
+    ensures { Gives (spec.judged_item t.now at item ahead.now) result ahead.now }
 {
     if !item.ty.is(t) {
         return Err(ParseFault::Expected(Wanted::AValue, at));

@@ -66,10 +66,10 @@ of_refusal SpawnFault f h = tt
 of_refusal NoMemory f h = tt
 of_refusal (NodesFailed host s) f h = tt
 
-noted : (found given : Cause) (n m : SinkState) → Notes found n m given → Writes n m (note_text given) ⊎ ((given ≡ WriteFault) × ((note : Cause) × FailsIn n m (note_text note)))
-noted found given n m (told w) = inl w
-noted found given n m (no_memory w) = inl w
-noted found given n m (failed cause is f) = inr (refl, (cause, f))
+note_written : (found given : Cause) (n m : SinkState) → Notes found n m given → Writes n m (note_text given) ⊎ ((given ≡ WriteFault) × ((note : Cause) × FailsIn n m (note_text note)))
+note_written found given n m (told w) = inl w
+note_written found given n m (no_memory w) = inl w
+note_written found given n m (failed cause is f) = inr (refl, (cause, f))
 
 -- only words that are no command ask for nothing
 made_asked : {A : Type 0} (made : A → Outcome) (s : Said A) → ((v : A) → made v ≢ unasked) → outcome_by made s ≢ unasked
@@ -133,7 +133,7 @@ module _ (q : Option Request) (cause : Cause) (old new : Outside) (n m : SinkSta
 
   -- the note of the cause was written, or the notes failed in the note of what was found or of `NoMemory`
   pub is_noted : Writes n m (note_text cause) ⊎ ((cause ≡ WriteFault) × ((note : Cause) × FailsIn n m (note_text note)))
-  is_noted = noted call.found cause n m call.notes
+  is_noted = note_written call.found cause n m call.notes
 
 -- words that are no command
 pub usage_given : (cause : Cause) (old new : Outside) (n m : SinkState) → Calls None cause old new n m → Gives Usage cause (HasRisen n.faults m.faults)

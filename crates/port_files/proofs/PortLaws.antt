@@ -19,7 +19,7 @@ use Rattle.line_files.proofs.Keeping.{IfRead, then_keeps, done_keeps, allowed_tr
 use Rattle.line_files.proofs.Placing.{fault_done, fault_here, Places, refuses_read}
 use Rattle.node_files.specs.Parts.{behind_word}
 use Rattle.node_files.specs.Answers.{Accepted, Refused}
-use Rattle.node_files.proofs.PartLaws.{header_keeps, usual_keeps, header_placed, usual_placed, answered}
+use Rattle.node_files.proofs.PartLaws.{header_keeps, usual_keeps, header_placed, usual_placed, value_or_refusal}
 use Rattle.port_files.specs.declared.file.PortEvent.{PortEvent}
 use Rattle.port_files.specs.declared.file.PortEvent.TheVariants as event
 use Rattle.port_files.specs.declared.file.PortFile.{PortFile}
@@ -207,4 +207,4 @@ port_places = record {
 }
 
 pub port_answered : (bytes : List ℕ) → Accepted port_of bytes ⊎ Refused port_of bytes
-port_answered bytes = answered port_format nothing_read (refuses_read port_format nothing_read Anywhere port_places tt) bytes
+port_answered bytes = value_or_refusal port_format nothing_read (refuses_read port_format nothing_read Anywhere port_places tt) bytes

@@ -30,12 +30,12 @@ use Rattle.port_visits.proofs.Closed.{data_closed, ack_closed}
 use Rattle.port_node.specs.Known.{IsClosed, FrameKnown, StampedKnown, NodeKnown, WorldKnown, LineKnown, EventKnown, ComesKnown}
 use Rattle.port_node.proofs.Worlds.{event_known}
 use Rattle.port_run.specs.Ports.{PortState, PortEvent, Offer, Transmit, Wire, first_host, second_host, price, int_in, blob_in, pair_with, pair_in, said_to, heard_by, makes, first_pays, second_pays, ack_event, message_event, acks, hears_message, hears_ack, hears_note, hears_line, hears, after, offers_one, transmits, happens_at, port_run, port_begun}
-use Rattle.port_run.specs.Allowed.{numbered, PortChunk, PortNote, port_allowed, NoNote, PortServes, IsWire}
+use Rattle.port_run.specs.Allowed.{body_numbered, PortChunk, PortNote, port_allowed, NoNote, PortServes, IsWire}
 
 -- ---- what is allowed grows
 
 record Grows (os : List Body) (n : ℕ) (ps : List Body) (m : ℕ) : Type 0 where
-  pub offers : (seq : ℕ) (b : Body) → numbered seq os ≡ Some b → numbered seq ps ≡ Some b
+  pub offers : (seq : ℕ) (b : Body) → body_numbered seq os ≡ Some b → body_numbered seq ps ≡ Some b
   pub acks : n ≤ m
 
 chunk_grows : (os ps : List Body) (n m : ℕ) → Grows os n ps m → (k : Chunk) → PortChunk os n k → PortChunk ps m k
@@ -111,7 +111,7 @@ module _ (offer : Offering) where
   pair_out : (z : ℤ) (b : Body) → pair_in (out-Value (value.Tuple (value.Int z ∷ value.Blob b ∷ []))) ≡ Some (z, b)
   pair_out z b = ap pair_in (value.outs-Tuple (value.Int z ∷ value.Blob b ∷ [])) ∙ (λ i. pair_with (int_in (value.outs-Int z i)) (blob_in (value.outs-Blob b i)))
 
-  same_message : (seq : ℕ) (os : List Body) → numbered seq os ≡ message seq os
+  same_message : (seq : ℕ) (os : List Body) → body_numbered seq os ≡ message seq os
   same_message zero os = refl
   same_message (suc i) os = refl
 
@@ -214,7 +214,7 @@ module _ (offer : Offering) where
     comes os n (event.Lose k) h = tt
     comes os n (event.Tick g) h = tt
 
-    more_offers : (seq : ℕ) (os : List Body) (b c : Body) → numbered seq os ≡ Some c → numbered seq (os ++ b ∷ []) ≡ Some c
+    more_offers : (seq : ℕ) (os : List Body) (b c : Body) → body_numbered seq os ≡ Some c → body_numbered seq (os ++ b ∷ []) ≡ Some c
     more_offers zero os b c h = absurd cc
     more_offers (suc i) os b c h = get_more os (b ∷ []) i c h
 

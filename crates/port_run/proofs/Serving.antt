@@ -13,7 +13,7 @@ use Rattle.service_api.specs.Services.{Rows}
 use Rattle.service_meaning.specs.declared.service.Service.TheVariants as service
 use Rattle.service_meaning.specs.Offered.{InstalledPackages, type_of}
 use Rattle.value_rules.specs.Rules.{bad_index}
-use Rattle.service_meaning.specs.Answers.{given, noted, raised, of_host, of_int, delivered}
+use Rattle.service_meaning.specs.Answers.{given, noted_answer, raised, of_host, of_int, delivered}
 use Rattle.service_meaning.specs.Serving.{serve, serve_at, serve_offered, offer}
 use Rattle.port_tree.specs.Programs.{this_host_is, get_rb, deliver}
 use Rattle.port_visits.specs.Only.{AnswerFits}
@@ -28,16 +28,16 @@ purse_at : (o : Option Ty) (ctx : Ctx) (rows : Rows) → AnswerFits NoNote Any (
 purse_at None ctx rows = tt
 purse_at (Some a) ctx rows = (tt, tt)
 
-told : (p : ℕ) (v : Value) (rows : Rows) → AnswerFits (λ n. n ≡ Port p v) Any (delivered (pos p) v rows).answer
-told p v rows = by (nat_le p 65535)
+port_answer_fits : (p : ℕ) (v : Value) (rows : Rows) → AnswerFits (λ n. n ≡ Port p v) Any (delivered (pos p) v rows).answer
+port_answer_fits p v rows = by (nat_le p 65535)
   where
-    by : (t : Bool) → AnswerFits (λ n. n ≡ Port p v) Any (cond t (noted (Port p v) rows) (raised bad_index rows)).answer
+    by : (t : Bool) → AnswerFits (λ n. n ≡ Port p v) Any (cond t (noted_answer (Port p v) rows) (raised bad_index rows)).answer
     by true = (refl, tt)
     by false = tt
 
 deliver_at : (o : Option Ty) (p : ℕ) (v : Value) (ctx : Ctx) (rows : Rows) → AnswerFits (λ n. n ≡ Port p v) Any (serve_at o service.Deliver (value.Int (pos p) ∷ v ∷ []) ctx rows).answer
 deliver_at None p v ctx rows = tt
-deliver_at (Some a) p v ctx rows = subst (λ (l : ValueLayer). AnswerFits (λ n. n ≡ Port p v) Any (of_int (λ z. delivered z v rows) l rows).answer) (sym (value.outs-Int (pos p))) (told p v rows)
+deliver_at (Some a) p v ctx rows = subst (λ (l : ValueLayer). AnswerFits (λ n. n ≡ Port p v) Any (of_int (λ z. delivered z v rows) l rows).answer) (sym (value.outs-Int (pos p))) (port_answer_fits p v rows)
 
 pub registry_serves : (p : InstalledPackages) → PortServes (offer p)
 unfolding serve

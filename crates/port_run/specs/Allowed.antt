@@ -17,18 +17,18 @@ use Rattle.port_visits.specs.Visits.{Any, data_said, ack_said}
 use Rattle.port_run.specs.Ports.{first_host, second_host, PortEvent, Wire}
 
 -- the message with a number, from 1
-abbrev pub numbered : ℕ → List Body → Option Body
-numbered zero os = None
-numbered (suc i) os = slice_get os i
+abbrev pub body_numbered : ℕ → List Body → Option Body
+body_numbered zero os = None
+body_numbered (suc i) os = slice_get os i
 
 -- a chunk with a message that was offered, or with an ack of at most n
 pub data PortChunk (os : List Body) (n : ℕ) (k : Chunk) : Type 0 where
-  message : (seq : ℕ) (body : Body) → numbered seq os ≡ Some body → k ≡ data_chunk second_host (pos seq) body → PortChunk os n k
+  message : (seq : ℕ) (body : Body) → body_numbered seq os ≡ Some body → k ≡ data_chunk second_host (pos seq) body → PortChunk os n k
   ack : (next : ℕ) → next ≤ n → k ≡ ack_chunk first_host (pos next) → PortChunk os n k
 
 -- a note of such a message or ack
 pub data PortNote (os : List Body) (n : ℕ) (x : Note) : Type 0 where
-  message : (seq : ℕ) (body : Body) → numbered seq os ≡ Some body → x ≡ Port 1 (data_said (pos seq) body) → PortNote os n x
+  message : (seq : ℕ) (body : Body) → body_numbered seq os ≡ Some body → x ≡ Port 1 (data_said (pos seq) body) → PortNote os n x
   ack : (next : ℕ) → next ≤ n → x ≡ Port 2 (ack_said (pos next)) → PortNote os n x
 
 -- what may be on its way and noted, where these bodies were offered and at most n was said to be awaited

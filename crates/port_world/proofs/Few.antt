@@ -19,7 +19,7 @@ use Rattle.reliable_ports.proofs.Steps.{message, Sends, held_message}
 use Rattle.port_node.specs.Known.{LineKnown, ComesKnown}
 use Rattle.port_node.proofs.Worlds.{all_take, event_known}
 use Rattle.port_run.specs.Ports.{PortState, PortEvent, Offer, Transmit, Wire, price, said_to, heard_by, makes, first_pays, second_pays, ack_event, message_event, acks, hears_message, hears_ack, hears_note, hears_line, hears, after, offers_one, transmits, happens_at, port_run}
-use Rattle.port_run.specs.Allowed.{numbered, PortChunk, port_allowed, IsWire}
+use Rattle.port_run.specs.Allowed.{body_numbered, PortChunk, port_allowed, IsWire}
 use Rattle.port_run.proofs.Running.{Together, port_closed, hears_on, run_on, begun_on}
 use Rattle.port_run.proofs.Opening.{opening_known}
 use Rattle.port_run.proofs.Serving.{registry_serves}
@@ -27,7 +27,7 @@ use Rattle.port_files.specs.declared.file.PortEvent.{PortEvent as Said}
 use Rattle.port_files.specs.declared.file.PortEvent.TheVariants as says
 use Rattle.port_files.specs.declared.file.PortFile.{PortFile}
 use Rattle.port_world.specs.Networks.{two_hosts}
-use Rattle.port_world.specs.Scripts.{happening, script_of, begun, state_at}
+use Rattle.port_world.specs.Scripts.{happening, script_of, begun_ports, state_at}
 use Rattle.port_world.specs.Limits.{HearsFew, WireFew, EventFew}
 
 -- ---- the offers change at offers alone
@@ -92,7 +92,7 @@ run_offers [] s = omega arith
 run_offers (e ∷ es) s = omega (arith, run_offers es (happens_at e s), event_offers e s)
 
 pub offers_few : (p : PortFile) (k : ℕ) → length p.events ≤ 50000 → length (state_at p k).offers ≤ 50000
-offers_few p k few = let none : length (begun p).offers ≡ 0 = refl in omega (arith, none, run_offers (take k (script_of p)) (begun p), length-take k (script_of p), length-map p.events happening, few)
+offers_few p k few = let none : length (begun_ports p).offers ≡ 0 = refl in omega (arith, none, run_offers (take k (script_of p)) (begun_ports p), length-take k (script_of p), length-map p.events happening, few)
 
 -- ---- what the ends and the network keep
 
@@ -119,7 +119,7 @@ wires_at p k = all_take IsWire k (script_of p) (wires p.events)
 
 pub kept_at : (p : PortFile) (k : ℕ) → Keep (state_at p k)
 kept_at p k =
-    run_on (offer (present_without [])) (registry_serves (present_without [])) (take k (script_of p)) (begun p) (wires_at p k)
+    run_on (offer (present_without [])) (registry_serves (present_without [])) (take k (script_of p)) (begun_ports p) (wires_at p k)
     (begun_on (offer (present_without [])) (registry_serves (present_without [])) (opening two_hosts) p.first p.second (opening_known two_hosts (refl, (refl, tt))))
 
 -- ---- what is heard
@@ -134,7 +134,7 @@ wire_few e s c t few =
     let k = event_known (port_allowed (offer (present_without [])) s.offers (next_of s.receiver)) (port_closed (offer (present_without [])) s.offers (next_of s.receiver) (registry_serves (present_without []))) s.world e c t.world in
     hears_few (happens s.world e).lines (makes e s) k.lines (record { receives = t.receives; sends = t.sends; acked = t.acked; world = k.world }) few
 
-same_message : (seq : ℕ) (os : List Body) → numbered seq os ≡ message seq os
+same_message : (seq : ℕ) (os : List Body) → body_numbered seq os ≡ message seq os
 same_message zero os = refl
 same_message (suc i) os = refl
 

@@ -10,7 +10,7 @@ use Rattle.world_model.specs.declared.lines.Line.TheVariants as line
 use Rattle.port_run.specs.Ports.{PortState, hears_note, hears_line}
 use Rattle.port_world.specs.declared.ports.Ports.{Ports}
 use Rattle.port_world.specs.declared.told.PortLine.TheVariants as told
-use Rattle.port_world.specs.Lines.{noted, noted_at, note_in, is_nothing}
+use Rattle.port_world.specs.Lines.{act_note, noted_at, note_in, is_nothing}
 use Rattle.port_world.specs.Told.{told_line, note_told, heard_told}
 use Rattle.port_world.specs.Limits.{FewAfter}
 use Rattle.port_world.specs.Stands.{Goes}
@@ -28,7 +28,7 @@ nothing_says n (line.Off k) s e = absurd cc
 nothing_says n (line.Again k) s e = absurd cc
 nothing_says n (line.Lost w) s e = absurd cc
 
-act_says : (n : ℕ) (h : Host) (x : Act) (s : PortState) → None ≡ noted x → Says n (line.At h x) s s []
+act_says : (n : ℕ) (h : Host) (x : Act) (s : PortState) → None ≡ act_note x → Says n (line.At h x) s s []
 act_says n h (act.Noted x) s e = absurd cc
 act_says n h _ s e = (refl, refl)
 
@@ -37,11 +37,11 @@ none_noted h None e = refl
 none_noted h (Some x) e = absurd cc
 
 other_says : (n : ℕ) (l : Line) (s : PortState) → is_nothing l ≡ false → None ≡ note_in l → Says n l s s []
-other_says n (line.At h x) s e f = act_says n h x s (none_noted h (noted x) f)
+other_says n (line.At h x) s e f = act_says n h x s (none_noted h (act_note x) f)
 other_says n line.Nothing s e f = absurd cc
 other_says n _ s e f = (refl, refl)
 
-noted_says : (n : ℕ) (h : Host) (x : Act) (s : PortState) (m : Host × Note) → Some m ≡ noted_at h (noted x) → Says n (line.At h x) s (hears_note m.0 m.1 s) (note_told n m.0 m.1 s)
+noted_says : (n : ℕ) (h : Host) (x : Act) (s : PortState) (m : Host × Note) → Some m ≡ noted_at h (act_note x) → Says n (line.At h x) s (hears_note m.0 m.1 s) (note_told n m.0 m.1 s)
 noted_says n h (act.Noted x) s m e = let same : (h, x) ≡ m = cc in (λ i. hears_note (sym same i).0 (sym same i).1 s, λ i. note_told n (sym same i).0 (sym same i).1 s)
 noted_says n h _ s m e = absurd cc
 

@@ -13,7 +13,7 @@ use Rattle.port_run.proofs.Purses.{run_pays, begun_pays}
 use Rattle.port_run.proofs.Fitting.{run_fits, begun_fits}
 use Rattle.port_run.proofs.Paying.{families_pay}
 use Rattle.port_world.specs.Networks.{two_hosts}
-use Rattle.port_world.specs.Scripts.{happening, script_of, begun, state_at}
+use Rattle.port_world.specs.Scripts.{happening, script_of, begun_ports, state_at}
 use Rattle.port_world.specs.Keeping.{KeepsOrder, KeepsPurses}
 use Rattle.port_world.proofs.HostRules.{two_keep}
 use Rattle.port_world.proofs.Few.{wires_at, kept_at}
@@ -22,7 +22,7 @@ pub keeps_order : (p : PortFile) → KeepsOrder p
 keeps_order p = record {
   prefix = λ k. (let t = kept_at p k in (t.receives.rest, t.receives.prefix));
   acked = λ k. (kept_at p k).acked;
-  made = λ k. (run_pays (opening two_hosts) (p.first + p.second) (take k (script_of p)) (begun p) (wires_at p k) (begun_pays (opening two_hosts) p.first p.second)).world;
+  made = λ k. (run_pays (opening two_hosts) (p.first + p.second) (take k (script_of p)) (begun_ports p) (wires_at p k) (begun_pays (opening two_hosts) p.first p.second)).world;
 }
 
 -- what a file says fits, where it keeps the rules
@@ -39,7 +39,7 @@ pub keeps_purses : (p : PortFile) → KeepsPort p → KeepsPurses p
 keeps_purses p h = record {
   paid = λ k fs apart.
       let script = take k (script_of p) in
-      let r = run_pays (opening two_hosts) (p.first + p.second) script (begun p) (wires_at p k) (begun_pays (opening two_hosts) p.first p.second) in
-      let f = run_fits Two script (begun p) (all_take (EventFits Two) k (script_of p) (happenings_fit p.events h.events)) (begun_fits Two (opening two_hosts) p.first p.second) in
+      let r = run_pays (opening two_hosts) (p.first + p.second) script (begun_ports p) (wires_at p k) (begun_pays (opening two_hosts) p.first p.second) in
+      let f = run_fits Two script (begun_ports p) (all_take (EventFits Two) k (script_of p) (happenings_fit p.events h.events)) (begun_fits Two (opening two_hosts) p.first p.second) in
       omega (arith, r.paid, families_pay two_hosts (state_at p k).events fs two_keep f.events r.wired apart);
 }

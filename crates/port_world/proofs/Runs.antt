@@ -8,7 +8,7 @@ use Rattle.port_files.specs.declared.file.PortEvent.{PortEvent as Said}
 use Rattle.port_files.specs.declared.file.PortFile.{PortFile}
 use Rattle.port_run.specs.Ports.{PortState, PortEvent, hears_line, hears, happens_at, port_run}
 use Rattle.port_world.specs.Told.{heard_told, lines_told, event_told}
-use Rattle.port_world.specs.Scripts.{happening, script_of, begun, state_at}
+use Rattle.port_world.specs.Scripts.{happening, script_of, begun_ports, state_at}
 use Rattle.port_world.specs.Texts.{script_told, body_line, body_lines}
 
 -- ---- lines
@@ -53,23 +53,23 @@ module _ (p : PortFile) (i : ℕ) (e : Said) (within : i < length p.events) (is 
       ∙ ap (λ x. take i (script_of p) ++ x ∷ []) (get_or-map happening p.events i e (happening e) within ∙ ap happening (sym is))
 
   pub state_next : state_at p (i + 1) ≡ happens_at (happening e) (state_at p i)
-  state_next = ap (λ x. port_run x (begun p)) next_script ∙ run-append (take i (script_of p)) (happening e ∷ []) (begun p)
+  state_next = ap (λ x. port_run x (begun_ports p)) next_script ∙ run-append (take i (script_of p)) (happening e ∷ []) (begun_ports p)
 
-  pub script_next : (n : ℕ) (old mid new : List ℕ) → n ≡ 1 + length (take i (script_of p)) → mid ≡ old ++ script_told 1 (take i (script_of p)) (begun p)
-      → new ≡ mid ++ event_told n (happening e) (state_at p i) → new ≡ old ++ script_told 1 (take (i + 1) (script_of p)) (begun p)
+  pub script_next : (n : ℕ) (old mid new : List ℕ) → n ≡ 1 + length (take i (script_of p)) → mid ≡ old ++ script_told 1 (take i (script_of p)) (begun_ports p)
+      → new ≡ mid ++ event_told n (happening e) (state_at p i) → new ≡ old ++ script_told 1 (take (i + 1) (script_of p)) (begun_ports p)
   script_next n old mid new number before x =
       let last = event_told n (happening e) (state_at p i) in
-      let prefix = script_told 1 (take i (script_of p)) (begun p) in
-      let all = script-append 1 n (take i (script_of p)) (happening e ∷ []) (begun p) number in
+      let prefix = script_told 1 (take i (script_of p)) (begun_ports p) in
+      let all = script-append 1 n (take i (script_of p)) (happening e ∷ []) (begun_ports p) number in
       x ∙ ap (λ t. t ++ last) before ∙ append_assoc old prefix last
-      ∙ ap (λ t. old ++ t) (ap (λ t. prefix ++ t) (sym (append-nil last)) ∙ sym all ∙ ap (λ y. script_told 1 y (begun p)) (sym next_script))
+      ∙ ap (λ t. old ++ t) (ap (λ t. prefix ++ t) (sym (append-nil last)) ∙ sym all ∙ ap (λ y. script_told 1 y (begun_ports p)) (sym next_script))
 
 -- the whole script
-pub state_all : (p : PortFile) (i : ℕ) → length p.events ≤ i → state_at p i ≡ port_run (script_of p) (begun p)
-state_all p i done = let long : length (script_of p) ≤ i = omega (arith, done, length-map p.events happening) in ap (λ x. port_run x (begun p)) (take_all i (script_of p) long)
+pub state_all : (p : PortFile) (i : ℕ) → length p.events ≤ i → state_at p i ≡ port_run (script_of p) (begun_ports p)
+state_all p i done = let long : length (script_of p) ≤ i = omega (arith, done, length-map p.events happening) in ap (λ x. port_run x (begun_ports p)) (take_all i (script_of p) long)
 
-pub script_all : (p : PortFile) (i : ℕ) (old new : List ℕ) → length p.events ≤ i → new ≡ old ++ script_told 1 (take i (script_of p)) (begun p) → new ≡ old ++ script_told 1 (script_of p) (begun p)
-script_all p i old new done e = let long : length (script_of p) ≤ i = omega (arith, done, length-map p.events happening) in e ∙ ap (λ x. old ++ script_told 1 x (begun p)) (take_all i (script_of p) long)
+pub script_all : (p : PortFile) (i : ℕ) (old new : List ℕ) → length p.events ≤ i → new ≡ old ++ script_told 1 (take i (script_of p)) (begun_ports p) → new ≡ old ++ script_told 1 (script_of p) (begun_ports p)
+script_all p i old new done e = let long : length (script_of p) ≤ i = omega (arith, done, length-map p.events happening) in e ∙ ap (λ x. old ++ script_told 1 x (begun_ports p)) (take_all i (script_of p) long)
 
 -- ---- bodies
 

@@ -8,9 +8,9 @@ use Rattle.world_model.specs.declared.lines.Line.{Line}
 use Rattle.world_model.specs.declared.lines.Line.TheVariants.{At, Nothing}
 
 -- the note that an act is
-abbrev pub noted : Act → Option Note
-noted (Noted x) = Some x
-noted _ = None
+abbrev pub act_note : Act → Option Note
+act_note (Noted x) = Some x
+act_note _ = None
 
 abbrev pub noted_at : Host → Option Note → Option (Host × Note)
 noted_at h None = None
@@ -18,7 +18,7 @@ noted_at h (Some x) = Some (h, x)
 
 -- the note that a line is, and whose
 abbrev pub note_in : Line → Option (Host × Note)
-note_in (At h act) = noted_at h (noted act)
+note_in (At h act) = noted_at h (act_note act)
 note_in _ = None
 
 -- whether a line says that its event changed nothing

@@ -21,9 +21,9 @@ abbrev pub script_of : PortFile → List Event
 script_of p = map happening p.events
 
 -- both ends and their network before the first event
-abbrev pub begun : PortFile → PortState
-begun p = port_begun (opening two_hosts) p.first p.second
+abbrev pub begun_ports : PortFile → PortState
+begun_ports p = port_begun (opening two_hosts) p.first p.second
 
 -- after the first k events
 abbrev pub state_at : PortFile → ℕ → PortState
-state_at p k = port_run (take k (script_of p)) (begun p)
+state_at p k = port_run (take k (script_of p)) (begun_ports p)

@@ -6,7 +6,7 @@ use Rattle.reliable_ports.specs.Ends.{Body, offered}
 use Rattle.port_files.specs.declared.file.PortFile.{PortFile}
 use Rattle.port_run.specs.Ports.{PortState, PortEvent, happens_at, port_run}
 use Rattle.port_world.specs.Told.{event_told}
-use Rattle.port_world.specs.Scripts.{script_of, begun}
+use Rattle.port_world.specs.Scripts.{script_of, begun_ports}
 
 -- what the events of a script add, numbered from one on
 abbrev pub script_told : ℕ → List PortEvent → PortState → List ℕ
@@ -50,5 +50,5 @@ ends_text b c s = ends_lines (offered s.sender) s.receiver.delivered s.sender.ac
 unfoldable pub port_output : PortFile → List ℕ
 port_output p =
     codes "planet port 1\n"
-    ++ (script_told 1 (script_of p) (begun p)
-    ++ ends_text p.first p.second (port_run (script_of p) (begun p)))
+    ++ (script_told 1 (script_of p) (begun_ports p)
+    ++ ends_text p.first p.second (port_run (script_of p) (begun_ports p)))

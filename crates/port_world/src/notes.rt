@@ -109,7 +109,7 @@ pub struct HostNote<'a> {
 
 /// The note that an act is, if it is one.
 fn noted(act: &Act) -> Option<&Note>
-    ensures { option_copied result ≡ lines.noted act.now }
+    ensures { option_copied result ≡ lines.act_note act.now }
 {
     match act {
         Act::Noted(note) => Some(note),

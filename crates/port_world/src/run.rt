@@ -3,7 +3,7 @@ ghost use Rattle.world_model.specs.World.{opening, opening_services};
 ghost use Rattle.port_run.specs.Ports.{port_begun, port_run};
 ghost use Rattle.port_files.specs.PortRules.{KeepsPort};
 ghost use Rattle.port_world.specs.Networks.{two_hosts};
-ghost use Rattle.port_world.specs.Scripts.{script_of, begun};
+ghost use Rattle.port_world.specs.Scripts.{script_of, begun_ports};
 ghost use Rattle.port_world.specs.Texts.{script_told, port_output};
 ghost use Rattle.port_world.specs.Stands.{PortStands, budget};
 ghost use Rattle.port_world.specs.Keeping.{KeepsOrder, KeepsPurses};
@@ -23,12 +23,12 @@ fn run_events<S: Services>(
     text: &mut Bytes,
 ) -> Result<(), NoMemory>
     requires keeps { KeepsPort file.now }
-    requires begun { PortStands S.stands ports.old (begun file.now) }
+    requires begun { PortStands S.stands ports.old (begun_ports file.now) }
     requires cost { budget ports.old ≤ 65535 }
     ensures stands { OnOk result
-        (PortStands S.stands ports.new (port_run (script_of file.now) (begun file.now))) }
+        (PortStands S.stands ports.new (port_run (script_of file.now) (begun_ports file.now))) }
     ensures text { OnOk result
-        (text.new ≡ text.old ++ script_told 1 (script_of file.now) (begun file.now)) }
+        (text.new ≡ text.old ++ script_told 1 (script_of file.now) (begun_ports file.now)) }
 {
     let mut number = 1;
     for event in file.events.as_slice() {

@@ -9,7 +9,7 @@ use Rattle.typing_rules.specs.TypingOrder.{annotated}
 use Rattle.plan_lexer.specs.Scanning.{Toks, Refuses, IsAnswered}
 use Rattle.plan_lexer.specs.declared.token.Token.{Token}
 use Rattle.plan_lexer.specs.declared.fault.LexFault.{LexFault}
-use Rattle.plan_lexer.proofs.LawLemmas.{answered}
+use Rattle.plan_lexer.proofs.LawLemmas.{tokens_or_refusal}
 use Rattle.plan_lexer.proofs.ScanLemmas.{Toks-unique}
 use Rattle.plan_lexer.proofs.RuleLemmas.{tokens_rules}
 use Rattle.plan_grammar.specs.declared.fault.ParseFault.{ParseFault}
@@ -58,7 +58,7 @@ module _ (text : List ℕ) (small : length text ≤ 65536) where
   by_grammar ts t (Err e) q = subst Stands (sym (undrafted text ts e t q)) (of_grammar ts e t ((program_refused ts (length text) e).0 q))
 
   stands : Stands (program_of text)
-  stands = by_tokens (answered 0 text)
+  stands = by_tokens (tokens_or_refusal 0 text)
     where
       by_tokens : IsAnswered 0 text → Stands (program_of text)
       by_tokens (inl t) = by_grammar t.0 t.1 (parsed.program_of t.0 (length text)) refl
@@ -107,7 +107,7 @@ module _ (text : List ℕ) where
   own_grammar ts t (Err e) q = subst Own (sym (undrafted text ts e t q)) (agenda_own e _ _ ((program_refused ts (length text) e).0 q))
 
   own : Own (program_of text)
-  own = by_tokens (answered 0 text)
+  own = by_tokens (tokens_or_refusal 0 text)
     where
       by_tokens : IsAnswered 0 text → Own (program_of text)
       by_tokens (inl t) = own_grammar t.0 t.1 (parsed.program_of t.0 (length text)) refl

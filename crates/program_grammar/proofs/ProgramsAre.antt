@@ -16,7 +16,7 @@ use Rattle.grammar_laws.proofs.ExprsAre.{expr_is}
 use Rattle.plan_parser.specs.declared.signature.Head.{Head}
 use Rattle.plan_parser.specs.declared.program.Gathered.{Gathered}
 use Rattle.plan_parser.specs.Signatures.{service_at, head_at}
-use Rattle.plan_parser.specs.Programs.{nothing, one_more, with_service, with_exception, judged, function_of, with_body, with_function, with_declaration, declarations, draft_of, finished, program_of}
+use Rattle.plan_parser.specs.Programs.{nothing, one_more, with_service, with_exception, judged_function, function_of, with_body, with_function, with_declaration, declarations, draft_of, finished, program_of}
 use Rattle.program_grammar.specs.Grammar as gram
 use Rattle.program_grammar.specs.Grammar.{ServiceAt, ExceptionAt, FunctionAt, DeclarationsAt, ProgramAt}
 use Rattle.program_grammar.proofs.Starts.{Ends, service_ends, exception_ends, function_ends, end_ends}
@@ -39,7 +39,7 @@ exception_by all f name a b c = rw (a, b, c) refl
 
 body_by : (at : ℕ) (all : Gathered) (x : Head) (n : Node) (f : Front) → nat_lt 64 n.depth ≡ false → nat_lt 4096 (length (all.node_at ++ all_at n)) ≡ false
     → with_body at all x n f ≡ Ok (record all { funs = all.funs ++ function_of x n ∷ []; fun_at = all.fun_at ++ at ∷ []; node_at = all.node_at ++ all_at n }, f)
-unfolding with_body judged
+unfolding with_body judged_function
 body_by at all x n f a b = rw (a, b) refl
 
 function_by : (all more : Gathered) (f g h : Front) (x : Head) (n : Node) → Word keys.Fun f → nat_lt (length all.funs) 64 ≡ true → head_at (behind f) ≡ Ok (x, g)

@@ -14,12 +14,12 @@ use Rattle.plan_grammar.specs.Ahead.{Front, ◌>>=◌, place, behind}
 use Rattle.plan_grammar.specs.Nodes.{all_at}
 use Rattle.plan_grammar.specs.Exprs.{expr_to}
 use Rattle.grammar_laws.specs.Grammar.{Word, ExprAt, behind2}
-use Rattle.grammar_laws.proofs.ReadSteps.{Reads, found, refused, after, if_key, name_then}
+use Rattle.grammar_laws.proofs.ReadSteps.{Reads, found_reads, refusal_reads, after, if_key, name_then}
 use Rattle.grammar_laws.proofs.ExprsRead.{exprs_read}
 use Rattle.plan_parser.specs.declared.signature.Head.{Head}
 use Rattle.plan_parser.specs.declared.program.Gathered.{Gathered}
 use Rattle.plan_parser.specs.Signatures.{service_at, head_at}
-use Rattle.plan_parser.specs.Programs.{nothing, one_more, with_service, with_exception, judged, function_of, with_body, with_function, with_declaration, declarations, draft_of, finished, program_of}
+use Rattle.plan_parser.specs.Programs.{nothing, one_more, with_service, with_exception, judged_function, function_of, with_body, with_function, with_declaration, declarations, draft_of, finished, program_of}
 use Rattle.program_grammar.specs.Grammar as gram
 use Rattle.program_grammar.specs.Grammar.{ServiceAt, HeadAt, FunctionAt, DeclarationsAt, ProgramAt}
 use Rattle.grammar_laws.proofs.Follows.{Shorter, skip, onward}
@@ -38,8 +38,8 @@ room_then Q count limit f h k = go (TooMany limit (place f)) (nat_lt count 64) r
 
 -- a function that keeps its limits
 fits_then : {B : Type 0} (Q : B → Front → Type 0) (at depth nodes : ℕ) (f : Front) (h : Unit {0} × Front → Result (B × Front) ParseFault)
-    → (depth ≤ 64 → nodes ≤ 4096 → Reads Q (h (tt, f))) → Reads Q (judged at depth nodes f >>= h)
-unfolding judged Reads
+    → (depth ≤ 64 → nodes ≤ 4096 → Reads Q (h (tt, f))) → Reads Q (judged_function at depth nodes f >>= h)
+unfolding judged_function Reads
 fits_then Q at depth nodes f h k = go (TooDeep at) (TooMany limits.Nodes at) (nat_lt 64 depth) (nat_lt 4096 nodes) refl refl
   where
     go : (d e : ParseFault) (b c : Bool) → nat_lt 64 depth ≡ b → nat_lt 4096 nodes ≡ c → Reads Q ((if b then Err d else if c then Err e else Ok (tt, f)) >>= h)
@@ -58,14 +58,14 @@ module _ (start : Front) (all : Gathered) (f : Front) (so_far : DeclarationsAt s
   service_adds w =
       room_then (Onward start f) (length all.svcs) limits.Services f _
       (λ room. after (ServiceAt f) (Onward start f) (service_at (behind f)) _ (service_reads f w)
-      (λ s g d. found (Onward start f) (record all { svcs = all.svcs ++ s ∷ []; svc_at = all.svc_at ++ place f ∷ [] }) g (record { declared = gram.one_service so_far d room; fewer = service_shorter d })))
+      (λ s g d. found_reads (Onward start f) (record all { svcs = all.svcs ++ s ∷ []; svc_at = all.svc_at ++ place f ∷ [] }) g (record { declared = gram.one_service so_far d room; fewer = service_shorter d })))
 
   exception_adds : Word keys.Exception f → Reads (Onward start f) (with_exception all f)
   unfolding with_exception
   exception_adds w =
       room_then (Onward start f) (length all.exns) limits.Exceptions f _
       (λ room. name_then (Onward start f) (behind f) _
-      (λ name called. found (Onward start f) (record all { exns = all.exns ++ name ∷ []; exn_at = all.exn_at ++ place f ∷ [] }) (behind2 f)
+      (λ name called. found_reads (Onward start f) (record all { exns = all.exns ++ name ∷ []; exn_at = all.exn_at ++ place f ∷ [] }) (behind2 f)
       (record { declared = gram.one_exception so_far (gram.exception w called) room; fewer = onward (skip w) (skip called) })))
 
   body_adds : Word keys.Fun f → length all.funs < 64 → (x : Head) (g h : Front) (n : Node) → HeadAt (behind f) x g → ExprAt 160 g n h
@@ -73,7 +73,7 @@ module _ (start : Front) (all : Gathered) (f : Front) (so_far : DeclarationsAt s
   unfolding with_body
   body_adds w room x g h n d e =
       fits_then (Onward start f) (place f) n.depth (length (all.node_at ++ all_at n)) h _
-      (λ deep few. found (Onward start f) (record all { funs = all.funs ++ function_of x n ∷ []; fun_at = all.fun_at ++ place f ∷ []; node_at = all.node_at ++ all_at n }) h
+      (λ deep few. found_reads (Onward start f) (record all { funs = all.funs ++ function_of x n ∷ []; fun_at = all.fun_at ++ place f ∷ []; node_at = all.node_at ++ all_at n }) h
       (record { declared = gram.one_function so_far (gram.function w d e deep) room few; fewer = function_shorter (gram.function w d e deep) }))
 
   function_adds : Word keys.Fun f → Reads (Onward start f) (with_function all f)
@@ -89,7 +89,7 @@ module _ (start : Front) (all : Gathered) (f : Front) (so_far : DeclarationsAt s
   declaration_adds =
       if_key (Onward start f) keys.Svc f _ _ service_adds
       (if_key (Onward start f) keys.Exception f _ _ exception_adds
-      (if_key (Onward start f) keys.Fun f _ _ function_adds (refused (Onward start f) _)))
+      (if_key (Onward start f) keys.Fun f _ _ function_adds (refusal_reads (Onward start f) _)))
 
 -- what was read has that property
 unfoldable Given : {A : Type 0} → (A → Type 0) → Result A ParseFault → Type 0

@@ -21,7 +21,7 @@ use Rattle.plan_grammar.specs.declared.node.Node.{Node}
 use Rattle.plan_grammar.specs.declared.node.Bound.{Bound}
 use Rattle.plan_grammar.specs.declared.node.Caught.{Caught}
 use Rattle.plan_grammar.specs.Joints.{joined_tree}
-use Rattle.plan_grammar.specs.Nodes.{all_at, below_of, both, trees, below_all, leaf, over, over_one, over_two, over_three, over_four, over_list, joined, bracketed, bound, clauses_of, bodies, try_of}
+use Rattle.plan_grammar.specs.Nodes.{all_at, below_of, both, trees, below_all, leaf, over, over_one, over_two, over_three, over_four, over_list, joined_nodes, bracketed, bound, clauses_of, bodies, try_of}
 use Rattle.plan_grammar.specs.Exprs.{literal, literal_key}
 use Rattle.program_grammar.specs.Written.{listed, Holds}
 
@@ -193,7 +193,7 @@ joint_is (joints.Operator op) a b = over_by (x.Binary op a b) (Expr-F.Binary op 
 joint_is joints.And a b = over_by (x.And a b) (Expr-F.And a b) _ _ (x.outs-And a b) refl (omega arith)
 joint_is joints.Or a b = over_by (x.Or a b) (Expr-F.Or a b) _ _ (x.outs-Or a b) refl (omega arith)
 
-pub joined_holds : (j : Joint) (n m : Node) (a b : Expr) → Holds n a → Holds m b → Holds (joined j n m) (joined_tree j a b)
+pub joined_holds : (j : Joint) (n m : Node) (a b : Expr) → Holds n a → Holds m b → Holds (joined_nodes j n m) (joined_tree j a b)
 joined_holds j n m a b h k = two_hold (joined_tree j) n.at n m a b h k (joint_is j a b)
 
 pub bracketed_holds : (ns : List Node) (ts : List Expr) (at : ℕ) → AllHold ns ts → Holds (bracketed ns (leaf (x.Nil None) at)) (listed ts)

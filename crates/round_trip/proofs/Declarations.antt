@@ -20,7 +20,7 @@ use Rattle.plan_grammar.specs.declared.level.Level.TheVariants as levels
 use Rattle.plan_grammar.specs.Ahead.{Front, place, behind}
 use Rattle.plan_grammar.specs.Nodes.{all_at}
 use Rattle.plan_parser.specs.declared.program.Gathered.{Gathered}
-use Rattle.plan_parser.specs.Programs.{nothing, one_more, with_service, with_exception, judged, with_body, with_function, with_declaration, declarations, draft_of, finished, program_of}
+use Rattle.plan_parser.specs.Programs.{nothing, one_more, with_service, with_exception, judged_function, with_body, with_function, with_declaration, declarations, draft_of, finished, program_of}
 use Rattle.printed_forms.specs.Pieces.{listed}
 use Rattle.text_laws.specs.Lexes.{kinds_of}
 use Rattle.text_laws.specs.PrintedTokens.{Kinds, mark, type_kinds, param_kinds, expr_kinds, svc_kinds, exn_kinds, fun_kinds, program_kinds}
@@ -44,8 +44,8 @@ take_more : (count : ℕ) (limit : Limit) (f : Front) (ks : Kinds) → count < 6
 unfolding one_more
 take_more count limit f ks n h = rw (below_limit count 64 n) (took tt f h tt)
 
-take_judged : (at depth nodes : ℕ) (f : Front) (ks : Kinds) → depth ≤ 64 → nodes ≤ 4096 → kinds_at f ≡ ks → Took (judged at depth nodes f) ks (λ _. Unit {0})
-unfolding judged
+take_judged : (at depth nodes : ℕ) (f : Front) (ks : Kinds) → depth ≤ 64 → nodes ≤ 4096 → kinds_at f ≡ ks → Took (judged_function at depth nodes f) ks (λ _. Unit {0})
+unfolding judged_function
 take_judged at depth nodes f ks d n h = rw (within_limit depth 64 d) (rw (within_limit nodes 4096 n) (took tt f h tt))
 
 -- what was gathered with these besides, and so many more expressions

@@ -19,7 +19,7 @@ use Rattle.plan_grammar.specs.declared.node.Below.{Below}
 use Rattle.plan_grammar.specs.Ahead.{Front, Reader, behind, is_symbol_kind, is_key_kind, is_key}
 use Rattle.plan_grammar.specs.Begins.{kind_begins, begins_operand, begins_negated, begins_expr}
 use Rattle.plan_grammar.specs.Joints.{joint_of, joined_tree}
-use Rattle.plan_grammar.specs.Nodes.{over, below_of, both, joined}
+use Rattle.plan_grammar.specs.Nodes.{over, below_of, both, joined_nodes}
 use Rattle.plan_grammar.specs.Exprs.{operand_kind, operand, product, addition, listed, compared, comparison, negated, conjunction, disjunction, whole, at_level, expr_to, single, grouped, parens_behind, parens, symbol_form}
 use Rattle.text_laws.specs.PrintedTokens.{Kinds, expr_kinds_level, clause_kinds, expr_kinds}
 use Rattle.text_laws.proofs.ExprTokens.{expr_kinds_out}
@@ -155,7 +155,7 @@ module _ (inner : Level → Reader Node) (room : ℕ) (f : Front) (ka mid rest :
       let c : Kinds = kind.Symbol symbols.ParenClose ∷ rest in
       let p : Took (comparison inner room f) c (Joins j P Q) = then_took _ t (λ a g h p.
       took_by (ap (compared inner room a g) (ap (joint_of chains.Comparison) (next_is g (k ∷ mid) h) ∙ e))
-      (then_took _ (r (behind g) (behind_is g k mid h)) (λ b m hm q. took (joined j a b) m hm (a, b, p, q, refl)))) in
+      (then_took _ (r (behind g) (behind_is g k mid h)) (λ b m hm q. took (joined_nodes j a b) m hm (a, b, p, q, refl)))) in
       up_whole inner room f c refl (up_low inner room f c (isnt_if inner room f ka (k ∷ mid) at s) (up_disjunction inner room f c refl (up_conjunction inner room f c refl
       (up_negated inner room f c (isnt_not inner room f ka (k ∷ mid) at s) p))))
 

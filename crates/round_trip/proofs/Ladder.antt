@@ -14,7 +14,7 @@ use Rattle.plan_grammar.specs.declared.node.Node.{Node}
 use Rattle.plan_grammar.specs.Ahead.{Front, Reader, ◌>>=◌, behind, next_kind, is_symbol_kind, is_key_kind, is_key}
 use Rattle.plan_grammar.specs.Begins.{kind_begins}
 use Rattle.plan_grammar.specs.Joints.{joint_of}
-use Rattle.plan_grammar.specs.Nodes.{joined}
+use Rattle.plan_grammar.specs.Nodes.{joined_nodes}
 use Rattle.plan_grammar.specs.Exprs.{chain_from, operand, chained, product, addition, listed, compared, comparison, negated, conjunction, disjunction, low, whole, at_level}
 use Rattle.text_laws.specs.Lexes.{kinds_of}
 use Rattle.text_laws.specs.PrintedTokens.{Kinds}
@@ -36,13 +36,13 @@ chain_none one chain zero left f e = refl
 chain_none one chain (suc fuel) left f e = rw e refl
 
 chain_goes : (one : Reader Node) (chain : Chain) (fuel : ℕ) (left : Node) (f : Front) (joint : Joint) → joint_of chain (next_kind f) ≡ Some joint
-    → chain_from one chain (suc fuel) left f ≡ (one (behind f) >>= λ right. chain_from one chain fuel (joined joint left right.0) right.1)
+    → chain_from one chain (suc fuel) left f ≡ (one (behind f) >>= λ right. chain_from one chain fuel (joined_nodes joint left right.0) right.1)
 unfolding chain_from
 chain_goes one chain fuel left f joint e = rw e refl
 
 -- what two operands with their joint make
 abbrev pub Joins : Joint → (Node → Type 0) → (Node → Type 0) → Node → Type 0
-Joins joint P Q n = (a : Node) × (b : Node) × P a × Q b × (n ≡ joined joint a b)
+Joins joint P Q n = (a : Node) × (b : Node) × P a × Q b × (n ≡ joined_nodes joint a b)
 
 one_more : (one : Reader Node) (chain : Chain) (joint : Joint) (k : TokenKind) (mid rest : Kinds) (P Q : Node → Type 0) → joint_of chain (Some k) ≡ Some joint → joint_of chain (first_kind rest) ≡ None
     → ((g : Front) → kinds_at g ≡ mid → Took (one g) rest Q) → (a : Node) → P a → (g : Front) → kinds_at g ≡ k ∷ mid → (fuel : ℕ) → 0 < fuel → Took (chain_from one chain fuel a g) rest (Joins joint P Q)
@@ -50,7 +50,7 @@ one_more one chain joint k mid rest P Q j n r a p g h zero some = absurd (omega 
 one_more one chain joint k mid rest P Q j n r a p g h (suc fuel) some =
     took_by (chain_goes one chain fuel a g joint (ap (joint_of chain) (next_is g (k ∷ mid) h) ∙ j))
     (then_took _ (r (behind g) (behind_is g k mid h))
-    (λ b g2 h2 q. took_by (chain_none one chain fuel (joined joint a b) g2 (ap (joint_of chain) (next_is g2 rest h2) ∙ n)) (took (joined joint a b) g2 h2 (a, b, p, q, refl))))
+    (λ b g2 h2 q. took_by (chain_none one chain fuel (joined_nodes joint a b) g2 (ap (joint_of chain) (next_is g2 rest h2) ∙ n)) (took (joined_nodes joint a b) g2 h2 (a, b, p, q, refl))))
 
 some_left : (ts : List Token) (k : TokenKind) (ks : Kinds) → kinds_of ts ≡ k ∷ ks → 0 < length ts
 some_left [] k ks h = absurd (cc)

@@ -19,7 +19,7 @@ use Rattle.plan_grammar.specs.declared.fault.ParseFault.{ParseFault}
 use Rattle.plan_grammar.specs.declared.fault.Wanted.TheVariants as wanted
 use Rattle.plan_grammar.specs.Ahead.{Front, Reader, behind, place, is_symbol, is_symbol_kind, is_key_kind}
 use Rattle.plan_grammar.specs.Begins.{simple_type, kind_type, begins_type}
-use Rattle.plan_grammar.specs.Types.{named, after_lists, is_list_word, list_words, behind_lists, lists_of, judged, tuple_type, group_type, base_type, whole_type, type_to}
+use Rattle.plan_grammar.specs.Types.{named, after_lists, is_list_word, list_words, behind_lists, lists_of, judged_type, tuple_type, group_type, base_type, whole_type, type_to}
 use Rattle.printed_forms.specs.Pieces.{listed}
 use Rattle.text_laws.specs.Lexes.{kinds_of}
 use Rattle.text_laws.specs.PrintedTokens.{Kinds, mark, word, type_kinds_level, type_kinds}
@@ -111,8 +111,8 @@ same_type t u = u ≡ t
 deep_enough : (n : ℕ) → n ≤ 8 → nat_lt 8 n ≡ false
 deep_enough n h = grind (arith, nat_tests)
 
-judged_ok : (start n : ℕ) (v : Ty) → type_depth v + n ≤ 8 → judged start n v ≡ Ok (lists_of n v)
-unfolding judged
+judged_ok : (start n : ℕ) (v : Ty) → type_depth v + n ≤ 8 → judged_type start n v ≡ Ok (lists_of n v)
+unfolding judged_type
 judged_ok start n v h = rw (deep_enough (type_depth v + n) h) refl
 
 words_is : (f : Front) (n : ℕ) (ks : Kinds) → kinds_at f ≡ lists n ++ ks → FollowsType ks → (list_words f ≡ n) × (kinds_at (behind_lists f) ≡ ks)
@@ -124,7 +124,7 @@ unfolding type_to whole_type
 whole_took room t ks f d w b =
     let z : b.count + 0 ≡ b.count = omega arith in
     let r = words_is b.rest b.count ks (b.left ∙ ap (λ n. lists n ++ ks) z) w in
-    let j : judged (place f) (list_words b.rest) b.value ≡ Ok (lists_of b.count b.value) = ap (λ n. judged (place f) n b.value) r.0 ∙ judged_ok (place f) b.count b.value (omega (arith, b.deep, d)) in
+    let j : judged_type (place f) (list_words b.rest) b.value ≡ Ok (lists_of b.count b.value) = ap (λ n. judged_type (place f) n b.value) r.0 ∙ judged_ok (place f) b.count b.value (omega (arith, b.deep, d)) in
     took_by (rw b.is (rw j refl)) (took (lists_of b.count b.value) (behind_lists b.rest) r.1 (ap (λ n. lists_of n b.value) (sym z) ∙ b.same))
 
 some_depth : (x : Ty-F Ty) → 1 ≤ type_depth_level type_depth x

@@ -25,7 +25,7 @@ use Rattle.plan_grammar.specs.declared.fault.Wanted.TheVariants as wanted
 use Rattle.plan_grammar.specs.Ahead.{Front, Reader, ◌>>=◌, place, behind, next_kind, is_symbol, is_symbol_kind}
 use Rattle.plan_grammar.specs.Types.{opens, more, type_to}
 use Rattle.plan_parser.specs.declared.item.TypedValue.{TypedValue}
-use Rattle.plan_parser.specs.Values.{typed, literal, literal_from, begins_value, tuple_of, list_of, judged, fits, tuple_from, tuple, grouped, parens, like, listing, typed_nil, brackets, value_at, value_to, ended, value_of}
+use Rattle.plan_parser.specs.Values.{typed, literal, literal_from, begins_value, tuple_of, list_of, judged_item, fits, tuple_from, tuple, grouped, parens, like, listing, typed_nil, brackets, value_at, value_to, ended, value_of}
 use Rattle.printed_forms.specs.Pieces.{listed}
 use Rattle.text_laws.specs.Lexes.{kinds_of}
 use Rattle.text_laws.specs.PrintedTokens.{Kinds, mark, bool_kinds, type_kinds, value_kinds_level, value_kinds}
@@ -125,7 +125,7 @@ nil_took outside room few w t e n p d f rest h =
 -- ---- lists
 
 like_took : (outside room : ℕ) (t : Ty) (w : Value) → ValueRead outside room w t → (u : Ty) → u ≡ t → (f : Front) (rest : Kinds) → kinds_at f ≡ value_kinds w ++ rest → Took (like (value_to outside room) outside room u f) rest (λ x. x ≡ w)
-unfolding like judged
+unfolding like judged_item
 like_took outside room t w r u e f rest h =
     then_took _ (r.reads f rest h) (λ i g k q. rw (ap (λ z. same_type z u) q.type ∙ (ap (same_type t) e ∙ same_type_itself t)) (took i.value g k q.value))
 

@@ -93,12 +93,12 @@ pub record Found (P : Node → Type 0) (n : Host) (r : Routing) : Type 0 where
   pub holds : P node
   pub here : r.here ≡ n
 
-pub found : (P : Node → Type 0) (nodes : List Node) (n : Host) (r : Routing) → All P nodes → routing_at (map routing_of nodes) n ≡ Some r → Found P n r
-found P [] n r all e = absurd (none e)
+pub routing_found : (P : Node → Type 0) (nodes : List Node) (n : Host) (r : Routing) → All P nodes → routing_at (map routing_of nodes) n ≡ Some r → Found P n r
+routing_found P [] n r all e = absurd (none e)
   where
     none : ◌≡◌ {A = Option Routing} None (Some r) → ⊥
     none h = cc
-found P (m ∷ nodes) n r all e = split (found P nodes n r (All-tail P m nodes all)) (eqb m.routing.here.0 n.0) refl e
+routing_found P (m ∷ nodes) n r all e = split (routing_found P nodes n r (All-tail P m nodes all)) (eqb m.routing.here.0 n.0) refl e
   where
     split : (routing_at (map routing_of nodes) n ≡ Some r → Found P n r) → (t : Bool) → eqb m.routing.here.0 n.0 ≡ t → cond t (Some m.routing) (routing_at (map routing_of nodes) n) ≡ Some r → Found P n r
     split rest true h k =

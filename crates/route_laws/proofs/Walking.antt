@@ -13,12 +13,12 @@ use Rattle.dv_routing.proofs.Rises.{at_most_some, no_rise_at}
 use Rattle.route_laws.specs.Network.{Wiring, Parcel, Node, Network, routings, routing_at, cost_at}
 use Rattle.route_laws.specs.Truths.{IsKnown, RowTrue, FrameTrue, NodeHolds, RoutesHold, IsFresh, IsOpening, IsHop, Falls}
 use Rattle.route_laws.specs.Walks.{LinkWalk, Here, Along, IsReached, IsDist, RouteWay, Ends, Hops}
-use Rattle.route_laws.proofs.Lookups.{all_get, Found, found, cost_found, CostOf, cost_of}
+use Rattle.route_laws.proofs.Lookups.{all_get, Found, routing_found, cost_found, CostOf, cost_of}
 use Rattle.route_laws.proofs.Truth.{falls, leads, real_route}
 use Rattle.route_laws.proofs.Keep.{goes_keep, goes_rise}
 
 at_host : (far : Wiring) (w : Network) (n : Host) (r : Routing) → RoutesHold far w → routing_at (routings w) n ≡ Some r → Found (NodeHolds far (routings w)) n r
-at_host far w n r h e = found (NodeHolds far (routings w)) w.nodes n r h.nodes e
+at_host far w n r h e = routing_found (NodeHolds far (routings w)) w.nodes n r h.nodes e
 
 pub hop_falls : (far : Wiring) (w : Network) (x n : Host) (row : RouteRow) → RoutesHold far w → IsHop w x n row → Falls (routings w) x row
 hop_falls far w x n row h hop =
@@ -126,7 +126,7 @@ fresh_holds far w node o f = record {
     own : (link : Host × Dev) → Contains node.routing.neighbours link → AtMost (cost_at (routings w) link.0 link.0) 0
     own link among =
         let t = f.there link among in
-        let here : t.0.here ≡ link.0 = (found (IsFresh far (routings w)) w.nodes link.0 t.0 o.nodes t.1).here in
+        let here : t.0.here ≡ link.0 = (routing_found (IsFresh far (routings w)) w.nodes link.0 t.0 o.nodes t.1).here in
         let is : cost_at (routings w) link.0 link.0 ≡ Some 0 =
         cost_found (routings w) link.0 link.0 t.0 t.1 ∙ (ap (cost t.0) (sym here) ∙ ap route_cost (route_own t.0)) in
         let P : Option ℕ → Type 0 = λ c. AtMost c 0 in

@@ -9,7 +9,7 @@ use Rattle.plan_base.specs.declared.ids.Host.{Host}
 use Rattle.plan_base.specs.declared.ids.Family.{Family}
 use Rattle.bound_ledger.specs.declared.row.Row.{Row}
 use Rattle.bound_ledger.specs.Counts.{nothing, more, hopped, paid, quit}
-use Rattle.bound_ledger.specs.Rows.{FamilyRow, same_family, families_in, row_of, counts_of, changed, with_grant}
+use Rattle.bound_ledger.specs.Rows.{FamilyRow, same_family, families_in, row_of, counts_of, changed_rows, with_grant}
 use Rattle.bound_ledger.proofs.RowLaws.{same_is, same_self, counts_own, counts_other, counts_none, grant_own, grant_other, families_changed, families_granted, length_granted}
 use Rattle.spelled_frame.specs.declared.spelled.What.TheVariants as what
 use Rattle.node_model.specs.declared.acts.Act.TheVariants.{Injected, Arrived, Asked, Noted, Ended, Handled, Queued, Dropped, Bad, Misplaced, AdvertQueued, AdvertDropped, AdvertSpent, Stale, Heard, Ticked, Taken, SerialsSpent, NoMemory}
@@ -22,7 +22,7 @@ use Rattle.world_model.specs.World.{entry_at}
 use Rattle.world_model.specs.Counts.{line_granted, line_hops, line_evals, line_left, line_sum, tally, left_from}
 use Rattle.world_model.specs.Texts.{line_families, with_family, families}
 use Rattle.network_laws.proofs.CountLaws.{line_sum-nil, line_sum-one, line_sum-append, tally-nil, tally-append, tally-entries}
-use Rattle.run_ledger.specs.Counting.{granting, line_grants, leaving, act_moving, moving, CanGrant, CanLeave, CanMove, moved, Granted, Moved, GrantsFit, MovesFit, LinesFit, Leaves}
+use Rattle.run_ledger.specs.Counting.{granting, line_grants, leaving, act_moving, moving, CanGrant, CanLeave, CanMove, moved_row, Granted, Moved, GrantsFit, MovesFit, LinesFit, Leaves}
 use Rattle.run_ledger.specs.Stands.{Stands}
 
 -- ---- counts that don't move
@@ -39,7 +39,7 @@ more_more m n r =
     let l : r.live + m + n ≡ r.live + (m + n) = omega arith in
     λ i. record { granted = g i; hops = r.hops; evals = r.evals; live = l i; left = r.left }
 
-moved_none : (r : Row) → r ≡ moved 0 0 0 r
+moved_none : (r : Row) → r ≡ moved_row 0 0 0 r
 moved_none r =
     let h : r.hops ≡ r.hops + 0 = omega arith in
     let e : r.evals ≡ r.evals + 0 = omega arith in
@@ -47,7 +47,7 @@ moved_none r =
     let q : r.left ≡ r.left + 0 = omega arith in
     λ i. record { granted = r.granted; hops = h i; evals = e i; live = l i; left = q i }
 
-moved_moved : (a b c x y z : ℕ) (r : Row) → moved x y z (moved a b c r) ≡ moved (a + x) (b + y) (c + z) r
+moved_moved : (a b c x y z : ℕ) (r : Row) → moved_row x y z (moved_row a b c r) ≡ moved_row (a + x) (b + y) (c + z) r
 moved_moved a b c x y z r =
     let h : r.hops + a + x ≡ r.hops + (a + x) = omega arith in
     let e : r.evals + b + y ≡ r.evals + (b + y) = omega arith in
@@ -55,21 +55,21 @@ moved_moved a b c x y z r =
     let q : r.left + c + z ≡ r.left + (c + z) = omega arith in
     λ i. record { granted = r.granted; hops = h i; evals = e i; live = l i; left = q i }
 
-hopped_is : (r : Row) → hopped r ≡ moved 1 0 0 r
+hopped_is : (r : Row) → hopped r ≡ moved_row 1 0 0 r
 hopped_is r =
     let e : r.evals ≡ r.evals + 0 = omega arith in
     let l : r.live - 1 ≡ r.live - (1 + 0 + 0) = omega arith in
     let q : r.left ≡ r.left + 0 = omega arith in
     λ i. record { granted = r.granted; hops = r.hops + 1; evals = e i; live = l i; left = q i }
 
-paid_is : (n : ℕ) (r : Row) → paid n r ≡ moved 0 n 0 r
+paid_is : (n : ℕ) (r : Row) → paid n r ≡ moved_row 0 n 0 r
 paid_is n r =
     let h : r.hops ≡ r.hops + 0 = omega arith in
     let l : r.live - n ≡ r.live - (0 + n + 0) = omega arith in
     let q : r.left ≡ r.left + 0 = omega arith in
     λ i. record { granted = r.granted; hops = h i; evals = r.evals + n; live = l i; left = q i }
 
-quit_is : (n : ℕ) (r : Row) → quit n r ≡ moved 0 0 n r
+quit_is : (n : ℕ) (r : Row) → quit n r ≡ moved_row 0 0 n r
 quit_is n r =
     let h : r.hops ≡ r.hops + 0 = omega arith in
     let e : r.evals ≡ r.evals + 0 = omega arith in
@@ -90,15 +90,15 @@ granted_as : (f g : Family) (n : ℕ) (rows : List FamilyRow) → counts_of f (w
 unfolding only is_family same_family
 granted_as f g n rows = granted_cases (same_family f g) f g n rows refl
 
-moved_cases : (move : Row → Row) (a b c : ℕ) → ((r : Row) → move r ≡ moved a b c r) → (t : Bool) (f g : Family) (rows : List FamilyRow) → (row_of g rows ≡ None → move nothing ≡ nothing) → same_family f g ≡ t
-    → counts_of f (changed move g rows) ≡ moved (cond t a 0) (cond t b 0) (cond t c 0) (counts_of f rows)
+moved_cases : (move : Row → Row) (a b c : ℕ) → ((r : Row) → move r ≡ moved_row a b c r) → (t : Bool) (f g : Family) (rows : List FamilyRow) → (row_of g rows ≡ None → move nothing ≡ nothing) → same_family f g ≡ t
+    → counts_of f (changed_rows move g rows) ≡ moved_row (cond t a 0) (cond t b 0) (cond t c 0) (counts_of f rows)
 moved_cases move a b c is true f g rows none h =
     let e = sym (same_is f g h) in
-    ap (λ x. counts_of f (changed move x rows)) e ∙ counts_own move f rows (λ n. none (ap (λ x. row_of x rows) e ∙ n)) ∙ is (counts_of f rows)
+    ap (λ x. counts_of f (changed_rows move x rows)) e ∙ counts_own move f rows (λ n. none (ap (λ x. row_of x rows) e ∙ n)) ∙ is (counts_of f rows)
 moved_cases move a b c is false f g rows none h = counts_other move f g rows h ∙ moved_none (counts_of f rows)
 
-moved_as : (move : Row → Row) (a b c : ℕ) → ((r : Row) → move r ≡ moved a b c r) → (f g : Family) (rows : List FamilyRow) → (row_of g rows ≡ None → move nothing ≡ nothing)
-    → counts_of f (changed move g rows) ≡ moved (only f g a) (only f g b) (only f g c) (counts_of f rows)
+moved_as : (move : Row → Row) (a b c : ℕ) → ((r : Row) → move r ≡ moved_row a b c r) → (f g : Family) (rows : List FamilyRow) → (row_of g rows ≡ None → move nothing ≡ nothing)
+    → counts_of f (changed_rows move g rows) ≡ moved_row (only f g a) (only f g b) (only f g c) (counts_of f rows)
 unfolding only is_family same_family
 moved_as move a b c is f g rows none = moved_cases move a b c is (same_family f g) f g rows none refl
 
@@ -106,7 +106,7 @@ moved_as move a b c is f g rows none = moved_cases move a b c is (same_family f 
 none_live : (f : Family) (rows : List FamilyRow) → row_of f rows ≡ None → (counts_of f rows).live ≡ 0
 none_live f rows h = ap (λ r. r.live) (counts_none f rows h)
 
-hop_as : (f g : Family) (rows : List FamilyRow) → 1 ≤ (counts_of g rows).live → counts_of f (changed hopped g rows) ≡ moved (only f g 1) (only f g 0) (only f g 0) (counts_of f rows)
+hop_as : (f g : Family) (rows : List FamilyRow) → 1 ≤ (counts_of g rows).live → counts_of f (changed_rows hopped g rows) ≡ moved_row (only f g 1) (only f g 0) (only f g 0) (counts_of f rows)
 hop_as f g rows h = moved_as hopped 1 0 0 hopped_is f g rows (λ n. absurd (omega (arith, none_live g rows n)))
 
 zero_paid : (n : ℕ) → n ≡ 0 → paid n nothing ≡ nothing
@@ -115,10 +115,10 @@ zero_paid n e = ap (λ x. paid x nothing) e
 zero_quit : (n : ℕ) → n ≡ 0 → quit n nothing ≡ nothing
 zero_quit n e = ap (λ x. quit x nothing) e
 
-eval_as : (f g : Family) (n : ℕ) (rows : List FamilyRow) → n ≤ (counts_of g rows).live → counts_of f (changed (paid n) g rows) ≡ moved (only f g 0) (only f g n) (only f g 0) (counts_of f rows)
+eval_as : (f g : Family) (n : ℕ) (rows : List FamilyRow) → n ≤ (counts_of g rows).live → counts_of f (changed_rows (paid n) g rows) ≡ moved_row (only f g 0) (only f g n) (only f g 0) (counts_of f rows)
 eval_as f g n rows h = moved_as (paid n) 0 n 0 (paid_is n) f g rows (λ e. zero_paid n (omega (arith, none_live g rows e)))
 
-left_as : (f g : Family) (n : ℕ) (rows : List FamilyRow) → n ≤ (counts_of g rows).live → counts_of f (changed (quit n) g rows) ≡ moved (only f g 0) (only f g 0) (only f g n) (counts_of f rows)
+left_as : (f g : Family) (n : ℕ) (rows : List FamilyRow) → n ≤ (counts_of g rows).live → counts_of f (changed_rows (quit n) g rows) ≡ moved_row (only f g 0) (only f g 0) (only f g n) (counts_of f rows)
 left_as f g n rows h = moved_as (quit n) 0 0 n (quit_is n) f g rows (λ e. zero_quit n (omega (arith, none_live g rows e)))
 
 only_zero : (f g : Family) → only f g 0 ≡ 0
@@ -130,7 +130,7 @@ only_zero f g = by (is_family f g)
     by false = refl
 
 -- what is live after evals were paid
-pub live_left : (g : Family) (n m : ℕ) (rows : List FamilyRow) → n + m ≤ (counts_of g rows).live → m ≤ (counts_of g (changed (paid n) g rows)).live
+pub live_left : (g : Family) (n m : ℕ) (rows : List FamilyRow) → n + m ≤ (counts_of g rows).live → m ≤ (counts_of g (changed_rows (paid n) g rows)).live
 live_left g n m rows h = omega (arith, ap (λ r. r.live) (eval_as g g n rows (omega arith)), only_own g n, only_zero g g)
 
 -- ---- one line
@@ -212,14 +212,14 @@ can_grant rows Nothing few limit = tt
 -- what a line does by what it pays and leaves
 record Moves (late : Bool) (rows : List FamilyRow) (l : Line) : Type 0 where
   families : families_in (moving late rows l) ≡ families_in rows
-  counts : (f : Family) → counts_of f (moving late rows l) ≡ moved (line_hops f l) (line_evals f l) (line_left f late l) (counts_of f rows)
+  counts : (f : Family) → counts_of f (moving late rows l) ≡ moved_row (line_hops f l) (line_evals f l) (line_left f late l) (counts_of f rows)
 
 -- a line that pays and leaves nothing
 still : (late : Bool) (rows : List FamilyRow) (l : Line) → moving late rows l ≡ rows → ((f : Family) → line_hops f l ≡ 0) → ((f : Family) → line_evals f l ≡ 0) → ((f : Family) → line_left f late l ≡ 0)
     → Moves late rows l
 still late rows l same h e q = record {
   families = ap families_in same;
-  counts = λ f. ap (counts_of f) same ∙ moved_none (counts_of f rows) ∙ (λ i. moved (sym (h f) i) (sym (e f) i) (sym (q f) i) (counts_of f rows));
+  counts = λ f. ap (counts_of f) same ∙ moved_none (counts_of f rows) ∙ (λ i. moved_row (sym (h f) i) (sym (e f) i) (sym (q f) i) (counts_of f rows));
 }
 
 -- an act at which nothing is stale leaves the same whether its frame was handed before
@@ -232,8 +232,8 @@ still_act : (late : Bool) (rows : List FamilyRow) (h : Host) (a : Act) → act_m
 still_act late rows h a same hops evals left = still late rows (At h a) same hops evals (λ f. left f ∙ unstale late 0)
 
 -- a packet's bound that is left
-leaves : (f g : Family) (bound : ℕ) (rows : List FamilyRow) → bound ≤ (counts_of g rows).live → counts_of f (changed (quit bound) g rows) ≡ moved 0 0 (only f g bound) (counts_of f rows)
-leaves f g bound rows h = left_as f g bound rows h ∙ (λ i. moved (only_zero f g i) (only_zero f g i) (only f g bound) (counts_of f rows))
+leaves : (f g : Family) (bound : ℕ) (rows : List FamilyRow) → bound ≤ (counts_of g rows).live → counts_of f (changed_rows (quit bound) g rows) ≡ moved_row 0 0 (only f g bound) (counts_of f rows)
+leaves f g bound rows h = left_as f g bound rows h ∙ (λ i. moved_row (only_zero f g i) (only_zero f g i) (only f g bound) (counts_of f rows))
 
 plus_zero : (n : ℕ) → n + 0 ≡ n
 plus_zero n = omega arith
@@ -244,15 +244,15 @@ zero_plus n = omega arith
 zero_more : (n : ℕ) → n ≡ 0 + n
 zero_more n = omega arith
 
-ended_as : (f g : Family) (evals rest : ℕ) (rows : List FamilyRow) → evals + rest ≤ (counts_of g rows).live → counts_of f (changed (quit rest) g (changed (paid evals) g rows)) ≡ moved 0 (only f g evals) (only f g rest) (counts_of f rows)
+ended_as : (f g : Family) (evals rest : ℕ) (rows : List FamilyRow) → evals + rest ≤ (counts_of g rows).live → counts_of f (changed_rows (quit rest) g (changed_rows (paid evals) g rows)) ≡ moved_row 0 (only f g evals) (only f g rest) (counts_of f rows)
 ended_as f g evals rest rows h =
-    leaves f g rest (changed (paid evals) g rows) (live_left g evals rest rows h)
-    ∙ ap (moved 0 0 (only f g rest)) (eval_as f g evals rows (omega arith) ∙ (λ i. moved (only_zero f g i) (only f g evals) (only_zero f g i) (counts_of f rows)))
+    leaves f g rest (changed_rows (paid evals) g rows) (live_left g evals rest rows h)
+    ∙ ap (moved_row 0 0 (only f g rest)) (eval_as f g evals rows (omega arith) ∙ (λ i. moved_row (only_zero f g i) (only f g evals) (only_zero f g i) (counts_of f rows)))
     ∙ moved_moved 0 (only f g evals) 0 0 0 (only f g rest) (counts_of f rows)
-    ∙ (λ i. moved 0 (plus_zero (only f g evals) i) (zero_plus (only f g rest) i) (counts_of f rows))
+    ∙ (λ i. moved_row 0 (plus_zero (only f g evals) i) (zero_plus (only f g rest) i) (counts_of f rows))
 
 -- a frame that is stale or lost
-leaves_late : (late : Bool) (f g : Family) (bound : ℕ) (rows : List FamilyRow) → CanLeave late g bound rows → counts_of f (leaving late g bound rows) ≡ moved 0 0 (if late then 0 else only f g bound) (counts_of f rows)
+leaves_late : (late : Bool) (f g : Family) (bound : ℕ) (rows : List FamilyRow) → CanLeave late g bound rows → counts_of f (leaving late g bound rows) ≡ moved_row 0 0 (if late then 0 else only f g bound) (counts_of f rows)
 leaves_late true f g bound rows c = moved_none (counts_of f rows)
 leaves_late false f g bound rows c = leaves f g bound rows (c refl)
 
@@ -263,17 +263,17 @@ families_late false g bound rows = families_changed (quit bound) g rows
 line_does_move : (late : Bool) (rows : List FamilyRow) (l : Line) → CanMove late rows l → Moves late rows l
 line_does_move late rows (At h (Queued d g bound)) c = record {
   families = families_changed hopped g rows;
-  counts = λ f. hop_as f g rows c ∙ (λ i. moved (only f g 1) (only_zero f g i) ((only_zero f g ∙ sym (unstale late 0)) i) (counts_of f rows));
+  counts = λ f. hop_as f g rows c ∙ (λ i. moved_row (only f g 1) (only_zero f g i) ((only_zero f g ∙ sym (unstale late 0)) i) (counts_of f rows));
 }
 line_does_move late rows (At h (Ended g o evals rest)) c = record {
-  families = families_changed (quit rest) g (changed (paid evals) g rows) ∙ families_changed (paid evals) g rows;
-  counts = λ f. ended_as f g evals rest rows c ∙ ap (λ n. moved 0 (only f g evals) n (counts_of f rows)) (sym (unstale late (only f g rest)));
+  families = families_changed (quit rest) g (changed_rows (paid evals) g rows) ∙ families_changed (paid evals) g rows;
+  counts = λ f. ended_as f g evals rest rows c ∙ ap (λ n. moved_row 0 (only f g evals) n (counts_of f rows)) (sym (unstale late (only f g rest)));
 }
 line_does_move late rows (At h (Dropped r g bound)) c = record {
   families = families_changed (quit bound) g rows;
-  counts = λ f. leaves f g bound rows c ∙ ap (λ n. moved 0 0 n (counts_of f rows)) (sym (unstale late (only f g bound)));
+  counts = λ f. leaves f g bound rows c ∙ ap (λ n. moved_row 0 0 n (counts_of f rows)) (sym (unstale late (only f g bound)));
 }
-line_does_move late rows (At h (Stale t (what.Packet g bound))) c = record { families = families_late late g bound rows; counts = λ f. leaves_late late f g bound rows c ∙ ap (λ n. moved 0 0 n (counts_of f rows)) (zero_more _) }
+line_does_move late rows (At h (Stale t (what.Packet g bound))) c = record { families = families_late late g bound rows; counts = λ f. leaves_late late f g bound rows c ∙ ap (λ n. moved_row 0 0 n (counts_of f rows)) (zero_more _) }
 line_does_move late rows (At h (Stale t what.Advert)) c = still_act late rows h _ refl (λ f. refl) (λ f. refl) (λ f. refl)
 line_does_move late rows (Lost (what.Packet g bound)) c = record { families = families_late late g bound rows; counts = λ f. leaves_late late f g bound rows c }
 line_does_move late rows (At h (Injected g bound)) c = still_act late rows h _ refl (λ f. refl) (λ f. refl) (λ f. refl)
@@ -360,7 +360,7 @@ granted_next lines l old now new g e =
 pub moved_no_lines : (late : Bool) (rows : List FamilyRow) → Moved late [] rows rows
 moved_no_lines late rows = record {
   families = refl;
-  counts = λ f. moved_none (counts_of f rows) ∙ (λ i. moved (sym (line_sum-nil (line_hops f)) i) (sym (line_sum-nil (line_evals f)) i) (sym (line_sum-nil (line_left f late)) i) (counts_of f rows));
+  counts = λ f. moved_none (counts_of f rows) ∙ (λ i. moved_row (sym (line_sum-nil (line_hops f)) i) (sym (line_sum-nil (line_evals f)) i) (sym (line_sum-nil (line_left f late)) i) (counts_of f rows));
 }
 
 sum_next : (c : Line → ℕ) (lines : List Line) (l : Line) → line_sum c (lines ++ l ∷ []) ≡ line_sum c lines + c l
@@ -372,9 +372,9 @@ moved_next late lines l old now new m c e =
     record {
       families = ap families_in e ∙ s.families ∙ m.families;
       counts = λ f.
-          ap (counts_of f) e ∙ s.counts f ∙ ap (moved (line_hops f l) (line_evals f l) (line_left f late l)) (m.counts f)
+          ap (counts_of f) e ∙ s.counts f ∙ ap (moved_row (line_hops f l) (line_evals f l) (line_left f late l)) (m.counts f)
           ∙ moved_moved (line_sum (line_hops f) lines) (line_sum (line_evals f) lines) (line_sum (line_left f late) lines) (line_hops f l) (line_evals f l) (line_left f late l) (counts_of f old)
-          ∙ (λ i. moved (sym (sum_next (line_hops f) lines l) i) (sym (sum_next (line_evals f) lines l) i) (sym (sum_next (line_left f late) lines l) i) (counts_of f old));
+          ∙ (λ i. moved_row (sym (sum_next (line_hops f) lines l) i) (sym (sum_next (line_evals f) lines l) i) (sym (sum_next (line_left f late) lines l) i) (counts_of f old));
     }
 
 -- some lines and the next one count at most what all count

@@ -3,7 +3,7 @@ use Rattle.std.specs.Prelude.{◌≡◌, ℕ, ◌+◌, ◌-◌, ◌≤◌, ◌<�
 use Rattle.plan_base.specs.declared.ids.Family.{Family}
 use Rattle.bound_ledger.specs.declared.row.Row.{Row}
 use Rattle.bound_ledger.specs.Counts.{more, hopped, paid, quit}
-use Rattle.bound_ledger.specs.Rows.{FamilyRow, families_in, counts_of, changed, with_grant}
+use Rattle.bound_ledger.specs.Rows.{FamilyRow, families_in, counts_of, changed_rows, with_grant}
 use Rattle.spelled_frame.specs.declared.spelled.What.TheVariants as what
 use Rattle.node_model.specs.declared.acts.Act.{Act}
 use Rattle.node_model.specs.declared.acts.Act.TheVariants.{Injected, Ended, Queued, Dropped, Stale}
@@ -31,13 +31,13 @@ line_grants _ = 0
 
 -- the rows where a frame is stale or lost: its bound is left, unless that was counted when it was handed before
 abbrev pub leaving : Bool → Family → ℕ → List FamilyRow → List FamilyRow
-leaving late f bound rows = if late then rows else changed (quit bound) f rows
+leaving late f bound rows = if late then rows else changed_rows (quit bound) f rows
 
 -- the rows with what an act pays and leaves, where its event's frame was handed before or wasn't
 abbrev pub act_moving : Bool → List FamilyRow → Act → List FamilyRow
-act_moving late rows (Queued d f bound) = changed hopped f rows
-act_moving late rows (Ended f o evals rest) = changed (quit rest) f (changed (paid evals) f rows)
-act_moving late rows (Dropped r f bound) = changed (quit bound) f rows
+act_moving late rows (Queued d f bound) = changed_rows hopped f rows
+act_moving late rows (Ended f o evals rest) = changed_rows (quit rest) f (changed_rows (paid evals) f rows)
+act_moving late rows (Dropped r f bound) = changed_rows (quit bound) f rows
 act_moving late rows (Stale t (what.Packet f bound)) = leaving late f bound rows
 act_moving late rows _ = rows
 
@@ -74,8 +74,8 @@ CanMove late rows _ = Unit {0}
 -- ---- the lines of an event
 
 -- some of what is live paid hops and evals, and some is left
-abbrev pub moved : ℕ → ℕ → ℕ → Row → Row
-moved h e l r = record { granted = r.granted; hops = r.hops + h; evals = r.evals + e; live = r.live - (h + e + l); left = r.left + l }
+abbrev pub moved_row : ℕ → ℕ → ℕ → Row → Row
+moved_row h e l r = record { granted = r.granted; hops = r.hops + h; evals = r.evals + e; live = r.live - (h + e + l); left = r.left + l }
 
 -- the rows have what lines grant
 pub record Granted (lines : List Line) (old new : List FamilyRow) : Type 0 where
@@ -86,7 +86,7 @@ pub record Granted (lines : List Line) (old new : List FamilyRow) : Type 0 where
 -- the rows have what lines pay and leave
 pub record Moved (late : Bool) (lines : List Line) (old new : List FamilyRow) : Type 0 where
   pub families : families_in new ≡ families_in old
-  pub counts : (f : Family) → counts_of f new ≡ moved (line_sum (line_hops f) lines) (line_sum (line_evals f) lines) (line_sum (line_left f late) lines) (counts_of f old)
+  pub counts : (f : Family) → counts_of f new ≡ moved_row (line_sum (line_hops f) lines) (line_sum (line_evals f) lines) (line_sum (line_left f late) lines) (counts_of f old)
 
 -- what lines grant keeps the limits
 pub record GrantsFit (rows : List FamilyRow) (lines : List Line) : Type 0 where

@@ -34,7 +34,7 @@ use Rattle.line_files.specs.declared.fault.LineReason.TheVariants.{BadWord, Unkn
 use Rattle.line_files.specs.Lines.{words, spaced}
 use Rattle.line_files.specs.Reads.{rest_at}
 use Rattle.line_files.specs.Files.{is_skipped, at_line}
-use Rattle.line_files.specs.HexWords.{hex_of, sized, hex_at}
+use Rattle.line_files.specs.HexWords.{hex_of, within_size, hex_at}
 use Rattle.line_files.specs.Programs.{has_name, entry_at, args_at, chunk_with, typed_chunk, weighed}
 use Rattle.line_files.specs.Handlers.{named_handler, handler_at}
 use Rattle.line_files.specs.Injections.{injection_at}
@@ -210,8 +210,8 @@ hex_ok : (bytes : List ℕ) → MayArrive bytes → hex_at 1 16513 (encode_lower
 unfolding hex_at
 hex_ok bytes m =
     let few : (leb 1 (length bytes) && leb (length bytes) 16513) ≡ true = and_both (leb 1 (length bytes)) (leb (length bytes) 16513) (le-leb 1 (length bytes) m.some) (le-leb (length bytes) 16513 m.few) in
-    let is : sized 1 16513 (hex_of (decode_of (encode_lower bytes))) ≡ Some bytes =
-    ap (λ r. sized 1 16513 (hex_of r)) (decode_of-encode_lower bytes m.are_bytes) ∙ ap (λ b. cond b (Some bytes) None) few in
+    let is : within_size 1 16513 (hex_of (decode_of (encode_lower bytes))) ≡ Some bytes =
+    ap (λ r. within_size 1 16513 (hex_of r)) (decode_of-encode_lower bytes m.are_bytes) ∙ ap (λ b. cond b (Some bytes) None) few in
     then_ok _ bytes _ _ (ap (λ o. ok_or o BadArgument) is) refl
 
 raw_ok : (s : Reading) (h : Host) (d : Dev) (bytes : List ℕ) → SmallHosts s.hosts → has_host h s.hosts ≡ true → d.0 ≤ 8 → MayArrive bytes

@@ -12,7 +12,7 @@ use Rattle.plan_lexer.specs.Scanning.{move_at, token_at, Toks, ends, skips, take
 use Rattle.plan_lexer.specs.Gaps.{gap_at}
 use Rattle.plan_lexer.specs.Tables.{key_text, key_of}
 use Rattle.plan_lexer.specs.WordTokens.{word_kind, word_at}
-use Rattle.plan_lexer.proofs.LawLemmas.{answered}
+use Rattle.plan_lexer.proofs.LawLemmas.{tokens_or_refusal}
 use Rattle.plan_grammar.specs.Ahead.{next_kind, is_symbol, need_symbol}
 use Rattle.plan_parser.specs.Values.{args_of}
 use Rattle.program_text.specs.Scanned.{tokens_of}
@@ -29,14 +29,14 @@ handler_word = codes "handler"
 
 -- ---- a text that begins with the word
 
-abbrev moved : TokenKind → ℕ → Result (Option TokenKind × ℕ) LexFault
-moved k next = Ok (Some k, next)
+abbrev moved_past : TokenKind → ℕ → Result (Option TokenKind × ℕ) LexFault
+moved_past k next = Ok (Some k, next)
 
-first_alone : move_at 0 handler_word ≡ moved (kinds.Word handler_word) 7
+first_alone : move_at 0 handler_word ≡ moved_past (kinds.Word handler_word) 7
 unfolding move_at gap_at token_at word_at word_kind key_of key_text
 first_alone = refl
 
-first_more : (more : List ℕ) → move_at 0 (handler_word ++ 32 ∷ more) ≡ moved (kinds.Word handler_word) 7
+first_more : (more : List ℕ) → move_at 0 (handler_word ++ 32 ∷ more) ≡ moved_past (kinds.Word handler_word) 7
 unfolding move_at gap_at token_at word_at word_kind key_of key_text
 first_more more = refl
 
@@ -59,7 +59,7 @@ abbrev kind_in : Result (Option TokenKind × ℕ) LexFault → TokenKind → Tok
 kind_in (Ok m) k = kind_by m.0 k
 kind_in (Err e) k = k
 
-kind_is : (j k : TokenKind) (n m : ℕ) → moved j n ≡ moved k m → j ≡ k
+kind_is : (j k : TokenKind) (n m : ℕ) → moved_past j n ≡ moved_past k m → j ≡ k
 kind_is j k n m e = ap (λ r. kind_in r k) e
 
 -- no token was read
@@ -71,7 +71,7 @@ abbrev NoToken : Result (Option TokenKind × ℕ) LexFault → Type 0
 NoToken (Ok m) = NoKind m.0
 NoToken (Err e) = Unit {0}
 
-first_of : (at : ℕ) (text : List ℕ) (ts : List Token) (k : TokenKind) (n : ℕ) → Toks at text ts → move_at at text ≡ moved k n → 0 < length text → Begun k ts
+first_of : (at : ℕ) (text : List ℕ) (ts : List Token) (k : TokenKind) (n : ℕ) → Toks at text ts → move_at at text ≡ moved_past k n → 0 < length text → Begun k ts
 first_of _ _ _ k n (ends at) m some = absurd (omega (arith, some))
 first_of _ _ _ k n (skips at text ts next long skipped h) m some = absurd (subst NoToken (sym skipped ∙ m) tt)
 first_of _ _ _ k n (takes at text ts j next long taken h) m some = record {
@@ -86,9 +86,9 @@ no_values : (from to : ℕ) (ts : List Token) (len : ℕ) → args_by (args_of (
 unfolding args_of need_symbol is_symbol next_kind
 no_values from to ts len = refl
 
-no_args : (text : List ℕ) (args : List Value) → 0 < length text → move_at 0 text ≡ moved (kinds.Word handler_word) 7 → args_of_text text ≡ Some args → ⊥
+no_args : (text : List ℕ) (args : List Value) → 0 < length text → move_at 0 text ≡ moved_past (kinds.Word handler_word) 7 → args_of_text text ≡ Some args → ⊥
 unfolding args_of_text
-no_args text args some m e = by (answered 0 text)
+no_args text args some m e = by (tokens_or_refusal 0 text)
   where
     by : IsAnswered 0 text → ⊥
     by (inl (ts, h)) =
@@ -106,10 +106,10 @@ no_args text args some m e = by (answered 0 text)
 begins : (w : List ℕ) (ws : List (List ℕ)) (text : List ℕ) (args : List Value) → w ≡ handler_word → spaced (w ∷ ws) ≡ text → args_of_text text ≡ Some args → ⊥
 begins w [] text args same is e =
     let here : handler_word ≡ text = sym (ap (λ v. spaced (v ∷ [])) same) ∙ is in
-    no_args text args (subst (λ t. 0 < length t) here (omega arith)) (subst (λ t. move_at 0 t ≡ moved (kinds.Word handler_word) 7) here first_alone) e
+    no_args text args (subst (λ t. 0 < length t) here (omega arith)) (subst (λ t. move_at 0 t ≡ moved_past (kinds.Word handler_word) 7) here first_alone) e
 begins w (v ∷ vs) text args same is e =
     let here : handler_word ++ 32 ∷ (v ++ behind vs) ≡ text = sym (ap (λ u. spaced (u ∷ v ∷ vs)) same) ∙ is in
-    no_args text args (subst (λ t. 0 < length t) here (omega arith)) (subst (λ t. move_at 0 t ≡ moved (kinds.Word handler_word) 7) here (first_more (v ++ behind vs))) e
+    no_args text args (subst (λ t. 0 < length t) here (omega arith)) (subst (λ t. move_at 0 t ≡ moved_past (kinds.Word handler_word) 7) here (first_more (v ++ behind vs))) e
 
 comes_by : (t : Bool) (w : List ℕ) (ws : List (List ℕ)) (text : List ℕ) (args : List Value) → bytes_eq w handler_word ≡ t → spaced (w ∷ ws) ≡ text → args_of_text text ≡ Some args → t ≡ false
 comes_by true w ws text args h is e = absurd (begins w ws text args ((bytes_eq-Decides w handler_word).0 h) is e)

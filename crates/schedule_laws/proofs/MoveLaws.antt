@@ -43,15 +43,15 @@ before_inside bytes n k reason e lt = every.before_inside schedule_format nothin
 -- ---- parts of lines, with one line more in front
 
 -- what is read, changed by a function
-abbrev changed : {A : Type 0} → (A → A) → Result A LineReason → Result A LineReason
-changed f (Ok x) = Ok (f x)
-changed f (Err e) = Err e
+abbrev changed_read : {A : Type 0} → (A → A) → Result A LineReason → Result A LineReason
+changed_read f (Ok x) = Ok (f x)
+changed_read f (Err e) = Err e
 
-then_changed : {A B : Type 0} (f : B → B) (r : Result A LineReason) (g h : A → Result B LineReason) → ((x : A) → g x ≡ changed f (h x)) → (r >>= g) ≡ changed f (r >>= h)
+then_changed : {A B : Type 0} (f : B → B) (r : Result A LineReason) (g h : A → Result B LineReason) → ((x : A) → g x ≡ changed_read f (h x)) → (r >>= g) ≡ changed_read f (r >>= h)
 then_changed f (Ok x) g h k = k x
 then_changed f (Err e) g h k = refl
 
-changed_then : {A B : Type 0} (f : A → A) (h : B → B) (r : Result A LineReason) (g k : A → Result B LineReason) → ((x : A) → g (f x) ≡ changed h (k x)) → (changed f r >>= g) ≡ changed h (r >>= k)
+changed_then : {A B : Type 0} (f : A → A) (h : B → B) (r : Result A LineReason) (g k : A → Result B LineReason) → ((x : A) → g (f x) ≡ changed_read h (k x)) → (changed_read f r >>= g) ≡ changed_read h (r >>= k)
 changed_then f h (Ok x) g k e = e x
 changed_then f h (Err d) g k e = refl
 
@@ -64,7 +64,7 @@ moved_more first number lt = rw (lt-leb number first lt) refl
 begun_later : (first number : ℕ) (name : Name) → first < number → begun_at (number + 1) name ≡ later_program first (begun_at number name)
 begun_later first number name lt = ap (λ (n : ℕ). begun_at n name) (sym (moved_more first number lt))
 
-program_later : (first number : ℕ) (ws : List (List ℕ)) (s : Reading) → first < number → program_line (number + 1) ws s ≡ changed (later_program first) (program_line number ws s)
+program_later : (first number : ℕ) (ws : List (List ℕ)) (s : Reading) → first < number → program_line (number + 1) ws s ≡ changed_read (later_program first) (program_line number ws s)
 unfolding program_line
 program_later first number ws s lt =
     then_changed (later_program first) (allowed (ltb (length s.programs) 64) TooMany) _ _ (λ u.
@@ -73,7 +73,7 @@ program_later first number ws s lt =
     then_changed (later_program first) (allowed (not (list_any (is_called w.0) s.programs)) TwiceNamed) _ _ (λ v.
     then_changed (later_program first) (end_at w.1) _ _ (λ x. ap (λ b. Ok b) (begun_later first number name lt))))))
 
-rest_later : (first number : ℕ) (kind : NetworkWord) (ws : List (List ℕ)) (s : Reading) → first < number → network_rest kind (number + 1) ws s ≡ changed (later_next first) (network_rest kind number ws s)
+rest_later : (first number : ℕ) (kind : NetworkWord) (ws : List (List ℕ)) (s : Reading) → first < number → network_rest kind (number + 1) ws s ≡ changed_read (later_next first) (network_rest kind number ws s)
 unfolding network_rest
 rest_later first number network.Frames ws s lt = then_changed (later_next first) (frames_line ws s) _ _ (λ t. refl)
 rest_later first number network.Host ws s lt = then_changed (later_next first) (host_line ws s) _ _ (λ t. refl)
@@ -83,13 +83,13 @@ rest_later first number network.Program ws s lt =
     ∙ changed_then (later_program first) (later_next first) (program_line number ws s) _ _ (λ begun. refl)
 rest_later first number network.Events ws s lt = then_changed (later_next first) (end_at ws) _ _ (λ u. refl)
 
-network_later : (first number : ℕ) (ws : List (List ℕ)) (s : Reading) → first < number → network_line (number + 1) ws s ≡ changed (later_next first) (network_line number ws s)
+network_later : (first number : ℕ) (ws : List (List ℕ)) (s : Reading) → first < number → network_line (number + 1) ws s ≡ changed_read (later_next first) (network_line number ws s)
 unfolding network_line
 network_later first number ws s lt =
     then_changed (later_next first) (word_at ws) _ _ (λ w.
     then_changed (later_next first) (ok_or (network_word w.0) BadWord) _ _ (λ kind. rest_later first number kind w.1 s lt))
 
-staying_later : (first : ℕ) (stage : Stage) (r : Result Reading LineReason) → later_stage first stage ≡ stage → staying stage r ≡ changed (later_next first) (staying stage r)
+staying_later : (first : ℕ) (stage : Stage) (r : Result Reading LineReason) → later_stage first stage ≡ stage → staying stage r ≡ changed_read (later_next first) (staying stage r)
 staying_later first stage (Ok s) e = ap (λ t. Ok (t, s)) (sym e)
 staying_later first stage (Err d) e = refl
 
@@ -99,11 +99,11 @@ staying_later first stage (Err d) e = refl
 abbrev Later : ℕ → Result (Stage × Reading) LineFault → Result (Stage × Reading) LineFault → Type 0
 Later first r q = file_after q ≡ moved_by first (later_file first) (file_after r)
 
-at_moved : (first n : ℕ) (r q : Result (Stage × Reading) LineReason) → q ≡ changed (later_next first) r → Later first (at_line n r) (at_line (moved first n) q)
+at_moved : (first n : ℕ) (r q : Result (Stage × Reading) LineReason) → q ≡ changed_read (later_next first) r → Later first (at_line n r) (at_line (moved first n) q)
 at_moved first n (Ok x) q e = ap (λ z. file_after (at_line (moved first n) z)) e
 at_moved first n (Err d) q e = ap (λ z. file_after (at_line (moved first n) z)) e
 
-at_later : (first n : ℕ) (r q : Result (Stage × Reading) LineReason) → first < n → q ≡ changed (later_next first) r → Later first (at_line n r) (at_line (n + 1) q)
+at_later : (first n : ℕ) (r q : Result (Stage × Reading) LineReason) → first < n → q ≡ changed_read (later_next first) r → Later first (at_line n r) (at_line (n + 1) q)
 at_later first n r q lt e = ap (λ (m : ℕ). file_after (at_line m q)) (sym (moved_more first n lt)) ∙ at_moved first n r q e
 
 either_later : (first : ℕ) (t : Bool) (a b c d : Result (Stage × Reading) LineFault) → Later first a c → Later first b d → Later first (cond t a b) (cond t c d)

@@ -16,7 +16,7 @@ use Rattle.schedule_text.specs.declared.reading.BegunProgram.{BegunProgram}
 use Rattle.schedule_text.specs.declared.reading.Reading.{Reading}
 use Rattle.schedule_text.specs.declared.reading.Stage.TheVariants as stages
 use Rattle.schedule_text.specs.Parts.{is_called}
-use Rattle.schedule_text.specs.Schedules.{begun_at, program_line, named, close_program, network_rest, network_line, with_more, staying, step, file_after, schedule_format}
+use Rattle.schedule_text.specs.Schedules.{begun_at, program_line, named_program, close_program, network_rest, network_line, with_more, staying, step, file_after, schedule_format}
 use Rattle.line_files.proofs.Keeping.{either_false}
 use Rattle.line_files.proofs.LineLaws.{no_lines, then_lines}
 use Rattle.line_files.specs.Inside.{after_lines}
@@ -26,7 +26,7 @@ use Rattle.schedule_laws.proofs.ReadSteps.{then_ok, not_ok, below_ok, Leads, lea
 use Rattle.schedule_laws.proofs.NetworkRead.{file_at, network_step_ok}
 
 abbrev pub titled : NamedText → NamedProgram
-titled p = named p.name p.program
+titled p = named_program p.name p.program
 
 abbrev pub with_programs : Reading → List NamedProgram → Reading
 with_programs s ps = record s { programs = ps }
@@ -57,12 +57,12 @@ text_step : (line : List ℕ) (begun : BegunProgram) (s : Reading) (number : ℕ
 unfolding step
 text_step line begun s number e = ap (λ b. file_after (cond b (at_line begun.source.line (staying stages.Network (close_program begun s))) (Ok (stages.Inside (with_more begun line), s)))) e
 
-close_ok : (begun : BegunProgram) (s : Reading) (program : Program) → program_in begun.source.text ≡ Ok program → close_program begun s ≡ Ok (with_programs s (s.programs ++ named begun.name program ∷ []))
+close_ok : (begun : BegunProgram) (s : Reading) (program : Program) → program_in begun.source.text ≡ Ok program → close_program begun s ≡ Ok (with_programs s (s.programs ++ named_program begun.name program ∷ []))
 unfolding close_program
 close_ok begun s program e = then_ok (program_in begun.source.text) program _ _ e refl
 
 end_step : (begun : BegunProgram) (s : Reading) (program : Program) (number : ℕ) → program_in begun.source.text ≡ Ok program
-    → schedule_format.step number (codes "end program") (file_at (stages.Inside begun) s) ≡ Ok (file_at stages.Network (with_programs s (s.programs ++ named begun.name program ∷ [])))
+    → schedule_format.step number (codes "end program") (file_at (stages.Inside begun) s) ≡ Ok (file_at stages.Network (with_programs s (s.programs ++ named_program begun.name program ∷ [])))
 unfolding step
 end_step begun s program number e = ap (λ r. file_after (at_line begun.source.line (staying stages.Network r))) (close_ok begun s program e)
 
@@ -79,9 +79,9 @@ unfolding spread
 no_text begun program e = ap program_in (sym (append-nil begun.source.text)) ∙ e
 
 inside_read : (text : List (List ℕ)) (begun : BegunProgram) (s : Reading) (program : Program) (number : ℕ) → All IsTextLine text → program_in (begun.source.text ++ spread text) ≡ Ok program
-    → after_lines schedule_format number (text ++ codes "end program" ∷ []) (file_at (stages.Inside begun) s) ≡ Ok (file_at stages.Network (with_programs s (s.programs ++ named begun.name program ∷ [])))
+    → after_lines schedule_format number (text ++ codes "end program" ∷ []) (file_at (stages.Inside begun) s) ≡ Ok (file_at stages.Network (with_programs s (s.programs ++ named_program begun.name program ∷ [])))
 inside_read [] begun s program number k e =
-    let last = file_at stages.Network (with_programs s (s.programs ++ named begun.name program ∷ [])) in
+    let last = file_at stages.Network (with_programs s (s.programs ++ named_program begun.name program ∷ [])) in
     then_lines schedule_format number (codes "end program") [] (file_at (stages.Inside begun) s) last last (end_step begun s program number (no_text begun program e)) (no_lines schedule_format (number + 1) last)
 inside_read (line ∷ text) begun s program number k e =
     then_lines schedule_format number line (text ++ codes "end program" ∷ []) (file_at (stages.Inside begun) s) (file_at (stages.Inside (with_more begun line)) s) _

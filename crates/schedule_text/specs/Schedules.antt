@@ -26,7 +26,7 @@ use Rattle.line_files.specs.Files.{Format, is_skipped, at_line, file_of}
 use Rattle.line_files.specs.Numbers.{number_at}
 use Rattle.line_files.specs.Packages.{packages_at}
 use Rattle.line_files.specs.HexWords.{hex_at}
-use Rattle.line_files.specs.Programs.{opened, with_line, program_in, named_word, weighed}
+use Rattle.line_files.specs.Programs.{opened_program, with_line, program_in, named_word, weighed}
 use Rattle.line_files.specs.Headers.{version_line}
 use Rattle.line_files.specs.Injections.{injection_at}
 use Rattle.schedule_text.specs.declared.reading.NamedProgram.{NamedProgram}
@@ -91,7 +91,7 @@ link_line ws s = do
 
 -- a program without text, begun at a line
 abbrev pub begun_at : ℕ → Name → BegunProgram
-begun_at number name = record { name = name; source = opened number }
+begun_at number name = record { name = name; source = opened_program number }
 
 -- `program NAME`
 unfoldable pub program_line : ℕ → List (List ℕ) → Reading → Result BegunProgram LineReason
@@ -103,14 +103,14 @@ program_line number ws s = do
   _ ← end_at w.1
   Ok (begun_at number name)
 
-abbrev pub named : Name → Program → NamedProgram
-named name program = record { name = name; program = program }
+abbrev pub named_program : Name → Program → NamedProgram
+named_program name program = record { name = name; program = program }
 
 -- the end of a program's text
 unfoldable pub close_program : BegunProgram → Reading → Result Reading LineReason
 close_program begun s = do
   program ← program_in begun.source.text
-  Ok (record s { programs = s.programs ++ named begun.name program ∷ [] })
+  Ok (record s { programs = s.programs ++ named_program begun.name program ∷ [] })
 
 -- a line of the network behind its first word, and what may come next
 unfoldable pub network_rest : NetworkWord → ℕ → List (List ℕ) → Reading → Result (Stage × Reading) LineReason

@@ -15,7 +15,7 @@ use Rattle.node_io.specs.declared.link.Arrival.{Arrival}
 use Rattle.node_io.specs.Links.{Heard, has_peer, next_heard}
 use Rattle.node_model.specs.State.{NodeState}
 use Rattle.node_model.specs.Node.{node_step}
-use Rattle.serve_model.specs.Runs.{Entry, acts_of, node_by, entries_at, played, node_after, Running, opened, with_entry, marked, holding, with_sent, Action, then_do, is_refused, make, tick, inject_one, inject_to, arrival, hear, first_on, queued_on, come_back, take_back, loop_back, send_taken, take_send, repeat_send, flush_device, flush_to, release, flush, begin_turn, end_turn, turn, turns, node_run, peers_of, time_at}
+use Rattle.serve_model.specs.Runs.{Entry, acts_of, node_by, entries_at, played, node_after, Running, opened_run, with_entry, marked, holding, with_sent, Action, then_do, is_refused, make, tick, inject_one, inject_to, arrival, hear, first_on, queued_on, come_back, take_back, loop_back, send_taken, take_send, repeat_send, flush_device, flush_to, release, flush, begin_turn, end_turn, turn, turns, node_run, peers_of, time_at}
 use Rattle.serve_model.specs.Follow.{Ext, Grows}
 
 -- ---- what entries of a log give
@@ -51,20 +51,20 @@ ext_refl r = record {
   node = refl;
 }
 
-joined : {A : Type 0} (a b c more later : List A) → b ≡ a ++ more → c ≡ b ++ later → c ≡ a ++ (more ++ later)
-joined a b c more later x y = trans y (trans (ap (λ l. l ++ later) x) (append_assoc a more later))
+appends_compose : {A : Type 0} (a b c more later : List A) → b ≡ a ++ more → c ≡ b ++ later → c ≡ a ++ (more ++ later)
+appends_compose a b c more later x y = trans y (trans (ap (λ l. l ++ later) x) (append_assoc a more later))
 
 pub ext_trans : (a b c : Running) → Ext a b → Ext b c → Ext a c
 ext_trans a b c x y =
     let count : length b.events ≡ length a.events + length x.events = trans (ap length x.log) (length-append a.events x.events) in
     let later : played (length b.events) b.node y.events ≡ played (length a.events + length x.events) (node_after a.node x.events) y.events = trans (ap (λ n. played n b.node y.events) count) (ap (λ node. played (length a.events + length x.events) node y.events) x.node) in
-    let lines = joined a.entries b.entries c.entries (played (length a.events) a.node x.events) (played (length b.events) b.node y.events) x.lines y.lines in
+    let lines = appends_compose a.entries b.entries c.entries (played (length a.events) a.node x.events) (played (length b.events) b.node y.events) x.lines y.lines in
     let first = played (length a.events) a.node x.events in
     record {
       events = x.events ++ y.events;
       sent = x.sent ++ y.sent;
-      log = joined a.events b.events c.events x.events y.events x.log y.log;
-      frames = joined a.sent b.sent c.sent x.sent y.sent x.frames y.frames;
+      log = appends_compose a.events b.events c.events x.events y.events x.log y.log;
+      frames = appends_compose a.sent b.sent c.sent x.sent y.sent x.frames y.frames;
       lines = trans lines (ap (λ l. a.entries ++ l) (trans (ap (λ l. first ++ l) later) (sym (played_more (length a.events) a.node x.events y.events))));
       node = trans y.node (trans (ap (λ node. node_after node y.events) x.node) (sym (after_more a.node x.events y.events)));
     }
@@ -198,5 +198,5 @@ turns_grows cfg script last answers (suc n) refused r = grows_then (turns cfg sc
 pub lines_of_run : (cfg : ServeConfig) (node : NodeState) (script : List Arrival) (last : ℕ) (answers : List ℕ) (n : ℕ) (refused : List ℕ) → (node_run cfg node script last answers n refused).entries ≡ played 0 node (node_run cfg node script last answers n refused).events
 unfolding node_run
 lines_of_run cfg node script last answers n refused =
-    let x = turns_grows cfg script last answers n refused (opened node) in
+    let x = turns_grows cfg script last answers n refused (opened_run node) in
     trans x.lines (ap (λ es. played 0 node es) (sym x.log))

@@ -62,8 +62,8 @@ pub record Running : Type 0 where
   pub entries : List Entry
 
 -- a run at its beginning
-abbrev pub opened : NodeState → Running
-opened node = record { node = node; last = 0; held = false; events = []; sent = []; entries = [] }
+abbrev pub opened_run : NodeState → Running
+opened_run node = record { node = node; last = 0; held = false; events = []; sent = []; entries = [] }
 
 -- one entry more in the log, with its lines
 unfoldable pub with_entry : LogEvent → Running → Running
@@ -218,4 +218,4 @@ turns cfg script last answers (suc n) refused r =
 
 -- a run of so many turns
 unfoldable pub node_run : ServeConfig → NodeState → List Arrival → ℕ → List ℕ → ℕ → List ℕ → Running
-node_run cfg node script last answers n refused = turns cfg script last answers n refused (opened node)
+node_run cfg node script last answers n refused = turns cfg script last answers n refused (opened_run node)

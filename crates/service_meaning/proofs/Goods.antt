@@ -24,12 +24,12 @@ use Rattle.service_api.specs.declared.scheme.SchemeTy.{SchemeTy}
 use Rattle.service_api.specs.declared.scheme.SchemeTy.TheVariants.{Any, Is}
 use Rattle.service_api.specs.Routes.{hop, default_route}
 use Rattle.service_api.specs.Schemes.{instance, AllStandFor, IsInstance, stands_for}
-use Rattle.service_api.specs.Services.{Rows, Served, IsGoodServe, IsGoodServed, IsGoodValue, AreGoodValues, AreGoodRows, IsGoodOptionNote, MayRaise, own_exceptions, exceptions_among, refused}
+use Rattle.service_api.specs.Services.{Rows, Served, IsGoodServe, IsGoodServed, IsGoodValue, AreGoodValues, AreGoodRows, IsGoodOptionNote, MayRaise, own_exceptions, exceptions_among, refused_call}
 use Rattle.service_api.proofs.InstanceLaws.{found_is}
 use Rattle.service_meaning.specs.declared.service.Service.{Service}
 use Rattle.service_meaning.specs.declared.service.Service.TheVariants as service
 use Rattle.service_meaning.specs.Offered.{InstalledPackages, offered, name_of, type_of, hop_type}
-use Rattle.service_meaning.specs.Answers.{given, noted, raised, without_arguments, of_one, of_two, of_four, of_host, of_int, of_text, key_of, cost_in, distance, hop_answer, put_answer, kept, got_answer, key_answer, delivered, serve_as, no_route, table_full, not_found, expiry_after}
+use Rattle.service_meaning.specs.Answers.{given, noted_answer, raised, without_arguments, of_one, of_two, of_four, of_host, of_int, of_text, key_of, cost_in, distance, hop_answer, put_answer, kept, got_answer, key_answer, delivered, serve_as, no_route, table_full, not_found, expiry_after}
 use Rattle.service_meaning.specs.Serving.{serve_at, serve_offered, serve}
 use Rattle.service_meaning.proofs.Refusals.{offered_is}
 use Rattle.service_meaning.proofs.Leaves.{good_unit, good_bool, good_int, good_host}
@@ -44,13 +44,13 @@ raises_of : (svc : Svc) (name : List ℕ) (x : Exn) → svc.name ≡ name → Co
 raises_of svc name x e h = subst (λ n. Contains (no_service ∷ exceptions_among own_exceptions n) x) (sym e) h
 
 module _ (svc : Svc) (rows : Rows) (gr : AreGoodRows rows) where
-  refused_good : IsGoodServed svc (refused rows)
+  refused_good : IsGoodServed svc (refused_call rows)
   refused_good = record { answer = may_refuse svc; rows = gr }
 
   given_good : (t : Ty) (v : Value) → svc.result ≡ t → IsGoodValue t v → IsGoodServed svc (given v rows)
   given_good t v e g = record { answer = (subst (λ (u : Ty). IsGoodValue u v) (sym e) g, tt); rows = gr }
 
-  noted_good : (note : Note) → svc.result ≡ ty.Unit → IsGoodOptionNote (Some note) → IsGoodServed svc (noted note rows)
+  noted_good : (note : Note) → svc.result ≡ ty.Unit → IsGoodOptionNote (Some note) → IsGoodServed svc (noted_answer note rows)
   noted_good note e g = record { answer = (subst (λ (u : Ty). IsGoodValue u value.Unit) (sym e) good_unit, g); rows = gr }
 
   raised_good : (x : Exn) → MayRaise svc x → IsGoodServed svc (raised x rows)
@@ -160,7 +160,7 @@ module _ (svc : Svc) (rows : Rows) (gr : AreGoodRows rows) where
   -- ---- the package host
 
   delivered_good : (t : Ty) (z : ℤ) (v : Value) → svc.result ≡ ty.Unit → MayRaise svc bad_index → IsGoodValue t v → IsGoodServed svc (delivered z v rows)
-  delivered_good t (pos n) v e m g = cost_if (nat_le n 65535) (noted (Port n v) rows) (raised bad_index rows) (noted_good (Port n v) e (t, g)) (raised_good bad_index m)
+  delivered_good t (pos n) v e m g = cost_if (nat_le n 65535) (noted_answer (Port n v) rows) (raised bad_index rows) (noted_good (Port n v) e (t, g)) (raised_good bad_index m)
   delivered_good t (negsuc n) v e m g = raised_good bad_index m
 
 -- ---- each service

@@ -8,16 +8,16 @@ use Rattle.plan_base.specs.declared.tree.Ty.{Ty}
 use Rattle.plan_base.specs.declared.tree.Value.{Value}
 use Rattle.service_api.specs.declared.ctx.Ctx.{Ctx}
 use Rattle.service_api.specs.Schemes.{instance, is_instance_of}
-use Rattle.service_api.specs.Services.{Rows, RefusesOthers, refused}
+use Rattle.service_api.specs.Services.{Rows, RefusesOthers, refused_call}
 use Rattle.service_meaning.specs.declared.service.Service.{Service}
-use Rattle.service_meaning.specs.Offered.{InstalledPackages, name_of, named, all_services, if_there, is_there, package_of, offered, type_of, type_offered}
+use Rattle.service_meaning.specs.Offered.{InstalledPackages, name_of, service_named, all_services, if_there, is_there, package_of, offered, type_of, type_offered}
 use Rattle.service_meaning.specs.Serving.{serve_at, serve_offered, serve, offer}
 
-refused_at : (t : Option Ty) (s : Service) (args : List Value) (ctx : Ctx) (rows : Rows) → is_some t ≡ false → serve_at t s args ctx rows ≡ refused rows
+refused_at : (t : Option Ty) (s : Service) (args : List Value) (ctx : Ctx) (rows : Rows) → is_some t ≡ false → serve_at t s args ctx rows ≡ refused_call rows
 refused_at None s args ctx rows e = refl
 refused_at (Some a) s args ctx rows e = cc
 
-refused_offered : (o : Option Service) (svc : Svc) (args : List Value) (ctx : Ctx) (rows : Rows) → is_instance_of (type_offered o) svc ≡ false → serve_offered o svc args ctx rows ≡ refused rows
+refused_offered : (o : Option Service) (svc : Svc) (args : List Value) (ctx : Ctx) (rows : Rows) → is_instance_of (type_offered o) svc ≡ false → serve_offered o svc args ctx rows ≡ refused_call rows
 refused_offered None svc args ctx rows e = refl
 refused_offered (Some s) svc args ctx rows e = refused_at (instance (type_of s) svc) s args ctx rows e
 
@@ -31,9 +31,9 @@ module _ (name : List ℕ) (s : Service) where
   first_or x rest later true t f = sym ((bytes_eq-Decides (name_of x) name).0 t) ∙ ap name_of (some-same f)
   first_or x rest later false t f = later f
 
-  named_is : (ss : List Service) → named ss name ≡ Some s → name ≡ name_of s
+  named_is : (ss : List Service) → service_named ss name ≡ Some s → name ≡ name_of s
   named_is [] e = absurd (none-some e)
-  named_is (x ∷ xs) e = first_or x (named xs name) (named_is xs) (bytes_eq (name_of x) name) refl e
+  named_is (x ∷ xs) e = first_or x (service_named xs name) (named_is xs) (bytes_eq (name_of x) name) refl e
 
 if_some : (b : Bool) (x s : Service) → (if b then Some x else None) ≡ Some s → Some x ≡ Some s
 if_some true x s f = f
@@ -44,4 +44,4 @@ there_is p None s e = e
 there_is p (Some x) s e = if_some (is_there p (package_of x)) x s e
 
 pub offered_is : (p : InstalledPackages) (name : List ℕ) (s : Service) → offered p name ≡ Some s → name ≡ name_of s
-offered_is p name s e = named_is name s all_services (there_is p (named all_services name) s e)
+offered_is p name s e = named_is name s all_services (there_is p (service_named all_services name) s e)

@@ -20,7 +20,7 @@ use Rattle.service_api.specs.declared.router.RouteRow.{RouteRow}
 use Rattle.service_api.specs.declared.router.Hop.{Hop}
 use Rattle.service_api.specs.declared.router.Hop.TheVariants.{To, NoService, NoRoute}
 use Rattle.service_api.specs.Routes.{hop, default_route}
-use Rattle.service_api.specs.Services.{Rows, Served, refused}
+use Rattle.service_api.specs.Services.{Rows, Served, refused_call}
 use Rattle.service_meaning.specs.declared.service.Service.{Service}
 use Rattle.service_meaning.specs.declared.service.Service.TheVariants as service
 use Rattle.service_meaning.specs.Offered.{hop_type}
@@ -39,8 +39,8 @@ not_found = exception (codes "NotFound")
 abbrev pub given : Value → Rows → Served
 given v rows = record { answer = Gives v None; rows = rows }
 
-abbrev pub noted : Note → Rows → Served
-noted note rows = record { answer = Gives value.Unit (Some note); rows = rows }
+abbrev pub noted_answer : Note → Rows → Served
+noted_answer note rows = record { answer = Gives value.Unit (Some note); rows = rows }
 
 abbrev pub raised : Exn → Rows → Served
 raised x rows = record { answer = Raises x; rows = rows }
@@ -49,31 +49,31 @@ raised x rows = record { answer = Raises x; rows = rows }
 
 abbrev pub without_arguments : Served → List Value → Rows → Served
 without_arguments s [] rows = s
-without_arguments s (_ ∷ _) rows = refused rows
+without_arguments s (_ ∷ _) rows = refused_call rows
 
 abbrev pub of_one : (Value → Served) → List Value → Rows → Served
 of_one f (v ∷ []) rows = f v
-of_one f _ rows = refused rows
+of_one f _ rows = refused_call rows
 
 abbrev pub of_two : (Value → Value → Served) → List Value → Rows → Served
 of_two f (v ∷ w ∷ []) rows = f v w
-of_two f _ rows = refused rows
+of_two f _ rows = refused_call rows
 
 abbrev pub of_four : (Value → Value → Value → Value → Served) → List Value → Rows → Served
 of_four f (v ∷ w ∷ x ∷ y ∷ []) rows = f v w x y
-of_four f _ rows = refused rows
+of_four f _ rows = refused_call rows
 
 abbrev pub of_host : (Host → Served) → ValueLayer → Rows → Served
 of_host f (Value-F.Host h) rows = f h
-of_host f _ rows = refused rows
+of_host f _ rows = refused_call rows
 
 abbrev pub of_int : (ℤ → Served) → ValueLayer → Rows → Served
 of_int f (Value-F.Int z) rows = f z
-of_int f _ rows = refused rows
+of_int f _ rows = refused_call rows
 
 abbrev pub of_text : (List ℕ → Served) → ValueLayer → Rows → Served
 of_text f (Value-F.Str s) rows = f s
-of_text f _ rows = refused rows
+of_text f _ rows = refused_call rows
 
 abbrev pub key_of : List ℕ → ℤ → Key
 key_of name number = record { name = name; number = number }
@@ -121,7 +121,7 @@ key_answer None rows = raised overflow rows
 -- ---- the package host
 
 abbrev pub delivered : ℤ → Value → Rows → Served
-delivered (pos n) v rows = if nat_le n 65535 then noted (Port n v) rows else raised bad_index rows
+delivered (pos n) v rows = if nat_le n 65535 then noted_answer (Port n v) rows else raised bad_index rows
 delivered (negsuc n) v rows = raised bad_index rows
 
 -- ---- each service, where its declaration takes `Any` at the type a
@@ -138,5 +138,5 @@ serve_as service.Put a args ctx rows = of_four (λ n k v l. of_text (λ name. of
 serve_as service.Get a args ctx rows = of_two (λ n k. of_text (λ name. of_int (λ number. got_answer (got (key_of name number) a ctx.now rows.rows) rows) (out-Value k) rows) (out-Value n) rows) args rows
 serve_as service.Remove a args ctx rows = of_two (λ n k. of_text (λ name. of_int (λ number. given value.Unit (record rows { rows = without_row (key_of name number) rows.rows })) (out-Value k) rows) (out-Value n) rows) args rows
 serve_as service.GenerateKey a args ctx rows = without_arguments (key_answer (fresh_key rows.«next») rows) args rows
-serve_as service.Print a args ctx rows = of_one (λ v. noted (Print v) rows) args rows
+serve_as service.Print a args ctx rows = of_one (λ v. noted_answer (Print v) rows) args rows
 serve_as service.Deliver a args ctx rows = of_two (λ p v. of_int (λ z. delivered z v rows) (out-Value p) rows) args rows

@@ -67,9 +67,9 @@ type_of Print = takes (Any ∷ []) ty.Unit
 type_of Deliver = takes (Is ty.Int ∷ Any ∷ []) ty.Unit
 
 -- the first of the services that has the name
-abbrev pub named : List Service → List ℕ → Option Service
-named [] name = None
-named (s ∷ ss) name = if bytes_eq (name_of s) name then Some s else named ss name
+abbrev pub service_named : List Service → List ℕ → Option Service
+service_named [] name = None
+service_named (s ∷ ss) name = if bytes_eq (name_of s) name then Some s else service_named ss name
 
 -- the packages that are there
 pub record InstalledPackages : Type 0 where
@@ -88,7 +88,7 @@ if_there p None = None
 
 -- the service of the name, where its package is there
 abbrev pub offered : InstalledPackages → List ℕ → Option Service
-offered p name = if_there p (named all_services name)
+offered p name = if_there p (service_named all_services name)
 
 abbrev pub type_offered : Option Service → Option Scheme
 type_offered (Some s) = Some (type_of s)

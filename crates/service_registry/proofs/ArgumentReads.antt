@@ -6,18 +6,18 @@ use Rattle.plan_base.specs.declared.tree.Value.TheOpen.{Value-F}
 use Rattle.plan_base.specs.Trees.{ValueLayer}
 use Rattle.table_rows.specs.declared.row.Row.{Row}
 use Rattle.service_api.specs.declared.answer.Answer.{Answer}
-use Rattle.service_api.specs.Services.{Rows, Served, refused}
+use Rattle.service_api.specs.Services.{Rows, Served, refused_call}
 use Rattle.service_meaning.specs.Answers.{without_arguments, of_two, of_int, of_text}
 use Rattle.service_registry.specs.Arguments.{int_in, text_in}
 use Rattle.service_registry.specs.Meets.{Meets}
 
 -- the answer at an argument that is there, and else a refusal
-abbrev pub taken : (A : Type 0) → (A → Served) → Option A → Rows → Served
-taken A f (Some a) rows = f a
-taken A f None rows = refused rows
+abbrev pub taken_argument : (A : Type 0) → (A → Served) → Option A → Rows → Served
+taken_argument A f (Some a) rows = f a
+taken_argument A f None rows = refused_call rows
 
 module _ (rows : Rows) where
-  int_taken : (f : ℤ → Served) (l : ValueLayer) → of_int f l rows ≡ taken ℤ f (int_in l) rows
+  int_taken : (f : ℤ → Served) (l : ValueLayer) → of_int f l rows ≡ taken_argument ℤ f (int_in l) rows
   int_taken f (Value-F.Int z) = refl
   int_taken f Value-F.Unit = refl
   int_taken f (Value-F.Bool b) = refl
@@ -30,7 +30,7 @@ module _ (rows : Rows) where
   int_taken f (Value-F.List t vs) = refl
   int_taken f (Value-F.Tuple vs) = refl
 
-  text_taken : (f : List ℕ → Served) (l : ValueLayer) → of_text f l rows ≡ taken (List ℕ) f (text_in l) rows
+  text_taken : (f : List ℕ → Served) (l : ValueLayer) → of_text f l rows ≡ taken_argument (List ℕ) f (text_in l) rows
   text_taken f (Value-F.Str s) = refl
   text_taken f Value-F.Unit = refl
   text_taken f (Value-F.Bool b) = refl
@@ -43,15 +43,15 @@ module _ (rows : Rows) where
   text_taken f (Value-F.List t vs) = refl
   text_taken f (Value-F.Tuple vs) = refl
 
-  pub int_read : (f : ℤ → Served) (l : ValueLayer) (o : Option ℤ) → o ≡ int_in l → of_int f l rows ≡ taken ℤ f o rows
-  int_read f l o e = int_taken f l ∙ ap (λ x. taken ℤ f x rows) (sym e)
+  pub int_read : (f : ℤ → Served) (l : ValueLayer) (o : Option ℤ) → o ≡ int_in l → of_int f l rows ≡ taken_argument ℤ f o rows
+  int_read f l o e = int_taken f l ∙ ap (λ x. taken_argument ℤ f x rows) (sym e)
 
-  pub text_read : (f : List ℕ → Served) (l : ValueLayer) (o : Option (List ℕ)) → o ≡ text_in l → of_text f l rows ≡ taken (List ℕ) f o rows
-  text_read f l o e = text_taken f l ∙ ap (λ x. taken (List ℕ) f x rows) (sym e)
+  pub text_read : (f : List ℕ → Served) (l : ValueLayer) (o : Option (List ℕ)) → o ≡ text_in l → of_text f l rows ≡ taken_argument (List ℕ) f o rows
+  text_read f l o e = text_taken f l ∙ ap (λ x. taken_argument (List ℕ) f x rows) (sym e)
 
 -- ---- how many arguments there are
 
-pub some_refused : (s : Served) (args : List Value) (rows : Rows) → 1 ≤ length args → without_arguments s args rows ≡ refused rows
+pub some_refused : (s : Served) (args : List Value) (rows : Rows) → 1 ≤ length args → without_arguments s args rows ≡ refused_call rows
 some_refused s [] rows h = absurd (omega arith)
 some_refused s (x ∷ xs) rows h = refl
 
@@ -85,18 +85,18 @@ abbrev pub Named : (List ℕ → ℤ → Served) → Rows → List Value → Ser
 Named f rows args = of_two (λ n k. of_text (λ name. of_int (f name) (out-Value k) rows) (out-Value n) rows) args rows
 
 module _ (f : List ℕ → ℤ → Served) (rows : Rows) where
-  pub named_other : (args : List Value) → (length args ≡ 2 → ⊥) → Named f rows args ≡ refused rows
+  pub named_other : (args : List Value) → (length args ≡ 2 → ⊥) → Named f rows args ≡ refused_call rows
   named_other [] h = refl
   named_other (x ∷ []) h = refl
   named_other (x ∷ y ∷ []) h = absurd (h refl)
   named_other (x ∷ y ∷ z ∷ zs) h = refl
 
   -- by what its arguments are
-  pub named_by : (args : List Value) (x y : Value) (o : Option (List ℕ)) (p : Option ℤ) → args ≡ x ∷ y ∷ [] → o ≡ text_in (out-Value x) → p ≡ int_in (out-Value y) → Named f rows args ≡ taken (List ℕ) (λ name. taken ℤ (f name) p rows) o rows
+  pub named_by : (args : List Value) (x y : Value) (o : Option (List ℕ)) (p : Option ℤ) → args ≡ x ∷ y ∷ [] → o ≡ text_in (out-Value x) → p ≡ int_in (out-Value y) → Named f rows args ≡ taken_argument (List ℕ) (λ name. taken_argument ℤ (f name) p rows) o rows
   named_by args x y o p e g h =
       ap (Named f rows) e
       ∙ text_read rows (λ name. of_int (f name) (out-Value y) rows) (out-Value x) o g
-      ∙ ap (λ (t : List ℕ → Served). taken (List ℕ) t o rows) (λ i name. int_read rows (f name) (out-Value y) p h i)
+      ∙ ap (λ (t : List ℕ → Served). taken_argument (List ℕ) t o rows) (λ i name. int_read rows (f name) (out-Value y) p h i)
 
 pub meets_as : (s t : Served) (old new : Rows) (r : Result Answer NoMemory) → s ≡ t → Meets t old r new → Meets s old r new
 meets_as s t old new r e m = subst (λ (x : Served). Meets x old r new) (sym e) m

@@ -7,17 +7,17 @@ use Rattle.table_rows.specs.Rows.{put_row, fits}
 use Rattle.resident_tables.specs.Tables.{row_of}
 use Rattle.value_rules.specs.Rules.{bad_index}
 use Rattle.service_api.specs.declared.ctx.Ctx.{Ctx}
-use Rattle.service_api.specs.Services.{Rows, Served, refused}
+use Rattle.service_api.specs.Services.{Rows, Served, refused_call}
 use Rattle.service_meaning.specs.declared.service.Service.TheVariants as service
 use Rattle.service_meaning.specs.Answers.{of_int, kept, raised, put_answer, table_full, serve_as, expiry_after}
 use Rattle.service_registry.specs.Arguments.{int_in, text_in}
-use Rattle.service_registry.proofs.ArgumentReads.{taken, int_read, text_read}
+use Rattle.service_registry.proofs.ArgumentReads.{taken_argument, int_read, text_read}
 
 module _ (a : Ty) (ctx : Ctx) (rows : Rows) where
   abbrev Put : List Value → Served
   Put args = serve_as service.Put a args ctx rows
 
-  pub put_other : (args : List Value) → (length args ≡ 4 → ⊥) → Put args ≡ refused rows
+  pub put_other : (args : List Value) → (length args ≡ 4 → ⊥) → Put args ≡ refused_call rows
   put_other [] h = refl
   put_other (x ∷ []) h = refl
   put_other (x ∷ y ∷ []) h = refl
@@ -27,12 +27,12 @@ module _ (a : Ty) (ctx : Ctx) (rows : Rows) where
 
   -- by what its arguments are
   pub put_by : (args : List Value) (x y v w : Value) (o : Option (List ℕ)) (p q : Option ℤ) → args ≡ x ∷ y ∷ v ∷ w ∷ [] → o ≡ text_in (out-Value x) → p ≡ int_in (out-Value y) → q ≡ int_in (out-Value w)
-      → Put args ≡ taken (List ℕ) (λ name. taken ℤ (λ number. taken ℤ (kept a ctx rows name number v) q rows) p rows) o rows
+      → Put args ≡ taken_argument (List ℕ) (λ name. taken_argument ℤ (λ number. taken_argument ℤ (kept a ctx rows name number v) q rows) p rows) o rows
   put_by args x y v w o p q e f g h =
       ap Put e
       ∙ text_read rows (λ name. of_int (λ number. of_int (kept a ctx rows name number v) (out-Value w) rows) (out-Value y) rows) (out-Value x) o f
-      ∙ ap (λ (t : List ℕ → Served). taken (List ℕ) t o rows) (λ i name. int_read rows (λ number. of_int (kept a ctx rows name number v) (out-Value w) rows) (out-Value y) p g i)
-      ∙ ap (λ (t : List ℕ → ℤ → Served). taken (List ℕ) (λ name. taken ℤ (t name) p rows) o rows) (λ i name number. int_read rows (kept a ctx rows name number v) (out-Value w) q h i)
+      ∙ ap (λ (t : List ℕ → Served). taken_argument (List ℕ) t o rows) (λ i name. int_read rows (λ number. of_int (kept a ctx rows name number v) (out-Value w) rows) (out-Value y) p g i)
+      ∙ ap (λ (t : List ℕ → ℤ → Served). taken_argument (List ℕ) (λ name. taken_argument ℤ (t name) p rows) o rows) (λ i name number. int_read rows (kept a ctx rows name number v) (out-Value w) q h i)
 
   pub kept_short : (name : List ℕ) (number : ℤ) (v : Value) (life other : ℤ) → life ≡ other → int_lt other (pos 1) ≡ true → kept a ctx rows name number v life ≡ raised bad_index rows
   kept_short name number v life other e h = ap (kept a ctx rows name number v) e ∙ rw h refl

@@ -47,7 +47,7 @@ fn package_of(service: Service) -> PackageName
 
 /// The first of `services` that has the name.
 fn named_among(services: &[Service], name: &Name) -> Option<Service>
-    ensures { result ≡ spec.named services.now name.now }
+    ensures { result ≡ spec.service_named services.now name.now }
 {
     let mut rest = services;
     while let [service, later @ ..] = rest {
@@ -60,7 +60,7 @@ fn named_among(services: &[Service], name: &Name) -> Option<Service>
 }
 
 fn named(name: &Name) -> Option<Service>
-    ensures { result ≡ spec.named spec.all_services name.now }
+    ensures { result ≡ spec.service_named spec.all_services name.now }
 {
     let services = [
         Service::ThisHost,

@@ -14,7 +14,7 @@ use Rattle.packet_frame.specs.Stamped.{packet_with, stamped_bytes, SpellsStamped
 use Rattle.packet_frame.proofs.Carried.{plain_carries}
 use Rattle.packet_frame.proofs.Versions.{accepted_by}
 use Rattle.spelled_frame.specs.declared.spelled.What.{What}
-use Rattle.spelled_frame.specs.Spelled.{frame_or, frame_in, what_of, IsOnItsWay, IsSpelled, stamp_with, numbered, is_stamped, version_of}
+use Rattle.spelled_frame.specs.Spelled.{frame_or, frame_in, what_of, IsOnItsWay, IsSpelled, stamp_with, numbered_frame, is_stamped, version_of}
 
 pub frame_is_read : (v : Version) (bytes : List ℕ) (x : PlainStamped) → AcceptsBy v bytes x → frame_in v bytes ≡ x
 unfolding frame_in
@@ -50,7 +50,7 @@ two_accepted bytes x h t k = record { short = h.short; fits = h.fits.0; read = h
 -- ---- another number
 
 -- under version 1 no frame bears a stamp
-pub one_numbered : (bytes : List ℕ) (w : What) (link : ℕ) → IsSpelled One bytes w → frame_in One bytes ≡ numbered link (frame_in One bytes)
+pub one_numbered : (bytes : List ℕ) (w : What) (link : ℕ) → IsSpelled One bytes w → frame_in One bytes ≡ numbered_frame link (frame_in One bytes)
 one_numbered bytes w link h =
     let e : (frame_in One bytes).stamp ≡ None = h.accepted.read.0 in
     λ i. record { stamp = (e ∙ sym (ap (stamp_with link) e)) i; frame = (frame_in One bytes).frame }
@@ -79,14 +79,14 @@ module _ (old new : List ℕ) (link : ℕ) (k : (s : Stamp) (x : PlainFrame) →
   renumbered None (PlainFrame.Ask bound c) a w = absurd w
   renumbered (Some s) y a w = let n = k s y (record { short = a.short; fits = (a.fits, a.read); is = a.is }) in record { short = n.short; fits = n.fits.0; read = n.fits.1; is = n.is; typed = a.typed; handler = a.handler }
 
-  two_renumbered : (w : What) → IsSpelled Two old w → AcceptsBy Two new (numbered link (frame_in Two old))
+  two_renumbered : (w : What) → IsSpelled Two old w → AcceptsBy Two new (numbered_frame link (frame_in Two old))
   two_renumbered w h = renumbered (frame_in Two old).stamp (frame_in Two old).frame h.accepted h.way
 
-  pub two_numbered : (w : What) → IsSpelled Two old w → frame_in Two new ≡ numbered link (frame_in Two old)
-  two_numbered w h = frame_is_read Two new (numbered link (frame_in Two old)) (two_renumbered w h)
+  pub two_numbered : (w : What) → IsSpelled Two old w → frame_in Two new ≡ numbered_frame link (frame_in Two old)
+  two_numbered w h = frame_is_read Two new (numbered_frame link (frame_in Two old)) (two_renumbered w h)
 
   pub two_spelled : (w : What) → IsSpelled Two old w → IsSpelled Two new w
-  two_spelled w h = is_spelled Two new (numbered link (frame_in Two old)) w (two_renumbered w h) h.way h.holds
+  two_spelled w h = is_spelled Two new (numbered_frame link (frame_in Two old)) w (two_renumbered w h) h.way h.holds
 
 -- ---- whether it bears one
 

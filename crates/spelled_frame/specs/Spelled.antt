@@ -46,8 +46,8 @@ stamp_with n None = None
 stamp_with n (Some s) = Some (record { boot = s.boot; link = n })
 
 -- the frame with this number, where it bears a stamp
-abbrev pub numbered : ℕ → PlainStamped → PlainStamped
-numbered n x = record { stamp = stamp_with n x.stamp; frame = x.frame }
+abbrev pub numbered_frame : ℕ → PlainStamped → PlainStamped
+numbered_frame n x = record { stamp = stamp_with n x.stamp; frame = x.frame }
 
 -- whether a frame bears a stamp
 abbrev pub is_stamped : Option Stamp → Bool

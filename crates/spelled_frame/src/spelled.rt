@@ -173,7 +173,7 @@ impl SpelledFrame {
 
     /// The frame with this number, where it bears a stamp. Takes no memory.
     pub fn numbered(self, link: u64) -> SpelledFrame
-        ensures { result ≡ spec.numbered link self }
+        ensures { result ≡ spec.numbered_frame link self }
     {
         let SpelledFrame {
             version,
@@ -191,7 +191,7 @@ impl SpelledFrame {
 #[tactic(auto, using(crate::proofs::Reading::one_numbered))]
 fn same_number(bytes: Bytes, what: What, link: u64) -> SpelledFrame
     requires { IsSpelled One bytes what }
-    ensures { result ≡ spec.numbered link (frame_in One bytes) }
+    ensures { result ≡ spec.numbered_frame link (frame_in One bytes) }
 {
     let _link = link;
     SpelledFrame {
@@ -205,7 +205,7 @@ fn same_number(bytes: Bytes, what: What, link: u64) -> SpelledFrame
 #[tactic(auto, using(crate::proofs::Reading::has_stamp, crate::proofs::Reading::two_numbered, crate::proofs::Reading::two_spelled))]
 fn other_number(bytes: Bytes, what: What, link: u64) -> SpelledFrame
     requires { IsSpelled Two bytes what }
-    ensures { result ≡ spec.numbered link (frame_in Two bytes) }
+    ensures { result ≡ spec.numbered_frame link (frame_in Two bytes) }
 {
     SpelledFrame {
         version: Version::Two,

@@ -17,7 +17,7 @@ use Rattle.plan_printer.proofs.PrintLaws.{listed-map, listed_same, expr_text_out
 use Rattle.text_laws.specs.PrintedTokens.{Kinds, mark, word, nil_kinds, raise_kinds, catch_kinds, expr_kinds_level, clause_kinds_level, expr_kinds, clause_kinds}
 use Rattle.text_laws.specs.Proper.{IsProperOption, IsProperCatch, IsProper, AreProper, AreProperClauses}
 use Rattle.text_laws.specs.Proper.{IsProper as P, AreProper as M, AreProperClauses as K}
-use Rattle.text_laws.proofs.Segments.{begins, calm, anything, Part, ◌>>◌, begun, blank_part}
+use Rattle.text_laws.proofs.Segments.{begins, calm, anything, Part, ◌>>◌, segment_begins, blank_part}
 use Rattle.text_laws.proofs.Glue.{is_text, name_part, key_part, int_part, host_part, dev_part, pick_part, char_part, string_part, blob_part, bool_part, colon_part, spaced_part, paren_part, close_part, square_part, unsquare_part, comma_part, semicolon_part, bar_part, under_part, op_glue, then_blank}
 use Rattle.text_laws.proofs.Lists.{AllParts, some_listed, all_listed}
 use Rattle.text_laws.proofs.TypeTokens.{type_part, empty_part}
@@ -52,7 +52,7 @@ nil_part (Some t) h = empty_part t h.0
 raise_part : (x : Name) (t : Option Ty) → IsName x → IsProperOption t → Part begins calm (raise_text x t) (raise_kinds x t)
 unfolding key_text
 raise_part x None n h = is_text (key_part keys.Raise >> blank_part refl >> name_part x n) refl refl
-raise_part x (Some t) n h = is_text (then_blank (key_part keys.Raise >> begun (empty_part t h.0) refl) >> name_part x n) refl refl
+raise_part x (Some t) n h = is_text (then_blank (key_part keys.Raise >> segment_begins (empty_part t h.0) refl) >> name_part x n) refl refl
 
 catch_part : (n : Option Name) → IsProperCatch n → Part begins calm (catch_text n) (catch_kinds n)
 catch_part (Some x) h = name_part x h

@@ -34,8 +34,8 @@ first_of : (a b : List ℕ) → 0 < length a → get_or (a ++ b) 0 0 ≡ get_or 
 first_of [] b h = absurd (omega arith)
 first_of (x ∷ a) b h = refl
 
-joined : (f p q : ℕ → Bool) (a b : List ℕ) (k l : List TokenKind) → Part f p a k → Part p q b l → Part f q (a ++ b) (k ++ l)
-joined f p q a b k l A B = record {
+segments_join : (f p q : ℕ → Bool) (a b : List ℕ) (k l : List TokenKind) → Part f p a k → Part p q b l → Part f q (a ++ b) (k ++ l)
+segments_join f p q a b k l A B = record {
   some = simp length-append (omega (arith, A.some));
   first = ap f (first_of a b A.some) ∙ A.first;
   reads = λ rest more n h. subst (λ s. Lexes s ((k ++ l) ++ more)) (sym (append_assoc a b rest)) (subst (λ m. Lexes (a ++ (b ++ rest)) m) (sym (append_assoc k l more))
@@ -45,11 +45,11 @@ joined f p q a b k l A B = record {
 infixl 10 ◌>>◌
 -- one segment and then another
 pub ◌>>◌ : {f p q : ℕ → Bool} {a b : List ℕ} {k l : List TokenKind} → Part f p a k → Part p q b l → Part f q (a ++ b) (k ++ l)
-A >> B = joined _ _ _ _ _ _ _ A B
+A >> B = segments_join _ _ _ _ _ _ _ A B
 
 -- the same segment where less is known of its first byte
-pub begun : {f g t : ℕ → Bool} {text : List ℕ} {kinds : List TokenKind} → Part f t text kinds → g (get_or text 0 0) ≡ true → Part g t text kinds
-begun P e = record { some = P.some; first = e; reads = P.reads }
+pub segment_begins : {f g t : ℕ → Bool} {text : List ℕ} {kinds : List TokenKind} → Part f t text kinds → g (get_or text 0 0) ≡ true → Part g t text kinds
+segment_begins P e = record { some = P.some; first = e; reads = P.reads }
 
 pub lexes_end : Lexes [] []
 lexes_end = λ at. ([], ends at, refl)

@@ -15,8 +15,8 @@ abbrev pub Move : Type 0
 Move = Result (Option TokenKind × ℕ) LexFault
 
 -- what a token that is read makes
-abbrev pub moved : {A : Type 0} → (A → TokenKind) → Result (A × ℕ) LexFault → Move
-moved kind_of r = r >>= λ x. Ok (Some (kind_of x.0), x.1)
+abbrev pub token_move : {A : Type 0} → (A → TokenKind) → Result (A × ℕ) LexFault → Move
+token_move kind_of r = r >>= λ x. Ok (Some (kind_of x.0), x.1)
 
 -- a token that begins with no blank and no comment
 after_gap : (at : ℕ) (text : List ℕ) (r : Move) → (token_at at text >>= λ t. Ok (Some t.0, t.1)) ≡ r → (if nat_lt at at then Ok (None, at) else (token_at at text >>= λ t. Ok (Some t.0, t.1))) ≡ r
@@ -29,29 +29,29 @@ as_token kind_of x = Ok (kind_of x.0, x.1)
 abbrev as_move : TokenKind × ℕ → Move
 as_move t = Ok (Some t.0, t.1)
 
-joined : {A : Type 0} (kind_of : A → TokenKind) (r : Result (A × ℕ) LexFault) → ((r >>= as_token kind_of) >>= as_move) ≡ moved kind_of r
-joined kind_of (Ok x) = refl
-joined kind_of (Err e) = refl
+token_moves : {A : Type 0} (kind_of : A → TokenKind) (r : Result (A × ℕ) LexFault) → ((r >>= as_token kind_of) >>= as_move) ≡ token_move kind_of r
+token_moves kind_of (Ok x) = refl
+token_moves kind_of (Err e) = refl
 
-pub string_move : (at : ℕ) (text : List ℕ) → move_at at (34 ∷ text) ≡ moved kind.Str (string_at at text)
+pub string_move : (at : ℕ) (text : List ℕ) → move_at at (34 ∷ text) ≡ token_move kind.Str (string_at at text)
 unfolding move_at gap_at token_at
-string_move at text = after_gap at (34 ∷ text) (moved kind.Str (string_at at text)) (joined kind.Str (string_at at text))
+string_move at text = after_gap at (34 ∷ text) (token_move kind.Str (string_at at text)) (token_moves kind.Str (string_at at text))
 
-pub char_move : (at : ℕ) (text : List ℕ) → move_at at (39 ∷ text) ≡ moved kind.Char (char_at at text)
+pub char_move : (at : ℕ) (text : List ℕ) → move_at at (39 ∷ text) ≡ token_move kind.Char (char_at at text)
 unfolding move_at gap_at token_at
-char_move at text = after_gap at (39 ∷ text) (moved kind.Char (char_at at text)) (joined kind.Char (char_at at text))
+char_move at text = after_gap at (39 ∷ text) (token_move kind.Char (char_at at text)) (token_moves kind.Char (char_at at text))
 
-pub blob_move : (at : ℕ) (text : List ℕ) → move_at at (35 ∷ 34 ∷ text) ≡ moved kind.Blob (blob_at at text)
+pub blob_move : (at : ℕ) (text : List ℕ) → move_at at (35 ∷ 34 ∷ text) ≡ token_move kind.Blob (blob_at at text)
 unfolding move_at gap_at token_at signed_at hash_at
-blob_move at text = after_gap at (35 ∷ 34 ∷ text) (moved kind.Blob (blob_at at text)) (joined kind.Blob (blob_at at text))
+blob_move at text = after_gap at (35 ∷ 34 ∷ text) (token_move kind.Blob (blob_at at text)) (token_moves kind.Blob (blob_at at text))
 
 -- a token is refused as what it is read from
-pub moved_err : {A : Type 0} (kind_of : A → TokenKind) (r : Result (A × ℕ) LexFault) (e : LexFault) → moved kind_of r ≡ Err e → r ≡ Err e
+pub moved_err : {A : Type 0} (kind_of : A → TokenKind) (r : Result (A × ℕ) LexFault) (e : LexFault) → token_move kind_of r ≡ Err e → r ≡ Err e
 moved_err kind_of (Ok x) e h = cc
 moved_err kind_of (Err d) e h = let same : d ≡ e = cc in ap Err same
 
-pub err_moved : {A : Type 0} (kind_of : A → TokenKind) (r : Result (A × ℕ) LexFault) (e : LexFault) → r ≡ Err e → moved kind_of r ≡ Err e
-err_moved kind_of r e h = ap (moved kind_of) h
+pub err_moved : {A : Type 0} (kind_of : A → TokenKind) (r : Result (A × ℕ) LexFault) (e : LexFault) → r ≡ Err e → token_move kind_of r ≡ Err e
+err_moved kind_of r e h = ap (token_move kind_of) h
 
 -- a comment that was passed is a move by itself
 abbrev pub branch : ℕ → List ℕ → ℕ → Bool → Move

@@ -340,17 +340,17 @@ module _ (at : ℕ) (ds rest : List ℕ) (h : IsDigits ds) where
       ∙ ap (λ (b : Bool). by_zero at (number_of ds, length ds) b) z)
 
 -- the same of a text that is such a front and a rest
-told : (at : ℕ) (e d : LexFault) (text whole : List ℕ) → text ≡ whole → token_at at whole ≡ Err d → e ≡ d → token_at at text ≡ Err e
-told at e d text whole is h q = ap (token_at at) is ∙ (h ∙ ap Err (sym q))
+same_fault : (at : ℕ) (e d : LexFault) (text whole : List ℕ) → text ≡ whole → token_at at whole ≡ Err d → e ≡ d → token_at at text ≡ Err e
+same_fault at e d text whole is h q = ap (token_at at) is ∙ (h ∙ ap Err (sym q))
 
 refuses : (at : ℕ) (text : List ℕ) (e : LexFault) → IsStray text → StrayFault e at text → token_at at text ≡ Err e
-refuses at text e stray (long_word w rest is h n q) = told at e (LongName at) text (w ++ rest) is (long_at at w rest h n) q
-refuses at text e stray (large_int ds rest is h n q) = told at e (NumberTooLarge at) text (ds ++ rest) is (int_over at ds rest h n) q
-refuses at text e stray (large_negative ds rest is h n q) = told at e (NumberTooLarge at) text (126 ∷ ds ++ rest) is (negative_over at ds rest h n) q
-refuses at text e stray (large_host ds rest is h n q) = told at e (NumberTooLarge at) text (64 ∷ ds ++ rest) is (host_over at ds rest h n) q
-refuses at text e stray (large_dev ds rest is h n q) = told at e (NumberTooLarge at) text (37 ∷ ds ++ rest) is (dev_over at ds rest h n) q
-refuses at text e stray (large_part ds rest is h n q) = told at e (NumberTooLarge at) text (35 ∷ ds ++ rest) is (part_over at ds rest h n) q
-refuses at text e stray (no_part ds rest is h n s q) = told at e (NumberTooLarge at) text (35 ∷ ds ++ rest) is (part_zero at ds rest h n s) q
+refuses at text e stray (long_word w rest is h n q) = same_fault at e (LongName at) text (w ++ rest) is (long_at at w rest h n) q
+refuses at text e stray (large_int ds rest is h n q) = same_fault at e (NumberTooLarge at) text (ds ++ rest) is (int_over at ds rest h n) q
+refuses at text e stray (large_negative ds rest is h n q) = same_fault at e (NumberTooLarge at) text (126 ∷ ds ++ rest) is (negative_over at ds rest h n) q
+refuses at text e stray (large_host ds rest is h n q) = same_fault at e (NumberTooLarge at) text (64 ∷ ds ++ rest) is (host_over at ds rest h n) q
+refuses at text e stray (large_dev ds rest is h n q) = same_fault at e (NumberTooLarge at) text (37 ∷ ds ++ rest) is (dev_over at ds rest h n) q
+refuses at text e stray (large_part ds rest is h n q) = same_fault at e (NumberTooLarge at) text (35 ∷ ds ++ rest) is (part_over at ds rest h n) q
+refuses at text e stray (no_part ds rest is h n s q) = same_fault at e (NumberTooLarge at) text (35 ∷ ds ++ rest) is (part_zero at ds rest h n s) q
 refuses at text e stray (no_token none q) = go (token_at at text) refl
   where
     go : (r : Result (TokenKind × ℕ) LexFault) → token_at at text ≡ r → token_at at text ≡ Err e

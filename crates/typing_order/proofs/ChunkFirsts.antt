@@ -72,9 +72,9 @@ one_first c f g _ (later k more h r) (here _ _ m d) = absurd (m h)
 one_first c f g _ (later k more h r) (later _ _ m s) = one_first c f g more r s
 
 -- an answer that stands for a list of conditions is that fault exactly where it is told for the first that fails
-answered : (c : Chunk) (ks : List Condition) (o : Option ChunkFault) (f : ChunkFault) → Stands c ks o → (o ≡ Some f) ↔ FirstFailing c f ks
-answered c ks None f s = (λ h. absurd (cc), λ g. absurd (never_both c f ks s g))
-answered c ks (Some e) f s = (λ h. (let same : e ≡ f = cc in subst (λ z. FirstFailing c z ks) same s), λ g. ap Some (one_first c e f ks s g))
+fault_is_first : (c : Chunk) (ks : List Condition) (o : Option ChunkFault) (f : ChunkFault) → Stands c ks o → (o ≡ Some f) ↔ FirstFailing c f ks
+fault_is_first c ks None f s = (λ h. absurd (cc), λ g. absurd (never_both c f ks s g))
+fault_is_first c ks (Some e) f s = (λ h. (let same : e ≡ f = cc in subst (λ z. FirstFailing c z ks) same s), λ g. ap Some (one_first c e f ks s g))
 
 -- ---- arguments
 
@@ -215,7 +215,7 @@ module _ (c : Chunk) (w : IsWellFormedChunk c) (f : ChunkHasTypes c) where
 
   pub first_is : (i : Ill) → (illness c ≡ Some i) ↔ FirstFailing c (fault.Ill i) (conditions c)
   first_is i =
-      let a = answered c (conditions c) (or_else (illness c) None) (fault.Ill i) stands in
+      let a = fault_is_first c (conditions c) (or_else (illness c) None) (fault.Ill i) stands in
       (λ h. a.0 (ap (λ o. or_else o None) h), λ g. back (illness c) (a.1 g))
     where
       back : (o : Option Ill) → or_else o None ≡ Some (fault.Ill i) → o ≡ Some i
@@ -249,6 +249,6 @@ in_turn false (Some i) = refl
 
 pub call_first : (c : Chunk) (f : ChunkFault) → IsTrue (list_all well_formed_value c.args) → IsTrue (list_all value_has_types c.args) → (refusal_of c ≡ Some f) ↔ FirstFailing c f (call_conditions c)
 call_first c f w h =
-    answered c (call_conditions c) (refusal_of c) f
+    fault_is_first c (call_conditions c) (refusal_of c) f
     (subst (Stands c (call_conditions c)) (sym (in_turn (is_small_chunk c) (ill_call right c.code c.entry c.args)))
     (call_stands c (formed_good c.args w h) (of_size ∷ []) (too_large (is_small_chunk c)) (size_stands c) (fun_of c.code c.entry) refl))

@@ -13,7 +13,7 @@ use Rattle.plan_base.specs.declared.tree.Place.TheVariants.{Node}
 use Rattle.typing_rules.specs.declared.type_fault.TypeFault.TheVariants.{UnknownName, NotEarlier}
 use Rattle.typing_rules.specs.TypingNames.{place_of}
 use Rattle.typing_rules.specs.TypingOrder.{fun_of, earlier, not_earlier}
-use Rattle.typing_order.specs.Judgements.{named, stands_earlier, none_earlier}
+use Rattle.typing_order.specs.Judgements.{function_named, stands_earlier, none_earlier}
 
 at_front : {X : Type 0} (n : ℕ) (xs : List X) (k : ℕ) → k < length (take n xs) → slice_get xs k ≡ slice_get (take n xs) k
 at_front zero xs k h = absurd (omega arith)
@@ -31,10 +31,10 @@ by_place {X} p n xs = go (nat_lt (position_or_len p (take n xs)) (length (take n
 pub earlier_is : (code : Program) (seen : ℕ) (f : Name) → earlier code seen f ≡ stands_earlier code seen f
 earlier_is code seen f = by_place (λ d. bytes_eq d.name f) seen code.funs
 
-pub named_is : (code : Program) (f : Name) → fun_of code f ≡ named f code.funs
+pub named_is : (code : Program) (f : Name) → fun_of code f ≡ function_named f code.funs
 named_is code f =
     let e : take (length code.funs) code.funs ≡ code.funs = take-length code.funs in
-    ap (λ z. option_and_then (slice_get code.funs) (place_of f z)) (sym e) ∙ (by_place (λ d. bytes_eq d.name f) (length code.funs) code.funs ∙ ap (λ z. named f z) e)
+    ap (λ z. option_and_then (slice_get code.funs) (place_of f z)) (sym e) ∙ (by_place (λ d. bytes_eq d.name f) (length code.funs) code.funs ∙ ap (λ z. function_named f z) e)
 
 within : {X : Type 0} (xs : List X) (k : ℕ) → k < length xs → is_some (slice_get xs k) ≡ true
 within [] k h = absurd (omega arith)

@@ -12,7 +12,7 @@ use Rattle.typing_rules.specs.Typing.{param_names}
 use Rattle.typing_rules.specs.TypingNames.{has_name, is_prim, built_in, are_new}
 use Rattle.typing_rules.specs.TypingOrder.{next, then_by, services_from, exceptions_from, functions_from}
 use Rattle.typing_order.specs.Judgements.{behind}
-use Rattle.typing_order.specs.Conditions.{Condition, of_service, of_exception, of_function, svc_names, fun_names, Keeps, Blames, for_service, for_exception, for_function, numbered, FirstUnkept, here, later}
+use Rattle.typing_order.specs.Conditions.{Condition, of_service, of_exception, of_function, svc_names, fun_names, Keeps, Blames, for_service, for_exception, for_function, conditions_from, FirstUnkept, here, later}
 
 -- ---- answers of a list of conditions
 
@@ -90,12 +90,12 @@ module _ {A : Type 0} (p : Program) where
           (λ g h. let same : d ≡ g = same_item p.svcs i d g is h in (ap (λ x. is_prim x.name) (sym same) ∙ e, ap (λ x. has_name (take i (svc_names p)) x.name) (sym same) ∙ sym named ∙ f)) rest
 
   pub services_stand : (ds : List Svc) (i at : ℕ) (taken : List Name) (ks : List Condition) (k : ℕ → Result A TypeFault) → From p.svcs i ds → taken ≡ take i (svc_names p) → at ≡ behind 0 i
-      → ((m : ℕ) → m ≡ behind 0 (i + length ds) → StandsFor p ks (k m)) → StandsFor p (numbered of_service i (length ds) ks) (then_by (services_from taken ds at) k)
+      → ((m : ℕ) → m ≡ behind 0 (i + length ds) → StandsFor p ks (k m)) → StandsFor p (conditions_from of_service i (length ds) ks) (then_by (services_from taken ds at) k)
   unfolding services_from
   services_stand [] i at taken ks k look names stands s = let e : i ≡ i + 0 = omega arith in s at (stands ∙ ap (behind 0) e)
   services_stand (d ∷ ds) i at taken ks k look names stands s =
       let is = from_here p.svcs i d ds look in
-      service_step d i at taken (numbered of_service (i + 1) (length ds) ks) (services_from (taken ++ d.name ∷ []) ds (next at)) k is names stands
+      service_step d i at taken (conditions_from of_service (i + 1) (length ds) ks) (services_from (taken ++ d.name ∷ []) ds (next at)) k is names stands
       (services_stand ds (i + 1) (next at) (taken ++ d.name ∷ []) ks k (from_next p.svcs i d ds look)
       (ap (λ ns. ns ++ d.name ∷ []) names ∙ sym (take_more (svc_names p) i d.name (map_at (λ d. d.name) p.svcs i d is))) (onward 0 i at stands)
       (λ m e. let same : i + 1 + length ds ≡ i + suc (length ds) = omega arith in s m (e ∙ ap (behind 0) same)))
@@ -117,12 +117,12 @@ module _ {A : Type 0} (p : Program) where
           (λ g h. let same : x ≡ g = same_item p.exns i x g is h in ap (has_name (built_in ++ take i p.exns)) (sym same) ∙ sym named ∙ f) rest
 
   pub exceptions_stand : (ns : List Name) (i at : ℕ) (taken : List Name) (ks : List Condition) (k : ℕ → Result A TypeFault) → From p.exns i ns → taken ≡ built_in ++ take i p.exns → at ≡ behind (length p.svcs) i
-      → ((m : ℕ) → m ≡ behind (length p.svcs) (i + length ns) → StandsFor p ks (k m)) → StandsFor p (numbered of_exception i (length ns) ks) (then_by (exceptions_from taken ns at) k)
+      → ((m : ℕ) → m ≡ behind (length p.svcs) (i + length ns) → StandsFor p ks (k m)) → StandsFor p (conditions_from of_exception i (length ns) ks) (then_by (exceptions_from taken ns at) k)
   unfolding exceptions_from
   exceptions_stand [] i at taken ks k look names stands s = let e : i ≡ i + 0 = omega arith in s at (stands ∙ ap (behind (length p.svcs)) e)
   exceptions_stand (x ∷ ns) i at taken ks k look names stands s =
       let is = from_here p.exns i x ns look in
-      exception_step x i at taken (numbered of_exception (i + 1) (length ns) ks) (exceptions_from (taken ++ x ∷ []) ns (next at)) k is names stands
+      exception_step x i at taken (conditions_from of_exception (i + 1) (length ns) ks) (exceptions_from (taken ++ x ∷ []) ns (next at)) k is names stands
       (exceptions_stand ns (i + 1) (next at) (taken ++ x ∷ []) ks k (from_next p.exns i x ns look)
       (ap (λ ns. ns ++ x ∷ []) names ∙ append_assoc built_in (take i p.exns) (x ∷ []) ∙ ap (λ ns. built_in ++ ns) (sym (take_more p.exns i x is))) (onward (length p.svcs) i at stands)
       (λ m e. let same : i + 1 + length ns ≡ i + suc (length ns) = omega arith in s m (e ∙ ap (behind (length p.svcs)) same)))
@@ -148,12 +148,12 @@ module _ {A : Type 0} (p : Program) where
           (ap (λ y. is_prim y.name) (sym same) ∙ e, ap (λ y. has_name (svc_names p ++ take i (fun_names p)) y.name) (sym same) ∙ sym named ∙ f, ap (λ y. are_new [] (param_names y.params)) (sym same) ∙ g)) rest
 
   pub functions_stand : (ds : List Fun) (i at : ℕ) (taken : List Name) (ks : List Condition) (k : ℕ → Result A TypeFault) → From p.funs i ds → taken ≡ svc_names p ++ take i (fun_names p)
-      → at ≡ behind (length p.svcs + length p.exns) i → ((m : ℕ) → StandsFor p ks (k m)) → StandsFor p (numbered of_function i (length ds) ks) (then_by (functions_from taken ds at) k)
+      → at ≡ behind (length p.svcs + length p.exns) i → ((m : ℕ) → StandsFor p ks (k m)) → StandsFor p (conditions_from of_function i (length ds) ks) (then_by (functions_from taken ds at) k)
   unfolding functions_from
   functions_stand [] i at taken ks k look names stands s = s at
   functions_stand (d ∷ ds) i at taken ks k look names stands s =
       let is = from_here p.funs i d ds look in
-      function_step d i at taken (numbered of_function (i + 1) (length ds) ks) (functions_from (taken ++ d.name ∷ []) ds (next at)) k is names stands
+      function_step d i at taken (conditions_from of_function (i + 1) (length ds) ks) (functions_from (taken ++ d.name ∷ []) ds (next at)) k is names stands
       (functions_stand ds (i + 1) (next at) (taken ++ d.name ∷ []) ks k (from_next p.funs i d ds look)
       (ap (λ ns. ns ++ d.name ∷ []) names ∙ append_assoc (svc_names p) (take i (fun_names p)) (d.name ∷ [])
       ∙ ap (λ ns. svc_names p ++ ns) (sym (take_more (fun_names p) i d.name (map_at (λ d. d.name) p.funs i d is))))

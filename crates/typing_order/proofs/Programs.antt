@@ -14,12 +14,12 @@ use Rattle.plan_base.specs.Sizes.{code_size, expr_depth, expr_nodes}
 use Rattle.plan_base.specs.WellFormed.{IsWellFormedProgram}
 use Rattle.typing_rules.specs.Typing.{Typed}
 use Rattle.typing_rules.specs.TypingNames.{built_in}
-use Rattle.typing_rules.specs.TypingOrder.{Found, after, checked, bodies_from, then_by, services_from, exceptions_from, functions_from, declarations, sized, annotated}
+use Rattle.typing_rules.specs.TypingOrder.{Found, after, checked, bodies_from, then_by, services_from, exceptions_from, functions_from, declarations, sized_program, annotated}
 use Rattle.typing_rules.specs.TypingFills.{Becomes, FunFills, Fills}
 use Rattle.typing_laws.proofs.Right.{becomes_suits}
 use Rattle.typing_laws.proofs.Programs.{annotated_sound, annotated_complete, depths_kept}
 use Rattle.typing_order.specs.Judgements.{behind, Refused}
-use Rattle.typing_order.specs.Conditions.{Condition, of_exception, of_function, of_body, of_size, nodes_before, Blames, for_service, for_exception, for_function, for_body, for_size, numbered, conditions, FirstUnkept, here, later, FirstRefusal, IsTypedOrRefused}
+use Rattle.typing_order.specs.Conditions.{Condition, of_exception, of_function, of_body, of_size, nodes_before, Blames, for_service, for_exception, for_function, for_body, for_size, conditions_from, conditions, FirstUnkept, here, later, FirstRefusal, IsTypedOrRefused}
 use Rattle.typing_order.proofs.Exprs.{Whole, whole, apart, one, one_filling}
 use Rattle.typing_order.proofs.Names.{AllKept, StandsFor, kept_first, none_kept, take_more, From, from_here, from_next, from_start, services_stand, exceptions_stand, functions_stand}
 
@@ -83,7 +83,7 @@ module _ (p : Program) where
   module _ {A : Type 0} where
     bodies_stand : (ds done : List Fun) (i n : ℕ) (ks : List Condition) (k : List Fun × ℕ → Result A TypeFault) → From p.funs i ds → length done ≡ i → n ≡ behind 0 (nodes_before p i)
         → ((j : ℕ) (d : Fun) → slice_get ds j ≡ Some d → expr_depth d.body ≤ 64) → ((gs : List Fun) (m : ℕ) → FillsFrom i ds gs → StandsFor p ks (k (done ++ gs, m)))
-        → StandsFor p (numbered of_body i (length ds) ks) (then_by (bodies_from p done ds n) k)
+        → StandsFor p (conditions_from of_body i (length ds) ks) (then_by (bodies_from p done ds n) k)
     unfolding bodies_from
     bodies_stand [] done i n ks k look seen at low s = subst (λ gs. StandsFor p ks (k (gs, n))) (append-nil done) (s [] n (none_fill i))
     bodies_stand (d ∷ ds) done i n ks k look seen at low s =
@@ -94,12 +94,12 @@ module _ (p : Program) where
         is = from_here p.funs i d ds look
 
         by_body : ((g : Fun) (m : ℕ) → length (done ++ g ∷ []) ≡ i + 1 → m ≡ behind 0 (nodes_before p (i + 1)) → ((gs : List Fun) (l : ℕ) → FillsFrom (i + 1) ds gs → StandsFor p ks (k ((done ++ g ∷ []) ++ gs, l)))
-            → StandsFor p (numbered of_body (i + 1) (length ds) ks) (then_by (bodies_from p (done ++ g ∷ []) ds m) k))
+            → StandsFor p (conditions_from of_body (i + 1) (length ds) ks) (then_by (bodies_from p (done ++ g ∷ []) ds m) k))
             → (q : Result (Found × ℕ) TypeFault) → Whole p (length done) d.params (Some d.result) n d.body q
-            → StandsFor p (of_body i ∷ numbered of_body (i + 1) (length ds) ks) (then_by (after q (λ r. bodies_from p (done ++ record d { body = r.0 } ∷ []) ds)) k)
+            → StandsFor p (of_body i ∷ conditions_from of_body (i + 1) (length ds) ks) (then_by (after q (λ r. bodies_from p (done ++ record d { body = r.0 } ∷ []) ds)) k)
         by_body rest (Err f) w =
             let r : Refused p i f d.params (Some d.result) n d.body = subst (λ z. Refused p z f d.params (Some d.result) n d.body) seen w in
-            here (of_body i) (numbered of_body (i + 1) (length ds) ks) (λ h. let t = h d is in apart p i t.1 r)
+            here (of_body i) (conditions_from of_body (i + 1) (length ds) ks) (λ h. let t = h d is in apart p i t.1 r)
             (for_body i d f is (subst (λ z. Refused p i f d.params (Some d.result) z d.body) at r))
         by_body rest (Ok r) w =
             let type : r.0.1 ≡ d.result = sym (becomes_suits w.0) in
@@ -107,7 +107,7 @@ module _ (p : Program) where
             let g : Fun = record d { body = r.0.0 } in
             let nodes = more_nodes i d is in
             let m = w.1 in
-            kept_first p (of_body i) (numbered of_body (i + 1) (length ds) ks) (then_by (bodies_from p (done ++ g ∷ []) ds r.1) k)
+            kept_first p (of_body i) (conditions_from of_body (i + 1) (length ds) ks) (then_by (bodies_from p (done ++ g ∷ []) ds r.1) k)
             (λ x h. let same : d ≡ x = (let z : ◌≡◌ {A = Option Fun} (Some d) (Some x) = sym is ∙ h in cc) in subst (λ y. (e : Expr) × Becomes p i y.params (Some y.result) y.body e y.result) same (r.0.0, b))
             (rest g r.1 (one_more g) (omega (arith, m, at, nodes))
             (λ gs l f. subst (λ zs. StandsFor p ks (k (zs, l))) (sym (append_assoc done (g ∷ []) gs)) (s (g ∷ gs) l (one_fills i d g ds gs (record { body = b; rest = refl }) f))))
@@ -146,8 +146,8 @@ module _ (p : Program) where
 
   -- ---- the whole
 
-  size_stands : (gs : List Fun) → FillsFrom 0 p.funs gs → StandsFor p (of_size ∷ []) (sized (record p { funs = gs }))
-  unfolding sized
+  size_stands : (gs : List Fun) → FillsFrom 0 p.funs gs → StandsFor p (of_size ∷ []) (sized_program (record p { funs = gs }))
+  unfolding sized_program
   size_stands gs f = go (nat_le (code_size (record p { funs = gs })) 16000) refl
     where
       go : (b : Bool) → nat_le (code_size (record p { funs = gs })) 16000 ≡ b → StandsFor p (of_size ∷ []) (if b then Ok (record p { funs = gs }) else Err fault.CodeTooLarge)
@@ -161,19 +161,19 @@ module _ (p : Program) where
   then_turn (Err e) f k = refl
 
   module _ (w : IsWellFormedProgram p) where
-    bodies_and_size : StandsFor p (numbered of_body 0 (length p.funs) (of_size ∷ [])) (then_by (bodies_from p [] p.funs 0) (λ r. sized (record p { funs = r.0 })))
+    bodies_and_size : StandsFor p (conditions_from of_body 0 (length p.funs) (of_size ∷ [])) (then_by (bodies_from p [] p.funs 0) (λ r. sized_program (record p { funs = r.0 })))
     bodies_and_size =
-        bodies_stand p.funs [] 0 0 (of_size ∷ []) (λ r. sized (record p { funs = r.0 })) (from_start p.funs) refl refl (depths_kept p w) (λ gs m f. size_stands gs f)
+        bodies_stand p.funs [] 0 0 (of_size ∷ []) (λ r. sized_program (record p { funs = r.0 })) (from_start p.funs) refl refl (depths_kept p w) (λ gs m f. size_stands gs f)
 
     stands : StandsFor p (conditions p) (annotated p)
     unfolding annotated declarations
     stands =
-        let last : ℕ → Result Program TypeFault = λ _. then_by (bodies_from p [] p.funs 0) (λ r. sized (record p { funs = r.0 })) in
+        let last : ℕ → Result Program TypeFault = λ _. then_by (bodies_from p [] p.funs 0) (λ r. sized_program (record p { funs = r.0 })) in
         let funs : ℕ → Result ℕ TypeFault = λ m. functions_from (map (λ d. d.name) p.svcs) p.funs m in
         let exns : ℕ → Result ℕ TypeFault = λ n. then_by (exceptions_from built_in p.exns n) funs in
         subst (λ r. StandsFor p (conditions p) r) (then_turn (services_from [] p.svcs 0) exns last)
         (services_stand p p.svcs 0 0 [] _ (λ n. then_by (exns n) last) (from_start p.svcs) refl refl
-        (λ n e. subst (λ r. StandsFor p (numbered of_exception 0 (length p.exns) (numbered of_function 0 (length p.funs) (numbered of_body 0 (length p.funs) (of_size ∷ [])))) r) (then_turn (exceptions_from built_in p.exns n) funs last)
+        (λ n e. subst (λ r. StandsFor p (conditions_from of_exception 0 (length p.exns) (conditions_from of_function 0 (length p.funs) (conditions_from of_body 0 (length p.funs) (of_size ∷ [])))) r) (then_turn (exceptions_from built_in p.exns n) funs last)
         (exceptions_stand p p.exns 0 n built_in _ (λ m. then_by (funs m) last) (from_start p.exns) (sym (append-nil built_in)) (omega (arith, e))
         (λ m k. functions_stand p p.funs 0 m (map (λ d. d.name) p.svcs) _ last (from_start p.funs) (sym (append-nil (map (λ d. d.name) p.svcs))) (omega (arith, k)) (λ _. bodies_and_size)))))
 

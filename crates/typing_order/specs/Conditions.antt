@@ -56,14 +56,14 @@ pub data Blames (p : Program) : Condition → TypeFault → Type 0 where
   for_size : Blames p of_size CodeTooLarge
 
 -- so many conditions of a kind from a number on, before further ones
-abbrev pub numbered : (ℕ → Condition) → ℕ → ℕ → List Condition → List Condition
-numbered of n zero more = more
-numbered of n (suc k) more = of n ∷ numbered of (n + 1) k more
+abbrev pub conditions_from : (ℕ → Condition) → ℕ → ℕ → List Condition → List Condition
+conditions_from of n zero more = more
+conditions_from of n (suc k) more = of n ∷ conditions_from of (n + 1) k more
 
 -- all conditions in their order
 abbrev pub conditions : Program → List Condition
 conditions p =
-    numbered of_service 0 (length p.svcs) (numbered of_exception 0 (length p.exns) (numbered of_function 0 (length p.funs) (numbered of_body 0 (length p.funs) (of_size ∷ []))))
+    conditions_from of_service 0 (length p.svcs) (conditions_from of_exception 0 (length p.exns) (conditions_from of_function 0 (length p.funs) (conditions_from of_body 0 (length p.funs) (of_size ∷ []))))
 
 -- f is told for the first condition of the list that isn't kept
 pub data FirstUnkept (p : Program) (f : TypeFault) : List Condition → Type 0 where

@@ -63,16 +63,16 @@ clauses c t [] = kept
 clauses c t (k ∷ ks) = typed c t k.body (clauses c t ks)
 
 -- the first function of that name
-abbrev pub named : Name → List Fun → Option Fun
-named f ds = find (λ d. bytes_eq d.name f) ds
+abbrev pub function_named : Name → List Fun → Option Fun
+function_named f ds = find (λ d. bytes_eq d.name f) ds
 
 -- the first of that name among those that stand before the number `seen`
 abbrev pub stands_earlier : Program → ℕ → Name → Option Fun
-stands_earlier code seen f = named f (take seen code.funs)
+stands_earlier code seen f = function_named f (take seen code.funs)
 
 -- what is told where none does: it is the function with that number or a later one, or there is none of that name
 abbrev pub none_earlier : Program → Name → ℕ → TypeFault
-none_earlier code f at = if is_some (named f code.funs) then NotEarlier (Node at) else UnknownName (Node at)
+none_earlier code f at = if is_some (function_named f code.funs) then NotEarlier (Node at) else UnknownName (Node at)
 
 -- The place behind so many expressions: an expression stands before its parts, and each part before the next. Places stop at
 -- the last of 32 bits.
@@ -146,7 +146,7 @@ module _ (code : Program) (seen : ℕ) where
   judged c at want (Expr-F.Try a ks) = test (list_all (λ k. may_catch code k.name) ks) (UnknownName (Node at)) (part c want a (λ t. clauses c t ks))
   judged c at want (Expr-F.Foldl f a l) = folding c at want f a l (λ p. p)
   judged c at want (Expr-F.Foldr f a l) = folding c at want f a l (λ p. (p.1, p.0))
-  judged c at want (Expr-F.ChunkOf f es) = there (named f code.funs) (UnknownName (Node at)) (λ d. arguments c at (param_types d.params) es (suits at want ty.Chunk))
+  judged c at want (Expr-F.ChunkOf f es) = there (function_named f code.funs) (UnknownName (Node at)) (λ d. arguments c at (param_types d.params) es (suits at want ty.Chunk))
   judged c at want (Expr-F.Eval a) = typed c ty.Chunk a (suits at want ty.Unit)
   judged c at want (Expr-F.OnRemote a h n r) = typed c ty.Chunk a (typed c ty.Host h (typed c ty.Int n (suits at want ty.Unit)))
   judged c at want (Expr-F.OnNeighbor a h n d) = typed c ty.Chunk a (typed c ty.Host h (typed c ty.Int n (typed c ty.Dev d (suits at want ty.Unit))))

@@ -11,7 +11,7 @@ use Rattle.plan_grammar.specs.declared.fault.ParseFault.TheVariants.{TooDeep}
 use Rattle.plan_grammar.specs.declared.fault.Wanted.TheVariants as wanted
 use Rattle.plan_grammar.specs.Ahead.{Front, Reader, ◌>>=◌, place, behind, next_kind, is_key, is_symbol}
 use Rattle.plan_grammar.specs.Begins.{kind_type, begins_type}
-use Rattle.plan_grammar.specs.Types.{opens, more, named, is_list_word, after_lists, list_words, behind_lists, lists_of, judged, tuple_type, single_type, group_type, base_type, whole_type, type_to}
+use Rattle.plan_grammar.specs.Types.{opens, more, named, is_list_word, after_lists, list_words, behind_lists, lists_of, judged_type, tuple_type, single_type, group_type, base_type, whole_type, type_to}
 use Rattle.grammar_laws.specs.Agenda.{StepOf}
 use Rattle.grammar_laws.proofs.TokenFacts.{room_open}
 use Rattle.grammar_laws.proofs.TypesAre.{left_behind}
@@ -40,13 +40,13 @@ module _ (o start end : ℕ) (base : Ty) (more : List ValueItem) where
   Handed t = hand t more
 
   abbrev Ends : ℕ × List Token → Result (Ty × Front) ParseFault
-  Ends p = judged start p.0 base >>= left_behind (record { tokens = p.1; end = end })
+  Ends p = judged_type start p.0 base >>= left_behind (record { tokens = p.1; end = end })
 
   abbrev Judge : ℕ → List Token → StepOf ValueItem
   Judge n ts = if nat_lt 8 (type_depth (lists_of n base)) then Err (TooDeep start) else Ok (hand (lists_of n base) more, record { tokens = ts; end = end })
 
   ended : (n : ℕ) (ts : List Token) → Follows o (Judge n ts) Handed (Ends (n, ts))
-  unfolding judged
+  unfolding judged_type
   ended n ts =
       subst (λ d. Follows o (if nat_lt 8 d then Err (TooDeep start) else Ok (hand (lists_of n base) more, record { tokens = ts; end = end })) Handed (Ends (n, ts))) (back (depth_of_lists n base)) (go (nat_lt 8 (type_depth base + n)))
     where
@@ -126,7 +126,7 @@ module _ (o room : ℕ) (inner : Reader Ty)
       (both o (is_symbol symbols.ParenOpen f) _ _ (Based (place f) rest) _ _ (group_works rest f) (named_works rest f (kind_type (next_kind f))))
 
   tail_works : (rest : List ValueItem) (start : ℕ) (base : Ty) (g : Front)
-      → Works o (lists start base ∷ rest) g (λ t. hand t rest) (judged start (list_words g) base >>= left_behind (behind_lists g))
+      → Works o (lists start base ∷ rest) g (λ t. hand t rest) (judged_type start (list_words g) base >>= left_behind (behind_lists g))
   unfolding list_words behind_lists
   tail_works rest start base g = words_work o start g.end base rest g.tokens 0
 

@@ -20,7 +20,7 @@ use Rattle.grammar_laws.proofs.ExprsAre.{comma_shut, comma_shut_list}
 use Rattle.grammar_laws.proofs.Follows.{symbol_here}
 use Rattle.grammar_laws.proofs.TokenFacts.{room_open}
 use Rattle.plan_parser.specs.declared.item.TypedValue.{TypedValue}
-use Rattle.plan_parser.specs.Values.{typed, literal, begins_value, tuple_of, list_of, judged, fits, tuple_from, tuple, grouped, parens, like, listing, typed_nil, brackets, value_at, value_to, ended, argument_at, arguments_from, arguments_behind, value_of, args_of}
+use Rattle.plan_parser.specs.Values.{typed, literal, begins_value, tuple_of, list_of, judged_item, fits, tuple_from, tuple, grouped, parens, like, listing, typed_nil, brackets, value_at, value_to, ended, argument_at, arguments_from, arguments_behind, value_of, args_of}
 use Rattle.value_grammar.specs.Grammar.{IsLiteral, ValueAt, MoreAt, LikeAt, IsValue, ArgsAt, AreArgs}
 use Rattle.value_grammar.specs.Grammar as gram
 use Rattle.value_grammar.proofs.ValuesRead.{length_values}
@@ -106,7 +106,7 @@ unfolding value_at brackets opens listing need_symbol
 list_by o q inner f g h i vs n a b c d m s = rw (n, a, room_open q, b, c, d, m, s) refl
 
 like_by : (o room : ℕ) (inner : Reader TypedValue) (t : Ty) (f g : Front) (i : TypedValue) → inner f ≡ Ok (i, g) → i.ty ≡ t → like inner o room t f ≡ Ok (i.value, g)
-unfolding like judged
+unfolding like judged_item
 like_by o room inner t f g i d e = rw (d, same_type_of i.ty t e) refl
 
 -- a value is read with one more bracket to open

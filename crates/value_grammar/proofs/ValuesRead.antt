@@ -21,12 +21,12 @@ use Rattle.plan_grammar.specs.declared.fault.Wanted.TheVariants as wanted
 use Rattle.plan_grammar.specs.Ahead.{Front, Reader, ◌>>=◌, place, behind, next_kind, need_symbol}
 use Rattle.plan_grammar.specs.Types.{opens, more, type_to}
 use Rattle.grammar_laws.specs.Grammar.{Sym, TypeAt, behind2}
-use Rattle.grammar_laws.proofs.ReadSteps.{Reads, found, refused, after, either, if_symbol, symbol_then, what_was_read}
+use Rattle.grammar_laws.proofs.ReadSteps.{Reads, found_reads, refusal_reads, after, either, if_symbol, symbol_then, what_was_read}
 use Rattle.grammar_laws.proofs.ReadLists.{Added, more_reads}
 use Rattle.grammar_laws.proofs.TypesRead.{types_read}
 use Rattle.grammar_laws.proofs.TokenFacts.{comma_is_no_bracket, room_open}
 use Rattle.plan_parser.specs.declared.item.TypedValue.{TypedValue}
-use Rattle.plan_parser.specs.Values.{typed, literal, literal_from, begins_value, tuple_of, list_of, judged, fits, tuple_from, tuple, grouped, parens, like, listing, typed_nil, brackets, value_at, value_to, ended, argument_at, arguments_from, arguments_behind, value_of, args_of}
+use Rattle.plan_parser.specs.Values.{typed, literal, literal_from, begins_value, tuple_of, list_of, judged_item, fits, tuple_from, tuple, grouped, parens, like, listing, typed_nil, brackets, value_at, value_to, ended, argument_at, arguments_from, arguments_behind, value_of, args_of}
 use Rattle.value_grammar.specs.Grammar.{IsLiteral, ValueAt, MoreAt, LikeAt, IsValue, ArgsAt, AreArgs}
 use Rattle.value_grammar.specs.Grammar as gram
 
@@ -54,8 +54,8 @@ literal_reads : (o r : ℕ) (f : Front) → Reads (ValueAt o r f) (literal_from 
 literal_reads o r f = by_kind (literal (next_kind f)) refl
   where
     by_kind : (x : Option TypedValue) → literal (next_kind f) ≡ x → Reads (ValueAt o r f) (literal_from f x)
-    by_kind (Some i) e = found (ValueAt o r f) i (behind f) (gram.one_token (literal_is (next_kind f) i e))
-    by_kind None e = refused (ValueAt o r f) _
+    by_kind (Some i) e = found_reads (ValueAt o r f) i (behind f) (gram.one_token (literal_is (next_kind f) i e))
+    by_kind None e = refusal_reads (ValueAt o r f) _
 
 -- ---- lists and tuples, by what stands inside them
 
@@ -76,8 +76,8 @@ module _ (o q room : ℕ) (inner : Reader TypedValue) (ir : Inside o q inner) wh
       (λ comma. after (Added (MoreAt o q) 7 (first ∷ []) g) (ValueAt o (suc q) f) (more inner begins_value symbols.Comma limits.Parts wanted.AValue 7 (first ∷ []) g) _
       (more_reads inner begins_value symbols.Comma limits.Parts wanted.AValue (λ h i k. ValueAt o q h i k) (MoreAt o q) (λ h. gram.no_more) (λ h i j x xs a b c. gram.one_more a b c) ir 7 (first ∷ []) g)
       (λ all h a. symbol_then (ValueAt o (suc q) f) symbols.ParenClose h _
-      (λ shut. found (ValueAt o (suc q) f) (tuple_of all) (behind h) (subst (λ is. ValueAt o (suc q) f (tuple_of is) (behind h)) (sym a.is) (made_tuple here one a.many a.few comma shut)))))
-      (refused (ValueAt o (suc q) f) _)
+      (λ shut. found_reads (ValueAt o (suc q) f) (tuple_of all) (behind h) (subst (λ is. ValueAt o (suc q) f (tuple_of is) (behind h)) (sym a.is) (made_tuple here one a.many a.few comma shut)))))
+      (refusal_reads (ValueAt o (suc q) f) _)
 
   -- an item of a list, by its value
   record IsLike (t : Ty) (h : Front) (x : Value) (k : Front) : Type 0 where
@@ -87,10 +87,10 @@ module _ (o q room : ℕ) (inner : Reader TypedValue) (ir : Inside o q inner) wh
     type : item.ty ≡ t
 
   like_reads : (t : Ty) (h : Front) → Reads (IsLike t h) (like inner o room t h)
-  unfolding like judged
+  unfolding like judged_item
   like_reads t h =
       after (ValueAt o q h) (IsLike t h) (inner h) _ (ir h)
-      (λ i k d. either (IsLike t h) (same_type i.ty t) _ _ (λ e. found (IsLike t h) i.value k (record { item = i; at = d; value = refl; type = same_type_true i.ty t e })) (λ _. refused (IsLike t h) _))
+      (λ i k d. either (IsLike t h) (same_type i.ty t) _ _ (λ e. found_reads (IsLike t h) i.value k (record { item = i; at = d; value = refl; type = same_type_true i.ty t e })) (λ _. refusal_reads (IsLike t h) _))
 
   like_next : (t : Ty) (f g h : Front) (x : Value) (xs : List Value) → Sym symbols.Comma f → IsLike t (behind f) x g → LikeAt o q t g xs h → LikeAt o q t f (x ∷ xs) h
   like_next t f g h x xs comma one rest = subst (λ y. LikeAt o q t f (y ∷ xs) h) one.value (gram.one_like comma one.at one.type rest)
@@ -102,7 +102,7 @@ module _ (o q room : ℕ) (inner : Reader TypedValue) (ir : Inside o q inner) wh
       (λ first g one. after (Added (LikeAt o q first.ty) 62 (first.value ∷ []) g) (ValueAt o (suc q) f) (more (like inner o room first.ty) begins_value symbols.Comma limits.Items wanted.AValue 62 (first.value ∷ []) g) _
       (more_reads (like inner o room first.ty) begins_value symbols.Comma limits.Items wanted.AValue (λ h x k. IsLike first.ty h x k) (LikeAt o q first.ty) (λ h. gram.no_like) (like_next first.ty) (like_reads first.ty) 62 (first.value ∷ []) g)
       (λ all h a. symbol_then (ValueAt o (suc q) f) symbols.BracketClose h _
-      (λ shut. found (ValueAt o (suc q) f) (list_of first.ty all) (behind h) (subst (λ vs. ValueAt o (suc q) f (list_of first.ty vs) (behind h)) (sym a.is) (gram.items here one a.many a.few shut)))))
+      (λ shut. found_reads (ValueAt o (suc q) f) (list_of first.ty all) (behind h) (subst (λ vs. ValueAt o (suc q) f (list_of first.ty vs) (behind h)) (sym a.is) (gram.items here one a.many a.few shut)))))
 
 fits_then : {B : Type 0} (Q : B → Front → Type 0) (room at : ℕ) (t : Ty) (h : Unit {0} → Result (B × Front) ParseFault) → (type_depth t ≤ room → Reads Q (h tt)) → Reads Q (fits room at t >>= h)
 unfolding fits Reads
@@ -122,7 +122,7 @@ module _ (o q : ℕ) (small : o ≤ 1) (inner : Reader TypedValue) (ir : Inside 
       after (TypeAt (153 + q - o) (behind2 f)) (ValueAt o (suc q) f) (type_to (153 + suc q - o) (behind2 f)) _ (type_reads (behind2 f))
       (λ t g d. fits_then (ValueAt o (suc q) f) (suc q) (place f) t _
       (λ deep. symbol_then (ValueAt o (suc q) f) symbols.BracketClose g _
-      (λ shut. found (ValueAt o (suc q) f) (list_of t []) (behind g) (gram.no_items here colon d deep shut))))
+      (λ shut. found_reads (ValueAt o (suc q) f) (list_of t []) (behind g) (gram.no_items here colon d deep shut))))
 
   opens_then : {B : Type 0} (Q : B → Front → Type 0) (f : Front) (h : Unit {0} × Front → Result (B × Front) ParseFault) → Reads Q (h (tt, f)) → Reads Q (opens (suc q) f >>= h)
   unfolding opens
@@ -133,28 +133,28 @@ module _ (o q : ℕ) (small : o ≤ 1) (inner : Reader TypedValue) (ir : Inside 
   brackets_reads f here =
       opens_then (ValueAt o (suc q) f) f _
       (if_symbol (ValueAt o (suc q) f) symbols.Colon (behind f) _ _ (λ colon. nil_reads f here colon)
-      (either (ValueAt o (suc q) f) (begins_value (behind f)) _ _ (λ _. listing_reads o q (suc q) inner ir f here) (λ _. refused (ValueAt o (suc q) f) _)))
+      (either (ValueAt o (suc q) f) (begins_value (behind f)) _ _ (λ _. listing_reads o q (suc q) inner ir f here) (λ _. refusal_reads (ValueAt o (suc q) f) _)))
 
   grouped_reads : (f : Front) → Sym symbols.ParenOpen f → Reads (ValueAt o (suc q) f) (grouped inner o (suc q) (place f) (behind f))
   unfolding grouped
   grouped_reads f here =
-      either (ValueAt o (suc q) f) (suc q == 0) _ _ (λ _. refused (ValueAt o (suc q) f) _)
+      either (ValueAt o (suc q) f) (suc q == 0) _ _ (λ _. refusal_reads (ValueAt o (suc q) f) _)
       (λ _. after (ValueAt o q (behind f)) (ValueAt o (suc q) f) (inner (behind f)) _ (ir (behind f)) (λ first g one. tuple_reads o q (suc q) inner ir f here first g one))
 
 -- what a round bracket begins, by what it groups
 parens_reads : (o room : ℕ) (inner : Reader TypedValue) (f : Front) → Sym symbols.ParenOpen f → Reads (ValueAt o room f) (grouped inner o room (place f) (behind f)) → Reads (ValueAt o room f) (parens inner o room f)
 unfolding parens
 parens_reads o room inner f here k =
-    if_symbol (ValueAt o room f) symbols.ParenClose (behind f) _ _ (λ shut. found (ValueAt o room f) (typed v.Unit ty.Unit) (behind2 f) (gram.nothing here shut))
-    (either (ValueAt o room f) (begins_value (behind f)) _ _ (λ _. k) (λ _. refused (ValueAt o room f) _))
+    if_symbol (ValueAt o room f) symbols.ParenClose (behind f) _ _ (λ shut. found_reads (ValueAt o room f) (typed v.Unit ty.Unit) (behind2 f) (gram.nothing here shut))
+    (either (ValueAt o room f) (begins_value (behind f)) _ _ (λ _. k) (λ _. refusal_reads (ValueAt o room f) _))
 
 none_grouped : (o : ℕ) (inner : Reader TypedValue) (f : Front) → Reads (ValueAt o 0 f) (grouped inner o 0 (place f) (behind f))
 unfolding grouped
-none_grouped o inner f = refused (ValueAt o 0 f) _
+none_grouped o inner f = refusal_reads (ValueAt o 0 f) _
 
 none_bracketed : (o : ℕ) (inner : Reader TypedValue) (f : Front) → Reads (ValueAt o 0 f) (brackets inner o 0 f)
 unfolding brackets opens
-none_bracketed o inner f = refused (ValueAt o 0 f) _
+none_bracketed o inner f = refusal_reads (ValueAt o 0 f) _
 
 value_reads_by : (o room : ℕ) (inner : Reader TypedValue) (f : Front) → (Sym symbols.ParenOpen f → Reads (ValueAt o room f) (parens inner o room f)) → (Sym symbols.BracketOpen f → Reads (ValueAt o room f) (brackets inner o room f))
     → Reads (ValueAt o room f) (value_at inner o room f)
@@ -216,7 +216,7 @@ record AreMore (f : Front) (xs : List Value) (g : Front) : Type 0 where
 argument_reads : (h : Front) → Reads (IsArgument h) (argument_at h)
 unfolding argument_at
 argument_reads h =
-    after (ValueAt 1 7 h) (IsArgument h) (value_to 1 8 h) _ (values_read 1 (omega arith) 7 h) (λ i k d. found (IsArgument h) i.value k (record { item = i; at = d; value = refl }))
+    after (ValueAt 1 7 h) (IsArgument h) (value_to 1 8 h) _ (values_read 1 (omega arith) 7 h) (λ i k d. found_reads (IsArgument h) i.value k (record { item = i; at = d; value = refl }))
 
 more_next : (f g h : Front) (x : Value) (xs : List Value) → Sym symbols.Comma f → IsArgument (behind f) x g → AreMore g xs h → AreMore f (x ∷ xs) h
 more_next f g h x xs comma one rest = record { items = one.item ∷ rest.items; at = gram.one_more comma one.at rest.at; values = λ i. one.value i ∷ rest.values i }
@@ -238,13 +238,13 @@ arguments_from_reads f here =
     after (IsArgument (behind f)) (ArgsAt f) (argument_at (behind f)) _ (argument_reads (behind f))
     (λ x g one. after (Added AreMore 7 (x ∷ []) g) (ArgsAt f) (more argument_at begins_value symbols.Comma limits.Arguments wanted.AValue 7 (x ∷ []) g) _
     (more_reads argument_at begins_value symbols.Comma limits.Arguments wanted.AValue (λ h y k. IsArgument h y k) AreMore (λ h. record { items = []; at = gram.no_more; values = refl }) more_next argument_reads 7 (x ∷ []) g)
-    (λ all h a. symbol_then (ArgsAt f) symbols.ParenClose h _ (λ shut. found (ArgsAt f) all (behind h) (made_args f g h x all here one a shut))))
+    (λ all h a. symbol_then (ArgsAt f) symbols.ParenClose h _ (λ shut. found_reads (ArgsAt f) all (behind h) (made_args f g h x all here one a shut))))
 
 arguments_reads : (f : Front) → Sym symbols.ParenOpen f → Reads (ArgsAt f) (arguments_behind (behind f))
 unfolding arguments_behind
 arguments_reads f here =
-    if_symbol (ArgsAt f) symbols.ParenClose (behind f) _ _ (λ shut. found (ArgsAt f) [] (behind2 f) (gram.no_args here shut))
-    (either (ArgsAt f) (begins_value (behind f)) _ _ (λ _. arguments_from_reads f here) (λ _. refused (ArgsAt f) _))
+    if_symbol (ArgsAt f) symbols.ParenClose (behind f) _ _ (λ shut. found_reads (ArgsAt f) [] (behind2 f) (gram.no_args here shut))
+    (either (ArgsAt f) (begins_value (behind f)) _ _ (λ _. arguments_from_reads f here) (λ _. refusal_reads (ArgsAt f) _))
 
 all_reads : (f : Front) → Reads (ArgsAt f) (need_symbol symbols.ParenOpen f >>= λ o. arguments_behind o.1)
 all_reads f = symbol_then (ArgsAt f) symbols.ParenOpen f (λ o. arguments_behind o.1) (λ here. arguments_reads f here)

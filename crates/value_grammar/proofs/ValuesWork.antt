@@ -17,7 +17,7 @@ use Rattle.plan_grammar.specs.declared.fault.Wanted.TheVariants as wanted
 use Rattle.plan_grammar.specs.Ahead.{Front, Reader, ◌>>=◌, place, behind, next_kind, is_symbol}
 use Rattle.plan_grammar.specs.Types.{more, type_to}
 use Rattle.plan_parser.specs.declared.item.TypedValue.{TypedValue as Read}
-use Rattle.plan_parser.specs.Values.{typed, literal, literal_from, begins_value, tuple_of, list_of, judged, fits, tuple_from, tuple, grouped, parens, like, listing, typed_nil, brackets, value_at, value_to, argument_at, arguments_from, arguments_behind}
+use Rattle.plan_parser.specs.Values.{typed, literal, literal_from, begins_value, tuple_of, list_of, judged_item, fits, tuple_from, tuple, grouped, parens, like, listing, typed_nil, brackets, value_at, value_to, argument_at, arguments_from, arguments_behind}
 use Rattle.value_grammar.specs.Agenda.{ValueItem, sym, a_type, a_value, made, behind_paren, first_part, behind_part, next_part, behind_parts, behind_bracket, element, behind_element, first_item, next_item, behind_item, behind_items, args, more_args, enter, hand, literal_type, literal_step, step}
 use Rattle.value_grammar.proofs.Works.{Works, Follows, goes_on, stops, begin, after, given, both, symbol_works}
 use Rattle.grammar_laws.proofs.TokenFacts.{room_open}
@@ -92,7 +92,7 @@ module _ (o : ℕ) where
 
     like_works : (room : ℕ) (rest : List ValueItem) (left : ℕ) (u : Ty) (f : Front)
         → Works o (a_value q ∷ next_item q left u (place f) ∷ rest) f (λ _. behind_items q left u ∷ rest) (like inner o room u f)
-    unfolding like judged step
+    unfolding like judged_item step
     like_works room rest left u f =
         let next : Value → List ValueItem = λ _. behind_items q left u ∷ rest in
         after o (a_value q ∷ next_item q left u (place f) ∷ rest) f (λ i. behind_item q left u (place f) i.ty ∷ rest) next (inner f) _ (inside (next_item q left u (place f) ∷ rest) f)

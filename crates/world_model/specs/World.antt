@@ -234,12 +234,12 @@ acted w (Tick h) = ticks w h
 acted w (Raw h d bytes) = raws w h d bytes
 
 -- one event more was made
-abbrev pub counted : WorldState → WorldState
-counted w = record w { made = w.made + 1 }
+abbrev pub counted_event : WorldState → WorldState
+counted_event w = record w { made = w.made + 1 }
 
 -- one event; one that names nothing gives the line `nothing` and changes nothing
 abbrev pub happens : WorldState → WorldEvent → EventResult
-happens w e = happened (acted w e).lines (counted (acted w e).world)
+happens w e = happened (acted w e).lines (counted_event (acted w e).world)
 
 abbrev pub entry_at : ℕ → Line → Entry
 entry_at event line = record { event = event; line = line }

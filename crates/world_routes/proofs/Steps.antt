@@ -48,7 +48,7 @@ use Rattle.settled_visit.specs.Settles.{handed, telling}
 use Rattle.settled_visit.proofs.Tellings.{Tells as TellsSource}
 use Rattle.settled_visit.proofs.Sends.{all_settled}
 use Rattle.node_model.specs.Visits.{around, evaluated, visit_end, visit_of, visit_at, settled_at}
-use Rattle.spelled_frame.specs.Spelled.{what_of, numbered}
+use Rattle.spelled_frame.specs.Spelled.{what_of, numbered_frame}
 use Rattle.node_model.specs.Node.{NodeStep, stepped, lane_room, queue_room, has_room, lane_with, queue_push, mark, drop_act, takes_as, noting, stamped_as, stamped_step, arrived, arrive_step, send_act, send_queues, sends_acts, sends_queues, packet_sending, visit_sends, handled_acts, visit_acts, visited, next_serial, injected_packet, inject_step, only_acts, forward_by, forward_step, packet_step, hearing, advert_step, frame_step, next_tick, advert_sending, tick_sends, tick_step}
 use Rattle.node_model.specs.Fits.{QueuesKeep}
 use Rattle.node_laws.proofs.Keeping.{Sends, send_keeps, sends_keep}
@@ -83,7 +83,7 @@ module _ (far : Wiring) (r : Routing) where
     pub spent : IsRoutedAct s.spent
 
   pushed : (queues : Queues) (d : Dev) (x : PlainStamped) (lane : Lane) → slice_set (cut_queues queues) d.0 (cut_lane lane ++ cut_stamped x ∷ []) ≡ cut_queues (slice_set queues d.0 (lane_with lane x))
-  pushed queues d x lane = sym (map-set cut_lane queues d.0 (lane_with lane x) ∙ ap (slice_set (cut_queues queues) d.0) (map_push cut_stamped lane.frames (numbered lane.number x)))
+  pushed queues d x lane = sym (map-set cut_lane queues d.0 (lane_with lane x) ∙ ap (slice_set (cut_queues queues) d.0) (map_push cut_stamped lane.frames (numbered_frame lane.number x)))
 
   push_goes : (t : Bool) (w : Network) (at : ℕ) (queues : Queues) (s : Sending) (lane : Lane) → MayGo s → IsAt w at (node_with r queues) → slice_get queues s.dev.0 ≡ Some lane
       → Goes far w (with_node w at (node_with r (cond t (queue_push queues s.dev s.frame (Some lane)) queues)))

@@ -6,7 +6,7 @@ use Rattle.frag_chunks.specs.declared.gather.Held.{Held}
 use Rattle.frag_chunks.specs.declared.gather.Held.TheVariants as held
 use Rattle.service_api.specs.declared.answer.Note.{Note}
 use Rattle.frag_chunks.specs.Parts.{IsMessage, parts_in}
-use Rattle.frag_chunks.specs.Gathers.{gathered, holding_of, held_of, joined, filled}
+use Rattle.frag_chunks.specs.Gathers.{gathered, holding_of, held_of, joined_pieces, filled}
 use Rattle.frag_chunks.specs.Messages.{OnlyParts, was_given, given_from, held_now}
 use Rattle.frag_chunks.proofs.Pieces.{slots_from, slots_joined, slots_whole, slots_open, slots_filled, slots_length, parts_reach}
 use Rattle.frag_chunks.proofs.Gathering.{Came, Ends, notes_end}
@@ -26,14 +26,14 @@ none_only port k b ns (Absent e f) s = inr f
 whole : (port : ℕ) (k : ℤ) (b : List ℕ) (ns : List Note) → IsMessage b → holding_of k (gathered port ns []) ≡ Came (was_given port k ns) b → ((i : ℕ) → i < parts_in (length b) → IsTrue (was_given port k ns i)) → held_now k (gathered port ns []) ≡ Some (held.Whole k b)
 whole port k b ns m e f =
     ap (option_map (held_of k)) e
-    ∙ ap (λ t. Some (if t then held.Whole k (joined (slots_from (was_given port k ns) b 0 (parts_in (length b)))) else held.Missing k (filled (slots_from (was_given port k ns) b 0 (parts_in (length b)))) (length (slots_from (was_given port k ns) b 0 (parts_in (length b))))))
+    ∙ ap (λ t. Some (if t then held.Whole k (joined_pieces (slots_from (was_given port k ns) b 0 (parts_in (length b)))) else held.Missing k (filled (slots_from (was_given port k ns) b 0 (parts_in (length b)))) (length (slots_from (was_given port k ns) b 0 (parts_in (length b))))))
     (slots_whole (was_given port k ns) b 0 (parts_in (length b)) (λ x l h. f x (omega arith)))
     ∙ ap (λ d. Some (held.Whole k d)) (slots_joined (was_given port k ns) b 0 (parts_in (length b)) (λ x l h. f x (omega arith)) (omega (arith, parts_reach (length b))))
 
 missing : (port : ℕ) (k : ℤ) (b : List ℕ) (ns : List Note) → holding_of k (gathered port ns []) ≡ Came (was_given port k ns) b → (i : ℕ) → i < parts_in (length b) → was_given port k ns i ≡ false → held_now k (gathered port ns []) ≡ Some (held.Missing k (given_from (was_given port k ns) 0 (parts_in (length b))) (parts_in (length b)))
 missing port k b ns e i l h =
     ap (option_map (held_of k)) e
-    ∙ ap (λ t. Some (if t then held.Whole k (joined (slots_from (was_given port k ns) b 0 (parts_in (length b)))) else held.Missing k (filled (slots_from (was_given port k ns) b 0 (parts_in (length b)))) (length (slots_from (was_given port k ns) b 0 (parts_in (length b))))))
+    ∙ ap (λ t. Some (if t then held.Whole k (joined_pieces (slots_from (was_given port k ns) b 0 (parts_in (length b)))) else held.Missing k (filled (slots_from (was_given port k ns) b 0 (parts_in (length b)))) (length (slots_from (was_given port k ns) b 0 (parts_in (length b))))))
     (slots_open (was_given port k ns) b 0 (parts_in (length b)) i (omega arith) (omega arith) h)
     ∙ (λ t. Some (held.Missing k (slots_filled (was_given port k ns) b 0 (parts_in (length b)) t) (slots_length (was_given port k ns) b 0 (parts_in (length b)) t)))
 

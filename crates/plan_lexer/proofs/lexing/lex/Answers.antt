@@ -1,6 +1,6 @@
 use Rattle.std.proofs.Common.{rules, arith, length-drop}
 use Rattle.std.proofs.lemmas.Bool.Decides.{nat_tests}
-use Rattle.plan_lexer.proofs.ScanLemmas.{begins, moved, refused, whole, Toks-unique, fault_by, only_by}
+use Rattle.plan_lexer.proofs.ScanLemmas.{begins, move_scans, refusal_stops, whole, Toks-unique, fault_by, only_by}
 use Rattle.plan_lexer.proofs.RuleLemmas.{tokens_rules}
 use Rattle.plan_lexer.proofs.lexing.lex.Goals as goal
 
@@ -9,7 +9,7 @@ moves-init c = record { sofar = begins c.args.text.now _ c.new-tokens.ensures; p
 
 pub moves-preserved : goal.moves-preserved
 moves-preserved c = record {
-  sofar = moved c.args.text.now c.moves.tokens c.moves.at c.moves.rest.now c.in_ok-kind.kind c.in_ok-kind.next _ _ c.moves.invariant.sofar (grind (arith, nat_tests))
+  sofar = move_scans c.args.text.now c.moves.tokens c.moves.at c.moves.rest.now c.in_ok-kind.kind c.in_ok-kind.next _ _ c.moves.invariant.sofar (grind (arith, nat_tests))
       c.in_ok-kind.ensures.value c.in_ok-add_move.ensures.ok c.after-rest.ensures;
   place = rw (c.after-rest.ensures, length-drop) (omega (arith, c.in_ok-kind.ensures.within.0, c.in_ok-kind.ensures.within.1));
 }
@@ -22,11 +22,11 @@ returns-clause-only c = λ ts h. Toks-unique 0 c.args.text.now c.moves.tokens ts
 
 pub returns-in_err-kind-clause-fault : goal.returns-in_err-kind-clause-fault
 returns-in_err-kind-clause-fault c = fault_by c.from_residual.result c.in_err-kind.field-0.0 c.args.text.now c.from_residual.ensures.1
-    (refused c.args.text.now c.moves.tokens c.moves.at c.moves.rest.now c.in_err-kind.field-0.0 c.moves.invariant.sofar (grind (arith, nat_tests)) c.in_err-kind.ensures.value)
+    (refusal_stops c.args.text.now c.moves.tokens c.moves.at c.moves.rest.now c.in_err-kind.field-0.0 c.moves.invariant.sofar (grind (arith, nat_tests)) c.in_err-kind.ensures.value)
 
 pub returns-in_err-kind-clause-only : goal.returns-in_err-kind-clause-only
 returns-in_err-kind-clause-only c = only_by c.from_residual.result c.in_err-kind.field-0.0 c.args.text.now c.from_residual.ensures.1
-    (refused c.args.text.now c.moves.tokens c.moves.at c.moves.rest.now c.in_err-kind.field-0.0 c.moves.invariant.sofar (grind (arith, nat_tests)) c.in_err-kind.ensures.value)
+    (refusal_stops c.args.text.now c.moves.tokens c.moves.at c.moves.rest.now c.in_err-kind.field-0.0 c.moves.invariant.sofar (grind (arith, nat_tests)) c.in_err-kind.ensures.value)
 
 pub returns-clause-kept : goal.returns-clause-kept
 returns-clause-kept c = tokens_rules c.args.text.now c.moves.tokens (omega arith) (whole c.args.text.now c.moves.tokens c.moves.at c.moves.rest.now c.moves.invariant.sofar (grind (arith, nat_tests)))

@@ -3,4 +3,4 @@ use Rattle.service_meaning.specs.Offered as spec
 use Rattle.service_registry.proofs.offered.named.Goals as goal
 
 pub returns : goal.returns
-returns c = c.named_among.ensures ∙ ap (λ services. spec.named services c.args.name.now) c.as_slice.ensures
+returns c = c.named_among.ensures ∙ ap (λ services. spec.service_named services c.args.name.now) c.as_slice.ensures
