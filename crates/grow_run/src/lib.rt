@@ -16,7 +16,6 @@ mod topology;
 
 pub use choice::Choice;
 pub use draws::{begin, choose};
-pub use net_world::RunFault;
 pub use run::grow;
 pub use summary::Summary;
 pub use sums::{Sums, totals};

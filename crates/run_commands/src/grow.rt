@@ -3,7 +3,8 @@ ghost use Rattle.run_commands.specs.Grown.{GrowsAs};
 
 use crate::replay::services_of;
 use call_causes::Cause;
-use grow_run::{RunFault, grow, ring};
+use grow_run::{grow, ring};
+use net_world::RunFault;
 use node_io::Sink;
 use std::alloc::Global;
 
