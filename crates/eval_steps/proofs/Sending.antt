@@ -1,5 +1,5 @@
 -- Evals and sends that end an expression: they are refused, or what they are given doesn't fit.
-use Rattle.std.proofs.Common.{◌≡◌, ℕ, ℤ, List, [], ◌∷◌, Some, None, Result, slice_get, refl, ap}
+use Rattle.std.proofs.Common.{◌≡◌, ℕ, ℤ, List, [], ◌∷◌, Option, Some, None, Result, slice_get, refl, ap}
 use Rattle.std.specs.Prelude.{remove}
 use Rattle.small_laws.proofs.Options.{none-some, some-same}
 use Rattle.plan_base.specs.declared.name.Name.{Name}
@@ -82,28 +82,27 @@ module _ (code : Program) (seen : ℕ) (e : Expr) (env : Env) (s : VisitState) w
     pub last_chunk : (c w u v : Value) (held : List Value) → as_chunk c ≡ None → (part_gave code seen (record { expr = e; env = env }) n (c ∷ w ∷ u ∷ held) v s).after ≡ stopped Wrong s
     last_chunk c w u v held is = rw (form, is) refl
 
-    pub last_host : (c w u v : Value) (held : List Value) (k : Chunk) → as_chunk c ≡ Some k → as_host w ≡ None
-        → (part_gave code seen (record { expr = e; env = env }) n (c ∷ w ∷ u ∷ held) v s).after ≡ stopped Wrong s
-    last_host c w u v held k is there = rw (form, is, there) refl
+module _ (k : Chunk) (w : Option Host) (u : Option ℤ) (v : Option Dev) (s : VisitState) where
+  pub unsent_near : (host : Host) (i : ℤ) (dev : Dev) (x : Stop) (t : VisitState) → w ≡ Some host → u ≡ Some i → v ≡ Some dev → (send_neighbour k host i dev s).after ≡ stopped x t
+      → (near_step k w u v s).after ≡ stopped x t
+  unsent_near host i dev x t there much way sent = rw (there, much, way) (ap (λ q. («next» («next» q (λ _. pure value.Unit)).after weighed).after) sent)
 
-module _ (k : Chunk) (host : Host) (u v : Value) (s : VisitState) where
-  pub unsent_near : (i : ℤ) (dev : Dev) (x : Stop) (t : VisitState) → as_int u ≡ Some i → as_dev v ≡ Some dev → (send_neighbour k host i dev s).after ≡ stopped x t
-      → (near_step k host u v s).after ≡ stopped x t
-  unsent_near i dev x t much way sent = rw (much, way) (ap (λ q. («next» («next» q (λ _. pure value.Unit)).after weighed).after) sent)
+  pub no_near_host : w ≡ None → (near_step k w u v s).after ≡ stopped Wrong s
+  no_near_host there = rw there refl
 
-  pub no_near_bound : as_int u ≡ None → (near_step k host u v s).after ≡ stopped Wrong s
-  no_near_bound much = rw much refl
+  pub no_near_bound : (host : Host) → w ≡ Some host → u ≡ None → (near_step k w u v s).after ≡ stopped Wrong s
+  no_near_bound host there much = rw (there, much) refl
 
-  pub no_near_dev : (i : ℤ) → as_int u ≡ Some i → as_dev v ≡ None → (near_step k host u v s).after ≡ stopped Wrong s
-  no_near_dev i much way = rw (much, way) refl
+  pub no_near_dev : (host : Host) (i : ℤ) → w ≡ Some host → u ≡ Some i → v ≡ None → (near_step k w u v s).after ≡ stopped Wrong s
+  no_near_dev host i there much way = rw (there, much, way) refl
 
--- a send to a neighbour goes on with its number and its device
-pub near_decides : (code : Program) (seen : ℕ) (e : Expr) (env : Env) (a h b d : Expr) (n : ℕ) (c w u v : Value) (held : List Value) (k : Chunk) (host : Host) (s : VisitState) (r : Result Next Stop) (t : VisitState)
-    → out-Expr e ≡ Expr-F.OnNeighbor a h b d → as_chunk c ≡ Some k → as_host w ≡ Some host
-    → Decides code seen (record { expr = e; env = env }) (near_step k host u v s) r t
+-- a send to a neighbour goes on where its chunk is there
+pub near_decides : (code : Program) (seen : ℕ) (e : Expr) (env : Env) (a h b d : Expr) (n : ℕ) (c w u v : Value) (held : List Value) (k : Chunk) (s : VisitState) (r : Result Next Stop) (t : VisitState)
+    → out-Expr e ≡ Expr-F.OnNeighbor a h b d → as_chunk c ≡ Some k
+    → Decides code seen (record { expr = e; env = env }) (near_step k (as_host w) (as_int u) (as_dev v) s) r t
     → Decides code seen (record { expr = e; env = env }) (part_gave code seen (record { expr = e; env = env }) n (c ∷ w ∷ u ∷ held) v s) r t
-near_decides code seen e env a h b d n c w u v held k host s r t form is there more =
-    carries_from code seen (record { expr = e; env = env }) _ _ r t (near_on code seen e env s a h b d n form c w u v held k host is there) more
+near_decides code seen e env a h b d n c w u v held k s r t form is more =
+    carries_from code seen (record { expr = e; env = env }) _ _ r t (near_on code seen e env s a h b d n form c w u v held k is) more
 
 -- the first of some values, and those behind it
 pub first_off : (held rest : List Value) (x : Value) → slice_get held 0 ≡ Some x → rest ≡ remove held 0 → held ≡ x ∷ rest
@@ -118,6 +117,4 @@ pub ruleset early_neighbour = (near_chunk, near_held_chunk, near_host)
 
 pub ruleset third_neighbour = (third_chunk, third_host, third_bound)
 
-pub ruleset last_neighbour = (last_chunk, last_host)
-
-pub ruleset near = (unsent_near, no_near_bound, no_near_dev)
+pub ruleset near = (unsent_near, no_near_host, no_near_bound, no_near_dev)

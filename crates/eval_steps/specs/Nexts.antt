@@ -71,22 +71,22 @@ module _ (code : Program) (seen : ℕ) where
   FoldsOn layer acc left s result s' = (e : Expr) (env : Env) → out-Expr e ≡ layer
       → Decides (record { expr = e; env = env }) (fold_on (record { expr = e; env = env }) acc left s) result s'
 
--- a send to a neighbour whose chunk and host are known
-abbrev pub near_send : Chunk → Host → Value → Value → Run Value
-near_send k host u v = or_wrong (as_int u) >>= (λ b. or_wrong (as_dev v) >>= (λ dev. send_neighbour k host b dev >> pure value.Unit))
+-- a send of a chunk to a neighbour, with its other parts as far as they are what they are to be
+abbrev pub near_send : Chunk → Option Host → Option ℤ → Option Dev → Run Value
+near_send k host i dev = or_wrong host >>= (λ h. or_wrong i >>= (λ b. or_wrong dev >>= (λ d. send_neighbour k h b d >> pure value.Unit)))
 
 -- the same as the end of its expression
-abbrev pub near_step : Chunk → Host → Value → Value → VisitState → Step Value
-near_step k host u v s = (near_send k host u v >>= weighed) s
+abbrev pub near_step : Chunk → Option Host → Option ℤ → Option Dev → VisitState → Step Value
+near_step k host i dev s = (near_send k host i dev >>= weighed) s
 
 -- a send by a routing name of which all parts gave values is safe at some standing of the services
 abbrev pub RemoteIsSafe : Name → Value → Value → Value → Own → Type 0
 RemoteIsSafe r c w v o =
     (k : Chunk) (host : Host) (i : ℤ) → as_chunk c ≡ Some k → as_host w ≡ Some host → as_int v ≡ Some i → (s : ServiceState) × IsSafe (send_remote k host i r (joined o s)).asks
 
--- the same of a send to a neighbour whose chunk and host are known
-abbrev pub NearIsSafe : Chunk → Host → Value → Value → Own → Type 0
-NearIsSafe k host u v o = (i : ℤ) (dev : Dev) → as_int u ≡ Some i → as_dev v ≡ Some dev → (s : ServiceState) × IsSafe (send_neighbour k host i dev (joined o s)).asks
+-- the same of a send of a chunk to a neighbour
+abbrev pub NearIsSafe : Chunk → Option Host → Option ℤ → Option Dev → Own → Type 0
+NearIsSafe k w u v o = (host : Host) (i : ℤ) (dev : Dev) → w ≡ Some host → u ≡ Some i → v ≡ Some dev → (s : ServiceState) × IsSafe (send_neighbour k host i dev (joined o s)).asks
 
 -- the same of a send to a neighbour
 abbrev pub NeighbourIsSafe : Value → Value → Value → Value → Own → Type 0

@@ -19,6 +19,7 @@ use plan_items::Shared;
 use plan_meaning::Stop;
 use service_api::Services;
 use std::alloc::Global;
+use std::mem;
 use visit_state::State;
 
 /// What an expression does when its part of number `n` has given a value, behind those that gave `held`.
@@ -50,14 +51,17 @@ fn after_part<S: Services>(
         Expr::Tuple(es) => tuple_part(es, n, held, v),
         Expr::Call(f, es) => call_part(alloc, code, seen, f, es, n, held, v, state, svc),
         Expr::ChunkOf(f, es) => chunk_part(alloc, code, f, es, n, held, v),
-        Expr::If(_, _, _) => choose(&v),
+        Expr::If(_, _, _) => choose(v),
         Expr::Let(_, _, _, _) => Ok(Next::Open(StackFrame::Bound(v))),
-        Expr::Then(_, _) => Ok(Next::Open(StackFrame::Last(1))),
-        Expr::And(_, _) => both(&v),
-        Expr::Or(_, _) => either(&v),
-        Expr::Not(_) => turn(&v),
+        Expr::Then(_, _) => {
+            mem::drop(v);
+            Ok(Next::Open(StackFrame::Last(1)))
+        }
+        Expr::And(_, _) => both(v),
+        Expr::Or(_, _) => either(v),
+        Expr::Not(_) => turn(v),
         Expr::Binary(op, _, _) => operand(alloc, *op, held, v),
-        Expr::Part(i, _) => selected(alloc, *i, &v),
+        Expr::Part(i, _) => selected(alloc, *i, v),
         Expr::Foldl(f, _, _) => left_part(alloc, code, seen, f, held, v),
         Expr::Foldr(f, _, _) => right_part(alloc, code, seen, f, held, v),
         Expr::Eval(_) => evaluated(alloc, v, state),

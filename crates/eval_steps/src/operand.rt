@@ -14,6 +14,7 @@ use plan_base::{NoMemory, Op, Value, Values};
 use plan_items::Items;
 use plan_meaning::Stop;
 use std::alloc::Global;
+use std::mem;
 use visit_state::{binary, cons, part};
 
 /// A frame for a second part, behind one value.
@@ -73,9 +74,11 @@ pub fn first_of(held: Values) -> Option<Value>
 /// What a part of a tuple gives.
 #[tactic(auto, using(crate::proofs::Gathering::part_gives, crate::proofs::Gathering::part_stops))]
 #[inline(never)]
-pub fn selected(alloc: Global, i: u8, v: &Value) -> Result<Next, Stop>
+pub fn selected(alloc: Global, i: u8, v: Value) -> Result<Next, Stop>
     ensures { (code : Program) (seen : ℕ) (a : Expr) (n : ℕ) (held : List Value) (s : VisitState)
-        → Continues code seen (Expr-F.Part i a) n held v.now s result s }
+        → Continues code seen (Expr-F.Part i a) n held v s result s }
 {
-    Ok(Next::Give(part(alloc, i, v)?))
+    let given = part(alloc, i, &v);
+    mem::drop(v);
+    Ok(Next::Give(given?))
 }

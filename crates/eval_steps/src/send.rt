@@ -13,9 +13,10 @@ ghost use Rattle.eval_steps.specs.Nexts.{Decides, Continues, RemoteIsSafe, Neigh
 use crate::next::Next;
 use crate::operand::behind_one;
 use crate::stack_frame::StackFrame;
-use plan_base::{Chunk, Host, Name, NoMemory, Value, Values};
+use plan_base::{Chunk, Dev, Host, Name, NoMemory, Value, Values};
 use plan_meaning::Stop;
 use std::alloc::Global;
+use std::mem;
 use visit_state::{State, as_chunk, as_dev, as_host, as_int};
 
 /// The chunk that a value is.
@@ -27,6 +28,27 @@ fn chunk_of(v: Value) -> Option<Chunk>
         Value::Chunk(chunk) => Some(chunk.into_inner()),
         _ => None,
     }
+}
+
+/// The host that a value is.
+fn host_of(v: Value) -> Option<Host>
+    ensures { result ≡ spec.as_host v }
+{
+    as_host(&v)
+}
+
+/// The number that a value is.
+fn int_of(v: Value) -> Option<i64>
+    ensures { result ≡ spec.as_int v }
+{
+    as_int(&v)
+}
+
+/// The device that a value is.
+fn dev_of(v: Value) -> Option<Dev>
+    ensures { result ≡ spec.as_dev v }
+{
+    as_dev(&v)
 }
 
 /// An eval, which is paid before its chunk runs.
@@ -70,24 +92,28 @@ fn send_remote(
     alloc: Global,
     r: &Name,
     c: Value,
-    w: &Value,
-    v: &Value,
+    w: Value,
+    v: Value,
     state: &mut State,
 ) -> Result<Next, Stop>
-    requires safe { RemoteIsSafe r.now c w.now v.now state.old }
+    requires safe { RemoteIsSafe r.now c w v state.old }
     ensures decides { (code : Program) (seen : ℕ) (a h b : Expr) (n : ℕ)
         (held : List Value) (s : ServiceState)
-        → Continues code seen (Expr-F.OnRemote a h b r.now) n (c ∷ w.now ∷ held) v.now
+        → Continues code seen (Expr-F.OnRemote a h b r.now) n (c ∷ w ∷ held) v
         (joined state.old s) result (joined state.new s) }
     ensures falls { state.new.work ≤ state.old.work }
 {
+    let host = host_of(w);
+    let bound = int_of(v);
     let Some(chunk) = chunk_of(c) else {
         return Err(Stop::Wrong);
     };
-    let Some(host) = as_host(w) else {
+    let Some(host) = host else {
+        mem::drop(chunk);
         return Err(Stop::Wrong);
     };
-    let Some(bound) = as_int(v) else {
+    let Some(bound) = bound else {
+        mem::drop(chunk);
         return Err(Stop::Wrong);
     };
     state.send_remote(alloc, chunk, host, bound, r)?;
@@ -114,15 +140,18 @@ pub fn remote_part(
     match held.as_slice() {
         [] => {
             if as_chunk(&v).is_none() {
+                mem::drop(v);
                 return Err(Stop::Wrong);
             }
             Ok(Next::Open(behind_one(alloc, 1, v)?))
         }
         [c] => {
             if as_chunk(c).is_none() {
+                mem::drop(v);
                 return Err(Stop::Wrong);
             }
             if as_host(&v).is_none() {
+                mem::drop(v);
                 return Err(Stop::Wrong);
             }
             Ok(Next::Open(behind_more(2, held, v)?))
@@ -131,30 +160,36 @@ pub fn remote_part(
             let mut waiting = held;
             let c = take_first(&mut waiting);
             let w = take_first(&mut waiting);
-            send_remote(alloc, r, c, &w, &v, state)
+            send_remote(alloc, r, c, w, v, state)
         }
     }
 }
 
-/// A send to a neighbour whose chunk and host are known.
+/// A send of a chunk to a neighbour, with its other parts as far as they are what they are to be.
 #[tactic(auto, using(crate::proofs::Deciding::near_sends, crate::proofs::Sending::near))]
 fn send_near(
     alloc: Global,
     chunk: Chunk,
-    host: Host,
-    u: &Value,
-    v: &Value,
+    host: Option<Host>,
+    bound: Option<i64>,
+    dev: Option<Dev>,
     state: &mut State,
 ) -> Result<Next, Stop>
-    requires safe { NearIsSafe chunk host u.now v.now state.old }
+    requires safe { NearIsSafe chunk host bound dev state.old }
     ensures decides { (code : Program) (seen : ℕ) (at : Spot) (s : ServiceState) → Decides code seen at
-        (near_step chunk host u.now v.now (joined state.old s)) result (joined state.new s) }
+        (near_step chunk host bound dev (joined state.old s)) result (joined state.new s) }
     ensures falls { state.new.work ≤ state.old.work }
 {
-    let Some(bound) = as_int(u) else {
+    let Some(host) = host else {
+        mem::drop(chunk);
         return Err(Stop::Wrong);
     };
-    let Some(dev) = as_dev(v) else {
+    let Some(bound) = bound else {
+        mem::drop(chunk);
+        return Err(Stop::Wrong);
+    };
+    let Some(dev) = dev else {
+        mem::drop(chunk);
         return Err(Stop::Wrong);
     };
     state.send_neighbour(alloc, chunk, host, bound, dev)?;
@@ -162,27 +197,27 @@ fn send_near(
 }
 
 /// A send to a neighbour, once its parts are there.
-#[tactic(auto, using(crate::proofs::Sending::last_neighbour))]
+#[tactic(auto, using(crate::proofs::Sending::last_chunk))]
 fn send_neighbour(
     alloc: Global,
     c: Value,
-    w: &Value,
-    u: &Value,
-    v: &Value,
+    w: Value,
+    u: Value,
+    v: Value,
     state: &mut State,
 ) -> Result<Next, Stop>
-    requires safe { NeighbourIsSafe c w.now u.now v.now state.old }
+    requires safe { NeighbourIsSafe c w u v state.old }
     ensures decides { (code : Program) (seen : ℕ) (a h b d : Expr) (n : ℕ)
         (held : List Value) (s : ServiceState)
-        → Continues code seen (Expr-F.OnNeighbor a h b d) n (c ∷ w.now ∷ u.now ∷ held) v.now
+        → Continues code seen (Expr-F.OnNeighbor a h b d) n (c ∷ w ∷ u ∷ held) v
         (joined state.old s) result (joined state.new s) }
     ensures falls { state.new.work ≤ state.old.work }
 {
-    let Some(chunk) = chunk_of(c) else {
-        return Err(Stop::Wrong);
-    };
-    match as_host(w) {
-        Some(host) => send_near(alloc, chunk, host, u, v, state),
+    let host = host_of(w);
+    let bound = int_of(u);
+    let dev = dev_of(v);
+    match chunk_of(c) {
+        Some(chunk) => send_near(alloc, chunk, host, bound, dev, state),
         None => Err(Stop::Wrong),
     }
 }
@@ -206,27 +241,33 @@ pub fn neighbour_part(
     match held.as_slice() {
         [] => {
             if as_chunk(&v).is_none() {
+                mem::drop(v);
                 return Err(Stop::Wrong);
             }
             Ok(Next::Open(behind_one(alloc, 1, v)?))
         }
         [c] => {
             if as_chunk(c).is_none() {
+                mem::drop(v);
                 return Err(Stop::Wrong);
             }
             if as_host(&v).is_none() {
+                mem::drop(v);
                 return Err(Stop::Wrong);
             }
             Ok(Next::Open(behind_more(2, held, v)?))
         }
         [c, w] => {
             if as_chunk(c).is_none() {
+                mem::drop(v);
                 return Err(Stop::Wrong);
             }
             if as_host(w).is_none() {
+                mem::drop(v);
                 return Err(Stop::Wrong);
             }
             if as_int(&v).is_none() {
+                mem::drop(v);
                 return Err(Stop::Wrong);
             }
             Ok(Next::Open(behind_more(3, held, v)?))
@@ -236,7 +277,7 @@ pub fn neighbour_part(
             let c = take_first(&mut waiting);
             let w = take_first(&mut waiting);
             let u = take_first(&mut waiting);
-            send_neighbour(alloc, c, &w, &u, &v, state)
+            send_neighbour(alloc, c, w, u, v, state)
         }
     }
 }
