@@ -15,7 +15,7 @@ use Rattle.plan_base.proofs.FormLaws.{formed_value_out}
 use Rattle.typing_rules.specs.Typing.{str}
 use Rattle.service_api.specs.declared.answer.Note.TheVariants.{Print}
 use Rattle.service_api.specs.Schemes.{instance, is_instance_of}
-use Rattle.service_api.specs.Services.{Rows, IsGoodServe, IsGoodServed, IsGoodValue, AreGoodValues, AreGoodRows, IsGoodNote, RefusesOthers, refused}
+use Rattle.service_api.specs.Services.{Rows, IsGoodServe, IsGoodServed, IsGoodValue, AreGoodValues, AreGoodRows, IsGoodNote, RefusesOthers, refused_call}
 use Rattle.service_api.proofs.InstanceLaws.{found_is}
 use Rattle.service_meaning.proofs.Leaves.{Sized, good_sized, good_int}
 use Rattle.service_meaning.proofs.Tables.{key_good}
@@ -49,7 +49,7 @@ noted [] v g = absurd g
 noted (t ∷ ts) v g = (t, g.0)
 
 module _ (svc : Svc) (rows : Rows) (gr : AreGoodRows rows) where
-  refused_good : IsGoodServed svc (refused rows)
+  refused_good : IsGoodServed svc (refused_call rows)
   refused_good = record { answer = (0, zero-lt-suc _, refl); rows = gr }
 
   counted_good : svc.result ≡ ty.Int → (args : List Value) → IsGoodServed svc (counted args rows)
@@ -73,7 +73,7 @@ module _ (svc : Svc) (rows : Rows) (gr : AreGoodRows rows) where
 pub serve_good : IsGoodServe serve
 serve_good svc args ctx rows gr ga near = named_good svc rows gr (named svc.name) args ga
 
-unfit : (o : Option ExampleService) (svc : Svc) (args : List Value) (rows : Rows) → is_instance_of (type_named o) svc ≡ false → serve_called (called_as o svc) args rows ≡ refused rows
+unfit : (o : Option ExampleService) (svc : Svc) (args : List Value) (rows : Rows) → is_instance_of (type_named o) svc ≡ false → serve_called (called_as o svc) args rows ≡ refused_call rows
 unfit None svc args rows e = refl
 unfit (Some s) svc args rows e = ap (λ b. serve_called (if b then Some s else None) args rows) e
 

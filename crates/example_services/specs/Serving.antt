@@ -5,7 +5,7 @@ use Rattle.plan_base.specs.declared.tree.Value.TheVariants as value
 use Rattle.table_rows.specs.Rows.{key_after}
 use Rattle.service_api.specs.declared.answer.Note.TheVariants.{Print}
 use Rattle.service_api.specs.declared.answer.Answer.TheVariants.{Gives}
-use Rattle.service_api.specs.Services.{Rows, Served, Serve, Offer, refused}
+use Rattle.service_api.specs.Services.{Rows, Served, Serve, Offer, refused_call}
 use Rattle.example_services.specs.declared.service.ExampleService.{ExampleService}
 use Rattle.example_services.specs.declared.service.ExampleService.TheVariants.{Count, Greet}
 use Rattle.example_services.specs.Offered.{called, scheme_of}
@@ -17,7 +17,7 @@ after number = key_after number
 -- a count gives the number, and counts on
 abbrev pub counted : List Value → Rows → Served
 counted [] rows = record { answer = Gives (value.Int rows.«next») None; rows = record rows { «next» = after rows.«next» } }
-counted (_ ∷ _) rows = refused rows
+counted (_ ∷ _) rows = refused_call rows
 
 abbrev pub hello : List ℕ
 hello = codes "hello"
@@ -25,7 +25,7 @@ hello = codes "hello"
 -- a greeting gives its text, and notes whom it greets
 abbrev pub greeted : List Value → Rows → Served
 greeted (whom ∷ []) rows = record { answer = Gives (value.Str hello) (Some (Print whom)); rows = rows }
-greeted _ rows = refused rows
+greeted _ rows = refused_call rows
 
 abbrev pub serve_as : ExampleService → List Value → Rows → Served
 serve_as Count args rows = counted args rows
@@ -33,7 +33,7 @@ serve_as Greet args rows = greeted args rows
 
 abbrev pub serve_called : Option ExampleService → List Value → Rows → Served
 serve_called (Some s) args rows = serve_as s args rows
-serve_called None args rows = refused rows
+serve_called None args rows = refused_call rows
 
 -- what a call means, whatever stands around it
 abbrev pub serve : Serve

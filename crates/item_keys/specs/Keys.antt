@@ -12,9 +12,9 @@ unfoldable pub same_key : Key → Key → Bool
 same_key a b = int_eq a.number b.number && bytes_eq a.name b.name
 
 -- the first item of the key
-abbrev pub found : {R : Type 0} → (R → Key) → Key → List R → Option R
-found key k [] = None
-found key k (x ∷ xs) = if same_key (key x) k then Some x else found key k xs
+abbrev pub first_of_key : {R : Type 0} → (R → Key) → Key → List R → Option R
+first_of_key key k [] = None
+first_of_key key k (x ∷ xs) = if same_key (key x) k then Some x else first_of_key key k xs
 
 -- the list with the item in the place of the first one of its key, or at the end where there is none
 abbrev pub put : {R : Type 0} → (R → Key) → R → List R → List R
@@ -28,4 +28,4 @@ without key k xs = filter (λ x. not (same_key (key x) k)) xs
 -- no two items have the same key
 abbrev pub IsUnique : {R : Type 0} → (R → Key) → List R → Type 0
 IsUnique key [] = Unit {0}
-IsUnique key (x ∷ xs) = (found key (key x) xs ≡ None) × IsUnique key xs
+IsUnique key (x ∷ xs) = (first_of_key key (key x) xs ≡ None) × IsUnique key xs

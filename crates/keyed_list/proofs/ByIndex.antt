@@ -4,7 +4,7 @@ use Rattle.std.proofs.Math.ListN.{set}
 use Rattle.std.proofs.lemmas.List.{length-map, get_or-map, get_or_default}
 use Rattle.std.specs.Prelude.{slice_index}
 use Rattle.std.specs.List.{insert, remove}
-use Rattle.item_keys.specs.Keys.{Key, found, put, without, IsUnique}
+use Rattle.item_keys.specs.Keys.{Key, first_of_key, put, without, IsUnique}
 use Rattle.keyed_list.specs.Index.{no_key, key_at, ranked_at, IsIndex, IsSpot, Splits, moved}
 use Rattle.keyed_list.proofs.Lists.{found_at, found_nowhere, put_at, put_end, without_at, without_none, unique_put, unique_without}
 use Rattle.keyed_list.proofs.Indexes.{splits_absent, index_more, index_less}
@@ -22,10 +22,10 @@ module _ {R : Type 0} (key : R → Key) where
 
   -- ---- look-ups
 
-  pub found_read : (k : Key) (xs : List R) (order : List ℕ) (j : ℕ) (x : R) → IsUnique key xs → IsIndex (map key xs) order → j < length order → ◌≡◌ {A = Key} (ranked_at (map key xs) order j) k → x ≡ get_or xs (slice_index order j) x → Some x ≡ found key k xs
+  pub found_read : (k : Key) (xs : List R) (order : List ℕ) (j : ℕ) (x : R) → IsUnique key xs → IsIndex (map key xs) order → j < length order → ◌≡◌ {A = Key} (ranked_at (map key xs) order j) k → x ≡ get_or xs (slice_index order j) x → Some x ≡ first_of_key key k xs
   found_read k xs order j x u ix h e r = ap Some r ∙ sym (found_at key k xs (slice_index order j) x u (place_within xs order j ix h) (key_read xs (slice_index order j) x (place_within xs order j ix h) ∙ e))
 
-  pub found_absent : (k : Key) (xs : List R) (order : List ℕ) (i : ℕ) → IsIndex (map key xs) order → Splits (map key xs) order k i i → found key k xs ≡ None
+  pub found_absent : (k : Key) (xs : List R) (order : List ℕ) (i : ℕ) → IsIndex (map key xs) order → Splits (map key xs) order k i i → first_of_key key k xs ≡ None
   found_absent k [] order i ix s = refl
   found_absent k (x ∷ xs) order i ix s = found_nowhere key k (x ∷ xs) x (λ p h e. splits_absent (map key (x ∷ xs)) order k i p ix s (let n = length-map (x ∷ xs) key in omega arith) (sym (key_read (x ∷ xs) p x h) ∙ e))
 

@@ -3,16 +3,16 @@ use Rattle.std.proofs.Common.{◌≡◌, ◌≢◌, ◌⊎◌, inl, inr, ℕ, ze
 use Rattle.std.proofs.Math.ListN.{set}
 use Rattle.std.specs.List.{remove}
 use Rattle.small_laws.proofs.Options.{none-some}
-use Rattle.item_keys.specs.Keys.{Key, same_key, found, put, without, IsUnique}
+use Rattle.item_keys.specs.Keys.{Key, same_key, first_of_key, put, without, IsUnique}
 use Rattle.keyed_list.proofs.Orders.{same_key_is, same_key_true, same_key_false, same_or_not}
 
 module _ {R : Type 0} (key : R → Key) where
   -- ---- one step, where the first item has the key and where it hasn't
 
-  pub found_here : (k : Key) (x : R) (xs : List R) → ◌≡◌ {A = Key} (key x) k → found key k (x ∷ xs) ≡ Some x
+  pub found_here : (k : Key) (x : R) (xs : List R) → ◌≡◌ {A = Key} (key x) k → first_of_key key k (x ∷ xs) ≡ Some x
   found_here k x xs e = rw (same_key_true (key x) k e)
 
-  pub found_on : (k : Key) (x : R) (xs : List R) → ¬ (◌≡◌ {A = Key} (key x) k) → found key k (x ∷ xs) ≡ found key k xs
+  pub found_on : (k : Key) (x : R) (xs : List R) → ¬ (◌≡◌ {A = Key} (key x) k) → first_of_key key k (x ∷ xs) ≡ first_of_key key k xs
   found_on k x xs e = rw (same_key_false (key x) k e)
 
   pub put_here : (r x : R) (xs : List R) → ◌≡◌ {A = Key} (key x) (key r) → put key r (x ∷ xs) ≡ r ∷ xs
@@ -29,31 +29,31 @@ module _ {R : Type 0} (key : R → Key) where
 
   -- ---- look-ups
 
-  pub not_first : (k : Key) (x : R) (xs : List R) → found key k (x ∷ xs) ≡ None → ¬ (◌≡◌ {A = Key} (key x) k)
+  pub not_first : (k : Key) (x : R) (xs : List R) → first_of_key key k (x ∷ xs) ≡ None → ¬ (◌≡◌ {A = Key} (key x) k)
   not_first k x xs h e = none-some (sym h ∙ found_here k x xs e)
 
-  pub not_later : (k : Key) (x : R) (xs : List R) → found key k (x ∷ xs) ≡ None → found key k xs ≡ None
+  pub not_later : (k : Key) (x : R) (xs : List R) → first_of_key key k (x ∷ xs) ≡ None → first_of_key key k xs ≡ None
   not_later k x xs h = sym (found_on k x xs (not_first k x xs h)) ∙ h
 
-  pub not_found : (k : Key) (x : R) (xs : List R) → ¬ (◌≡◌ {A = Key} (key x) k) → found key k xs ≡ None → found key k (x ∷ xs) ≡ None
+  pub not_found : (k : Key) (x : R) (xs : List R) → ¬ (◌≡◌ {A = Key} (key x) k) → first_of_key key k xs ≡ None → first_of_key key k (x ∷ xs) ≡ None
   not_found k x xs e h = found_on k x xs e ∙ h
 
   -- what is found has the key
-  pub found_key : (k : Key) (xs : List R) (r : R) → found key k xs ≡ Some r → ◌≡◌ {A = Key} (key r) k
+  pub found_key : (k : Key) (xs : List R) (r : R) → first_of_key key k xs ≡ Some r → ◌≡◌ {A = Key} (key r) k
   found_key k [] r h = absurd (none-some h)
   found_key k (x ∷ xs) r h = elim (same_or_not (key x) k) [
     | inl e ↦ subst (λ (y : R). ◌≡◌ {A = Key} (key y) k) (let f = found_here k x xs e in cc) e
     | inr n ↦ found_key k xs r (sym (found_on k x xs n) ∙ h)
   ]
 
-  pub found_put : (r : R) (xs : List R) → found key (key r) (put key r xs) ≡ Some r
+  pub found_put : (r : R) (xs : List R) → first_of_key key (key r) (put key r xs) ≡ Some r
   found_put r [] = found_here (key r) r [] refl
   found_put r (x ∷ xs) = elim (same_or_not (key x) (key r)) [
     | inl e ↦ rw (put_here r x xs e) (found_here (key r) r xs refl)
     | inr n ↦ rw (put_on r x xs n) (found_on (key r) x (put key r xs) n ∙ found_put r xs)
   ]
 
-  pub found_put_other : (k : Key) (r : R) (xs : List R) → ¬ (◌≡◌ {A = Key} (key r) k) → found key k (put key r xs) ≡ found key k xs
+  pub found_put_other : (k : Key) (r : R) (xs : List R) → ¬ (◌≡◌ {A = Key} (key r) k) → first_of_key key k (put key r xs) ≡ first_of_key key k xs
   found_put_other k r [] n = found_on k r [] n
   found_put_other k r (x ∷ xs) n = elim (same_or_not (key x) (key r)) [
     | inl e ↦ rw (put_here r x xs e) (found_on k r xs n ∙ sym (found_on k x xs (λ f. n (sym e ∙ f))))
@@ -63,14 +63,14 @@ module _ {R : Type 0} (key : R → Key) where
     ])
   ]
 
-  pub found_without : (k : Key) (xs : List R) → found key k (without key k xs) ≡ None
+  pub found_without : (k : Key) (xs : List R) → first_of_key key k (without key k xs) ≡ None
   found_without k [] = refl
   found_without k (x ∷ xs) = elim (same_or_not (key x) k) [
     | inl e ↦ rw (without_here k x xs e) (found_without k xs)
     | inr n ↦ rw (without_on k x xs n) (found_on k x (without key k xs) n ∙ found_without k xs)
   ]
 
-  pub found_without_other : (k j : Key) (xs : List R) → ¬ (◌≡◌ {A = Key} j k) → found key k (without key j xs) ≡ found key k xs
+  pub found_without_other : (k j : Key) (xs : List R) → ¬ (◌≡◌ {A = Key} j k) → first_of_key key k (without key j xs) ≡ first_of_key key k xs
   found_without_other k j [] n = refl
   found_without_other k j (x ∷ xs) n = elim (same_or_not (key x) j) [
     | inl e ↦ rw (without_here j x xs e) (found_without_other k j xs n ∙ sym (found_on k x xs (λ f. n (sym e ∙ f))))
@@ -80,11 +80,11 @@ module _ {R : Type 0} (key : R → Key) where
     ])
   ]
 
-  pub without_none : (k : Key) (xs : List R) → found key k xs ≡ None → without key k xs ≡ xs
+  pub without_none : (k : Key) (xs : List R) → first_of_key key k xs ≡ None → without key k xs ≡ xs
   without_none k [] h = refl
   without_none k (x ∷ xs) h = without_on k x xs (not_first k x xs h) ∙ ap (λ ys. x ∷ ys) (without_none k xs (not_later k x xs h))
 
-  pub put_end : (r : R) (xs : List R) → found key (key r) xs ≡ None → put key r xs ≡ xs ++ r ∷ []
+  pub put_end : (r : R) (xs : List R) → first_of_key key (key r) xs ≡ None → put key r xs ≡ xs ++ r ∷ []
   put_end r [] h = refl
   put_end r (x ∷ xs) h = put_on r x xs (not_first (key r) x xs h) ∙ ap (λ ys. x ∷ ys) (put_end r xs (not_later (key r) x xs h))
 
@@ -93,13 +93,13 @@ module _ {R : Type 0} (key : R → Key) where
   pub unique_put : (r : R) (xs : List R) → IsUnique key xs → IsUnique key (put key r xs)
   unique_put r [] u = (refl, tt)
   unique_put r (x ∷ xs) u = elim (same_or_not (key x) (key r)) [
-    | inl e ↦ rw (put_here r x xs e) (subst (λ (k : Key). found key k xs ≡ None) e u.0, u.1)
+    | inl e ↦ rw (put_here r x xs e) (subst (λ (k : Key). first_of_key key k xs ≡ None) e u.0, u.1)
     | inr n ↦ rw (put_on r x xs n) (found_put_other (key x) r xs (λ f. n (sym f)) ∙ u.0, unique_put r xs u.1)
   ]
 
-  still_none : (k j : Key) (xs : List R) → found key k xs ≡ None → found key k (without key j xs) ≡ None
+  still_none : (k j : Key) (xs : List R) → first_of_key key k xs ≡ None → first_of_key key k (without key j xs) ≡ None
   still_none k j xs h = elim (same_or_not j k) [
-    | inl e ↦ subst (λ (i : Key). found key k (without key i xs) ≡ None) (sym e) (found_without k xs)
+    | inl e ↦ subst (λ (i : Key). first_of_key key k (without key i xs) ≡ None) (sym e) (found_without k xs)
     | inr n ↦ found_without_other k j xs n ∙ h
   ]
 
@@ -112,14 +112,14 @@ module _ {R : Type 0} (key : R → Key) where
 
   -- ---- where the place of the key is known
 
-  pub found_at : (k : Key) (xs : List R) (p : ℕ) (d : R) → IsUnique key xs → p < length xs → ◌≡◌ {A = Key} (key (get_or xs p d)) k → found key k xs ≡ Some (get_or xs p d)
+  pub found_at : (k : Key) (xs : List R) (p : ℕ) (d : R) → IsUnique key xs → p < length xs → ◌≡◌ {A = Key} (key (get_or xs p d)) k → first_of_key key k xs ≡ Some (get_or xs p d)
   found_at k [] p d u h e = absurd (omega arith)
   found_at k (x ∷ xs) zero d u h e = found_here k x xs e
   found_at k (x ∷ xs) (suc p) d u h e =
       let later = found_at k xs p d u.1 (omega arith) e in
-      found_on k x xs (λ f. none-some (sym (subst (λ (j : Key). found key j xs ≡ None) f u.0) ∙ later)) ∙ later
+      found_on k x xs (λ f. none-some (sym (subst (λ (j : Key). first_of_key key j xs ≡ None) f u.0) ∙ later)) ∙ later
 
-  pub found_nowhere : (k : Key) (xs : List R) (d : R) → ((p : ℕ) → p < length xs → ¬ (◌≡◌ {A = Key} (key (get_or xs p d)) k)) → found key k xs ≡ None
+  pub found_nowhere : (k : Key) (xs : List R) (d : R) → ((p : ℕ) → p < length xs → ¬ (◌≡◌ {A = Key} (key (get_or xs p d)) k)) → first_of_key key k xs ≡ None
   found_nowhere k [] d h = refl
   found_nowhere k (x ∷ xs) d h = not_found k x xs (h 0 (omega arith)) (found_nowhere k xs d (λ p l. h (suc p) (omega arith)))
 
@@ -128,11 +128,11 @@ module _ {R : Type 0} (key : R → Key) where
   put_at r (x ∷ xs) zero d u h e = put_here r x xs e
   put_at r (x ∷ xs) (suc p) d u h e =
       let later = found_at (key r) xs p d u.1 (omega arith) e in
-      put_on r x xs (λ f. none-some (sym (subst (λ (j : Key). found key j xs ≡ None) f u.0) ∙ later)) ∙ ap (λ ys. x ∷ ys) (put_at r xs p d u.1 (omega arith) e)
+      put_on r x xs (λ f. none-some (sym (subst (λ (j : Key). first_of_key key j xs ≡ None) f u.0) ∙ later)) ∙ ap (λ ys. x ∷ ys) (put_at r xs p d u.1 (omega arith) e)
 
   pub without_at : (k : Key) (xs : List R) (p : ℕ) (d : R) → IsUnique key xs → p < length xs → ◌≡◌ {A = Key} (key (get_or xs p d)) k → without key k xs ≡ remove xs p
   without_at k [] p d u h e = absurd (omega arith)
-  without_at k (x ∷ xs) zero d u h e = without_here k x xs e ∙ without_none k xs (subst (λ (j : Key). found key j xs ≡ None) e u.0)
+  without_at k (x ∷ xs) zero d u h e = without_here k x xs e ∙ without_none k xs (subst (λ (j : Key). first_of_key key j xs ≡ None) e u.0)
   without_at k (x ∷ xs) (suc p) d u h e =
       let later = found_at k xs p d u.1 (omega arith) e in
-      without_on k x xs (λ f. none-some (sym (subst (λ (j : Key). found key j xs ≡ None) f u.0) ∙ later)) ∙ ap (λ ys. x ∷ ys) (without_at k xs p d u.1 (omega arith) e)
+      without_on k x xs (λ f. none-some (sym (subst (λ (j : Key). first_of_key key j xs ≡ None) f u.0) ∙ later)) ∙ ap (λ ys. x ∷ ys) (without_at k xs p d u.1 (omega arith) e)

@@ -1,7 +1,7 @@
 ghost use Rattle.std.specs.Prelude.{◌≡◌, ◌+◌, ◌<◌, ◌≤◌, [], length, OnOk, IfOk, IsTrue, ◌↔◌};
 ghost use Rattle.std.specs.List.{remove};
 ghost use Rattle.std.specs.Option.{option_copied};
-ghost use Rattle.item_keys.specs.Keys.{IsUnique, found, put, without};
+ghost use Rattle.item_keys.specs.Keys.{IsUnique, first_of_key, put, without};
 
 use crate::edits::{put_place, swap_in, take_out};
 use crate::search::{look_up, search};
@@ -79,7 +79,8 @@ impl<T: HasKey> KeyedList<T> {
 
     /// The item of the key of `wanted`.
     pub fn get<Q: HasKey>(&self, wanted: &Q) -> Option<&T>
-        ensures item { option_copied result ≡ found T.key_of (Q.key_of wanted.now) self.now.items }
+        ensures item { option_copied result
+            ≡ first_of_key T.key_of (Q.key_of wanted.now) self.now.items }
         ensures unique { IsUnique T.key_of self.now.items }
     {
         look_up(self.items.as_slice(), self.order.as_slice(), wanted)

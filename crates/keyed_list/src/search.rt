@@ -1,6 +1,6 @@
 ghost use Rattle.std.specs.Prelude.{◌≡◌, ◌<◌, length, map, Option};
 ghost use Rattle.std.specs.Option.{option_copied};
-ghost use Rattle.item_keys.specs.Keys.{IsUnique, found};
+ghost use Rattle.item_keys.specs.Keys.{IsUnique, first_of_key};
 ghost use Rattle.keyed_list.specs.Order.{key_cmp};
 ghost use Rattle.keyed_list.specs.Index.{IsIndex, IsSpot};
 
@@ -49,7 +49,7 @@ pub fn look_up<'a, T: HasKey, Q: HasKey>(
 ) -> Option<&'a T>
     requires unique { IsUnique T.key_of items.now }
     requires index { IsIndex (map T.key_of items.now) order.now }
-    ensures { option_copied result ≡ found T.key_of (Q.key_of wanted.now) items.now }
+    ensures { option_copied result ≡ first_of_key T.key_of (Q.key_of wanted.now) items.now }
 {
     match search(items, order, wanted) {
         Ok(j) => Some(&items[order[j]]),

@@ -21,7 +21,7 @@ use Rattle.plan_base.specs.WellFormed.{well_formed_text}
 use Rattle.typing_rules.specs.Typing.{IsSmall, HasType}
 use Rattle.typing_rules.specs.TypingNames.{of_list, takes, makes, kind_of, joining, listing, is_joined, is_joined_at}
 use Rattle.value_rules.specs.Rules as rules
-use Rattle.value_rules.specs.Rules.{Given, gives, raises, unfit, limited, joined, put_first, binary, found, part, first_item, later_items, of_one, primitive, printed_int, printed_host, too_large}
+use Rattle.value_rules.specs.Rules.{Given, gives, raises, unfit, limited, joined_values, put_first, binary, found_value, part, first_item, later_items, of_one, primitive, printed_int, printed_host, too_large}
 use Rattle.small_laws.proofs.Bools.{and_both, and_left}
 use Rattle.value_rules.proofs.Fitting.{list_shape}
 use Rattle.value_rules.proofs.Shapes.{Shape, shape_of, shape_at}
@@ -93,9 +93,9 @@ small_text s u small =
 joined_texts : (a b : List ℕ) → is_utf8 a ≡ true → is_utf8 b ≡ true → is_utf8 (a ++ b) ≡ true
 joined_texts a b h k = is_utf8-from_IsUtf8 (a ++ b) (IsUtf8-append a b (IsUtf8-from_is_utf8 a h) (IsUtf8-from_is_utf8 b k))
 
-joined_keeps : (t : Ty) (l : Ty-F Ty) (a b : Value) → out-Ty t ≡ l → is_joined_at l ≡ true → Shape l (out-Value a) → Shape l (out-Value b) → IsFormed a → IsFormed b → Fits t (joined (out-Value a) (out-Value b)) → Keeps (joined (out-Value a) (out-Value b))
+joined_keeps : (t : Ty) (l : Ty-F Ty) (a b : Value) → out-Ty t ≡ l → is_joined_at l ≡ true → Shape l (out-Value a) → Shape l (out-Value b) → IsFormed a → IsFormed b → Fits t (joined_values (out-Value a) (out-Value b)) → Keeps (joined_values (out-Value a) (out-Value b))
 joined_keeps t Ty-F.Str a b o e (s, d) (r, f) h k fits =
-    subst (λ x. Keeps (joined x (out-Value b))) (sym d) (subst (λ x. Keeps (joined (Value-F.Str s) x)) (sym f)
+    subst (λ x. Keeps (joined_values x (out-Value b))) (sym d) (subst (λ x. Keeps (joined_values (Value-F.Str s) x)) (sym f)
     (limited_keeps (value.Str (s ++ r)) (small_text (s ++ r) (joined_texts s r (text_valid s (shape_level a (Value-F.Str s) d h)) (text_valid r (shape_level b (Value-F.Str r) f k))))))
 joined_keeps t Ty-F.Blob a b o e i j h k fits = plain t Ty-F.Blob o refl _ fits
 joined_keeps t Ty-F.Int a b o e i j h k fits = cc
@@ -153,13 +153,13 @@ put op.Ge a b u e h f g d = cc
 
 -- ---- parts
 
-found_keeps : (vs : List Value) (i : ℕ) → AllFormed vs → Keeps (found (slice_get vs i))
+found_keeps : (vs : List Value) (i : ℕ) → AllFormed vs → Keeps (found_value (slice_get vs i))
 found_keeps [] i h = tt
 found_keeps (v ∷ vs) zero h = λ _. h.0
 found_keeps (v ∷ vs) (suc i) h = found_keeps vs i h.1
 
 part_keeps : (i : ℕ) (ts : List Ty) (v : Value) → Shape (Ty-F.Tuple ts) (out-Value v) → IsFormed v → Keeps (rules.part_of i (out-Value v))
-part_keeps i ts v (vs, d, h) f = subst (λ x. Keeps (rules.part_of i x)) (sym d) (choose (i == 0) unfit (found (slice_get vs (i - 1))) tt (found_keeps vs (i - 1) (parts_formed v vs d f)))
+part_keeps i ts v (vs, d, h) f = subst (λ x. Keeps (rules.part_of i x)) (sym d) (choose (i == 0) unfit (found_value (slice_get vs (i - 1))) tt (found_keeps vs (i - 1) (parts_formed v vs d f)))
 
 pub taken : (i : ℕ) (v : Value) (ts : List Ty) → HasType v (ty.Tuple ts) → IsFormed v → Keeps (part i v)
 unfolding part

@@ -195,13 +195,13 @@ if_agrees : (b : Bool) (t : Ty) (v : Value) → Good t v → Agrees (if b then S
 if_agrees true t v h = h
 if_agrees false t v h = tt
 
-found : (x : Name) (c : List Param) (env : Env) → HasEnv c env → Agrees (binding x c) (value_of x env)
-found x [] [] h = tt
-found x (p ∷ c) (b ∷ env) h =
-    or_agrees (binding x c) _ (value_of x env) _ (found x c env h.2)
+bindings_agree : (x : Name) (c : List Param) (env : Env) → HasEnv c env → Agrees (binding x c) (value_of x env)
+bindings_agree x [] [] h = tt
+bindings_agree x (p ∷ c) (b ∷ env) h =
+    or_agrees (binding x c) _ (value_of x env) _ (bindings_agree x c env h.2)
     (subst (λ n. Agrees (if bytes_eq p.name x then Some p.ty else None) (if bytes_eq n x then Some b.value else None)) h.0 (if_agrees (bytes_eq p.name x) p.ty b.value h.1))
-found x [] (b ∷ env) h = absurd h
-found x (p ∷ c) [] h = absurd h
+bindings_agree x [] (b ∷ env) h = absurd h
+bindings_agree x (p ∷ c) [] h = absurd h
 
 agreed : (t : Ty) (o : Option Ty) (w : Option Value) → o ≡ Some t → Agrees o w → (v : Value) × (w ≡ Some v) × Good t v
 agreed t (Some u) (Some v) e h = let same : u ≡ t = cc in (v, refl, subst (λ x. Good x v) same h)
@@ -486,7 +486,7 @@ module _ (limit : ℕ) where
       pub expr_halts : {seen : ℕ} {c : List Param} {e : Expr} {t : Ty} → HasTy code seen c e t → formed_expr e ≡ true → CallsHalt code seen → (env : Env) → HasEnv c env → Halts limit (Good t) (meaning code seen env e)
       expr_halts {seen = seen} {e = e} {t = t} (literal o) w q env h = rolled code seen env e _ t refl (literal_good code seen env (out-Expr e) t o (level_formed e (out-Expr e) refl w))
       expr_halts {seen = seen} {c = c} {e = e} {t = t} (variable x o k) w q env h =
-          let n = agreed t (binding x c) (value_of x env) k (found x c env h) in
+          let n = agreed t (binding x c) (value_of x env) k (bindings_agree x c env h) in
           rolled code seen env e _ t o (known_halts limit (Mild t) (value_of x env) n.0 n.1 (λ _. (n.2.typed, formed_of n.0 n.2.formed)))
       expr_halts {seen = seen} {e = e} {t = t} (empty u o k s) w q env h =
           rolled code seen env e _ t o (pure_halts limit (Mild t) (value.List u []) (λ _. (list u [] (value.outs-List u []) k no_items, form.empty_list u t k s (level_formed e (Expr-F.Nil (Some u)) o w))))

@@ -198,9 +198,9 @@ fn bodies(alloc: Global, code: &Program, mut all: &[Fun]) -> Result<(Funs, u32),
 }
 
 /// The program, unless its code is too large.
-#[tactic(auto, unfolding(typing_rules::specs::TypingOrder::sized))]
+#[tactic(auto, unfolding(typing_rules::specs::TypingOrder::sized_program))]
 fn sized(code: Program) -> Result<Program, TypeFault>
-    ensures { result ≡ spec.sized code }
+    ensures { result ≡ spec.sized_program code }
 {
     if code_size(&code) <= MAX_CODE {
         Ok(code)

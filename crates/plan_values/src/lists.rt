@@ -26,7 +26,7 @@ fn limited(alloc: Global, v: Value) -> Result<Value, PrimFault>
 /// `a ^ b`: two strings or two blobs, joined.
 #[tactic(auto, using(plan_base::specs::Trees::trees))]
 pub fn joined(alloc: Global, a: &Value, b: &Value) -> Result<Value, PrimFault>
-    ensures { Answers (rules.joined (out-Value a.now) (out-Value b.now)) result }
+    ensures { Answers (rules.joined_values (out-Value a.now) (out-Value b.now)) result }
 {
     match a {
         Value::Str(x) => match b {

@@ -51,7 +51,7 @@ fn same(a: &Value, b: &Value) -> bool
 }
 
 fn answer(before: Option<bool>) -> Result<Value, PrimFault>
-    ensures { Answers (rules.answered (λ r. r) before) result }
+    ensures { Answers (rules.answered_truth (λ r. r) before) result }
 {
     match before {
         Some(b) => Ok(Value::Bool(b)),
@@ -60,7 +60,7 @@ fn answer(before: Option<bool>) -> Result<Value, PrimFault>
 }
 
 fn negated(before: Option<bool>) -> Result<Value, PrimFault>
-    ensures { Answers (rules.answered not before) result }
+    ensures { Answers (rules.answered_truth not before) result }
 {
     match before {
         Some(b) => Ok(Value::Bool(!b)),

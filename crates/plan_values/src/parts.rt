@@ -43,7 +43,7 @@ fn part_at(alloc: Global, i: u8, parts: &Values) -> Result<Value, PrimFault>
 }
 
 fn copied(alloc: Global, v: Option<&Value>) -> Result<Value, PrimFault>
-    ensures { Answers (rules.found (option_copied v.entry)) result }
+    ensures { Answers (rules.found_value (option_copied v.entry)) result }
 {
     match v {
         Some(v) => Ok(v.copy(alloc)?),

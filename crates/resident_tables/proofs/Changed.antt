@@ -1,7 +1,7 @@
 -- A layer of changes after one change more, and what is found in it.
 use Rattle.std.proofs.Common.{◌≡◌, ◌⊎◌, inl, inr, ℕ, Bool, true, false, List, [], ◌∷◌, ◌++◌, length, Option, Some, None, refl, sym, ap, ◌∙◌, subst, arith}
 use Rattle.small_laws.proofs.Options.{none-some, some-same}
-use Rattle.item_keys.specs.Keys.{Key, found, put, without, IsUnique}
+use Rattle.item_keys.specs.Keys.{Key, first_of_key, put, without, IsUnique}
 use Rattle.keyed_list.proofs.Orders.{same_or_not}
 use Rattle.keyed_list.proofs.Lists.{found_here, found_on, found_put, found_put_other, found_without, found_without_other, put_here, put_on, put_end, without_here, without_on, without_none, unique_put, unique_without, not_first, not_later}
 use Rattle.table_rows.specs.declared.row.Row.{Row}
@@ -33,11 +33,11 @@ pub still_none_all : (k : Key) (gone : List Gone) (rows : List Row) → found_ro
 still_none_all k [] rows h = h
 still_none_all k (g ∷ gs) rows h = still_none_all k gs (without_row (gone_key g) rows) (still_none k (gone_key g) rows h)
 
-pub found_not_gone : (k : Key) (gone : List Gone) (rows : List Row) → found gone_key k gone ≡ None → found_row k (without_all gone rows) ≡ found_row k rows
+pub found_not_gone : (k : Key) (gone : List Gone) (rows : List Row) → first_of_key gone_key k gone ≡ None → found_row k (without_all gone rows) ≡ found_row k rows
 found_not_gone k [] rows h = refl
 found_not_gone k (g ∷ gs) rows h = found_not_gone k gs (without_row (gone_key g) rows) (not_later gone_key k g gs h) ∙ found_without_other row_key k (gone_key g) rows (not_first gone_key k g gs h)
 
-pub found_all_gone : (k : Key) (gone : List Gone) (rows : List Row) (g : Gone) → found gone_key k gone ≡ Some g → found_row k (without_all gone rows) ≡ None
+pub found_all_gone : (k : Key) (gone : List Gone) (rows : List Row) (g : Gone) → first_of_key gone_key k gone ≡ Some g → found_row k (without_all gone rows) ≡ None
 found_all_gone k [] rows g h = absurd (none-some h)
 found_all_gone k (x ∷ xs) rows g h = elim (same_or_not (gone_key x) k) [
   | inl e ↦ still_none_all k xs (without_row (gone_key x) rows) (subst (λ (j : Key). found_row k (without_row j rows) ≡ None) (sym e) (found_without row_key k rows))

@@ -3,7 +3,7 @@ use Rattle.std.proofs.Common.{◌≡◌, ℕ, ℤ, ◌+◌, ◌-◌, ◌≤◌, 
 use Rattle.std.specs.Prelude.{◌&&◌, nat_le}
 use Rattle.std.proofs.lemmas.Bool.Decides.{nat_tests}
 use Rattle.small_laws.proofs.Bools.{and_left, and_right, and_both}
-use Rattle.item_keys.specs.Keys.{Key, found, put, without, IsUnique}
+use Rattle.item_keys.specs.Keys.{Key, first_of_key, put, without, IsUnique}
 use Rattle.keyed_list.proofs.Lists.{put_end, without_none}
 use Rattle.table_rows.specs.declared.row.Row.{Row}
 use Rattle.table_rows.specs.Rows.{row_key, row_size, put_row, without_row, found_row, fits}
@@ -23,10 +23,10 @@ module _ (k : Key) (puts : List Row) (gone : List Gone) (base : List Row) where
   pub find_put : (r : Row) → IsUnique row_key puts → Some r ≡ found_row k puts → Some r ≡ found_row k (put_all puts (without_all gone base))
   find_put r u h = sym (found_all_some k puts (without_all gone base) r u (sym h))
 
-  pub find_gone : (g : Gone) → None ≡ found_row k puts → Some g ≡ found gone_key k gone → None ≡ found_row k (put_all puts (without_all gone base))
+  pub find_gone : (g : Gone) → None ≡ found_row k puts → Some g ≡ first_of_key gone_key k gone → None ≡ found_row k (put_all puts (without_all gone base))
   find_gone g h e = sym (found_all_none k puts (without_all gone base) (sym h) ∙ found_all_gone k gone base g (sym e))
 
-  pub find_base : (o : Option Row) → None ≡ found_row k puts → None ≡ found gone_key k gone → o ≡ found_row k base → o ≡ found_row k (put_all puts (without_all gone base))
+  pub find_base : (o : Option Row) → None ≡ found_row k puts → None ≡ first_of_key gone_key k gone → o ≡ found_row k base → o ≡ found_row k (put_all puts (without_all gone base))
   find_base o h e f = f ∙ sym (found_all_none k puts (without_all gone base) (sym h) ∙ found_not_gone k gone base (sym e))
 
   pub unique_over : IsUnique row_key base → IsUnique row_key (put_all puts (without_all gone base))
@@ -37,22 +37,22 @@ module _ (k : Key) (puts : List Row) (gone : List Gone) (base : List Row) where
 pub forget_absent : (k : Key) (gone : List Gone) (base : List Row) → None ≡ found_row k base → without_all gone base ≡ without_row k (without_all gone base)
 forget_absent k gone base h = sym (without_none row_key k (without_all gone base) (still_none_all k gone base (sym h)))
 
-pub forget_noted : (k : Key) (gone : List Gone) (base : List Row) (g : Gone) → Some g ≡ found gone_key k gone → without_all gone base ≡ without_row k (without_all gone base)
+pub forget_noted : (k : Key) (gone : List Gone) (base : List Row) (g : Gone) → Some g ≡ first_of_key gone_key k gone → without_all gone base ≡ without_row k (without_all gone base)
 forget_noted k gone base g h = sym (without_none row_key k (without_all gone base) (found_all_gone k gone base g (sym h)))
 
 -- a key by its parts
 pub key_named : (y z : ℤ) (m n : List ℕ) → y ≡ z → m ≡ n → ◌≡◌ {A = Key} (record { name = m; number = y }) (record { name = n; number = z })
 key_named y z m n f e = λ i. record { name = e i; number = f i }
 
-forget_one : (g : Gone) (gone new : List Gone) (base : List Row) → None ≡ found gone_key (gone_key g) gone → new ≡ put gone_key g gone → without_all new base ≡ without_row (gone_key g) (without_all gone base)
+forget_one : (g : Gone) (gone new : List Gone) (base : List Row) → None ≡ first_of_key gone_key (gone_key g) gone → new ≡ put gone_key g gone → without_all new base ≡ without_row (gone_key g) (without_all gone base)
 forget_one g gone new base h e = ap (λ gs. without_all gs base) (e ∙ put_end gone_key g gone (sym h)) ∙ without_more g gone base
 
 pub forget_new : (y z : ℤ) (name wanted : List ℕ) (gone mid new : List Gone) (base : List Row) → y ≡ z → name ≡ wanted → mid ≡ gone
-    → None ≡ found gone_key (record { name = wanted; number = z }) gone → new ≡ put gone_key (record { name = name; key = y }) mid
+    → None ≡ first_of_key gone_key (record { name = wanted; number = z }) gone → new ≡ put gone_key (record { name = name; key = y }) mid
     → without_all new base ≡ without_row (record { name = wanted; number = z }) (without_all gone base)
 forget_new y z name wanted gone mid new base y-is e f h g =
     let k = key_named y z name wanted y-is e in
-    forget_one (record { name = name; key = y }) gone new base (h ∙ ap (λ (j : Key). found gone_key j gone) (sym k)) (g ∙ ap (put gone_key (record { name = name; key = y })) f)
+    forget_one (record { name = name; key = y }) gone new base (h ∙ ap (λ (j : Key). first_of_key gone_key j gone) (sym k)) (g ∙ ap (put gone_key (record { name = name; key = y })) f)
     ∙ ap (λ (j : Key). without_row j (without_all gone base)) k
 
 pub removed_over : (k : Key) (puts later : List Row) (gone new : List Gone) (base : List Row) → without_all new base ≡ without_row k (without_all gone base) → later ≡ without_row k puts → put_all later (without_all new base) ≡ without_row k (put_all puts (without_all gone base))

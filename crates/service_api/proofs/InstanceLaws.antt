@@ -12,7 +12,7 @@ use Rattle.plan_base.proofs.SameTypes.{same_type_true, same_type_of}
 use Rattle.service_api.specs.declared.scheme.SchemeTy.{SchemeTy}
 use Rattle.service_api.specs.declared.scheme.SchemeTy.TheVariants.{Any, Is}
 use Rattle.service_api.specs.declared.scheme.Scheme.{Scheme}
-use Rattle.service_api.specs.Schemes.{stands_for, AllStandFor, is_any, has_any, IsInstance, taken_by, taken_among, or_unit, taken, same_all, tests_instance, instance}
+use Rattle.service_api.specs.Schemes.{stands_for, AllStandFor, is_any, has_any, IsInstance, taken_by, taken_among, or_unit, any_type, same_all, tests_instance, instance}
 
 same_stand : (a : Ty) (ss : List SchemeTy) (ts : List Ty) → same_all a ss ts ≡ true → AllStandFor a ss ts
 same_stand a [] [] e = tt
@@ -42,16 +42,16 @@ neither : (a b : Bool) → (a || b) ≡ false → (a ≡ false) × (b ≡ false)
 neither true b e = absurd (true≢false e)
 neither false b e = (refl, e)
 
-taken_unit : (scheme : Scheme) (svc : Svc) → has_any scheme ≡ false → taken scheme svc ≡ type.Unit
-unfolding taken
+taken_unit : (scheme : Scheme) (svc : Svc) → has_any scheme ≡ false → any_type scheme svc ≡ type.Unit
+unfolding any_type
 taken_unit scheme svc e =
     let n = neither (list_any is_any scheme.params) (is_any scheme.result) e in
     ap or_unit (untaken scheme.params svc.params (taken_by scheme.result svc.result None) n.0 ∙ untaken_last scheme.result svc.result n.1)
 
-tested : (scheme : Scheme) (svc : Svc) (a : Ty) (b : Bool) → tests_instance scheme svc (taken scheme svc) ≡ b → (if b then Some (taken scheme svc) else None) ≡ Some a → IsInstance scheme svc a
+tested : (scheme : Scheme) (svc : Svc) (a : Ty) (b : Bool) → tests_instance scheme svc (any_type scheme svc) ≡ b → (if b then Some (any_type scheme svc) else None) ≡ Some a → IsInstance scheme svc a
 tested scheme svc a false d e = absurd (none-some e)
 tested scheme svc a true d e =
-    let w = taken scheme svc in
+    let w = any_type scheme svc in
     let last = same_type svc.result (stands_for w scheme.result) in
     subst (λ x. IsInstance scheme svc x) (some-same e) (record {
       params = same_stand w scheme.params svc.params (and_left (same_all w scheme.params svc.params) last d);
@@ -61,7 +61,7 @@ tested scheme svc a true d e =
 
 pub found_is : (scheme : Scheme) (svc : Svc) (a : Ty) → instance scheme svc ≡ Some a → IsInstance scheme svc a
 unfolding instance
-found_is scheme svc a e = tested scheme svc a (tests_instance scheme svc (taken scheme svc)) refl e
+found_is scheme svc a e = tested scheme svc a (tests_instance scheme svc (any_type scheme svc)) refl e
 
 -- `Any` takes the type that stands for it, or there is none
 took : (a : Ty) (ss : List SchemeTy) (ts : List Ty) (later : Option Ty) → AllStandFor a ss ts → (taken_among ss ts later ≡ Some a) ⊎ ((list_any is_any ss ≡ false) × (taken_among ss ts later ≡ later))
@@ -75,8 +75,8 @@ took_last : (a : Ty) (s : SchemeTy) (t : Ty) → t ≡ stands_for a s → (is_an
 took_last a Any t e k = e
 took_last a (Is u) t e k = sym (k refl)
 
-taken_is : (scheme : Scheme) (svc : Svc) (a : Ty) → IsInstance scheme svc a → taken scheme svc ≡ a
-unfolding taken
+taken_is : (scheme : Scheme) (svc : Svc) (a : Ty) → IsInstance scheme svc a → any_type scheme svc ≡ a
+unfolding any_type
 taken_is scheme svc a h =
     ⊎_elim (λ e. ap or_unit e)
     (λ n. ap or_unit n.1 ∙ took_last a scheme.result svc.result h.result (λ m. h.unit (λ i. n.0 i || m i)))
@@ -87,14 +87,14 @@ unfolding instance
 is_found scheme svc a h =
     let t = taken_is scheme svc a h in
     let passes = and_both (same_all a scheme.params svc.params) (same_type svc.result (stands_for a scheme.result)) (stand_same a scheme.params svc.params h.params) (same_type_of svc.result (stands_for a scheme.result) h.result) in
-    let e : tests_instance scheme svc (taken scheme svc) ≡ true = subst (λ x. tests_instance scheme svc x ≡ true) (sym t) passes in
-    (λ i. if e i then Some (taken scheme svc) else None) ∙ ap Some t
+    let e : tests_instance scheme svc (any_type scheme svc) ≡ true = subst (λ x. tests_instance scheme svc x ≡ true) (sym t) passes in
+    (λ i. if e i then Some (any_type scheme svc) else None) ∙ ap Some t
 
 pub instance_exact : (scheme : Scheme) (svc : Svc) (o : Option Ty) → o ≡ instance scheme svc → (a : Ty) → (o ≡ Some a) ↔ IsInstance scheme svc a
 instance_exact scheme svc o e a = (λ h. found_is scheme svc a (sym e ∙ h), λ h. e ∙ is_found scheme svc a h)
 
-pub some_found : (scheme : Scheme) (svc : Svc) (w : Ty) → w ≡ taken scheme svc → tests_instance scheme svc w ≡ true → Some w ≡ instance scheme svc
+pub some_found : (scheme : Scheme) (svc : Svc) (w : Ty) → w ≡ any_type scheme svc → tests_instance scheme svc w ≡ true → Some w ≡ instance scheme svc
 unfolding instance
 some_found scheme svc w e h =
-    let shows : tests_instance scheme svc (taken scheme svc) ≡ true = subst (λ x. tests_instance scheme svc x ≡ true) e h in
-    ap Some e ∙ sym (λ i. if shows i then Some (taken scheme svc) else None)
+    let shows : tests_instance scheme svc (any_type scheme svc) ≡ true = subst (λ x. tests_instance scheme svc x ≡ true) e h in
+    ap Some e ∙ sym (λ i. if shows i then Some (any_type scheme svc) else None)

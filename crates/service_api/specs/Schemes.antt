@@ -49,8 +49,8 @@ or_unit (Some t) = t
 or_unit None = type.Unit
 
 -- the type that the declaration has for `Any`, unit where the row has none
-unfoldable pub taken : Scheme → Svc → Ty
-taken scheme svc = or_unit (taken_among scheme.params svc.params (taken_by scheme.result svc.result None))
+unfoldable pub any_type : Scheme → Svc → Ty
+any_type scheme svc = or_unit (taken_among scheme.params svc.params (taken_by scheme.result svc.result None))
 
 abbrev pub same_all : Ty → List SchemeTy → List Ty → Bool
 same_all a [] [] = true
@@ -62,7 +62,7 @@ tests_instance scheme svc a = same_all a scheme.params svc.params && same_type s
 
 -- the type taken by `Any`, unit where there is none; None where the declaration is no instance
 unfoldable pub instance : Scheme → Svc → Option Ty
-instance scheme svc = if tests_instance scheme svc (taken scheme svc) then Some (taken scheme svc) else None
+instance scheme svc = if tests_instance scheme svc (any_type scheme svc) then Some (any_type scheme svc) else None
 
 -- whether the declaration is an instance of the type that is there
 abbrev pub is_instance_of : Option Scheme → Svc → Bool

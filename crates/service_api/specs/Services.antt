@@ -144,13 +144,13 @@ IsGoodServe serve = (svc : Svc) (args : List Value) (ctx : Ctx) (rows : Rows) �
     → IsGoodServed svc (serve svc args ctx rows)
 
 -- `NoService`, with the rows as they were
-abbrev pub refused : Rows → Served
-refused rows = record { answer = Raises no_service; rows = rows }
+abbrev pub refused_call : Rows → Served
+refused_call rows = record { answer = Raises no_service; rows = rows }
 
 -- a declaration of a name that isn't offered, or that is no instance of the type of its name, is refused
 abbrev pub RefusesOthers : Offer → Type 0
 RefusesOthers offer = (svc : Svc) (args : List Value) (ctx : Ctx) (rows : Rows) → is_instance_of (offer.scheme svc.name) svc ≡ false
-    → offer.serve svc args ctx rows ≡ refused rows
+    → offer.serve svc args ctx rows ≡ refused_call rows
 
 -- what a visit may rely on
 pub record IsGood (n : ServiceState) : Type 0 where

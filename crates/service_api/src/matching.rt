@@ -74,9 +74,9 @@ fn tests_instance(scheme: &Scheme, svc: &Svc, a: &Ty) -> bool
 }
 
 /// The type that a declared service has for `Any`, or unit where the row has none.
-#[tactic(auto, unfolding(crate::specs::Schemes::taken))]
+#[tactic(auto, unfolding(crate::specs::Schemes::any_type))]
 fn taken(alloc: Global, scheme: &Scheme, svc: &Svc) -> Result<Ty, NoMemory>
-    ensures { IfOk result (λ t. t ≡ spec.taken scheme.now svc.now) }
+    ensures { IfOk result (λ t. t ≡ spec.any_type scheme.now svc.now) }
 {
     let later = taken_by(&scheme.result, &svc.result, None);
     match taken_among(scheme.params.as_slice(), svc.params.as_slice(), later) {

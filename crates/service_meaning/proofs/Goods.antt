@@ -24,7 +24,7 @@ use Rattle.service_api.specs.declared.scheme.SchemeTy.{SchemeTy}
 use Rattle.service_api.specs.declared.scheme.SchemeTy.TheVariants.{Any, Is}
 use Rattle.service_api.specs.Routes.{hop, default_route}
 use Rattle.service_api.specs.Schemes.{instance, AllStandFor, IsInstance, stands_for}
-use Rattle.service_api.specs.Services.{Rows, Served, IsGoodServe, IsGoodServed, IsGoodValue, AreGoodValues, AreGoodRows, IsGoodOptionNote, MayRaise, own_exceptions, exceptions_among, refused}
+use Rattle.service_api.specs.Services.{Rows, Served, IsGoodServe, IsGoodServed, IsGoodValue, AreGoodValues, AreGoodRows, IsGoodOptionNote, MayRaise, own_exceptions, exceptions_among, refused_call}
 use Rattle.service_api.proofs.InstanceLaws.{found_is}
 use Rattle.service_meaning.specs.declared.service.Service.{Service}
 use Rattle.service_meaning.specs.declared.service.Service.TheVariants as service
@@ -44,7 +44,7 @@ raises_of : (svc : Svc) (name : List ℕ) (x : Exn) → svc.name ≡ name → Co
 raises_of svc name x e h = subst (λ n. Contains (no_service ∷ exceptions_among own_exceptions n) x) (sym e) h
 
 module _ (svc : Svc) (rows : Rows) (gr : AreGoodRows rows) where
-  refused_good : IsGoodServed svc (refused rows)
+  refused_good : IsGoodServed svc (refused_call rows)
   refused_good = record { answer = may_refuse svc; rows = gr }
 
   given_good : (t : Ty) (v : Value) → svc.result ≡ t → IsGoodValue t v → IsGoodServed svc (given v rows)

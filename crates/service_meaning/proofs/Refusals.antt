@@ -8,16 +8,16 @@ use Rattle.plan_base.specs.declared.tree.Ty.{Ty}
 use Rattle.plan_base.specs.declared.tree.Value.{Value}
 use Rattle.service_api.specs.declared.ctx.Ctx.{Ctx}
 use Rattle.service_api.specs.Schemes.{instance, is_instance_of}
-use Rattle.service_api.specs.Services.{Rows, RefusesOthers, refused}
+use Rattle.service_api.specs.Services.{Rows, RefusesOthers, refused_call}
 use Rattle.service_meaning.specs.declared.service.Service.{Service}
 use Rattle.service_meaning.specs.Offered.{InstalledPackages, name_of, service_named, all_services, if_there, is_there, package_of, offered, type_of, type_offered}
 use Rattle.service_meaning.specs.Serving.{serve_at, serve_offered, serve, offer}
 
-refused_at : (t : Option Ty) (s : Service) (args : List Value) (ctx : Ctx) (rows : Rows) → is_some t ≡ false → serve_at t s args ctx rows ≡ refused rows
+refused_at : (t : Option Ty) (s : Service) (args : List Value) (ctx : Ctx) (rows : Rows) → is_some t ≡ false → serve_at t s args ctx rows ≡ refused_call rows
 refused_at None s args ctx rows e = refl
 refused_at (Some a) s args ctx rows e = cc
 
-refused_offered : (o : Option Service) (svc : Svc) (args : List Value) (ctx : Ctx) (rows : Rows) → is_instance_of (type_offered o) svc ≡ false → serve_offered o svc args ctx rows ≡ refused rows
+refused_offered : (o : Option Service) (svc : Svc) (args : List Value) (ctx : Ctx) (rows : Rows) → is_instance_of (type_offered o) svc ≡ false → serve_offered o svc args ctx rows ≡ refused_call rows
 refused_offered None svc args ctx rows e = refl
 refused_offered (Some s) svc args ctx rows e = refused_at (instance (type_of s) svc) s args ctx rows e
 

@@ -20,7 +20,7 @@ use Rattle.service_api.specs.declared.router.RouteRow.{RouteRow}
 use Rattle.service_api.specs.declared.router.Hop.{Hop}
 use Rattle.service_api.specs.declared.router.Hop.TheVariants.{To, NoService, NoRoute}
 use Rattle.service_api.specs.Routes.{hop, default_route}
-use Rattle.service_api.specs.Services.{Rows, Served, refused}
+use Rattle.service_api.specs.Services.{Rows, Served, refused_call}
 use Rattle.service_meaning.specs.declared.service.Service.{Service}
 use Rattle.service_meaning.specs.declared.service.Service.TheVariants as service
 use Rattle.service_meaning.specs.Offered.{hop_type}
@@ -49,31 +49,31 @@ raised x rows = record { answer = Raises x; rows = rows }
 
 abbrev pub without_arguments : Served → List Value → Rows → Served
 without_arguments s [] rows = s
-without_arguments s (_ ∷ _) rows = refused rows
+without_arguments s (_ ∷ _) rows = refused_call rows
 
 abbrev pub of_one : (Value → Served) → List Value → Rows → Served
 of_one f (v ∷ []) rows = f v
-of_one f _ rows = refused rows
+of_one f _ rows = refused_call rows
 
 abbrev pub of_two : (Value → Value → Served) → List Value → Rows → Served
 of_two f (v ∷ w ∷ []) rows = f v w
-of_two f _ rows = refused rows
+of_two f _ rows = refused_call rows
 
 abbrev pub of_four : (Value → Value → Value → Value → Served) → List Value → Rows → Served
 of_four f (v ∷ w ∷ x ∷ y ∷ []) rows = f v w x y
-of_four f _ rows = refused rows
+of_four f _ rows = refused_call rows
 
 abbrev pub of_host : (Host → Served) → ValueLayer → Rows → Served
 of_host f (Value-F.Host h) rows = f h
-of_host f _ rows = refused rows
+of_host f _ rows = refused_call rows
 
 abbrev pub of_int : (ℤ → Served) → ValueLayer → Rows → Served
 of_int f (Value-F.Int z) rows = f z
-of_int f _ rows = refused rows
+of_int f _ rows = refused_call rows
 
 abbrev pub of_text : (List ℕ → Served) → ValueLayer → Rows → Served
 of_text f (Value-F.Str s) rows = f s
-of_text f _ rows = refused rows
+of_text f _ rows = refused_call rows
 
 abbrev pub key_of : List ℕ → ℤ → Key
 key_of name number = record { name = name; number = number }

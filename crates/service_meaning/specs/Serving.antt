@@ -6,18 +6,18 @@ use Rattle.plan_base.specs.declared.tree.Ty.{Ty}
 use Rattle.plan_base.specs.declared.tree.Value.{Value}
 use Rattle.service_api.specs.declared.ctx.Ctx.{Ctx}
 use Rattle.service_api.specs.Schemes.{instance}
-use Rattle.service_api.specs.Services.{Rows, Served, Offer, refused}
+use Rattle.service_api.specs.Services.{Rows, Served, Offer, refused_call}
 use Rattle.service_meaning.specs.declared.service.Service.{Service}
 use Rattle.service_meaning.specs.Offered.{InstalledPackages, offered, scheme_of, type_of}
 use Rattle.service_meaning.specs.Answers.{serve_as}
 
 abbrev pub serve_at : Option Ty → Service → List Value → Ctx → Rows → Served
 serve_at (Some a) s args ctx rows = serve_as s a args ctx rows
-serve_at None s args ctx rows = refused rows
+serve_at None s args ctx rows = refused_call rows
 
 abbrev pub serve_offered : Option Service → Svc → List Value → Ctx → Rows → Served
 serve_offered (Some s) svc args ctx rows = serve_at (instance (type_of s) svc) s args ctx rows
-serve_offered None svc args ctx rows = refused rows
+serve_offered None svc args ctx rows = refused_call rows
 
 -- what a call means where these packages are there
 unfoldable pub serve : InstalledPackages → Svc → List Value → Ctx → Rows → Served

@@ -6,7 +6,7 @@ use Rattle.plan_base.specs.declared.tree.Value.TheOpen.{Value-F}
 use Rattle.plan_base.specs.Trees.{ValueLayer}
 use Rattle.table_rows.specs.declared.row.Row.{Row}
 use Rattle.service_api.specs.declared.answer.Answer.{Answer}
-use Rattle.service_api.specs.Services.{Rows, Served, refused}
+use Rattle.service_api.specs.Services.{Rows, Served, refused_call}
 use Rattle.service_meaning.specs.Answers.{without_arguments, of_two, of_int, of_text}
 use Rattle.service_registry.specs.Arguments.{int_in, text_in}
 use Rattle.service_registry.specs.Meets.{Meets}
@@ -14,7 +14,7 @@ use Rattle.service_registry.specs.Meets.{Meets}
 -- the answer at an argument that is there, and else a refusal
 abbrev pub taken_argument : (A : Type 0) → (A → Served) → Option A → Rows → Served
 taken_argument A f (Some a) rows = f a
-taken_argument A f None rows = refused rows
+taken_argument A f None rows = refused_call rows
 
 module _ (rows : Rows) where
   int_taken : (f : ℤ → Served) (l : ValueLayer) → of_int f l rows ≡ taken_argument ℤ f (int_in l) rows
@@ -51,7 +51,7 @@ module _ (rows : Rows) where
 
 -- ---- how many arguments there are
 
-pub some_refused : (s : Served) (args : List Value) (rows : Rows) → 1 ≤ length args → without_arguments s args rows ≡ refused rows
+pub some_refused : (s : Served) (args : List Value) (rows : Rows) → 1 ≤ length args → without_arguments s args rows ≡ refused_call rows
 some_refused s [] rows h = absurd (omega arith)
 some_refused s (x ∷ xs) rows h = refl
 
@@ -85,7 +85,7 @@ abbrev pub Named : (List ℕ → ℤ → Served) → Rows → List Value → Ser
 Named f rows args = of_two (λ n k. of_text (λ name. of_int (f name) (out-Value k) rows) (out-Value n) rows) args rows
 
 module _ (f : List ℕ → ℤ → Served) (rows : Rows) where
-  pub named_other : (args : List Value) → (length args ≡ 2 → ⊥) → Named f rows args ≡ refused rows
+  pub named_other : (args : List Value) → (length args ≡ 2 → ⊥) → Named f rows args ≡ refused_call rows
   named_other [] h = refl
   named_other (x ∷ []) h = refl
   named_other (x ∷ y ∷ []) h = absurd (h refl)

@@ -12,7 +12,7 @@ use Rattle.resident_tables.specs.Tables.{Table}
 use Rattle.resident_tables.specs.Layers.{Layer}
 use Rattle.service_api.specs.declared.answer.Answer.{Answer}
 use Rattle.service_api.specs.declared.ctx.Ctx.{Ctx}
-use Rattle.service_api.specs.Services.{Rows, Served, IsGoodValue, AreGoodRows, AreGoodValues, refused}
+use Rattle.service_api.specs.Services.{Rows, Served, IsGoodValue, AreGoodRows, AreGoodValues, refused_call}
 use Rattle.service_api.specs.Schemes.{instance}
 use Rattle.service_meaning.specs.declared.service.Service.{Service}
 use Rattle.service_meaning.specs.Offered.{InstalledPackages, offered, type_of}
@@ -24,7 +24,7 @@ use Rattle.service_registry.specs.Meets.{Meets}
 
 -- ---- a call
 
-pub served_none : (p : InstalledPackages) (svc : Svc) (args : List Value) (ctx : Ctx) (rows : Rows) → None ≡ offered p svc.name → serve p svc args ctx rows ≡ refused rows
+pub served_none : (p : InstalledPackages) (svc : Svc) (args : List Value) (ctx : Ctx) (rows : Rows) → None ≡ offered p svc.name → serve p svc args ctx rows ≡ refused_call rows
 unfolding serve
 served_none p svc args ctx rows e = ap (λ (o : Option Service). serve_offered o svc args ctx rows) (sym e)
 

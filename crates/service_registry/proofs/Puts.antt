@@ -7,7 +7,7 @@ use Rattle.table_rows.specs.Rows.{put_row, fits}
 use Rattle.resident_tables.specs.Tables.{row_of}
 use Rattle.value_rules.specs.Rules.{bad_index}
 use Rattle.service_api.specs.declared.ctx.Ctx.{Ctx}
-use Rattle.service_api.specs.Services.{Rows, Served, refused}
+use Rattle.service_api.specs.Services.{Rows, Served, refused_call}
 use Rattle.service_meaning.specs.declared.service.Service.TheVariants as service
 use Rattle.service_meaning.specs.Answers.{of_int, kept, raised, put_answer, table_full, serve_as, expiry_after}
 use Rattle.service_registry.specs.Arguments.{int_in, text_in}
@@ -17,7 +17,7 @@ module _ (a : Ty) (ctx : Ctx) (rows : Rows) where
   abbrev Put : List Value → Served
   Put args = serve_as service.Put a args ctx rows
 
-  pub put_other : (args : List Value) → (length args ≡ 4 → ⊥) → Put args ≡ refused rows
+  pub put_other : (args : List Value) → (length args ≡ 4 → ⊥) → Put args ≡ refused_call rows
   put_other [] h = refl
   put_other (x ∷ []) h = refl
   put_other (x ∷ y ∷ []) h = refl

@@ -18,7 +18,7 @@ fn raised(alloc: Global, word: &[u8]) -> Result<Answer, NoMemory>
 /// The service isn't offered as it is called.
 #[tactic(auto, unfolding(plan_base::specs::Words::is_name, plan_base::specs::Words::is_word, plan_base::specs::Words::is_reserved))]
 pub fn refused(alloc: Global) -> Result<Answer, NoMemory>
-    ensures { Tells api.refused result }
+    ensures { Tells api.refused_call result }
 {
     raised(alloc, b"NoService")
 }

@@ -2,7 +2,7 @@
 use Rattle.std.specs.Prelude.{◌≡◌, ℕ, ◌+◌, Bool, ◌&&◌, if◌then◌else◌, nat_lt, nat_le, ℤ, pos, ◌+ℤ◌, List, length, filter, Option, Some, None}
 use Rattle.std.specs.List.{sum_by}
 use Rattle.std.specs.Ordering.{int_eq}
-use Rattle.item_keys.specs.Keys.{Key, found, put, without}
+use Rattle.item_keys.specs.Keys.{Key, first_of_key, put, without}
 use Rattle.plan_base.specs.declared.tree.Ty.{Ty}
 use Rattle.plan_base.specs.declared.tree.Value.{Value}
 use Rattle.plan_base.specs.Sizes.{type_size, weight}
@@ -22,7 +22,7 @@ without_row k rows = without row_key k rows
 
 -- the row of the key
 abbrev pub found_row : Key → List Row → Option Row
-found_row k rows = found row_key k rows
+found_row k rows = first_of_key row_key k rows
 
 -- its expiry lies after the tick
 abbrev pub is_live : ℕ → Row → Bool

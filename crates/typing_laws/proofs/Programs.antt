@@ -16,7 +16,7 @@ use Rattle.plan_base.specs.Sizes.{code_size, expr_depth, program_nodes}
 use Rattle.plan_base.specs.WellFormed.{has_from_to, formed_expr, well_formed_type, well_formed_expr, well_formed_svc, well_formed_fun, well_formed_program, has_types, program_has_types, IsWellFormedProgram, ProgramHasTypes}
 use Rattle.typing_rules.specs.Typing.{HasTy, HasOwnNames, Typed, param_names}
 use Rattle.typing_rules.specs.TypingNames.{has_name, is_prim, built_in, are_new, are_callable}
-use Rattle.typing_rules.specs.TypingOrder.{next, then_by, checked, bodies_from, services_from, exceptions_from, functions_from, declarations, sized, annotated}
+use Rattle.typing_rules.specs.TypingOrder.{next, then_by, checked, bodies_from, services_from, exceptions_from, functions_from, declarations, sized_program, annotated}
 use Rattle.typing_rules.specs.TypingFills.{Becomes, FunFills, Fills}
 use Rattle.typing_laws.proofs.Steps.{Holds, Yields, then_yields, pure_yields}
 use Rattle.typing_laws.proofs.Heads.{AlikeFuns, no_funs, and_fun, SameHeads, heads_back, names_there, alike_length}
@@ -224,8 +224,8 @@ typed_by draft gs b names small = let whole : Program = record draft { funs = gs
   small = small;
 }
 
-sized_ok : (code p : Program) → sized code ≡ Ok p → (p ≡ code) × (code_size code ≤ 16000)
-unfolding sized
+sized_ok : (code p : Program) → sized_program code ≡ Ok p → (p ≡ code) × (code_size code ≤ 16000)
+unfolding sized_program
 sized_ok code p h = go (nat_le (code_size code) 16000) refl h
   where
     go : (b : Bool) → nat_le (code_size code) 16000 ≡ b → (if b then Ok code else Err fault.CodeTooLarge) ≡ Ok p → (p ≡ code) × (code_size code ≤ 16000)
@@ -236,8 +236,8 @@ sized_ok code p h = go (nat_le (code_size code) 16000) refl h
 pub annotated_sound : (draft p : Program) → annotated draft ≡ Ok p → Fills draft p × Typed p
 unfolding annotated
 annotated_sound draft p h =
-    let a = then_ok (declarations draft) (λ _. then_by (bodies_from draft [] draft.funs 0) (λ r. sized (record draft { funs = r.0 }))) p h in
-    let b = then_ok (bodies_from draft [] draft.funs 0) (λ r. sized (record draft { funs = r.0 })) p a.2 in
+    let a = then_ok (declarations draft) (λ _. then_by (bodies_from draft [] draft.funs 0) (λ r. sized_program (record draft { funs = r.0 }))) p h in
+    let b = then_ok (bodies_from draft [] draft.funs 0) (λ r. sized_program (record draft { funs = r.0 })) p a.2 in
     let fill : BodiesRight draft [] draft.funs b.0.0 = subst (λ z. Holds (BodiesRight draft [] draft.funs) z) b.1 (bodies_right draft draft.funs [] 0) in
     let bodies : BodiesFill draft 0 draft.funs b.0.0 = subst (λ gs. BodiesFill draft 0 draft.funs gs) (sym fill.1) fill.2 in
     let s = sized_ok (record draft { funs = b.0.0 }) p b.2 in
@@ -246,16 +246,16 @@ annotated_sound draft p h =
 
 -- Where a typed program fills the draft in, the checking answers it.
 pub annotated_complete : (draft p : Program) → ((i : ℕ) (d : Fun) → slice_get draft.funs i ≡ Some d → expr_depth d.body ≤ 64) → Fills draft p → Typed p → annotated draft ≡ Ok p
-unfolding annotated sized
+unfolding annotated sized_program
 annotated_complete draft p w f t =
     let bodies = bodies_of draft 0 draft.funs p.funs f.count (λ k d g a b. subst (λ j. FunFills draft j d g) (sym (zero_plus k)) (f.funs k d g a b)) in
     let same : SameHeads draft p = record { svcs = f.svcs; exns = f.exns; funs = bodies_alike draft bodies } in
     let names = declared_reach draft (names_there (heads_back same) t.names) in
     let r = bodies_reach draft bodies w [] refl 0 in
     let whole : p ≡ record draft { funs = p.funs } = λ i. record { svcs = f.svcs i; exns = f.exns i; funs = p.funs } in
-    then_is (declarations draft) (λ _. then_by (bodies_from draft [] draft.funs 0) (λ r. sized (record draft { funs = r.0 }))) names.0 (Ok p) names.1
-    (then_is (bodies_from draft [] draft.funs 0) (λ r. sized (record draft { funs = r.0 })) (p.funs, r.0) (Ok p) r.1
-    (subst (λ z. sized z ≡ Ok p) whole (subst (λ (b : Bool). (if b then Ok p else Err fault.CodeTooLarge) ≡ Ok p) (sym (le-leb (code_size p) 16000 t.small)) refl)))
+    then_is (declarations draft) (λ _. then_by (bodies_from draft [] draft.funs 0) (λ r. sized_program (record draft { funs = r.0 }))) names.0 (Ok p) names.1
+    (then_is (bodies_from draft [] draft.funs 0) (λ r. sized_program (record draft { funs = r.0 })) (p.funs, r.0) (Ok p) r.1
+    (subst (λ z. sized_program z ≡ Ok p) whole (subst (λ (b : Bool). (if b then Ok p else Err fault.CodeTooLarge) ≡ Ok p) (sym (le-leb (code_size p) 16000 t.small)) refl)))
 
 -- A typed program fills itself in.
 pub fills_itself : (p : Program) → Typed p → Fills p p

@@ -21,7 +21,7 @@ use Rattle.plan_base.specs.Sizes.{type_depth, code_size}
 use Rattle.typing_rules.specs.Typing.{Ctx, param_names}
 use Rattle.typing_rules.specs.TypingNames.{place_of, binding, is_exception, is_joined, is_ordered, may_catch, prim_of, takes, service_of, OpKind, arithmetic, joining, equality, ordering, listing, kind_of, has_name, is_prim, built_in, are_new}
 use Rattle.plan_base.specs.SameTypes.{same_type}
-use Rattle.typing_rules.specs.TypingOrder.{Checking, Found, pure, refuse, after, ◌>>=◌, or_refuse, next, settled, shallow, variable, empty, not_earlier, checked, bodies_from, then_by, services_from, exceptions_from, functions_from, declarations, sized, annotated}
+use Rattle.typing_rules.specs.TypingOrder.{Checking, Found, pure, refuse, after, ◌>>=◌, or_refuse, next, settled, shallow, variable, empty, not_earlier, checked, bodies_from, then_by, services_from, exceptions_from, functions_from, declarations, sized_program, annotated}
 use Rattle.typing_rules.specs.TypingOrder as order
 
 -- a refusal for a reason of the program's own
@@ -275,8 +275,8 @@ unfolding functions_from
 functions_own taken [] at = ok_own _ at
 functions_own taken (d ∷ ds) at = either_own (is_prim d.name || has_name taken d.name || not (are_new [] (param_names d.params))) _ _ (twice_own _ at) (functions_own (taken ++ d.name ∷ []) ds (next at))
 
-sized_own : (code : Program) → Own (sized code)
-unfolding sized Own
+sized_own : (code : Program) → Own (sized_program code)
+unfolding sized_program Own
 sized_own code = go (nat_le (code_size code) 16000)
   where
     go : (b : Bool) → Own (if b then Ok code else Err CodeTooLarge)

@@ -14,7 +14,7 @@ use Rattle.plan_base.specs.Sizes.{code_size, expr_depth, expr_nodes}
 use Rattle.plan_base.specs.WellFormed.{IsWellFormedProgram}
 use Rattle.typing_rules.specs.Typing.{Typed}
 use Rattle.typing_rules.specs.TypingNames.{built_in}
-use Rattle.typing_rules.specs.TypingOrder.{Found, after, checked, bodies_from, then_by, services_from, exceptions_from, functions_from, declarations, sized, annotated}
+use Rattle.typing_rules.specs.TypingOrder.{Found, after, checked, bodies_from, then_by, services_from, exceptions_from, functions_from, declarations, sized_program, annotated}
 use Rattle.typing_rules.specs.TypingFills.{Becomes, FunFills, Fills}
 use Rattle.typing_laws.proofs.Right.{becomes_suits}
 use Rattle.typing_laws.proofs.Programs.{annotated_sound, annotated_complete, depths_kept}
@@ -146,8 +146,8 @@ module _ (p : Program) where
 
   -- ---- the whole
 
-  size_stands : (gs : List Fun) → FillsFrom 0 p.funs gs → StandsFor p (of_size ∷ []) (sized (record p { funs = gs }))
-  unfolding sized
+  size_stands : (gs : List Fun) → FillsFrom 0 p.funs gs → StandsFor p (of_size ∷ []) (sized_program (record p { funs = gs }))
+  unfolding sized_program
   size_stands gs f = go (nat_le (code_size (record p { funs = gs })) 16000) refl
     where
       go : (b : Bool) → nat_le (code_size (record p { funs = gs })) 16000 ≡ b → StandsFor p (of_size ∷ []) (if b then Ok (record p { funs = gs }) else Err fault.CodeTooLarge)
@@ -161,14 +161,14 @@ module _ (p : Program) where
   then_turn (Err e) f k = refl
 
   module _ (w : IsWellFormedProgram p) where
-    bodies_and_size : StandsFor p (conditions_from of_body 0 (length p.funs) (of_size ∷ [])) (then_by (bodies_from p [] p.funs 0) (λ r. sized (record p { funs = r.0 })))
+    bodies_and_size : StandsFor p (conditions_from of_body 0 (length p.funs) (of_size ∷ [])) (then_by (bodies_from p [] p.funs 0) (λ r. sized_program (record p { funs = r.0 })))
     bodies_and_size =
-        bodies_stand p.funs [] 0 0 (of_size ∷ []) (λ r. sized (record p { funs = r.0 })) (from_start p.funs) refl refl (depths_kept p w) (λ gs m f. size_stands gs f)
+        bodies_stand p.funs [] 0 0 (of_size ∷ []) (λ r. sized_program (record p { funs = r.0 })) (from_start p.funs) refl refl (depths_kept p w) (λ gs m f. size_stands gs f)
 
     stands : StandsFor p (conditions p) (annotated p)
     unfolding annotated declarations
     stands =
-        let last : ℕ → Result Program TypeFault = λ _. then_by (bodies_from p [] p.funs 0) (λ r. sized (record p { funs = r.0 })) in
+        let last : ℕ → Result Program TypeFault = λ _. then_by (bodies_from p [] p.funs 0) (λ r. sized_program (record p { funs = r.0 })) in
         let funs : ℕ → Result ℕ TypeFault = λ m. functions_from (map (λ d. d.name) p.svcs) p.funs m in
         let exns : ℕ → Result ℕ TypeFault = λ n. then_by (exceptions_from built_in p.exns n) funs in
         subst (λ r. StandsFor p (conditions p) r) (then_turn (services_from [] p.svcs 0) exns last)

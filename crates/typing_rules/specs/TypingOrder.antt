@@ -324,9 +324,9 @@ unfoldable pub declarations : Program → Result ℕ TypeFault
 declarations code = then_by (services_from [] code.svcs 0) (λ n. then_by (exceptions_from built_in code.exns n) (λ m. functions_from (map (λ d. d.name) code.svcs) code.funs m))
 
 -- last, the size of the marshalled code
-unfoldable pub sized : Program → Result Program TypeFault
-sized code = if nat_le (code_size code) 16000 then Ok code else Err CodeTooLarge
+unfoldable pub sized_program : Program → Result Program TypeFault
+sized_program code = if nat_le (code_size code) 16000 then Ok code else Err CodeTooLarge
 
 -- the program with its types filled in, or the first refusal
 unfoldable pub annotated : Program → Result Program TypeFault
-annotated code = then_by (declarations code) (λ _. then_by (bodies_from code [] code.funs 0) (λ r. sized (record code { funs = r.0 })))
+annotated code = then_by (declarations code) (λ _. then_by (bodies_from code [] code.funs 0) (λ r. sized_program (record code { funs = r.0 })))

@@ -12,7 +12,7 @@ use Rattle.plan_base.specs.Trees.{ValueLayer}
 use Rattle.typing_rules.specs.Typing.{HasType, bool, int, str, blob, list, HaveTypes, no_values, and_value, AllHaveType, and_item}
 use Rattle.typing_rules.specs.TypingNames.{OpKind, of_list, takes, makes, kind_of, arithmetic, joining, equality, ordering, listing, is_joined, is_joined_at, is_ordered, is_ordered_at, part_of}
 use Rattle.value_rules.specs.Rules as rules
-use Rattle.value_rules.specs.Rules.{Given, gives, raises, unfit, bounded, divided, remainder, computed, numbers, before, answered, limited, joined, put_first, binary, found, part, first_item, later_items, blob_part, of_one, of_three, primitive, too_large}
+use Rattle.value_rules.specs.Rules.{Given, gives, raises, unfit, bounded, divided, remainder, computed, numbers, before, answered_truth, limited, joined_values, put_first, binary, found_value, part, first_item, later_items, blob_part, of_one, of_three, primitive, too_large}
 use Rattle.value_rules.specs.Same.{same_value}
 use Rattle.value_rules.specs.Typed.{OperatorTakes, KindTakes, PrimitiveTakes, fixed, any_list, Fits}
 use Rattle.value_rules.proofs.Shapes.{Shape, shape_of, shape_at}
@@ -100,7 +100,7 @@ ordered_at Ty-F.Chunk j k e h i = cc
 ordered_at (Ty-F.List u) j k e h i = cc
 ordered_at (Ty-F.Tuple ts) j k e h i = cc
 
-answered_fits : (f : Bool → Bool) (o : Option Bool) → IsKnown o → Fits ty.Bool (answered f o)
+answered_fits : (f : Bool → Bool) (o : Option Bool) → IsKnown o → Fits ty.Bool (answered_truth f o)
 answered_fits f (Some b) h = a_bool (f b)
 answered_fits f None h = h
 
@@ -124,12 +124,12 @@ ordered op.Cons a b u e i h k = cc
 out_type : (t u : Ty) → out-Ty t ≡ out-Ty u → t ≡ u
 out_type t u e = sym (roll-out-Ty t) ∙ ap roll-Ty e ∙ roll-out-Ty u
 
-joined_at : (t : Ty) (l : Ty-F Ty) (j k : ValueLayer) → out-Ty t ≡ l → is_joined_at l ≡ true → Shape l j → Shape l k → Fits t (joined j k)
+joined_at : (t : Ty) (l : Ty-F Ty) (j k : ValueLayer) → out-Ty t ≡ l → is_joined_at l ≡ true → Shape l j → Shape l k → Fits t (joined_values j k)
 joined_at t Ty-F.Str j k o e (a, d) (b, f) =
-    subst (λ x. Fits t (joined x k)) (sym d) (subst (λ x. Fits t (joined (Value-F.Str a) x)) (sym f)
+    subst (λ x. Fits t (joined_values x k)) (sym d) (subst (λ x. Fits t (joined_values (Value-F.Str a) x)) (sym f)
     (limited_fits t _ (str (a ++ b) (value.outs-Str (a ++ b)) (out_type t ty.Str (o ∙ sym ty.outs-Str)))))
 joined_at t Ty-F.Blob j k o e (a, d) (b, f) =
-    subst (λ x. Fits t (joined x k)) (sym d) (subst (λ x. Fits t (joined (Value-F.Blob a) x)) (sym f)
+    subst (λ x. Fits t (joined_values x k)) (sym d) (subst (λ x. Fits t (joined_values (Value-F.Blob a) x)) (sym f)
     (limited_fits t _ (blob (a ++ b) (value.outs-Blob (a ++ b)) (out_type t ty.Blob (o ∙ sym ty.outs-Blob)))))
 joined_at t Ty-F.Int j k o e h i = cc
 joined_at t Ty-F.Char j k o e h i = cc
@@ -184,14 +184,14 @@ put op.Ge a b u e h k = cc
 
 -- ---- parts
 
-found_fits : (vs : List Value) (ts : List Ty) (i : ℕ) (t : Ty) → HaveTypes vs ts → slice_get ts i ≡ Some t → Fits t (found (slice_get vs i))
+found_fits : (vs : List Value) (ts : List Ty) (i : ℕ) (t : Ty) → HaveTypes vs ts → slice_get ts i ≡ Some t → Fits t (found_value (slice_get vs i))
 found_fits [] [] i t h e = cc
 found_fits [] (u ∷ ts) i t h e = elim h [ ]
 found_fits (v ∷ vs) [] i t h e = elim h [ ]
 found_fits (v ∷ vs) (u ∷ ts) zero t (and_value h k) e = let same : u ≡ t = cc in subst (λ x. HasType v x) same h
 found_fits (v ∷ vs) (u ∷ ts) (suc i) t (and_value h k) e = found_fits vs ts i t k e
 
-part_at : (i : ℕ) (vs : List Value) (ts : List Ty) (t : Ty) (b : Bool) → HaveTypes vs ts → (if b then None else slice_get ts (i - 1)) ≡ Some t → Fits t (if b then unfit else found (slice_get vs (i - 1)))
+part_at : (i : ℕ) (vs : List Value) (ts : List Ty) (t : Ty) (b : Bool) → HaveTypes vs ts → (if b then None else slice_get ts (i - 1)) ≡ Some t → Fits t (if b then unfit else found_value (slice_get vs (i - 1)))
 part_at i vs ts t true h e = cc
 part_at i vs ts t false h e = found_fits vs ts (i - 1) t h e
 

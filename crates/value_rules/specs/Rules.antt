@@ -93,9 +93,9 @@ before (Value-F.Char a) (Value-F.Char b) = Some (nat_lt a b)
 before (Value-F.Str a) (Value-F.Str b) = Some (is_lt (slice_cmp nat_cmp a b))
 before _ _ = None
 
-abbrev pub answered : (Bool → Bool) → Option Bool → Given
-answered f (Some b) = bool (f b)
-answered f None = unfit
+abbrev pub answered_truth : (Bool → Bool) → Option Bool → Given
+answered_truth f (Some b) = bool (f b)
+answered_truth f None = unfit
 
 -- ---- lists and texts
 
@@ -103,10 +103,10 @@ answered f None = unfit
 unfoldable pub limited : Value → Given
 limited v = if nat_lt 16384 (weight v) then raises too_large else gives v
 
-abbrev pub joined : ValueLayer → ValueLayer → Given
-joined (Value-F.Str a) (Value-F.Str b) = limited (value.Str (a ++ b))
-joined (Value-F.Blob a) (Value-F.Blob b) = limited (value.Blob (a ++ b))
-joined _ _ = unfit
+abbrev pub joined_values : ValueLayer → ValueLayer → Given
+joined_values (Value-F.Str a) (Value-F.Str b) = limited (value.Str (a ++ b))
+joined_values (Value-F.Blob a) (Value-F.Blob b) = limited (value.Blob (a ++ b))
+joined_values _ _ = unfit
 
 abbrev pub put_first : Value → ValueLayer → Given
 put_first x (Value-F.List t xs) = limited (value.List t (x ∷ xs))
@@ -115,14 +115,14 @@ put_first x _ = unfit
 -- ---- operators
 
 abbrev pub binary_by : Op → Value → Value → Given
-binary_by op.Cat a b = joined (out-Value a) (out-Value b)
+binary_by op.Cat a b = joined_values (out-Value a) (out-Value b)
 binary_by op.Cons a b = put_first a (out-Value b)
 binary_by op.Eq a b = bool (same_value a b)
 binary_by op.Ne a b = bool (not (same_value a b))
-binary_by op.Lt a b = answered (λ r. r) (before (out-Value a) (out-Value b))
-binary_by op.Le a b = answered not (before (out-Value b) (out-Value a))
-binary_by op.Gt a b = answered (λ r. r) (before (out-Value b) (out-Value a))
-binary_by op.Ge a b = answered not (before (out-Value a) (out-Value b))
+binary_by op.Lt a b = answered_truth (λ r. r) (before (out-Value a) (out-Value b))
+binary_by op.Le a b = answered_truth not (before (out-Value b) (out-Value a))
+binary_by op.Gt a b = answered_truth (λ r. r) (before (out-Value b) (out-Value a))
+binary_by op.Ge a b = answered_truth not (before (out-Value a) (out-Value b))
 binary_by o a b = numbers (computed o) (out-Value a) (out-Value b)
 
 -- what `a op b` gives
@@ -131,12 +131,12 @@ binary = binary_by
 
 -- ---- parts
 
-abbrev pub found : Option Value → Given
-found (Some v) = gives v
-found None = unfit
+abbrev pub found_value : Option Value → Given
+found_value (Some v) = gives v
+found_value None = unfit
 
 abbrev pub part_of : ℕ → ValueLayer → Given
-part_of i (Value-F.Tuple vs) = if i == 0 then unfit else found (slice_get vs (i - 1))
+part_of i (Value-F.Tuple vs) = if i == 0 then unfit else found_value (slice_get vs (i - 1))
 part_of i _ = unfit
 
 -- what `#i v` gives: the part with number i, from 1

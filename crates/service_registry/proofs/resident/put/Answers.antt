@@ -3,7 +3,7 @@ use Rattle.std.proofs.lemmas.Int.{to_z-of_z}
 use Rattle.std.specs.Option.{option_copied}
 use mir.Val.{to_z, of_z}
 use Rattle.value_rules.specs.Rules.{bad_index}
-use Rattle.service_api.specs.Services.{refused}
+use Rattle.service_api.specs.Services.{refused_call}
 use Rattle.service_meaning.specs.Answers.{raised, table_full}
 use Rattle.service_registry.specs.RegistryState.{rows_over}
 use Rattle.service_registry.proofs.ArgumentReads.{four_items, get_or_any, meets_as, meets_left, rows_path}
@@ -13,7 +13,7 @@ use Rattle.service_registry.proofs.resident.put.Goals as goal
 pub returns-then-args-ne4-clause-meets : goal.returns-then-args-ne4-clause-meets
 returns-then-args-ne4-clause-meets c =
     let rows = rows_over c.args.base.now c.args.changes.now in
-    meets_as _ (refused rows) rows rows c.refused.result (put_other c.args.a.now c.args.ctx.now rows c.args.args.now (λ (e : length c.args.args.now ≡ 4). omega arith)) (c.refused.ensures rows)
+    meets_as _ (refused_call rows) rows rows c.refused.result (put_other c.args.a.now c.args.ctx.now rows c.args.args.now (λ (e : length c.args.args.now ≡ 4). omega arith)) (c.refused.ensures rows)
 
 pub returns-in_default-clause-meets : goal.returns-in_default-clause-meets
 returns-in_default-clause-meets c =
@@ -23,7 +23,7 @@ returns-in_default-clause-meets c =
     let y = get_or args 1 x in
     let v = get_or args 2 x in
     let w = get_or args 3 x in
-    meets_as _ (refused rows) rows rows c.refused-in_default.result
+    meets_as _ (refused_call rows) rows rows c.refused-in_default.result
     (put_by c.args.a.now c.args.ctx.now rows args x y v w None _ _ (four_items args x y v w (omega arith) c.index-args-0.is (get_or_any args 1 x y (omega arith)) (get_or_any args 2 x v (omega arith)) (get_or_any args 3 x w (omega arith))) (ap option_copied (sym c.in_default.is) ∙ c.as_text.ensures) refl refl)
     (c.refused-in_default.ensures rows)
 
@@ -35,7 +35,7 @@ returns-in_default-as_int-clause-meets c =
     let y = c.index-args-1.result in
     let v = get_or args 2 x in
     let w = get_or args 3 x in
-    meets_as _ (refused rows) rows rows c.refused-in_default-as_int.result
+    meets_as _ (refused_call rows) rows rows c.refused-in_default-as_int.result
     (put_by c.args.a.now c.args.ctx.now rows args x y v w (Some c.in-Some.name.now) None _ (four_items args x y v w (omega arith) c.index-args-0.is c.index-args-1.is (get_or_any args 2 x v (omega arith)) (get_or_any args 3 x w (omega arith))) (ap option_copied (sym c.in-Some.is) ∙ c.as_text.ensures) (sym c.in_default-as_int.is ∙ c.as_int.ensures) refl)
     (c.refused-in_default-as_int.ensures rows)
 
@@ -47,7 +47,7 @@ returns-in_default-as_int-2-clause-meets c =
     let y = c.index-args-1.result in
     let v = c.index-args-2.result in
     let w = c.index-args-3.result in
-    meets_as _ (refused rows) rows rows c.refused-in_default-as_int-2.result
+    meets_as _ (refused_call rows) rows rows c.refused-in_default-as_int-2.result
     (put_by c.args.a.now c.args.ctx.now rows args x y v w (Some c.in-Some.name.now) (Some c.in-Some-as_int.number) None (four_items args x y v w (omega arith) c.index-args-0.is c.index-args-1.is c.index-args-2.is c.index-args-3.is) (ap option_copied (sym c.in-Some.is) ∙ c.as_text.ensures) (sym c.in-Some-as_int.is ∙ c.as_int.ensures) (sym c.in_default-as_int-2.is ∙ c.as_int-2.ensures))
     (c.refused-in_default-as_int-2.ensures rows)
 

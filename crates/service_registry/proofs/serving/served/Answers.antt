@@ -1,5 +1,5 @@
 use Rattle.std.proofs.Common.{◌∙◌, sym}
-use Rattle.service_api.specs.Services.{refused}
+use Rattle.service_api.specs.Services.{refused_call}
 use Rattle.service_meaning.specs.Serving.{serve_at}
 use Rattle.service_registry.specs.RegistryState.{rows_over}
 use Rattle.service_registry.specs.Packages.{present_of}
@@ -10,7 +10,7 @@ use Rattle.service_registry.proofs.serving.served.Goals as goal
 pub returns-in_default-clause-meets : goal.returns-in_default-clause-meets
 returns-in_default-clause-meets c =
     let rows = rows_over c.args.base.now c.args.changes.now in
-    meets_as _ (refused rows) rows rows c.refused.result
+    meets_as _ (refused_call rows) rows rows c.refused.result
     (served_none (present_of c.args.there) c.args.svc.now c.args.args.now c.args.ctx.now rows (sym c.in_default.is ∙ c.offered.ensures))
     (c.refused.ensures rows)
 
