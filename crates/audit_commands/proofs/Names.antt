@@ -2,7 +2,7 @@
 use Rattle.std.proofs.Common.{◌≡◌, ℕ, Bool, true, false, ◌&&◌, nat_le, nat_lt, List, length}
 use Rattle.std.specs.Str.{is_utf8, IsUtf8}
 use Rattle.std.proofs.lemmas.Str.{IsUtf8-from_is_utf8}
-use Rattle.small_laws.proofs.Bools.{both_true}
+use Rattle.plan_items.proofs.Bools.{both_true}
 use Rattle.network_plan.specs.FileNames.{is_file_name}
 
 pub name_is_text : (w : List ℕ) → is_file_name w ≡ true → IsUtf8 w

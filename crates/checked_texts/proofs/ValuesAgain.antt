@@ -4,8 +4,8 @@ use Rattle.std.specs.Prelude.{◌&&◌, nat_le, max, fold, slice_get}
 use Rattle.std.specs.List.{list_all}
 use Rattle.std.proofs.lemmas.Bool.{leb-true, ltb-true}
 use Rattle.std.proofs.lemmas.List.{length-map}
-use Rattle.small_laws.proofs.Bools.{and_left as left, and_right as right}
-use Rattle.small_laws.proofs.Lists.{all-map}
+use Rattle.plan_items.proofs.Bools.{and_left as left, and_right as right}
+use Rattle.plan_items.proofs.Lists.{all-map}
 use Rattle.plan_base.specs.declared.tree.Ty.{Ty, out-Ty, Ty-F}
 use Rattle.plan_base.specs.declared.tree.Ty.TheVariants as ty
 use Rattle.plan_base.specs.declared.tree.Value.{Value, Value-F, out-Value, map-Value, fold_out-Value}

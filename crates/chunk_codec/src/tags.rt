@@ -17,7 +17,7 @@ pub fn item_of<T: Copy>(base: u8, items: &[T], number: u8) -> Option<T>
 }
 
 /// Whether a number is a Unicode scalar.
-#[tactic(auto, using(small_laws::proofs::Bools::not_true))]
+#[tactic(auto, using(plan_items::proofs::Bools::not_true))]
 pub fn is_char(code: u32) -> bool
     ensures { result ≡ is_scalar code }
 {

@@ -7,8 +7,8 @@ use Rattle.std.proofs.lemmas.Bool.{lt-ltb}
 use Rattle.std.proofs.lemmas.Bool.Decides.{nat_tests}
 use Rattle.std.proofs.lemmas.List.{take_all}
 use Rattle.std.proofs.lemmas.List.Folds.{list_all_more}
-use Rattle.small_laws.proofs.Lists.{all-map, all-map-same}
-use Rattle.small_laws.proofs.Bools.{both}
+use Rattle.plan_items.proofs.Lists.{all-map, all-map-same}
+use Rattle.plan_items.proofs.Bools.{both}
 use Rattle.plan_base.specs.Trees.{trees}
 use Rattle.plan_base.specs.Words.{is_name}
 use Rattle.plan_base.specs.declared.tree.Expr.{Expr, Expr-F, out-Expr, map-Expr, fold_out-Expr}

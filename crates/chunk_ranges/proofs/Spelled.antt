@@ -7,7 +7,7 @@ use Rattle.std.specs.Str.{IsUtf8}
 use Rattle.std.proofs.lemmas.Bool.{leb-true, ltb-true, le-leb, lt-ltb}
 use Rattle.std.proofs.lemmas.Str.{IsUtf8-from_is_utf8}
 use Rattle.std.proofs.Math.Utf8.{scalar_fits}
-use Rattle.small_laws.proofs.Bools.{and_left as left, and_right as right}
+use Rattle.plan_items.proofs.Bools.{and_left as left, and_right as right}
 use Rattle.plan_base.specs.Words.{is_name, IsName}
 use Rattle.plan_base.specs.declared.tree.Ty.{Ty, Ty-F, out-Ty}
 use Rattle.plan_base.specs.declared.tree.Ty.TheVariants as ty

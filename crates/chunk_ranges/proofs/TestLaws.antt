@@ -4,7 +4,7 @@ use Rattle.std.specs.Prelude.{◌&&◌, nat_le, max, fold, is_some, FitsSigned}
 use Rattle.std.specs.List.{list_all}
 use Rattle.std.specs.Int.{w64}
 use Rattle.std.proofs.lemmas.Bool.{leb-true, ltb-true}
-use Rattle.small_laws.proofs.Bools.{and_left as left, and_right as right}
+use Rattle.plan_items.proofs.Bools.{and_left as left, and_right as right}
 use Rattle.plan_base.specs.declared.tree.Ty.{Ty, Ty-F}
 use Rattle.plan_base.specs.declared.tree.Clause.{Clause}
 use Rattle.plan_base.specs.Sizes.{type_depth, type_depth_level}

@@ -22,7 +22,7 @@ use Rattle.plan_base.specs.declared.tree.Op.{Op}
 use Rattle.plan_base.specs.Words.{is_word, is_reserved, is_name}
 use Rattle.std.specs.Prelude.{nat_le, ◌&&◌, not}
 use Rattle.std.proofs.lemmas.Bool.{leb-true, le-leb}
-use Rattle.small_laws.proofs.Bools.{both_true}
+use Rattle.plan_items.proofs.Bools.{both_true}
 use Rattle.chunk_spelling.specs.declared.fault.SpellFault.TheVariants.{BadName}
 
 -- ---- tables

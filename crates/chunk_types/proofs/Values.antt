@@ -4,8 +4,8 @@ use Rattle.std.specs.Prelude.{Result, Ok, Err, nat_le, is_some, option_and_then,
 use Rattle.std.specs.List.{sum_by, list_all}
 use Rattle.std.proofs.lemmas.List.{length-map}
 use Rattle.std.proofs.lemmas.Bool.{eqb-true, eq-eqb, leb-true, le-leb}
-use Rattle.small_laws.proofs.Bools.{and_left, and_right, and_both}
-use Rattle.small_laws.proofs.Lists.{sum_from, largest_from}
+use Rattle.plan_items.proofs.Bools.{and_left, and_right, and_both}
+use Rattle.plan_items.proofs.Lists.{sum_from, largest_from}
 use Rattle.plan_base.specs.declared.name.Name.{Name}
 use Rattle.plan_base.specs.declared.tree.Ty.{Ty, Ty-F, out-Ty}
 use Rattle.plan_base.specs.declared.tree.Ty.TheVariants as ty

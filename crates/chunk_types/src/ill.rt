@@ -135,7 +135,7 @@ fn is_right_chunk(alloc: Global, chunk: &Chunk) -> Result<bool, NoMemory>
 }
 
 #[cycle(illness)]
-#[tactic(auto, using(small_laws::proofs::Lists::all_next))]
+#[tactic(auto, using(plan_items::proofs::Lists::all_next))]
 fn are_sound(alloc: Global, values: &[Value]) -> Result<bool, NoMemory>
     ensures { IfOk result (λ b. b ≡ list_all spec.sound values.now) }
 {

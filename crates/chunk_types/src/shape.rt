@@ -35,7 +35,7 @@ pub fn fits(v: &Value, t: &Ty) -> bool
 }
 
 #[cycle(fits)]
-#[tactic(auto, using(small_laws::proofs::Lists::all_next))]
+#[tactic(auto, using(plan_items::proofs::Lists::all_next))]
 fn all_fit(values: &[Value], t: &Ty) -> bool
     ensures { result ≡ list_all (λ v. spec.fits v t.now) values.now }
 {

@@ -4,7 +4,7 @@ use Rattle.std.specs.List.{flat_map, list_all}
 use Rattle.std.proofs.lemmas.List.{drop_more, drop_all}
 use Rattle.std.proofs.lemmas.Bool.{leb-true}
 use Rattle.std.proofs.lemmas.Bool.Decides.{nat_tests}
-use Rattle.small_laws.proofs.Bools.{both_true}
+use Rattle.plan_items.proofs.Bools.{both_true}
 use Rattle.plan_base.specs.Trees.{trees}
 use Rattle.plan_base.specs.Words.{is_word, is_name, IsName}
 use Rattle.chunk_spelling.proofs.TypeLaws.{type_bytes_out}

@@ -1,6 +1,6 @@
 -- A value given to an open expression, and functions and chunks that are entered.
 use Rattle.std.proofs.Common.{◌≡◌, ◌+◌, map, arith, Bool, true, false, if◌then◌else◌, ℕ, suc, List, [], ◌∷◌, slice_get, Option, Some, None, refl, sym, ◌∙◌, ap}
-use Rattle.small_laws.proofs.Options.{none-some, some-same}
+use Rattle.plan_items.proofs.Options.{none-some, some-same}
 use Rattle.plan_base.specs.declared.tree.Expr.{Expr, Expr-F, out-Expr}
 use Rattle.plan_base.specs.declared.tree.Clause.{Clause}
 use Rattle.plan_base.specs.declared.tree.Fun.{Fun}

@@ -10,7 +10,7 @@ use Rattle.std.specs.Ordering.{nat_cmp, int_cmp, is_eq, ordering_then, ordering_
 use Rattle.std.specs.Str.{bytes_eq}
 use Rattle.std.specs.declared.cmp.Ordering.{Ordering}
 use Rattle.std.specs.declared.cmp.Ordering.TheVariants.{Less, Equal, Greater}
-use Rattle.small_laws.proofs.Bools.{and_left, and_right, and_both, not_true}
+use Rattle.plan_items.proofs.Bools.{and_left, and_right, and_both, not_true}
 use Rattle.item_keys.specs.Keys.{Key, same_key}
 use Rattle.keyed_list.specs.Order.{key_cmp}
 

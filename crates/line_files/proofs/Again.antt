@@ -5,7 +5,7 @@ use Rattle.std.specs.Fmt.{decimal}
 use Rattle.std.proofs.lemmas.Bool.{le-leb, not-true, ne_eqb}
 use Rattle.std.proofs.lemmas.Bool.Decides.{nat_tests}
 use Rattle.std.proofs.lemmas.Fmt.{decimal_by_steps}
-use Rattle.small_laws.proofs.Bools.{both_true, and_both}
+use Rattle.plan_items.proofs.Bools.{both_true, and_both}
 use Rattle.line_files.specs.Lines.{lines, words}
 use Rattle.line_files.specs.Numbers.{is_digit, digits_from, is_padded, spelled, within, number_in}
 

@@ -5,7 +5,7 @@ use Rattle.std.specs.Option.{ok_or}
 use Rattle.std.proofs.lemmas.Bool.{not-true, ltb-true, leb-true}
 use Rattle.std.proofs.lemmas.List.Elements.{All-nil, All-push}
 use Rattle.std.proofs.lemmas.Option.{same_Some}
-use Rattle.small_laws.proofs.Bools.{both_true}
+use Rattle.plan_items.proofs.Bools.{both_true}
 use Rattle.plan_base.specs.declared.ids.Host.{Host}
 use Rattle.service_api.specs.declared.package.PackageName.{PackageName}
 use Rattle.service_api.specs.declared.package.PackageName.TheVariants as packages

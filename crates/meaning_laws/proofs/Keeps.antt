@@ -22,7 +22,7 @@ use Rattle.typing_rules.specs.Typing.{IsSmall, HasType}
 use Rattle.typing_rules.specs.TypingNames.{of_list, takes, makes, kind_of, joining, listing, is_joined, is_joined_at}
 use Rattle.value_rules.specs.Rules as rules
 use Rattle.value_rules.specs.Rules.{Given, gives, raises, unfit, limited, joined_values, put_first, binary, found_value, part, first_item, later_items, of_one, primitive, printed_int, printed_host, too_large}
-use Rattle.small_laws.proofs.Bools.{and_both, and_left}
+use Rattle.plan_items.proofs.Bools.{and_both, and_left}
 use Rattle.value_rules.proofs.Fitting.{list_shape}
 use Rattle.value_rules.proofs.Shapes.{Shape, shape_of, shape_at}
 use Rattle.meaning_laws.proofs.Totals.{largest_within, largest_bounds}

@@ -8,7 +8,7 @@ use Rattle.std.specs.Str.{bytes_eq}
 use Rattle.std.proofs.lemmas.List.{append-nil, reverse-append, length-take}
 use Rattle.std.proofs.lemmas.Bool.{leb-true}
 use Rattle.std.proofs.lemmas.Bool.Decides.{nat_tests}
-use Rattle.small_laws.proofs.Options.{none-some, some-same}
+use Rattle.plan_items.proofs.Options.{none-some, some-same}
 use Rattle.plan_base.specs.declared.name.Name.{Name}
 use Rattle.plan_base.specs.declared.ids.Host.{Host}
 use Rattle.plan_base.specs.declared.ids.Dev.{Dev}
@@ -40,7 +40,7 @@ use Rattle.plan_meaning.specs.Run.{Run, ◌>>◌, pure}
 use Rattle.plan_meaning.specs.Meaning as m
 use Rattle.plan_meaning.specs.Meaning.{Env, Runs, as_bool, bool_at, as_int, int_at, as_host, host_at, as_dev, dev_at, as_chunk, chunk_at, as_items, items_at, value_of, value_if, bound_behind, bound, pay_eval, send_remote, send_neighbour, values_behind, values, entered, applied_at, applied, served_or, called_by, called, left_along, right_along, handled, visited, opened_at, opened, node, run_to, meaning, catches}
 use Rattle.plan_meaning.specs.Safe.{HasEnv, IsGoodState, Yields}
-use Rattle.small_laws.proofs.Bools.{and_left, and_right, both_true}
+use Rattle.plan_items.proofs.Bools.{and_left, and_right, both_true}
 use Rattle.value_rules.proofs.Shapes.{shape_at}
 use Rattle.meaning_laws.proofs.Totals.{sum_bounds, largest_bounds}
 use Rattle.meaning_laws.proofs.Formed as form

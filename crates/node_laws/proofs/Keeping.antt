@@ -10,7 +10,7 @@ use Rattle.packet_frame.specs.declared.frame.PlainFrame.{PlainFrame}
 use Rattle.packet_frame.specs.declared.frame.PlainStamped.{PlainStamped}
 use Rattle.node_model.specs.declared.acts.Lane.{Lane}
 use Rattle.node_model.specs.declared.acts.Sending.{Sending}
-use Rattle.small_laws.proofs.Bools.{both_true}
+use Rattle.plan_items.proofs.Bools.{both_true}
 use Rattle.node_model.specs.State.{Queues, no_lane, no_queues}
 use Rattle.spelled_frame.specs.Spelled.{numbered_frame}
 use Rattle.node_model.specs.Node.{is_spent, lane_room, queue_room, has_room, lane_with, queue_push, send_queues, sends_queues}

@@ -5,7 +5,7 @@ use Rattle.std.specs.List.{flat_map}
 use Rattle.std.specs.Int.{w16, w32, w64, to_be_bytes}
 use Rattle.std.proofs.lemmas.Bool.{leb-true}
 use Rattle.std.proofs.lemmas.List.{drop_more}
-use Rattle.small_laws.proofs.Bools.{both_true}
+use Rattle.plan_items.proofs.Bools.{both_true}
 use Rattle.plan_base.specs.Words.{is_word, is_name, IsName}
 use Rattle.plan_base.specs.Sizes.{chunk_weight}
 use Rattle.plan_base.specs.declared.ids.Family.{Family}

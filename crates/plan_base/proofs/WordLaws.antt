@@ -5,7 +5,7 @@ use Rattle.std.proofs.lemmas.Bool.{leb-true, false≢true}
 use Rattle.std.specs.Char.{is_ascii_alphabetic}
 use Rattle.std.specs.List.{list_all}
 use Rattle.std.specs.Prelude.{codes}
-use Rattle.small_laws.proofs.Bools.{and_left, and_right}
+use Rattle.plan_items.proofs.Bools.{and_left, and_right}
 use Rattle.plan_base.specs.Words.{is_word_byte, is_word, is_reserved, is_name, IsName}
 
 pub is_word_none : (w : List ℕ) → length w < 1 → is_word w ≡ false

@@ -9,7 +9,7 @@ use Rattle.plan_base.specs.declared.tree.Ty.{Ty}
 use Rattle.plan_base.specs.declared.tree.Fun.{Fun}
 use Rattle.typing_rules.specs.TypingNames.{place_of}
 use Rattle.typing_rules.specs.TypingOrder.{fun_of}
-use Rattle.small_laws.proofs.Options.{some-same}
+use Rattle.plan_items.proofs.Options.{some-same}
 use Rattle.typing_rules.specs.Typing.{IsTypedChunk, within}
 use Rattle.chunk_types.specs.Chunks.{IsCheckedChunk}
 use Rattle.service_api.specs.declared.ctx.Ctx.{Ctx}

@@ -3,6 +3,8 @@
 //!
 //! A tree built of them has no pointer and no capacity in its value, so a contract can say that a
 //! copy equals its original, or that a result equals a tree that a definition names.
+//!
+//! Beside them stand small laws on tests, options and lists that many crates cite.
 #![tactic(auto)]
 
 mod boxed;

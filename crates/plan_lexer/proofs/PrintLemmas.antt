@@ -9,7 +9,7 @@ use Rattle.std.specs.Fmt.{decimal}
 use Rattle.std.specs.List.{list_all, flat_map}
 use Rattle.std.specs.Str.{IsUtf8}
 use lib.Utf8.{encode, encodes, scalar, scalars}
-use Rattle.small_laws.proofs.Bools.{and_left, and_right}
+use Rattle.plan_items.proofs.Bools.{and_left, and_right}
 use Rattle.plan_lexer.specs.CharItems.{hex_value, escaped}
 use Rattle.plan_lexer.specs.Numerals.{number_from, number_of}
 use Rattle.printed_forms.specs.Literals.{int_text, host_text, dev_text, part_text, hex_digit, hex_pair, byte_text, string_text, char_text, blob_text}

@@ -5,7 +5,7 @@ use Rattle.std.specs.List.{list_all, fold}
 use Rattle.std.proofs.lemmas.Bool.{le-leb}
 use Rattle.std.proofs.lemmas.List.{length-map}
 use Rattle.std.proofs.lemmas.Bool.Decides.{nat_tests}
-use Rattle.small_laws.proofs.Bools.{both}
+use Rattle.plan_items.proofs.Bools.{both}
 use Rattle.plan_base.specs.declared.limit.Limit.TheVariants as limits
 use Rattle.plan_base.specs.declared.tree.Ty.{Ty, Ty-F, roll-Ty}
 use Rattle.plan_base.specs.declared.tree.Value.{Value, Value-F, roll-Value, out-roll-Value}

@@ -8,8 +8,8 @@ use Rattle.std.proofs.lemmas.List.{length-map, take-map}
 use Rattle.std.proofs.lemmas.List.Sums.{sum-map}
 use Rattle.std.proofs.lemmas.List.Folds.{list_all-append, list_all-map, find_at}
 use Rattle.std.proofs.lemmas.Bool.{leb-true, le-leb, eqb-true}
-use Rattle.small_laws.proofs.Bools.{and_left, and_right, and_both}
-use Rattle.small_laws.proofs.Lists.{largest_from}
+use Rattle.plan_items.proofs.Bools.{and_left, and_right, and_both}
+use Rattle.plan_items.proofs.Lists.{largest_from}
 use Rattle.plan_base.specs.declared.name.Name.{Name}
 use Rattle.plan_base.specs.declared.prim.Primitive.{Primitive}
 use Rattle.plan_base.specs.declared.prim.Primitive.TheVariants.{Hd, Tl, Length, IntToString, HostToString, StringToBlob, BlobLength, BlobPart}

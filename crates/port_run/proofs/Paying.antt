@@ -16,7 +16,7 @@ use Rattle.network_plan.specs.Rules.{KeepsNetwork}
 use Rattle.world_model.specs.Sound.{EventsFit}
 use Rattle.network_laws.proofs.Handings.{opening_balances}
 use Rattle.network_laws.proofs.CountLaws.{tally-nil, tally-cons, tally-append}
-use Rattle.small_laws.proofs.Bools.{both_true}
+use Rattle.plan_items.proofs.Bools.{both_true}
 use Rattle.std.proofs.lemmas.Bool.{eqb-true}
 use Rattle.port_run.specs.Paid.{sum_of, line_bound, event_bound, Apart, paid_by, NotRaw}
 use Rattle.port_run.proofs.Quiet.{event_grants}

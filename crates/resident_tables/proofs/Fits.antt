@@ -3,8 +3,8 @@ use Rattle.std.proofs.Common.{◌≡◌, ℕ, ◌+◌, ◌≤◌, Bool, true, fa
 use Rattle.std.specs.Prelude.{◌&&◌, nat_le, if◌then◌else◌}
 use Rattle.std.proofs.lemmas.Bool.{leb-true}
 use Rattle.std.proofs.lemmas.Bool.Decides.{nat_tests}
-use Rattle.small_laws.proofs.Bools.{and_right}
-use Rattle.small_laws.proofs.Options.{none-some, some-same}
+use Rattle.plan_items.proofs.Bools.{and_right}
+use Rattle.plan_items.proofs.Options.{none-some, some-same}
 use Rattle.table_rows.specs.declared.row.Row.{Row}
 use Rattle.table_rows.specs.Rows.{row_key, row_size, put_row, found_row, fits}
 use Rattle.resident_tables.specs.declared.counts.Counts.{Counts}

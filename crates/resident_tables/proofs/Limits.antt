@@ -4,7 +4,7 @@ use Rattle.std.specs.Prelude.{◌&&◌, nat_le}
 use Rattle.std.proofs.lemmas.Bool.{leb-true}
 use Rattle.std.proofs.lemmas.Bool.Decides.{nat_tests}
 use Rattle.std.proofs.lemmas.List.Sums.{sum_by-cons}
-use Rattle.small_laws.proofs.Bools.{and_left, and_right, and_both}
+use Rattle.plan_items.proofs.Bools.{and_left, and_right, and_both}
 use Rattle.table_rows.specs.declared.row.Row.{Row}
 use Rattle.table_rows.specs.Rows.{row_size, rows_size, is_live, living, fits}
 use Rattle.resident_tables.specs.declared.counts.Counts.{Counts}

@@ -4,7 +4,7 @@ use Rattle.std.specs.Prelude.{◌&&◌, nat_le, if◌then◌else◌}
 use Rattle.std.proofs.lemmas.Bool.Decides.{nat_tests}
 use Rattle.std.specs.List.{sum_by}
 use Rattle.std.proofs.lemmas.List.Sums.{sum_by-cons}
-use Rattle.small_laws.proofs.Options.{none-some, some-same}
+use Rattle.plan_items.proofs.Options.{none-some, some-same}
 use Rattle.item_keys.specs.Keys.{Key, first_of_key, put, without, IsUnique}
 use Rattle.keyed_list.proofs.Orders.{same_or_not}
 use Rattle.keyed_list.proofs.Lists.{found_here, found_on, put_here, put_on, without_here, without_on, without_none}

@@ -1,7 +1,7 @@
 -- Reading tokens whose kinds are known.
 use Rattle.std.proofs.Common.{◌≡◌, ℕ, zero, suc, ◌<◌, ◌≤◌, ◌==◌, Bool, true, false, List, [], ◌∷◌, ◌++◌, length, drop, Result, Ok, refl, sym, ap, ◌∙◌, subst, arith, append_assoc, append-nil}
 use Rattle.std.proofs.lemmas.Bool.Decides.{nat_tests}
-use Rattle.small_laws.proofs.Bools.{not_zero}
+use Rattle.plan_items.proofs.Bools.{not_zero}
 use Rattle.plan_base.specs.declared.limit.Limit.{Limit}
 use Rattle.plan_base.specs.declared.name.Name.{Name}
 use Rattle.plan_lexer.specs.declared.token.Key.{Key}

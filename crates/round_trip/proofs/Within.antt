@@ -2,7 +2,7 @@
 use Rattle.std.proofs.Common.{◌≡◌, ◌≤◌, Bool, true, List, [], ◌∷◌, length}
 use Rattle.std.specs.List.{list_all}
 use Rattle.std.proofs.lemmas.Bool.{leb-true}
-use Rattle.small_laws.proofs.Bools.{both_true}
+use Rattle.plan_items.proofs.Bools.{both_true}
 use Rattle.plan_base.specs.Sizes.{expr_depth, program_nodes}
 use Rattle.plan_base.specs.WellFormed.{well_formed_expr, well_formed_svc, well_formed_fun, well_formed_program, IsWellFormedProgram}
 use Rattle.plan_base.specs.declared.tree.Svc.{Svc}

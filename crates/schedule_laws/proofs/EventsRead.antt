@@ -8,7 +8,7 @@ use Rattle.std.specs.Str.{bytes_eq}
 use lib.Chars.{codes}
 use Rattle.std.proofs.lemmas.Bool.{le-leb}
 use Rattle.std.proofs.lemmas.List.Elements.{All-head, All-tail}
-use Rattle.small_laws.proofs.Bools.{and_both}
+use Rattle.plan_items.proofs.Bools.{and_both}
 use Rattle.std.proofs.lemmas.Slice.Eq.{bytes_eq-Decides}
 use Rattle.hex.specs.Hex.{decode_of, encode_lower}
 use Rattle.hex.proofs.HexLemmas.{decode_of-encode_lower}

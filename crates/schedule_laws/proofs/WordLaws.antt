@@ -5,7 +5,7 @@ use Rattle.std.specs.Char.{is_ascii_alphabetic}
 use Rattle.std.specs.Fmt.{decimal}
 use Rattle.std.proofs.lemmas.Bool.Decides.{nat_tests}
 use Rattle.std.proofs.lemmas.List.Elements.{All-head, All-tail}
-use Rattle.small_laws.proofs.Bools.{both_true, and_both}
+use Rattle.plan_items.proofs.Bools.{both_true, and_both}
 use Rattle.hex.specs.Hex.{is_hex_digit, encode_lower, IsBytes}
 use Rattle.hex.proofs.HexLemmas.{decode_of-encode_lower, decode_of-ok}
 use Rattle.plan_base.specs.Words.{is_word_byte, is_word, is_name}

@@ -3,8 +3,8 @@ use Rattle.std.proofs.Common.{◌≡◌, ℕ, ◌+◌, ◌*◌, ◌≤◌, Bool,
 use Rattle.std.proofs.lemmas.Bool.Decides.{nat_tests}
 use Rattle.std.proofs.lemmas.List.{length-map}
 use Rattle.std.specs.List.{sum_by, list_all}
-use Rattle.small_laws.proofs.Bools.{and_both}
-use Rattle.small_laws.proofs.Lists.{sum_from, largest_from}
+use Rattle.plan_items.proofs.Bools.{and_both}
+use Rattle.plan_items.proofs.Lists.{sum_from, largest_from}
 use Rattle.plan_base.specs.declared.ids.Host.{Host}
 use Rattle.plan_base.specs.declared.ids.Dev.{Dev}
 use Rattle.plan_base.specs.declared.tree.Ty.{Ty, out-Ty}

@@ -7,7 +7,7 @@ use Rattle.std.proofs.lemmas.Bool.{le-ltb}
 use Rattle.std.proofs.lemmas.Bool.Decides.{nat_tests}
 use Rattle.std.proofs.lemmas.List.{take-append-drop}
 use Rattle.std.proofs.lemmas.List.Folds.{length-prefix_len}
-use Rattle.small_laws.proofs.Bools.{and_left, and_right}
+use Rattle.plan_items.proofs.Bools.{and_left, and_right}
 use Rattle.plan_base.specs.Words.{is_word_byte, is_word}
 use Rattle.plan_lexer.specs.Faults.{◌>>=◌}
 use Rattle.plan_lexer.specs.Gaps.{is_blank, comment_at, gap_at}

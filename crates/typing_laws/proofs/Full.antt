@@ -1,7 +1,7 @@
 -- Where no type is missing in a draft, nothing is filled in: it becomes itself or nothing.
 use Rattle.std.proofs.Common.{◌≡◌, ℕ, ◌∙◌, sym, ap, refl, true, ◌&&◌, List, [], ◌∷◌, Option, None}
 use Rattle.std.specs.List.{list_all}
-use Rattle.small_laws.proofs.Bools.{and_left, and_right}
+use Rattle.plan_items.proofs.Bools.{and_left, and_right}
 use Rattle.plan_base.specs.declared.tree.Ty.{Ty}
 use Rattle.plan_base.specs.declared.tree.Expr.{Expr, Expr-F, out-Expr}
 use Rattle.plan_base.specs.declared.tree.Expr as x

@@ -4,7 +4,7 @@ use Rattle.std.specs.Prelude.{Result, Ok, Err, if◌then◌else◌, map, slice_g
 use Rattle.std.specs.List.{list_all}
 use Rattle.std.proofs.lemmas.List.{length-append, append-nil}
 use Rattle.std.proofs.lemmas.Bool.{leb-true, le-leb}
-use Rattle.small_laws.proofs.Bools.{and_left, and_right, and_both}
+use Rattle.plan_items.proofs.Bools.{and_left, and_right, and_both}
 use Rattle.plan_base.specs.declared.name.Name.{Name}
 use Rattle.plan_base.specs.declared.tree.Svc.{Svc}
 use Rattle.plan_base.specs.declared.tree.Fun.{Fun}

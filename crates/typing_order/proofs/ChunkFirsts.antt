@@ -5,7 +5,7 @@ use Rattle.std.specs.List.{list_all}
 use Rattle.std.proofs.lemmas.Bool.{leb-true, le-leb}
 use Rattle.std.proofs.lemmas.Bool.Decides.{nat_tests}
 use Rattle.std.proofs.lemmas.List.{length-map}
-use Rattle.small_laws.proofs.Bools.{and_left as left, and_right as right_of, and_both}
+use Rattle.plan_items.proofs.Bools.{and_left as left, and_right as right_of, and_both}
 use Rattle.plan_base.specs.declared.tree.Ty.{Ty}
 use Rattle.plan_base.specs.declared.tree.Fun.{Fun}
 use Rattle.plan_base.specs.declared.tree.Program.{Program}

@@ -2,7 +2,7 @@
 use Rattle.std.proofs.Common.{◌≡◌, Bool, true, false, ◌&&◌, Decides, refl, sym, ap, subst}
 use Rattle.std.proofs.lemmas.Bool.{eqb-true, eq-eqb, false≢true}
 use Rattle.std.specs.Cmp.Derive.{both_true}
-use Rattle.small_laws.proofs.Bools.{and_left, and_right}
+use Rattle.plan_items.proofs.Bools.{and_left, and_right}
 use base.Stored.{Gv, gnil, gnum, gcons, Coded}
 use Rattle.plan_base.specs.declared.tree.Value.{Value}
 use Rattle.plan_base.specs.contracts.tree.Value as value
