@@ -25,7 +25,7 @@ use Rattle.eval_steps.specs.declared.next.Next.TheVariants as next
 use Rattle.eval_steps.specs.Stack.{deeper, behind, along}
 use Rattle.eval_steps.specs.Leads.{Leads}
 use Rattle.eval_steps.specs.Forms.{HasParts}
-use Rattle.eval_steps.specs.Nexts.{begins, next_step}
+use Rattle.eval_steps.specs.Nexts.{begins, next_step, near_send, near_step}
 use Rattle.eval_steps.proofs.Leading.{itself, onward, regrouped, regrouped_twice, given_on, gave_on, later, known_then, known_back}
 
 cons-nil : {A : Type 0} {x : A} {xs : List A} → x ∷ xs ≡ [] → ⊥
@@ -44,6 +44,15 @@ rest_behind (y ∷ ys) rest x (suc n) is = rest_behind ys rest x n is
 
 pub rest_of : {A : Type 0} (xs rest : List A) (x : A) (n : ℕ) → drop n xs ≡ x ∷ rest → drop (n + 1) xs ≡ rest
 rest_of xs rest x n is = rw (add-one n) (rest_behind xs rest x n is)
+
+-- a send to a neighbour whose chunk and host are known
+pub near_sends : (k : Chunk) (host : Host) (u v : Value) (s t : VisitState) (i : ℤ) (dev : Dev) → as_int u ≡ Some i → as_dev v ≡ Some dev → (send_neighbour k host i dev s).after ≡ gave tt t
+    → Leads (near_step k host u v s) (weighed value.Unit t)
+near_sends k host u v s t i dev much way sent = rw (much, way)
+    (onward _ _ _ (known_then i s (λ j. or_wrong (Some dev) >>= (λ y. send_neighbour k host j y >> pure value.Unit)) weighed)
+    (onward _ _ _ (known_then dev s (λ y. send_neighbour k host i y >> pure value.Unit) weighed)
+    (onward _ _ _ (regrouped (send_neighbour k host i dev s) (λ _. pure value.Unit) weighed)
+    (onward _ _ _ (gave_on (send_neighbour k host i dev s) tt t (λ _. pure value.Unit >>= weighed) sent) (given_on value.Unit t weighed)))))
 
 module _ (code : Program) (seen : ℕ) (e : Expr) (env : Env) (s : VisitState) where
   -- the value of a test chooses a branch
@@ -289,16 +298,10 @@ module _ (code : Program) (seen : ℕ) (e : Expr) (env : Env) (s : VisitState) w
         (onward _ _ _ (known_back host t (λ g. or_wrong (Some i) >>= (λ j. last_of k g j y)) weighed)
         (known_back k t (λ x. or_wrong (Some host) >>= (λ g. or_wrong (Some i) >>= (λ j. last_of x g j y))) weighed))))))))
 
-    pub sends_neighbour : (c w u v : Value) (held : List Value) (k : Chunk) (host : Host) (i : ℤ) (dev : Dev) (t : VisitState)
-        → as_chunk c ≡ Some k → as_host w ≡ Some host → as_int u ≡ Some i → as_dev v ≡ Some dev → (send_neighbour k host i dev s).after ≡ gave tt t
-        → Leads ((behind code seen (out-Expr e) env n (c ∷ w ∷ u ∷ held) v >>= weighed) s) (weighed value.Unit t)
-    sends_neighbour c w u v held k host i dev t is there much way sent = rw (form, is, there, much, way)
-        (onward _ _ _ (known_then k s (λ x. or_wrong (Some host) >>= (λ g. or_wrong (Some i) >>= (λ j. or_wrong (Some dev) >>= (λ y. send_neighbour x g j y >> pure value.Unit)))) weighed)
-        (onward _ _ _ (known_then host s (λ g. or_wrong (Some i) >>= (λ j. or_wrong (Some dev) >>= (λ y. send_neighbour k g j y >> pure value.Unit))) weighed)
-        (onward _ _ _ (known_then i s (λ j. or_wrong (Some dev) >>= (λ y. send_neighbour k host j y >> pure value.Unit)) weighed)
-        (onward _ _ _ (known_then dev s (λ y. send_neighbour k host i y >> pure value.Unit) weighed)
-        (onward _ _ _ (regrouped (send_neighbour k host i dev s) (λ _. pure value.Unit) weighed)
-        (onward _ _ _ (gave_on (send_neighbour k host i dev s) tt t (λ _. pure value.Unit >>= weighed) sent) (given_on value.Unit t weighed)))))))
+    pub near_on : (c w u v : Value) (held : List Value) (k : Chunk) (host : Host) → as_chunk c ≡ Some k → as_host w ≡ Some host
+        → Leads ((behind code seen (out-Expr e) env n (c ∷ w ∷ u ∷ held) v >>= weighed) s) (near_step k host u v s)
+    near_on c w u v held k host is there = rw (form, is, there)
+        (onward _ _ _ (known_then k s (λ x. or_wrong (Some host) >>= (λ g. near_send x g u v)) weighed) (known_then host s (λ g. near_send k g u v) weighed))
 
   -- where a test is none
   pub chosen_none : (t a b : Expr) (n : ℕ) (held : List Value) (v : Value) → out-Expr e ≡ Expr-F.If t a b → as_bool v ≡ None

@@ -1,5 +1,5 @@
 -- Evals and sends that end an expression: they are refused, or what they are given doesn't fit.
-use Rattle.std.proofs.Common.{◌≡◌, ℕ, ℤ, List, [], ◌∷◌, Some, None, slice_get, refl, ap}
+use Rattle.std.proofs.Common.{◌≡◌, ℕ, ℤ, List, [], ◌∷◌, Some, None, Result, slice_get, refl, ap}
 use Rattle.std.specs.Prelude.{remove}
 use Rattle.plan_items.proofs.Options.{none-some, some-same}
 use Rattle.plan_base.specs.declared.name.Name.{Name}
@@ -15,7 +15,10 @@ use Rattle.plan_meaning.specs.declared.stop.Stop.TheVariants.{Wrong}
 use Rattle.plan_meaning.specs.State.{VisitState}
 use Rattle.plan_meaning.specs.Run.{stopped, «next», ◌>>◌, pure, weighed}
 use Rattle.plan_meaning.specs.Meaning.{Env, meaning, as_int, as_host, as_dev, as_chunk, pay_eval, visited, send_remote, send_neighbour}
-use Rattle.eval_steps.specs.Nexts.{part_gave}
+use Rattle.eval_steps.specs.declared.next.Next.{Next}
+use Rattle.eval_steps.specs.Nexts.{Decides, near_step, part_gave}
+use Rattle.eval_steps.proofs.Deciding.{near_on}
+use Rattle.eval_steps.proofs.Gathering.{carries_from}
 
 module _ (code : Program) (seen : ℕ) (e : Expr) (env : Env) (s : VisitState) where
   pub chunk_unpaid : (a : Expr) (n : ℕ) (held : List Value) (v : Value) (k : Chunk) (x : Stop) (t : VisitState) → out-Expr e ≡ Expr-F.Eval a → as_chunk v ≡ Some k
@@ -56,11 +59,6 @@ module _ (code : Program) (seen : ℕ) (e : Expr) (env : Env) (s : VisitState) w
       → (part_gave code seen (record { expr = e; env = env }) n (c ∷ w ∷ held) v s).after ≡ stopped Wrong s
   no_remote_bound a h b r n c w v held k host form is there much = rw (form, is, there, much) refl
 
-  pub unsent_neighbour : (a h b d : Expr) (n : ℕ) (c w u v : Value) (held : List Value) (k : Chunk) (host : Host) (i : ℤ) (dev : Dev) (x : Stop) (t : VisitState)
-      → out-Expr e ≡ Expr-F.OnNeighbor a h b d → as_chunk c ≡ Some k → as_host w ≡ Some host → as_int u ≡ Some i → as_dev v ≡ Some dev → (send_neighbour k host i dev s).after ≡ stopped x t
-      → (part_gave code seen (record { expr = e; env = env }) n (c ∷ w ∷ u ∷ held) v s).after ≡ stopped x t
-  unsent_neighbour a h b d n c w u v held k host i dev x t form is there much way sent = rw (form, is, there, much, way) (ap (λ q. («next» («next» q (λ _. pure value.Unit)).after weighed).after) sent)
-
   module _ (a h b d : Expr) (n : ℕ) (form : out-Expr e ≡ Expr-F.OnNeighbor a h b d) where
     pub near_chunk : (v : Value) → as_chunk v ≡ None → (part_gave code seen (record { expr = e; env = env }) n [] v s).after ≡ stopped Wrong s
     near_chunk v is = rw (form, is) refl
@@ -88,13 +86,24 @@ module _ (code : Program) (seen : ℕ) (e : Expr) (env : Env) (s : VisitState) w
         → (part_gave code seen (record { expr = e; env = env }) n (c ∷ w ∷ u ∷ held) v s).after ≡ stopped Wrong s
     last_host c w u v held k is there = rw (form, is, there) refl
 
-    pub last_bound : (c w u v : Value) (held : List Value) (k : Chunk) (host : Host) → as_chunk c ≡ Some k → as_host w ≡ Some host → as_int u ≡ None
-        → (part_gave code seen (record { expr = e; env = env }) n (c ∷ w ∷ u ∷ held) v s).after ≡ stopped Wrong s
-    last_bound c w u v held k host is there much = rw (form, is, there, much) refl
+module _ (k : Chunk) (host : Host) (u v : Value) (s : VisitState) where
+  pub unsent_near : (i : ℤ) (dev : Dev) (x : Stop) (t : VisitState) → as_int u ≡ Some i → as_dev v ≡ Some dev → (send_neighbour k host i dev s).after ≡ stopped x t
+      → (near_step k host u v s).after ≡ stopped x t
+  unsent_near i dev x t much way sent = rw (much, way) (ap (λ q. («next» («next» q (λ _. pure value.Unit)).after weighed).after) sent)
 
-    pub last_dev : (c w u v : Value) (held : List Value) (k : Chunk) (host : Host) (i : ℤ) → as_chunk c ≡ Some k → as_host w ≡ Some host → as_int u ≡ Some i → as_dev v ≡ None
-        → (part_gave code seen (record { expr = e; env = env }) n (c ∷ w ∷ u ∷ held) v s).after ≡ stopped Wrong s
-    last_dev c w u v held k host i is there much way = rw (form, is, there, much, way) refl
+  pub no_near_bound : as_int u ≡ None → (near_step k host u v s).after ≡ stopped Wrong s
+  no_near_bound much = rw much refl
+
+  pub no_near_dev : (i : ℤ) → as_int u ≡ Some i → as_dev v ≡ None → (near_step k host u v s).after ≡ stopped Wrong s
+  no_near_dev i much way = rw (much, way) refl
+
+-- a send to a neighbour goes on with its number and its device
+pub near_decides : (code : Program) (seen : ℕ) (e : Expr) (env : Env) (a h b d : Expr) (n : ℕ) (c w u v : Value) (held : List Value) (k : Chunk) (host : Host) (s : VisitState) (r : Result Next Stop) (t : VisitState)
+    → out-Expr e ≡ Expr-F.OnNeighbor a h b d → as_chunk c ≡ Some k → as_host w ≡ Some host
+    → Decides code seen (record { expr = e; env = env }) (near_step k host u v s) r t
+    → Decides code seen (record { expr = e; env = env }) (part_gave code seen (record { expr = e; env = env }) n (c ∷ w ∷ u ∷ held) v s) r t
+near_decides code seen e env a h b d n c w u v held k host s r t form is there more =
+    carries_from code seen (record { expr = e; env = env }) _ _ r t (near_on code seen e env s a h b d n form c w u v held k host is there) more
 
 -- the first of some values, and those behind it
 pub first_off : (held rest : List Value) (x : Value) → slice_get held 0 ≡ Some x → rest ≡ remove held 0 → held ≡ x ∷ rest
@@ -109,4 +118,6 @@ pub ruleset early_neighbour = (near_chunk, near_held_chunk, near_host)
 
 pub ruleset third_neighbour = (third_chunk, third_host, third_bound)
 
-pub ruleset last_neighbour = (last_chunk, last_host, last_bound, last_dev)
+pub ruleset last_neighbour = (last_chunk, last_host)
+
+pub ruleset near = (unsent_near, no_near_bound, no_near_dev)

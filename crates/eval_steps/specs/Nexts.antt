@@ -8,11 +8,12 @@ use Rattle.plan_base.specs.Trees.{ExprLayer}
 use Rattle.plan_base.specs.declared.tree.Fun.{Fun}
 use Rattle.plan_base.specs.declared.tree.Program.{Program}
 use Rattle.plan_base.specs.declared.tree.Value.{Value}
+use Rattle.plan_base.specs.declared.tree.Value as value
 use Rattle.plan_base.specs.declared.tree.Chunk.{Chunk}
 use Rattle.service_api.specs.Services.{ServiceState}
 use Rattle.plan_meaning.specs.declared.stop.Stop.{Stop}
 use Rattle.plan_meaning.specs.State.{VisitState, Own, joined}
-use Rattle.plan_meaning.specs.Run.{Run, Step, wrong, weighed, ◌>>=◌}
+use Rattle.plan_meaning.specs.Run.{Run, Step, pure, wrong, or_wrong, weighed, ◌>>=◌, ◌>>◌}
 use Rattle.plan_meaning.specs.Meaning.{Env, bound, entered, visited, meaning, opened_at, called, as_chunk, as_host, as_int, as_dev, send_remote, send_neighbour}
 use Rattle.plan_meaning.specs.Safe.{IsSafe}
 use Rattle.eval_steps.specs.declared.stack_frame.StackFrame.TheVariants as frame
@@ -70,10 +71,22 @@ module _ (code : Program) (seen : ℕ) where
   FoldsOn layer acc left s result s' = (e : Expr) (env : Env) → out-Expr e ≡ layer
       → Decides (record { expr = e; env = env }) (fold_on (record { expr = e; env = env }) acc left s) result s'
 
+-- a send to a neighbour whose chunk and host are known
+abbrev pub near_send : Chunk → Host → Value → Value → Run Value
+near_send k host u v = or_wrong (as_int u) >>= (λ b. or_wrong (as_dev v) >>= (λ dev. send_neighbour k host b dev >> pure value.Unit))
+
+-- the same as the end of its expression
+abbrev pub near_step : Chunk → Host → Value → Value → VisitState → Step Value
+near_step k host u v s = (near_send k host u v >>= weighed) s
+
 -- a send by a routing name of which all parts gave values is safe at some standing of the services
 abbrev pub RemoteIsSafe : Name → Value → Value → Value → Own → Type 0
 RemoteIsSafe r c w v o =
     (k : Chunk) (host : Host) (i : ℤ) → as_chunk c ≡ Some k → as_host w ≡ Some host → as_int v ≡ Some i → (s : ServiceState) × IsSafe (send_remote k host i r (joined o s)).asks
+
+-- the same of a send to a neighbour whose chunk and host are known
+abbrev pub NearIsSafe : Chunk → Host → Value → Value → Own → Type 0
+NearIsSafe k host u v o = (i : ℤ) (dev : Dev) → as_int u ≡ Some i → as_dev v ≡ Some dev → (s : ServiceState) × IsSafe (send_neighbour k host i dev (joined o s)).asks
 
 -- the same of a send to a neighbour
 abbrev pub NeighbourIsSafe : Value → Value → Value → Value → Own → Type 0

@@ -17,15 +17,17 @@ use std::alloc::Global;
 use visit_state::State;
 
 /// The number of the part behind that of number `n`, where there is one.
-#[tactic(auto, using(crate::proofs::Calling::drop_all, crate::proofs::Calling::drop_some))]
 fn part_behind(es: &[Expr], n: usize) -> Option<usize>
     ensures { MatchOption result (drop (n + 1) es.now ≡ []) (λ m.
         (m ≡ n + 1) × (x : Expr) × (rest : List Expr) × (drop (n + 1) es.now ≡ x ∷ rest)) }
 {
-    if n < es.len() && n + 1 < es.len() {
-        return Some(n + 1);
+    if n >= es.len() {
+        return None;
     }
-    None
+    if n + 1 >= es.len() {
+        return None;
+    }
+    Some(n + 1)
 }
 
 /// The next part of a tuple, or the tuple.

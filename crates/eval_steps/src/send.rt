@@ -7,12 +7,13 @@ ghost use Rattle.service_api.specs.Services.{ServiceState};
 ghost use Rattle.plan_meaning.specs.State.{joined};
 ghost use Rattle.plan_meaning.specs.Meaning as spec;
 ghost use Rattle.eval_steps.specs.declared.stack_frame.StackFrame.TheVariants as frame;
-ghost use Rattle.eval_steps.specs.Nexts.{Continues, RemoteIsSafe, NeighbourIsSafe};
+ghost use Rattle.eval_steps.specs.Stack.{Spot};
+ghost use Rattle.eval_steps.specs.Nexts.{Decides, Continues, RemoteIsSafe, NeighbourIsSafe, NearIsSafe, near_step};
 
 use crate::next::Next;
 use crate::operand::behind_one;
 use crate::stack_frame::StackFrame;
-use plan_base::{Chunk, Name, NoMemory, Value, Values};
+use plan_base::{Chunk, Host, Name, NoMemory, Value, Values};
 use plan_meaning::Stop;
 use std::alloc::Global;
 use visit_state::{State, as_chunk, as_dev, as_host, as_int};
@@ -135,8 +136,33 @@ pub fn remote_part(
     }
 }
 
+/// A send to a neighbour whose chunk and host are known.
+#[tactic(auto, using(crate::proofs::Deciding::near_sends, crate::proofs::Sending::near))]
+fn send_near(
+    alloc: Global,
+    chunk: Chunk,
+    host: Host,
+    u: &Value,
+    v: &Value,
+    state: &mut State,
+) -> Result<Next, Stop>
+    requires safe { NearIsSafe chunk host u.now v.now state.old }
+    ensures decides { (code : Program) (seen : ℕ) (at : Spot) (s : ServiceState) → Decides code seen at
+        (near_step chunk host u.now v.now (joined state.old s)) result (joined state.new s) }
+    ensures falls { state.new.work ≤ state.old.work }
+{
+    let Some(bound) = as_int(u) else {
+        return Err(Stop::Wrong);
+    };
+    let Some(dev) = as_dev(v) else {
+        return Err(Stop::Wrong);
+    };
+    state.send_neighbour(alloc, chunk, host, bound, dev)?;
+    Ok(Next::Give(Value::Unit))
+}
+
 /// A send to a neighbour, once its parts are there.
-#[tactic(auto, using(crate::proofs::Deciding::sends_neighbour, crate::proofs::Sending::unsent_neighbour, crate::proofs::Sending::last_neighbour))]
+#[tactic(auto, using(crate::proofs::Sending::last_neighbour))]
 fn send_neighbour(
     alloc: Global,
     c: Value,
@@ -155,17 +181,10 @@ fn send_neighbour(
     let Some(chunk) = chunk_of(c) else {
         return Err(Stop::Wrong);
     };
-    let Some(host) = as_host(w) else {
-        return Err(Stop::Wrong);
-    };
-    let Some(bound) = as_int(u) else {
-        return Err(Stop::Wrong);
-    };
-    let Some(dev) = as_dev(v) else {
-        return Err(Stop::Wrong);
-    };
-    state.send_neighbour(alloc, chunk, host, bound, dev)?;
-    Ok(Next::Give(Value::Unit))
+    match as_host(w) {
+        Some(host) => send_near(alloc, chunk, host, u, v, state),
+        None => Err(Stop::Wrong),
+    }
 }
 
 /// The next part of a send to a neighbour, or the send.
