@@ -12,7 +12,8 @@ use Rattle.plan_base.specs.declared.ids.Family.{Family}
 use Rattle.bound_ledger.specs.declared.key.FamilyKey.{FamilyKey}
 use Rattle.bound_ledger.specs.declared.row.Row.{Row}
 use Rattle.bound_ledger.specs.Counts.{InBalance}
-use Rattle.bound_ledger.specs.Rows.{same_family, families_in, OneEach, row_of, change, changed_rows}
+use Rattle.bound_ledger.specs.Rows.{FamilyRow, same_family, families_in, OneEach, row_of, counts_of, change, changed_rows}
+use Rattle.bound_ledger.proofs.RowLaws.{changed_none, changed_to, counts_some}
 use Rattle.bound_ledger.specs.Keys.{key_of, family_of, row_at, rows_at, AreKept}
 use Rattle.bound_ledger.specs.contracts.key.FamilyKeyPartialEq.TheImpl as key_eq
 use Rattle.bound_ledger.specs.contracts.key.FamilyKeyEq.TheImpl.Laws.{laws-law}
@@ -82,6 +83,22 @@ row_set f key w old new k d h = ap rows_at (h ∙ ap (λ x. set_value (same_key 
 
 pub row_absent : (f : Family) (key : FamilyKey) (w : Row) (old new : Entries) → key ≡ key_of f → None ≡ lookup (same_key key) old → new ≡ old → rows_at new ≡ changed_rows (λ _. w) f (rows_at old)
 row_absent f key w old new k h e = ap rows_at e ∙ apart w f old (none_passes_from_lookup (same_key (key_of f)) old (sym (h ∙ ap (λ x. lookup (same_key x) old) k)))
+
+-- the row of a family, moved in its place
+pub row_moved : (move : Row → Row) (f : Family) (key : FamilyKey) (v w : Row) (old new : Entries) → key ≡ key_of f → IsDistinct same_key (keys_of old)
+    → Some v ≡ lookup (same_key key) old → w ≡ move v → new ≡ set_value (same_key key) old w → rows_at new ≡ changed_rows move f (rows_at old)
+row_moved move f key v w old new k d h m e =
+    row_set f key w old new k d e ∙ changed_to move f v w (rows_at old) (once old d) (sym (found f key old (Some v) k h)) m
+
+-- no row is moved where a family has none
+pub none_moved : (move : Row → Row) (f : Family) (key : FamilyKey) (old new : Entries) → key ≡ key_of f → None ≡ lookup (same_key key) old → new ≡ old
+    → rows_at new ≡ changed_rows move f (rows_at old)
+none_moved move f key old new k h e = ap rows_at e ∙ sym (changed_none move f (rows_at old) (sym (found f key old None k h)))
+
+-- the counts of a family are those of the row at its key
+pub counts_at : (f : Family) (key : FamilyKey) (v : Row) (es : Entries) (rows : List FamilyRow) → key ≡ key_of f → Some v ≡ lookup (same_key key) es
+    → rows_at es ≡ rows → counts_of f rows ≡ v
+counts_at f key v es rows k h r = ap (counts_of f) (sym r) ∙ counts_some f (rows_at es) v (sym (found f key es (Some v) k h))
 
 -- ---- a row more
 

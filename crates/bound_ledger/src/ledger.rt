@@ -115,9 +115,10 @@ impl Ledger {
         requires live { 1 ≤ (counts_of f self.old).live }
         ensures { self.new ≡ changed_rows hopped f self.old }
     {
-        if let Some(row) = self.row(f) {
-            self.set(f, row.with_hop());
-        }
+        let Some(place) = self.rows.get_mut(&FamilyKey::of(f)) else {
+            return;
+        };
+        *place = place.with_hop();
     }
 
     /// Moves `n` of what a family still has to its evals. Takes no memory. Condition: it still has `n`, where
@@ -126,9 +127,10 @@ impl Ledger {
         requires live { n ≤ (counts_of f self.old).live }
         ensures { self.new ≡ changed_rows (paid n) f self.old }
     {
-        if let Some(row) = self.row(f) {
-            self.set(f, row.with_evals(n));
-        }
+        let Some(place) = self.rows.get_mut(&FamilyKey::of(f)) else {
+            return;
+        };
+        *place = place.with_evals(n);
     }
 
     /// Moves `n` of what a family still has to what it left. Takes no memory. Condition: it still has `n`,
@@ -137,8 +139,9 @@ impl Ledger {
         requires live { n ≤ (counts_of f self.old).live }
         ensures { self.new ≡ changed_rows (quit n) f self.old }
     {
-        if let Some(row) = self.row(f) {
-            self.set(f, row.with_left(n));
-        }
+        let Some(place) = self.rows.get_mut(&FamilyKey::of(f)) else {
+            return;
+        };
+        *place = place.with_left(n);
     }
 }

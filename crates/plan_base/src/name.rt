@@ -130,49 +130,51 @@ fn are_word_bytes(bytes: &[u8]) -> bool
         .all(|b| b.is_ascii_alphanumeric() || *b == b'_')
 }
 
-static RESERVED: [&[u8]; 34] = [
-    b"and",
-    b"blob",
-    b"bool",
-    b"char",
-    b"chunk",
-    b"dev",
-    b"else",
-    b"end",
-    b"eval",
-    b"exception",
-    b"false",
-    b"foldl",
-    b"foldr",
-    b"fun",
-    b"handle",
-    b"host",
-    b"if",
-    b"in",
-    b"int",
-    b"let",
-    b"list",
-    b"mod",
-    b"not",
-    b"OnNeighbor",
-    b"OnRemote",
-    b"or",
-    b"raise",
-    b"string",
-    b"svc",
-    b"then",
-    b"true",
-    b"try",
-    b"unit",
-    b"val",
+// The reserved words of each number of bytes that they have.
+static TWO: [&[u8]; 3] = [b"if", b"in", b"or"];
+static THREE: [&[u8]; 11] = [
+    b"and", b"dev", b"end", b"fun", b"int", b"let", b"mod", b"not", b"svc", b"try", b"val",
 ];
+static FOUR: [&[u8]; 10] = [
+    b"blob", b"bool", b"char", b"else", b"eval", b"host", b"list", b"then", b"true", b"unit",
+];
+static FIVE: [&[u8]; 5] = [b"chunk", b"false", b"foldl", b"foldr", b"raise"];
+static SIX: [&[u8]; 2] = [b"handle", b"string"];
+static EIGHT: [&[u8]; 1] = [b"OnRemote"];
+static NINE: [&[u8]; 1] = [b"exception"];
+static TEN: [&[u8]; 1] = [b"OnNeighbor"];
 
-/// Whether the word is one that the language keeps for itself.
-#[tactic(auto, unfolding(crate::specs::Words::is_reserved))]
+/// Whether the word is one that the language keeps for itself. It is compared with those of its length alone.
+#[tactic(auto)]
 pub fn is_reserved(word: &[u8]) -> bool
     ensures { result ≡ is_reserved word.now }
 {
-    is_among(word, &RESERVED)
+    let size = word.len();
+    if size == 2 {
+        return is_among(word, &TWO);
+    }
+    if size == 3 {
+        return is_among(word, &THREE);
+    }
+    if size == 4 {
+        return is_among(word, &FOUR);
+    }
+    if size == 5 {
+        return is_among(word, &FIVE);
+    }
+    if size == 6 {
+        return is_among(word, &SIX);
+    }
+    if size == 8 {
+        return is_among(word, &EIGHT);
+    }
+    if size == 9 {
+        return is_among(word, &NINE);
+    }
+    if size == 10 {
+        return is_among(word, &TEN);
+    }
+    false
 }
 
 fn is_among(word: &[u8], words: &[&[u8]]) -> bool
