@@ -35,8 +35,8 @@ unfolding row_of rows_at same_family
 row_found f [] = refl
 row_found f (e ∷ es) = ap (cond (same_key (key_of f) e.0) (Some e.1)) (row_found f es)
 
-pub found : (f : Family) (key : FamilyKey) (es : Entries) (o : Option Row) → key ≡ key_of f → o ≡ lookup (same_key key) es → o ≡ row_of f (rows_at es)
-found f key es o k h = h ∙ ap (λ x. lookup (same_key x) es) k ∙ sym (row_found f es)
+pub row_is_found : (f : Family) (key : FamilyKey) (es : Entries) (o : Option Row) → key ≡ key_of f → o ≡ lookup (same_key key) es → o ≡ row_of f (rows_at es)
+row_is_found f key es o k h = h ∙ ap (λ x. lookup (same_key x) es) k ∙ sym (row_found f es)
 
 -- ---- no family has two rows
 
@@ -88,17 +88,17 @@ row_absent f key w old new k h e = ap rows_at e ∙ apart w f old (none_passes_f
 pub row_moved : (move : Row → Row) (f : Family) (key : FamilyKey) (v w : Row) (old new : Entries) → key ≡ key_of f → IsDistinct same_key (keys_of old)
     → Some v ≡ lookup (same_key key) old → w ≡ move v → new ≡ set_value (same_key key) old w → rows_at new ≡ changed_rows move f (rows_at old)
 row_moved move f key v w old new k d h m e =
-    row_set f key w old new k d e ∙ changed_to move f v w (rows_at old) (once old d) (sym (found f key old (Some v) k h)) m
+    row_set f key w old new k d e ∙ changed_to move f v w (rows_at old) (once old d) (sym (row_is_found f key old (Some v) k h)) m
 
 -- no row is moved where a family has none
 pub none_moved : (move : Row → Row) (f : Family) (key : FamilyKey) (old new : Entries) → key ≡ key_of f → None ≡ lookup (same_key key) old → new ≡ old
     → rows_at new ≡ changed_rows move f (rows_at old)
-none_moved move f key old new k h e = ap rows_at e ∙ sym (changed_none move f (rows_at old) (sym (found f key old None k h)))
+none_moved move f key old new k h e = ap rows_at e ∙ sym (changed_none move f (rows_at old) (sym (row_is_found f key old None k h)))
 
 -- the counts of a family are those of the row at its key
 pub counts_at : (f : Family) (key : FamilyKey) (v : Row) (es : Entries) (rows : List FamilyRow) → key ≡ key_of f → Some v ≡ lookup (same_key key) es
     → rows_at es ≡ rows → counts_of f rows ≡ v
-counts_at f key v es rows k h r = ap (counts_of f) (sym r) ∙ counts_some f (rows_at es) v (sym (found f key es (Some v) k h))
+counts_at f key v es rows k h r = ap (counts_of f) (sym r) ∙ counts_some f (rows_at es) v (sym (row_is_found f key es (Some v) k h))
 
 -- ---- a row more
 

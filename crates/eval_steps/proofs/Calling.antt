@@ -7,8 +7,8 @@ use Rattle.plan_base.specs.declared.tree.Program.{Program}
 use Rattle.plan_base.specs.declared.tree.Value.{Value}
 use Rattle.typing_rules.specs.TypingNames.{place_of, service_of, prim_of}
 use Rattle.value_rules.specs.Rules.{Given, gives, primitive}
-use Rattle.plan_meaning.specs.declared.stop.Stop.{Stop}
-use Rattle.plan_meaning.specs.declared.stop.Stop.TheVariants.{Raised, WorkSpent, Wrong, NoMemory}
+use Rattle.plan_meaning.specs.declared.stop.EvalStop.{EvalStop}
+use Rattle.plan_meaning.specs.declared.stop.EvalStop.TheVariants.{Raised, WorkSpent, Wrong, NoMemory}
 use Rattle.plan_meaning.specs.State.{VisitState}
 use Rattle.plan_meaning.specs.Run.{gave, stopped, «next», given, serve, weighed, ◌>>=◌}
 use Rattle.plan_meaning.specs.Meaning.{called, applied}
@@ -22,7 +22,7 @@ use Rattle.eval_steps.proofs.Leading.{gave_on, given_on}
 use Rattle.eval_steps.proofs.Deciding.{enters}
 
 -- what an operator or a primitive answers ends the expression so
-pub given_stops : (g : Given) (e : Stop) (s : VisitState) → MeetsGiven g (Err e) → e ≢ NoMemory → ((given g >>= weighed) s).after ≡ stopped e s
+pub given_stops : (g : Given) (e : EvalStop) (s : VisitState) → MeetsGiven g (Err e) → e ≢ NoMemory → ((given g >>= weighed) s).after ≡ stopped e s
 given_stops g (Raised x) s h other = rw h refl
 given_stops g Wrong s h other = rw h refl
 given_stops g NoMemory s h other = absurd (other refl)
@@ -36,7 +36,7 @@ module _ (code : Program) (seen : ℕ) (f : Name) (args : List Value) (s : Visit
   unfolding called
   prim_gives p v is h = rw is (given_gives (primitive p args) v s h)
 
-  pub prim_stops : (p : Primitive) (e : Stop) → prim_of f ≡ Some p → MeetsGiven (primitive p args) (Err e) → e ≢ NoMemory → (call_of code seen f args s).after ≡ stopped e s
+  pub prim_stops : (p : Primitive) (e : EvalStop) → prim_of f ≡ Some p → MeetsGiven (primitive p args) (Err e) → e ≢ NoMemory → (call_of code seen f args s).after ≡ stopped e s
   unfolding called
   prim_stops p e is h other = rw is (given_stops (primitive p args) e s h other)
 
@@ -44,7 +44,7 @@ module _ (code : Program) (seen : ℕ) (f : Name) (args : List Value) (s : Visit
   unfolding called
   service_gives d v t none is h = rw (none, is) (gave_on (serve d args s) v t weighed h)
 
-  pub service_stops : (d : Svc) (e : Stop) (t : VisitState) → prim_of f ≡ None → service_of f code.svcs ≡ Some d → (serve d args s).after ≡ stopped e t → (call_of code seen f args s).after ≡ stopped e t
+  pub service_stops : (d : Svc) (e : EvalStop) (t : VisitState) → prim_of f ≡ None → service_of f code.svcs ≡ Some d → (serve d args s).after ≡ stopped e t → (call_of code seen f args s).after ≡ stopped e t
   unfolding called
   service_stops d e t none is h = rw (none, is) (ap (λ a. («next» a weighed).after) h)
 

@@ -16,7 +16,7 @@ use Rattle.plan_base.specs.declared.tree.Chunk.{Chunk}
 use Rattle.plan_base.specs.Trees.{ExprLayer}
 use Rattle.typing_rules.specs.TypingNames.{place_of}
 use Rattle.value_rules.specs.Rules.{Given, gives, raises, binary}
-use Rattle.plan_meaning.specs.declared.stop.Stop.TheVariants.{Raised, Wrong}
+use Rattle.plan_meaning.specs.declared.stop.EvalStop.TheVariants.{Raised, Wrong}
 use Rattle.plan_meaning.specs.State.{VisitState}
 use Rattle.plan_meaning.specs.Run.{Run, gave, stopped, quiet, ◌>>=◌, ◌>>◌, pure, or_wrong, given, weighed}
 use Rattle.plan_meaning.specs.Meaning.{Env, meaning, as_bool, as_int, as_host, as_dev, as_chunk, as_items, values_behind, called, left_along, right_along, pay_eval, visited, send_remote, send_neighbour, opened_at, applied, entered, tuple, call, packed, choice, binding, sequence, conjunction, disjunction, negation, operation, selection, attempt, fold_left, fold_right, evaluation, remote, neighbour, values}

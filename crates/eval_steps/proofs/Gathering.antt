@@ -12,10 +12,10 @@ use Rattle.plan_base.specs.declared.tree.Value.{Value, out-Value}
 use Rattle.plan_base.specs.Sizes.{weight}
 use Rattle.typing_rules.specs.TypingNames.{place_of}
 use Rattle.value_rules.specs.Rules.{Given, gives, raises, too_large, limited, put_first, binary, part}
-use Rattle.plan_meaning.specs.declared.stop.Stop.{Stop}
-use Rattle.plan_meaning.specs.declared.stop.Stop.TheVariants.{Raised, WorkSpent, Wrong, NoMemory}
+use Rattle.plan_meaning.specs.declared.stop.EvalStop.{EvalStop}
+use Rattle.plan_meaning.specs.declared.stop.EvalStop.TheVariants.{Raised, WorkSpent, Wrong, NoMemory}
 use Rattle.plan_meaning.specs.State.{VisitState}
-use Rattle.plan_meaning.specs.Run.{Step, Run, gave, stopped, quiet, pure, raise, given, spend, is_too_large, weighed, and_then, ◌>>=◌, ◌>>◌}
+use Rattle.plan_meaning.specs.Run.{RunStep, Run, gave, stopped, quiet, pure, raise, given, spend, is_too_large, weighed, and_then, ◌>>=◌, ◌>>◌}
 use Rattle.plan_meaning.specs.Safe.{IsSafe}
 use Rattle.plan_meaning.specs.Meaning.{Env, as_items, applied}
 use Rattle.visit_state.specs.Meets.{MeetsGiven, MeetsUnweighed}
@@ -28,7 +28,7 @@ use Rattle.eval_steps.proofs.Deciding.{folds_left, folds_right, last_of_call}
 use Rattle.eval_steps.proofs.Calling.{given_gives, given_stops}
 
 -- what carries a later step on carries an earlier one on
-pub carries_from : (code : Program) (seen : ℕ) (at : Spot) (p q : Step Value) (r : Result Next Stop) (s : VisitState) → Leads p q → Decides code seen at q r s → Decides code seen at p r s
+pub carries_from : (code : Program) (seen : ℕ) (at : Spot) (p q : RunStep Value) (r : Result Next EvalStop) (s : VisitState) → Leads p q → Decides code seen at q r s → Decides code seen at p r s
 carries_from code seen at p q (Ok n) s h k = onward _ _ _ h k
 carries_from code seen at p q (Err e) s h k = λ other. h.same ∙ k other
 
@@ -38,7 +38,7 @@ cons_is : (x v : Value) → binary op.Cons x v ≡ put_first x (out-Value v)
 unfolding binary
 cons_is x v = refl
 
-unweighed_stops : (g : Given) (e : Stop) → MeetsUnweighed g (Err e) → MeetsGiven g (Err e)
+unweighed_stops : (g : Given) (e : EvalStop) → MeetsUnweighed g (Err e) → MeetsGiven g (Err e)
 unweighed_stops g (Raised x) h = h
 unweighed_stops g WorkSpent h = h
 unweighed_stops g Wrong h = h
@@ -76,7 +76,7 @@ module _ (code : Program) (seen : ℕ) (e : Expr) (env : Env) (s : VisitState) w
       → Leads (part_gave code seen (record { expr = e; env = env }) n (x ∷ held) v s) (weighed r s)
   operator_gives o a b n x held v r form h = rw form (given_gives (binary o x v) r s h)
 
-  pub operator_stops : (o : Op) (a b : Expr) (n : ℕ) (x : Value) (held : List Value) (v : Value) (y : Stop) → out-Expr e ≡ Expr-F.Binary o a b → MeetsGiven (binary o x v) (Err y) → y ≢ NoMemory
+  pub operator_stops : (o : Op) (a b : Expr) (n : ℕ) (x : Value) (held : List Value) (v : Value) (y : EvalStop) → out-Expr e ≡ Expr-F.Binary o a b → MeetsGiven (binary o x v) (Err y) → y ≢ NoMemory
       → (part_gave code seen (record { expr = e; env = env }) n (x ∷ held) v s).after ≡ stopped y s
   operator_stops o a b n x held v y form h other = rw form (given_stops (binary o x v) y s h other)
 
@@ -85,7 +85,7 @@ module _ (code : Program) (seen : ℕ) (e : Expr) (env : Env) (s : VisitState) w
       → Leads (part_gave code seen (record { expr = e; env = env }) n (x ∷ held) v s) (weighed r s)
   list_gives a b n x held v r form h = rw form (limited_gives (binary op.Cons x v) r s (cons_is x v ∙ h))
 
-  pub list_stops : (a b : Expr) (n : ℕ) (x : Value) (held : List Value) (v : Value) (y : Stop) → out-Expr e ≡ Expr-F.Binary op.Cons a b → MeetsUnweighed (put_first x (out-Value v)) (Err y) → y ≢ NoMemory
+  pub list_stops : (a b : Expr) (n : ℕ) (x : Value) (held : List Value) (v : Value) (y : EvalStop) → out-Expr e ≡ Expr-F.Binary op.Cons a b → MeetsUnweighed (put_first x (out-Value v)) (Err y) → y ≢ NoMemory
       → (part_gave code seen (record { expr = e; env = env }) n (x ∷ held) v s).after ≡ stopped y s
   list_stops a b n x held v y form h other =
       rw form (given_stops (binary op.Cons x v) y s (subst (λ (g : Given). MeetsGiven g (Err y)) (sym (cons_is x v)) (unweighed_stops _ y h)) other)
@@ -94,12 +94,12 @@ module _ (code : Program) (seen : ℕ) (e : Expr) (env : Env) (s : VisitState) w
       → Leads (part_gave code seen (record { expr = e; env = env }) n held v s) (weighed r s)
   part_gives i a n held v r form h = rw form (given_gives (part i v) r s h)
 
-  pub part_stops : (i : ℕ) (a : Expr) (n : ℕ) (held : List Value) (v : Value) (y : Stop) → out-Expr e ≡ Expr-F.Part i a → MeetsGiven (part i v) (Err y) → y ≢ NoMemory
+  pub part_stops : (i : ℕ) (a : Expr) (n : ℕ) (held : List Value) (v : Value) (y : EvalStop) → out-Expr e ≡ Expr-F.Part i a → MeetsGiven (part i v) (Err y) → y ≢ NoMemory
       → (part_gave code seen (record { expr = e; env = env }) n held v s).after ≡ stopped y s
   part_stops i a n held v y form h other = rw form (given_stops (part i v) y s h other)
 
   -- the last argument of a call
-  pub call_decides : (f : Name) (es : List Expr) (n : ℕ) (held args : List Value) (v : Value) (r : Result Next Stop) (t : VisitState) → out-Expr e ≡ Expr-F.Call f es → drop (n + 1) es ≡ []
+  pub call_decides : (f : Name) (es : List Expr) (n : ℕ) (held args : List Value) (v : Value) (r : Result Next EvalStop) (t : VisitState) → out-Expr e ≡ Expr-F.Call f es → drop (n + 1) es ≡ []
       → args ≡ held ++ v ∷ [] → Decides code seen (record { expr = e; env = env }) (call_of code seen f args s) r t
       → Decides code seen (record { expr = e; env = env }) (part_gave code seen (record { expr = e; env = env }) n held v s) r t
   call_decides f es n held args v r t form done all h = carries_from code seen (record { expr = e; env = env }) _ _ r t (last_of_call code seen e env s f es n held v form done) (rw all at h)
@@ -121,13 +121,13 @@ module _ (code : Program) (seen : ℕ) (e : Expr) (env : Env) (s : VisitState) w
   unfolding applied
   no_right_step f a l acc x all left form is more = rw (form, more, reverse-append left (x ∷ []), is) refl
 
-  pub left_decides : (f : Name) (a l : Expr) (n : ℕ) (acc : Value) (all held xs left : List Value) (v : Value) (r : Result Next Stop) (t : VisitState) → out-Expr e ≡ Expr-F.Foldl f a l → as_items v ≡ Some xs
+  pub left_decides : (f : Name) (a l : Expr) (n : ℕ) (acc : Value) (all held xs left : List Value) (v : Value) (r : Result Next EvalStop) (t : VisitState) → out-Expr e ≡ Expr-F.Foldl f a l → as_items v ≡ Some xs
       → all ≡ acc ∷ held → left ≡ reverse xs
       → Decides code seen (record { expr = e; env = env }) (fold_on code seen (record { expr = e; env = env }) acc left s) r t
       → Decides code seen (record { expr = e; env = env }) (part_gave code seen (record { expr = e; env = env }) n all v s) r t
   left_decides f a l n acc all held xs left v r t form is front turned h = carries_from code seen (record { expr = e; env = env }) _ _ r t (rw front (folds_left code seen e env s f a l n acc held xs v form is)) (rw turned at h)
 
-  pub right_decides : (f : Name) (a l : Expr) (n : ℕ) (acc : Value) (all held xs : List Value) (v : Value) (r : Result Next Stop) (t : VisitState) → out-Expr e ≡ Expr-F.Foldr f a l → as_items v ≡ Some xs
+  pub right_decides : (f : Name) (a l : Expr) (n : ℕ) (acc : Value) (all held xs : List Value) (v : Value) (r : Result Next EvalStop) (t : VisitState) → out-Expr e ≡ Expr-F.Foldr f a l → as_items v ≡ Some xs
       → all ≡ acc ∷ held
       → Decides code seen (record { expr = e; env = env }) (fold_on code seen (record { expr = e; env = env }) acc xs s) r t
       → Decides code seen (record { expr = e; env = env }) (part_gave code seen (record { expr = e; env = env }) n all v s) r t

@@ -5,7 +5,7 @@ use Rattle.plan_base.specs.declared.tree.Expr.{Expr, Expr-F, out-Expr}
 use Rattle.plan_base.specs.declared.tree.Program.{Program}
 use Rattle.plan_base.specs.declared.tree.Value.{Value}
 use Rattle.plan_base.specs.Trees.{ExprLayer}
-use Rattle.plan_meaning.specs.declared.stop.Stop.{Stop}
+use Rattle.plan_meaning.specs.declared.stop.EvalStop.{EvalStop}
 use Rattle.service_api.specs.Services.{ServiceState}
 use Rattle.plan_meaning.specs.Meaning.{Env}
 use Rattle.plan_meaning.specs.State.{VisitState, Own, joined}
@@ -38,7 +38,7 @@ IsLeaf (Expr-F.Try a ks) = Unit {0}
 IsLeaf _ = ⊥
 
 module _ (code : Program) (seen : ℕ) (at : Spot) (n : ℕ) (held : List Value) (v : Value) (s : VisitState) where
-  pub by_part : (r : Result Next Stop) (t : VisitState) → Decides code seen at (part_gave code seen at n held v s) r t
+  pub by_part : (r : Result Next EvalStop) (t : VisitState) → Decides code seen at (part_gave code seen at n held v s) r t
       → Decides code seen at (resume code seen at (frame.Part n held) (quiet (gave v s))) r t
   by_part r t h = carries_from code seen at _ _ r t (part_given code seen at s (out-Expr at.expr) n held v) h
 
@@ -60,7 +60,7 @@ module _ (code : Program) (seen : ℕ) (at : Spot) (n : ℕ) (held : List Value)
   pub leaf_given : (l : ExprLayer) → out-Expr at.expr ≡ l → IsLeaf l → Leads (part_gave code seen at n held v s) (weighed v s)
   leaf_given l form h = leaf_at l form h
 
-pub by_item : (code : Program) (seen : ℕ) (at : Spot) (left : List Value) (v : Value) (s : VisitState) (r : Result Next Stop) (t : VisitState)
+pub by_item : (code : Program) (seen : ℕ) (at : Spot) (left : List Value) (v : Value) (s : VisitState) (r : Result Next EvalStop) (t : VisitState)
     → Decides code seen at (fold_on code seen at v left s) r t → Decides code seen at (resume code seen at (frame.Items left) (quiet (gave v s))) r t
 by_item code seen at left v s r t h = carries_from code seen at _ _ r t (item_given code seen at s left v) h
 

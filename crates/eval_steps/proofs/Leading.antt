@@ -2,23 +2,23 @@
 use Rattle.std.proofs.Common.{◌≡◌, refl, sym, ◌∙◌, ap}
 use Rattle.plan_base.specs.declared.tree.Exn.{Exn}
 use Rattle.plan_base.specs.declared.tree.Value.{Value}
-use Rattle.plan_meaning.specs.declared.stop.Stop.TheVariants.{Wrong}
+use Rattle.plan_meaning.specs.declared.stop.EvalStop.TheVariants.{Wrong}
 use Rattle.plan_meaning.specs.State.{VisitState}
-use Rattle.plan_meaning.specs.Run.{After, gave, stopped, Step, Run, «next», and_then, ◌>>=◌, quiet, pure, wrong, otherwise, rescued}
+use Rattle.plan_meaning.specs.Run.{After, gave, stopped, RunStep, Run, «next», and_then, ◌>>=◌, quiet, pure, wrong, otherwise, rescued}
 use Rattle.plan_meaning.specs.Safe.{IsSafe}
 use Rattle.eval_steps.specs.Leads.{Leads}
 
-pub itself : {A : Type 0} (p : Step A) → Leads p p
+pub itself : {A : Type 0} (p : RunStep A) → Leads p p
 itself p = record { same = refl; safe = λ h. h }
 
-pub onward : {A : Type 0} (p q r : Step A) → Leads p q → Leads q r → Leads p r
+pub onward : {A : Type 0} (p q r : RunStep A) → Leads p q → Leads q r → Leads p r
 onward p q r a b = record { same = a.same ∙ b.same; safe = λ h. b.safe (a.safe h) }
 
 -- what follows is carried along
-pub carried : {A B : Type 0} (p q : Step A) (f : A → Run B) → Leads p q → Leads (and_then p f) (and_then q f)
+pub carried : {A B : Type 0} (p q : RunStep A) (f : A → Run B) → Leads p q → Leads (and_then p f) (and_then q f)
 carried p q f h = record { same = ap (λ a. («next» a f).after) h.same; safe = λ k. (h.safe k.0, rw (sym h.same) k.1) }
 
-pub handled_along : (p q : Step Value) (f : Exn → Run Value) → Leads p q → Leads (rescued p f) (rescued q f)
+pub handled_along : (p q : RunStep Value) (f : Exn → Run Value) → Leads p q → Leads (rescued p f) (rescued q f)
 handled_along p q f h = record { same = ap (λ a. (otherwise a f).after) h.same; safe = λ k. (h.safe k.0, rw (sym h.same) k.1) }
 
 -- two that follow one after the other
@@ -32,7 +32,7 @@ next_safe : {A B C : Type 0} (a : After A) (f : A → Run B) (g : B → Run C)
 next_safe (gave x s) f g h k = (h, k)
 next_safe (stopped e s) f g h k = tt
 
-pub regrouped : {A B C : Type 0} (p : Step A) (f : A → Run B) (g : B → Run C) → Leads (and_then (and_then p f) g) (and_then p (λ x. f x >>= g))
+pub regrouped : {A B C : Type 0} (p : RunStep A) (f : A → Run B) (g : B → Run C) → Leads (and_then (and_then p f) g) (and_then p (λ x. f x >>= g))
 regrouped p f g = record { same = next_then p.after f g; safe = λ k. (k.0.0, next_safe p.after f g k.0.1 k.1) }
 
 -- what asks nothing and gives a value goes on with it
@@ -50,7 +50,7 @@ known_then a s f g = record { same = refl; safe = λ k. (k.0.1, k.1) }
 pub wrong_then : {A B C : Type 0} (s : VisitState) (f : A → Run B) (g : B → Run C) → ((wrong >>= f >>= g) s).after ≡ stopped Wrong s
 wrong_then s f g = refl
 
-pub regrouped_twice : {A B C D : Type 0} (p : Step A) (f : A → Run B) (g : B → Run C) (h : C → Run D)
+pub regrouped_twice : {A B C D : Type 0} (p : RunStep A) (f : A → Run B) (g : B → Run C) (h : C → Run D)
     → Leads (and_then (and_then (and_then p f) g) h) (and_then p (λ x. f x >>= g >>= h))
 regrouped_twice p f g h = onward _ _ _ (carried _ _ h (regrouped p f g)) (regrouped p (λ x. f x >>= g) h)
 
@@ -58,7 +58,7 @@ pub known_back : {A B C : Type 0} (a : A) (s : VisitState) (f : A → Run B) (g 
 known_back a s f g = record { same = refl; safe = λ k. ((tt, k.0), k.1) }
 
 -- a step that gave a value goes on with it
-pub gave_on : {A B : Type 0} (p : Step A) (a : A) (t : VisitState) (f : A → Run B) → p.after ≡ gave a t → Leads (and_then p f) (f a t)
+pub gave_on : {A B : Type 0} (p : RunStep A) (a : A) (t : VisitState) (f : A → Run B) → p.after ≡ gave a t → Leads (and_then p f) (f a t)
 gave_on p a t f is = record { same = ap (λ r. («next» r f).after) is; safe = λ k. rw is at k.1 }
 
 later_next : {A B : Type 0} (a : After A) (f g : A → Run B) → ((x : A) (t : VisitState) → Leads (f x t) (g x t)) → Leads («next» a f) («next» a g)
@@ -66,5 +66,5 @@ later_next (gave x t) f g h = h x t
 later_next (stopped e t) f g h = itself _
 
 -- what follows may go another way
-pub later : {A B : Type 0} (p : Step A) (f g : A → Run B) → ((x : A) (t : VisitState) → Leads (f x t) (g x t)) → Leads (and_then p f) (and_then p g)
+pub later : {A B : Type 0} (p : RunStep A) (f g : A → Run B) → ((x : A) (t : VisitState) → Leads (f x t) (g x t)) → Leads (and_then p f) (and_then p g)
 later p f g h = let l = later_next p.after f g h in record { same = l.same; safe = λ k. (k.0, l.safe k.1) }

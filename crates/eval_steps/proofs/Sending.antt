@@ -10,8 +10,8 @@ use Rattle.plan_base.specs.declared.tree.Program.{Program}
 use Rattle.plan_base.specs.declared.tree.Value.{Value}
 use Rattle.plan_base.specs.declared.tree.Value as value
 use Rattle.plan_base.specs.declared.tree.Chunk.{Chunk}
-use Rattle.plan_meaning.specs.declared.stop.Stop.{Stop}
-use Rattle.plan_meaning.specs.declared.stop.Stop.TheVariants.{Wrong}
+use Rattle.plan_meaning.specs.declared.stop.EvalStop.{EvalStop}
+use Rattle.plan_meaning.specs.declared.stop.EvalStop.TheVariants.{Wrong}
 use Rattle.plan_meaning.specs.State.{VisitState}
 use Rattle.plan_meaning.specs.Run.{stopped, «next», ◌>>◌, pure, weighed}
 use Rattle.plan_meaning.specs.Meaning.{Env, meaning, as_int, as_host, as_dev, as_chunk, pay_eval, visited, send_remote, send_neighbour}
@@ -21,7 +21,7 @@ use Rattle.eval_steps.proofs.Deciding.{near_on}
 use Rattle.eval_steps.proofs.Gathering.{carries_from}
 
 module _ (code : Program) (seen : ℕ) (e : Expr) (env : Env) (s : VisitState) where
-  pub chunk_unpaid : (a : Expr) (n : ℕ) (held : List Value) (v : Value) (k : Chunk) (x : Stop) (t : VisitState) → out-Expr e ≡ Expr-F.Eval a → as_chunk v ≡ Some k
+  pub chunk_unpaid : (a : Expr) (n : ℕ) (held : List Value) (v : Value) (k : Chunk) (x : EvalStop) (t : VisitState) → out-Expr e ≡ Expr-F.Eval a → as_chunk v ≡ Some k
       → (pay_eval s).after ≡ stopped x t → (part_gave code seen (record { expr = e; env = env }) n held v s).after ≡ stopped x t
   chunk_unpaid a n held v k x t form is h = rw (form, is) (ap (λ r. («next» («next» r (λ _. visited meaning k >> pure value.Unit)).after weighed).after) h)
 
@@ -29,7 +29,7 @@ module _ (code : Program) (seen : ℕ) (e : Expr) (env : Env) (s : VisitState) w
       → (part_gave code seen (record { expr = e; env = env }) n held v s).after ≡ stopped Wrong s
   no_chunk a n held v form is = rw (form, is) refl
 
-  pub unsent_remote : (a h b : Expr) (r : Name) (n : ℕ) (c w v : Value) (held : List Value) (k : Chunk) (host : Host) (i : ℤ) (x : Stop) (t : VisitState)
+  pub unsent_remote : (a h b : Expr) (r : Name) (n : ℕ) (c w v : Value) (held : List Value) (k : Chunk) (host : Host) (i : ℤ) (x : EvalStop) (t : VisitState)
       → out-Expr e ≡ Expr-F.OnRemote a h b r → as_chunk c ≡ Some k → as_host w ≡ Some host → as_int v ≡ Some i → (send_remote k host i r s).after ≡ stopped x t
       → (part_gave code seen (record { expr = e; env = env }) n (c ∷ w ∷ held) v s).after ≡ stopped x t
   unsent_remote a h b r n c w v held k host i x t form is there much sent = rw (form, is, there, much) (ap (λ q. («next» («next» q (λ _. pure value.Unit)).after weighed).after) sent)
@@ -87,7 +87,7 @@ module _ (code : Program) (seen : ℕ) (e : Expr) (env : Env) (s : VisitState) w
     last_host c w u v held k is there = rw (form, is, there) refl
 
 module _ (k : Chunk) (host : Host) (u v : Value) (s : VisitState) where
-  pub unsent_near : (i : ℤ) (dev : Dev) (x : Stop) (t : VisitState) → as_int u ≡ Some i → as_dev v ≡ Some dev → (send_neighbour k host i dev s).after ≡ stopped x t
+  pub unsent_near : (i : ℤ) (dev : Dev) (x : EvalStop) (t : VisitState) → as_int u ≡ Some i → as_dev v ≡ Some dev → (send_neighbour k host i dev s).after ≡ stopped x t
       → (near_step k host u v s).after ≡ stopped x t
   unsent_near i dev x t much way sent = rw (much, way) (ap (λ q. («next» («next» q (λ _. pure value.Unit)).after weighed).after) sent)
 
@@ -98,7 +98,7 @@ module _ (k : Chunk) (host : Host) (u v : Value) (s : VisitState) where
   no_near_dev i much way = rw (much, way) refl
 
 -- a send to a neighbour goes on with its number and its device
-pub near_decides : (code : Program) (seen : ℕ) (e : Expr) (env : Env) (a h b d : Expr) (n : ℕ) (c w u v : Value) (held : List Value) (k : Chunk) (host : Host) (s : VisitState) (r : Result Next Stop) (t : VisitState)
+pub near_decides : (code : Program) (seen : ℕ) (e : Expr) (env : Env) (a h b d : Expr) (n : ℕ) (c w u v : Value) (held : List Value) (k : Chunk) (host : Host) (s : VisitState) (r : Result Next EvalStop) (t : VisitState)
     → out-Expr e ≡ Expr-F.OnNeighbor a h b d → as_chunk c ≡ Some k → as_host w ≡ Some host
     → Decides code seen (record { expr = e; env = env }) (near_step k host u v s) r t
     → Decides code seen (record { expr = e; env = env }) (part_gave code seen (record { expr = e; env = env }) n (c ∷ w ∷ u ∷ held) v s) r t

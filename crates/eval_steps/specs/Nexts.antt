@@ -11,9 +11,9 @@ use Rattle.plan_base.specs.declared.tree.Value.{Value}
 use Rattle.plan_base.specs.declared.tree.Value as value
 use Rattle.plan_base.specs.declared.tree.Chunk.{Chunk}
 use Rattle.service_api.specs.Services.{ServiceState}
-use Rattle.plan_meaning.specs.declared.stop.Stop.{Stop}
+use Rattle.plan_meaning.specs.declared.stop.EvalStop.{EvalStop}
 use Rattle.plan_meaning.specs.State.{VisitState, Own, joined}
-use Rattle.plan_meaning.specs.Run.{Run, Step, pure, wrong, or_wrong, weighed, ◌>>=◌, ◌>>◌}
+use Rattle.plan_meaning.specs.Run.{Run, RunStep, pure, wrong, or_wrong, weighed, ◌>>=◌, ◌>>◌}
 use Rattle.plan_meaning.specs.Meaning.{Env, bound, entered, visited, meaning, opened_at, called, as_chunk, as_host, as_int, as_dev, send_remote, send_neighbour}
 use Rattle.plan_meaning.specs.Safe.{IsSafe}
 use Rattle.eval_steps.specs.declared.stack_frame.StackFrame.TheVariants as frame
@@ -29,7 +29,7 @@ module _ (code : Program) (seen : ℕ) where
   run_at None = wrong
 
   -- what the expression at a spot then does
-  abbrev pub next_step : Spot → Next → VisitState → Step Value
+  abbrev pub next_step : Spot → Next → VisitState → RunStep Value
   next_step at (next.Give v) s = weighed v s
   next_step at (next.Open f) s = resume code seen at f (run_at (deeper at f) s)
   next_step at (next.Call fun args) s = resume code seen at frame.Body (entered meaning code fun args s)
@@ -37,37 +37,37 @@ module _ (code : Program) (seen : ℕ) where
   next_step at (next.Visit k) s = resume code seen at frame.Chunk (visited meaning k s)
 
   -- what was decided carries the evaluation on
-  abbrev pub Decides : Spot → Step Value → Result Next Stop → VisitState → Type 0
+  abbrev pub Decides : Spot → RunStep Value → Result Next EvalStop → VisitState → Type 0
   Decides at want result s = Carries want (λ n. next_step at n s) result s
 
   -- an expression at a spot, once it spent 1
-  abbrev pub begins : Spot → VisitState → Step Value
+  abbrev pub begins : Spot → VisitState → RunStep Value
   begins at s = (opened_at meaning code seen at.env (out-Expr at.expr) >>= weighed) s
 
   -- what was decided for an expression that begins carries every expression of that form on
-  abbrev pub Starts : ExprLayer → VisitState → Result Next Stop → VisitState → Type 0
+  abbrev pub Starts : ExprLayer → VisitState → Result Next EvalStop → VisitState → Type 0
   Starts layer s result s' = (e : Expr) (env : Env) → out-Expr e ≡ layer
       → Decides (record { expr = e; env = env }) (begins (record { expr = e; env = env }) s) result s'
 
   -- an expression of which a part, behind those that gave `held`, gave v
-  abbrev pub part_gave : Spot → ℕ → List Value → Value → VisitState → Step Value
+  abbrev pub part_gave : Spot → ℕ → List Value → Value → VisitState → RunStep Value
   part_gave at n held v s = (behind code seen (out-Expr at.expr) at.env n held v >>= weighed) s
 
   -- a call of a name with its arguments
-  abbrev pub call_of : Name → List Value → VisitState → Step Value
+  abbrev pub call_of : Name → List Value → VisitState → RunStep Value
   call_of f args s = (called meaning code seen f args >>= weighed) s
 
   -- what was decided when a part gave v carries every expression of that form on
-  abbrev pub Continues : ExprLayer → ℕ → List Value → Value → VisitState → Result Next Stop → VisitState → Type 0
+  abbrev pub Continues : ExprLayer → ℕ → List Value → Value → VisitState → Result Next EvalStop → VisitState → Type 0
   Continues layer n held v s result s' = (e : Expr) (env : Env) → out-Expr e ≡ layer
       → Decides (record { expr = e; env = env }) (part_gave (record { expr = e; env = env }) n held v s) result s'
 
   -- a fold with its value so far and the items that are left
-  abbrev pub fold_on : Spot → Value → List Value → VisitState → Step Value
+  abbrev pub fold_on : Spot → Value → List Value → VisitState → RunStep Value
   fold_on at acc left s = (along code seen (out-Expr at.expr) acc left >>= weighed) s
 
   -- what was decided for a step of a fold carries every expression of that form on
-  abbrev pub FoldsOn : ExprLayer → Value → List Value → VisitState → Result Next Stop → VisitState → Type 0
+  abbrev pub FoldsOn : ExprLayer → Value → List Value → VisitState → Result Next EvalStop → VisitState → Type 0
   FoldsOn layer acc left s result s' = (e : Expr) (env : Env) → out-Expr e ≡ layer
       → Decides (record { expr = e; env = env }) (fold_on (record { expr = e; env = env }) acc left s) result s'
 
@@ -76,7 +76,7 @@ abbrev pub near_send : Chunk → Host → Value → Value → Run Value
 near_send k host u v = or_wrong (as_int u) >>= (λ b. or_wrong (as_dev v) >>= (λ dev. send_neighbour k host b dev >> pure value.Unit))
 
 -- the same as the end of its expression
-abbrev pub near_step : Chunk → Host → Value → Value → VisitState → Step Value
+abbrev pub near_step : Chunk → Host → Value → Value → VisitState → RunStep Value
 near_step k host u v s = (near_send k host u v >>= weighed) s
 
 -- a send by a routing name of which all parts gave values is safe at some standing of the services

@@ -11,9 +11,9 @@ use Rattle.plan_base.specs.declared.tree.Value.{Value}
 use Rattle.plan_base.specs.declared.tree.Value as value
 use Rattle.plan_base.specs.Trees.{ExprLayer}
 use Rattle.value_rules.specs.Rules.{binary, part}
-use Rattle.plan_meaning.specs.declared.stop.Stop.TheVariants.{Raised}
+use Rattle.plan_meaning.specs.declared.stop.EvalStop.TheVariants.{Raised}
 use Rattle.plan_meaning.specs.State.{VisitState}
-use Rattle.plan_meaning.specs.Run.{Run, Step, gave, stopped, ◌>>=◌, ◌>>◌, and_then, rescued, quiet, pure, wrong, or_wrong, given, weighed}
+use Rattle.plan_meaning.specs.Run.{Run, RunStep, gave, stopped, ◌>>=◌, ◌>>◌, and_then, rescued, quiet, pure, wrong, or_wrong, given, weighed}
 use Rattle.plan_meaning.specs.Meaning.{Env, catches, binds, bound, as_bool, as_int, as_host, as_dev, as_chunk, as_items, values_behind, called, left_along, right_along, pay_eval, visited, send_remote, send_neighbour, handled, meaning}
 use Rattle.eval_steps.specs.declared.stack_frame.StackFrame.{StackFrame}
 use Rattle.eval_steps.specs.declared.stack_frame.StackFrame.TheVariants as frame
@@ -163,12 +163,12 @@ module _ (code : Program) (seen : ℕ) where
   behind _ env n held v = pure v
 
   -- behind the expression of a `try` an exception is handled; every other part passes it on
-  abbrev pub resumed : ExprLayer → Env → ℕ → List Value → Step Value → Step Value
+  abbrev pub resumed : ExprLayer → Env → ℕ → List Value → RunStep Value → RunStep Value
   resumed (Expr-F.Try a ks) env n held r = and_then (rescued r (handled meaning code seen env ks)) weighed
   resumed layer env n held r = and_then r (λ v. behind layer env n held v >>= weighed)
 
   -- an open expression goes on with what its frame waits for
-  abbrev pub resume : Spot → StackFrame → Step Value → Step Value
+  abbrev pub resume : Spot → StackFrame → RunStep Value → RunStep Value
   resume at (frame.Part n held) r = resumed (out-Expr at.expr) at.env n held r
   resume at (frame.Last n) r = and_then r weighed
   resume at (frame.Bound v) r = and_then r weighed
@@ -177,7 +177,7 @@ module _ (code : Program) (seen : ℕ) where
   resume at frame.Chunk r = and_then r (λ v. pure value.Unit >>= weighed)
 
   -- all open expressions of a body, the innermost first
-  abbrev pub through : Option Spot → List StackFrame → Step Value → Step Value
+  abbrev pub through : Option Spot → List StackFrame → RunStep Value → RunStep Value
   through at [] r = r
   through None (f ∷ fs) r = r
   through (Some at) (f ∷ fs) r = resume at f (through (deeper at f) fs r)
@@ -208,16 +208,16 @@ unfoldable pub spot_in : List Program → Activation → Option Spot
 spot_in codes a = spot_from (start_of codes a) a.frames
 
 -- the open expressions of an activation go on from its start
-abbrev pub ended_in : Option Program → Option Spot → Activation → Step Value → Step Value
+abbrev pub ended_in : Option Program → Option Spot → Activation → RunStep Value → RunStep Value
 ended_in (Some code) start a r = through code a.fun start a.frames r
 ended_in None start a r = r
 
 -- an activation goes on with what its innermost frame waits for
-unfoldable pub ended : List Program → Activation → Step Value → Step Value
+unfoldable pub ended : List Program → Activation → RunStep Value → RunStep Value
 ended codes a r = ended_in (slice_get codes a.code) (start_of codes a) a r
 
 -- all activations, the innermost first
-abbrev pub all_ended : List Program → List Activation → Step Value → Step Value
+abbrev pub all_ended : List Program → List Activation → RunStep Value → RunStep Value
 all_ended codes [] r = r
 all_ended codes (a ∷ more) r = ended codes a (all_ended codes more r)
 
@@ -240,11 +240,11 @@ innermost codes (a ∷ []) = innermost_run (slice_get codes a.code) a.fun (spot_
 innermost codes (a ∷ b ∷ more) = innermost codes (b ∷ more)
 
 -- what the visit does next, by itself
-abbrev pub mode_step : List Program → List Activation → Mode → VisitState → Step Value
+abbrev pub mode_step : List Program → List Activation → Mode → VisitState → RunStep Value
 mode_step codes activations mode.Run s = innermost codes activations s
 mode_step codes activations (mode.Give v) s = quiet (gave v s)
 mode_step codes activations (mode.Raise x) s = quiet (stopped (Raised x) s)
 
 -- how the whole visit goes on and ends
-unfoldable pub stands_for : List Program → List Activation → Mode → VisitState → Step Value
+unfoldable pub stands_for : List Program → List Activation → Mode → VisitState → RunStep Value
 stands_for codes activations how s = all_ended codes activations (mode_step codes activations how s)

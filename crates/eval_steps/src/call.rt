@@ -8,7 +8,7 @@ ghost use Rattle.eval_steps.specs.Nexts.{Decides, call_of};
 use crate::next::Next;
 use plan_base::{Name, Program, Values};
 use plan_items::Shared;
-use plan_meaning::Stop;
+use plan_meaning::EvalStop;
 use service_api::Services;
 use std::alloc::Global;
 use typing_rules::{prim_of, service_of};
@@ -24,7 +24,7 @@ pub fn called<S: Services>(
     args: Values,
     state: &mut State,
     svc: &mut S,
-) -> Result<Next, Stop>
+) -> Result<Next, EvalStop>
     requires open { IsSome (S.stands svc.old).begun }
     requires safe { IsSafe
         (call_of code.now seen f.now args (joined state.old (S.stands svc.old))).asks }
@@ -43,6 +43,6 @@ pub fn called<S: Services>(
     }
     match place_among(f, seen, code.get().funs.as_slice()) {
         Some(fun) => Ok(Next::Call(fun, args)),
-        None => Err(Stop::Wrong),
+        None => Err(EvalStop::Wrong),
     }
 }

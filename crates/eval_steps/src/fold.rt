@@ -11,7 +11,7 @@ use crate::next::Next;
 use crate::operand::{behind_one, first_of};
 use plan_base::{Expr, Name, NoMemory, Program, Value, Values};
 use plan_items::{Items, Shared};
-use plan_meaning::Stop;
+use plan_meaning::EvalStop;
 use std::alloc::Global;
 use visit_state::place_among;
 
@@ -43,7 +43,7 @@ fn left_step(
     f: &Name,
     acc: Value,
     left: Values,
-) -> Result<Next, Stop>
+) -> Result<Next, EvalStop>
     ensures { (a l : Expr) (s : VisitState)
         → FoldsOn code.now seen (Expr-F.Foldl f.now a l) acc left s result s }
 {
@@ -53,7 +53,7 @@ fn left_step(
     };
     match place_among(f, seen, code.get().funs.as_slice()) {
         Some(fun) => Ok(Next::Step(fun, pair(alloc, acc, item)?, rest)),
-        None => Err(Stop::Wrong),
+        None => Err(EvalStop::Wrong),
     }
 }
 
@@ -66,7 +66,7 @@ fn right_step(
     f: &Name,
     acc: Value,
     left: Values,
-) -> Result<Next, Stop>
+) -> Result<Next, EvalStop>
     ensures { (a l : Expr) (s : VisitState)
         → FoldsOn code.now seen (Expr-F.Foldr f.now a l) acc left s result s }
 {
@@ -76,7 +76,7 @@ fn right_step(
     };
     match place_among(f, seen, code.get().funs.as_slice()) {
         Some(fun) => Ok(Next::Step(fun, pair(alloc, item, acc)?, rest)),
-        None => Err(Stop::Wrong),
+        None => Err(EvalStop::Wrong),
     }
 }
 
@@ -101,7 +101,7 @@ pub fn left_part(
     f: &Name,
     held: Values,
     v: Value,
-) -> Result<Next, Stop>
+) -> Result<Next, EvalStop>
     ensures { (a l : Expr) (n : ℕ) (s : VisitState)
         → Continues code.now seen (Expr-F.Foldl f.now a l) n held v s result s }
 {
@@ -110,7 +110,7 @@ pub fn left_part(
     };
     match items_of(v) {
         Some(items) => left_step(alloc, code, seen, f, acc, last_first(items)),
-        None => Err(Stop::Wrong),
+        None => Err(EvalStop::Wrong),
     }
 }
 
@@ -124,7 +124,7 @@ pub fn right_part(
     f: &Name,
     held: Values,
     v: Value,
-) -> Result<Next, Stop>
+) -> Result<Next, EvalStop>
     ensures { (a l : Expr) (n : ℕ) (s : VisitState)
         → Continues code.now seen (Expr-F.Foldr f.now a l) n held v s result s }
 {
@@ -133,7 +133,7 @@ pub fn right_part(
     };
     match items_of(v) {
         Some(items) => right_step(alloc, code, seen, f, acc, items),
-        None => Err(Stop::Wrong),
+        None => Err(EvalStop::Wrong),
     }
 }
 
@@ -147,7 +147,7 @@ pub fn item_gave(
     e: &Expr,
     acc: Value,
     left: Values,
-) -> Result<Next, Stop>
+) -> Result<Next, EvalStop>
     ensures { (env : Env) (s : VisitState)
         → Decides code.now seen (record { expr = e.now; env = env })
         (fold_on code.now seen (record { expr = e.now; env = env }) acc left s) result s }
@@ -155,6 +155,6 @@ pub fn item_gave(
     match e {
         Expr::Foldl(f, _, _) => left_step(alloc, code, seen, f, acc, left),
         Expr::Foldr(f, _, _) => right_step(alloc, code, seen, f, acc, left),
-        _ => Err(Stop::Wrong),
+        _ => Err(EvalStop::Wrong),
     }
 }

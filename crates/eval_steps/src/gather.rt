@@ -11,7 +11,7 @@ use crate::next::Next;
 use crate::stack_frame::StackFrame;
 use plan_base::{Chunk, Expr, Exprs, Name, Program, Value, Values};
 use plan_items::{Boxed, Shared};
-use plan_meaning::Stop;
+use plan_meaning::EvalStop;
 use service_api::Services;
 use std::alloc::Global;
 use visit_state::State;
@@ -33,7 +33,7 @@ fn part_behind(es: &[Expr], n: usize) -> Option<usize>
 /// The next part of a tuple, or the tuple.
 #[tactic(auto, using(crate::proofs::Deciding::next_of_tuple, crate::proofs::Deciding::last_of_tuple))]
 #[inline(never)]
-pub fn tuple_part(es: &Exprs, n: usize, held: Values, v: Value) -> Result<Next, Stop>
+pub fn tuple_part(es: &Exprs, n: usize, held: Values, v: Value) -> Result<Next, EvalStop>
     ensures { (code : Program) (seen : ℕ) (s : VisitState)
         → Continues code seen (Expr-F.Tuple es.now) n held v s result s }
 {
@@ -56,7 +56,7 @@ pub fn chunk_part(
     n: usize,
     held: Values,
     v: Value,
-) -> Result<Next, Stop>
+) -> Result<Next, EvalStop>
     ensures { (seen : ℕ) (s : VisitState)
         → Continues code.now seen (Expr-F.ChunkOf f.now es.now) n held v s result s }
 {
@@ -87,7 +87,7 @@ pub fn call_part<S: Services>(
     v: Value,
     state: &mut State,
     svc: &mut S,
-) -> Result<Next, Stop>
+) -> Result<Next, EvalStop>
     requires open { IsSome (S.stands svc.old).begun }
     requires safe { drop (n + 1) es.now ≡ [] → IsSafe
         (call_of code.now seen f.now (held ++ v ∷ []) (joined state.old (S.stands svc.old))).asks }

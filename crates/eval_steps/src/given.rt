@@ -16,7 +16,7 @@ use crate::send::{evaluated, neighbour_part, remote_part};
 use crate::stack_frame::StackFrame;
 use plan_base::{Expr, Program, Value, Values};
 use plan_items::Shared;
-use plan_meaning::Stop;
+use plan_meaning::EvalStop;
 use service_api::Services;
 use std::alloc::Global;
 use visit_state::State;
@@ -33,7 +33,7 @@ fn after_part<S: Services>(
     v: Value,
     state: &mut State,
     svc: &mut S,
-) -> Result<Next, Stop>
+) -> Result<Next, EvalStop>
     requires open { IsSome (S.stands svc.old).begun }
     requires safe { (env : Env) × IsSafe
         (part_gave code.now seen (record { expr = e.now; env = env })
@@ -80,7 +80,7 @@ pub fn frame_given<S: Services>(
     v: Value,
     state: &mut State,
     svc: &mut S,
-) -> Result<Next, Stop>
+) -> Result<Next, EvalStop>
     requires open { IsSome (S.stands svc.old).begun }
     requires safe { (env : Env) × IsSafe
         (resume code.now seen (record { expr = e.now; env = env })

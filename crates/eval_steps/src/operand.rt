@@ -12,7 +12,7 @@ use crate::next::Next;
 use crate::stack_frame::StackFrame;
 use plan_base::{NoMemory, Op, Value, Values};
 use plan_items::Items;
-use plan_meaning::Stop;
+use plan_meaning::EvalStop;
 use std::alloc::Global;
 use visit_state::{binary, cons, part};
 
@@ -27,7 +27,7 @@ pub fn behind_one(alloc: Global, n: usize, v: Value) -> Result<StackFrame, NoMem
 
 /// A list with one more item before it.
 #[tactic(auto, using(crate::proofs::Gathering::list_gives, crate::proofs::Gathering::list_stops))]
-fn put_first(x: Value, v: Value) -> Result<Next, Stop>
+fn put_first(x: Value, v: Value) -> Result<Next, EvalStop>
     ensures { (code : Program) (seen : ℕ) (a b : Expr) (n : ℕ) (held : List Value) (s : VisitState)
         → Continues code seen (Expr-F.Binary op.Cons a b) n (x ∷ held) v s result s }
 {
@@ -36,7 +36,7 @@ fn put_first(x: Value, v: Value) -> Result<Next, Stop>
 
 /// What an operator gives of two values.
 #[tactic(auto, using(crate::proofs::Gathering::operator_gives, crate::proofs::Gathering::operator_stops))]
-fn operated(alloc: Global, op: Op, x: Value, v: Value) -> Result<Next, Stop>
+fn operated(alloc: Global, op: Op, x: Value, v: Value) -> Result<Next, EvalStop>
     ensures { (code : Program) (seen : ℕ) (a b : Expr) (n : ℕ) (held : List Value) (s : VisitState)
         → Continues code seen (Expr-F.Binary op a b) n (x ∷ held) v s result s }
 {
@@ -49,7 +49,7 @@ fn operated(alloc: Global, op: Op, x: Value, v: Value) -> Result<Next, Stop>
 /// The second operand, or what the operator gives.
 #[tactic(auto, using(crate::proofs::Deciding::second))]
 #[inline(never)]
-pub fn operand(alloc: Global, op: Op, held: Values, v: Value) -> Result<Next, Stop>
+pub fn operand(alloc: Global, op: Op, held: Values, v: Value) -> Result<Next, EvalStop>
     ensures { (code : Program) (seen : ℕ) (a b : Expr) (n : ℕ) (s : VisitState)
         → Continues code seen (Expr-F.Binary op a b) n held v s result s }
 {
@@ -73,7 +73,7 @@ pub fn first_of(held: Values) -> Option<Value>
 /// What a part of a tuple gives.
 #[tactic(auto, using(crate::proofs::Gathering::part_gives, crate::proofs::Gathering::part_stops))]
 #[inline(never)]
-pub fn selected(alloc: Global, i: u8, v: &Value) -> Result<Next, Stop>
+pub fn selected(alloc: Global, i: u8, v: &Value) -> Result<Next, EvalStop>
     ensures { (code : Program) (seen : ℕ) (a : Expr) (n : ℕ) (held : List Value) (s : VisitState)
         → Continues code seen (Expr-F.Part i a) n held v.now s result s }
 {

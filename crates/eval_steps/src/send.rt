@@ -14,7 +14,7 @@ use crate::next::Next;
 use crate::operand::behind_one;
 use crate::stack_frame::StackFrame;
 use plan_base::{Chunk, Host, Name, NoMemory, Value, Values};
-use plan_meaning::Stop;
+use plan_meaning::EvalStop;
 use std::alloc::Global;
 use visit_state::{State, as_chunk, as_dev, as_host, as_int};
 
@@ -32,7 +32,7 @@ fn chunk_of(v: Value) -> Option<Chunk>
 /// An eval, which is paid before its chunk runs.
 #[tactic(auto, using(crate::proofs::Deciding::chunk_paid, crate::proofs::Sending::chunk_unpaid, crate::proofs::Sending::no_chunk))]
 #[inline(never)]
-pub fn evaluated(alloc: Global, v: Value, state: &mut State) -> Result<Next, Stop>
+pub fn evaluated(alloc: Global, v: Value, state: &mut State) -> Result<Next, EvalStop>
     ensures decides { (code : Program) (seen : ℕ) (a : Expr) (n : ℕ)
         (held : List Value) (s : ServiceState)
         → Continues code seen (Expr-F.Eval a) n held v
@@ -40,7 +40,7 @@ pub fn evaluated(alloc: Global, v: Value, state: &mut State) -> Result<Next, Sto
     ensures falls { state.new.work ≤ state.old.work }
 {
     let Some(chunk) = chunk_of(v) else {
-        return Err(Stop::Wrong);
+        return Err(EvalStop::Wrong);
     };
     state.pay_eval(alloc)?;
     Ok(Next::Visit(chunk))
@@ -73,7 +73,7 @@ fn send_remote(
     w: &Value,
     v: &Value,
     state: &mut State,
-) -> Result<Next, Stop>
+) -> Result<Next, EvalStop>
     requires safe { RemoteIsSafe r.now c w.now v.now state.old }
     ensures decides { (code : Program) (seen : ℕ) (a h b : Expr) (n : ℕ)
         (held : List Value) (s : ServiceState)
@@ -82,13 +82,13 @@ fn send_remote(
     ensures falls { state.new.work ≤ state.old.work }
 {
     let Some(chunk) = chunk_of(c) else {
-        return Err(Stop::Wrong);
+        return Err(EvalStop::Wrong);
     };
     let Some(host) = as_host(w) else {
-        return Err(Stop::Wrong);
+        return Err(EvalStop::Wrong);
     };
     let Some(bound) = as_int(v) else {
-        return Err(Stop::Wrong);
+        return Err(EvalStop::Wrong);
     };
     state.send_remote(alloc, chunk, host, bound, r)?;
     Ok(Next::Give(Value::Unit))
@@ -103,7 +103,7 @@ pub fn remote_part(
     held: Values,
     v: Value,
     state: &mut State,
-) -> Result<Next, Stop>
+) -> Result<Next, EvalStop>
     requires safe { (c w : Value) (more : List Value) → held ≡ c ∷ w ∷ more
         → RemoteIsSafe r.now c w v state.old }
     ensures decides { (code : Program) (seen : ℕ) (a h b : Expr) (n : ℕ) (s : ServiceState)
@@ -114,16 +114,16 @@ pub fn remote_part(
     match held.as_slice() {
         [] => {
             if as_chunk(&v).is_none() {
-                return Err(Stop::Wrong);
+                return Err(EvalStop::Wrong);
             }
             Ok(Next::Open(behind_one(alloc, 1, v)?))
         }
         [c] => {
             if as_chunk(c).is_none() {
-                return Err(Stop::Wrong);
+                return Err(EvalStop::Wrong);
             }
             if as_host(&v).is_none() {
-                return Err(Stop::Wrong);
+                return Err(EvalStop::Wrong);
             }
             Ok(Next::Open(behind_more(2, held, v)?))
         }
@@ -145,17 +145,17 @@ fn send_near(
     u: &Value,
     v: &Value,
     state: &mut State,
-) -> Result<Next, Stop>
+) -> Result<Next, EvalStop>
     requires safe { NearIsSafe chunk host u.now v.now state.old }
     ensures decides { (code : Program) (seen : ℕ) (at : Spot) (s : ServiceState) → Decides code seen at
         (near_step chunk host u.now v.now (joined state.old s)) result (joined state.new s) }
     ensures falls { state.new.work ≤ state.old.work }
 {
     let Some(bound) = as_int(u) else {
-        return Err(Stop::Wrong);
+        return Err(EvalStop::Wrong);
     };
     let Some(dev) = as_dev(v) else {
-        return Err(Stop::Wrong);
+        return Err(EvalStop::Wrong);
     };
     state.send_neighbour(alloc, chunk, host, bound, dev)?;
     Ok(Next::Give(Value::Unit))
@@ -170,7 +170,7 @@ fn send_neighbour(
     u: &Value,
     v: &Value,
     state: &mut State,
-) -> Result<Next, Stop>
+) -> Result<Next, EvalStop>
     requires safe { NeighbourIsSafe c w.now u.now v.now state.old }
     ensures decides { (code : Program) (seen : ℕ) (a h b d : Expr) (n : ℕ)
         (held : List Value) (s : ServiceState)
@@ -179,11 +179,11 @@ fn send_neighbour(
     ensures falls { state.new.work ≤ state.old.work }
 {
     let Some(chunk) = chunk_of(c) else {
-        return Err(Stop::Wrong);
+        return Err(EvalStop::Wrong);
     };
     match as_host(w) {
         Some(host) => send_near(alloc, chunk, host, u, v, state),
-        None => Err(Stop::Wrong),
+        None => Err(EvalStop::Wrong),
     }
 }
 
@@ -195,7 +195,7 @@ pub fn neighbour_part(
     held: Values,
     v: Value,
     state: &mut State,
-) -> Result<Next, Stop>
+) -> Result<Next, EvalStop>
     requires safe { (c w u : Value) (more : List Value) → held ≡ c ∷ w ∷ u ∷ more
         → NeighbourIsSafe c w u v state.old }
     ensures decides { (code : Program) (seen : ℕ) (a h b d : Expr) (n : ℕ) (s : ServiceState)
@@ -206,28 +206,28 @@ pub fn neighbour_part(
     match held.as_slice() {
         [] => {
             if as_chunk(&v).is_none() {
-                return Err(Stop::Wrong);
+                return Err(EvalStop::Wrong);
             }
             Ok(Next::Open(behind_one(alloc, 1, v)?))
         }
         [c] => {
             if as_chunk(c).is_none() {
-                return Err(Stop::Wrong);
+                return Err(EvalStop::Wrong);
             }
             if as_host(&v).is_none() {
-                return Err(Stop::Wrong);
+                return Err(EvalStop::Wrong);
             }
             Ok(Next::Open(behind_more(2, held, v)?))
         }
         [c, w] => {
             if as_chunk(c).is_none() {
-                return Err(Stop::Wrong);
+                return Err(EvalStop::Wrong);
             }
             if as_host(w).is_none() {
-                return Err(Stop::Wrong);
+                return Err(EvalStop::Wrong);
             }
             if as_int(&v).is_none() {
-                return Err(Stop::Wrong);
+                return Err(EvalStop::Wrong);
             }
             Ok(Next::Open(behind_more(3, held, v)?))
         }

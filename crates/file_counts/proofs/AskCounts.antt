@@ -21,7 +21,8 @@ use Rattle.file_counts.specs.Outside.{IsAskOutside, AskOutside}
 use Rattle.file_counts.specs.Later.{later_program, later_ask}
 use Rattle.file_counts.specs.Skipping.{SkipsLines}
 use Rattle.file_counts.proofs.Counts.{Moves, Skips, moved_not, moves_count, skips_lines}
-use Rattle.file_counts.proofs.Lines.{changed_read, then_changed, unchanged, at_moved, either_moved, header_moved, usual_moved, usual_skips}
+use Rattle.line_files.proofs.CountLaws.{changed_read, then_changed}
+use Rattle.file_counts.proofs.Lines.{unchanged, at_moved, either_moved, header_moved, usual_moved, usual_skips}
 
 to_moved : (first : ℕ) (ws : List (List ℕ)) (s : AskReading) → to_line ws (later_ask first s) ≡ changed_read (later_ask first) (to_line ws s)
 unfolding to_line

@@ -28,7 +28,8 @@ use Rattle.file_counts.specs.Outside.{IsConfigOutside, ConfigOutside}
 use Rattle.file_counts.specs.Later.{later_config}
 use Rattle.file_counts.specs.Skipping.{SkipsLines}
 use Rattle.file_counts.proofs.Counts.{Moves, Skips, moved_not, moves_count, skips_lines}
-use Rattle.file_counts.proofs.Lines.{changed_read, then_changed, at_moved, either_moved, version_moved, usual_moved, usual_skips}
+use Rattle.line_files.proofs.CountLaws.{changed_read, then_changed}
+use Rattle.file_counts.proofs.Lines.{at_moved, either_moved, version_moved, usual_moved, usual_skips}
 
 -- ---- the lines in front of the devices
 

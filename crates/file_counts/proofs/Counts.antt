@@ -1,21 +1,18 @@
 -- A format whose steps go over lines that were moved only counts its lines, and leaves behind the first ones what doesn't move.
 use Rattle.std.proofs.Common.{◌≡◌, ℕ, ◌+◌, ◌≤◌, ◌<◌, true, List, [], ◌∷◌, length, Result, Ok, Err, refl, sym, ap, subst, ◌∙◌, arith}
-use Rattle.std.proofs.lemmas.Bool.{lt-leb, le-leb}
+use Rattle.std.proofs.lemmas.Bool.{le-leb}
 use Rattle.line_files.specs.declared.fault.LineFault.{LineFault}
 use Rattle.line_files.specs.Counting.{moved, moved_by, CountsOnly}
 use Rattle.line_files.specs.Files.{Format, is_skipped}
 use Rattle.line_files.specs.Inside.{after_lines}
 use Rattle.line_files.specs.Reads.{and_then}
-use Rattle.line_files.proofs.CountLaws.{line_counts}
+use Rattle.line_files.proofs.CountLaws.{moved_more, line_counts}
 use Rattle.file_counts.specs.Skipping.{SkipsLines}
 
 -- each line and the end go over, whatever stands before them
 pub record Moves {S T : Type 0} (f : Format S T) (shift : ℕ → S → S) : Type 0 where
   pub step : (first number : ℕ) (line : List ℕ) (s : S) → f.step (moved first number) line (shift first s) ≡ moved_by first (shift first) (f.step number line s)
   pub finish : (first number : ℕ) (s : S) → f.finish (moved first number) (shift first s) ≡ moved_by first (λ t. t) (f.finish number s)
-
-moved_more : (first number : ℕ) → first < number → moved first number ≡ number + 1
-moved_more first number lt = rw (lt-leb number first lt) refl
 
 pub moved_not : (first number : ℕ) → number ≤ first → moved first number ≡ number
 moved_not first number le = rw (le-leb number first le) refl

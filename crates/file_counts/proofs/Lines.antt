@@ -9,16 +9,8 @@ use Rattle.line_files.specs.Files.{is_skipped, at_line}
 use Rattle.line_files.specs.Headers.{version_in, versioned, version_line}
 use Rattle.line_files.specs.Lines.{words}
 use Rattle.line_files.specs.Reads.{◌>>=◌}
+use Rattle.line_files.proofs.CountLaws.{changed_read}
 use Rattle.node_files.specs.Parts.{header_line, usual_line}
-
--- what is read, changed by a function
-abbrev pub changed_read : {A : Type 0} → (A → A) → Result A LineReason → Result A LineReason
-changed_read f (Ok x) = Ok (f x)
-changed_read f (Err e) = Err e
-
-pub then_changed : {A B : Type 0} (f : B → B) (r : Result A LineReason) (g h : A → Result B LineReason) → ((x : A) → g x ≡ changed_read f (h x)) → (r >>= g) ≡ changed_read f (r >>= h)
-then_changed f (Ok x) g h k = k x
-then_changed f (Err e) g h k = refl
 
 -- what nothing changes
 pub unchanged : {A : Type 0} (r : Result A LineReason) → r ≡ changed_read (λ x. x) r

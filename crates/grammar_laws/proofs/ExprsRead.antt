@@ -27,7 +27,7 @@ use Rattle.plan_grammar.specs.Begins.{begins_operand, begins_expr}
 use Rattle.plan_grammar.specs.Types.{more, type_to}
 use Rattle.plan_grammar.specs.Joints.{joint_of}
 use Rattle.plan_grammar.specs.Nodes.{trees, leaf, over_two, over_three, over_four, over_list, bracketed, let_of, try_of}
-use Rattle.plan_grammar.specs.Exprs.{literal_key, literal, literal_from, clause_follows, items_from, arguments_behind, arguments, call, named, chunk, tuple, single, grouped, parens_behind, parens, typed_nil, listing, brackets_behind, brackets, binding, bindings_from, let_form, clause, clauses_from, try_form, raise_typed, raise_plain, raise_form, before_comma, before_close, fold_parts, foldl_form, foldr_form, eval_form, send_parts, remote_form, neighbor_form, key_form, symbol_form, picked, operand_kind, operand, product, addition, before_list, listed, compared, comparison, negation, negated, conjunction, disjunction, condition, low, before_next, whole, at_level, expr_to}
+use Rattle.plan_grammar.specs.Exprs.{literal_key, literal, literal_from, clause_follows, items_from, arguments_behind, arguments, call, name_operand, chunk, tuple, single, grouped, parens_behind, parens, typed_nil, listing, brackets_behind, brackets, binding, bindings_from, let_form, clause, clauses_from, try_form, raise_typed, raise_plain, raise_form, before_comma, before_close, fold_parts, foldl_form, foldr_form, eval_form, send_parts, remote_form, neighbor_form, key_form, symbol_form, picked, operand_kind, operand, product, addition, before_list, listed, compared, comparison, negation, negated, conjunction, disjunction, condition, low, before_next, whole, at_level, expr_to}
 use Rattle.grammar_laws.specs.Grammar as gram
 use Rattle.grammar_laws.specs.Grammar.{Sym, Word, Called, Joins, behind2, behind3, TypeAt, ExprAt, LowAt, OrAt, AndAt, NotAt, CmpAt, ConsAt, AddAt, MulAt, PartAt, AtomAt, ArgsAt, SomeAt, MoreAt, ValAt, ValsAt, ClauseAt, ClausesAt}
 use Rattle.grammar_laws.proofs.TokenFacts.{comma_is_no_bracket}
@@ -109,8 +109,8 @@ module _ (room : ℕ) (inner : Level → Reader Node) (inside : (r : ℕ) → ro
   call_reads f name here =
       after (ArgsAt room (behind f)) (AtomAt room f) (arguments inner room (behind f)) _ (args_read (behind f)) (λ ns g a. found_reads (AtomAt room f) _ g (gram.call here a))
 
-  named_reads : (f : Front) → Reads (AtomAt room f) (named inner room f)
-  unfolding named
+  named_reads : (f : Front) → Reads (AtomAt room f) (name_operand inner room f)
+  unfolding name_operand
   named_reads f = name_then (AtomAt room f) f _
       (λ name here. if_symbol (AtomAt room f) symbols.ParenOpen (behind f) _ _ (λ _. call_reads f name here) (found_reads (AtomAt room f) _ (behind f) (gram.variable here)))
 

@@ -25,7 +25,7 @@ use Rattle.plan_grammar.specs.Begins.{begins_operand, begins_expr}
 use Rattle.plan_grammar.specs.Types.{past, more, type_to}
 use Rattle.plan_grammar.specs.Joints.{joint_of}
 use Rattle.plan_grammar.specs.Nodes.{joined_nodes}
-use Rattle.plan_grammar.specs.Exprs.{begins_clause, literal_key, literal, literal_from, catch_at, clause_follows, chain_step, chain_from, items_from, arguments_behind, arguments, call, named, chunk, tuple, single, grouped, parens_behind, parens, typed_nil, listing, brackets_behind, brackets, binding, bindings_from, let_form, clause, clauses_from, try_form, raise_typed, raise_plain, raise_form, before_comma, before_close, fold_parts, foldl_form, foldr_form, eval_form, send_parts, remote_form, neighbor_form, key_form, symbol_form, picked, operand_kind, operand, chained, product, addition, before_list, compared, comparison, negation, conjunction, disjunction, condition, before_next, at_level, expr_to}
+use Rattle.plan_grammar.specs.Exprs.{begins_clause, literal_key, literal, literal_from, catch_at, clause_follows, chain_step, chain_from, items_from, arguments_behind, arguments, call, name_operand, chunk, tuple, single, grouped, parens_behind, parens, typed_nil, listing, brackets_behind, brackets, binding, bindings_from, let_form, clause, clauses_from, try_form, raise_typed, raise_plain, raise_form, before_comma, before_close, fold_parts, foldl_form, foldr_form, eval_form, send_parts, remote_form, neighbor_form, key_form, symbol_form, picked, operand_kind, operand, chained, product, addition, before_list, compared, comparison, negation, conjunction, disjunction, condition, before_next, at_level, expr_to}
 use Rattle.plan_grammar.specs.Exprs as read
 use Rattle.grammar_laws.specs.Grammar.{ValAt, NotAt, AndAt, MulAt, PartAt}
 use Rattle.grammar_laws.specs.Agenda as item
@@ -125,8 +125,8 @@ module _ (room : ℕ) (inner : Level → Reader Node)
   maybe_call_works name at x rest f =
       begin (item.maybe_call room) rest f (λ _. rest) _ (both (is_symbol symbols.ParenOpen f) _ _ (λ _. rest) _ _ (goes_on (call_works name at rest f)) (goes_on (given (λ _. rest) x f)))
 
-  named_works : (f : Front) (name : Name) → next_kind f ≡ Some (kinds.Word name) → (rest : List GrammarItem) → Done (item.maybe_call room ∷ rest) (behind f) rest (named inner room f)
-  unfolding named name_at
+  named_works : (f : Front) (name : Name) → next_kind f ≡ Some (kinds.Word name) → (rest : List GrammarItem) → Done (item.maybe_call room ∷ rest) (behind f) rest (name_operand inner room f)
+  unfolding name_operand name_at
   named_works f name e rest = rw e (maybe_call_works name (place f) _ rest (behind f))
 
   chunk_works : (rest : List GrammarItem) (f : Front) → Done (a_name ∷ sym symbols.Bar ∷ open_bracket room item.a_call ∷ rest) (behind f) rest (chunk inner room f)

@@ -24,7 +24,7 @@ use Rattle.plan_grammar.specs.Begins.{begins_operand, begins_expr}
 use Rattle.plan_grammar.specs.Types.{opens, more, type_to}
 use Rattle.plan_grammar.specs.Joints.{joint_of}
 use Rattle.plan_grammar.specs.Nodes.{trees, leaf, over_one, over_two, over_three, over_four, over_list, joined_nodes, consed, bracketed, let_of, try_of}
-use Rattle.plan_grammar.specs.Exprs.{literal, literal_from, opens_at, need_open, catch_at, items_from, arguments_behind, arguments, call, named, chunk, tuple, single, grouped, parens_behind, parens, typed_nil, listing, brackets_behind, brackets, binding, bindings_from, let_form, clause, clauses_from, try_form, raise_typed, raise_plain, raise_form, before_comma, before_close, fold_parts, foldl_form, foldr_form, eval_form, send_parts, remote_form, neighbor_form, key_form, symbol_form, picked, operand_kind, operand, before_list, listed, addition, comparison, negation, negated, disjunction, condition, low, before_next, whole}
+use Rattle.plan_grammar.specs.Exprs.{literal, literal_from, opens_at, need_open, catch_at, items_from, arguments_behind, arguments, call, name_operand, chunk, tuple, single, grouped, parens_behind, parens, typed_nil, listing, brackets_behind, brackets, binding, bindings_from, let_form, clause, clauses_from, try_form, raise_typed, raise_plain, raise_form, before_comma, before_close, fold_parts, foldl_form, foldr_form, eval_form, send_parts, remote_form, neighbor_form, key_form, symbol_form, picked, operand_kind, operand, before_list, listed, addition, comparison, negation, negated, disjunction, condition, low, before_next, whole}
 use Rattle.grammar_laws.specs.Grammar.{Sym, Word, Called, behind2, behind3}
 use Rattle.grammar_laws.proofs.TokenFacts.{room_open}
 use Rattle.grammar_laws.proofs.Follows.{starts_no_symbol, symbol_here}
@@ -57,12 +57,12 @@ module _ (inner : Level → Reader Node) (r : ℕ) where
 module _ (inner : Level → Reader Node) (room : ℕ) where
   pub variable_is : (f : Front) (name : Name) → Called name f → is_symbol symbols.ParenOpen (behind f) ≡ false
       → operand inner room f ≡ Ok (leaf (x.Var name) (place f), behind f)
-  unfolding operand named name_at
+  unfolding operand name_operand name_at
   variable_is f name a b = rw (a, a, b) refl
 
   pub call_is : (f g : Front) (name : Name) (ns : List Node) → Called name f → is_symbol symbols.ParenOpen (behind f) ≡ true → arguments inner room (behind f) ≡ Ok (ns, g)
       → operand inner room f ≡ Ok (over_list (x.Call name (trees ns)) (place f) ns, g)
-  unfolding operand named name_at call
+  unfolding operand name_operand name_at call
   call_is f g name ns a b c = rw (a, a, b, c) refl
 
   pub chunk_is : (f g : Front) (name : Name) (ns : List Node) → Sym symbols.Bar f → Called name (behind f) → Sym symbols.Bar (behind2 f) → arguments inner room (behind3 f) ≡ Ok (ns, g)

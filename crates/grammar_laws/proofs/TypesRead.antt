@@ -12,7 +12,7 @@ use Rattle.plan_grammar.specs.declared.fault.ParseFault.TheVariants.{TooDeep}
 use Rattle.plan_grammar.specs.declared.fault.Wanted.TheVariants as wanted
 use Rattle.plan_grammar.specs.Ahead.{Front, Reader, ◌>>=◌, place, behind, next_kind}
 use Rattle.plan_grammar.specs.Begins.{kind_type, begins_type}
-use Rattle.plan_grammar.specs.Types.{more, named, is_list_word, after_lists, list_words, behind_lists, lists_of, judged_type, tuple_type, single_type, group_type, base_type, whole_type, type_to}
+use Rattle.plan_grammar.specs.Types.{more, type_or_fault, is_list_word, after_lists, list_words, behind_lists, lists_of, judged_type, tuple_type, single_type, group_type, base_type, whole_type, type_to}
 use Rattle.grammar_laws.specs.Grammar as gram
 use Rattle.grammar_laws.specs.Grammar.{Sym, Word, TypeAt, ListsAt, BaseAt, PartsAt}
 use Rattle.grammar_laws.proofs.TokenFacts.{key_stands, star_is_no_bracket}
@@ -85,7 +85,7 @@ module _ (room : ℕ) (inner : Reader Ty) (inside : (r : ℕ) → room ≡ suc r
       (λ r e. after (TypeAt r (behind f)) (BaseAt (suc r) f) (inner (behind f)) _ (inside r e (behind f))
       (λ first g one. if_symbol (BaseAt (suc r) f) symbols.Star g _ _ (tuple_reads r e f g first here one) (single_reads r f g first here one)))
 
-  named_reads : (f : Front) (o : Option Ty) → kind_type (next_kind f) ≡ o → Reads (BaseAt room f) (named f o)
+  named_reads : (f : Front) (o : Option Ty) → kind_type (next_kind f) ≡ o → Reads (BaseAt room f) (type_or_fault f o)
   named_reads f (Some t) e = found_reads (BaseAt room f) t (behind f) (gram.named_type e)
   named_reads f None e = refusal_reads (BaseAt room f) _
 

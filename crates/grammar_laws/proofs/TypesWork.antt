@@ -13,7 +13,7 @@ use Rattle.plan_grammar.specs.declared.fault.ParseFault.TheVariants.{TooDeep}
 use Rattle.plan_grammar.specs.declared.fault.Wanted.TheVariants as wanted
 use Rattle.plan_grammar.specs.Ahead.{Front, Reader, ◌>>=◌, place, behind, next_kind, is_key, is_symbol}
 use Rattle.plan_grammar.specs.Begins.{kind_type, begins_type}
-use Rattle.plan_grammar.specs.Types.{more, named, is_list_word, after_lists, list_words, behind_lists, lists_of, judged_type, tuple_type, single_type, group_type, base_type, whole_type, type_to}
+use Rattle.plan_grammar.specs.Types.{more, type_or_fault, is_list_word, after_lists, list_words, behind_lists, lists_of, judged_type, tuple_type, single_type, group_type, base_type, whole_type, type_to}
 use Rattle.grammar_laws.specs.Agenda.{GrammarItem, a_type, lists, first_type, behind_first, next_type, behind_next, sym, GrammarStep, enter, hand, type_step, step}
 use Rattle.grammar_laws.proofs.TypesRead.{depth_of_lists}
 use Rattle.grammar_laws.proofs.TypesAre.{left_behind}
@@ -120,7 +120,7 @@ module _ (room : ℕ) (inner : Reader Ty)
       (λ r e. after (a_type r ∷ first_type r (place f) ∷ rest) (behind f) (λ t. behind_first r (place f) (type_depth t) ∷ rest) (Based (place f) rest) (inner (behind f)) _
       (inside r e (first_type r (place f) ∷ rest) (behind f)) (λ t g. behind_first_works r e (place f) rest t g))
 
-  named_works : (rest : List GrammarItem) (f : Front) (o : Option Ty) → Follows (type_step rest f o) (Based (place f) rest) (named f o)
+  named_works : (rest : List GrammarItem) (f : Front) (o : Option Ty) → Follows (type_step rest f o) (Based (place f) rest) (type_or_fault f o)
   named_works rest f (Some t) = goes_on (given (Based (place f) rest) t (behind f))
   named_works rest f None = stops _ (Based (place f) rest)
 

@@ -26,15 +26,15 @@ told_stamped s (PlainFrame.Packet p) w = by p.handler
 told_stamped s (PlainFrame.Advert a) w = refl
 told_stamped s (PlainFrame.Ask bound c) w = absurd w
 
-told : (v : Version) (o : Option Stamp) (x : PlainFrame) → IsReadBy v (record { stamp = o; frame = x }) → IsOnItsWay x → version_in (stamped_bytes (record { stamp = o; frame = x })) ≡ v
+stamp_told : (v : Version) (o : Option Stamp) (x : PlainFrame) → IsReadBy v (record { stamp = o; frame = x }) → IsOnItsWay x → version_in (stamped_bytes (record { stamp = o; frame = x })) ≡ v
 unfolding stamped_bytes
-told One None x r w = told_plain x
-told One (Some s) x r w = let e : Some s ≡ None = r.0 in absurd cc
-told Two None (PlainFrame.Packet p) r w = absurd r
-told Two None (PlainFrame.Advert a) r w = absurd r
-told Two None (PlainFrame.Ask bound c) r w = absurd w
-told Two (Some s) x r w = told_stamped s x w
+stamp_told One None x r w = told_plain x
+stamp_told One (Some s) x r w = let e : Some s ≡ None = r.0 in absurd cc
+stamp_told Two None (PlainFrame.Packet p) r w = absurd r
+stamp_told Two None (PlainFrame.Advert a) r w = absurd r
+stamp_told Two None (PlainFrame.Ask bound c) r w = absurd w
+stamp_told Two (Some s) x r w = told_stamped s x w
 
 -- a frame that a node of a version accepts and that may be on its way is told as one of that version
 pub version_told : (v : Version) (bytes : List ℕ) (x : PlainStamped) → AcceptsBy v bytes x → IsOnItsWay x.frame → version_in bytes ≡ v
-version_told v bytes x a w = ap version_in a.is ∙ told v x.stamp x.frame a.read w
+version_told v bytes x a w = ap version_in a.is ∙ stamp_told v x.stamp x.frame a.read w

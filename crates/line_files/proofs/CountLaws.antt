@@ -1,11 +1,26 @@
 -- A line that says nothing moves the lines behind it, and changes nothing else.
 use Rattle.std.proofs.Common.{◌≡◌, ℕ, ◌+◌, ◌<◌, List, [], ◌∷◌, ◌++◌, length, Result, Ok, Err, refl, sym, ap, subst, ◌∙◌, arith}
+use Rattle.std.proofs.lemmas.Bool.{lt-leb}
 use Rattle.line_files.specs.declared.fault.LineFault.{LineFault}
+use Rattle.line_files.specs.declared.fault.LineReason.{LineReason}
 use Rattle.line_files.specs.Lines.{lines}
-use Rattle.line_files.specs.Reads.{and_then}
+use Rattle.line_files.specs.Reads.{◌>>=◌, and_then}
 use Rattle.line_files.specs.Files.{Format, read_on, file_of}
 use Rattle.line_files.specs.Inside.{after_lines}
-use Rattle.line_files.specs.Counting.{moved_fault, moved_by, CountsOnly}
+use Rattle.line_files.specs.Counting.{moved, moved_fault, moved_by, CountsOnly}
+
+-- what is read, changed by a function
+abbrev pub changed_read : {A : Type 0} → (A → A) → Result A LineReason → Result A LineReason
+changed_read f (Ok x) = Ok (f x)
+changed_read f (Err e) = Err e
+
+pub then_changed : {A B : Type 0} (f : B → B) (r : Result A LineReason) (g h : A → Result B LineReason) → ((x : A) → g x ≡ changed_read f (h x)) → (r >>= g) ≡ changed_read f (r >>= h)
+then_changed f (Ok x) g h k = k x
+then_changed f (Err e) g h k = refl
+
+-- a line behind the first ones has a number one higher
+pub moved_more : (first number : ℕ) → first < number → moved first number ≡ number + 1
+moved_more first number lt = rw (lt-leb number first lt) refl
 
 -- lines that were read in front of others
 pub read_behind : {S T : Type 0} (f : Format S T) (before more : List (List ℕ)) (number : ℕ) (s t : S) → after_lines f number before s ≡ Ok t → read_on f number (before ++ more) s ≡ read_on f (number + length before) more t

@@ -103,8 +103,8 @@ with_own seen s = by_cases (s.boot == seen.boot) where
   by_cases true = again refl (taken_first s.link seen.numbers)
   by_cases false = again refl (taken_first s.link [])
 
-pub taken : (seen : Seen) (s : Stamp) → is_fresh (took (seen_after seen s) s) ≡ false
-taken seen s = by_cases (took seen s) refl where
+pub stale_once_seen : (seen : Seen) (s : Stamp) → is_fresh (took (seen_after seen s) s) ≡ false
+stale_once_seen seen s = by_cases (took seen s) refl where
   by_cases : (k : Took) → took seen s ≡ k → is_fresh (took (seen_by k seen s) s) ≡ false
   by_cases Fresh f = is_stale (seen_with seen s) s (with_own seen s)
   by_cases Repeated f = ap is_fresh f

@@ -5,12 +5,12 @@ use Rattle.plan_base.specs.declared.tree.Chunk.{Chunk}
 use Rattle.plan_base.specs.declared.tree.Value.{Value}
 use Rattle.service_api.specs.declared.ctx.Ctx.{Ctx}
 use Rattle.service_api.specs.Services.{ServiceState}
-use Rattle.plan_meaning.specs.declared.stop.Stop.TheVariants.{Raised, WorkSpent, Wrong, NoMemory}
+use Rattle.plan_meaning.specs.declared.stop.EvalStop.TheVariants.{Raised, WorkSpent, Wrong, NoMemory}
 use Rattle.plan_meaning.specs.declared.outcome.Outcome.{Outcome}
 use Rattle.plan_meaning.specs.declared.outcome.Outcome.TheVariants as outcome
 use Rattle.plan_meaning.specs.declared.outcome.Visit.{Visit}
 use Rattle.plan_meaning.specs.State.{VisitState}
-use Rattle.plan_meaning.specs.Run.{After, gave, stopped, Step}
+use Rattle.plan_meaning.specs.Run.{After, gave, stopped, RunStep}
 use Rattle.plan_meaning.specs.Meaning.{meaning, visited}
 use Rattle.plan_meaning.specs.Safe.{IsGoodState}
 use Rattle.plan_meaning.specs.Visit.{IsVisit, Ends, begun, ended, spent}
@@ -66,7 +66,7 @@ spent_or_not (stopped NoMemory s) = inr (λ h. h)
 module _ (k : Chunk) (ctx : Ctx) (family : Family) (n : ServiceState) where
   -- with more work the evaluation ends as with less
   with_more : (v j : ℕ) → ¬ IsSpent (with_allowance v k ctx family n) → with_allowance (v + j) k ctx family n ≡ after_more j (with_allowance v k ctx family n)
-  with_more v j h = ap (λ (r : Step Value). r.after) (visit_allowance k (begun v ctx family n) j h)
+  with_more v j h = ap (λ (r : RunStep Value). r.after) (visit_allowance k (begun v ctx family n) j h)
 
   visit_more : (v j : ℕ) (r : Visit) (new : ServiceState) → IsVisit v k ctx family n r new → r.outcome ≢ outcome.WorkSpent → IsVisit (v + j) k ctx family n r new
   unfolding IsVisit

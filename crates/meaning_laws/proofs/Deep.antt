@@ -6,7 +6,7 @@ use Rattle.typing_rules.specs.Typing.{IsTypedChunk, within}
 use Rattle.plan_base.specs.WellFormed.{IsWellFormedChunk}
 use Rattle.service_api.specs.Services.{IsGoodChunk}
 use Rattle.plan_meaning.specs.State.{VisitState}
-use Rattle.plan_meaning.specs.Run.{Step}
+use Rattle.plan_meaning.specs.Run.{RunStep}
 use Rattle.plan_meaning.specs.Meaning.{run_to, meaning, visited}
 use Rattle.plan_meaning.specs.Safe.{IsSafe, IsGoodState}
 use Rattle.meaning_laws.proofs.Walk.{visited_kept}
@@ -20,4 +20,4 @@ safe_visit : (k : Chunk) (s : VisitState) → IsTypedChunk k → IsWellFormedChu
 safe_visit k s (within at d t p g h n w) f l = (visit_soundness k at d (record { typed = within at d t p g h n w; formed = f }) p g s l).safe
 
 pub deep_safe : (n : ℕ) (k : Chunk) (s : VisitState) → s.work < n → IsGoodChunk k → IsGoodState s → IsSafe (visited (run_to n) k s).asks
-deep_safe n k s h t l = subst (λ (r : Step Value). IsSafe r.asks) (sym (deep_visit n k s h)) (safe_visit k s t.typed t.formed l)
+deep_safe n k s h t l = subst (λ (r : RunStep Value). IsSafe r.asks) (sym (deep_visit n k s h)) (safe_visit k s t.typed t.formed l)

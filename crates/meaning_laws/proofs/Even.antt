@@ -19,9 +19,9 @@ use Rattle.service_api.specs.declared.router.Hop.TheVariants.{To, NoService, NoR
 use Rattle.service_api.specs.Routes.{hop, default_route}
 use Rattle.service_api.specs.Services.{served}
 use Rattle.plan_meaning.specs.declared.sent.Sent.{Sent}
-use Rattle.plan_meaning.specs.declared.stop.Stop.TheVariants.{Raised, WorkSpent, Wrong, NoMemory}
+use Rattle.plan_meaning.specs.declared.stop.EvalStop.TheVariants.{Raised, WorkSpent, Wrong, NoMemory}
 use Rattle.plan_meaning.specs.State.{VisitState}
-use Rattle.plan_meaning.specs.Run.{After, gave, stopped, Step, Run, «next», quiet, raise, otherwise, spend, serve, answered}
+use Rattle.plan_meaning.specs.Run.{After, gave, stopped, RunStep, Run, «next», quiet, raise, otherwise, spend, serve, answered}
 use Rattle.plan_meaning.specs.Meaning.{Env, pay_eval, no_bound, is_paid, bound_of, sent, sent_by, send_remote, is_next, not_neighbour, send_neighbour, run_to, meaning, visited}
 use Rattle.plan_meaning.specs.Visit.{bounds}
 use Rattle.meaning_laws.specs.Laws.{left_by, total, IsBalanced}
@@ -33,7 +33,7 @@ Even A p q = (s : VisitState) → IsBalanced p s
 abbrev Has : {A : Type 0} → ℕ → After A → Type 0
 Has n a = total (left_by a) ≡ n
 
-choose : {A : Type 0} (n : ℕ) (b : Bool) (x y : Step A) → Has n x.after → Has n y.after → Has n (if b then x else y).after
+choose : {A : Type 0} (n : ℕ) (b : Bool) (x y : RunStep A) → Has n x.after → Has n y.after → Has n (if b then x else y).after
 choose n true x y h k = h
 choose n false x y h k = k
 

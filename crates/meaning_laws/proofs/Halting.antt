@@ -19,9 +19,9 @@ use Rattle.service_api.specs.declared.router.Hop.{Hop}
 use Rattle.service_api.specs.declared.router.Hop.TheVariants.{To, NoService, NoRoute}
 use Rattle.service_api.specs.Routes.{hop, default_route}
 use Rattle.service_api.specs.Services.{served, IsGoodChunk, AreGoodValues}
-use Rattle.plan_meaning.specs.declared.stop.Stop.TheVariants.{Raised, WorkSpent, Wrong, NoMemory}
+use Rattle.plan_meaning.specs.declared.stop.EvalStop.TheVariants.{Raised, WorkSpent, Wrong, NoMemory}
 use Rattle.plan_meaning.specs.State.{VisitState}
-use Rattle.plan_meaning.specs.Run.{After, gave, stopped, Step, nothing, both, Run, «next», and_then, ◌>>=◌, ◌>>◌, quiet, pure, raise, or_wrong, given, otherwise, rescued, rescue, spend, is_too_large, weighed, whole, serve, answered}
+use Rattle.plan_meaning.specs.Run.{After, gave, stopped, RunStep, nothing, both, Run, «next», and_then, ◌>>=◌, ◌>>◌, quiet, pure, raise, or_wrong, given, otherwise, rescued, rescue, spend, is_too_large, weighed, whole, serve, answered}
 use Rattle.plan_meaning.specs.Meaning.{pay_eval, no_bound, is_paid, bound_of, sent, sent_by, send_remote, is_next, not_neighbour, send_neighbour}
 use Rattle.plan_meaning.specs.Safe.{IsGoodState, Holds, IsRight, Yields}
 use Rattle.meaning_laws.specs.Laws.{left_by, IsSpent, more, after_more, step_more, at_work, EndsFrom}
@@ -57,7 +57,7 @@ ends_above : {A : Type 0} (P : A → Type 0) (p : Run A) (s : VisitState) (k : �
 ends_above P p s k h l n m =
     let e : k + n ≡ n + k = omega arith in
     let g : p (at_work (n + k) s) ≡ step_more n (p (at_work k s)) = subst (λ w. p (at_work w s) ≡ step_more n (p (at_work k s))) e (h.long n l) in
-    l (more_lasts n (p (at_work k s)).after (subst (λ (r : Step _). IsSpent r.after) g m))
+    l (more_lasts n (p (at_work k s)).after (subst (λ (r : RunStep _). IsSpent r.after) g m))
 
 module _ (b : ℕ) where
   inv_work : (s : VisitState) (n : ℕ) → Inv b s → Inv b (at_work n s)
@@ -102,7 +102,7 @@ module _ (b : ℕ) where
         let at = h (at_work j s) (inv_work s j i) in
         let lasts : ¬ IsSpent (p (at_work j s)).after = λ y. m (subst IsSpent d y) in
         let same : p (at_work (j + n) s) ≡ step_more n (p (at_work j s)) = at.long n lasts in
-        let first : (p (at_work (j + n) s)).after ≡ gave x (more n t) = ap (λ (y : Step A). y.after) same ∙ ap (after_more n) d in
+        let first : (p (at_work (j + n) s)).after ≡ gave x (more n t) = ap (λ (y : RunStep A). y.after) same ∙ ap (after_more n) d in
         let last : ¬ IsSpent (f x (at_work (t.work + n) t)).after = ends_above Q (f x) t n (k x g.0 (at_work n t) (inv_work t n (record { good = g.1; purse = l }))) r.ends.1 t.work in
         (j + n, λ y. last (subst (λ z. IsSpent («next» z f).after) first y))
 
@@ -135,7 +135,7 @@ module _ (b : ℕ) where
     kept : (a : After Value) → Holds P a → otherwise a f ≡ quiet a → ((n : ℕ) → otherwise (after_more n a) f ≡ step_more n (otherwise a f)) → Otherwise a
     kept a g e l = record {
       right = subst (λ r. IsRight P r) (sym e) (record { safe = tt; holds = g });
-      sinks = subst (λ (r : Step Value). (left_by r.after).ctx.purse ≤ (left_by a).ctx.purse) (sym e) (same_number (left_by a).ctx.purse);
+      sinks = subst (λ (r : RunStep Value). (left_by r.after).ctx.purse ≤ (left_by a).ctx.purse) (sym e) (same_number (left_by a).ctx.purse);
       long = λ n m. l n;
     }
 
@@ -147,7 +147,7 @@ module _ (b : ℕ) where
     rescuing (stopped NoMemory s) g l = kept (stopped NoMemory s) g refl (λ n. refl)
 
     at_once : (s : VisitState) (j : ℕ) (a : After Value) → (p (at_work j s)).after ≡ a → otherwise a f ≡ quiet a → ¬ IsSpent a → EndsFrom (rescue p f) s
-    at_once s j a d e m = (j, λ x. m (subst (λ (r : Step Value). IsSpent r.after) e (subst (λ y. IsSpent (otherwise y f).after) d x)))
+    at_once s j a d e m = (j, λ x. m (subst (λ (r : RunStep Value). IsSpent r.after) e (subst (λ y. IsSpent (otherwise y f).after) d x)))
 
     rescue_ending : (s : VisitState) (j : ℕ) → Inv b s → (a : After Value) → (p (at_work j s)).after ≡ a → Holds P a → (left_by a).ctx.purse ≤ b → ¬ IsSpent a → EndsFrom (rescue p f) s
     rescue_ending s j i (gave x t) d g l m = at_once s j (gave x t) d refl m
@@ -160,7 +160,7 @@ module _ (b : ℕ) where
         let at = h (at_work j s) (inv_work s j i) in
         let lasts : ¬ IsSpent (p (at_work j s)).after = λ y. m (subst IsSpent d y) in
         let same : p (at_work (j + n) s) ≡ step_more n (p (at_work j s)) = at.long n lasts in
-        let first : (p (at_work (j + n) s)).after ≡ stopped (Raised x) (more n t) = ap (λ (y : Step Value). y.after) same ∙ ap (after_more n) d in
+        let first : (p (at_work (j + n) s)).after ≡ stopped (Raised x) (more n t) = ap (λ (y : RunStep Value). y.after) same ∙ ap (after_more n) d in
         let last : ¬ IsSpent (f x (at_work (t.work + n) t)).after = ends_above P (f x) t n (k x (at_work n t) (inv_work t n (record { good = g.1; purse = l }))) r.ends.1 t.work in
         (j + n, λ y. last (subst (λ z. IsSpent (otherwise z f).after) first y))
 
@@ -233,7 +233,7 @@ module _ (b : ℕ) where
     unfolding pay_eval
     paid_halts s i = let r = paying (s.ctx.purse == 0) s refl i in record { right = r.right; sinks = r.sinks; long = r.long; ends = r.ends }
 
-  choose_lasts : {A : Type 0} (t : Bool) (x y : Step A) → ¬ IsSpent x.after → ¬ IsSpent y.after → ¬ IsSpent (if t then x else y).after
+  choose_lasts : {A : Type 0} (t : Bool) (x y : RunStep A) → ¬ IsSpent x.after → ¬ IsSpent y.after → ¬ IsSpent (if t then x else y).after
   choose_lasts true x y h k = h
   choose_lasts false x y h k = k
 

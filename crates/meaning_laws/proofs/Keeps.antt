@@ -161,9 +161,9 @@ found_keeps (v ∷ vs) (suc i) h = found_keeps vs i h.1
 part_keeps : (i : ℕ) (ts : List Ty) (v : Value) → Shape (Ty-F.Tuple ts) (out-Value v) → IsFormed v → Keeps (rules.part_of i (out-Value v))
 part_keeps i ts v (vs, d, h) f = subst (λ x. Keeps (rules.part_of i x)) (sym d) (choose (i == 0) unfit (found_value (slice_get vs (i - 1))) tt (found_keeps vs (i - 1) (parts_formed v vs d f)))
 
-pub taken : (i : ℕ) (v : Value) (ts : List Ty) → HasType v (ty.Tuple ts) → IsFormed v → Keeps (part i v)
+pub selection_keeps : (i : ℕ) (v : Value) (ts : List Ty) → HasType v (ty.Tuple ts) → IsFormed v → Keeps (part i v)
 unfolding part
-taken i v ts h f = part_keeps i ts v (shape_at (ty.Tuple ts) (Ty-F.Tuple ts) (ty.outs-Tuple ts) h) f
+selection_keeps i v ts h f = part_keeps i ts v (shape_at (ty.Tuple ts) (Ty-F.Tuple ts) (ty.outs-Tuple ts) h) f
 
 -- ---- primitives
 

@@ -16,9 +16,9 @@ use Rattle.service_api.specs.declared.router.Hop.{Hop}
 use Rattle.service_api.specs.declared.router.Hop.TheVariants.{To, NoService, NoRoute}
 use Rattle.service_api.specs.Routes.{hop, default_route}
 use Rattle.service_api.specs.Services.{served}
-use Rattle.plan_meaning.specs.declared.stop.Stop.TheVariants.{Raised, WorkSpent, Wrong, NoMemory}
+use Rattle.plan_meaning.specs.declared.stop.EvalStop.TheVariants.{Raised, WorkSpent, Wrong, NoMemory}
 use Rattle.plan_meaning.specs.State.{VisitState}
-use Rattle.plan_meaning.specs.Run.{After, gave, stopped, Step, service, both, Run, «next», and_then, ◌>>=◌, quiet, raise, otherwise, rescued, rescue, spend, serve, answered}
+use Rattle.plan_meaning.specs.Run.{After, gave, stopped, RunStep, service, both, Run, «next», and_then, ◌>>=◌, quiet, raise, otherwise, rescued, rescue, spend, serve, answered}
 use Rattle.plan_meaning.specs.Meaning.{Env, pay_eval, no_bound, is_paid, bound_of, sent, sent_by, send_remote, is_next, not_neighbour, send_neighbour, run_to, meaning, visited}
 use Rattle.meaning_laws.specs.Laws.{IsSpent, more, after_more, step_more, IsLonger}
 use Rattle.meaning_laws.proofs.Walk.{Kept, run_kept, visited_kept}
@@ -68,7 +68,7 @@ module _ (k : ℕ) where
       ap (λ r. rescued r g) (h s (rescue_lasts (p s).after f n)) ∙
       (λ i. record { after = (otherwise_longer (p s).after f g l n i).after; asks = both (p s).asks (otherwise_longer (p s).after f g l n i).asks })
 
-  spent_by : VisitState → ℕ → Bool → Step (Unit {0})
+  spent_by : VisitState → ℕ → Bool → RunStep (Unit {0})
   spent_by s n b = if b then quiet (stopped WorkSpent s) else quiet (gave tt (record s { work = s.work - n }))
 
   spend_at : (s : VisitState) (n : ℕ) (b c : Bool) → nat_lt s.work n ≡ b → nat_lt (s.work + k) n ≡ c → ¬ IsSpent (spent_by s n b).after

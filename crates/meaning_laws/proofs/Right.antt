@@ -21,9 +21,9 @@ use Rattle.service_api.specs.declared.router.Hop.{Hop}
 use Rattle.service_api.specs.declared.router.Hop.TheVariants.{To, NoService, NoRoute}
 use Rattle.service_api.specs.Routes.{hop, default_route}
 use Rattle.service_api.specs.Services.{Served, served, called, IsGoodValue, IsGoodChunk, AreGoodValues, IsGoodAnswer, IsGoodServed, IsGoodNote, IsGoodOptionNote, AreGoodRows}
-use Rattle.plan_meaning.specs.declared.stop.Stop.TheVariants.{Raised, WorkSpent, Wrong, NoMemory}
+use Rattle.plan_meaning.specs.declared.stop.EvalStop.TheVariants.{Raised, WorkSpent, Wrong, NoMemory}
 use Rattle.plan_meaning.specs.State.{VisitState}
-use Rattle.plan_meaning.specs.Run.{After, gave, stopped, Step, Run, «next», ◌>>=◌, ◌>>◌, pure, stop, raise, or_wrong, given, otherwise, rescue, spend, is_too_large, weighed, whole, serve, answered, noted}
+use Rattle.plan_meaning.specs.Run.{After, gave, stopped, RunStep, Run, «next», ◌>>=◌, ◌>>◌, pure, stop, raise, or_wrong, given, otherwise, rescue, spend, is_too_large, weighed, whole, serve, answered, noted}
 use Rattle.plan_meaning.specs.Meaning.{pay_eval, no_bound, is_paid, bound_of, sent, sent_by, send_remote, is_next, not_neighbour, send_neighbour}
 use Rattle.plan_meaning.specs.Safe.{AreGoodNotes, IsGoodSent, IsGoodState, Holds, IsRight, Yields}
 use Rattle.meaning_laws.proofs.Formed.{IsFormed, well_formed}
@@ -46,7 +46,7 @@ module _ {A : Type 0} (P : A → Type 0) where
   pub raise_yields : (x : Exn) → Yields P (raise x)
   raise_yields x s g = record { safe = tt; holds = (raised x, g) }
 
-  pub choose : (b : Bool) (x y : Step A) → IsRight P x → IsRight P y → IsRight P (if b then x else y)
+  pub choose : (b : Bool) (x y : RunStep A) → IsRight P x → IsRight P y → IsRight P (if b then x else y)
   choose true x y h k = h
   choose false x y h k = k
 

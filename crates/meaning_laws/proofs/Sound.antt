@@ -396,7 +396,7 @@ module _ (limit : ℕ) where
 
     selection_good : (t : Ty) (i : ℕ) (a : Expr) (ts : List Ty) → Does (ty.Tuple ts) a → part_of i ts ≡ Some t → Halts limit (Mild t) (m.selection meaning code seen env i a)
     unfolding m.selection
-    selection_good t i a ts j e = then_halts limit (Good (ty.Tuple ts)) (Mild t) _ _ j (λ v g. given_halts limit t _ (given.taken i v ts t g.typed e) (keeps.taken i v ts g.typed (formed_of v g.formed)))
+    selection_good t i a ts j e = then_halts limit (Good (ty.Tuple ts)) (Mild t) _ _ j (λ v g. given_halts limit t _ (given.selection_fits i v ts t g.typed e) (keeps.selection_keeps i v ts g.typed (formed_of v g.formed)))
 
     tuple_good : (es : List Expr) (ts : List Ty) → length es ≡ length ts → PartsHalt code seen env es ts → has_from_to 2 8 es ≡ true → IsShallow (ty.Tuple ts) → Halts limit (Mild (ty.Tuple ts)) (m.tuple meaning code seen env es)
     unfolding m.tuple

@@ -18,21 +18,21 @@ use Rattle.plan_base.specs.Trees.{ExprLayer}
 use Rattle.typing_rules.specs.TypingNames.{place_of, service_of, prim_of}
 use Rattle.plan_base.specs.Sizes.{weight}
 use Rattle.value_rules.specs.Rules.{Given, gives, raises, unfit, too_large, binary, part, primitive}
-use Rattle.plan_meaning.specs.declared.stop.Stop.{Stop}
-use Rattle.plan_meaning.specs.declared.stop.Stop.TheVariants.{Raised, WorkSpent}
-use Rattle.plan_meaning.specs.Run.{Step, Run, ◌>>=◌, pure, stop, wrong, or_wrong, given, rescue, spend, weighed, is_too_large, whole, serve}
+use Rattle.plan_meaning.specs.declared.stop.EvalStop.{EvalStop}
+use Rattle.plan_meaning.specs.declared.stop.EvalStop.TheVariants.{Raised, WorkSpent}
+use Rattle.plan_meaning.specs.Run.{RunStep, Run, ◌>>=◌, pure, stop, wrong, or_wrong, given, rescue, spend, weighed, is_too_large, whole, serve}
 use Rattle.plan_meaning.specs.Meaning.{Env, Runs, binds, bound, as_bool, as_int, as_host, as_dev, as_chunk, as_items, value_of, pay_eval, send_remote, send_neighbour, catches, named, values_behind, values, entered, applied_at, applied, served_or, called_by, called, call, tuple, packed, choice, binding, sequence, conjunction, disjunction, negation, operation, selection, handled, attempt, left_along, fold_left, right_along, fold_right, visited, evaluation, remote, neighbour, empty_of, opened_at, opened, node, run_to}
 use Rattle.plan_meaning.specs.State.{VisitState}
 use Rattle.meaning_laws.specs.Laws.{left_by}
 
 -- of two steps, the one that is taken leaves a state as each of them does
-pub choose : (Leaves : VisitState → VisitState → Type 0) {A : Type 0} (s : VisitState) (b : Bool) (x y : Step A) → Leaves s (left_by x.after) → Leaves s (left_by y.after) → Leaves s (left_by (if b then x else y).after)
+pub choose : (Leaves : VisitState → VisitState → Type 0) {A : Type 0} (s : VisitState) (b : Bool) (x y : RunStep A) → Leaves s (left_by x.after) → Leaves s (left_by y.after) → Leaves s (left_by (if b then x else y).after)
 choose Leaves s true x y h k = h
 choose Leaves s false x y h k = k
 
 pub record Kept (Rel : (A : Type 0) → Run A → Run A → Type 0) : Type 1 where
   pub gives : (A : Type 0) (a : A) → Rel A (pure a) (pure a)
-  pub stops : (A : Type 0) (e : Stop) → Rel A (stop e) (stop e)
+  pub stops : (A : Type 0) (e : EvalStop) → Rel A (stop e) (stop e)
   pub wrongs : (A : Type 0) → Rel A wrong wrong
   pub binds : (A B : Type 0) (p q : Run A) (f g : A → Run B) → Rel A p q → ((a : A) → Rel B (f a) (g a)) → Rel B (p >>= f) (q >>= g)
   pub rescues : (p q : Run Value) (f g : Exn → Run Value) → Rel Value p q → ((x : Exn) → Rel Value (f x) (g x)) → Rel Value (rescue p f) (rescue q g)

@@ -16,15 +16,15 @@ use Rattle.service_api.specs.declared.router.Hop.{Hop}
 use Rattle.service_api.specs.declared.router.Hop.TheVariants.{To, NoService, NoRoute}
 use Rattle.service_api.specs.Routes.{hop, default_route}
 use Rattle.service_api.specs.Services.{served}
-use Rattle.plan_meaning.specs.declared.stop.Stop.TheVariants.{Raised, WorkSpent, Wrong, NoMemory}
+use Rattle.plan_meaning.specs.declared.stop.EvalStop.TheVariants.{Raised, WorkSpent, Wrong, NoMemory}
 use Rattle.plan_meaning.specs.State.{VisitState}
-use Rattle.plan_meaning.specs.Run.{After, gave, stopped, Step, both, Run, «next», and_then, ◌>>=◌, ◌>>◌, quiet, otherwise, rescued, rescue, spend, whole, serve, answered}
+use Rattle.plan_meaning.specs.Run.{After, gave, stopped, RunStep, both, Run, «next», and_then, ◌>>=◌, ◌>>◌, quiet, otherwise, rescued, rescue, spend, whole, serve, answered}
 use Rattle.plan_meaning.specs.Meaning.{Env, Runs, pay_eval, no_bound, is_paid, bound_of, sent, sent_by, send_remote, is_next, not_neighbour, send_neighbour, node, run_to, meaning}
 use Rattle.meaning_laws.specs.Laws.{left_by}
 use Rattle.meaning_laws.proofs.Walk.{Kept, weighed_kept, opened_kept}
 
 -- the same step, which leaves no more work
-pub record Agree {A : Type 0} (s : VisitState) (a b : Step A) : Type 0 where
+pub record Agree {A : Type 0} (s : VisitState) (a b : RunStep A) : Type 0 where
   pub same : a ≡ b
   pub falls : (left_by a.after).work ≤ s.work
 
@@ -32,7 +32,7 @@ pub record Agree {A : Type 0} (s : VisitState) (a b : Step A) : Type 0 where
 abbrev pub Within : ℕ → (A : Type 0) → Run A → Run A → Type 0
 Within w A p q = (s : VisitState) → s.work < w → Agree s (p s) (q s)
 
-itself : {A : Type 0} (s : VisitState) (a : Step A) → (left_by a.after).work ≤ s.work → Agree s a a
+itself : {A : Type 0} (s : VisitState) (a : RunStep A) → (left_by a.after).work ≤ s.work → Agree s a a
 itself s a h = record { same = refl; falls = h }
 
 below : (a b c : ℕ) → b ≤ a → c ≤ b → c ≤ a
@@ -62,7 +62,7 @@ module _ (w : ℕ) where
       let later = otherwise_within s (p s).after f g l first.falls k in
       record { same = (λ i. record { after = (later.same i).after; asks = both (p s).asks (later.same i).asks }) ∙ ap (λ r. rescued r g) first.same; falls = later.falls }
 
-  choose : {A : Type 0} (s : VisitState) (b : Bool) (x y : Step A) → (left_by x.after).work ≤ s.work → (left_by y.after).work ≤ s.work → (left_by (if b then x else y).after).work ≤ s.work
+  choose : {A : Type 0} (s : VisitState) (b : Bool) (x y : RunStep A) → (left_by x.after).work ≤ s.work → (left_by y.after).work ≤ s.work → (left_by (if b then x else y).after).work ≤ s.work
   choose s true x y h k = h
   choose s false x y h k = k
 
@@ -118,7 +118,7 @@ module _ (w : ℕ) where
   }
 
 -- an expression first spends 1, so its parts run with less work
-one_spent : VisitState → Bool → Step (Unit {0})
+one_spent : VisitState → Bool → RunStep (Unit {0})
 one_spent s b = if b then quiet (stopped WorkSpent s) else quiet (gave tt (record s { work = s.work - 1 }))
 
 spent_first : (w : ℕ) (s : VisitState) (b : Bool) → nat_lt s.work 1 ≡ b → s.work < suc w → (p q : Run Value) → Within w Value p q

@@ -7,9 +7,9 @@ use Rattle.service_api.specs.declared.ctx.Ctx.{Ctx}
 use Rattle.service_api.specs.Services.{ServiceState}
 use Rattle.plan_meaning.specs.declared.outcome.Outcome.TheVariants as outcome
 use Rattle.plan_meaning.specs.declared.outcome.Visit.{Visit}
-use Rattle.plan_meaning.specs.declared.stop.Stop.TheVariants as stop
+use Rattle.plan_meaning.specs.declared.stop.EvalStop.TheVariants as stop
 use Rattle.plan_meaning.specs.State.{VisitState}
-use Rattle.plan_meaning.specs.Run.{After, gave, stopped, Step, Run}
+use Rattle.plan_meaning.specs.Run.{After, gave, stopped, RunStep, Run}
 use Rattle.plan_meaning.specs.Meaning.{meaning, visited}
 use Rattle.plan_meaning.specs.Visit.{IsVisit, begun, bounds}
 
@@ -62,7 +62,7 @@ after_more k (gave a s) = gave a (more k s)
 after_more k (stopped e s) = stopped e (more k s)
 
 -- the same with so much more work left
-abbrev pub step_more : {A : Type 0} → ℕ → Step A → Step A
+abbrev pub step_more : {A : Type 0} → ℕ → RunStep A → RunStep A
 step_more k r = record { after = after_more k r.after; asks = r.asks }
 
 abbrev pub at_work : ℕ → VisitState → VisitState

@@ -7,7 +7,7 @@ use Rattle.plan_base.specs.declared.tree.Packet.{Packet}
 use Rattle.plan_base.specs.declared.tree.Value.{Value}
 use Rattle.service_api.specs.declared.ctx.Ctx.{Ctx}
 use Rattle.service_api.specs.Services.{Rows, Offer, ServiceState, begun_now, made_ready, kept, abandoned, rows_at}
-use Rattle.plan_meaning.specs.declared.stop.Stop.TheVariants.{Raised, WorkSpent, Wrong, NoMemory}
+use Rattle.plan_meaning.specs.declared.stop.EvalStop.TheVariants.{Raised, WorkSpent, Wrong, NoMemory}
 use Rattle.plan_meaning.specs.declared.outcome.Visit.{Visit}
 use Rattle.plan_meaning.specs.declared.sent.Sent.{Sent}
 use Rattle.spelled_frame.specs.Spelled.{MayCarry}

@@ -29,7 +29,8 @@ use Rattle.node_files.specs.Parts.{behind_word}
 use Rattle.node_files.specs.Asks.{to_line, from_line, bound_line, entry_line, program_line, wanted_line, close_program, ask_step_at, request_of, ask_format, nothing_asked, ask_of}
 use Rattle.node_files.proofs.NodeLines.{Clean, clean_more, clean_number, last_reads, usual_by, usual_again}
 use Rattle.node_file_laws.specs.Asks.{to_words, from_words, bound_words, entry_words, ask_lines, ask_text, IsAsk}
-use Rattle.node_file_laws.proofs.Leading.{behind_lines, said_by, text_free, with_text, text_leads}
+use Rattle.schedule_laws.proofs.WholeRead.{text_free}
+use Rattle.node_file_laws.proofs.Leading.{behind_lines, said_by, with_text, text_leads}
 
 -- ---- the entry and its arguments
 

@@ -39,7 +39,8 @@ use Rattle.node_files.specs.Configs.{may_come, missing_line, program_line, injec
 use Rattle.node_files.proofs.NodeLines.{Clean, clean_more, usual_by, usual_again, more_to, package_clean, package_reads}
 use Rattle.node_file_laws.specs.Words.{program_lines, IsTextOf}
 use Rattle.node_file_laws.specs.Configs.{ProgramText, device_lines, given_lines, inject_words, head_lines, config_lines, config_text, IsGiven, IsInjected, IsConfig}
-use Rattle.node_file_laws.proofs.Leading.{Leads, leads-nil, leads-cons, behind_lines, said_by, all_free, text_free, with_text, text_leads}
+use Rattle.schedule_laws.proofs.WholeRead.{all_free, text_free}
+use Rattle.node_file_laws.proofs.Leading.{Leads, leads-nil, leads-cons, behind_lines, said_by, with_text, text_leads}
 use Rattle.node_file_laws.proofs.ConfigHead as top
 
 -- ---- missing packages

@@ -21,7 +21,8 @@ use Rattle.node_files.specs.declared.fleet.FleetReading.{FleetReading}
 use Rattle.node_files.specs.Fleets.{node_kid, ask_kid, kid_rest, kid_line, fleet_step_at, fleet_end, fleet_format, no_children, fleet_of}
 use Rattle.node_files.proofs.NodeLines.{Clean, clean_more, clean_number, last_reads, usual_again, more_to, room_for}
 use Rattle.node_file_laws.specs.Fleets.{kid_words, fleet_lines, fleet_text, IsNamedFile, IsFleet}
-use Rattle.node_file_laws.proofs.Leading.{Leads, leads-nil, leads-cons, said_by, all_free}
+use Rattle.schedule_laws.proofs.WholeRead.{all_free}
+use Rattle.node_file_laws.proofs.Leading.{Leads, leads-nil, leads-cons, said_by}
 
 -- ---- the words of a child
 

@@ -1,5 +1,5 @@
 -- Written lines lead a reading from one state to another, in any format.
-use Rattle.std.proofs.Common.{◌≡◌, ℕ, ◌+◌, true, false, List, [], ◌∷◌, ◌++◌, length, map, Result, Ok, Err, sym, ap, subst, ◌∙◌, arith, append-nil, append_assoc}
+use Rattle.std.proofs.Common.{◌≡◌, ℕ, ◌+◌, false, List, [], ◌∷◌, ◌++◌, length, map, Result, Ok, Err, sym, ap, subst, ◌∙◌, arith, append-nil, append_assoc}
 use Rattle.std.specs.List.{All}
 use Rattle.std.specs.Str.{bytes_eq}
 use lib.Chars.{codes}
@@ -10,7 +10,6 @@ use Rattle.line_files.specs.Reads.{and_then}
 use Rattle.line_files.specs.Files.{Format, read_on, file_of}
 use Rattle.line_files.specs.Inside.{after_lines}
 use Rattle.line_files.specs.Programs.{with_line}
-use Rattle.line_files.proofs.Again.{without}
 use Rattle.line_files.proofs.CountLaws.{read_behind}
 use Rattle.line_files.proofs.LineLaws.{no_lines, then_lines}
 use Rattle.schedule_laws.specs.Written.{spread, IsTextLine}
@@ -48,16 +47,6 @@ unfolding read_on
 said_by f ls s t x free leads end =
     ap (λ v. read_on f 1 v s) (spread_lines ls free ∙ sym (append-nil ls))
     ∙ (read_behind f ls [] 1 s t leads ∙ end)
-
--- ---- lines without line feeds
-
-pub all_free : {X : Type 0} (line : X → List ℕ) (P : X → Type 0) → ((x : X) → P x → without 10 (line x) ≡ true) → (xs : List X) → All P xs → Free 10 (map line xs)
-all_free line P f [] k = tt
-all_free line P f (x ∷ xs) k = (f x (All-head P x xs k), all_free line P f xs (All-tail P x xs k))
-
-pub text_free : (text : List (List ℕ)) → All IsTextLine text → Free 10 text
-text_free [] k = tt
-text_free (line ∷ text) k = ((All-head IsTextLine line text k).0, text_free text (All-tail IsTextLine line text k))
 
 -- ---- the text of a program
 

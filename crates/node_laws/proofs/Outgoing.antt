@@ -21,9 +21,9 @@ use Rattle.service_api.specs.declared.router.Hop.TheVariants.{To, NoService, NoR
 use Rattle.service_api.specs.Routes.{hop, default_route}
 use Rattle.service_api.specs.Services.{served}
 use Rattle.plan_meaning.specs.declared.sent.Sent.{Sent}
-use Rattle.plan_meaning.specs.declared.stop.Stop.TheVariants.{Raised, WorkSpent, Wrong, NoMemory}
+use Rattle.plan_meaning.specs.declared.stop.EvalStop.TheVariants.{Raised, WorkSpent, Wrong, NoMemory}
 use Rattle.plan_meaning.specs.State.{VisitState}
-use Rattle.plan_meaning.specs.Run.{After, gave, stopped, Step, Run, «next», quiet, raise, otherwise, spend, serve, answered}
+use Rattle.plan_meaning.specs.Run.{After, gave, stopped, RunStep, Run, «next», quiet, raise, otherwise, spend, serve, answered}
 use Rattle.plan_meaning.specs.Meaning.{Env, pay_eval, no_bound, is_paid, bound_of, sent, sent_by, send_remote, is_next, not_neighbour, send_neighbour, run_to, meaning, visited}
 use Rattle.meaning_laws.specs.Laws.{left_by}
 use Rattle.meaning_laws.proofs.Walk.{Kept, run_kept, visited_kept}
@@ -48,7 +48,7 @@ module _ (f : Family) where
   abbrev pub Sends : (A : Type 0) → Run A → Run A → Type 0
   Sends A p q = (s : VisitState) → Outgoing s.family s.outbox → Out (p s).after
 
-  choose : {A : Type 0} (b : Bool) (x y : Step A) → Out x.after → Out y.after → Out (if b then x else y).after
+  choose : {A : Type 0} (b : Bool) (x y : RunStep A) → Out x.after → Out y.after → Out (if b then x else y).after
   choose true x y h k = h
   choose false x y h k = k
 

@@ -8,7 +8,7 @@ use Rattle.plan_base.specs.declared.tree.Value.{Value}
 use Rattle.typing_rules.specs.Typing.{IsTypedChunk, within}
 use Rattle.plan_base.specs.WellFormed.{IsWellFormedChunk}
 use Rattle.service_api.specs.Services.{ServiceState, IsGood, IsGoodChunk, IsGoodNote, kept, abandoned, begun_now}
-use Rattle.plan_meaning.specs.declared.stop.Stop.TheVariants.{Raised, WorkSpent, Wrong, NoMemory}
+use Rattle.plan_meaning.specs.declared.stop.EvalStop.TheVariants.{Raised, WorkSpent, Wrong, NoMemory}
 use Rattle.plan_meaning.specs.declared.outcome.Visit.{Visit}
 use Rattle.plan_meaning.specs.declared.sent.Sent.{Sent}
 use Rattle.plan_meaning.specs.State.{VisitState}

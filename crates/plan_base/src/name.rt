@@ -132,16 +132,23 @@ fn are_word_bytes(bytes: &[u8]) -> bool
 
 // The reserved words of each number of bytes that they have.
 static TWO: [&[u8]; 3] = [b"if", b"in", b"or"];
+
 static THREE: [&[u8]; 11] = [
     b"and", b"dev", b"end", b"fun", b"int", b"let", b"mod", b"not", b"svc", b"try", b"val",
 ];
+
 static FOUR: [&[u8]; 10] = [
     b"blob", b"bool", b"char", b"else", b"eval", b"host", b"list", b"then", b"true", b"unit",
 ];
+
 static FIVE: [&[u8]; 5] = [b"chunk", b"false", b"foldl", b"foldr", b"raise"];
+
 static SIX: [&[u8]; 2] = [b"handle", b"string"];
+
 static EIGHT: [&[u8]; 1] = [b"OnRemote"];
+
 static NINE: [&[u8]; 1] = [b"exception"];
+
 static TEN: [&[u8]; 1] = [b"OnNeighbor"];
 
 /// Whether the word is one that the language keeps for itself. It is compared with those of its length alone.

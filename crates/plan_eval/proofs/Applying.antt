@@ -5,9 +5,9 @@ use Rattle.plan_items.proofs.Options.{none-some}
 use Rattle.plan_base.specs.declared.tree.Program.{Program}
 use Rattle.plan_base.specs.declared.tree.Value.{Value}
 use Rattle.plan_base.specs.declared.tree.Exn.{Exn}
-use Rattle.plan_meaning.specs.declared.stop.Stop.TheVariants.{Raised}
+use Rattle.plan_meaning.specs.declared.stop.EvalStop.TheVariants.{Raised}
 use Rattle.plan_meaning.specs.State.{VisitState}
-use Rattle.plan_meaning.specs.Run.{Step, gave, stopped, quiet}
+use Rattle.plan_meaning.specs.Run.{RunStep, gave, stopped, quiet}
 use Rattle.eval_steps.specs.declared.stack_frame.StackFrame.{StackFrame}
 use Rattle.eval_steps.specs.declared.stack_frame.Activation.{Activation}
 use Rattle.eval_steps.specs.declared.stack_frame.Mode.TheVariants as mode
@@ -58,12 +58,12 @@ spot_in_grown codes more a h =
     let p = from_code (slice_get codes a.code) a.fun a.args a.frames h in
     ap (λ o. spot_from (code_spot o a.fun a.args) a.frames) (grown codes more a.code p.0 p.1 ∙ sym p.1)
 
-pub ended_grown : (codes more : List Program) (a : Activation) (r : Step Value) → IsSome (spot_in codes a) → ended (codes ++ more) a r ≡ ended codes a r
+pub ended_grown : (codes more : List Program) (a : Activation) (r : RunStep Value) → IsSome (spot_in codes a) → ended (codes ++ more) a r ≡ ended codes a r
 unfolding ended start_of
 ended_grown codes more a r h =
     let p = program_of codes a h in
     ap (λ o. ended_in o (code_spot o a.fun a.args) a r) (grown codes more a.code p.0 p.1 ∙ sym p.1)
 
-pub all_ended_grown : (codes more : List Program) (activations : List Activation) (r : Step Value) → AreLinked codes activations → all_ended (codes ++ more) activations r ≡ all_ended codes activations r
+pub all_ended_grown : (codes more : List Program) (activations : List Activation) (r : RunStep Value) → AreLinked codes activations → all_ended (codes ++ more) activations r ≡ all_ended codes activations r
 all_ended_grown codes more [] r h = refl
 all_ended_grown codes more (a ∷ rest) r h = ended_grown codes more a _ h.0 ∙ ap (ended codes a) (all_ended_grown codes more rest r h.1)

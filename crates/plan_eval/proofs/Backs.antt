@@ -7,10 +7,10 @@ use Rattle.plan_base.specs.declared.tree.Exn.{Exn}
 use Rattle.plan_base.specs.declared.tree.Fun.{Fun}
 use Rattle.plan_base.specs.declared.tree.Program.{Program}
 use Rattle.plan_base.specs.declared.tree.Value.{Value}
-use Rattle.plan_meaning.specs.declared.stop.Stop.{Stop}
-use Rattle.plan_meaning.specs.declared.stop.Stop.TheVariants.{Raised, Wrong, WorkSpent, NoMemory}
+use Rattle.plan_meaning.specs.declared.stop.EvalStop.{EvalStop}
+use Rattle.plan_meaning.specs.declared.stop.EvalStop.TheVariants.{Raised, Wrong, WorkSpent, NoMemory}
 use Rattle.plan_meaning.specs.State.{VisitState}
-use Rattle.plan_meaning.specs.Run.{Step, gave, stopped, quiet}
+use Rattle.plan_meaning.specs.Run.{RunStep, gave, stopped, quiet}
 use Rattle.plan_meaning.specs.Meaning.{Env, binds, bound, value_of}
 use Rattle.eval_steps.specs.declared.stack_frame.StackFrame.{StackFrame}
 use Rattle.eval_steps.specs.declared.stack_frame.StackFrame.TheVariants as frame
@@ -36,24 +36,24 @@ use Rattle.plan_eval.proofs.Waiting.{some_base, waits_below}
 
 -- ---- an evaluation that leads to another came as far
 
-pub flows_from : (codes : List Program) (code : Program) (seen : ℕ) (at : Spot) (p q : Step Value) (r : Result Flow Stop) (s : VisitState) → Leads p q → Flows codes code seen at q r s → Flows codes code seen at p r s
+pub flows_from : (codes : List Program) (code : Program) (seen : ℕ) (at : Spot) (p q : RunStep Value) (r : Result Flow EvalStop) (s : VisitState) → Leads p q → Flows codes code seen at q r s → Flows codes code seen at p r s
 flows_from codes code seen at p q (Ok (flow.Done v)) s h f = h.same ∙ f
 flows_from codes code seen at p q (Ok (flow.Wait r)) s h f = record { leads = onward _ _ _ h f.leads; stands = f.stands; linked = f.linked }
 flows_from codes code seen at p q (Err e) s h f = λ other. h.same ∙ f other
 
-pub enters_from : (codes : List Program) (p q : Step Value) (r : Result Flow Stop) (s : VisitState) → Leads p q → Enters codes q r s → Enters codes p r s
+pub enters_from : (codes : List Program) (p q : RunStep Value) (r : Result Flow EvalStop) (s : VisitState) → Leads p q → Enters codes q r s → Enters codes p r s
 enters_from codes p q (Ok (flow.Done v)) s h f = h.same ∙ f
 enters_from codes p q (Ok (flow.Wait r)) s h f = record { bare = f.bare; first = f.first; more = f.more; are = f.are; leads = onward _ _ _ h f.leads; linked = f.linked }
 enters_from codes p q (Err e) s h f = λ other. h.same ∙ f other
 
-pub advances_from : (codes : List Program) (code : Program) (seen : ℕ) (at : Spot) (p q : Step Value) (r : Result Turn Stop) (s : VisitState) → Leads p q → Advances codes code seen at q r s → Advances codes code seen at p r s
+pub advances_from : (codes : List Program) (code : Program) (seen : ℕ) (at : Spot) (p q : RunStep Value) (r : Result Turn EvalStop) (s : VisitState) → Leads p q → Advances codes code seen at q r s → Advances codes code seen at p r s
 advances_from codes code seen at p q (Ok (turn.More n)) s h f = onward _ _ _ h f
 advances_from codes code seen at p q (Ok (turn.End g)) s h f = flows_from codes code seen at p q (Ok g) s h f
 advances_from codes code seen at p q (Err e) s h f = λ other. h.same ∙ f other
 
 -- ---- what a frame waited for
 
-module _ (code : Program) (seen : ℕ) (at : Spot) (c : Step Value) (s : VisitState) where
+module _ (code : Program) (seen : ℕ) (at : Spot) (c : RunStep Value) (s : VisitState) where
   pub resume_gave : (f : StackFrame) (v : Value) → c.after ≡ gave v s → Leads (resume code seen at f c) (resume code seen at f (quiet (gave v s)))
   resume_gave f v h = resume_leads code seen at f _ _ (at_once c v s h)
 
@@ -132,7 +132,7 @@ module _ (outer : List Activation) (a : Activation) (r : Rest) where
   load_rests old new h = omega (arith, h, frames_of, length_of, frames_before, length-append outer (a ∷ []))
 
 -- an expression that went on spent 1 before
-pub spends_one : (depth old mid new : ℕ) (r : Result Flow Stop) → mid + 1 ≡ old → Lasts 3 mid r new → Spends depth old r new
+pub spends_one : (depth old mid new : ℕ) (r : Result Flow EvalStop) → mid + 1 ≡ old → Lasts 3 mid r new → Spends depth old r new
 spends_one depth old mid new (Ok (flow.Done v)) is h = omega (arith, is, h)
 spends_one depth old mid new (Ok (flow.Wait r)) is h = (omega (arith, is, h), λ some. omega (arith, is, h))
 spends_one depth old mid new (Err (Raised x)) is h = omega (arith, is, h)

@@ -8,10 +8,10 @@ use Rattle.plan_base.specs.declared.tree.Program.{Program}
 use Rattle.plan_base.specs.declared.tree.Value.{Value}
 use Rattle.plan_base.specs.declared.tree.Value as value
 use Rattle.plan_base.specs.Trees.{ExprLayer}
-use Rattle.plan_meaning.specs.declared.stop.Stop.{Stop}
-use Rattle.plan_meaning.specs.declared.stop.Stop.TheVariants.{Raised, Wrong}
+use Rattle.plan_meaning.specs.declared.stop.EvalStop.{EvalStop}
+use Rattle.plan_meaning.specs.declared.stop.EvalStop.TheVariants.{Raised, Wrong}
 use Rattle.plan_meaning.specs.State.{VisitState}
-use Rattle.plan_meaning.specs.Run.{Step, gave, stopped, pure, «next», spend, whole, weighed, ◌>>=◌}
+use Rattle.plan_meaning.specs.Run.{RunStep, gave, stopped, pure, «next», spend, whole, weighed, ◌>>=◌}
 use Rattle.plan_meaning.specs.Meaning.{Env, meaning, node, opened, opened_at, value_of, tuple, call, packed, values, called, named}
 use Rattle.eval_steps.specs.declared.stack_frame.Activation.{Activation}
 use Rattle.eval_steps.specs.declared.stack_frame.Mode.TheVariants as mode
@@ -38,7 +38,7 @@ module _ (code : Program) (seen : ℕ) (env : Env) (e : Expr) (s : VisitState) w
   unfolding node whole
   paid_on t is = onward _ _ _ (regrouped (spend 1 s) (λ _. opened meaning code seen env e) weighed) (gave_on (spend 1 s) tt t (λ _. opened meaning code seen env e >>= weighed) is)
 
-  unpaid : (x : Stop) (t : VisitState) → (spend 1 s).after ≡ stopped x t → (node meaning code seen env e s).after ≡ stopped x t
+  unpaid : (x : EvalStop) (t : VisitState) → (spend 1 s).after ≡ stopped x t → (node meaning code seen env e s).after ≡ stopped x t
   unfolding node whole
   unpaid x t is = ap (λ r. («next» («next» r (λ _. opened meaning code seen env e)).after weighed).after) is
 
@@ -48,7 +48,7 @@ pub begun_here : (code : Program) (seen : ℕ) (env : Env) (e : Expr) (s t : Vis
 unfolding opened
 begun_here code seen env e s t paid = rw (fixed code seen env e s) (paid_on code seen env e s t paid)
 
-pub begun_spent : (code : Program) (seen : ℕ) (env : Env) (e : Expr) (x : Stop) (s t : VisitState) → (spend 1 s).after ≡ stopped x t
+pub begun_spent : (code : Program) (seen : ℕ) (env : Env) (e : Expr) (x : EvalStop) (s t : VisitState) → (spend 1 s).after ≡ stopped x t
     → (meaning code seen env e s).after ≡ stopped x t
 begun_spent code seen env e x s t spent = rw (fixed code seen env e s) (unpaid code seen env e s x t spent)
 
@@ -93,5 +93,5 @@ module _ (code : Program) (seen : ℕ) (env : Env) (s : VisitState) where
   unfolding packed values
   packs_bare e f form = rw form (onward _ _ _ (known_then [] s (λ vs. pure (value.Chunk (record { code = code; entry = f; args = vs }))) weighed) (given_on _ s weighed))
 
-  pub begins_call : (e : Expr) (f : Name) (p : Step Value) → out-Expr e ≡ Expr-F.Call f [] → Leads (call_of code seen f [] s) p → Leads (begins code seen (record { expr = e; env = env }) s) p
+  pub begins_call : (e : Expr) (f : Name) (p : RunStep Value) → out-Expr e ≡ Expr-F.Call f [] → Leads (call_of code seen f [] s) p → Leads (begins code seen (record { expr = e; env = env }) s) p
   begins_call e f p form h = onward _ _ _ (calls_bare e f form) h

@@ -8,11 +8,11 @@ use Rattle.plan_base.specs.declared.tree.Fun.{Fun}
 use Rattle.plan_base.specs.declared.tree.Param.{Param}
 use Rattle.plan_base.specs.declared.tree.Program.{Program}
 use Rattle.plan_base.specs.declared.tree.Value.{Value}
-use Rattle.plan_meaning.specs.declared.stop.Stop.{Stop}
-use Rattle.plan_meaning.specs.declared.stop.Stop.TheVariants.{Raised}
+use Rattle.plan_meaning.specs.declared.stop.EvalStop.{EvalStop}
+use Rattle.plan_meaning.specs.declared.stop.EvalStop.TheVariants.{Raised}
 use Rattle.plan_base.specs.declared.tree.Exn.{Exn}
 use Rattle.plan_meaning.specs.State.{VisitState}
-use Rattle.plan_meaning.specs.Run.{Step, gave, stopped, quiet}
+use Rattle.plan_meaning.specs.Run.{RunStep, gave, stopped, quiet}
 use Rattle.plan_meaning.specs.Safe.{IsSafe}
 use Rattle.plan_meaning.specs.Meaning.{Env, meaning, bound, entered}
 use Rattle.eval_steps.specs.declared.stack_frame.StackFrame.{StackFrame}
@@ -97,13 +97,13 @@ module _ (code : Program) (fun : ℕ) (f : Fun) (args vs : List Value) (fs : Lis
   pub body_binds : IsSome (bound f.params vs)
   body_binds = rw same (binds_some f.params args many)
 
-  bodies : (codes : List Program) (number : ℕ) (want : Step Value) (r : Result Flow Stop) (t : VisitState) → slice_get codes number ≡ Some code
+  bodies : (codes : List Program) (number : ℕ) (want : RunStep Value) (r : Result Flow EvalStop) (t : VisitState) → slice_get codes number ≡ Some code
       → Flows codes code fun (record { expr = f.body; env = env_of f args [] }) want r t → Bodies codes code number fun f args want r t
   bodies codes number want (Ok (flow.Done v)) t is h = h
   bodies codes number want (Ok (flow.Wait r)) t is h = record { program = is; function = has; binds = binds_some f.params args many; waits = h }
   bodies codes number want (Err e) t is h = h
 
-  pub bodies_from : (codes : List Program) (number : ℕ) (r : Result Flow Stop) (t : VisitState) → slice_get codes number ≡ Some code
+  pub bodies_from : (codes : List Program) (number : ℕ) (r : Result Flow EvalStop) (t : VisitState) → slice_get codes number ≡ Some code
       → Flows codes code fun (record { expr = f.body; env = env_of f vs fs ++ bound_here bs }) (meaning code fun (env_of f vs fs ++ bound_here bs) f.body s) r t → Bodies codes code number fun f args (entered meaning code fun args s) r t
   bodies_from codes number r t is h =
       bodies codes number _ r t is (rw (no_names (env_of f vs fs) bs bare, same, none) at (flows_from codes code fun (record { expr = f.body; env = env_of f vs fs ++ bound_here bs }) _ _ r t body_leads h))
@@ -132,13 +132,13 @@ module _ (codes : List Program) (a : Activation) (code : Program) (f : Fun) (e :
 
 -- ---- the innermost expression of the machine's stack
 
-module _ (codes new : List Program) (outer : List Activation) (a : Activation) (grows : Grows codes new) (r : Result Mode Stop) (outer' : List Activation) (t : VisitState) where
+module _ (codes new : List Program) (outer : List Activation) (a : Activation) (grows : Grows codes new) (r : Result Mode EvalStop) (outer' : List Activation) (t : VisitState) where
   -- what it goes on with comes onto the stack, wherever it stands
-  abbrev pub Lands : (Program → Spot → Step Value) → Type 0
+  abbrev pub Lands : (Program → Spot → RunStep Value) → Type 0
   Lands want = (code : Program) (at : Spot) → slice_get codes a.code ≡ Some code → spot_in codes a ≡ Some at → Stands new outer a code at
       → Turned (all_ended new outer (ended new a (want code at))) r new outer' t
 
-  module _ (linked : AreLinked codes outer) (stands : IsSome (spot_in codes a)) (want : Program → Spot → Step Value) (whole : Step Value)
+  module _ (linked : AreLinked codes outer) (stands : IsSome (spot_in codes a)) (want : Program → Spot → RunStep Value) (whole : RunStep Value)
       (same : (code : Program) (at : Spot) → slice_get codes a.code ≡ Some code → spot_in codes a ≡ Some at → whole ≡ all_ended codes outer (ended codes a (want code at))) where
     alike : (code : Program) (at : Spot) → slice_get codes a.code ≡ Some code → spot_in codes a ≡ Some at
         → whole ≡ all_ended (codes ++ grows.more) outer (ended (codes ++ grows.more) a (want code at))

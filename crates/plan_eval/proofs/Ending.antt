@@ -6,10 +6,10 @@ use Rattle.plan_base.specs.declared.tree.Expr.{Expr, Expr-F, out-Expr}
 use Rattle.plan_base.specs.declared.tree.Program.{Program}
 use Rattle.plan_base.specs.declared.tree.Value.{Value}
 use Rattle.plan_base.specs.Trees.{ExprLayer}
-use Rattle.plan_meaning.specs.declared.stop.Stop.{Stop}
-use Rattle.plan_meaning.specs.declared.stop.Stop.TheVariants.{Raised, WorkSpent, Wrong, NoMemory}
+use Rattle.plan_meaning.specs.declared.stop.EvalStop.{EvalStop}
+use Rattle.plan_meaning.specs.declared.stop.EvalStop.TheVariants.{Raised, WorkSpent, Wrong, NoMemory}
 use Rattle.plan_meaning.specs.State.{VisitState}
-use Rattle.plan_meaning.specs.Run.{Run, Step, gave, stopped, quiet, and_then, «next», rescued, otherwise, weighed}
+use Rattle.plan_meaning.specs.Run.{Run, RunStep, gave, stopped, quiet, and_then, «next», rescued, otherwise, weighed}
 use Rattle.plan_meaning.specs.Meaning.{Env, meaning, handled}
 use Rattle.eval_steps.specs.declared.stack_frame.StackFrame.{StackFrame}
 use Rattle.eval_steps.specs.declared.stack_frame.StackFrame.TheVariants as frame
@@ -64,7 +64,7 @@ raised_frame codes outer code a at f x s is there = raised_in codes outer (under
 bare : (a : Activation) → a.frames ≡ [] → a ≡ entry a.code a.fun a.args
 bare a h = ap (λ fs. record a { frames = fs }) h
 
-pub ended_bare : (codes : List Program) (a : Activation) (r : Step Value) → a.frames ≡ [] → ended codes a r ≡ r
+pub ended_bare : (codes : List Program) (a : Activation) (r : RunStep Value) → a.frames ≡ [] → ended codes a r ≡ r
 ended_bare codes a r h = ap (λ b. ended codes b r) (bare a h) ∙ ended_entry codes a.code a.fun a.args r
 
 pub given_bare : (codes : List Program) (outer : List Activation) (a : Activation) (v : Value) (s : VisitState) → a.frames ≡ []
@@ -79,27 +79,27 @@ raised_bare codes outer a x s h = raised_in codes outer a x s ∙ ap (all_ended 
 
 -- ---- stops that nothing catches
 
-abbrev pub IsFinal : Stop → Type 0
+abbrev pub IsFinal : EvalStop → Type 0
 IsFinal (Raised x) = ⊥
 IsFinal _ = Unit {0}
 
-next_stops : {A B : Type 0} (p : Step A) (f : A → Run B) (e : Stop) (s : VisitState) → p.after ≡ stopped e s → (and_then p f).after ≡ stopped e s
+next_stops : {A B : Type 0} (p : RunStep A) (f : A → Run B) (e : EvalStop) (s : VisitState) → p.after ≡ stopped e s → (and_then p f).after ≡ stopped e s
 next_stops p f e s is = ap (λ a. («next» a f).after) is
 
-uncaught : (e : Stop) (s : VisitState) (f : Exn → Run Value) → IsFinal e → (otherwise (stopped e s) f).after ≡ stopped e s
+uncaught : (e : EvalStop) (s : VisitState) (f : Exn → Run Value) → IsFinal e → (otherwise (stopped e s) f).after ≡ stopped e s
 uncaught (Raised x) s f h = absurd h
 uncaught WorkSpent s f h = refl
 uncaught Wrong s f h = refl
 uncaught NoMemory s f h = refl
 
-module _ (code : Program) (seen : ℕ) (e : Stop) (s : VisitState) (final : IsFinal e) where
-  resumed_stops : (l : ExprLayer) (env : Env) (n : ℕ) (held : List Value) (p : Step Value) → p.after ≡ stopped e s → (resumed code seen l env n held p).after ≡ stopped e s
+module _ (code : Program) (seen : ℕ) (e : EvalStop) (s : VisitState) (final : IsFinal e) where
+  resumed_stops : (l : ExprLayer) (env : Env) (n : ℕ) (held : List Value) (p : RunStep Value) → p.after ≡ stopped e s → (resumed code seen l env n held p).after ≡ stopped e s
   resumed_stops (Expr-F.Try a ks) env n held p is =
       next_stops (rescued p (handled meaning code seen env ks)) weighed e s
       (ap (λ r. (otherwise r (handled meaning code seen env ks)).after) is ∙ uncaught e s (handled meaning code seen env ks) final)
   resumed_stops l env n held p is = next_stops p _ e s is
 
-  resume_stops : (at : Spot) (f : StackFrame) (p : Step Value) → p.after ≡ stopped e s → (resume code seen at f p).after ≡ stopped e s
+  resume_stops : (at : Spot) (f : StackFrame) (p : RunStep Value) → p.after ≡ stopped e s → (resume code seen at f p).after ≡ stopped e s
   resume_stops at (frame.Part n held) p is = resumed_stops (out-Expr at.expr) at.env n held p is
   resume_stops at (frame.Last n) p is = next_stops p _ e s is
   resume_stops at (frame.Bound v) p is = next_stops p _ e s is
@@ -107,24 +107,24 @@ module _ (code : Program) (seen : ℕ) (e : Stop) (s : VisitState) (final : IsFi
   resume_stops at (frame.Items left) p is = next_stops p _ e s is
   resume_stops at frame.Chunk p is = next_stops p _ e s is
 
-  through_stops : (at : Option Spot) (fs : List StackFrame) (p : Step Value) → p.after ≡ stopped e s → (through code seen at fs p).after ≡ stopped e s
+  through_stops : (at : Option Spot) (fs : List StackFrame) (p : RunStep Value) → p.after ≡ stopped e s → (through code seen at fs p).after ≡ stopped e s
   through_stops at [] p is = is
   through_stops None (f ∷ fs) p is = is
   through_stops (Some at) (f ∷ fs) p is = resume_stops at f _ (through_stops (deeper at f) fs p is)
 
-module _ (codes : List Program) (e : Stop) (s : VisitState) (final : IsFinal e) where
-  ended_in_stops : (o : Option Program) (start : Option Spot) (a : Activation) (p : Step Value) → p.after ≡ stopped e s → (ended_in o start a p).after ≡ stopped e s
+module _ (codes : List Program) (e : EvalStop) (s : VisitState) (final : IsFinal e) where
+  ended_in_stops : (o : Option Program) (start : Option Spot) (a : Activation) (p : RunStep Value) → p.after ≡ stopped e s → (ended_in o start a p).after ≡ stopped e s
   ended_in_stops (Some code) start a p is = through_stops code a.fun e s final start a.frames p is
   ended_in_stops None start a p is = is
 
-  pub ended_stops : (a : Activation) (p : Step Value) → p.after ≡ stopped e s → (ended codes a p).after ≡ stopped e s
+  pub ended_stops : (a : Activation) (p : RunStep Value) → p.after ≡ stopped e s → (ended codes a p).after ≡ stopped e s
   unfolding ended
   ended_stops a p is = ended_in_stops (slice_get codes a.code) (start_of codes a) a p is
 
-  pub all_stop : (outer : List Activation) (p : Step Value) → p.after ≡ stopped e s → (all_ended codes outer p).after ≡ stopped e s
+  pub all_stop : (outer : List Activation) (p : RunStep Value) → p.after ≡ stopped e s → (all_ended codes outer p).after ≡ stopped e s
   all_stop [] p is = is
   all_stop (a ∷ outer) p is = ended_stops a _ (all_stop outer p is)
 
 -- an open expression for its own: where a call can't enter
-pub resume_final : (code : Program) (seen : ℕ) (e : Stop) (s : VisitState) → IsFinal e → (at : Spot) (f : StackFrame) (p : Step Value) → p.after ≡ stopped e s → (resume code seen at f p).after ≡ stopped e s
+pub resume_final : (code : Program) (seen : ℕ) (e : EvalStop) (s : VisitState) → IsFinal e → (at : Spot) (f : StackFrame) (p : RunStep Value) → p.after ≡ stopped e s → (resume code seen at f p).after ≡ stopped e s
 resume_final code seen e s final at f p is = resume_stops code seen e s final at f p is

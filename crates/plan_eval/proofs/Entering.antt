@@ -3,7 +3,7 @@ use Rattle.std.proofs.Common.{◌≡◌, ℕ, List, [], ◌∷◌, ◌++◌, len
 use Rattle.plan_base.specs.declared.tree.Fun.{Fun}
 use Rattle.plan_base.specs.declared.tree.Program.{Program}
 use Rattle.plan_base.specs.declared.tree.Value.{Value}
-use Rattle.plan_meaning.specs.Run.{Step}
+use Rattle.plan_meaning.specs.Run.{RunStep}
 use Rattle.plan_meaning.specs.Meaning.{Env, bound}
 use Rattle.eval_steps.specs.declared.stack_frame.Activation.{Activation}
 use Rattle.eval_steps.specs.Stack.{Spot, start_of, spot_in, ended_in, ended, AreLinked}
@@ -17,11 +17,11 @@ pub spot_in_entry : (codes : List Program) (at fun : ℕ) (args : List Value) (c
 unfolding spot_in start_of
 spot_in_entry codes at fun args code f env is there binds = rw (is, there, binds) refl
 
-ended_in_entry : (o : Option Program) (start : Option Spot) (at fun : ℕ) (args : List Value) (r : Step Value) → ended_in o start (entry at fun args) r ≡ r
+ended_in_entry : (o : Option Program) (start : Option Spot) (at fun : ℕ) (args : List Value) (r : RunStep Value) → ended_in o start (entry at fun args) r ≡ r
 ended_in_entry (Some code) start at fun args r = refl
 ended_in_entry None start at fun args r = refl
 
-pub ended_entry : (codes : List Program) (at fun : ℕ) (args : List Value) (r : Step Value) → ended codes (entry at fun args) r ≡ r
+pub ended_entry : (codes : List Program) (at fun : ℕ) (args : List Value) (r : RunStep Value) → ended codes (entry at fun args) r ≡ r
 unfolding ended
 ended_entry codes at fun args r = ended_in_entry (slice_get codes at) (start_of codes (entry at fun args)) at fun args r
 

@@ -14,10 +14,10 @@ use Rattle.plan_base.specs.declared.tree.Expr as expr
 use Rattle.plan_base.specs.Sizes.{weight, nesting}
 use Rattle.plan_base.proofs.SizeLaws.{weight_out, nesting_out}
 use Rattle.plan_base.specs.Trees.{ExprLayer, trees}
-use Rattle.plan_meaning.specs.declared.stop.Stop.{Stop}
-use Rattle.plan_meaning.specs.declared.stop.Stop.TheVariants.{Wrong, WorkSpent}
+use Rattle.plan_meaning.specs.declared.stop.EvalStop.{EvalStop}
+use Rattle.plan_meaning.specs.declared.stop.EvalStop.TheVariants.{Wrong, WorkSpent}
 use Rattle.plan_meaning.specs.State.{VisitState}
-use Rattle.plan_meaning.specs.Run.{Step, ◌>>=◌, gave, stopped, pure, «next», spend, weighed, is_too_large}
+use Rattle.plan_meaning.specs.Run.{RunStep, ◌>>=◌, gave, stopped, pure, «next», spend, weighed, is_too_large}
 use Rattle.plan_meaning.specs.Safe.{IsSafe}
 use Rattle.plan_base.specs.declared.tree.Chunk.{Chunk}
 use Rattle.plan_meaning.specs.Meaning.{Env, binds, meaning, as_bool, as_chunk, value_of, called, tuple, call, packed, values, pay_eval}
@@ -51,20 +51,20 @@ pub number_gives : (code : Program) (seen : ℕ) (e : Expr) (n : ℤ) (env : Env
 number_gives code seen e n env s form = gives_literal code seen env s e (value.Int n) (rw form refl)
 
 -- what passes a part that gave no value
-resumed_stops : (code : Program) (seen : ℕ) (l : ExprLayer) (env : Env) (n : ℕ) (held : List Value) (c : Step Value) (x : Stop) (s : VisitState) → IsNoTry l → c.after ≡ stopped x s
+resumed_stops : (code : Program) (seen : ℕ) (l : ExprLayer) (env : Env) (n : ℕ) (held : List Value) (c : RunStep Value) (x : EvalStop) (s : VisitState) → IsNoTry l → c.after ≡ stopped x s
     → (resumed code seen l env n held c).after ≡ stopped x s
 resumed_stops code seen (Expr-F.Try a ks) env n held c x s other is = absurd other
 resumed_stops code seen l env n held c x s other is = rw is refl
 
 module _ (code : Program) (seen : ℕ) (at : Spot) where
-  pub part_stops_so : (n : ℕ) (held : List Value) (c : Step Value) (x : Stop) (s : VisitState) → IsNoTry (out-Expr at.expr) → c.after ≡ stopped x s → (resume code seen at (frame.Part n held) c).after ≡ stopped x s
+  pub part_stops_so : (n : ℕ) (held : List Value) (c : RunStep Value) (x : EvalStop) (s : VisitState) → IsNoTry (out-Expr at.expr) → c.after ≡ stopped x s → (resume code seen at (frame.Part n held) c).after ≡ stopped x s
   part_stops_so n held c x s other is = resumed_stops code seen (out-Expr at.expr) at.env n held c x s other is
 
-  pub last_stops_so : (n : ℕ) (c : Step Value) (x : Stop) (s : VisitState) → c.after ≡ stopped x s → (resume code seen at (frame.Last n) c).after ≡ stopped x s
+  pub last_stops_so : (n : ℕ) (c : RunStep Value) (x : EvalStop) (s : VisitState) → c.after ≡ stopped x s → (resume code seen at (frame.Last n) c).after ≡ stopped x s
   last_stops_so n c x s is = rw is refl
 
   -- a part that gave its value
-  pub part_came : (n : ℕ) (held : List Value) (c : Step Value) (v : Value) (s : VisitState) → c.after ≡ gave v s → Leads (resume code seen at (frame.Part n held) c) (part_gave code seen at n held v s)
+  pub part_came : (n : ℕ) (held : List Value) (c : RunStep Value) (v : Value) (s : VisitState) → c.after ≡ gave v s → Leads (resume code seen at (frame.Part n held) c) (part_gave code seen at n held v s)
   part_came n held c v s is = onward _ _ _ (resume_gave code seen at c s (frame.Part n held) v is) (part_given code seen at s (out-Expr at.expr) n held v)
 
   -- the first part
@@ -336,7 +336,7 @@ module _ (code : Program) (seen : ℕ) (e a : Expr) (env : Env) (form : out-Expr
   eval_no_try = rw form tt
 
   module _ (k : Chunk) (s : VisitState) where
-    pub packed_unweighed : (x : Stop) (t : VisitState) → (weighed (value.Chunk k) s).after ≡ stopped x t → (resume code seen eval_here (frame.Part 0 []) (weighed (value.Chunk k) s)).after ≡ stopped x t
+    pub packed_unweighed : (x : EvalStop) (t : VisitState) → (weighed (value.Chunk k) s).after ≡ stopped x t → (resume code seen eval_here (frame.Part 0 []) (weighed (value.Chunk k) s)).after ≡ stopped x t
     packed_unweighed x t h = part_stops_so code seen eval_here 0 [] (weighed (value.Chunk k) s) x t eval_no_try h
 
     module _ (s1 : VisitState) (weighs : (weighed (value.Chunk k) s).after ≡ gave (value.Chunk k) s1) where
@@ -346,16 +346,16 @@ module _ (code : Program) (seen : ℕ) (e a : Expr) (env : Env) (form : out-Expr
       pub packed_paid : (t : VisitState) → (pay_eval s1).after ≡ gave tt t → Leads (resume code seen eval_here (frame.Part 0 []) (weighed (value.Chunk k) s)) (next_step code seen eval_here (next.Visit k) t)
       packed_paid t paid = onward _ _ _ packed_came (chunk_paid code seen e env s1 a 0 [] (value.Chunk k) k t form (is_chunk k) paid)
 
-      pub packed_unpaid : (x : Stop) (t : VisitState) → (pay_eval s1).after ≡ stopped x t → (resume code seen eval_here (frame.Part 0 []) (weighed (value.Chunk k) s)).after ≡ stopped x t
+      pub packed_unpaid : (x : EvalStop) (t : VisitState) → (pay_eval s1).after ≡ stopped x t → (resume code seen eval_here (frame.Part 0 []) (weighed (value.Chunk k) s)).after ≡ stopped x t
       packed_unpaid x t unpaid = packed_came.same ∙ chunk_unpaid code seen e env s1 a 0 [] (value.Chunk k) k x t form (is_chunk k) unpaid
 
-      pub packed_carries : (r : Result (Unit {0}) Stop) (t : VisitState) → Meets (pay_eval s1) r t
+      pub packed_carries : (r : Result (Unit {0}) EvalStop) (t : VisitState) → Meets (pay_eval s1) r t
           → Carries (resume code seen eval_here (frame.Part 0 []) (weighed (value.Chunk k) s)) (λ _. next_step code seen eval_here (next.Visit k) t) r t
       packed_carries (Ok u) t h = packed_paid t h
       packed_carries (Err x) t h = λ other. packed_unpaid x t (h other)
 
   -- what the parts of such a chunk lead to
-  pub packing_leads : (p : Step Value) (s : VisitState) → Leads (meaning code seen env a s) p → Leads (begins code seen eval_here s) (resume code seen eval_here (frame.Part 0 []) p)
+  pub packing_leads : (p : RunStep Value) (s : VisitState) → Leads (meaning code seen env a s) p → Leads (begins code seen eval_here s) (resume code seen eval_here (frame.Part 0 []) p)
   packing_leads p s h = onward _ _ _ (first_leads code seen eval_here a s eval_parts eval_part) (resume_leads code seen eval_here (frame.Part 0 []) _ _ h)
 
 -- ---- numbers at hand
@@ -377,7 +377,7 @@ module _ (b : Bool) (s s1 : VisitState) where
   unfolding weighed is_too_large
   weighs_two h = rw (weight_bool b, nesting_bool b) (ap (λ r. («next» r (λ _. pure (value.Bool b))).after) h)
 
-  pub stops_two : (x : Stop) → (spend 2 s).after ≡ stopped x s1 → (weighed (value.Bool b) s).after ≡ stopped x s1
+  pub stops_two : (x : EvalStop) → (spend 2 s).after ≡ stopped x s1 → (weighed (value.Bool b) s).after ≡ stopped x s1
   unfolding weighed is_too_large
   stops_two x h = rw (weight_bool b, nesting_bool b) (ap (λ r. («next» r (λ _. pure (value.Bool b))).after) h)
 
@@ -386,7 +386,7 @@ module _ (n : ℤ) (s s1 : VisitState) where
   unfolding weighed is_too_large
   weighs_nine h = rw (weight_int n, nesting_int n) (ap (λ r. («next» r (λ _. pure (value.Int n))).after) h)
 
-  pub stops_nine : (x : Stop) → (spend 9 s).after ≡ stopped x s1 → (weighed (value.Int n) s).after ≡ stopped x s1
+  pub stops_nine : (x : EvalStop) → (spend 9 s).after ≡ stopped x s1 → (weighed (value.Int n) s).after ≡ stopped x s1
   unfolding weighed is_too_large
   stops_nine x h = rw (weight_int n, nesting_int n) (ap (λ r. («next» r (λ _. pure (value.Int n))).after) h)
 

@@ -11,9 +11,9 @@ use Rattle.plan_base.specs.declared.tree.Param.{Param}
 use Rattle.plan_base.specs.declared.tree.Program.{Program}
 use Rattle.plan_base.specs.declared.tree.Value.{Value}
 use Rattle.plan_base.specs.Trees.{ExprLayer}
-use Rattle.plan_meaning.specs.declared.stop.Stop.TheVariants.{Wrong}
+use Rattle.plan_meaning.specs.declared.stop.EvalStop.TheVariants.{Wrong}
 use Rattle.plan_meaning.specs.State.{VisitState}
-use Rattle.plan_meaning.specs.Run.{Step, stopped}
+use Rattle.plan_meaning.specs.Run.{RunStep, stopped}
 use Rattle.plan_meaning.specs.Meaning.{meaning, entered, Env, binds, value_if, value_of, bound, bound_behind}
 use Rattle.eval_steps.specs.declared.stack_frame.StackFrame.{StackFrame}
 use Rattle.eval_steps.specs.declared.stack_frame.StackFrame.TheVariants as frame
@@ -144,7 +144,7 @@ pub enters_other : (code : Program) (fun : ℕ) (args : List Value) (g : Fun) (s
 unfolding entered
 enters_other code fun args g s has other = rw (has, binds_no_other g.params args other) refl
 
-module _ (code : Program) (seen : ℕ) (at : Spot) (want : Step Value) (s : VisitState) where
+module _ (code : Program) (seen : ℕ) (at : Spot) (want : RunStep Value) (s : VisitState) where
   pub no_part : (f : StackFrame) → part_or_self at.expr (part_number f) ≡ None → Leads want (next_step code seen at (next.Open f) s) → want.after ≡ stopped Wrong s
   unfolding deeper
   no_part f none h = h.same ∙ resume_final code seen Wrong s tt at f _ (ap (λ o. (run_at code seen (spot_of o (env_at at.expr at.env f)) s).after) none)

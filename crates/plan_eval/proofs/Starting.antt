@@ -5,15 +5,15 @@ use Rattle.plan_base.specs.declared.tree.Value.{Value}
 use Rattle.plan_base.specs.declared.tree.Chunk.{Chunk}
 use Rattle.typing_rules.specs.TypingNames.{place_of}
 use Rattle.plan_base.specs.declared.tree.Program.{Program}
-use Rattle.plan_meaning.specs.declared.stop.Stop.TheVariants.{Raised, Wrong}
+use Rattle.plan_meaning.specs.declared.stop.EvalStop.TheVariants.{Raised, Wrong}
 use Rattle.plan_meaning.specs.State.{VisitState}
-use Rattle.plan_meaning.specs.Run.{Step, gave, stopped}
+use Rattle.plan_meaning.specs.Run.{RunStep, gave, stopped}
 use Rattle.plan_meaning.specs.Meaning.{meaning, visited}
 use Rattle.eval_steps.specs.declared.stack_frame.Activation.{Activation}
 use Rattle.eval_steps.specs.declared.stack_frame.Mode.{Mode}
 use Rattle.eval_steps.specs.declared.stack_frame.Mode.TheVariants as mode
 use Rattle.visit_state.specs.Meets.{Meets}
-use Rattle.plan_meaning.specs.declared.stop.Stop.{Stop}
+use Rattle.plan_meaning.specs.declared.stop.EvalStop.{EvalStop}
 use Rattle.eval_steps.specs.Leads.{Leads}
 use Rattle.eval_steps.specs.Nexts.{Enters}
 use Rattle.eval_steps.specs.Stack.{AreLinked, all_ended, mode_step, stands_for}
@@ -38,7 +38,7 @@ starts_linked k fun enters = (rw (spot_in_entry (k.code ∷ []) 0 fun k.args k.c
 
 -- ---- a visit that has ended
 
-module _ (want : Step Value) (codes : List Program) (stack : List Activation) (how : Mode) (s : VisitState) (leads : Leads want (stands_for codes stack how s)) where
+module _ (want : RunStep Value) (codes : List Program) (stack : List Activation) (how : Mode) (s : VisitState) (leads : Leads want (stands_for codes stack how s)) where
   last_step : stack ≡ [] → want.after ≡ (mode_step codes [] how s).after
   unfolding stands_for
   last_step bare = leads.same ∙ ap (λ (acts : List Activation). (all_ended codes acts (mode_step codes acts how s)).after) bare
@@ -53,6 +53,6 @@ module _ (want : Step Value) (codes : List Program) (stack : List Activation) (h
   ended_run bare is = last_step bare ∙ rw is refl
 
 -- what an evaluation leads to meets what it meets
-pub meets_from : (p q : Step Value) (r : Result Value Stop) (t : VisitState) → Leads p q → Meets q r t → Meets p r t
+pub meets_from : (p q : RunStep Value) (r : Result Value EvalStop) (t : VisitState) → Leads p q → Meets q r t → Meets p r t
 meets_from p q (Ok v) t h m = h.same ∙ m
 meets_from p q (Err e) t h m = λ other. h.same ∙ m other

@@ -6,9 +6,9 @@ use Rattle.plan_base.specs.declared.tree.Expr.{Expr-F, out-Expr}
 use Rattle.plan_base.specs.declared.tree.Program.{Program}
 use Rattle.plan_base.specs.declared.tree.Value.{Value}
 use Rattle.plan_base.specs.Trees.{ExprLayer}
-use Rattle.plan_meaning.specs.declared.stop.Stop.TheVariants.{Raised}
+use Rattle.plan_meaning.specs.declared.stop.EvalStop.TheVariants.{Raised}
 use Rattle.plan_meaning.specs.State.{VisitState}
-use Rattle.plan_meaning.specs.Run.{Step, gave, stopped, quiet}
+use Rattle.plan_meaning.specs.Run.{RunStep, gave, stopped, quiet}
 use Rattle.plan_meaning.specs.Meaning.{Env, meaning}
 use Rattle.plan_meaning.specs.Safe.{IsSafe}
 use Rattle.eval_steps.specs.declared.stack_frame.StackFrame.{StackFrame}
@@ -26,11 +26,11 @@ use Rattle.plan_eval.proofs.Beginning.{runs_on}
 -- ---- what a stack asks is asked inside
 
 module _ (code : Program) (seen : ℕ) where
-  resumed_asks : (l : ExprLayer) (env : Env) (n : ℕ) (held : List Value) (p : Step Value) → IsSafe (resumed code seen l env n held p).asks → IsSafe p.asks
+  resumed_asks : (l : ExprLayer) (env : Env) (n : ℕ) (held : List Value) (p : RunStep Value) → IsSafe (resumed code seen l env n held p).asks → IsSafe p.asks
   resumed_asks (Expr-F.Try a ks) env n held p h = h.0.0
   resumed_asks l env n held p h = h.0
 
-  pub resume_asks : (at : Spot) (f : StackFrame) (p : Step Value) → IsSafe (resume code seen at f p).asks → IsSafe p.asks
+  pub resume_asks : (at : Spot) (f : StackFrame) (p : RunStep Value) → IsSafe (resume code seen at f p).asks → IsSafe p.asks
   resume_asks at (frame.Part n held) p h = resumed_asks (out-Expr at.expr) at.env n held p h
   resume_asks at (frame.Last n) p h = h.0
   resume_asks at (frame.Bound v) p h = h.0
@@ -38,20 +38,20 @@ module _ (code : Program) (seen : ℕ) where
   resume_asks at (frame.Items left) p h = h.0
   resume_asks at frame.Chunk p h = h.0
 
-  through_asks : (at : Option Spot) (fs : List StackFrame) (p : Step Value) → IsSafe (through code seen at fs p).asks → IsSafe p.asks
+  through_asks : (at : Option Spot) (fs : List StackFrame) (p : RunStep Value) → IsSafe (through code seen at fs p).asks → IsSafe p.asks
   through_asks at [] p h = h
   through_asks None (f ∷ fs) p h = h
   through_asks (Some at) (f ∷ fs) p h = through_asks (deeper at f) fs p (resume_asks at f _ h)
 
-ended_in_asks : (o : Option Program) (start : Option Spot) (a : Activation) (p : Step Value) → IsSafe (ended_in o start a p).asks → IsSafe p.asks
+ended_in_asks : (o : Option Program) (start : Option Spot) (a : Activation) (p : RunStep Value) → IsSafe (ended_in o start a p).asks → IsSafe p.asks
 ended_in_asks (Some code) start a p h = through_asks code a.fun start a.frames p h
 ended_in_asks None start a p h = h
 
-ended_asks : (codes : List Program) (a : Activation) (p : Step Value) → IsSafe (ended codes a p).asks → IsSafe p.asks
+ended_asks : (codes : List Program) (a : Activation) (p : RunStep Value) → IsSafe (ended codes a p).asks → IsSafe p.asks
 unfolding ended
 ended_asks codes a p h = ended_in_asks (slice_get codes a.code) (start_of codes a) a p h
 
-all_asks : (codes : List Program) (outer : List Activation) (p : Step Value) → IsSafe (all_ended codes outer p).asks → IsSafe p.asks
+all_asks : (codes : List Program) (outer : List Activation) (p : RunStep Value) → IsSafe (all_ended codes outer p).asks → IsSafe p.asks
 all_asks codes [] p h = h
 all_asks codes (a ∷ outer) p h = all_asks codes outer p (ended_asks codes a _ h)
 

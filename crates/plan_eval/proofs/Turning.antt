@@ -5,10 +5,10 @@ use Rattle.plan_base.specs.declared.tree.Program.{Program}
 use Rattle.plan_base.specs.declared.tree.Value.{Value}
 use Rattle.plan_base.specs.declared.tree.Chunk.{Chunk}
 use Rattle.typing_rules.specs.TypingNames.{place_of}
-use Rattle.plan_meaning.specs.declared.stop.Stop.{Stop}
-use Rattle.plan_meaning.specs.declared.stop.Stop.TheVariants.{Raised, Wrong, NoMemory}
+use Rattle.plan_meaning.specs.declared.stop.EvalStop.{EvalStop}
+use Rattle.plan_meaning.specs.declared.stop.EvalStop.TheVariants.{Raised, Wrong, NoMemory}
 use Rattle.plan_meaning.specs.State.{VisitState}
-use Rattle.plan_meaning.specs.Run.{Step, gave, stopped, quiet}
+use Rattle.plan_meaning.specs.Run.{RunStep, gave, stopped, quiet}
 use Rattle.plan_meaning.specs.Meaning.{meaning, visited}
 use Rattle.eval_steps.specs.declared.stack_frame.Activation.{Activation}
 use Rattle.eval_steps.specs.declared.stack_frame.Mode.TheVariants as mode
@@ -23,10 +23,10 @@ use Rattle.plan_eval.proofs.Taking.{turn_bare}
 use Rattle.plan_eval.proofs.Ending.{IsFinal, ended_stops, all_stop}
 
 -- where a step gives or raises at once, it leads there
-pub at_once : {A : Type 0} (p : Step A) (a : A) (s : VisitState) → p.after ≡ gave a s → Leads p (quiet (gave a s))
+pub at_once : {A : Type 0} (p : RunStep A) (a : A) (s : VisitState) → p.after ≡ gave a s → Leads p (quiet (gave a s))
 at_once p a s is = record { same = is; safe = λ k. tt }
 
-pub at_once_raised : {A : Type 0} (p : Step A) (e : Stop) (s : VisitState) → p.after ≡ stopped e s → Leads p (quiet (stopped e s))
+pub at_once_raised : {A : Type 0} (p : RunStep A) (e : EvalStop) (s : VisitState) → p.after ≡ stopped e s → Leads p (quiet (stopped e s))
 at_once_raised p e s is = record { same = is; safe = λ k. tt }
 
 is_some : {A : Type 0} {o : Option A} {x : A} → o ≡ Some x → IsSome o
@@ -36,12 +36,12 @@ pub visited_nowhere : (k : Chunk) (s : VisitState) → place_of k.entry k.code.f
 unfolding visited
 visited_nowhere k s none = rw none refl
 
-module _ (codes : List Program) (outer : List Activation) (code : Program) (a : Activation) (at : Spot) (want : Step Value) (here : Stands codes outer a code at) where
+module _ (codes : List Program) (outer : List Activation) (code : Program) (a : Activation) (at : Spot) (want : RunStep Value) (here : Stands codes outer a code at) where
   -- the expression as a whole
-  abbrev pub whole_of : Step Value
+  abbrev pub whole_of : RunStep Value
   whole_of = all_ended codes outer (ended codes a want)
 
-  inside : (q : Step Value) → Leads want q → Leads whole_of (all_ended codes outer (ended codes a q))
+  inside : (q : RunStep Value) → Leads want q → Leads whole_of (all_ended codes outer (ended codes a q))
   inside q h = all_ended_leads codes outer _ _ (ended_leads codes a _ _ h)
 
   same_links : AreLinked codes (outer ++ a ∷ [])
@@ -55,7 +55,7 @@ module _ (codes : List Program) (outer : List Activation) (code : Program) (a : 
       → Leads whole_of (stands_for codes (outer ++ a ∷ []) (mode.Raise x) t) × AreLinked codes (outer ++ a ∷ [])
   raises_on x t h = (rw (raised_in codes outer a x t) (inside (quiet (stopped (Raised x) t)) (at_once_raised want (Raised x) t h)), same_links)
 
-  ends_so : (e : Stop) (t : VisitState) → IsFinal e → want.after ≡ stopped e t → whole_of.after ≡ stopped e t
+  ends_so : (e : EvalStop) (t : VisitState) → IsFinal e → want.after ≡ stopped e t → whole_of.after ≡ stopped e t
   ends_so e t final h = all_stop codes e t final outer _ (ended_stops codes e t final a want h)
 
   -- it raises, or ends the visit
@@ -63,7 +63,7 @@ module _ (codes : List Program) (outer : List Activation) (code : Program) (a : 
       → Leads whole_of (stands_for codes (outer ++ a ∷ []) (mode.Raise x) s) × AreLinked codes (outer ++ a ∷ [])
   turn_raised x s h = raises_on x s (h (λ (e : Raised x ≡ NoMemory). cc))
 
-  pub turn_stopped : (e : Stop) (s : VisitState) → IsFinal e → (e ≢ NoMemory → want.after ≡ stopped e s) → e ≢ NoMemory → whole_of.after ≡ stopped e s
+  pub turn_stopped : (e : EvalStop) (s : VisitState) → IsFinal e → (e ≢ NoMemory → want.after ≡ stopped e s) → e ≢ NoMemory → whole_of.after ≡ stopped e s
   turn_stopped e s final h other = ends_so e s final (h other)
 
   -- it gave its value, and its activation has ended

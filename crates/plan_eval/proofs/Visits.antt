@@ -16,8 +16,8 @@ use Rattle.service_api.specs.declared.ctx.Ctx.{Ctx}
 use Rattle.service_api.specs.Services.{ServiceState, IsGood, IsGoodValue, IsGoodChunk, IsGoodNote, AreGoodRows}
 use Rattle.service_api.specs.declared.answer.Note.{Note}
 use Rattle.service_api.specs.declared.answer.Note.TheVariants.{Print, Port}
-use Rattle.plan_meaning.specs.declared.stop.Stop.{Stop}
-use Rattle.plan_meaning.specs.declared.stop.Stop.TheVariants.{Raised, WorkSpent, Wrong, NoMemory}
+use Rattle.plan_meaning.specs.declared.stop.EvalStop.{EvalStop}
+use Rattle.plan_meaning.specs.declared.stop.EvalStop.TheVariants.{Raised, WorkSpent, Wrong, NoMemory}
 use Rattle.plan_meaning.specs.declared.outcome.Outcome.TheVariants as outcome
 use Rattle.plan_meaning.specs.declared.outcome.Visit.{Visit}
 use Rattle.plan_meaning.specs.State.{VisitState, Own, joined}
@@ -163,10 +163,10 @@ module _ (k : Chunk) (ctx around : Ctx) (family : Family) (old : ServiceState) (
   from_start : (a : After Value) → Begins → (visited meaning k (joined o old)).after ≡ a → (visited meaning k (start k ctx family old)).after ≡ a
   from_start a h e = subst (λ (s : VisitState). (visited meaning k s).after ≡ a) (begins h) e
 
-  pub never_from : Begins → IsGoodChunk k → IsGood old → length ctx.neighbours ≤ 8 → (e : Stop) (s : VisitState) → e ≡ Wrong
+  pub never_from : Begins → IsGoodChunk k → IsGood old → length ctx.neighbours ≤ 8 → (e : EvalStop) (s : VisitState) → e ≡ Wrong
       → (e ≢ NoMemory → (visited meaning k (joined o old)).after ≡ stopped e s) → ⊥
   never_from h t g n e s w m =
-      let f = subst (λ (x : Stop). x ≢ NoMemory → (visited meaning k (joined o old)).after ≡ stopped x s) w m in
+      let f = subst (λ (x : EvalStop). x ≢ NoMemory → (visited meaning k (joined o old)).after ≡ stopped x s) w m in
       visit_never k ctx family old t g n s (from_start (stopped Wrong s) h (f (λ (x : Wrong ≡ NoMemory). cc)))
 
   pub gave_from : Begins → (v : Value) (s : VisitState) (r : Visit) → (visited meaning k (joined o old)).after ≡ gave v s
@@ -174,18 +174,18 @@ module _ (k : Chunk) (ctx around : Ctx) (family : Family) (old : ServiceState) (
   gave_from h v s r m q =
       subst (λ (x : Visit). IsVisit allowance k ctx family old x s.services) (sym q) (visit_gave k ctx family old v s (from_start (gave v s) h m))
 
-  pub raised_from : Begins → (x : Exn) (e : Stop) (s : VisitState) (r : Visit) → e ≡ Raised x
+  pub raised_from : Begins → (x : Exn) (e : EvalStop) (s : VisitState) (r : Visit) → e ≡ Raised x
       → (e ≢ NoMemory → (visited meaning k (joined o old)).after ≡ stopped e s)
       → r ≡ ended allowance (outcome.Raised x) s → IsVisit allowance k ctx family old r s.services
   raised_from h x e s r w m q =
-      let f = subst (λ (y : Stop). y ≢ NoMemory → (visited meaning k (joined o old)).after ≡ stopped y s) w m in
+      let f = subst (λ (y : EvalStop). y ≢ NoMemory → (visited meaning k (joined o old)).after ≡ stopped y s) w m in
       let e = from_start (stopped (Raised x) s) h (f (λ (y : Raised x ≡ NoMemory). cc)) in
       subst (λ (y : Visit). IsVisit allowance k ctx family old y s.services) (sym q) (visit_raised k ctx family old x s e)
 
-  pub spent_from : Begins → (b : ℕ) (e : Stop) (s : VisitState) (r : Visit) → ctx.purse ≡ b → e ≡ WorkSpent
+  pub spent_from : Begins → (b : ℕ) (e : EvalStop) (s : VisitState) (r : Visit) → ctx.purse ≡ b → e ≡ WorkSpent
       → (e ≢ NoMemory → (visited meaning k (joined o old)).after ≡ stopped e s)
       → r ≡ spent allowance b → IsVisit allowance k ctx family old r s.services
   spent_from h b e s r p w m q =
-      let f = subst (λ (y : Stop). y ≢ NoMemory → (visited meaning k (joined o old)).after ≡ stopped y s) w m in
+      let f = subst (λ (y : EvalStop). y ≢ NoMemory → (visited meaning k (joined o old)).after ≡ stopped y s) w m in
       let e = from_start (stopped WorkSpent s) h (f (λ (y : WorkSpent ≡ NoMemory). cc)) in
       subst (λ (y : Visit). IsVisit allowance k ctx family old y s.services) (sym (q ∙ ap (spent allowance) (sym p))) (visit_spent k ctx family old s e)

@@ -8,7 +8,7 @@ use Rattle.plan_base.specs.declared.tree.Fun.{Fun}
 use Rattle.plan_base.specs.declared.tree.Program.{Program}
 use Rattle.plan_base.specs.declared.tree.Value.{Value}
 use Rattle.plan_meaning.specs.State.{VisitState}
-use Rattle.plan_meaning.specs.Run.{Step}
+use Rattle.plan_meaning.specs.Run.{RunStep}
 use Rattle.plan_meaning.specs.Meaning.{Env, meaning, bound}
 use Rattle.eval_steps.specs.declared.stack_frame.StackFrame.{StackFrame}
 use Rattle.eval_steps.specs.declared.stack_frame.Activation.{Activation}
@@ -60,7 +60,7 @@ module _ (codes : List Program) (code : Program) (seen : ℕ) (at : Spot) where
         ∙ ap (λ (o : Option Spot). resume code seen at f (through code seen o (reverse r.frames) (innermost_of codes code seen (spot_from (Some inside) (reverse r.frames)) (reverse r.activations) s))) deep
 
     -- the same inside one more open expression
-    pub waits_inside : (want c : Step Value) → Leads want (resume code seen at f c) → Waits codes code seen inside c r s
+    pub waits_inside : (want c : RunStep Value) → Leads want (resume code seen at f c) → Waits codes code seen inside c r s
         → Waits codes code seen at want (record { frames = r.frames ++ f ∷ []; activations = r.activations }) s
     waits_inside want c h w = record {
       leads = rw waits_in (onward _ _ _ h (resume_leads code seen at f _ _ w.leads));
@@ -69,7 +69,7 @@ module _ (codes : List Program) (code : Program) (seen : ℕ) (at : Spot) where
     }
 
   -- activations below a frame
-  pub waits_below : (f : StackFrame) (r : Rest) (c : Step Value) (s : VisitState) → IsSome (deeper at f) → Above codes c r s
+  pub waits_below : (f : StackFrame) (r : Rest) (c : RunStep Value) (s : VisitState) → IsSome (deeper at f) → Above codes c r s
       → Waits codes code seen at (resume code seen at f c) (record { frames = r.frames ++ f ∷ []; activations = r.activations }) s
   unfolding waits deeper
   waits_below f r c s deep a = record {
@@ -81,7 +81,7 @@ module _ (codes : List Program) (code : Program) (seen : ℕ) (at : Spot) where
 -- ---- frames on top of an activation
 
 module _ (codes : List Program) (code : Program) where
-  pub ended_all : (fs : List StackFrame) (a : Activation) (at : Spot) (r : Step Value) → slice_get codes a.code ≡ Some code → spot_in codes a ≡ Some at → IsSome (spot_from (Some at) fs)
+  pub ended_all : (fs : List StackFrame) (a : Activation) (at : Spot) (r : RunStep Value) → slice_get codes a.code ≡ Some code → spot_in codes a ≡ Some at → IsSome (spot_from (Some at) fs)
       → ended codes (record a { frames = a.frames ++ fs }) r ≡ ended codes a (through code a.fun (Some at) fs r)
   ended_all [] a at r is there h = ap (λ (fs : List StackFrame). ended codes (record a { frames = fs }) r) (append-nil a.frames)
   ended_all (f ∷ fs) a at r is there h =
@@ -99,7 +99,7 @@ module _ (codes : List Program) (code : Program) where
       ∙ spot_all fs (under a f) inside.0 (spot_in_push codes a at f there ∙ inside.1) (rw (deeper_from at f inside.0 fs inside.1) at h)
       ∙ sym (deeper_from at f inside.0 fs inside.1)
 
-all_ended_append : (codes : List Program) (xs ys : List Activation) (r : Step Value) → all_ended codes (xs ++ ys) r ≡ all_ended codes xs (all_ended codes ys r)
+all_ended_append : (codes : List Program) (xs ys : List Activation) (r : RunStep Value) → all_ended codes (xs ++ ys) r ≡ all_ended codes xs (all_ended codes ys r)
 all_ended_append codes [] ys r = refl
 all_ended_append codes (x ∷ xs) ys r = ap (ended codes x) (all_ended_append codes xs ys r)
 
@@ -116,7 +116,7 @@ module _ (codes : List Program) (outer : List Activation) (code : Program) (a : 
   unfolding stands_for
   shows [] s =
       all_ended_push codes outer (record a { frames = a.frames ++ fs }) (innermost codes (outer ++ (record a { frames = a.frames ++ fs }) ∷ []) s)
-      ∙ ap (λ (r : Step Value). all_ended codes outer (ended codes (record a { frames = a.frames ++ fs }) r))
+      ∙ ap (λ (r : RunStep Value). all_ended codes outer (ended codes (record a { frames = a.frames ++ fs }) r))
       (ap (λ p. p s) (innermost_top codes outer (record a { frames = a.frames ++ fs }))
       ∙ ap (λ (o : Option Program). innermost_run o a.fun (spot_in codes (record a { frames = a.frames ++ fs })) s) is
       ∙ ap (λ p. p s) (runs_there code a.fun (spot_in codes (record a { frames = a.frames ++ fs })))
@@ -124,7 +124,7 @@ module _ (codes : List Program) (outer : List Activation) (code : Program) (a : 
       ∙ ap (all_ended codes outer) (ended_all codes code fs a at (run_at code a.fun (spot_from (Some at) fs) s) is there h)
   shows (b ∷ more) s =
       all_ended_append codes outer ((record a { frames = a.frames ++ fs }) ∷ b ∷ more) (innermost codes (outer ++ (record a { frames = a.frames ++ fs }) ∷ b ∷ more) s)
-      ∙ ap (λ (p : VisitState → Step Value). all_ended codes outer (ended codes (record a { frames = a.frames ++ fs }) (all_ended codes (b ∷ more) (p s))))
+      ∙ ap (λ (p : VisitState → RunStep Value). all_ended codes outer (ended codes (record a { frames = a.frames ++ fs }) (all_ended codes (b ∷ more) (p s))))
       (ap (λ (xs : List Activation). innermost codes xs) (sym (append_assoc outer ((record a { frames = a.frames ++ fs }) ∷ []) (b ∷ more))) ∙ innermost_append codes (outer ++ (record a { frames = a.frames ++ fs }) ∷ []) b more)
       ∙ ap (all_ended codes outer) (ended_all codes code fs a at (stands_for codes (b ∷ more) mode.Run s) is there h)
 
@@ -138,7 +138,7 @@ pub bound_env : (f : Fun) (args : List Value) → IsSome (bound f.params args) �
 unfolding env_of
 bound_env f args h = some_base (bound f.params args) h
 
-module _ (codes : List Program) (code : Program) (number fun : ℕ) (f : Fun) (args : List Value) (want : Step Value) (r : Rest) (s : VisitState) (b : BodyWaits codes code number fun f args want r s) where
+module _ (codes : List Program) (code : Program) (number fun : ℕ) (f : Fun) (args : List Value) (want : RunStep Value) (r : Rest) (s : VisitState) (b : BodyWaits codes code number fun f args want r s) where
   abbrev at : Spot
   at = record { expr = f.body; env = env_of f args [] }
 
@@ -168,7 +168,7 @@ linked_append : (codes : List Program) (xs ys : List Activation) → AreLinked c
 linked_append codes [] ys h k = k
 linked_append codes (x ∷ xs) ys h k = (h.0, linked_append codes xs ys h.1 k)
 
-module _ (codes : List Program) (outer : List Activation) (code : Program) (a : Activation) (at : Spot) (want : Step Value) (here : Stands codes outer a code at) (r : Rest) (s : VisitState) (w : Waits codes code a.fun at want r s) where
+module _ (codes : List Program) (outer : List Activation) (code : Program) (a : Activation) (at : Spot) (want : RunStep Value) (here : Stands codes outer a code at) (r : Rest) (s : VisitState) (w : Waits codes code a.fun at want r s) where
   abbrev whole : Activation
   whole = record a { frames = a.frames ++ reverse r.frames }
 

@@ -5,10 +5,10 @@ use Rattle.plan_base.specs.declared.tree.Fun.{Fun}
 use Rattle.plan_base.specs.declared.tree.Program.{Program}
 use Rattle.plan_base.specs.declared.tree.Value.{Value}
 use Rattle.plan_base.specs.declared.tree.Value as value
-use Rattle.plan_meaning.specs.declared.stop.Stop.{Stop}
-use Rattle.plan_meaning.specs.declared.stop.Stop.TheVariants.{Raised, NoMemory}
+use Rattle.plan_meaning.specs.declared.stop.EvalStop.{EvalStop}
+use Rattle.plan_meaning.specs.declared.stop.EvalStop.TheVariants.{Raised, NoMemory}
 use Rattle.plan_meaning.specs.State.{VisitState}
-use Rattle.plan_meaning.specs.Run.{Run, Step, ◌>>=◌, gave, stopped, quiet, pure, wrong, weighed}
+use Rattle.plan_meaning.specs.Run.{Run, RunStep, ◌>>=◌, gave, stopped, quiet, pure, wrong, weighed}
 use Rattle.plan_meaning.specs.Meaning.{Env, binds, bound, called, meaning}
 use Rattle.eval_steps.specs.declared.stack_frame.StackFrame.{StackFrame}
 use Rattle.eval_steps.specs.declared.stack_frame.StackFrame.TheVariants as frame
@@ -75,23 +75,23 @@ innermost_of codes code seen at [] = run_at code seen at
 innermost_of codes code seen at (a ∷ more) = λ s. stands_for codes (a ∷ more) mode.Run s
 
 -- what is left at a spot, as it goes on
-unfoldable pub waits : List Program → Program → ℕ → Spot → Rest → VisitState → Step Value
+unfoldable pub waits : List Program → Program → ℕ → Spot → Rest → VisitState → RunStep Value
 waits codes code seen at r s = through code seen (Some at) (reverse r.frames) (innermost_of codes code seen (spot_from (Some at) (reverse r.frames)) (reverse r.activations) s)
 
 -- an evaluation leads to what is left at a spot
-pub record Waits (codes : List Program) (code : Program) (seen : ℕ) (at : Spot) (want : Step Value) (r : Rest) (s : VisitState) : Type 0 where
+pub record Waits (codes : List Program) (code : Program) (seen : ℕ) (at : Spot) (want : RunStep Value) (r : Rest) (s : VisitState) : Type 0 where
   pub leads : Leads want (waits codes code seen at r s)
   pub stands : IsSome (spot_from (Some at) (reverse r.frames))
   pub linked : AreLinked codes (reverse r.activations)
 
 -- how far an expression at a spot came
-abbrev pub Flows : List Program → Program → ℕ → Spot → Step Value → Result Flow Stop → VisitState → Type 0
+abbrev pub Flows : List Program → Program → ℕ → Spot → RunStep Value → Result Flow EvalStop → VisitState → Type 0
 Flows codes code seen at want (Ok (flow.Done v)) s = want.after ≡ gave v s
 Flows codes code seen at want (Ok (flow.Wait r)) s = Waits codes code seen at want r s
 Flows codes code seen at want (Err e) s = e ≢ NoMemory → want.after ≡ stopped e s
 
 -- an evaluation leads to some activations
-pub record Above (codes : List Program) (want : Step Value) (r : Rest) (s : VisitState) : Type 0 where
+pub record Above (codes : List Program) (want : RunStep Value) (r : Rest) (s : VisitState) : Type 0 where
   pub bare : r.frames ≡ []
   pub first : Activation
   pub more : List Activation
@@ -100,25 +100,25 @@ pub record Above (codes : List Program) (want : Step Value) (r : Rest) (s : Visi
   pub linked : AreLinked codes (first ∷ more)
 
 -- how far a function came
-abbrev pub Enters : List Program → Step Value → Result Flow Stop → VisitState → Type 0
+abbrev pub Enters : List Program → RunStep Value → Result Flow EvalStop → VisitState → Type 0
 Enters codes want (Ok (flow.Done v)) s = want.after ≡ gave v s
 Enters codes want (Ok (flow.Wait r)) s = Above codes want r s
 Enters codes want (Err e) s = e ≢ NoMemory → want.after ≡ stopped e s
 
 -- how far the body of a function with these arguments came, which was entered so
-pub record BodyWaits (codes : List Program) (code : Program) (number fun : ℕ) (f : Fun) (args : List Value) (want : Step Value) (r : Rest) (s : VisitState) : Type 0 where
+pub record BodyWaits (codes : List Program) (code : Program) (number fun : ℕ) (f : Fun) (args : List Value) (want : RunStep Value) (r : Rest) (s : VisitState) : Type 0 where
   pub program : slice_get codes number ≡ Some code
   pub function : slice_get code.funs fun ≡ Some f
   pub binds : IsSome (bound f.params args)
   pub waits : Waits codes code fun (record { expr = f.body; env = env_of f args [] }) want r s
 
-abbrev pub Bodies : List Program → Program → ℕ → ℕ → Fun → List Value → Step Value → Result Flow Stop → VisitState → Type 0
+abbrev pub Bodies : List Program → Program → ℕ → ℕ → Fun → List Value → RunStep Value → Result Flow EvalStop → VisitState → Type 0
 Bodies codes code number fun f args want (Ok (flow.Done v)) s = want.after ≡ gave v s
 Bodies codes code number fun f args want (Ok (flow.Wait r)) s = BodyWaits codes code number fun f args want r s
 Bodies codes code number fun f args want (Err e) s = e ≢ NoMemory → want.after ≡ stopped e s
 
 -- how an open expression went on
-abbrev pub Advances : List Program → Program → ℕ → Spot → Step Value → Result Turn Stop → VisitState → Type 0
+abbrev pub Advances : List Program → Program → ℕ → Spot → RunStep Value → Result Turn EvalStop → VisitState → Type 0
 Advances codes code seen at want (Ok (turn.More n)) s = Leads want (next_step code seen at n s)
 Advances codes code seen at want (Ok (turn.End f)) s = Flows codes code seen at want (Ok f) s
 Advances codes code seen at want (Err e) s = e ≢ NoMemory → want.after ≡ stopped e s
@@ -153,16 +153,16 @@ made_of code seen (Expr-F.ChunkOf f es) vs = pure (value.Chunk (record { code = 
 made_of code seen _ vs = wrong
 
 -- the same, weighed
-abbrev pub row_gave : Program → ℕ → Spot → List Value → VisitState → Step Value
+abbrev pub row_gave : Program → ℕ → Spot → List Value → VisitState → RunStep Value
 row_gave code seen at vs s = (made_of code seen (out-Expr at.expr) vs >>= weighed) s
 
 -- with these values so far, and these parts to be evaluated
-abbrev pub pending : Program → ℕ → Spot → List Value → List Expr → VisitState → Step Value
+abbrev pub pending : Program → ℕ → Spot → List Value → List Expr → VisitState → RunStep Value
 pending code seen at held [] s = row_gave code seen at held s
 pending code seen at held (x ∷ more) s = resume code seen at (frame.Part (length held) held) (meaning code seen at.env x s)
 
 -- how far the parts of an expression at a spot came
-abbrev pub Rows : List Program → Program → ℕ → Spot → Step Value → Result Row Stop → VisitState → Type 0
+abbrev pub Rows : List Program → Program → ℕ → Spot → RunStep Value → Result Row EvalStop → VisitState → Type 0
 Rows codes code seen at want (Ok (row.All vs)) s = Leads want (row_gave code seen at vs s)
 Rows codes code seen at want (Ok (row.Wait r)) s = Waits codes code seen at want r s
 Rows codes code seen at want (Err e) s = e ≢ NoMemory → want.after ≡ stopped e s
@@ -170,7 +170,7 @@ Rows codes code seen at want (Err e) s = e ≢ NoMemory → want.after ≡ stopp
 -- ---- tasks
 
 -- what a task makes of the expression at a spot
-abbrev pub task_step : Program → ℕ → Spot → Task → VisitState → Step Value
+abbrev pub task_step : Program → ℕ → Spot → Task → VisitState → RunStep Value
 task_step code seen at task.Begin s = meaning code seen at.env at.expr s
 task_step code seen at (task.Give f v) s = resume code seen at f (quiet (gave v s))
 task_step code seen at (task.Raise f x) s = resume code seen at f (quiet (stopped (Raised x) s))
@@ -181,25 +181,25 @@ abbrev pub burden : Rest → ℕ
 burden r = 2 * length r.frames + 2 * frames_in r.activations + length r.activations
 
 -- it spent no less than what waits weighs
-abbrev pub Lasts : ℕ → ℕ → Result Flow Stop → ℕ → Type 0
+abbrev pub Lasts : ℕ → ℕ → Result Flow EvalStop → ℕ → Type 0
 Lasts more old (Ok (flow.Done v)) new = new ≤ old
 Lasts more old (Ok (flow.Wait r)) new = 5 * new + burden r ≤ 5 * old + more
 Lasts more old (Err e) new = new ≤ old
 
 -- the same, and it spent something where it was to begin
-abbrev pub Spends : ℕ → ℕ → Result Flow Stop → ℕ → Type 0
+abbrev pub Spends : ℕ → ℕ → Result Flow EvalStop → ℕ → Type 0
 Spends depth old (Ok (flow.Done v)) new = new < old
 Spends depth old (Ok (flow.Wait r)) new = (5 * new + burden r ≤ 5 * old) × (0 < depth → 5 * new + burden r < 5 * old)
 Spends depth old (Err (Raised x)) new = new < old
 Spends depth old (Err e) new = new ≤ old
 
 -- the same of a function that was entered
-abbrev pub Goes : ℕ → Result Flow Stop → ℕ → Type 0
+abbrev pub Goes : ℕ → Result Flow EvalStop → ℕ → Type 0
 Goes old (Ok (flow.Done v)) new = new < old
 Goes old (Ok (flow.Wait r)) new = 5 * new + burden r ≤ 5 * old + 1
 Goes old (Err e) new = new ≤ old
 
-abbrev pub Turns : ℕ → Result Turn Stop → ℕ → Type 0
+abbrev pub Turns : ℕ → Result Turn EvalStop → ℕ → Type 0
 Turns old (Ok (turn.More n)) new = new < old
 Turns old (Ok (turn.End f)) new = Lasts 3 old (Ok f) new
 Turns old (Err e) new = new ≤ old
@@ -209,12 +209,12 @@ abbrev pub native_depth : ℕ
 native_depth = 256
 
 -- the same of a task
-abbrev pub Performs : Task → ℕ → Result Flow Stop → ℕ → Type 0
+abbrev pub Performs : Task → ℕ → Result Flow EvalStop → ℕ → Type 0
 Performs task.Begin old r new = Spends native_depth old r new
 Performs _ old r new = Lasts 3 old r new
 
 -- the same of the parts of an expression
-abbrev pub RowLasts : ℕ → Result Row Stop → ℕ → Type 0
+abbrev pub RowLasts : ℕ → Result Row EvalStop → ℕ → Type 0
 RowLasts old (Ok (row.All vs)) new = new ≤ old
 RowLasts old (Ok (row.Wait r)) new = Lasts 3 old (Ok (flow.Wait r)) new
 RowLasts old (Err e) new = new ≤ old

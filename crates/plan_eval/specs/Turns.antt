@@ -7,10 +7,10 @@ use Rattle.plan_base.specs.declared.tree.Param.{Param}
 use Rattle.plan_base.specs.declared.tree.Fun.{Fun}
 use Rattle.plan_base.specs.declared.tree.Program.{Program}
 use Rattle.plan_base.specs.declared.tree.Value.{Value}
-use Rattle.plan_meaning.specs.declared.stop.Stop.{Stop}
-use Rattle.plan_meaning.specs.declared.stop.Stop.TheVariants.{NoMemory}
+use Rattle.plan_meaning.specs.declared.stop.EvalStop.{EvalStop}
+use Rattle.plan_meaning.specs.declared.stop.EvalStop.TheVariants.{NoMemory}
 use Rattle.plan_meaning.specs.State.{VisitState}
-use Rattle.plan_meaning.specs.Run.{Step, stopped}
+use Rattle.plan_meaning.specs.Run.{RunStep, stopped}
 use Rattle.plan_meaning.specs.Meaning.{Env}
 use Rattle.eval_steps.specs.declared.stack_frame.StackFrame.{StackFrame}
 use Rattle.eval_steps.specs.declared.stack_frame.Activation.{Activation}
@@ -50,7 +50,7 @@ pub record IsPlaced (old : List Program) (code : Program) (at : ℕ) (new : List
   pub there : slice_get new at ≡ Some code
 
 -- A turn leads from one stack to the next, or the visit ends so. Of running out of memory nothing is said.
-abbrev pub Turned : Step Value → Result Mode Stop → List Program → List Activation → VisitState → Type 0
+abbrev pub Turned : RunStep Value → Result Mode EvalStop → List Program → List Activation → VisitState → Type 0
 Turned want (Ok how) codes activations s = Leads want (stands_for codes activations how s) × AreLinked codes activations
 Turned want (Err e) codes activations s = e ≢ NoMemory → want.after ≡ stopped e s
 

@@ -5,13 +5,13 @@ ghost use Rattle.plan_base.specs.declared.tree.Program.{Program as Code};
 ghost use Rattle.plan_base.specs.declared.tree.Value.{Value as AValue};
 ghost use Rattle.service_api.specs.Services.{ServiceState};
 ghost use Rattle.plan_meaning.specs.State.{VisitState, joined};
-ghost use Rattle.plan_meaning.specs.Run.{Step, gave, stopped, quiet, weighed};
+ghost use Rattle.plan_meaning.specs.Run.{RunStep, gave, stopped, quiet, weighed};
 ghost use Rattle.plan_meaning.specs.Meaning.{Env};
 ghost use Rattle.plan_meaning.specs.Safe.{IsSafe};
 ghost use Rattle.eval_steps.specs.Stack.{Spot, deeper, resume};
 ghost use Rattle.eval_steps.specs.declared.stack_frame.StackFrame.TheVariants as frame;
-ghost use Rattle.plan_meaning.specs.declared.stop.Stop.TheVariants.{Raised};
-ghost use Rattle.plan_meaning.specs.declared.stop.Stop.TheVariants as stops;
+ghost use Rattle.plan_meaning.specs.declared.stop.EvalStop.TheVariants.{Raised};
+ghost use Rattle.plan_meaning.specs.declared.stop.EvalStop.TheVariants as stops;
 ghost use Rattle.eval_steps.specs.Nexts.{fold_on};
 ghost use Rattle.plan_eval.specs.Direct.{spot, Flows, Bodies, Enters, Advances, Goes, Lasts, Spends, Turns, is_let, IsMore};
 
@@ -20,7 +20,7 @@ use crate::rest::{Flow, above, inside};
 use crate::turn::Turn;
 use eval_steps::{Next, StackFrame, frame_given, frame_raised, item_gave};
 use plan_base::{Exn, Expr, Value, Values};
-use plan_meaning::Stop;
+use plan_meaning::EvalStop;
 use service_api::Services;
 use std::alloc::Global;
 use visit_state::{State, Weighing, too_large};
@@ -36,7 +36,7 @@ pub fn is_bound(frame: &StackFrame) -> bool
 }
 
 /// Ends with a value, which is weighed first.
-pub fn give(alloc: Global, v: Value, state: &mut State) -> Result<Turn, Stop>
+pub fn give(alloc: Global, v: Value, state: &mut State) -> Result<Turn, EvalStop>
     ensures advances { (codes : List Code) (code : Code) (seen : ℕ) (at : Spot) (n : ServiceState)
         → Advances codes code seen at (weighed v (joined state.old n)) result (joined state.new n) }
     ensures turns { Turns state.old.work result state.new.work }
@@ -48,14 +48,14 @@ pub fn give(alloc: Global, v: Value, state: &mut State) -> Result<Turn, Stop>
 }
 
 /// The value of the whole, which is weighed first.
-pub fn ended(alloc: Global, v: Value, state: &mut State) -> Result<Flow, Stop>
+pub fn ended(alloc: Global, v: Value, state: &mut State) -> Result<Flow, EvalStop>
     ensures flows { (codes : List Code) (code : Code) (seen : ℕ) (at : Spot) (n : ServiceState)
         → Flows codes code seen at (weighed v (joined state.old n)) result (joined state.new n) }
     ensures lasts { Lasts 3 state.old.work result state.new.work }
 {
     match state.weighs(&v) {
         Weighing::Paid => Ok(Flow::Done(v)),
-        Weighing::Spent => Err(Stop::WorkSpent),
+        Weighing::Spent => Err(EvalStop::WorkSpent),
         Weighing::TooLarge => Err(too_large(alloc)),
     }
 }
@@ -64,10 +64,10 @@ pub fn ended(alloc: Global, v: Value, state: &mut State) -> Result<Flow, Stop>
 pub fn last_back(
     alloc: Global,
     n: usize,
-    flow: Result<Flow, Stop>,
+    flow: Result<Flow, EvalStop>,
     state: &mut State,
-) -> Result<Flow, Stop>
-    ensures flows { (codes : List Code) (code : Code) (seen : ℕ) (at inner : Spot) (c : Step AValue) (m : ServiceState) → deeper at (frame.Last n) ≡ Some inner
+) -> Result<Flow, EvalStop>
+    ensures flows { (codes : List Code) (code : Code) (seen : ℕ) (at inner : Spot) (c : RunStep AValue) (m : ServiceState) → deeper at (frame.Last n) ≡ Some inner
         → Flows codes code seen inner c flow (joined state.old m)
         → Flows codes code seen at (resume code seen at (frame.Last n) c) result (joined state.new m) }
     ensures lasts { (depth old : ℕ) → Spends depth old flow state.old.work → Lasts 3 old result state.new.work }
@@ -83,10 +83,10 @@ pub fn last_back(
 pub fn bound_back(
     alloc: Global,
     v: Value,
-    flow: Result<Flow, Stop>,
+    flow: Result<Flow, EvalStop>,
     state: &mut State,
-) -> Result<Flow, Stop>
-    ensures flows { (codes : List Code) (code : Code) (seen : ℕ) (at inner : Spot) (c : Step AValue) (m : ServiceState) → deeper at (frame.Bound v) ≡ Some inner
+) -> Result<Flow, EvalStop>
+    ensures flows { (codes : List Code) (code : Code) (seen : ℕ) (at inner : Spot) (c : RunStep AValue) (m : ServiceState) → deeper at (frame.Bound v) ≡ Some inner
         → Flows codes code seen inner c flow (joined state.old m)
         → Flows codes code seen at (resume code seen at (frame.Bound v) c) result (joined state.new m) }
     ensures lasts { (depth old : ℕ) → Spends depth old flow state.old.work → Lasts 3 old result state.new.work }
@@ -99,8 +99,8 @@ pub fn bound_back(
 }
 
 /// A function that was called came so far.
-pub fn called_back(alloc: Global, flow: Result<Flow, Stop>) -> Result<Turn, Stop>
-    ensures advances { (codes : List Code) (code : Code) (seen : ℕ) (at : Spot) (c : Step AValue) (s : VisitState) → Enters codes c flow s
+pub fn called_back(alloc: Global, flow: Result<Flow, EvalStop>) -> Result<Turn, EvalStop>
+    ensures advances { (codes : List Code) (code : Code) (seen : ℕ) (at : Spot) (c : RunStep AValue) (s : VisitState) → Enters codes c flow s
         → Advances codes code seen at (resume code seen at frame.Body c) result s }
     ensures turns { (old new : ℕ) → Goes old flow new → Turns old result new }
 {
@@ -112,8 +112,12 @@ pub fn called_back(alloc: Global, flow: Result<Flow, Stop>) -> Result<Turn, Stop
 }
 
 /// A function that a call entered came so far.
-pub fn body_back(alloc: Global, flow: Result<Flow, Stop>, state: &mut State) -> Result<Flow, Stop>
-    ensures flows { (codes : List Code) (code : Code) (seen : ℕ) (at : Spot) (c : Step AValue) (m : ServiceState) → Enters codes c flow (joined state.old m)
+pub fn body_back(
+    alloc: Global,
+    flow: Result<Flow, EvalStop>,
+    state: &mut State,
+) -> Result<Flow, EvalStop>
+    ensures flows { (codes : List Code) (code : Code) (seen : ℕ) (at : Spot) (c : RunStep AValue) (m : ServiceState) → Enters codes c flow (joined state.old m)
         → Flows codes code seen at (resume code seen at frame.Body c) result (joined state.new m) }
     ensures lasts { (old : ℕ) → Goes old flow state.old.work → Lasts 3 old result state.new.work }
 {
@@ -125,8 +129,12 @@ pub fn body_back(alloc: Global, flow: Result<Flow, Stop>, state: &mut State) -> 
 }
 
 /// The chunk of an `eval` of this program came so far.
-pub fn chunk_back(alloc: Global, flow: Result<Flow, Stop>, state: &mut State) -> Result<Flow, Stop>
-    ensures flows { (codes : List Code) (code : Code) (seen : ℕ) (at : Spot) (c : Step AValue) (m : ServiceState) → Enters codes c flow (joined state.old m)
+pub fn chunk_back(
+    alloc: Global,
+    flow: Result<Flow, EvalStop>,
+    state: &mut State,
+) -> Result<Flow, EvalStop>
+    ensures flows { (codes : List Code) (code : Code) (seen : ℕ) (at : Spot) (c : RunStep AValue) (m : ServiceState) → Enters codes c flow (joined state.old m)
         → Flows codes code seen at (resume code seen at frame.Chunk c) result (joined state.new m) }
     ensures lasts { (old : ℕ) → Goes old flow state.old.work → Lasts 3 old result state.new.work }
 {
@@ -138,8 +146,8 @@ pub fn chunk_back(alloc: Global, flow: Result<Flow, Stop>, state: &mut State) ->
 }
 
 /// The chunk of an `eval` came so far.
-pub fn visited_back(alloc: Global, flow: Result<Flow, Stop>) -> Result<Turn, Stop>
-    ensures advances { (codes : List Code) (code : Code) (seen : ℕ) (at : Spot) (c : Step AValue) (s : VisitState) → Enters codes c flow s
+pub fn visited_back(alloc: Global, flow: Result<Flow, EvalStop>) -> Result<Turn, EvalStop>
+    ensures advances { (codes : List Code) (code : Code) (seen : ℕ) (at : Spot) (c : RunStep AValue) (s : VisitState) → Enters codes c flow s
         → Advances codes code seen at (resume code seen at frame.Chunk c) result s }
     ensures turns { (old new : ℕ) → Goes old flow new → Turns old result new }
 {
@@ -151,7 +159,13 @@ pub fn visited_back(alloc: Global, flow: Result<Flow, Stop>) -> Result<Turn, Sto
 }
 
 /// A step of a fold gave a value.
-fn item_back(alloc: Global, here: &Here<'_>, e: &Expr, left: Values, v: Value) -> Result<Turn, Stop>
+fn item_back(
+    alloc: Global,
+    here: &Here<'_>,
+    e: &Expr,
+    left: Values,
+    v: Value,
+) -> Result<Turn, EvalStop>
     ensures advances { (codes : List Code) (env : Env) (s : VisitState)
         → Advances codes here.now.code.now here.now.fun (record { expr = e.now; env = env })
         (fold_on here.now.code.now here.now.fun (record { expr = e.now; env = env }) v left s) result s }
@@ -169,9 +183,9 @@ pub fn stepped_back(
     here: &Here<'_>,
     e: &Expr,
     left: Values,
-    flow: Result<Flow, Stop>,
-) -> Result<Turn, Stop>
-    ensures advances { (codes : List Code) (env : Env) (c : Step AValue) (s : VisitState) → Enters codes c flow s
+    flow: Result<Flow, EvalStop>,
+) -> Result<Turn, EvalStop>
+    ensures advances { (codes : List Code) (env : Env) (c : RunStep AValue) (s : VisitState) → Enters codes c flow s
         → Advances codes here.now.code.now here.now.fun (record { expr = e.now; env = env })
         (resume here.now.code.now here.now.fun (record { expr = e.now; env = env }) (frame.Items left) c) result s }
     ensures turns { (old new : ℕ) → Goes old flow new → Turns old result new }
@@ -192,7 +206,7 @@ fn value_back<S: Services>(
     v: Value,
     state: &mut State,
     svc: &mut S,
-) -> Result<Turn, Stop>
+) -> Result<Turn, EvalStop>
     requires open { IsSome (S.stands svc.old).begun }
     requires safe { IsSafe (resume here.now.code.now here.now.fun (spot here.now e.now) frame (quiet (gave v (joined state.old (S.stands svc.old))))).asks }
     ensures advances { (codes : List Code) → Advances codes here.now.code.now here.now.fun (spot here.now e.now)
@@ -210,7 +224,7 @@ fn value_back<S: Services>(
 }
 
 /// A part raised an exception.
-fn exception_back(e: &Expr, frame: &StackFrame, x: Exn) -> Result<Turn, Stop>
+fn exception_back(e: &Expr, frame: &StackFrame, x: Exn) -> Result<Turn, EvalStop>
     ensures advances { (codes : List Code) (code : Code) (seen : ℕ) (env : Env) (s : VisitState)
         → Advances codes code seen (record { expr = e.now; env = env })
         (resume code seen (record { expr = e.now; env = env }) frame.now (quiet (stopped (Raised x) s))) result s }
@@ -225,17 +239,17 @@ fn exception_back(e: &Expr, frame: &StackFrame, x: Exn) -> Result<Turn, Stop>
 /// A part ended without a value.
 #[tactic(auto, using(crate::proofs::Ending::resume_final))]
 #[inline(never)]
-fn stop_back(e: &Expr, frame: &StackFrame, stop: Stop) -> Result<Turn, Stop>
-    ensures advances { (codes : List Code) (code : Code) (seen : ℕ) (env : Env) (c : Step AValue) (s : VisitState)
+fn stop_back(e: &Expr, frame: &StackFrame, stop: EvalStop) -> Result<Turn, EvalStop>
+    ensures advances { (codes : List Code) (code : Code) (seen : ℕ) (env : Env) (c : RunStep AValue) (s : VisitState)
         → (stop ≢ stops.NoMemory → c.after ≡ stopped stop s)
         → Advances codes code seen (record { expr = e.now; env = env }) (resume code seen (record { expr = e.now; env = env }) frame.now c) result s }
     ensures turns { (depth old new : ℕ) → Spends depth old (Err stop) new → Turns old result new }
 {
     match stop {
-        Stop::Raised(x) => exception_back(e, frame, x),
-        Stop::WorkSpent => Err(Stop::WorkSpent),
-        Stop::Wrong => Err(Stop::Wrong),
-        Stop::NoMemory => Err(Stop::NoMemory),
+        EvalStop::Raised(x) => exception_back(e, frame, x),
+        EvalStop::WorkSpent => Err(EvalStop::WorkSpent),
+        EvalStop::Wrong => Err(EvalStop::Wrong),
+        EvalStop::NoMemory => Err(EvalStop::NoMemory),
     }
 }
 
@@ -246,15 +260,15 @@ pub fn part_back<S: Services>(
     here: &Here<'_>,
     e: &Expr,
     frame: StackFrame,
-    flow: Result<Flow, Stop>,
+    flow: Result<Flow, EvalStop>,
     state: &mut State,
     svc: &mut S,
-) -> Result<Turn, Stop>
+) -> Result<Turn, EvalStop>
     requires open { IsSome (S.stands svc.old).begun }
-    requires safe { (codes : List Code) × (inner : Spot) × (c : Step AValue)
+    requires safe { (codes : List Code) × (inner : Spot) × (c : RunStep AValue)
         × Flows codes here.now.code.now here.now.fun inner c flow (joined state.old (S.stands svc.old))
         × IsSafe (resume here.now.code.now here.now.fun (spot here.now e.now) frame c).asks }
-    ensures advances { (codes : List Code) (inner : Spot) (c : Step AValue) → deeper (spot here.now e.now) frame ≡ Some inner
+    ensures advances { (codes : List Code) (inner : Spot) (c : RunStep AValue) → deeper (spot here.now e.now) frame ≡ Some inner
         → Flows codes here.now.code.now here.now.fun inner c flow (joined state.old (S.stands svc.old))
         → Advances codes here.now.code.now here.now.fun (spot here.now e.now)
         (resume here.now.code.now here.now.fun (spot here.now e.now) frame c) result (joined state.new (S.stands svc.new)) }
@@ -275,9 +289,9 @@ pub fn args_back(
     number: usize,
     fun: usize,
     args: Values,
-    flow: Result<Flow, Stop>,
-) -> Result<Flow, Stop>
-    ensures enters { (codes : List Code) (code : Code) (f : AFun) (c : Step AValue) (s : VisitState) → Bodies codes code number fun f args c flow s
+    flow: Result<Flow, EvalStop>,
+) -> Result<Flow, EvalStop>
+    ensures enters { (codes : List Code) (code : Code) (f : AFun) (c : RunStep AValue) (s : VisitState) → Bodies codes code number fun f args c flow s
         → Enters codes c result s }
     ensures goes { (depth old new : ℕ) → Spends depth old flow new → Goes old result new }
 {

@@ -20,7 +20,7 @@ use eval_steps::{Kind, Next, StackFrame, called, kind_of, value_from};
 use plan_base::{Chunk, Exn, Expr, Name, Program, Value, Values};
 use plan_copies::Copied;
 use plan_items::{Boxed, Items, Shared};
-use plan_meaning::Stop;
+use plan_meaning::EvalStop;
 use service_api::Services;
 use std::alloc::Global;
 use visit_state::State;
@@ -38,14 +38,14 @@ fn named_value<'a>(here: &Here<'a>, name: &Name) -> Option<&'a Value>
 
 /// What a name stands for where an activation stands.
 #[tactic(auto, using(crate::proofs::Beginning::gives_name, crate::proofs::Beginning::no_name))]
-fn named(alloc: Global, here: &Here<'_>, e: &Expr, name: &Name) -> Result<Next, Stop>
+fn named(alloc: Global, here: &Here<'_>, e: &Expr, name: &Name) -> Result<Next, EvalStop>
     requires form { out-Expr e.now ≡ Expr-F.Var name.now }
     requires binds { IsSome (bound here.now.function.now.params here.now.args.now) }
     ensures { (s : VisitState) → Decides here.now.code.now here.now.fun (spot here.now e.now) (begins here.now.code.now here.now.fun (spot here.now e.now) s) result s }
 {
     match named_value(here, name) {
         Some(value) => Ok(Next::Give(value.copy(alloc)?)),
-        None => Err(Stop::Wrong),
+        None => Err(EvalStop::Wrong),
     }
 }
 
@@ -57,7 +57,7 @@ pub fn variable(
     e: &Expr,
     name: &Name,
     state: &mut State,
-) -> Result<Flow, Stop>
+) -> Result<Flow, EvalStop>
     requires form { out-Expr e.now ≡ Expr-F.Var name.now }
     requires binds { IsSome (bound here.now.function.now.params here.now.args.now) }
     ensures flows { (codes : List AProgram) (n : ServiceState) → Flows codes here.now.code.now here.now.fun (spot here.now e.now)
@@ -66,7 +66,7 @@ pub fn variable(
 {
     match named_value(here, name) {
         Some(value) => ended(alloc, value.copy(alloc)?, state),
-        None => Err(Stop::Wrong),
+        None => Err(EvalStop::Wrong),
     }
 }
 
@@ -77,7 +77,7 @@ pub fn number(
     e: &Expr,
     n: i64,
     state: &mut State,
-) -> Result<Flow, Stop>
+) -> Result<Flow, EvalStop>
     requires form { out-Expr e.now ≡ Expr-F.Int n }
     ensures flows { (codes : List AProgram) (m : ServiceState) → Flows codes here.now.code.now here.now.fun (spot here.now e.now)
         (begins here.now.code.now here.now.fun (spot here.now e.now) (joined state.old m)) result (joined state.new m) }
@@ -119,7 +119,7 @@ pub fn packed(
     entry: &Name,
     args: Values,
     state: &mut State,
-) -> Result<Flow, Stop>
+) -> Result<Flow, EvalStop>
     ensures flows { (codes : List AProgram) (seen : ℕ) (at : Spot) (m : ServiceState)
         → Flows codes code.now seen at (weighed (value.Chunk (record { code = code.now; entry = entry.now; args = args })) (joined state.old m)) result (joined state.new m) }
     ensures lasts { Lasts 3 state.old.work result state.new.work }
@@ -134,7 +134,7 @@ pub fn packed(
 
 /// A chunk without arguments.
 #[tactic(auto, using(crate::proofs::Beginning::packs_bare))]
-fn bare_chunk(alloc: Global, code: &Shared<Program>, entry: &Name) -> Result<Next, Stop>
+fn bare_chunk(alloc: Global, code: &Shared<Program>, entry: &Name) -> Result<Next, EvalStop>
     ensures { (seen : ℕ) (s : VisitState) → Starts code.now seen (Expr-F.ChunkOf entry.now []) s result s }
 {
     let chunk = Chunk {
@@ -153,7 +153,7 @@ pub fn begin<S: Services>(
     e: &Expr,
     state: &mut State,
     svc: &mut S,
-) -> Result<Next, Stop>
+) -> Result<Next, EvalStop>
     requires open { IsSome (S.stands svc.old).begun }
     requires binds { IsSome (bound here.now.function.now.params here.now.args.now) }
     requires safe { IsSafe (begins here.now.code.now here.now.fun (spot here.now e.now) (joined state.old (S.stands svc.old))).asks }
@@ -167,7 +167,7 @@ pub fn begin<S: Services>(
     match kind_of(alloc, e)? {
         Kind::Gives(value) => Ok(Next::Give(value)),
         Kind::Named(name) => named(alloc, here, e, name),
-        Kind::Raises(name) => Err(Stop::Raised(Exn(name.copy(alloc)?))),
+        Kind::Raises(name) => Err(EvalStop::Raised(Exn(name.copy(alloc)?))),
         Kind::Calls(name) => called(
             alloc,
             here.code,
@@ -178,7 +178,7 @@ pub fn begin<S: Services>(
             svc,
         ),
         Kind::Packs(name) => bare_chunk(alloc, here.code, name),
-        Kind::Untyped => Err(Stop::Wrong),
+        Kind::Untyped => Err(EvalStop::Wrong),
         Kind::Opens => Ok(Next::Open(StackFrame::Part(0, Items::new(alloc)))),
     }
 }

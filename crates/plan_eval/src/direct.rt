@@ -29,7 +29,7 @@ use crate::turn::Turn;
 use eval_steps::{Codes, Next, StackFrame, called, part_at, part_or_self};
 use plan_base::{Chunk, Expr, Exprs, Fun, Name, NoMemory, Op, Program, Value, Values};
 use plan_items::{Items, Shared};
-use plan_meaning::Stop;
+use plan_meaning::EvalStop;
 use service_api::Services;
 use std::alloc::Global;
 use typing_rules::place_of;
@@ -46,7 +46,7 @@ pub fn evaluate<S: Services>(
     depth: u64,
     state: &mut State,
     svc: &mut S,
-) -> Result<Flow, Stop>
+) -> Result<Flow, EvalStop>
     requires open { IsSome (S.stands svc.old).begun }
     requires here { IsHere codes.old here.now }
     requires safe { IsSafe (meaning here.now.code.now here.now.fun (spot here.now e.now).env e.now (joined state.old (S.stands svc.old))).asks }
@@ -62,7 +62,7 @@ pub fn evaluate<S: Services>(
         return Ok(pause(alloc));
     }
     if !state.pays(1) {
-        return Err(Stop::WorkSpent);
+        return Err(EvalStop::WorkSpent);
     }
     let below = depth - 1;
     match e {
@@ -99,7 +99,7 @@ fn general<S: Services>(
     depth: u64,
     state: &mut State,
     svc: &mut S,
-) -> Result<Flow, Stop>
+) -> Result<Flow, EvalStop>
     requires open { IsSome (S.stands svc.old).begun }
     requires here { IsHere codes.old here.now }
     requires safe { IsSafe (begins here.now.code.now here.now.fun (spot here.now e.now) (joined state.old (S.stands svc.old))).asks }
@@ -130,7 +130,7 @@ fn choice<S: Services>(
     depth: u64,
     state: &mut State,
     svc: &mut S,
-) -> Result<Flow, Stop>
+) -> Result<Flow, EvalStop>
     requires form { out-Expr e.now ≡ Expr-F.If t.now a.now b.now }
     requires open { IsSome (S.stands svc.old).begun }
     requires here { IsHere codes.old here.now }
@@ -147,7 +147,7 @@ fn choice<S: Services>(
         Ok(Flow::Done(v)) => match as_bool(&v) {
             Some(true) => last_part(alloc, codes, here, e, 1, a, depth, state, svc),
             Some(false) => last_part(alloc, codes, here, e, 2, b, depth, state, svc),
-            None => Err(Stop::Wrong),
+            None => Err(EvalStop::Wrong),
         },
         Ok(Flow::Wait(rest)) => Ok(inside(alloc, rest, StackFrame::Part(0, Items::new(alloc)))?),
         Err(stop) => Err(stop),
@@ -166,7 +166,7 @@ fn last_part<S: Services>(
     depth: u64,
     state: &mut State,
     svc: &mut S,
-) -> Result<Flow, Stop>
+) -> Result<Flow, EvalStop>
     requires open { IsSome (S.stands svc.old).begun }
     requires here { IsHere codes.old here.now }
     requires part { part_or_self e.now (Some n) ≡ Some part.now }
@@ -196,7 +196,7 @@ fn operation<S: Services>(
     depth: u64,
     state: &mut State,
     svc: &mut S,
-) -> Result<Flow, Stop>
+) -> Result<Flow, EvalStop>
     requires form { out-Expr e.now ≡ Expr-F.Binary op a.now b.now }
     requires open { IsSome (S.stands svc.old).begun }
     requires here { IsHere codes.old here.now }
@@ -236,7 +236,7 @@ fn all_parts<S: Services>(
     depth: u64,
     state: &mut State,
     svc: &mut S,
-) -> Result<Row, Stop>
+) -> Result<Row, EvalStop>
     requires form { IsRow (out-Expr e.now) }
     requires parts { parts_of (out-Expr e.now) ≡ es.now }
     requires open { IsSome (S.stands svc.old).begun }
@@ -276,7 +276,7 @@ fn row<S: Services>(
     depth: u64,
     state: &mut State,
     svc: &mut S,
-) -> Result<Flow, Stop>
+) -> Result<Flow, EvalStop>
     requires form { IsRow (out-Expr e.now) }
     requires parts { parts_of (out-Expr e.now) ≡ es.now }
     requires open { IsSome (S.stands svc.old).begun }
@@ -309,7 +309,7 @@ fn made<S: Services>(
     depth: u64,
     state: &mut State,
     svc: &mut S,
-) -> Result<Flow, Stop>
+) -> Result<Flow, EvalStop>
     requires open { IsSome (S.stands svc.old).begun }
     requires here { IsHere codes.old here.now }
     requires safe { IsSafe (row_gave here.now.code.now here.now.fun (spot here.now e.now) values (joined state.old (S.stands svc.old))).asks }
@@ -325,7 +325,7 @@ fn made<S: Services>(
         Expr::Call(f, _) => invoke(alloc, codes, here, e, f, values, depth, state, svc),
         Expr::ChunkOf(f, _) => packed(alloc, here.code, f, values, state),
         Expr::Tuple(_) => ended(alloc, Value::Tuple(values), state),
-        _ => Err(Stop::Wrong),
+        _ => Err(EvalStop::Wrong),
     }
 }
 
@@ -341,7 +341,7 @@ fn invoke<S: Services>(
     depth: u64,
     state: &mut State,
     svc: &mut S,
-) -> Result<Flow, Stop>
+) -> Result<Flow, EvalStop>
     requires open { IsSome (S.stands svc.old).begun }
     requires here { IsHere codes.old here.now }
     requires safe { IsSafe (call_of here.now.code.now here.now.fun f.now args (joined state.old (S.stands svc.old))).asks }
@@ -376,7 +376,7 @@ fn eval<S: Services>(
     depth: u64,
     state: &mut State,
     svc: &mut S,
-) -> Result<Flow, Stop>
+) -> Result<Flow, EvalStop>
     requires form { out-Expr e.now ≡ Expr-F.Eval a.now }
     requires open { IsSome (S.stands svc.old).begun }
     requires here { IsHere codes.old here.now }
@@ -410,7 +410,7 @@ fn eval_packing<S: Services>(
     depth: u64,
     state: &mut State,
     svc: &mut S,
-) -> Result<Flow, Stop>
+) -> Result<Flow, EvalStop>
     requires form { out-Expr e.now ≡ Expr-F.Eval a.now }
     requires packs { out-Expr a.now ≡ Expr-F.ChunkOf f.now es.now }
     requires open { IsSome (S.stands svc.old).begun }
@@ -425,7 +425,7 @@ fn eval_packing<S: Services>(
     ensures begun { (S.stands svc.new).begun ≡ (S.stands svc.old).begun }
 {
     if !state.pays(1) {
-        return Err(Stop::WorkSpent);
+        return Err(EvalStop::WorkSpent);
     }
     match all_parts(alloc, codes, here, a, es.as_slice(), depth, state, svc) {
         Ok(Row::All(args)) => eval_packed(alloc, codes, here, e, f, args, depth, state, svc),
@@ -446,7 +446,7 @@ fn eval_packed<S: Services>(
     depth: u64,
     state: &mut State,
     svc: &mut S,
-) -> Result<Flow, Stop>
+) -> Result<Flow, EvalStop>
     requires form { (a : Expr) × (out-Expr e.now ≡ Expr-F.Eval a) }
     requires open { IsSome (S.stands svc.old).begun }
     requires here { IsHere codes.old here.now }
@@ -477,7 +477,7 @@ fn visit_here<S: Services>(
     depth: u64,
     state: &mut State,
     svc: &mut S,
-) -> Result<Flow, Stop>
+) -> Result<Flow, EvalStop>
     requires open { IsSome (S.stands svc.old).begun }
     requires here { IsHere codes.old here.now }
     requires safe { IsSafe (next_step here.now.code.now here.now.fun (spot here.now e.now) (next.Visit (record { code = here.now.code.now; entry = f.now; args = args })) (joined state.old (S.stands svc.old))).asks }
@@ -490,7 +490,7 @@ fn visit_here<S: Services>(
     ensures begun { (S.stands svc.new).begun ≡ (S.stands svc.old).begun }
 {
     let Some(fun) = place_of(f, here.code.get().funs.as_slice()) else {
-        return Err(Stop::Wrong);
+        return Err(EvalStop::Wrong);
     };
     let (code, number) = (here.code, here.number);
     let flow = enter(alloc, codes, code, number, fun, args, depth, state, svc);
@@ -510,7 +510,7 @@ fn binding<S: Services>(
     depth: u64,
     state: &mut State,
     svc: &mut S,
-) -> Result<Flow, Stop>
+) -> Result<Flow, EvalStop>
     requires form { (t : Ty) × (out-Expr e.now ≡ Expr-F.Let x.now t a.now b.now) }
     requires open { IsSome (S.stands svc.old).begun }
     requires here { IsHere codes.old here.now }
@@ -545,7 +545,7 @@ fn under_name<S: Services>(
     depth: u64,
     state: &mut State,
     svc: &mut S,
-) -> Result<Flow, Stop>
+) -> Result<Flow, EvalStop>
     requires open { IsSome (S.stands svc.old).begun }
     requires here { IsHere codes.old here.now }
     requires safe { IsSafe (meaning here.now.code.now here.now.fun (named_spot here.now x.now v.now b.now).env b.now (joined state.old (S.stands svc.old))).asks }
@@ -578,7 +578,7 @@ pub fn proceed<S: Services>(
     depth: u64,
     state: &mut State,
     svc: &mut S,
-) -> Result<Flow, Stop>
+) -> Result<Flow, EvalStop>
     requires open { IsSome (S.stands svc.old).begun }
     requires here { IsHere codes.old here.now }
     requires safe { IsSafe (next_step here.now.code.now here.now.fun (spot here.now e.now) first (joined state.old (S.stands svc.old))).asks }
@@ -611,7 +611,7 @@ fn advance<S: Services>(
     depth: u64,
     state: &mut State,
     svc: &mut S,
-) -> Result<Turn, Stop>
+) -> Result<Turn, EvalStop>
     requires open { IsSome (S.stands svc.old).begun }
     requires here { IsHere codes.old here.now }
     requires safe { IsSafe (next_step here.now.code.now here.now.fun (spot here.now e.now) now (joined state.old (S.stands svc.old))).asks }
@@ -653,7 +653,7 @@ fn opened<S: Services>(
     depth: u64,
     state: &mut State,
     svc: &mut S,
-) -> Result<Turn, Stop>
+) -> Result<Turn, EvalStop>
     requires open { IsSome (S.stands svc.old).begun }
     requires here { IsHere codes.old here.now }
     requires safe { IsSafe (next_step here.now.code.now here.now.fun (spot here.now e.now) (next.Open frame) (joined state.old (S.stands svc.old))).asks }
@@ -666,7 +666,7 @@ fn opened<S: Services>(
     ensures begun { (S.stands svc.new).begun ≡ (S.stands svc.old).begun }
 {
     let Some(part) = part_or_self(e, &frame) else {
-        return Err(Stop::Wrong);
+        return Err(EvalStop::Wrong);
     };
     if is_bound(&frame) {
         return Ok(Turn::End(pause_in(alloc, frame)?));
@@ -687,7 +687,7 @@ fn enter<S: Services>(
     depth: u64,
     state: &mut State,
     svc: &mut S,
-) -> Result<Flow, Stop>
+) -> Result<Flow, EvalStop>
     requires open { IsSome (S.stands svc.old).begun }
     requires program { slice_get codes.old number ≡ Some code.now }
     requires safe { IsSafe (entered meaning code.now fun args (joined state.old (S.stands svc.old))).asks }
@@ -698,10 +698,10 @@ fn enter<S: Services>(
     ensures begun { (S.stands svc.new).begun ≡ (S.stands svc.old).begun }
 {
     let Some(function) = code.get().funs.get(fun) else {
-        return Err(Stop::Wrong);
+        return Err(EvalStop::Wrong);
     };
     if function.params.len() != args.len() {
-        return Err(Stop::Wrong);
+        return Err(EvalStop::Wrong);
     }
     let flow = body_flow(
         alloc, codes, code, number, fun, function, &args, depth, state, svc,
@@ -722,7 +722,7 @@ fn body_flow<S: Services>(
     depth: u64,
     state: &mut State,
     svc: &mut S,
-) -> Result<Flow, Stop>
+) -> Result<Flow, EvalStop>
     requires open { IsSome (S.stands svc.old).begun }
     requires program { slice_get codes.old number ≡ Some code.now }
     requires function { slice_get code.now.funs fun ≡ Some function.now }
@@ -758,7 +758,7 @@ fn visit<S: Services>(
     depth: u64,
     state: &mut State,
     svc: &mut S,
-) -> Result<Flow, Stop>
+) -> Result<Flow, EvalStop>
     requires open { IsSome (S.stands svc.old).begun }
     requires safe { IsSafe (visited meaning chunk (joined state.old (S.stands svc.old))).asks }
     ensures enters { Enters codes.new (visited meaning chunk (joined state.old (S.stands svc.old))) result (joined state.new (S.stands svc.new)) }
@@ -769,7 +769,7 @@ fn visit<S: Services>(
 {
     let Chunk { code, entry, args } = chunk;
     let Some(fun) = place_of(&entry, code.get().funs.as_slice()) else {
-        return Err(Stop::Wrong);
+        return Err(EvalStop::Wrong);
     };
     let number = open_code(codes, &code)?;
     enter(alloc, codes, &code, number, fun, args, depth, state, svc)

@@ -7,7 +7,7 @@ ghost use Rattle.eval_steps.specs.declared.stack_frame.Mode.TheVariants as mode;
 ghost use Rattle.plan_base.specs.declared.tree.Program.{Program as Code};
 ghost use Rattle.plan_base.specs.declared.tree.Value.{Value as AValue};
 ghost use Rattle.plan_meaning.specs.State.{VisitState};
-ghost use Rattle.plan_meaning.specs.Run.{Step};
+ghost use Rattle.plan_meaning.specs.Run.{RunStep};
 ghost use Rattle.plan_eval.specs.Direct.{Flows, Grows, Lasts, Performs, Spends, task_step};
 ghost use Rattle.eval_steps.specs.Stack.{Spot, spot_in, ended, all_ended, AreLinked, stands_for};
 ghost use Rattle.plan_eval.specs.Turns.{Stands, Turned, load};
@@ -18,14 +18,18 @@ use crate::task::{Task, perform};
 use eval_steps::{Activation, Activations, Codes, Mode, expr_from};
 use plan_base::{Exn, Value};
 use plan_items::Items;
-use plan_meaning::Stop;
+use plan_meaning::EvalStop;
 use service_api::Services;
 use std::alloc::Global;
 use visit_state::State;
 
 /// What came of the innermost expression, on the stack.
-fn landed(outer: &mut Activations, top: Activation, flow: Result<Flow, Stop>) -> Result<Mode, Stop>
-    ensures turned { (codes : List Code) (code : Code) (at : Spot) (want : Step AValue) (s : VisitState) → Stands codes outer.old top code at
+fn landed(
+    outer: &mut Activations,
+    top: Activation,
+    flow: Result<Flow, EvalStop>,
+) -> Result<Mode, EvalStop>
+    ensures turned { (codes : List Code) (code : Code) (at : Spot) (want : RunStep AValue) (s : VisitState) → Stands codes outer.old top code at
         → Flows codes code top.fun at want flow s → Turned (all_ended codes outer.old (ended codes top want)) result codes outer.new s }
     ensures shrinks { (depth old new : ℕ) → 0 < depth → Spends depth old flow new
         → IfOk result (λ how. load how outer.new new < load mode.Run (outer.old ++ top ∷ []) old) }
@@ -44,13 +48,13 @@ fn landed(outer: &mut Activations, top: Activation, flow: Result<Flow, Stop>) ->
             stacked(outer, top, rest)?;
             Ok(Mode::Run)
         }
-        Err(Stop::Raised(x)) => {
+        Err(EvalStop::Raised(x)) => {
             outer.add(top)?;
             Ok(Mode::Raise(x))
         }
-        Err(Stop::WorkSpent) => Err(Stop::WorkSpent),
-        Err(Stop::Wrong) => Err(Stop::Wrong),
-        Err(Stop::NoMemory) => Err(Stop::NoMemory),
+        Err(EvalStop::WorkSpent) => Err(EvalStop::WorkSpent),
+        Err(EvalStop::Wrong) => Err(EvalStop::Wrong),
+        Err(EvalStop::NoMemory) => Err(EvalStop::NoMemory),
     }
 }
 
@@ -63,7 +67,7 @@ fn run_top<S: Services>(
     task: Task,
     state: &mut State,
     svc: &mut S,
-) -> Result<Flow, Stop>
+) -> Result<Flow, EvalStop>
     requires open { IsSome (S.stands svc.old).begun }
     requires linked { IsSome (spot_in codes.old top.now) }
     requires safe { (code : Code) (at : Spot) → slice_get codes.old top.now.code ≡ Some code → spot_in codes.old top.now ≡ Some at
@@ -76,14 +80,14 @@ fn run_top<S: Services>(
     ensures begun { (S.stands svc.new).begun ≡ (S.stands svc.old).begun }
 {
     let Some(shared) = codes.get(top.code) else {
-        return Err(Stop::Wrong);
+        return Err(EvalStop::Wrong);
     };
     let code = shared.share()?;
     let Some(function) = code.get().funs.get(top.fun) else {
-        return Err(Stop::Wrong);
+        return Err(EvalStop::Wrong);
     };
     let Some(expr) = expr_from(&function.body, top.frames.as_slice()) else {
-        return Err(Stop::Wrong);
+        return Err(EvalStop::Wrong);
     };
     let none = Items::new(alloc);
     let here = Here {
@@ -106,7 +110,7 @@ fn begin<S: Services>(
     top: Activation,
     state: &mut State,
     svc: &mut S,
-) -> Result<Mode, Stop>
+) -> Result<Mode, EvalStop>
     requires open { IsSome (S.stands svc.old).begun }
     requires linked { AreLinked codes.old (outer.old ++ top ∷ []) }
     requires safe { IsSafe (stands_for codes.old (outer.old ++ top ∷ []) mode.Run (joined state.old (S.stands svc.old))).asks }
@@ -128,7 +132,7 @@ fn give<S: Services>(
     v: Value,
     state: &mut State,
     svc: &mut S,
-) -> Result<Mode, Stop>
+) -> Result<Mode, EvalStop>
     requires open { IsSome (S.stands svc.old).begun }
     requires linked { AreLinked codes.old (outer.old ++ top ∷ []) }
     requires safe { IsSafe (stands_for codes.old (outer.old ++ top ∷ []) (mode.Give v) (joined state.old (S.stands svc.old))).asks }
@@ -154,7 +158,7 @@ fn raise<S: Services>(
     x: Exn,
     state: &mut State,
     svc: &mut S,
-) -> Result<Mode, Stop>
+) -> Result<Mode, EvalStop>
     requires open { IsSome (S.stands svc.old).begun }
     requires linked { AreLinked codes.old (outer.old ++ top ∷ []) }
     requires safe { IsSafe (stands_for codes.old (outer.old ++ top ∷ []) (mode.Raise x) (joined state.old (S.stands svc.old))).asks }
@@ -180,7 +184,7 @@ fn turn<S: Services>(
     how: Mode,
     state: &mut State,
     svc: &mut S,
-) -> Result<Mode, Stop>
+) -> Result<Mode, EvalStop>
     requires open { IsSome (S.stands svc.old).begun }
     requires linked { AreLinked codes.old (outer.old ++ top ∷ []) }
     requires safe { IsSafe (stands_for codes.old (outer.old ++ top ∷ []) how (joined state.old (S.stands svc.old))).asks }
@@ -203,7 +207,7 @@ pub fn run<S: Services>(
     activations: Activations,
     state: &mut State,
     svc: &mut S,
-) -> Result<Value, Stop>
+) -> Result<Value, EvalStop>
     requires open { IsSome (S.stands svc.old).begun }
     requires linked { AreLinked codes activations }
     requires safe { IsSafe (stands_for codes activations mode.Run (joined state.old (S.stands svc.old))).asks }
@@ -222,7 +226,7 @@ pub fn run<S: Services>(
     }
     match how {
         Mode::Give(v) => Ok(v),
-        Mode::Raise(x) => Err(Stop::Raised(x)),
-        Mode::Run => Err(Stop::Wrong),
+        Mode::Raise(x) => Err(EvalStop::Raised(x)),
+        Mode::Run => Err(EvalStop::Wrong),
     }
 }

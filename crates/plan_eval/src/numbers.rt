@@ -11,7 +11,7 @@ ghost use Rattle.plan_eval.specs.Direct.{Flows, Lasts};
 
 use crate::rest::Flow;
 use plan_base::{Op, Value};
-use plan_meaning::Stop;
+use plan_meaning::EvalStop;
 use visit_state::State;
 
 /// The number that an operator gives of two numbers, where it gives one.
@@ -81,26 +81,26 @@ pub fn order_given(op: Op, x: &Value, y: &Value) -> Option<bool>
 
 /// Ends with a number, once its weight is spent.
 #[tactic(auto, using(crate::proofs::Hot::weighs_nine, crate::proofs::Hot::stops_nine))]
-pub fn ended_by_number(n: i64, state: &mut State) -> Result<Flow, Stop>
+pub fn ended_by_number(n: i64, state: &mut State) -> Result<Flow, EvalStop>
     ensures flows { (codes : List Code) (code : Code) (seen : ℕ) (at : Spot) (m : ServiceState)
         → Flows codes code seen at (weighed (value.Int n) (joined state.old m)) result (joined state.new m) }
     ensures lasts { Lasts 3 state.old.work result state.new.work }
 {
     if !state.pays(9) {
-        return Err(Stop::WorkSpent);
+        return Err(EvalStop::WorkSpent);
     }
     Ok(Flow::Done(Value::Int(n)))
 }
 
 /// Ends with a truth value, once its weight is spent.
 #[tactic(auto, using(crate::proofs::Hot::weighs_two, crate::proofs::Hot::stops_two))]
-pub fn ended_by_test(b: bool, state: &mut State) -> Result<Flow, Stop>
+pub fn ended_by_test(b: bool, state: &mut State) -> Result<Flow, EvalStop>
     ensures flows { (codes : List Code) (code : Code) (seen : ℕ) (at : Spot) (m : ServiceState)
         → Flows codes code seen at (weighed (value.Bool b) (joined state.old m)) result (joined state.new m) }
     ensures lasts { Lasts 3 state.old.work result state.new.work }
 {
     if !state.pays(2) {
-        return Err(Stop::WorkSpent);
+        return Err(EvalStop::WorkSpent);
     }
     Ok(Flow::Done(Value::Bool(b)))
 }

@@ -5,9 +5,9 @@ ghost use Rattle.plan_base.specs.declared.tree.Program.{Program};
 ghost use Rattle.plan_base.specs.declared.tree.Value.{Value};
 ghost use Rattle.plan_base.specs.declared.tree.Value as value;
 ghost use Rattle.service_api.specs.Services.{ServiceState};
-ghost use Rattle.plan_meaning.specs.declared.stop.Stop.TheVariants as stops;
+ghost use Rattle.plan_meaning.specs.declared.stop.EvalStop.TheVariants as stops;
 ghost use Rattle.plan_meaning.specs.State.{VisitState, joined};
-ghost use Rattle.plan_meaning.specs.Run.{Step, gave, stopped, weighed};
+ghost use Rattle.plan_meaning.specs.Run.{RunStep, gave, stopped, weighed};
 ghost use Rattle.plan_meaning.specs.Meaning.{Env, meaning};
 ghost use Rattle.eval_steps.specs.declared.stack_frame.StackFrame.TheVariants as frame;
 ghost use Rattle.eval_steps.specs.Stack.{Spot, deeper, resume};
@@ -20,13 +20,13 @@ use crate::numbers::{ended_by_number, ended_by_test, number_given, order_given};
 use crate::rest::{Flow, inside};
 use eval_steps::behind_one;
 use plan_base::{Op, Value};
-use plan_meaning::Stop;
+use plan_meaning::EvalStop;
 use std::alloc::Global;
 use visit_state::{State, binary, cons};
 
 /// What an operator gives of two values, which isn't weighed yet.
 #[tactic(auto, using(eval_steps::proofs::Gathering::list_gives, eval_steps::proofs::Gathering::list_stops, eval_steps::proofs::Gathering::operator_gives, eval_steps::proofs::Gathering::operator_stops))]
-fn computed(alloc: Global, op: Op, x: Value, v: Value) -> Result<Value, Stop>
+fn computed(alloc: Global, op: Op, x: Value, v: Value) -> Result<Value, EvalStop>
     ensures { (code : Program) (seen : ℕ) (e a b : Expr) (env : Env) (s : VisitState) → out-Expr e ≡ Expr-F.Binary op a b
         → Carries (part_gave code seen (record { expr = e; env = env }) 1 (x ∷ []) v s) (λ w. weighed w s) result s }
 {
@@ -44,7 +44,7 @@ fn operate_values(
     x: Value,
     v: Value,
     state: &mut State,
-) -> Result<Flow, Stop>
+) -> Result<Flow, EvalStop>
     ensures flows { (codes : List Program) (code : Program) (seen : ℕ) (e a b : Expr) (env : Env) (m : ServiceState) → out-Expr e ≡ Expr-F.Binary op a b
         → Flows codes code seen (record { expr = e; env = env })
         (part_gave code seen (record { expr = e; env = env }) 1 (x ∷ []) v (joined state.old m)) result (joined state.new m) }
@@ -57,7 +57,7 @@ fn operate_values(
 }
 
 /// Both operands gave values.
-fn operate(alloc: Global, op: Op, x: Value, v: Value, state: &mut State) -> Result<Flow, Stop>
+fn operate(alloc: Global, op: Op, x: Value, v: Value, state: &mut State) -> Result<Flow, EvalStop>
     ensures flows { (codes : List Program) (code : Program) (seen : ℕ) (e a b : Expr) (env : Env) (m : ServiceState) → out-Expr e ≡ Expr-F.Binary op a b
         → Flows codes code seen (record { expr = e; env = env })
         (part_gave code seen (record { expr = e; env = env }) 1 (x ∷ []) v (joined state.old m)) result (joined state.new m) }
@@ -91,17 +91,17 @@ fn number_paid(state: &mut State) -> bool
 }
 
 /// Both operands are numbers that are at hand.
-pub fn numbers(alloc: Global, op: Op, x: i64, y: i64, state: &mut State) -> Result<Flow, Stop>
+pub fn numbers(alloc: Global, op: Op, x: i64, y: i64, state: &mut State) -> Result<Flow, EvalStop>
     ensures flows { (codes : List Program) (code : Program) (seen : ℕ) (e a b : Expr) (env : Env) (m : ServiceState) → out-Expr e ≡ Expr-F.Binary op a b
         → IsNumber code seen (record { expr = a; env = env }) x → IsNumber code seen (record { expr = b; env = env }) y
         → Flows codes code seen (record { expr = e; env = env }) (begins code seen (record { expr = e; env = env }) (joined state.old m)) result (joined state.new m) }
     ensures lasts { Lasts 3 state.old.work result state.new.work }
 {
     if !number_paid(state) {
-        return Err(Stop::WorkSpent);
+        return Err(EvalStop::WorkSpent);
     }
     if !number_paid(state) {
-        return Err(Stop::WorkSpent);
+        return Err(EvalStop::WorkSpent);
     }
     operate(alloc, op, Value::Int(x), Value::Int(y), state)
 }
@@ -111,10 +111,10 @@ pub fn operands_back(
     alloc: Global,
     op: Op,
     x: Value,
-    flow: Result<Flow, Stop>,
+    flow: Result<Flow, EvalStop>,
     state: &mut State,
-) -> Result<Flow, Stop>
-    ensures flows { (codes : List Program) (code : Program) (seen : ℕ) (e a b : Expr) (env : Env) (inner : Spot) (c : Step Value) (m : ServiceState) → out-Expr e ≡ Expr-F.Binary op a b
+) -> Result<Flow, EvalStop>
+    ensures flows { (codes : List Program) (code : Program) (seen : ℕ) (e a b : Expr) (env : Env) (inner : Spot) (c : RunStep Value) (m : ServiceState) → out-Expr e ≡ Expr-F.Binary op a b
         → deeper (record { expr = e; env = env }) (frame.Part 1 (x ∷ [])) ≡ Some inner
         → Flows codes code seen inner c flow (joined state.old m)
         → Flows codes code seen (record { expr = e; env = env }) (resume code seen (record { expr = e; env = env }) (frame.Part 1 (x ∷ [])) c) result (joined state.new m) }

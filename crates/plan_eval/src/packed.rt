@@ -1,7 +1,6 @@
 //! Chunks of the program that evaluates them, which are not made.
 ghost use Rattle.std.specs.Prelude.{◌≡◌, ◌≤◌, ℕ, [], min};
-ghost use Rattle.std.specs.List.{sum_by};
-ghost use Rattle.plan_base.specs.Sizes.{largest_by, weight, nesting};
+ghost use Rattle.plan_base.specs.Sizes.{weight, nesting};
 ghost use Rattle.plan_base.specs.declared.tree.Expr.{Expr, Expr-F, out-Expr};
 ghost use Rattle.plan_base.specs.declared.tree.Value as value;
 ghost use Rattle.service_api.specs.Services.{ServiceState};
@@ -16,32 +15,10 @@ ghost use Rattle.eval_steps.specs.Leads.{Carries};
 
 use plan_base::{Name, Program, Value};
 use plan_items::Shared;
-use plan_meaning::Stop;
-use plan_sizes::{code_size, nesting, weight};
+use plan_meaning::EvalStop;
+use plan_sizes::{code_size, values_nesting, values_weight};
 use std::alloc::Global;
 use visit_state::{State, Weighing, too_large};
-
-/// What values weigh in sum.
-fn weights(values: &[Value]) -> u64
-    ensures { result ≡ min (sum_by weight values.now) 18446744073709551615 }
-{
-    let mut total = 0u64;
-    for v in values {
-        total = total.saturating_add(weight(v));
-    }
-    total
-}
-
-/// How many chunks stand inside each other in values.
-fn deepest(values: &[Value]) -> u32
-    ensures { result ≡ min (largest_by nesting values.now) 4294967295 }
-{
-    let mut most = 0u32;
-    for v in values {
-        most = most.max(nesting(v));
-    }
-    most
-}
 
 /// What a chunk weighs as a value.
 #[tactic(auto, using(plan_base::proofs::SizeLaws::weight_out, plan_base::proofs::SizeLaws::chunk_weight_is, plan_base::specs::Trees::trees))]
@@ -51,7 +28,7 @@ fn packed_weight(code: &Program, entry: &Name, args: &[Value]) -> u64
     let name = entry.as_slice().len() as u64;
     code_size(code)
         .saturating_add(name)
-        .saturating_add(weights(args))
+        .saturating_add(values_weight(args))
         .saturating_add(3)
 }
 
@@ -60,7 +37,7 @@ fn packed_weight(code: &Program, entry: &Name, args: &[Value]) -> u64
 fn packed_nesting(code: &Program, entry: &Name, args: &[Value]) -> u32
     ensures { result ≡ min (nesting (value.Chunk (record { code = code.now; entry = entry.now; args = args.now }))) 4294967295 }
 {
-    deepest(args).saturating_add(1)
+    values_nesting(args).saturating_add(1)
 }
 
 /// Weighs a chunk, and pays for its eval.
@@ -70,7 +47,7 @@ pub fn pay_packed(
     entry: &Name,
     args: &[Value],
     state: &mut State,
-) -> Result<(), Stop>
+) -> Result<(), EvalStop>
     ensures pays { (seen : ℕ) (e a : Expr) (env : Env) (n : ServiceState) → out-Expr e ≡ Expr-F.Eval a
         → Carries (resume code.now seen (record { expr = e; env = env }) (frame.Part 0 [])
         (weighed (value.Chunk (record { code = code.now; entry = entry.now; args = args.now })) (joined state.old n)))
@@ -82,7 +59,7 @@ pub fn pay_packed(
     let deep = packed_nesting(code.get(), entry, args);
     match state.weighs_as(size, deep) {
         Weighing::Paid => state.pay_eval(alloc),
-        Weighing::Spent => Err(Stop::WorkSpent),
+        Weighing::Spent => Err(EvalStop::WorkSpent),
         Weighing::TooLarge => Err(too_large(alloc)),
     }
 }

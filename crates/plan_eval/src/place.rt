@@ -3,7 +3,7 @@ ghost use Rattle.std.specs.Prelude.{◌≡◌, None, IfOk, IsTrue, IsFalse, opti
 ghost use Rattle.plan_eval.specs.Direct.{Grows};
 ghost use Rattle.plan_eval.specs.Turns.{IsPlaced};
 ghost use Rattle.plan_eval.specs.Turns.{argument_of};
-ghost use Rattle.plan_meaning.specs.declared.stop.Stop.TheVariants.{Wrong};
+ghost use Rattle.plan_meaning.specs.declared.stop.EvalStop.TheVariants.{Wrong};
 ghost use Rattle.plan_meaning.specs.State.{VisitState};
 ghost use Rattle.plan_meaning.specs.Run.{stopped};
 ghost use Rattle.plan_meaning.specs.Meaning.{entered, meaning};

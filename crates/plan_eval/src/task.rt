@@ -3,7 +3,7 @@ ghost use Rattle.std.specs.Prelude.{◌≡◌, IsSome};
 ghost use Rattle.plan_meaning.specs.State.{joined};
 ghost use Rattle.plan_meaning.specs.Run.{gave, quiet, stopped};
 ghost use Rattle.plan_meaning.specs.Safe.{IsSafe};
-ghost use Rattle.plan_meaning.specs.declared.stop.Stop.TheVariants.{Raised};
+ghost use Rattle.plan_meaning.specs.declared.stop.EvalStop.TheVariants.{Raised};
 ghost use Rattle.eval_steps.specs.Stack.{resume};
 ghost use Rattle.plan_eval.specs.Direct.{spot, IsHere, Flows, Grows, Lasts, Performs, task_step};
 
@@ -12,7 +12,7 @@ use crate::here::Here;
 use crate::rest::Flow;
 use eval_steps::{Codes, StackFrame, frame_given, frame_raised};
 use plan_base::{Exn, Expr, Value};
-use plan_meaning::Stop;
+use plan_meaning::EvalStop;
 use service_api::Services;
 use std::alloc::Global;
 use visit_state::State;
@@ -41,7 +41,7 @@ fn give<S: Services>(
     v: Value,
     state: &mut State,
     svc: &mut S,
-) -> Result<Flow, Stop>
+) -> Result<Flow, EvalStop>
     requires open { IsSome (S.stands svc.old).begun }
     requires here { IsHere codes.old here.now }
     requires safe { IsSafe (resume here.now.code.now here.now.fun (spot here.now e.now) frame (quiet (gave v (joined state.old (S.stands svc.old))))).asks }
@@ -69,7 +69,7 @@ fn raise<S: Services>(
     x: Exn,
     state: &mut State,
     svc: &mut S,
-) -> Result<Flow, Stop>
+) -> Result<Flow, EvalStop>
     requires open { IsSome (S.stands svc.old).begun }
     requires here { IsHere codes.old here.now }
     requires safe { IsSafe (resume here.now.code.now here.now.fun (spot here.now e.now) frame.now (quiet (stopped (Raised x) (joined state.old (S.stands svc.old))))).asks }
@@ -96,7 +96,7 @@ pub fn perform<S: Services>(
     task: Task,
     state: &mut State,
     svc: &mut S,
-) -> Result<Flow, Stop>
+) -> Result<Flow, EvalStop>
     requires open { IsSome (S.stands svc.old).begun }
     requires here { IsHere codes.old here.now }
     requires safe { IsSafe (task_step here.now.code.now here.now.fun (spot here.now e.now) task (joined state.old (S.stands svc.old))).asks }

@@ -19,7 +19,7 @@ use eval_steps::{Activation, Activations, Codes};
 use plan_base::{Chunk, Family, NoMemory, Value};
 use plan_copies::copy_values;
 use plan_items::Items;
-use plan_meaning::{Outcome, Stop, Visit};
+use plan_meaning::{EvalStop, Outcome, Visit};
 use service_api::{Ctx, Services};
 use std::alloc::Global;
 use typing_rules::place_of;
@@ -68,7 +68,7 @@ fn visited<S: Services>(
     chunk: &Chunk,
     state: &mut State,
     svc: &mut S,
-) -> Result<Value, Stop>
+) -> Result<Value, EvalStop>
     requires open { IsSome (S.stands svc.old).begun }
     requires safe { IsSafe (visited meaning chunk.now (joined state.old (S.stands svc.old))).asks }
     ensures meets { Meets (visited meaning chunk.now (joined state.old (S.stands svc.old))) result (joined state.new (S.stands svc.new)) }
@@ -76,10 +76,10 @@ fn visited<S: Services>(
     ensures begun { (S.stands svc.new).begun ≡ (S.stands svc.old).begun }
 {
     let Some(fun) = place_of(&chunk.entry, chunk.code.get().funs.as_slice()) else {
-        return Err(Stop::Wrong);
+        return Err(EvalStop::Wrong);
     };
     if !enters(&chunk.code, fun, &chunk.args) {
-        return Err(Stop::Wrong);
+        return Err(EvalStop::Wrong);
     }
     let codes = first_codes(alloc, chunk)?;
     let activations = first_activation(alloc, chunk, fun)?;
@@ -109,10 +109,10 @@ fn visit_chunk<S: Services>(
     let mut state = State::new(alloc, around, family, ALLOWANCE);
     match visited(alloc, chunk, &mut state, svc) {
         Ok(v) => Ok(state.ended(Outcome::Value(v))),
-        Err(Stop::Raised(x)) => Ok(state.ended(Outcome::Raised(x))),
-        Err(Stop::WorkSpent) => Ok(spent(alloc, bound)),
-        Err(Stop::NoMemory) => Err(NoMemory),
-        Err(Stop::Wrong) => unreachable!(),
+        Err(EvalStop::Raised(x)) => Ok(state.ended(Outcome::Raised(x))),
+        Err(EvalStop::WorkSpent) => Ok(spent(alloc, bound)),
+        Err(EvalStop::NoMemory) => Err(NoMemory),
+        Err(EvalStop::Wrong) => unreachable!(),
     }
 }
 

@@ -111,8 +111,8 @@ module _ (inner : Level → Reader Node) (room : ℕ) where
     Ok (over_list (x.Call name (trees args.0)) at args.0, args.1)
 
   -- a name: a call where a bracket stands behind it, else a variable
-  unfoldable pub named : Reader Node
-  named f = do
+  unfoldable pub name_operand : Reader Node
+  name_operand f = do
     name ← name_at f
     if is_symbol symbols.ParenOpen name.1 then call name.0 (place f) name.1 else Ok (leaf (x.Var name.0) (place f), name.1)
 
@@ -342,7 +342,7 @@ module _ (inner : Level → Reader Node) (room : ℕ) where
 
   -- what a token begins
   abbrev pub operand_kind : Front → Option TokenKind → Result (Node × Front) ParseFault
-  operand_kind f (Some (kinds.Word _)) = named f
+  operand_kind f (Some (kinds.Word _)) = name_operand f
   operand_kind f (Some (kinds.Key k)) = key_form k f
   operand_kind f (Some (kinds.Symbol s)) = symbol_form s f
   operand_kind f (Some (kinds.Part i)) = picked i f

@@ -11,7 +11,7 @@ use Rattle.plan_grammar.specs.declared.start.Start.TheVariants as starts
 use Rattle.plan_grammar.specs.declared.level.Level.{Level}
 use Rattle.plan_grammar.specs.declared.node.Node.{Node}
 use Rattle.plan_grammar.specs.Ahead.{Reader, next_kind}
-use Rattle.plan_grammar.specs.Exprs.{literal, literal_from, named, let_form, try_form, raise_form, foldl_form, foldr_form, eval_form, remote_form, neighbor_form, parens, brackets, chunk, picked}
+use Rattle.plan_grammar.specs.Exprs.{literal, literal_from, name_operand, let_form, try_form, raise_form, foldl_form, foldr_form, eval_form, remote_form, neighbor_form, parens, brackets, chunk, picked}
 
 -- what a reserved word begins
 abbrev pub key_start : Key → Start
@@ -42,7 +42,7 @@ start_of _ = starts.Literal
 
 -- an operand that begins so
 abbrev pub start_at : (Level → Reader Node) → ℕ → Start → Reader Node
-start_at inner room starts.AName f = named inner room f
+start_at inner room starts.AName f = name_operand inner room f
 start_at inner room starts.Let f = let_form inner room f
 start_at inner room starts.Try f = try_form inner room f
 start_at inner room starts.Raise f = raise_form inner room f

@@ -31,9 +31,9 @@ more one begins sep limit what (suc left) done f =
     if is_symbol sep f then (one (behind f) >>= λ x. more one begins sep limit what left (done ++ x.0 ∷ []) x.1) else Ok (done, f)
 
 -- a type that one token names
-abbrev pub named : Front → Option Ty → Result (Ty × Front) ParseFault
-named f (Some t) = Ok (t, behind f)
-named f None = Err (Expected wanted.AType (place f))
+abbrev pub type_or_fault : Front → Option Ty → Result (Ty × Front) ParseFault
+type_or_fault f (Some t) = Ok (t, behind f)
+type_or_fault f None = Err (Expected wanted.AType (place f))
 
 -- how often the word `list` stands next
 abbrev pub is_list_word : Token → Bool
@@ -82,7 +82,7 @@ module _ (inner : Reader Ty) (room : ℕ) where
 
   -- what stands before the words `list`
   unfoldable pub base_type : Reader Ty
-  base_type f = if is_symbol symbols.ParenOpen f then group_type f else named f (kind_type (next_kind f))
+  base_type f = if is_symbol symbols.ParenOpen f then group_type f else type_or_fault f (kind_type (next_kind f))
 
   -- a whole type
   unfoldable pub whole_type : Reader Ty

@@ -103,10 +103,10 @@ impl<F: Fn(Global, u32, Level, &mut Ahead<'_>) -> Result<Node, ParseFault>> Expr
     }
 
     /// A name: a call where a bracket stands behind it, else a variable.
-    #[tactic(auto, unfolding(crate::specs::Exprs::named))]
-    pub fn named(&self, ahead: &mut Ahead<'_>) -> Result<Node, ParseFault>
+    #[tactic(auto, unfolding(crate::specs::Exprs::name_operand))]
+    pub fn name_operand(&self, ahead: &mut Ahead<'_>) -> Result<Node, ParseFault>
         requires { ReadsExprs self.now.room (F.pre self.now.read) (F.post self.now.read) }
-        ensures { Gives (spec.named (expr_to self.now.room) self.now.room ahead.old) result ahead.new }
+        ensures { Gives (spec.name_operand (expr_to self.now.room) self.now.room ahead.old) result ahead.new }
     {
         let at = ahead.place();
         let name = name_at(self.alloc, ahead)?;

@@ -43,7 +43,7 @@ impl<F: Fn(Global, u32, Level, &mut Ahead<'_>) -> Result<Node, ParseFault>> Expr
         ensures { Gives (start_at (expr_to self.now.room) self.now.room start ahead.old) result ahead.new }
     {
         match start {
-            Start::AName => self.named(ahead),
+            Start::AName => self.name_operand(ahead),
             Start::Let => self.let_form(ahead),
             Start::Try => self.try_form(ahead),
             Start::Raise => raise_form(self.alloc, self.room, ahead),

@@ -3,7 +3,7 @@ ghost use Rattle.std.specs.Prelude.{ℕ, List, ◌≡◌, ◌+◌, ◌≤◌, []
 ghost use Rattle.plan_grammar.specs.Ahead.{Gives, Answers, next_kind};
 ghost use Rattle.plan_grammar.specs.Begins as begins;
 ghost use Rattle.plan_grammar.specs.Begins.{begins_type};
-ghost use Rattle.plan_grammar.specs.Types.{opens, past, more, named, list_words, behind_lists, lists_of, judged_type, type_to};
+ghost use Rattle.plan_grammar.specs.Types.{opens, past, more, type_or_fault, list_words, behind_lists, lists_of, judged_type, type_to};
 ghost use Rattle.plan_grammar.specs.Types as spec;
 ghost use Rattle.plan_grammar.specs.Inside.{ReadsTypes};
 ghost use Rattle.plan_grammar.specs.declared.fault.ParseFault.TheVariants.{TooDeep, NoMemory};
@@ -239,7 +239,7 @@ impl<F: Fn(Global, u32, &mut Ahead<'_>) -> Result<Ty, ParseFault>> TypeReader<F>
 
 /// A type that one token names.
 fn named_type(ahead: &mut Ahead<'_>) -> Result<Ty, ParseFault>
-    ensures { Gives (named ahead.old (begins.kind_type (next_kind ahead.old))) result ahead.new }
+    ensures { Gives (type_or_fault ahead.old (begins.kind_type (next_kind ahead.old))) result ahead.new }
 {
     let Some(t) = next_type(ahead) else {
         return Err(ParseFault::Expected(Wanted::AType, ahead.place()));

@@ -1,7 +1,7 @@
 -- The table of hex digits is what its bytes are worth.
 use Rattle.std.proofs.Common.{◌≡◌, ℕ, zero, suc, ◌+◌, ◌<◌, ◌≤◌, List, [], ◌∷◌, get_or, Option, None, Some, refl, ap, ◌∙◌, arith}
-use Rattle.std.proofs.lemmas.Bool.Decides.{nat_tests}
 use Rattle.plan_lexer.specs.CharItems.{hex_value}
+use Rattle.plan_lexer.proofs.RuleLemmas.{hex_small}
 
 abbrev pub digits_table : List ℕ
 digits_table =
@@ -44,17 +44,13 @@ table_at b h =
     let here : 0 + b ≡ b = omega arith in
     ap (λ (l : List ℕ). get_or l b 0) table_is ∙ counted_at 256 0 b (λ n. worth (hex_value n)) h ∙ ap (λ n. worth (hex_value n)) here
 
-value_small : (b v : ℕ) → hex_value b ≡ Some v → v < 16
-unfolding hex_value
-value_small b v e = grind (arith, nat_tests)
-
 read_by : (x : Option ℕ) (n : ℕ) → n ≡ worth x → n < 16 → Some n ≡ x
 read_by None n e h = absurd (omega (arith, e, h))
 read_by (Some v) n e h = ap Some e
 
 refused_by : (b n : ℕ) (x : Option ℕ) → hex_value b ≡ x → n ≡ worth x → 16 ≤ n → None ≡ x
 refused_by b n None is e h = refl
-refused_by b n (Some v) is e h = absurd (omega (arith, value_small b v is, e, h))
+refused_by b n (Some v) is e h = absurd (omega (arith, hex_small b v is, e, h))
 
 -- a digit by the table
 pub digit_read : (b : ℕ) → b < 256 → get_or digits_table b 0 < 16 → Some (get_or digits_table b 0) ≡ hex_value b

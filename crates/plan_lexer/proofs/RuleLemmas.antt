@@ -14,7 +14,7 @@ use Rattle.plan_lexer.proofs.ScanLemmas.{Toks-nil}
 use Rattle.plan_lexer.specs.declared.token.Token.{Token}
 use Rattle.plan_lexer.specs.declared.token.TokenKind.{TokenKind}
 
-hex_small : (b v : ℕ) → hex_value b ≡ Some v → v < 16
+pub hex_small : (b v : ℕ) → hex_value b ≡ Some v → v < 16
 unfolding hex_value
 hex_small b v e = grind (arith, nat_tests)
 

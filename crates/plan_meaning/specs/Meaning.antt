@@ -27,7 +27,7 @@ use Rattle.service_api.specs.declared.router.Hop.TheVariants.{To, NoService, NoR
 use Rattle.service_api.specs.Routes.{hop, own_device, default_route}
 use Rattle.plan_meaning.specs.declared.binding.Binding.{Binding}
 use Rattle.plan_meaning.specs.declared.sent.Sent.{Sent}
-use Rattle.plan_meaning.specs.declared.stop.Stop.TheVariants.{WorkSpent}
+use Rattle.plan_meaning.specs.declared.stop.EvalStop.TheVariants.{WorkSpent}
 use Rattle.plan_meaning.specs.State.{VisitState}
 use Rattle.plan_meaning.specs.Run.{Run, ◌>>=◌, ◌>>◌, pure, stop, raise, quiet, gave, or_wrong, wrong, given, rescue, whole, serve, sends}
 

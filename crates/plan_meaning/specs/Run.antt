@@ -10,14 +10,14 @@ use Rattle.service_api.specs.declared.answer.Note.{Note}
 use Rattle.service_api.specs.declared.answer.Answer.{Answer}
 use Rattle.service_api.specs.declared.answer.Answer.TheVariants.{Gives, Raises}
 use Rattle.service_api.specs.Services.{Served, ServiceState, served, called}
-use Rattle.plan_meaning.specs.declared.stop.Stop.{Stop}
-use Rattle.plan_meaning.specs.declared.stop.Stop.TheVariants.{Raised, WorkSpent, Wrong}
+use Rattle.plan_meaning.specs.declared.stop.EvalStop.{EvalStop}
+use Rattle.plan_meaning.specs.declared.stop.EvalStop.TheVariants.{Raised, WorkSpent, Wrong}
 use Rattle.plan_meaning.specs.State.{VisitState}
 
 -- a result with the state after it
 pub data After (A : Type 0) : Type 0 where
   gave : A → VisitState → After A
-  stopped : Stop → VisitState → After A
+  stopped : EvalStop → VisitState → After A
 
 -- what an evaluation asks of services and which chunks it sends; `never` stands where no case of the meaning applies
 pub data Asks : Type 0 where
@@ -27,20 +27,20 @@ pub data Asks : Type 0 where
   sends : Chunk → Asks
   both : Asks → Asks → Asks
 
-pub record Step (A : Type 0) : Type 0 where
+pub record RunStep (A : Type 0) : Type 0 where
   pub after : After A
   pub asks : Asks
 
 abbrev pub Run : Type 0 → Type 0
-Run A = VisitState → Step A
+Run A = VisitState → RunStep A
 
 -- ---- one after the other
 
-abbrev pub «next» : {A B : Type 0} → After A → (A → Run B) → Step B
+abbrev pub «next» : {A B : Type 0} → After A → (A → Run B) → RunStep B
 «next» (gave a s) f = f a s
 «next» (stopped e s) f = record { after = stopped e s; asks = nothing }
 
-abbrev pub and_then : {A B : Type 0} → Step A → (A → Run B) → Step B
+abbrev pub and_then : {A B : Type 0} → RunStep A → (A → Run B) → RunStep B
 and_then r f = record { after = («next» r.after f).after; asks = both r.asks («next» r.after f).asks }
 
 infixl 10 ◌>>=◌
@@ -51,13 +51,13 @@ infixl 10 ◌>>◌
 abbrev pub ◌>>◌ : {A B : Type 0} → Run A → Run B → Run B
 p >> q = p >>= (λ _. q)
 
-abbrev pub quiet : {A : Type 0} → After A → Step A
+abbrev pub quiet : {A : Type 0} → After A → RunStep A
 quiet after = record { after = after; asks = nothing }
 
 abbrev pub pure : {A : Type 0} → A → Run A
 pure a = λ s. quiet (gave a s)
 
-abbrev pub stop : {A : Type 0} → Stop → Run A
+abbrev pub stop : {A : Type 0} → EvalStop → Run A
 stop e = λ s. quiet (stopped e s)
 
 abbrev pub raise : {A : Type 0} → Exn → Run A
@@ -78,11 +78,11 @@ given (raises x) = raise x
 given unfit = wrong
 
 -- an exception goes on as told, in the state that it left
-abbrev pub otherwise : {A : Type 0} → After A → (Exn → Run A) → Step A
+abbrev pub otherwise : {A : Type 0} → After A → (Exn → Run A) → RunStep A
 otherwise (stopped (Raised x) s) f = f x s
 otherwise after f = quiet after
 
-abbrev pub rescued : {A : Type 0} → Step A → (Exn → Run A) → Step A
+abbrev pub rescued : {A : Type 0} → RunStep A → (Exn → Run A) → RunStep A
 rescued r f = record { after = (otherwise r.after f).after; asks = both r.asks (otherwise r.after f).asks }
 
 abbrev pub rescue : {A : Type 0} → Run A → (Exn → Run A) → Run A

@@ -10,10 +10,10 @@ use Rattle.service_api.specs.declared.answer.Note.{Note}
 use Rattle.service_api.specs.Services.{IsGoodValue, IsGoodChunk, AreGoodValues, IsGoodNote, IsGood}
 use Rattle.plan_meaning.specs.declared.binding.Binding.{Binding}
 use Rattle.plan_meaning.specs.declared.sent.Sent.{Sent}
-use Rattle.plan_meaning.specs.declared.stop.Stop.{Stop}
-use Rattle.plan_meaning.specs.declared.stop.Stop.TheVariants.{Wrong}
+use Rattle.plan_meaning.specs.declared.stop.EvalStop.{EvalStop}
+use Rattle.plan_meaning.specs.declared.stop.EvalStop.TheVariants.{Wrong}
 use Rattle.plan_meaning.specs.State.{VisitState}
-use Rattle.plan_meaning.specs.Run.{After, gave, stopped, Asks, nothing, never, service, sends, both, Step, Run}
+use Rattle.plan_meaning.specs.Run.{After, gave, stopped, Asks, nothing, never, service, sends, both, RunStep, Run}
 
 -- services are asked only with good arguments of the declared types, only good chunks are sent, and no step is without a case
 abbrev pub IsSafe : Asks → Type 0
@@ -46,7 +46,7 @@ abbrev pub Holds : {A : Type 0} → (A → Type 0) → After A → Type 0
 Holds P (gave a s) = P a × IsGoodState s
 Holds P (stopped e s) = (e ≢ Wrong) × IsGoodState s
 
-pub record IsRight {A : Type 0} (P : A → Type 0) (r : Step A) : Type 0 where
+pub record IsRight {A : Type 0} (P : A → Type 0) (r : RunStep A) : Type 0 where
   pub safe : IsSafe r.asks
   pub holds : Holds P r.after
 

@@ -10,13 +10,13 @@ use Rattle.service_api.specs.declared.answer.Note.{Note}
 use Rattle.service_api.specs.declared.answer.Note.TheVariants.{Print, Port}
 use Rattle.service_api.specs.Services.{ServiceState, IsGoodValue}
 use Rattle.plan_meaning.specs.declared.sent.Sent.{Sent}
-use Rattle.plan_meaning.specs.declared.stop.Stop.{Stop}
-use Rattle.plan_meaning.specs.declared.stop.Stop.TheVariants as stop
+use Rattle.plan_meaning.specs.declared.stop.EvalStop.{EvalStop}
+use Rattle.plan_meaning.specs.declared.stop.EvalStop.TheVariants as stop
 use Rattle.plan_meaning.specs.declared.outcome.Outcome.{Outcome}
 use Rattle.plan_meaning.specs.declared.outcome.Outcome.TheVariants as outcome
 use Rattle.plan_meaning.specs.declared.outcome.Visit.{Visit}
 use Rattle.plan_meaning.specs.State.{VisitState}
-use Rattle.plan_meaning.specs.Run.{After, gave, stopped, Step}
+use Rattle.plan_meaning.specs.Run.{After, gave, stopped, RunStep}
 use Rattle.plan_meaning.specs.Meaning.{meaning, visited}
 
 -- the work that a visit may spend

@@ -11,4 +11,4 @@ mod stop;
 pub use binding::{Binding, Env};
 pub use outcome::{Outcome, Visit};
 pub use sent::{Outbox, Sent};
-pub use stop::Stop;
+pub use stop::EvalStop;

@@ -1,12 +1,12 @@
 ghost use Rattle.std.specs.Prelude.{◌≡◌};
-ghost use Rattle.plan_meaning.specs.declared.stop.Stop.TheVariants as stop;
+ghost use Rattle.plan_meaning.specs.declared.stop.EvalStop.TheVariants as stop;
 
 use plan_base::{Exn, NoMemory};
 use std::alloc::AllocError;
 
 /// Why an evaluation gave no value.
 #[derive(Drop)]
-pub enum Stop {
+pub enum EvalStop {
     /// An exception.
     Raised(Exn),
     /// The work would pass what the visit is allowed.
@@ -17,18 +17,18 @@ pub enum Stop {
     NoMemory,
 }
 
-impl From<AllocError> for Stop {
+impl From<AllocError> for EvalStop {
     ghost from_gives = { λ _ r. r ≡ stop.NoMemory };
 
-    fn from(_refused: AllocError) -> Stop {
-        Stop::NoMemory
+    fn from(_refused: AllocError) -> EvalStop {
+        EvalStop::NoMemory
     }
 }
 
-impl From<NoMemory> for Stop {
+impl From<NoMemory> for EvalStop {
     ghost from_gives = { λ _ r. r ≡ stop.NoMemory };
 
-    fn from(_refused: NoMemory) -> Stop {
-        Stop::NoMemory
+    fn from(_refused: NoMemory) -> EvalStop {
+        EvalStop::NoMemory
     }
 }

@@ -38,7 +38,7 @@ use Rattle.plan_grammar.specs.Ahead.{Front, Reader, place, behind, kind_in, next
 use Rattle.plan_grammar.specs.Begins.{begins_operand, begins_expr}
 use Rattle.plan_grammar.specs.Joints.{joint_of}
 use Rattle.plan_grammar.specs.Nodes.{leaf, joined_nodes, clauses_of}
-use Rattle.plan_grammar.specs.Exprs.{literal_key, literal, literal_from, opens_at, need_open, chain_step, chain_from, catch_at, clause_follows, items_from, arguments_behind, arguments, call, named, chunk, tuple, single, grouped, parens_behind, parens, typed_nil, listing, brackets_behind, brackets, binding, bindings_from, let_form, clause, clauses_from, try_form, raise_typed, raise_plain, raise_form, before_comma, before_close, fold_parts, foldl_form, foldr_form, eval_form, send_parts, remote_form, neighbor_form, key_form, symbol_form, picked, operand_kind, operand, chained, product, addition, before_list, listed, compared, comparison, negation, negated, conjunction, disjunction, condition, low, before_next, whole, at_level, expr_to}
+use Rattle.plan_grammar.specs.Exprs.{literal_key, literal, literal_from, opens_at, need_open, chain_step, chain_from, catch_at, clause_follows, items_from, arguments_behind, arguments, call, name_operand, chunk, tuple, single, grouped, parens_behind, parens, typed_nil, listing, brackets_behind, brackets, binding, bindings_from, let_form, clause, clauses_from, try_form, raise_typed, raise_plain, raise_form, before_comma, before_close, fold_parts, foldl_form, foldr_form, eval_form, send_parts, remote_form, neighbor_form, key_form, symbol_form, picked, operand_kind, operand, chained, product, addition, before_list, listed, compared, comparison, negation, negated, conjunction, disjunction, condition, low, before_next, whole, at_level, expr_to}
 use Rattle.plan_grammar.proofs.Builds.{clauses_last}
 use Rattle.plan_parser.proofs.FormedTypes.{Kinds, Holds, Any, step, choose, weaken, behind_kinds, symbol_holds, opens_holds, Each, each_last, Between, more_holds, more_some, Good, type_holds}
 use Rattle.plan_parser.proofs.FormedNodes.{Sound, leaf_sound, joined_sound, then_sound, foldl_sound, foldr_sound, not_sound, eval_sound, part_sound, if_sound, remote_sound, neighbor_sound, call_sound, chunk_sound, tuple_sound, bracketed_sound, SoundBound, let_sound, SoundCaught, SoundClauses, try_sound}
@@ -173,8 +173,8 @@ module _ (inner : Level → Reader Node) (room : ℕ) (reads : (l : Level) (f : 
   unfolding call
   call_holds name at f k = step (Between Sound 0 8) Sound _ _ (arguments_holds f k) (λ args g q r. (call_sound name at args q.all q.most, r))
 
-  named_holds : (f : Front) → Kinds f.tokens → Holds Sound (named inner room f)
-  unfolding named
+  named_holds : (f : Front) → Kinds f.tokens → Holds Sound (name_operand inner room f)
+  unfolding name_operand
   named_holds f k =
       step Any Sound _ _ (name_holds f k) (λ name g _ q.
       choose Sound (is_symbol symbols.ParenOpen g) _ _ (λ _. call_holds name (place f) g q) (λ _. (leaf_sound (Expr-F.Var name) (x.rolls-Var name) (place f) refl refl refl, q)))

@@ -27,7 +27,7 @@ use Rattle.plan_grammar.specs.declared.fault.Wanted.{Wanted}
 use Rattle.plan_grammar.specs.declared.fault.Wanted.TheVariants as wanted
 use Rattle.plan_grammar.specs.Ahead.{Front, Reader, ◌>>=◌, place, behind, next_kind, is_symbol, need_symbol}
 use Rattle.plan_grammar.specs.Begins.{simple_type, kind_type, begins_type}
-use Rattle.plan_grammar.specs.Types.{opens, more, named, after_lists, list_words, behind_lists, is_list_word, lists_of, judged_type, tuple_type, single_type, group_type, base_type, whole_type, type_to}
+use Rattle.plan_grammar.specs.Types.{opens, more, type_or_fault, after_lists, list_words, behind_lists, is_list_word, lists_of, judged_type, tuple_type, single_type, group_type, base_type, whole_type, type_to}
 
 pub left_of_both : (b c : Bool) → (b && c) ≡ true → b ≡ true
 left_of_both true c h = refl
@@ -167,7 +167,7 @@ kind_formed : (k : Option TokenKind) → FormedOption (kind_type k)
 kind_formed (Some (kinds.Key k)) = simple_formed k
 kind_formed _ = tt
 
-named_formed : (f : Front) (t : Option Ty) → FormedOption t → Kinds f.tokens → Holds Formed (named f t)
+named_formed : (f : Front) (t : Option Ty) → FormedOption t → Kinds f.tokens → Holds Formed (type_or_fault f t)
 named_formed f (Some t) q k = (q, behind_kinds f k)
 named_formed f None q k = tt
 

@@ -239,8 +239,9 @@ pub fn chunk_nesting(c: &Chunk) -> u32
     values_nesting(c.args.as_slice()).saturating_add(1)
 }
 
+/// How many chunks stand inside each other in values. It stops at 2^32 - 1. Takes no memory.
 #[cycle(nesting)]
-fn values_nesting(values: &[Value]) -> u32
+pub fn values_nesting(values: &[Value]) -> u32
     ensures { result ≡ min (largest_by nesting values.now) 4294967295 }
 {
     let mut most = 0u32;

@@ -5,6 +5,6 @@ mod depths;
 mod measures;
 mod sizes;
 
-pub use depths::{chunk_nesting, nesting};
+pub use depths::{chunk_nesting, nesting, values_nesting};
 pub use measures::{Counted, Deep};
-pub use sizes::{chunk_weight, code_size, type_size, weight};
+pub use sizes::{chunk_weight, code_size, type_size, values_weight, weight};

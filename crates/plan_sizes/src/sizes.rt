@@ -241,8 +241,9 @@ pub fn chunk_weight(c: &Chunk) -> u64
         .saturating_add(1)
 }
 
+/// What values weigh in sum, in bytes of their marshalled form. It stops at 2^64 - 1. Takes no memory.
 #[cycle(weight)]
-fn values_weight(values: &[Value]) -> u64
+pub fn values_weight(values: &[Value]) -> u64
     ensures { result ≡ min (sum_by weight values.now) 18446744073709551615 }
 {
     let mut total = 0u64;

@@ -17,10 +17,10 @@ use std::alloc::Global;
 use typing_rules::{TypeFault, prim_of};
 
 /// The depth of expressions that a well-formed program keeps.
-const MAX_DEPTH: usize = 64;
+const MOST_DEPTH: usize = 64;
 
 /// The greatest size of marshalled code, in bytes.
-const MAX_CODE: u64 = 16000;
+const MOST_CODE: u64 = 16000;
 
 fn is_prim(name: &Name) -> bool
     ensures { result ≡ names.is_prim name.now }
@@ -150,7 +150,7 @@ fn body(
     };
     let found = checked(
         alloc,
-        MAX_DEPTH,
+        MOST_DEPTH,
         &scope,
         &mut state,
         Some(&d.result),
@@ -202,7 +202,7 @@ fn bodies(alloc: Global, code: &Program, mut all: &[Fun]) -> Result<(Funs, u32),
 fn sized(code: Program) -> Result<Program, TypeFault>
     ensures { result ≡ spec.sized_program code }
 {
-    if code_size(&code) <= MAX_CODE {
+    if code_size(&code) <= MOST_CODE {
         Ok(code)
     } else {
         Err(TypeFault::CodeTooLarge)

@@ -10,7 +10,7 @@ use Rattle.typing_rules.specs.TypingNames.{part_of}
 use Rattle.value_rules.specs.Rules as rules
 use Rattle.value_rules.specs.Rules.{Given}
 use Rattle.value_rules.specs.Typed.{OperatorTakes, PrimitiveTakes, Fits}
-use Rattle.value_rules.proofs.Fitting.{operator_fits, taken, primitive_fits}
+use Rattle.value_rules.proofs.Fitting.{operator_fits, selection_fits, primitive_fits}
 use Rattle.plan_values.specs.declared.fault.PrimFault.{PrimFault}
 use Rattle.plan_values.specs.declared.fault.PrimFault.TheVariants as fault
 use Rattle.plan_values.specs.Answers.{Answers, IsFit}
@@ -25,7 +25,7 @@ pub binary_fits : (o : Op) (a b : Value) (x : Result Value PrimFault) → Answer
 binary_fits o a b x h t u r k l m = fit_answer r (rules.binary o a b) x h (operator_fits o a b t u r k l m)
 
 pub part_fits : (i : ℕ) (v : Value) (x : Result Value PrimFault) → Answers (rules.part i v) x → (ts : List Ty) (t : Ty) → HasType v (ty.Tuple ts) → part_of i ts ≡ Some t → IsFit t x
-part_fits i v x h ts t k e = fit_answer t (rules.part i v) x h (taken i v ts t k e)
+part_fits i v x h ts t k e = fit_answer t (rules.part i v) x h (selection_fits i v ts t k e)
 
 pub primitive_fits_in : (p : Primitive) (vs : List Value) (x : Result Value PrimFault) → Answers (rules.primitive p vs) x → (ts : List Ty) (r : Ty) → PrimitiveTakes p ts r → HaveTypes vs ts → IsFit r x
 primitive_fits_in p vs x h ts r k l = fit_answer r (rules.primitive p vs) x h (primitive_fits p vs ts r k l)

@@ -23,7 +23,7 @@ use Rattle.service_api.specs.Routes.{hop}
 use Rattle.service_api.specs.Services.{ServiceState, begun_now}
 use Rattle.dv_routing.specs.Routing.{all_routes, own_advert}
 use Rattle.plan_meaning.specs.declared.sent.Sent.{Sent}
-use Rattle.plan_meaning.specs.declared.stop.Stop.TheVariants as stop
+use Rattle.plan_meaning.specs.declared.stop.EvalStop.TheVariants as stop
 use Rattle.plan_meaning.specs.declared.outcome.Visit.{Visit}
 use Rattle.plan_meaning.specs.Run.{After, gave, stopped}
 use Rattle.plan_meaning.specs.Visit.{allowance, begun}

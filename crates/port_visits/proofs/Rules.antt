@@ -22,8 +22,8 @@ use Rattle.service_api.specs.declared.router.Hop.TheVariants.{To, NoService, NoR
 use Rattle.service_api.specs.Routes.{hop}
 use Rattle.service_api.specs.Services.{served, called as kept_rows, Rows}
 use Rattle.plan_meaning.specs.declared.sent.Sent.{Sent}
-use Rattle.plan_meaning.specs.declared.stop.Stop.{Stop}
-use Rattle.plan_meaning.specs.declared.stop.Stop.TheVariants.{Raised, WorkSpent}
+use Rattle.plan_meaning.specs.declared.stop.EvalStop.{EvalStop}
+use Rattle.plan_meaning.specs.declared.stop.EvalStop.TheVariants.{Raised, WorkSpent}
 use Rattle.value_rules.specs.Rules.{too_large}
 use Rattle.plan_meaning.specs.State.{VisitState}
 use Rattle.plan_meaning.specs.Run.{After, gave, stopped, Run, ◌>>=◌, ◌>>◌, pure, stop, raise, or_wrong, spend, weighed, is_too_large, whole, serve, noted, answered, quiet, «next»}
@@ -48,7 +48,7 @@ module _ (a : Allowed) where
   pub only_pure : {A : Type 0} (ok : A → Type 0) (v : A) → ok v → Only ok (pure v)
   only_pure ok v h s g = (g, h)
 
-  pub only_stop : {A : Type 0} (ok : A → Type 0) (e : Stop) → Only ok (stop e)
+  pub only_stop : {A : Type 0} (ok : A → Type 0) (e : EvalStop) → Only ok (stop e)
   only_stop ok e s g = g
 
   pub only_bind : {A B : Type 0} (ok : A → Type 0) (fine : B → Type 0) (p : Run A) (f : A → Run B) → Only ok p → ((v : A) → ok v → Only fine (f v)) → Only fine (p >>= f)

@@ -12,4 +12,4 @@ mod way;
 pub use fault::{NoBound, SendFault};
 pub use purse::Purse;
 pub use sends::{default_route, on_neighbor, on_remote, send};
-pub use way::{Way, neighbour_way, remote_way};
+pub use way::{SendWay, neighbour_way, remote_way};

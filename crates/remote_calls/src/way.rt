@@ -14,7 +14,7 @@ use service_api::{Ctx, Hop};
 
 /// What a send pays, and the device that its packet leaves by.
 #[derive(Clone, Copy)]
-pub struct Way {
+pub struct SendWay {
     /// The device.
     pub dev: Dev,
     /// The packet's bound, at least 1 and at most what the purse holds, which is at most 65,535.
@@ -29,7 +29,7 @@ pub fn remote_way(
     host: Host,
     n: i64,
     route: &Name,
-) -> Result<Way, SendFault>
+) -> Result<SendWay, SendFault>
     ensures found { IfOk result (λ w. IsTrue (is_paid n purse.now) × (w.bound ≡ bound_of n) × ((via : AHost) × (hop ctx.entry.now.router route.now ctx.entry.now.here host ≡ Hop.To via w.dev))) }
     ensures small { IfOk result (λ w. w.bound ≤ 65535) }
     ensures only { (via : AHost) (dev : ADev) → IsTrue (is_paid n purse.now) → hop ctx.entry.now.router route.now ctx.entry.now.here host ≡ Hop.To via dev → IsOk result }
@@ -41,7 +41,7 @@ pub fn remote_way(
         return Err(SendFault::NoBound);
     };
     match ctx.router.next(route, ctx.here, host) {
-        Hop::To(_, dev) => Ok(Way { dev, bound }),
+        Hop::To(_, dev) => Ok(SendWay { dev, bound }),
         Hop::NoService => Err(SendFault::NoService),
         Hop::NoRoute => Err(SendFault::NoRoute),
     }
@@ -80,7 +80,7 @@ pub fn neighbour_way(
     host: Host,
     n: i64,
     dev: Dev,
-) -> Result<Way, SendFault>
+) -> Result<SendWay, SendFault>
     ensures found { IfOk result (λ w. IsTrue (is_paid n purse.now) × (w.bound ≡ bound_of n) × (w.dev ≡ dev) × IsTrue (leads ctx.entry.now dev host)) }
     ensures small { IfOk result (λ w. w.bound ≤ 65535) }
     ensures only { IsTrue (is_paid n purse.now) → IsTrue (leads ctx.entry.now dev host) → IsOk result }
@@ -91,7 +91,7 @@ pub fn neighbour_way(
         return Err(SendFault::NoBound);
     };
     if is_next(ctx, dev, host) {
-        Ok(Way { dev, bound })
+        Ok(SendWay { dev, bound })
     } else {
         Err(SendFault::NotNeighbor)
     }

@@ -19,7 +19,7 @@ use Rattle.plan_grammar.specs.Ahead.{Front, Reader, behind, place, is_symbol_kin
 use Rattle.plan_grammar.specs.Begins.{kind_begins, begins_expr}
 use Rattle.plan_grammar.specs.Types.{more}
 use Rattle.plan_grammar.specs.Nodes.{all_at, leaf, below_all, trees, over_list}
-use Rattle.plan_grammar.specs.Exprs.{need_open, items_from, arguments_behind, arguments, call, named, chunk, tuple, grouped, parens_behind, parens, symbol_form, operand_kind, operand, expr_to}
+use Rattle.plan_grammar.specs.Exprs.{need_open, items_from, arguments_behind, arguments, call, name_operand, chunk, tuple, grouped, parens_behind, parens, symbol_form, operand_kind, operand, expr_to}
 use Rattle.printed_forms.specs.Pieces.{listed}
 use Rattle.text_laws.specs.PrintedTokens.{Kinds, mark, expr_kinds}
 use Rattle.round_trip.specs.Reads.{kinds_at, Took, first_kind, IsNode, Ends}
@@ -47,8 +47,8 @@ literal_read e k tree t d b is ks = record {
 }
 
 named_var : (inner : Level → Reader Node) (room : ℕ) (n : Name) (f : Front) (rest : Kinds) (e : Expr) → x.Var n ≡ e → Measured e 1 1 → kinds_at f ≡ kind.Word n ∷ rest
-    → is_symbol_kind symbols.ParenOpen (first_kind rest) ≡ false → Took (named inner room f) rest (IsNode e)
-unfolding named
+    → is_symbol_kind symbols.ParenOpen (first_kind rest) ≡ false → Took (name_operand inner room f) rest (IsNode e)
+unfolding name_operand
 named_var inner room n f rest e t d h w =
     then_took _ (take_name n f rest h) (λ m g k q. rw (symbol_is symbols.ParenOpen g rest k ∙ w) (took (leaf (x.Var m) (place f)) g k (leaf_good e (x.Var m) (place f) (ap x.Var q ∙ t) d)))
 
@@ -153,8 +153,8 @@ over_good e tree at es ns t d most g = let z = depths_are es ns 0 g in let y = p
 
 named_call : (room most : ℕ) → 2 * most + 9 ≤ room → (name : Name) (es : List Expr) → AreRead most es → length es ≤ 8 → (f : Front) (rest : Kinds) (e : Expr) → x.Call name es ≡ e
     → Measured e (1 + largest_by expr_depth es) (1 + sum_by expr_nodes es) → expr_depth e ≤ 64
-    → kinds_at f ≡ kind.Word name ∷ kind.Symbol symbols.ParenOpen ∷ (listed (mark symbols.Comma) [] expr_kinds es ++ (kind.Symbol symbols.ParenClose ∷ rest)) → Took (named (expr_to room) room f) rest (IsNode e)
-unfolding named call
+    → kinds_at f ≡ kind.Word name ∷ kind.Symbol symbols.ParenOpen ∷ (listed (mark symbols.Comma) [] expr_kinds es ++ (kind.Symbol symbols.ParenClose ∷ rest)) → Took (name_operand (expr_to room) room f) rest (IsNode e)
+unfolding name_operand call
 named_call room most m name es r l f rest e t d shallow h =
     let args : Kinds = kind.Symbol symbols.ParenOpen ∷ (listed (mark symbols.Comma) [] expr_kinds es ++ (kind.Symbol symbols.ParenClose ∷ rest)) in
     then_took _ (take_name name f args h) (λ v g h1 q1. rw (symbol_is symbols.ParenOpen g args h1)

@@ -19,7 +19,7 @@ use Rattle.plan_grammar.specs.declared.fault.ParseFault.{ParseFault}
 use Rattle.plan_grammar.specs.declared.fault.Wanted.TheVariants as wanted
 use Rattle.plan_grammar.specs.Ahead.{Front, Reader, behind, place, is_symbol, is_symbol_kind, is_key_kind}
 use Rattle.plan_grammar.specs.Begins.{simple_type, kind_type, begins_type}
-use Rattle.plan_grammar.specs.Types.{named, after_lists, is_list_word, list_words, behind_lists, lists_of, judged_type, tuple_type, group_type, base_type, whole_type, type_to}
+use Rattle.plan_grammar.specs.Types.{type_or_fault, after_lists, is_list_word, list_words, behind_lists, lists_of, judged_type, tuple_type, group_type, base_type, whole_type, type_to}
 use Rattle.printed_forms.specs.Pieces.{listed}
 use Rattle.text_laws.specs.Lexes.{kinds_of}
 use Rattle.text_laws.specs.PrintedTokens.{Kinds, mark, word, type_kinds_level, type_kinds}
@@ -97,7 +97,7 @@ module _ (inner : Reader Ty) (room : ℕ) where
         value = t;
         rest = behind f;
         count = 0;
-        is = rw (symbol_is symbols.ParenOpen f (kind.Key k ∷ (lists m ++ ks)) hs) (ap (λ o. named f (kind_type o)) (next_is f (kind.Key k ∷ (lists m ++ ks)) hs) ∙ ap (named f) b.word);
+        is = rw (symbol_is symbols.ParenOpen f (kind.Key k ∷ (lists m ++ ks)) hs) (ap (λ o. type_or_fault f (kind_type o)) (next_is f (kind.Key k ∷ (lists m ++ ks)) hs) ∙ ap (type_or_fault f) b.word);
         left = behind_is f (kind.Key k) (lists m ++ ks) hs ∙ ap (λ n. lists n ++ ks) z;
         same = ap (λ n. lists_of n t) (sym z);
         deep = omega arith;

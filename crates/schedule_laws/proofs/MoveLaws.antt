@@ -4,7 +4,6 @@ use Rattle.std.specs.List.{list_any}
 use Rattle.std.specs.Option.{ok_or}
 use Rattle.std.specs.Str.{bytes_eq}
 use lib.Chars.{codes}
-use Rattle.std.proofs.lemmas.Bool.{lt-leb}
 use Rattle.plan_base.specs.declared.name.Name.{Name}
 use Rattle.link_window.specs.declared.window.Version.{Version}
 use Rattle.line_files.specs.declared.fault.LineReason.{LineReason}
@@ -19,7 +18,7 @@ use Rattle.line_files.specs.Counting.{moved, moved_by, CountsOnly}
 use Rattle.line_files.specs.Headers.{version_in, versioned}
 use Rattle.line_files.specs.Programs.{named_word}
 use Rattle.line_files.proofs.LineLaws as every
-use Rattle.line_files.proofs.CountLaws.{line_counts}
+use Rattle.line_files.proofs.CountLaws.{changed_read, then_changed, moved_more, line_counts}
 use Rattle.schedule_text.specs.declared.keyword.NetworkWord.{NetworkWord}
 use Rattle.schedule_text.specs.declared.keyword.NetworkWord.TheVariants as network
 use Rattle.schedule_text.specs.declared.reading.BegunProgram.{BegunProgram}
@@ -42,24 +41,12 @@ before_inside bytes n k reason e lt = every.before_inside schedule_format nothin
 
 -- ---- parts of lines, with one line more in front
 
--- what is read, changed by a function
-abbrev changed_read : {A : Type 0} → (A → A) → Result A LineReason → Result A LineReason
-changed_read f (Ok x) = Ok (f x)
-changed_read f (Err e) = Err e
-
-then_changed : {A B : Type 0} (f : B → B) (r : Result A LineReason) (g h : A → Result B LineReason) → ((x : A) → g x ≡ changed_read f (h x)) → (r >>= g) ≡ changed_read f (r >>= h)
-then_changed f (Ok x) g h k = k x
-then_changed f (Err e) g h k = refl
-
 changed_then : {A B : Type 0} (f : A → A) (h : B → B) (r : Result A LineReason) (g k : A → Result B LineReason) → ((x : A) → g (f x) ≡ changed_read h (k x)) → (changed_read f r >>= g) ≡ changed_read h (r >>= k)
 changed_then f h (Ok x) g k e = e x
 changed_then f h (Err d) g k e = refl
 
 abbrev later_next : ℕ → Stage × Reading → Stage × Reading
 later_next first x = (later_stage first x.0, x.1)
-
-moved_more : (first number : ℕ) → first < number → moved first number ≡ number + 1
-moved_more first number lt = rw (lt-leb number first lt) refl
 
 begun_later : (first number : ℕ) (name : Name) → first < number → begun_at (number + 1) name ≡ later_program first (begun_at number name)
 begun_later first number name lt = ap (λ (n : ℕ). begun_at n name) (sym (moved_more first number lt))

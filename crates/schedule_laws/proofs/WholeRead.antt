@@ -50,11 +50,11 @@ small_links hosts links small keeps k d h = (small _ (keeps k d h).from, small _
 
 -- ---- the lines of a schedule
 
-all_free : {X : Type 0} (line : X → List ℕ) (P : X → Type 0) → ((x : X) → P x → without 10 (line x) ≡ true) → (xs : List X) → All P xs → Free 10 (map line xs)
+pub all_free : {X : Type 0} (line : X → List ℕ) (P : X → Type 0) → ((x : X) → P x → without 10 (line x) ≡ true) → (xs : List X) → All P xs → Free 10 (map line xs)
 all_free line P f [] k = tt
 all_free line P f (x ∷ xs) k = (f x (All-head P x xs k), all_free line P f xs (All-tail P x xs k))
 
-text_free : (text : List (List ℕ)) → All IsTextLine text → Free 10 text
+pub text_free : (text : List (List ℕ)) → All IsTextLine text → Free 10 text
 text_free [] k = tt
 text_free (line ∷ text) k = ((All-head IsTextLine line text k).0, text_free text (All-tail IsTextLine line text k))
 

@@ -11,7 +11,7 @@ use Rattle.plan_grammar.specs.declared.fault.ParseFault.TheVariants.{TooDeep}
 use Rattle.plan_grammar.specs.declared.fault.Wanted.TheVariants as wanted
 use Rattle.plan_grammar.specs.Ahead.{Front, Reader, ◌>>=◌, place, behind, next_kind, is_key, is_symbol}
 use Rattle.plan_grammar.specs.Begins.{kind_type, begins_type}
-use Rattle.plan_grammar.specs.Types.{opens, more, named, is_list_word, after_lists, list_words, behind_lists, lists_of, judged_type, tuple_type, single_type, group_type, base_type, whole_type, type_to}
+use Rattle.plan_grammar.specs.Types.{opens, more, type_or_fault, is_list_word, after_lists, list_words, behind_lists, lists_of, judged_type, tuple_type, single_type, group_type, base_type, whole_type, type_to}
 use Rattle.grammar_laws.specs.Agenda.{StepOf}
 use Rattle.grammar_laws.proofs.TokenFacts.{room_open}
 use Rattle.grammar_laws.proofs.TypesAre.{left_behind}
@@ -115,7 +115,7 @@ module _ (o room : ℕ) (inner : Reader Ty)
       (λ r e. after o (a_type r ∷ first_type r (place f) ∷ rest) (behind f) (λ t. behind_first r (place f) t ∷ rest) (Based (place f) rest) (inner (behind f)) _
       (inside r e (first_type r (place f) ∷ rest) (behind f)) (λ t g. behind_first_works r e (place f) rest t g))
 
-  named_works : (rest : List ValueItem) (f : Front) (k : Option Ty) → Follows o (type_step rest f k) (Based (place f) rest) (named f k)
+  named_works : (rest : List ValueItem) (f : Front) (k : Option Ty) → Follows o (type_step rest f k) (Based (place f) rest) (type_or_fault f k)
   named_works rest f (Some t) = goes_on o (given o (Based (place f) rest) t (behind f))
   named_works rest f None = stops o _ (Based (place f) rest)
 

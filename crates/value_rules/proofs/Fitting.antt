@@ -198,9 +198,9 @@ part_at i vs ts t false h e = found_fits vs ts (i - 1) t h e
 part_fits : (i : ℕ) (ts : List Ty) (t : Ty) (l : ValueLayer) → Shape (Ty-F.Tuple ts) l → part_of i ts ≡ Some t → Fits t (rules.part_of i l)
 part_fits i ts t l (vs, d, h) e = subst (λ x. Fits t (rules.part_of i x)) (sym d) (part_at i vs ts t (i == 0) h e)
 
-pub taken : (i : ℕ) (v : Value) (ts : List Ty) (t : Ty) → HasType v (ty.Tuple ts) → part_of i ts ≡ Some t → Fits t (part i v)
+pub selection_fits : (i : ℕ) (v : Value) (ts : List Ty) (t : Ty) → HasType v (ty.Tuple ts) → part_of i ts ≡ Some t → Fits t (part i v)
 unfolding part
-taken i v ts t h e = part_fits i ts t (out-Value v) (shape_at (ty.Tuple ts) (Ty-F.Tuple ts) (ty.outs-Tuple ts) h) e
+selection_fits i v ts t h e = part_fits i ts t (out-Value v) (shape_at (ty.Tuple ts) (Ty-F.Tuple ts) (ty.outs-Tuple ts) h) e
 
 -- ---- primitives
 

@@ -7,12 +7,12 @@ use Rattle.plan_base.specs.declared.tree.Chunk.{Chunk}
 use Rattle.plan_base.specs.declared.tree.Value.{Value}
 use Rattle.service_api.specs.declared.ctx.Ctx.{Ctx}
 use Rattle.service_api.specs.Services.{ServiceState}
-use Rattle.plan_meaning.specs.declared.stop.Stop.TheVariants.{Raised, WorkSpent, Wrong, NoMemory}
+use Rattle.plan_meaning.specs.declared.stop.EvalStop.TheVariants.{Raised, WorkSpent, Wrong, NoMemory}
 use Rattle.plan_meaning.specs.declared.outcome.Outcome.{Outcome}
 use Rattle.plan_meaning.specs.declared.outcome.Outcome.TheVariants as outcome
 use Rattle.plan_meaning.specs.declared.outcome.Visit.{Visit}
 use Rattle.plan_meaning.specs.State.{VisitState}
-use Rattle.plan_meaning.specs.Run.{After, gave, stopped, Step}
+use Rattle.plan_meaning.specs.Run.{After, gave, stopped, RunStep}
 use Rattle.plan_meaning.specs.Visit.{IsVisit, Ends, allowance, begun, ended}
 use Rattle.meaning_laws.specs.Laws.{IsSpent, more, after_more, with_allowance}
 use Rattle.meaning_laws.proofs.Longer.{visit_allowance}
@@ -46,7 +46,7 @@ module _ (k : Chunk) (ctx : Ctx) (family : Family) (n : ServiceState) where
   with_more v j r new e h =
       let a = with_allowance v k ctx family n in
       let later = visit_allowance k (begun v ctx family n) j (unspent v ctx.purse a r new e h) in
-      subst (λ b. Ends (v + j) ctx.purse b r new) (sym (ap (λ (s : Step Value). s.after) later)) (ends_again v j ctx.purse a r new e h)
+      subst (λ b. Ends (v + j) ctx.purse b r new) (sym (ap (λ (s : RunStep Value). s.after) later)) (ends_again v j ctx.purse a r new e h)
 
   pub visit_again : (v w : ℕ) (r : Visit) (new : ServiceState) → v ≤ w → IsVisit v k ctx family n r new → r.outcome ≢ outcome.WorkSpent → IsVisit w k ctx family n r new
   visit_again v w r new l e h =

@@ -10,15 +10,15 @@ use Rattle.service_api.specs.declared.router.Hop.{Hop}
 use Rattle.service_api.specs.declared.router.Hop.TheVariants.{To, NoService, NoRoute}
 use Rattle.service_api.specs.Routes.{hop, default_route}
 use Rattle.service_api.specs.Services.{ServiceState, IsGoodChunk}
-use Rattle.plan_meaning.specs.declared.stop.Stop.{Stop}
-use Rattle.plan_meaning.specs.declared.stop.Stop.TheVariants.{NoMemory}
+use Rattle.plan_meaning.specs.declared.stop.EvalStop.{EvalStop}
+use Rattle.plan_meaning.specs.declared.stop.EvalStop.TheVariants.{NoMemory}
 use Rattle.plan_meaning.specs.State.{VisitState, Own, joined}
-use Rattle.plan_meaning.specs.Run.{Step, stopped, raise}
+use Rattle.plan_meaning.specs.Run.{RunStep, stopped, raise}
 use Rattle.plan_meaning.specs.Safe.{IsSafe}
 use Rattle.plan_meaning.specs.Meaning.{is_paid, bound_of, sent, sent_by, send_remote, send_neighbour, is_next, no_bound, not_neighbour}
 use Rattle.remote_calls.specs.declared.fault.SendFault.{SendFault}
 use Rattle.remote_calls.specs.declared.fault.SendFault.TheVariants as fault
-use Rattle.remote_calls.specs.declared.way.Way.{Way}
+use Rattle.remote_calls.specs.declared.way.SendWay.{SendWay}
 use Rattle.remote_calls.specs.Sends.{leads}
 use Rattle.meaning_laws.proofs.Full.{full_chunk}
 use Rattle.visit_state.specs.Meets.{Meets, StopsBy}
@@ -28,7 +28,7 @@ pub checked : (k : Chunk) → IsGoodChunk k → IsCheckedChunk k
 checked k h = record { typed = h.typed; formed = h.formed; full = full_chunk h.typed }
 
 -- the stop that a fault says
-by_fault : (f g : SendFault) (e : Stop) → f ≡ g → StopsBy f e → StopsBy g e
+by_fault : (f g : SendFault) (e : EvalStop) → f ≡ g → StopsBy f e → StopsBy g e
 by_fault f g e is h = subst (λ x. StopsBy x e) is h
 
 same_fault : {W : Type 0} {f g : SendFault} → ◌≡◌ {A = Result W SendFault} (Err f) (Err g) → f ≡ g
@@ -42,7 +42,7 @@ module _ (k : Chunk) (host : Host) (n : ℤ) where
   -- ---- by a routing name
 
   module _ (route : Name) where
-    refused_by : (s : VisitState) (b : Bool) (x : Hop) (f : SendFault) (e : Stop) → (b ≡ false → f ≡ fault.NoBound)
+    refused_by : (s : VisitState) (b : Bool) (x : Hop) (f : SendFault) (e : EvalStop) → (b ≡ false → f ≡ fault.NoBound)
         → (b ≡ true → x ≡ NoService → f ≡ fault.NoService) → (b ≡ true → x ≡ NoRoute → f ≡ fault.NoRoute)
         → ((via : Host) (dev : Dev) → b ≡ true → x ≡ To via dev → ⊥) → StopsBy f e → e ≢ NoMemory
         → (if b then sent_by x k host (bound_of n) route s else raise no_bound s).after ≡ stopped e s
@@ -58,7 +58,7 @@ module _ (k : Chunk) (host : Host) (n : ℤ) where
 
     -- the same, where purse, surroundings and bound are known by an equation
     module _ (o : Own) (purse : ℕ) (ctx : Ctx) (m : ℤ) (same_purse : purse ≡ o.ctx.purse) (same_ctx : ctx ≡ o.ctx) (same_bound : m ≡ n) where
-      abbrev pub Found : Way → Type 0
+      abbrev pub Found : SendWay → Type 0
       Found w = IsTrue (is_paid m purse) × (w.bound ≡ bound_of m) × ((via : Host) × (hop ctx.router route ctx.here host ≡ To via w.dev))
 
       is_paid_here : (b : Bool) → is_paid m purse ≡ b → is_paid n o.ctx.purse ≡ b
@@ -73,17 +73,17 @@ module _ (k : Chunk) (host : Host) (n : ℤ) where
       led : (x : Hop) → hop o.ctx.router route o.ctx.here host ≡ x → hop ctx.router route ctx.here host ≡ x
       led x h = subst (λ (y : Ctx). hop y.router route y.here host ≡ x) (sym same_ctx) h
 
-      pub remote_good : (w : Way) → Found w → (t : ServiceState) × IsSafe (send_remote k host n route (joined o t)).asks → IsGoodChunk k
+      pub remote_good : (w : SendWay) → Found w → (t : ServiceState) × IsSafe (send_remote k host n route (joined o t)).asks → IsGoodChunk k
       remote_good w found h =
-          subst (λ (r : Step (Unit {0})). IsSafe r.asks) (remote_is (joined o h.0) found.2.0 w.dev (is_paid_here true found.0) (leads_here _ found.2.1)) h.1
+          subst (λ (r : RunStep (Unit {0})). IsSafe r.asks) (remote_is (joined o h.0) found.2.0 w.dev (is_paid_here true found.0) (leads_here _ found.2.1)) h.1
 
-      pub remote_meets : (t : ServiceState) (w : Way) (copied : Name) (r : Result (Unit {0}) Stop) (new : VisitState) → Found w → copied ≡ route
+      pub remote_meets : (t : ServiceState) (w : SendWay) (copied : Name) (r : Result (Unit {0}) EvalStop) (new : VisitState) → Found w → copied ≡ route
           → Meets (sent w.dev k host w.bound copied (joined o t)) r new → Meets (send_remote k host n route (joined o t)) r new
       remote_meets t w copied r new found is h =
-          subst (λ (q : Step (Unit {0})). Meets q r new) (sym (remote_is (joined o t) found.2.0 w.dev (is_paid_here true found.0) (leads_here _ found.2.1)))
+          subst (λ (q : RunStep (Unit {0})). Meets q r new) (sym (remote_is (joined o t) found.2.0 w.dev (is_paid_here true found.0) (leads_here _ found.2.1)))
           (subst (λ x. Meets (sent w.dev k host (bound_of n) x (joined o t)) r new) is (subst (λ b. Meets (sent w.dev k host b copied (joined o t)) r new) (found.1 ∙ ap bound_of same_bound) h))
 
-      pub remote_refused : (t : ServiceState) (r : Result Way SendFault) (f : SendFault) (e : Stop) → r ≡ Err f
+      pub remote_refused : (t : ServiceState) (r : Result SendWay SendFault) (f : SendFault) (e : EvalStop) → r ≡ Err f
           → ((via : Host) (dev : Dev) → IsTrue (is_paid m purse) → hop ctx.router route ctx.here host ≡ To via dev → IsOk r)
           → ((r ≡ Err fault.NoBound) ↔ (is_paid m purse ≡ false))
           → ((r ≡ Err fault.NoService) ↔ (IsTrue (is_paid m purse) × (hop ctx.router route ctx.here host ≡ NoService)))
@@ -98,7 +98,7 @@ module _ (k : Chunk) (host : Host) (n : ℤ) where
   -- ---- to a neighbour
 
   module _ (dev : Dev) where
-    near_by : (s : VisitState) (b c : Bool) (f : SendFault) (e : Stop) → (b ≡ false → f ≡ fault.NoBound) → (b ≡ true → c ≡ false → f ≡ fault.NotNeighbor)
+    near_by : (s : VisitState) (b c : Bool) (f : SendFault) (e : EvalStop) → (b ≡ false → f ≡ fault.NoBound) → (b ≡ true → c ≡ false → f ≡ fault.NotNeighbor)
         → (b ≡ true → c ≡ true → ⊥) → StopsBy f e → e ≢ NoMemory
         → (if b then (if c then sent dev k host (bound_of n) default_route s else raise not_neighbour s) else raise no_bound s).after ≡ stopped e s
     near_by s false c f e unpaid far never by other = ap (λ q. stopped q s) (sym (by_fault f _ e (unpaid refl) by other))
@@ -111,7 +111,7 @@ module _ (k : Chunk) (host : Host) (n : ℤ) where
     neighbour_is s p q = rw (p, q) refl
 
     module _ (o : Own) (purse : ℕ) (ctx : Ctx) (m : ℤ) (same_purse : purse ≡ o.ctx.purse) (same_ctx : ctx ≡ o.ctx) (same_bound : m ≡ n) where
-      abbrev pub FoundNear : Way → Type 0
+      abbrev pub FoundNear : SendWay → Type 0
       FoundNear w = IsTrue (is_paid m purse) × (w.bound ≡ bound_of m) × (w.dev ≡ dev) × IsTrue (leads ctx dev host)
 
       pays : (b : Bool) → is_paid m purse ≡ b → is_paid n o.ctx.purse ≡ b
@@ -126,18 +126,18 @@ module _ (k : Chunk) (host : Host) (n : ℤ) where
       was_near : (b : Bool) → leads o.ctx dev host ≡ b → leads ctx dev host ≡ b
       was_near b h = subst (λ (y : Ctx). leads y dev host ≡ b) (sym same_ctx) h
 
-      pub neighbour_good : (w : Way) → FoundNear w → (t : ServiceState) × IsSafe (send_neighbour k host n dev (joined o t)).asks → IsGoodChunk k
+      pub neighbour_good : (w : SendWay) → FoundNear w → (t : ServiceState) × IsSafe (send_neighbour k host n dev (joined o t)).asks → IsGoodChunk k
       neighbour_good w found h =
-          subst (λ (r : Step (Unit {0})). IsSafe r.asks) (neighbour_is (joined o h.0) (pays true found.0) (is_near true found.3)) h.1
+          subst (λ (r : RunStep (Unit {0})). IsSafe r.asks) (neighbour_is (joined o h.0) (pays true found.0) (is_near true found.3)) h.1
 
-      pub neighbour_meets : (t : ServiceState) (w : Way) (route : Name) (r : Result (Unit {0}) Stop) (new : VisitState) → FoundNear w → route ≡ default_route
+      pub neighbour_meets : (t : ServiceState) (w : SendWay) (route : Name) (r : Result (Unit {0}) EvalStop) (new : VisitState) → FoundNear w → route ≡ default_route
           → Meets (sent w.dev k host w.bound route (joined o t)) r new → Meets (send_neighbour k host n dev (joined o t)) r new
       neighbour_meets t w route r new found is h =
-          subst (λ (q : Step (Unit {0})). Meets q r new) (sym (neighbour_is (joined o t) (pays true found.0) (is_near true found.3)))
+          subst (λ (q : RunStep (Unit {0})). Meets q r new) (sym (neighbour_is (joined o t) (pays true found.0) (is_near true found.3)))
           (subst (λ x. Meets (sent dev k host (bound_of n) x (joined o t)) r new) is
           (subst (λ b. Meets (sent dev k host b route (joined o t)) r new) (found.1 ∙ ap bound_of same_bound) (subst (λ d. Meets (sent d k host w.bound route (joined o t)) r new) found.2 h)))
 
-      pub neighbour_refused : (t : ServiceState) (r : Result Way SendFault) (f : SendFault) (e : Stop) → r ≡ Err f
+      pub neighbour_refused : (t : ServiceState) (r : Result SendWay SendFault) (f : SendFault) (e : EvalStop) → r ≡ Err f
           → (IsTrue (is_paid m purse) → IsTrue (leads ctx dev host) → IsOk r)
           → ((r ≡ Err fault.NoBound) ↔ (is_paid m purse ≡ false))
           → ((r ≡ Err fault.NotNeighbor) ↔ (IsTrue (is_paid m purse) × (leads ctx dev host ≡ false)))

@@ -6,27 +6,27 @@ use Rattle.value_rules.specs.Rules.{Given, gives, raises, unfit, limited}
 use Rattle.remote_calls.specs.declared.fault.SendFault.{SendFault}
 use Rattle.remote_calls.specs.declared.fault.SendFault.TheVariants as fault
 use Rattle.value_rules.specs.Rules.{no_service, too_large}
-use Rattle.plan_meaning.specs.declared.stop.Stop.{Stop}
-use Rattle.plan_meaning.specs.declared.stop.Stop.TheVariants.{Raised, WorkSpent, Wrong, NoMemory}
+use Rattle.plan_meaning.specs.declared.stop.EvalStop.{EvalStop}
+use Rattle.plan_meaning.specs.declared.stop.EvalStop.TheVariants.{Raised, WorkSpent, Wrong, NoMemory}
 use Rattle.plan_meaning.specs.State.{VisitState}
 use Rattle.visit_state.specs.declared.weighing.Weighing.{Weighing}
 use Rattle.visit_state.specs.declared.weighing.Weighing.TheVariants.{Paid, Spent, TooLarge}
 use Rattle.plan_meaning.specs.Meaning.{no_bound, no_route, not_neighbour}
-use Rattle.plan_meaning.specs.Run.{gave, stopped, Step}
+use Rattle.plan_meaning.specs.Run.{gave, stopped, RunStep}
 
 -- the value and the state, or the stop and the state; of running out of memory nothing is said
-abbrev pub Meets : {A : Type 0} → Step A → Result A Stop → VisitState → Type 0
+abbrev pub Meets : {A : Type 0} → RunStep A → Result A EvalStop → VisitState → Type 0
 Meets want (Ok a) new = want.after ≡ gave a new
 Meets want (Err e) new = e ≢ NoMemory → want.after ≡ stopped e new
 
 -- whether the weight of a value was spent
-abbrev pub Weighs : Step Value → Value → Weighing → VisitState → Type 0
+abbrev pub Weighs : RunStep Value → Value → Weighing → VisitState → Type 0
 Weighs want v Paid new = want.after ≡ gave v new
 Weighs want v Spent new = want.after ≡ stopped WorkSpent new
 Weighs want v TooLarge new = want.after ≡ stopped (Raised too_large) new
 
 -- the same of an operator or a primitive
-abbrev pub MeetsGiven : Given → Result Value Stop → Type 0
+abbrev pub MeetsGiven : Given → Result Value EvalStop → Type 0
 MeetsGiven want (Ok v) = want ≡ gives v
 MeetsGiven want (Err (Raised x)) = want ≡ raises x
 MeetsGiven want (Err Wrong) = want ≡ unfit
@@ -34,7 +34,7 @@ MeetsGiven want (Err NoMemory) = Unit {0}
 MeetsGiven want (Err _) = ⊥
 
 -- the same of a value that is not weighed yet
-abbrev pub MeetsUnweighed : Given → Result Value Stop → Type 0
+abbrev pub MeetsUnweighed : Given → Result Value EvalStop → Type 0
 MeetsUnweighed want (Ok v) = want ≡ limited v
 MeetsUnweighed want (Err (Raised x)) = want ≡ raises x
 MeetsUnweighed want (Err Wrong) = want ≡ unfit
@@ -42,11 +42,11 @@ MeetsUnweighed want (Err NoMemory) = Unit {0}
 MeetsUnweighed want (Err _) = ⊥
 
 -- the exception, or running out of memory
-abbrev pub RaisesOnly : Exn → Stop → Type 0
+abbrev pub RaisesOnly : Exn → EvalStop → Type 0
 RaisesOnly x e = e ≢ NoMemory → e ≡ Raised x
 
 -- how a refused send stops an evaluation
-abbrev pub StopsBy : SendFault → Stop → Type 0
+abbrev pub StopsBy : SendFault → EvalStop → Type 0
 StopsBy fault.NoBound e = RaisesOnly no_bound e
 StopsBy fault.NoService e = RaisesOnly no_service e
 StopsBy fault.NoRoute e = RaisesOnly no_route e

@@ -6,7 +6,7 @@ ghost use Rattle.visit_state.specs.Meets.{Meets};
 
 use crate::state::State;
 use plan_base::{Svc, Value, Values};
-use plan_meaning::Stop;
+use plan_meaning::EvalStop;
 use service_api::{Answer, Services};
 use std::alloc::Global;
 
@@ -19,7 +19,7 @@ pub fn served<S: Services>(
     svc: &mut S,
     d: &Svc,
     args: &Values,
-) -> Result<Value, Stop>
+) -> Result<Value, EvalStop>
     requires open { IsSome (S.stands svc.old).begun }
     requires safe { IsSafe (run.serve d.now args.now (joined state.old (S.stands svc.old))).asks }
     ensures meets { Meets (run.serve d.now args.now (joined state.old (S.stands svc.old))) result (joined state.new (S.stands svc.new)) }
@@ -32,6 +32,6 @@ pub fn served<S: Services>(
             state.noted(note)?;
             Ok(v)
         }
-        Answer::Raises(x) => Err(Stop::Raised(x)),
+        Answer::Raises(x) => Err(EvalStop::Raised(x)),
     }
 }

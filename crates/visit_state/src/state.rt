@@ -1,5 +1,5 @@
 ghost use Rattle.std.specs.Prelude.{◌≡◌, ◌+◌, ◌≤◌, length, min, [], OnOk, IsTrue, IsFalse};
-ghost use Rattle.plan_meaning.specs.declared.stop.Stop.TheVariants.{WorkSpent};
+ghost use Rattle.plan_meaning.specs.declared.stop.EvalStop.TheVariants.{WorkSpent};
 ghost use Rattle.plan_meaning.specs.Run.{gave, stopped};
 ghost use Rattle.plan_base.specs.Sizes.{weight, nesting};
 ghost use Rattle.plan_base.specs.declared.tree.Value.{Value};
@@ -16,10 +16,10 @@ use crate::weighing::{Weighing, plain_weight};
 use chunk_types::{CheckedChunk, CheckedPacket};
 use plan_base::{Chunk, Dev, Family, Host, Name, NoMemory, Value};
 use plan_items::Items;
-use plan_meaning::{Outbox, Outcome, Stop, Visit};
+use plan_meaning::{EvalStop, Outbox, Outcome, Visit};
 use plan_sizes::{nesting, weight};
 use remote_calls::{
-    NoBound, Purse, SendFault, Way, default_route, neighbour_way, remote_way, send,
+    NoBound, Purse, SendFault, SendWay, default_route, neighbour_way, remote_way, send,
 };
 use service_api::{Ctx, Note, Notes};
 use std::alloc::Global;
@@ -62,7 +62,7 @@ fn is_too_large(size: u64, deep: u32) -> bool
 }
 
 /// How an evaluation stops where a send is refused.
-fn unsent(alloc: Global, fault: SendFault) -> Stop
+fn unsent(alloc: Global, fault: SendFault) -> EvalStop
     ensures { StopsBy fault result }
 {
     match fault {
@@ -70,7 +70,7 @@ fn unsent(alloc: Global, fault: SendFault) -> Stop
         SendFault::NoService => no_service(alloc),
         SendFault::NoRoute => no_route(alloc),
         SendFault::NotNeighbor => not_neighbour(alloc),
-        SendFault::NoMemory => Stop::NoMemory,
+        SendFault::NoMemory => EvalStop::NoMemory,
     }
 }
 
@@ -165,20 +165,20 @@ impl State {
     }
 
     /// Refuses a value over the limits, and spends the weight of another.
-    pub fn weighed(&mut self, alloc: Global, v: Value) -> Result<Value, Stop>
+    pub fn weighed(&mut self, alloc: Global, v: Value) -> Result<Value, EvalStop>
         ensures meets { (s : ServiceState) → Meets (run.weighed v (joined self.old s)) result (joined self.new s) }
         ensures falls { self.new.work ≤ self.old.work }
     {
         match self.weighs(&v) {
             Weighing::Paid => Ok(v),
-            Weighing::Spent => Err(Stop::WorkSpent),
+            Weighing::Spent => Err(EvalStop::WorkSpent),
             Weighing::TooLarge => Err(too_large(alloc)),
         }
     }
 
     /// Pays for an eval.
     #[tactic(auto, unfolding(plan_meaning::specs::Meaning::pay_eval), using(crate::proofs::Paying::eval_is_paid, crate::proofs::Paying::eval_is_unpaid))]
-    pub fn pay_eval(&mut self, alloc: Global) -> Result<(), Stop>
+    pub fn pay_eval(&mut self, alloc: Global) -> Result<(), EvalStop>
         ensures meets { (s : ServiceState) → Meets (spec.pay_eval (joined self.old s)) result (joined self.new s) }
         ensures falls { self.new.work ≤ self.old.work }
     {
@@ -195,7 +195,7 @@ impl State {
 
     /// Sends a typed chunk on a way that is there.
     #[tactic(auto, using(crate::proofs::Sending::checked))]
-    fn sent(&mut self, way: Way, chunk: Chunk, host: Host, route: Name) -> Result<(), Stop>
+    fn sent(&mut self, way: SendWay, chunk: Chunk, host: Host, route: Name) -> Result<(), EvalStop>
         requires good { IsGoodChunk chunk }
         requires paid { way.bound ≤ self.old.ctx.purse }
         ensures meets { (s : ServiceState) → Meets (spec.sent way.dev chunk host way.bound route (joined self.old s)) result (joined self.new s) }
@@ -217,7 +217,7 @@ impl State {
         host: Host,
         n: i64,
         route: &Name,
-    ) -> Result<(), Stop>
+    ) -> Result<(), EvalStop>
         requires safe { (s : ServiceState) × IsSafe (spec.send_remote chunk host n route.now (joined self.old s)).asks }
         ensures meets { (s : ServiceState) → Meets (spec.send_remote chunk host n route.now (joined self.old s)) result (joined self.new s) }
         ensures falls { self.new.work ≤ self.old.work }
@@ -237,7 +237,7 @@ impl State {
         host: Host,
         n: i64,
         dev: Dev,
-    ) -> Result<(), Stop>
+    ) -> Result<(), EvalStop>
         requires safe { (s : ServiceState) × IsSafe (spec.send_neighbour chunk host n dev (joined self.old s)).asks }
         ensures meets { (s : ServiceState) → Meets (spec.send_neighbour chunk host n dev (joined self.old s)) result (joined self.new s) }
         ensures falls { self.new.work ≤ self.old.work }

@@ -23,9 +23,9 @@ use Rattle.service_api.specs.declared.router.Hop.TheVariants.{To, NoService, NoR
 use Rattle.service_api.specs.Routes.{hop, hop_in, own_device, default_route}
 use Rattle.service_api.specs.Services.{served}
 use Rattle.plan_meaning.specs.declared.sent.Sent.{Sent}
-use Rattle.plan_meaning.specs.declared.stop.Stop.TheVariants.{Raised, WorkSpent, Wrong, NoMemory}
+use Rattle.plan_meaning.specs.declared.stop.EvalStop.TheVariants.{Raised, WorkSpent, Wrong, NoMemory}
 use Rattle.plan_meaning.specs.State.{VisitState}
-use Rattle.plan_meaning.specs.Run.{After, gave, stopped, Step, Run, «next», quiet, raise, otherwise, spend, serve, answered}
+use Rattle.plan_meaning.specs.Run.{After, gave, stopped, RunStep, Run, «next», quiet, raise, otherwise, spend, serve, answered}
 use Rattle.plan_meaning.specs.Meaning.{Env, pay_eval, no_bound, is_paid, bound_of, packet, sent, sent_by, send_remote, leads_to, is_next, not_neighbour, send_neighbour, run_to, meaning, visited}
 use Rattle.meaning_laws.specs.Laws.{left_by}
 use Rattle.meaning_laws.proofs.Walk.{Kept, run_kept, visited_kept}
@@ -73,7 +73,7 @@ module _ (here : Host) (neighbours : List (Host × Dev)) (router : List RouteRow
   abbrev pub Leads : (A : Type 0) → Run A → Run A → Type 0
   Leads A p q = (s : VisitState) → Leading s.ctx s.outbox → Out (p s).after
 
-  choose : {A : Type 0} (b : Bool) (x y : Step A) → Out x.after → Out y.after → Out (if b then x else y).after
+  choose : {A : Type 0} (b : Bool) (x y : RunStep A) → Out x.after → Out y.after → Out (if b then x else y).after
   choose true x y h k = h
   choose false x y h k = k
 

@@ -26,7 +26,7 @@ use Rattle.service_api.specs.declared.router.Hop.TheVariants.{To}
 use Rattle.service_api.specs.Routes.{hop, default_route}
 use Rattle.service_api.specs.Services.{begun_now}
 use Rattle.plan_meaning.specs.declared.sent.Sent.{Sent}
-use Rattle.plan_meaning.specs.declared.stop.Stop.TheVariants.{Raised, WorkSpent, Wrong, NoMemory}
+use Rattle.plan_meaning.specs.declared.stop.EvalStop.TheVariants.{Raised, WorkSpent, Wrong, NoMemory}
 use Rattle.plan_meaning.specs.Meaning as means
 use Rattle.plan_meaning.specs.Meaning.{meaning}
 use Rattle.plan_meaning.specs.Run.{After, gave, stopped}

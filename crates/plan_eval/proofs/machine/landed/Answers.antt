@@ -1,5 +1,5 @@
 use Rattle.std.proofs.Common.{◌≡◌, Ok, Err, refl}
-use Rattle.plan_meaning.specs.declared.stop.Stop.TheVariants.{Raised, WorkSpent, Wrong}
+use Rattle.plan_meaning.specs.declared.stop.EvalStop.TheVariants.{Raised, WorkSpent, Wrong}
 use Rattle.plan_eval.specs.declared.rest.Flow.TheVariants as flow
 use Rattle.plan_eval.proofs.Turning.{gives_on, turn_left, turn_raised, turn_stopped}
 use Rattle.plan_eval.proofs.Waiting.{turn_waits}

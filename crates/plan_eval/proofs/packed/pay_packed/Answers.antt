@@ -1,6 +1,6 @@
 use Rattle.std.proofs.Common.{◌≡◌}
 use Rattle.plan_base.specs.declared.tree.Value as value
-use Rattle.plan_meaning.specs.declared.stop.Stop.TheVariants.{WorkSpent}
+use Rattle.plan_meaning.specs.declared.stop.EvalStop.TheVariants.{WorkSpent}
 use Rattle.plan_meaning.specs.State.{joined}
 use Rattle.visit_state.specs.declared.weighing.Weighing.TheVariants.{Paid, Spent, TooLarge}
 use Rattle.plan_eval.proofs.Hot.{packed_unweighed, packed_carries}
